@@ -1,0 +1,63 @@
+-- What an answer is as plain data: a text by its bytes, a list by its items, whether borrowed or owned.
+use Rattle.std.specs.Prelude.{ℕ, List, Option, Some, None, option_map, map}
+use Rattle.std.specs.Cow.{cow_str_bytes}
+use Rattle.bz_base.specs.declared.types.CodeInfo.{CodeInfo}
+use Rattle.bz_base.specs.declared.types.InlinedFn.{InlinedFn}
+use Rattle.bz_base.specs.declared.types.Sym.{Sym}
+use Rattle.bz_base.specs.declared.types.Reason.{Reason}
+use Rattle.bz_base.specs.declared.types.Symbolized.{Symbolized}
+use Rattle.bz_base.specs.declared.types.Symbolized.TheVariants as symbolized
+
+-- a place in source code
+pub record Site : Type 0 where
+  pub dir : Option (List ℕ)
+  pub file : List ℕ
+  pub line : Option ℕ
+  pub column : Option ℕ
+
+-- an inlined call: the function's name, and the place in it
+pub record Call : Type 0 where
+  pub name : List ℕ
+  pub site : Option Site
+
+-- a symbol at an address
+pub record Symbol : Type 0 where
+  pub name : List ℕ
+  pub «module» : Option (List ℕ)
+  pub addr : ℕ
+  pub offset : ℕ
+  pub size : Option ℕ
+  pub site : Option Site
+  pub calls : List Call
+
+-- the answer for an address
+pub data Answer : Type 0 where
+  Known : Symbol → Answer
+  Unknown : Reason → Answer
+
+abbrev pub site_of : CodeInfo → Site
+site_of c = record { dir = option_map cow_str_bytes c.dir; file = cow_str_bytes c.file; line = c.line; column = c.column }
+
+abbrev pub call_of : InlinedFn → Call
+call_of f = record { name = cow_str_bytes f.name; site = option_map site_of f.code_info }
+
+abbrev pub symbol_of : Sym → Symbol
+symbol_of s = record {
+  name = cow_str_bytes s.name;
+  «module» = option_map cow_str_bytes s.«module»;
+  addr = s.addr;
+  offset = s.offset;
+  size = s.size;
+  site = option_map site_of s.code_info;
+  calls = map call_of s.inlined.items;
+}
+
+-- the plain data of an answer: what every clause on answers reads
+abbrev pub reading : Symbolized → Answer
+reading (symbolized.Sym s) = Known (symbol_of s)
+reading (symbolized.Unknown r) = Unknown r
+
+-- the symbol of an answer, if it has one
+abbrev pub sym_in : Symbolized → Option Sym
+sym_in (symbolized.Sym s) = Some s
+sym_in (symbolized.Unknown r) = None

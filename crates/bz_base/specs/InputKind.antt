@@ -1,0 +1,17 @@
+-- What an input holds, apart from what it is relative to.
+use Rattle.std.specs.Prelude.{ℕ}
+use Rattle.bz_base.specs.declared.input.Input.{Input}
+use Rattle.bz_base.specs.declared.input.Input.TheVariants.{AbsAddr, VirtOffset, FileOffset}
+
+-- the payload
+abbrev pub payload : {T : Type 0} → Input T → T
+payload (AbsAddr x) = x
+payload (VirtOffset x) = x
+payload (FileOffset x) = x
+
+-- the second input is of the kind of the first, and `Gives` holds of their payloads
+abbrev pub MapsTo : {T U : Type 0} → (T → U → Type 0) → Input T → Input U → Type 0
+MapsTo Gives (AbsAddr x) (AbsAddr y) = Gives x y
+MapsTo Gives (VirtOffset x) (VirtOffset y) = Gives x y
+MapsTo Gives (FileOffset x) (FileOffset y) = Gives x y
+MapsTo Gives _ _ = ⊥

@@ -1,0 +1,6 @@
+pub mod Answer
+pub mod ErrorNames
+pub mod InputKind
+pub mod Nearest
+pub mod ReasonText
+pub mod Span

@@ -1,0 +1,14 @@
+-- Records with a start and a size in bytes, and which of them answers for an address.
+use Rattle.std.specs.Prelude.{◌≡◌, ◌⊎◌, ℕ, ◌+◌, ◌<◌, ◌≤◌, Bool, ◌==◌, nat_le, nat_lt, ◌&&◌, ◌||◌, List, [], ◌∷◌, Option, Some, None, if◌then◌else◌, slice_get, option_and_then}
+
+-- the greatest address
+abbrev pub last_address : ℕ
+last_address = 18446744073709551615
+
+-- the record has the address inside: its end fits 64 bits, and lies above the address
+abbrev pub inside : ℕ → ℕ → ℕ → Bool
+inside start size addr = nat_le (start + size) last_address && (nat_le start addr && nat_lt addr (start + size))
+
+-- the record covers the address: it has it inside, or has size 0 and starts there
+abbrev pub covers : ℕ → ℕ → ℕ → Bool
+covers start size addr = (size == 0 && addr == start) || inside start size addr

@@ -1,0 +1,295 @@
+//! What is answered for an address.
+
+ghost use Rattle.std.specs.Prelude.{◌≡◌, ◌++◌, ◌∷◌, [], Some, IfOk, IsOkUnless, map, option_map, option_copied};
+ghost use Rattle.std.specs.Cow.{cow_str_bytes};
+ghost use Rattle.bz_base.specs.Answer.{site_of, call_of, symbol_of, sym_in};
+ghost use Rattle.bz_base.specs.ReasonText.{text_of};
+
+use crate::error::{Error, Result};
+use std::alloc::Global;
+use std::borrow::CowStr;
+use std::fmt;
+
+/// An address, or an offset in a file.
+pub type Addr = u64;
+
+/// What a symbol names.
+#[derive(Clone, Copy, Debug, Default, PartialEq, Eq, Hash)]
+pub enum SymType {
+    /// It isn't known.
+    #[default]
+    Undefined,
+    /// A function.
+    Function,
+    /// A variable.
+    Variable,
+}
+
+/// The language that a symbol's name is from.
+#[derive(Clone, Copy, Debug, Default, PartialEq)]
+pub enum SrcLang {
+    /// It isn't known.
+    #[default]
+    Unknown,
+    /// C++.
+    Cpp,
+    /// Rust.
+    Rust,
+}
+
+/// What to look up beside name, start and size.
+#[derive(Debug, Drop)]
+pub enum FindSymOpts {
+    /// Nothing more.
+    Basic,
+    /// The place in the source code too.
+    CodeInfo,
+    /// The place in the source code and the inlined calls too.
+    CodeInfoAndInlined,
+}
+
+/// A place in source code.
+#[derive(Debug, PartialEq, Drop)]
+pub struct CodeInfo<'a> {
+    /// The directory that the file's name is relative to.
+    pub dir: Option<CowStr<'a>>,
+    /// The name of the source file.
+    pub file: CowStr<'a>,
+    /// The line, counted from 1.
+    pub line: Option<u32>,
+    /// The column; no source here tells one.
+    pub column: Option<u16>,
+}
+
+/// A call that was inlined at the address.
+#[derive(Debug, PartialEq, Drop)]
+pub struct InlinedFn<'a> {
+    /// The name of the function that was inlined.
+    pub name: CowStr<'a>,
+    /// The place in that function.
+    pub code_info: Option<CodeInfo<'a>>,
+}
+
+/// A symbol as a table of symbols gives it.
+#[derive(Debug, PartialEq, Drop)]
+pub struct ResolvedSym<'a> {
+    /// The symbol's name.
+    pub name: &'a str,
+    /// The module that the table is of.
+    pub module: Option<&'a str>,
+    /// The symbol's start.
+    pub addr: Addr,
+    /// The symbol's size, in bytes.
+    pub size: Option<usize>,
+    /// The language that the name is from.
+    pub lang: SrcLang,
+    /// The place of the address in the source code.
+    pub code_info: Option<CodeInfo<'a>>,
+    /// The calls that were inlined at the address, the outermost first.
+    pub inlined: Vec<InlinedFn<'a>>,
+}
+
+/// The symbol at an address.
+#[derive(Debug, PartialEq, Drop)]
+pub struct Sym<'a> {
+    /// The symbol's name.
+    pub name: CowStr<'a>,
+    /// The module that the symbol is in.
+    pub module: Option<CowStr<'a>>,
+    /// The symbol's start.
+    pub addr: Addr,
+    /// How many bytes the address lies past the start.
+    pub offset: usize,
+    /// The symbol's size, in bytes.
+    pub size: Option<usize>,
+    /// The place of the address in the source code.
+    pub code_info: Option<CodeInfo<'a>>,
+    /// The calls that were inlined at the address, the outermost first.
+    pub inlined: Vec<InlinedFn<'a>>,
+}
+
+/// Why an address has no symbol.
+#[derive(Clone, Copy, Debug, PartialEq, Eq, Hash)]
+pub enum Reason {
+    /// No mapping of the process has the address.
+    Unmapped,
+    /// The file offset isn't mapped by the file.
+    InvalidFileOffset,
+    /// The mapping has no file. It is never given.
+    MissingComponent,
+    /// The source has no symbols.
+    MissingSyms,
+    /// The mapping is of a kind that isn't looked into.
+    Unsupported,
+    /// No symbol of the source covers the address.
+    UnknownAddr,
+    /// Looking the address up failed, and the batch went on.
+    IgnoredError,
+}
+
+/// The answer for an address.
+#[derive(Debug, PartialEq, Drop)]
+pub enum Symbolized<'a> {
+    /// The symbol there.
+    Sym(Sym<'a>),
+    /// Why there is none.
+    Unknown(Reason),
+}
+
+impl CodeInfo<'_> {
+    /// The same place, with texts of its own.
+    pub fn into_owned(self, alloc: Global) -> Result<CodeInfo<'static>>
+        ensures ok { IfOk result (λ place. site_of place ≡ site_of self.entry) }
+        ensures memory { IsOkUnless result Error.OutOfMemory }
+    {
+        let dir = owned_option(alloc, self.dir)?;
+        let file = owned(alloc, self.file)?;
+        Ok(CodeInfo {
+            dir,
+            file,
+            line: self.line,
+            column: self.column,
+        })
+    }
+}
+
+impl InlinedFn<'_> {
+    /// The same call, with texts of its own.
+    pub fn into_owned(self, alloc: Global) -> Result<InlinedFn<'static>>
+        ensures ok { IfOk result (λ call. call_of call ≡ call_of self.entry) }
+        ensures memory { IsOkUnless result Error.OutOfMemory }
+    {
+        let name = owned(alloc, self.name)?;
+        let code_info = owned_place(alloc, self.code_info)?;
+        Ok(InlinedFn { name, code_info })
+    }
+}
+
+impl Sym<'_> {
+    /// The same symbol, with texts of its own.
+    pub fn into_owned(self, alloc: Global) -> Result<Sym<'static>>
+        ensures ok { IfOk result (λ symbol. symbol_of symbol ≡ symbol_of self.entry) }
+        ensures memory { IsOkUnless result Error.OutOfMemory }
+    {
+        let name = owned(alloc, self.name)?;
+        let module = owned_option(alloc, self.module)?;
+        let code_info = owned_place(alloc, self.code_info)?;
+        let inlined = owned_calls(alloc, self.inlined)?;
+        Ok(Sym {
+            name,
+            module,
+            addr: self.addr,
+            offset: self.offset,
+            size: self.size,
+            code_info,
+            inlined,
+        })
+    }
+}
+
+impl Reason {
+    /// The text of the reason, with a zero byte at its end.
+    pub fn as_bytes(&self) -> &'static [u8]
+        ensures { result.now ≡ text_of self.now ++ 0 ∷ [] }
+    {
+        match self {
+            Reason::Unmapped => b"absolute address not found in virtual memory map of process\0",
+            Reason::InvalidFileOffset => b"file offset does not map to a valid piece of code/data\0",
+            Reason::MissingComponent => b"proc maps entry has no component\0",
+            Reason::MissingSyms => b"symbolization source has no or no relevant symbols\0",
+            Reason::Unsupported => b"address belongs to unsupported entity\0",
+            Reason::UnknownAddr => b"address not found in symbolization source\0",
+            Reason::IgnoredError => b"an error occurred but was ignored in batch mode\0",
+        }
+    }
+}
+
+/// Prints the text of the reason.
+impl fmt::Display for Reason {
+    ghost output = { λ r. Some (text_of r) };
+
+    fn fmt<W: fmt::Write>(&self, f: &mut fmt::Formatter<W>) -> fmt::Result {
+        match self {
+            Reason::Unmapped => {
+                f.write_str("absolute address not found in virtual memory map of process")
+            }
+            Reason::InvalidFileOffset => {
+                f.write_str("file offset does not map to a valid piece of code/data")
+            }
+            Reason::MissingComponent => f.write_str("proc maps entry has no component"),
+            Reason::MissingSyms => {
+                f.write_str("symbolization source has no or no relevant symbols")
+            }
+            Reason::Unsupported => f.write_str("address belongs to unsupported entity"),
+            Reason::UnknownAddr => f.write_str("address not found in symbolization source"),
+            Reason::IgnoredError => f.write_str("an error occurred but was ignored in batch mode"),
+        }
+    }
+}
+
+impl<'a> Symbolized<'a> {
+    /// The symbol, lent.
+    pub fn as_sym(&self) -> Option<&Sym<'a>>
+        ensures { option_copied result ≡ sym_in self.now }
+    {
+        match self {
+            Symbolized::Sym(symbol) => Some(symbol),
+            Symbolized::Unknown(_) => None,
+        }
+    }
+
+    /// The symbol.
+    pub fn into_sym(self) -> Option<Sym<'a>>
+        ensures { result ≡ sym_in self.entry }
+    {
+        match self {
+            Symbolized::Sym(symbol) => Some(symbol),
+            Symbolized::Unknown(_) => None,
+        }
+    }
+}
+
+fn owned(alloc: Global, text: CowStr<'_>) -> Result<CowStr<'static>>
+    ensures ok { IfOk result (λ own. cow_str_bytes own ≡ cow_str_bytes text.entry) }
+    ensures memory { IsOkUnless result Error.OutOfMemory }
+{
+    let text = text.into_owned(alloc)?;
+    Ok(CowStr::Owned(text))
+}
+
+fn owned_option(alloc: Global, text: Option<CowStr<'_>>) -> Result<Option<CowStr<'static>>>
+    ensures ok { IfOk result (λ own. option_map cow_str_bytes own ≡ option_map cow_str_bytes text.entry) }
+    ensures memory { IsOkUnless result Error.OutOfMemory }
+{
+    match text {
+        Some(text) => {
+            let text = owned(alloc, text)?;
+            Ok(Some(text))
+        }
+        None => Ok(None),
+    }
+}
+
+fn owned_place(alloc: Global, place: Option<CodeInfo<'_>>) -> Result<Option<CodeInfo<'static>>>
+    ensures ok { IfOk result (λ own. option_map site_of own ≡ option_map site_of place.entry) }
+    ensures memory { IsOkUnless result Error.OutOfMemory }
+{
+    match place {
+        Some(place) => {
+            let place = place.into_owned(alloc)?;
+            Ok(Some(place))
+        }
+        None => Ok(None),
+    }
+}
+
+fn owned_calls(alloc: Global, calls: Vec<InlinedFn<'_>>) -> Result<Vec<InlinedFn<'static>>>
+    ensures ok { IfOk result (λ own. map call_of own.items ≡ map call_of calls.entry.items) }
+    ensures memory { IsOkUnless result Error.OutOfMemory }
+{
+    let mut all = Vec::new(alloc);
+    for call in calls {
+        all.push(call.into_owned(alloc)?)?;
+    }
+    Ok(all)
+}
