@@ -1,0 +1,4 @@
+pub mod Count
+pub mod Refusal
+pub mod TextEnd
+pub mod World

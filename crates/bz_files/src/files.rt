@@ -1,0 +1,82 @@
+//! What a symbolizer asks of files.
+
+ghost use Rattle.std.specs.Prelude.{◌≡◌, ℕ, ◌≤◌, List, Option, option_map, OnOk, OnErr, IsErrOf};
+ghost use Rattle.bz_files.specs.World.{World, Told, in_view, next_worlds, entry_at, IsAnswer};
+ghost use Rattle.bz_files.specs.Count.{HasRisen, counted};
+ghost use Rattle.bz_files.specs.Refusal.{error_of};
+
+use crate::stamp::Stamp;
+use bz_base::Error;
+use std::alloc::Global;
+
+/// Why a look at a file failed.
+#[derive(Clone, Copy, Debug, PartialEq, Eq)]
+pub enum FileError {
+    /// There is no file at the path.
+    NotFound,
+    /// The file may not be read.
+    Denied,
+    /// Looking failed: the count of faults rose.
+    Fault,
+    /// Memory ran out.
+    OutOfMemory,
+}
+
+/// Files by their paths, one world of them in view. What a world holds may be told or not.
+pub trait Files {
+    /// The worlds to come, the first of them in view; none where nothing is told.
+    ghost worlds: { Self → Option (List World) };
+
+    /// How many looks have failed. It never falls.
+    ghost faults: { Self → ℕ };
+
+    /// How many files were read.
+    ghost opens: { Self → ℕ };
+
+    /// The id of the own process.
+    ghost pid: { Self → ℕ };
+
+    /// Brings the next world into view, if there is one.
+    fn begin(&mut self)
+        ensures worlds { worlds self.new ≡ option_map next_worlds (worlds self.old) }
+        ensures faults { faults self.new ≡ faults self.old }
+        ensures opens { opens self.new ≡ opens self.old }
+        ensures pid { pid self.new ≡ pid self.old };
+
+    /// The id of the own process.
+    fn own_pid(&self) -> u32
+        ensures { result ≡ pid self.now };
+
+    /// The stamp of the file at the path.
+    fn stat(&mut self, path: &str) -> Result<Stamp, FileError>
+        ensures answer { Told (in_view (worlds self.old)) (λ world. IsAnswer (λ given stamp bytes. given ≡ stamp) (entry_at world path.now) result) }
+        ensures worlds { worlds self.new ≡ worlds self.old }
+        ensures opens { opens self.new ≡ opens self.old }
+        ensures pid { pid self.new ≡ pid self.old }
+        ensures faults { faults self.old ≤ faults self.new }
+        ensures fault { IsErrOf result FileError.Fault → HasRisen (faults self.old) (faults self.new) }
+        ensures memory { IsErrOf result FileError.OutOfMemory → ⊥ };
+
+    /// The bytes of the file at the path.
+    fn read(&mut self, alloc: Global, path: &str) -> Result<Vec<u8>, FileError>
+        ensures answer { Told (in_view (worlds self.old)) (λ world. IsAnswer (λ given stamp bytes. given.items ≡ bytes) (entry_at world path.now) result) }
+        ensures worlds { worlds self.new ≡ worlds self.old }
+        ensures opened { OnOk result (opens self.new ≡ counted (opens self.old)) }
+        ensures unopened { OnErr result (opens self.new ≡ opens self.old) }
+        ensures pid { pid self.new ≡ pid self.old }
+        ensures faults { faults self.old ≤ faults self.new }
+        ensures fault { IsErrOf result FileError.Fault → HasRisen (faults self.old) (faults self.new) };
+}
+
+impl From<FileError> for Error {
+    ghost from_gives = { λ failed refusal. refusal ≡ error_of failed };
+
+    fn from(failed: FileError) -> Error {
+        match failed {
+            FileError::NotFound => Error::NotFound,
+            FileError::Denied => Error::PermissionDenied,
+            FileError::Fault => Error::ReadFault,
+            FileError::OutOfMemory => Error::OutOfMemory,
+        }
+    }
+}
