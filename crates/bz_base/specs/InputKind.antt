@@ -1,5 +1,4 @@
 -- What an input holds, apart from what it is relative to.
-use Rattle.std.specs.Prelude.{ℕ}
 use Rattle.bz_base.specs.declared.input.Input.{Input}
 use Rattle.bz_base.specs.declared.input.Input.TheVariants.{AbsAddr, VirtOffset, FileOffset}
 

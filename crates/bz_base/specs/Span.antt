@@ -1,5 +1,5 @@
 -- Records with a start and a size in bytes, and which of them answers for an address.
-use Rattle.std.specs.Prelude.{◌≡◌, ◌⊎◌, ℕ, ◌+◌, ◌<◌, ◌≤◌, Bool, ◌==◌, nat_le, nat_lt, ◌&&◌, ◌||◌, List, [], ◌∷◌, Option, Some, None, if◌then◌else◌, slice_get, option_and_then}
+use Rattle.std.specs.Prelude.{◌≡◌, ◌⊎◌, ℕ, ◌+◌, ◌<◌, ◌≤◌, Bool, ◌==◌, nat_le, nat_lt, ◌&&◌, ◌||◌}
 
 -- the greatest address
 abbrev pub last_address : ℕ
@@ -12,3 +12,8 @@ inside start size addr = nat_le (start + size) last_address && (nat_le start add
 -- the record covers the address: it has it inside, or has size 0 and starts there
 abbrev pub covers : ℕ → ℕ → ℕ → Bool
 covers start size addr = (size == 0 && addr == start) || inside start size addr
+
+-- the same as a relation: the size is 0 and the address is the start, or the end is at most the greatest address and the
+-- address lies from the start on and before the end
+abbrev pub Covers : ℕ → ℕ → ℕ → Type 0
+Covers start size addr = ((size ≡ 0) × (addr ≡ start)) ⊎ ((start + size ≤ last_address) × (start ≤ addr) × (addr < start + size))

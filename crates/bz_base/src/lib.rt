@@ -3,6 +3,7 @@
 
 mod error;
 mod input;
+pub mod laws;
 mod search;
 mod steps;
 mod types;
@@ -14,3 +15,6 @@ pub use steps::Steps;
 pub use types::{
     Addr, CodeInfo, FindSymOpts, InlinedFn, Reason, ResolvedSym, SrcLang, Sym, SymType, Symbolized,
 };
+
+#[cfg(test)]
+mod tests;

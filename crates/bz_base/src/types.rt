@@ -194,7 +194,8 @@ impl Reason {
     {
         match self {
             Reason::Unmapped => b"absolute address not found in virtual memory map of process\0",
-            Reason::InvalidFileOffset => b"file offset does not map to a valid piece of code/data\0",
+            Reason::InvalidFileOffset =>
+                b"file offset does not map to a valid piece of code/data\0",
             Reason::MissingComponent => b"proc maps entry has no component\0",
             Reason::MissingSyms => b"symbolization source has no or no relevant symbols\0",
             Reason::Unsupported => b"address belongs to unsupported entity\0",
@@ -233,7 +234,7 @@ impl<'a> Symbolized<'a> {
         ensures { option_copied result ≡ sym_in self.now }
     {
         match self {
-            Symbolized::Sym(symbol) => Some(symbol),
+            Symbolized::Sym(lent) => Some(lent),
             Symbolized::Unknown(_) => None,
         }
     }

@@ -1,4 +1,11 @@
+pub mod Cause
 pub mod Count
+pub mod Held
+pub mod Looks
+pub mod MemEnd
+pub mod RealEnd
 pub mod Refusal
+pub mod Shelf
+pub mod StampOrder
 pub mod TextEnd
 pub mod World

@@ -8,10 +8,10 @@ abbrev pub Takes : Option (List ℕ) → Option (List ℕ) → List ℕ → List
 Takes None left piece filled result = left ≡ None
 Takes (Some before) left piece filled (Ok n) =
     (left ≡ Some (drop n before)) × (filled ≡ take n before ++ drop n piece) × (n ≡ 0 → 0 < length piece → before ≡ [])
-Takes (Some before) left piece filled (Err fault) = (left ≡ Some before) × (filled ≡ piece)
+Takes (Some before) left piece filled (Err _) = (left ≡ Some before) × (filled ≡ piece)
 
 -- the first bytes of the piece stand at the end of what was written; a failed call writes nothing
 abbrev pub Puts : Option (List ℕ) → Option (List ℕ) → List ℕ → Result ℕ IoFault → Type 0
 Puts None written piece result = written ≡ None
 Puts (Some before) written piece (Ok n) = written ≡ Some (before ++ take n piece)
-Puts (Some before) written piece (Err fault) = written ≡ Some before
+Puts (Some before) written piece (Err _) = written ≡ Some before

@@ -61,9 +61,9 @@ IsAnswer Gives there (Err errors.OutOfMemory) = Unit {0}
 abbrev pub coded_stamp : Coded Stamp
 coded_stamp =
     code_by (ℕ × (ℕ × (ℕ × (ℤ × ℤ)))) (coded× coded_ℕ (coded× coded_ℕ (coded× coded_ℕ (coded× coded_ℤ coded_ℤ))))
-        (λ s. (s.dev, (s.inode, (s.size, (s.mtime_sec, s.mtime_nsec)))))
-        (λ p. record { dev = p.0; inode = p.1.0; size = p.1.1.0; mtime_sec = p.1.1.1.0; mtime_nsec = p.1.1.1.1 })
-        (λ _. refl)
+    (λ s. (s.dev, (s.inode, (s.size, (s.mtime_sec, s.mtime_nsec)))))
+    (λ p. record { dev = p.0; inode = p.1.0; size = p.1.1.0; mtime_sec = p.1.1.1.0; mtime_nsec = p.1.1.1.1 })
+    (λ _. refl)
 
 abbrev entry_parts : Entry → Unit {0} ⊎ (Stamp × List ℕ)
 entry_parts Denied = inl tt

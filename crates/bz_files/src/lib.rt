@@ -2,9 +2,21 @@
 #![tactic(auto)]
 
 mod files;
+pub mod laws;
+mod mem_files;
+mod mem_text;
+mod real_files;
+mod real_text;
 mod stamp;
 mod text;
 
 pub use files::{FileError, Files};
+pub use mem_files::MemFiles;
+pub use mem_text::{MemIn, MemOut};
+pub use real_files::RealFiles;
+pub use real_text::{RealIn, RealOut};
 pub use stamp::Stamp;
 pub use text::{IoFault, TextIn, TextOut};
+
+#[cfg(test)]
+mod tests;

@@ -1,0 +1,294 @@
+//! Files in memory, whose worlds are told.
+
+ghost use Rattle.std.specs.Prelude.{◌≡◌, ◌+◌, ◌<◌, ◌≤◌, ◌↔◌, [], ◌∷◌, ◌++◌, length, is_some, option_map, IsTrue, IfOk, OnOk, OnErr, IfSome, IfNone, IsErrOf, IsOkUnless};
+ghost use Rattle.std.specs.FinMap as map;
+ghost use Rattle.bz_files.specs.Count.{HasRisen};
+ghost use Rattle.bz_files.specs.World.{Denied, Present, entry_at, with_entry, without_entry, in_view, next_worlds, Told, IsAnswer};
+ghost use Rattle.bz_files.specs.Shelf.{empty_shelf, last_world, on_last, is_version, with_link, fresh_stamp, fails_next, after_look, after_read};
+ghost use Rattle.bz_files.specs.Held.{entry_of, world_of};
+
+use crate::files::{FileError, Files};
+use crate::stamp::Stamp;
+use bz_base::Error;
+use std::alloc::Global;
+use std::collections::BTreeMap;
+use std::marker::Model;
+
+/// The number of the last fresh stamp.
+const LAST_STAMP: u64 = 9223372036854775807;
+
+/// What is held at a path.
+#[derive(Drop)]
+enum Held {
+    /// A file that may not be read.
+    Denied,
+    /// A version of a file.
+    Version(Stamp, Vec<u8>),
+}
+
+/// Files in memory: one world, which edits change, with looks that can be made to fail.
+#[derive(Drop)]
+pub struct MemFiles {
+    entries: BTreeMap<String, Held>,
+    stamps: u64,
+    calls: u64,
+    failing: Vec<u64>,
+    faults: u64,
+    opens: u64,
+    pid: u32,
+}
+
+impl Model for MemFiles {
+    ghost use Rattle.std.specs.Prelude.{[], ◌∷◌, ◌≤◌};
+    ghost use Rattle.bz_files.specs.Shelf.{Shelf, coded_shelf, last_stamp};
+
+    ghost Value = { Shelf };
+
+    ghost coded = { coded_shelf };
+
+    ghost use Rattle.bz_files.specs.Held.{world_of};
+
+    ghost view = { λ a. record { worlds = world_of a.entries ∷ []; stamps = a.stamps; calls = a.calls; failing = a.failing.items; faults = a.faults; opens = a.opens; pid = a.pid } };
+
+    ghost invariant = { λ a. a.stamps ≤ last_stamp };
+}
+
+impl MemFiles {
+    /// One empty world, in which nothing failed yet.
+    pub fn new(alloc: Global, own_pid: u32) -> MemFiles
+        ensures { result ≡ empty_shelf own_pid }
+    {
+        MemFiles {
+            entries: BTreeMap::new(alloc),
+            stamps: 0,
+            calls: 0,
+            failing: Vec::new(alloc),
+            faults: 0,
+            opens: 0,
+            pid: own_pid,
+        }
+    }
+
+    /// Puts the bytes at the path under a fresh stamp. Without one left nothing changes.
+    pub fn put(&mut self, alloc: Global, path: &str, bytes: Vec<u8>) -> Result<Option<Stamp>, Error>
+        ensures stamp { IfOk result (λ given. given ≡ fresh_stamp self.old.stamps (length bytes.items)) }
+        ensures ok { IfOk result (λ given. IfSome given (λ stamp. self.new ≡ record self.old { worlds = on_last (with_entry path.now (Present stamp bytes.items)) self.old.worlds; stamps = self.old.stamps + 1 })) }
+        ensures none { IfOk result (λ given. IfNone given (self.new ≡ self.old)) }
+        ensures err { OnErr result (self.new ≡ self.old) }
+        ensures memory { IsOkUnless result Error.OutOfMemory }
+    {
+        let Some(stamp) = fresh(self.stamps, bytes.len()) else {
+            return Ok(None);
+        };
+        hold(&mut self.entries, alloc, path, Held::Version(stamp, bytes))?;
+        self.stamps += 1;
+        Ok(Some(stamp))
+    }
+
+    /// Puts the bytes at the path under this stamp.
+    pub fn put_as(
+        &mut self,
+        alloc: Global,
+        path: &str,
+        stamp: Stamp,
+        bytes: Vec<u8>,
+    ) -> Result<(), Error>
+        ensures ok { OnOk result (self.new ≡ record self.old { worlds = on_last (with_entry path.now (Present stamp bytes.items)) self.old.worlds }) }
+        ensures err { OnErr result (self.new ≡ self.old) }
+        ensures memory { IsOkUnless result Error.OutOfMemory }
+    {
+        hold(&mut self.entries, alloc, path, Held::Version(stamp, bytes))
+    }
+
+    /// Gives the path the stamp and the bytes that are at `old`. Says whether there was such a file.
+    pub fn link(&mut self, alloc: Global, path: &str, old: &str) -> Result<bool, Error>
+        ensures linked { IfOk result (λ linked. linked ≡ is_version (entry_at (last_world self.old.worlds) old.now)) }
+        ensures ok { OnOk result (self.new ≡ record self.old { worlds = on_last (with_link path.now old.now) self.old.worlds }) }
+        ensures err { OnErr result (self.new ≡ self.old) }
+        ensures memory { IsOkUnless result Error.OutOfMemory }
+    {
+        let (stamp, bytes) = match look(&self.entries, old) {
+            Some(Held::Version(stamp, bytes)) => (*stamp, Vec::from_slice(alloc, bytes)?),
+            Some(Held::Denied) => return Ok(false),
+            None => return Ok(false),
+        };
+        hold(&mut self.entries, alloc, path, Held::Version(stamp, bytes))?;
+        Ok(true)
+    }
+
+    /// Takes away what is at the path. Says whether anything was.
+    pub fn remove(&mut self, path: &str) -> bool
+        ensures removed { result ≡ is_some (entry_at (last_world self.old.worlds) path.now) }
+        ensures after { self.new ≡ record self.old { worlds = on_last (without_entry path.now) self.old.worlds } }
+    {
+        clear(&mut self.entries, path)
+    }
+
+    /// Lets a file be at the path that may not be read.
+    pub fn deny(&mut self, alloc: Global, path: &str) -> Result<(), Error>
+        ensures ok { OnOk result (self.new ≡ record self.old { worlds = on_last (with_entry path.now Denied) self.old.worlds }) }
+        ensures err { OnErr result (self.new ≡ self.old) }
+        ensures memory { IsOkUnless result Error.OutOfMemory }
+    {
+        hold(&mut self.entries, alloc, path, Held::Denied)
+    }
+
+    /// Makes look number `n` fail. Each `stat` and each `read` is a look, counted from 1.
+    pub fn fail_call(&mut self, alloc: Global, n: u64) -> Result<(), Error>
+        ensures ok { OnOk result (self.new ≡ record self.old { failing = self.old.failing ++ n ∷ [] }) }
+        ensures err { OnErr result (self.new ≡ self.old) }
+        ensures memory { IsOkUnless result Error.OutOfMemory }
+    {
+        self.failing.push(n)?;
+        Ok(())
+    }
+
+    /// How many looks have failed.
+    pub fn faults(&self) -> u64
+        ensures { result ≡ self.now.faults }
+    {
+        self.faults
+    }
+
+    /// How many files were read.
+    pub fn opens(&self) -> u64
+        ensures { result ≡ self.now.opens }
+    {
+        self.opens
+    }
+
+    /// Counts one more look, and says whether it is one of those that fail.
+    fn begin_look(&mut self) -> bool
+        ensures same { self.new ≡ after_look self.old }
+        ensures failing { result ≡ fails_next self.old }
+        ensures faults { self.old.faults ≤ self.new.faults }
+        ensures risen { IsTrue result → HasRisen self.old.faults self.new.faults }
+    {
+        self.calls = self.calls.saturating_add(1);
+        let fails = self.failing.contains(&self.calls);
+        if fails {
+            self.faults = self.faults.saturating_add(1);
+        }
+        fails
+    }
+}
+
+impl Files for MemFiles {
+    ghost use Rattle.std.specs.Prelude.{Some};
+
+    ghost worlds = { λ files. Some files.worlds };
+
+    ghost faults = { λ files. files.faults };
+
+    ghost opens = { λ files. files.opens };
+
+    ghost pid = { λ files. files.pid };
+
+    fn begin(&mut self)
+        ensures { self.new ≡ record self.old { worlds = next_worlds self.old.worlds } }
+    {
+        let _entries = &self.entries;
+    }
+
+    fn own_pid(&self) -> u32 {
+        self.pid
+    }
+
+    fn stat(&mut self, path: &str) -> Result<Stamp, FileError>
+        ensures answer { Told (in_view (Some self.old.worlds)) (λ world. IsAnswer (λ given stamp bytes. given ≡ stamp) (entry_at world path.now) result) }
+        ensures same { self.new ≡ after_look self.old }
+        ensures failing { IsErrOf result FileError.Fault ↔ IsTrue (fails_next self.old) }
+        ensures faults { self.old.faults ≤ self.new.faults }
+        ensures fault { IsErrOf result FileError.Fault → HasRisen self.old.faults self.new.faults }
+        ensures memory { IsErrOf result FileError.OutOfMemory → ⊥ }
+    {
+        if self.begin_look() {
+            return Err(FileError::Fault);
+        }
+        match look(&self.entries, path) {
+            Some(Held::Version(stamp, _)) => Ok(*stamp),
+            Some(Held::Denied) => Err(FileError::Denied),
+            None => Err(FileError::NotFound),
+        }
+    }
+
+    fn read(&mut self, alloc: Global, path: &str) -> Result<Vec<u8>, FileError>
+        ensures answer { Told (in_view (Some self.old.worlds)) (λ world. IsAnswer (λ given stamp bytes. given.items ≡ bytes) (entry_at world path.now) result) }
+        ensures same { self.new ≡ after_read result self.old }
+        ensures failing { IsErrOf result FileError.Fault ↔ IsTrue (fails_next self.old) }
+        ensures faults { self.old.faults ≤ self.new.faults }
+        ensures fault { IsErrOf result FileError.Fault → HasRisen self.old.faults self.new.faults }
+    {
+        if self.begin_look() {
+            return Err(FileError::Fault);
+        }
+        let bytes = copy_of(look(&self.entries, path), alloc)?;
+        self.opens = self.opens.saturating_add(1);
+        Ok(bytes)
+    }
+}
+
+/// The stamp after so many others, for a file of this size, if there is one left.
+fn fresh(stamps: u64, size: usize) -> Option<Stamp>
+    requires { stamps ≤ LAST_STAMP }
+    ensures stamp { result ≡ fresh_stamp stamps size }
+    ensures left { IfSome result (λ _. stamps < LAST_STAMP) }
+{
+    if stamps == LAST_STAMP {
+        return None;
+    }
+    let number = stamps + 1;
+    Some(Stamp {
+        dev: 1,
+        inode: number,
+        size: size as u64,
+        mtime_sec: number as i64,
+        mtime_nsec: 0,
+    })
+}
+
+/// What is held at the path.
+fn look<'m>(entries: &'m BTreeMap<String, Held>, path: &str) -> Option<&'m Held>
+    ensures { option_map (λ held. entry_of held.now) result ≡ map.get (world_of entries.now) path.now }
+{
+    entries.get(path)
+}
+
+/// Holds this at the path, in place of what was there.
+fn hold(
+    entries: &mut BTreeMap<String, Held>,
+    alloc: Global,
+    path: &str,
+    held: Held,
+) -> Result<(), Error>
+    ensures ok { OnOk result (world_of entries.new ≡ with_entry path.now (entry_of held) (world_of entries.old)) }
+    ensures err { OnErr result (world_of entries.new ≡ world_of entries.old) }
+    ensures memory { IsOkUnless result Error.OutOfMemory }
+{
+    let key = String::from_str(alloc, path)?;
+    entries.insert(key, held)?;
+    Ok(())
+}
+
+/// Takes away what is held at the path, and says whether anything was.
+fn clear(entries: &mut BTreeMap<String, Held>, path: &str) -> bool
+    ensures removed { result ≡ is_some (entry_at (world_of entries.old) path.now) }
+    ensures after { world_of entries.new ≡ without_entry path.now (world_of entries.old) }
+{
+    entries.remove(path).is_some()
+}
+
+/// The bytes of what is held, if they may be read.
+fn copy_of(held: Option<&Held>, alloc: Global) -> Result<Vec<u8>, FileError>
+    ensures answer { IsAnswer (λ given stamp bytes. given.items ≡ bytes) (option_map (λ held. entry_of held.now) held.entry) result }
+    ensures fault { IsErrOf result FileError.Fault → ⊥ }
+{
+    match held {
+        Some(Held::Version(_, bytes)) => match Vec::from_slice(alloc, bytes) {
+            Ok(copy) => Ok(copy),
+            Err(_) => Err(FileError::OutOfMemory),
+        },
+        Some(Held::Denied) => Err(FileError::Denied),
+        None => Err(FileError::NotFound),
+    }
+}

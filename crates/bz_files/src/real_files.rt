@@ -1,0 +1,204 @@
+//! The files of the system, of whose worlds nothing is told.
+
+ghost use Rattle.std.specs.Prelude.{◌≡◌, ◌==◌, ◌≤◌, length, IfOk, IsErrOf};
+ghost use Rattle.bz_files.specs.Count.{HasRisen};
+ghost use Rattle.bz_files.specs.Looks.{most_bytes, after_failure, after_look, after_read};
+ghost use Rattle.bz_files.specs.Cause.{failure_of};
+ghost use Rattle.std.specs.Fs.{metadata_len};
+ghost use Rattle.std.specs.IoError.{error_kind};
+ghost use Rattle.std.specs.List.{list_any};
+
+use crate::files::{FileError, Files};
+use crate::stamp::Stamp;
+use std::alloc::Global;
+use std::fs::{File, Metadata, OpenFile};
+use std::io::{self, ErrorKind, Read};
+use std::marker::Model;
+use std::os::unix::fs::MetadataExt;
+use std::{fs, rt};
+
+/// The greatest length of a file that is read, in bytes.
+const MOST_BYTES: u64 = 1073741824;
+
+/// The files that a runtime reaches.
+#[derive(Drop)]
+pub struct RealFiles<R: Drop> {
+    rt: R,
+    pid: u32,
+    faults: u64,
+    opens: u64,
+}
+
+impl<R: Drop> Model for RealFiles<R> {
+    ghost use Rattle.bz_files.specs.Looks.{Looks};
+
+    ghost Value = { Looks };
+
+    ghost view = { λ a. record { faults = a.faults; opens = a.opens; pid = a.pid } };
+}
+
+impl<R: rt::Files + Drop> RealFiles<R> {
+    /// The files of the runtime, of which none was looked at yet.
+    pub fn new(rt: R, own_pid: u32) -> RealFiles<R>
+        ensures { result ≡ record { faults = 0; opens = 0; pid = own_pid } }
+    {
+        RealFiles {
+            rt,
+            pid: own_pid,
+            faults: 0,
+            opens: 0,
+        }
+    }
+
+    /// How many looks have failed.
+    pub fn faults(&self) -> u64
+        ensures { result ≡ self.now.faults }
+    {
+        self.faults
+    }
+
+    /// How many files were read.
+    pub fn opens(&self) -> u64
+        ensures { result ≡ self.now.opens }
+    {
+        self.opens
+    }
+
+    /// Counts the fault, if this is one.
+    fn count_fault(&mut self, failed: FileError) -> FileError
+        ensures same { result ≡ failed }
+        ensures after { self.new ≡ after_failure failed self.old }
+        ensures rises { self.old.faults ≤ self.new.faults }
+        ensures risen { failed ≡ FileError.Fault → HasRisen self.old.faults self.new.faults }
+    {
+        match failed {
+            FileError::Fault => {
+                self.faults = self.faults.saturating_add(1);
+                FileError::Fault
+            }
+            FileError::NotFound => FileError::NotFound,
+            FileError::Denied => FileError::Denied,
+            FileError::OutOfMemory => FileError::OutOfMemory,
+        }
+    }
+}
+
+impl<R: rt::Files + Drop> Files for RealFiles<R> {
+    ghost use Rattle.std.specs.Prelude.{None};
+
+    ghost worlds = { λ _. None };
+
+    ghost faults = { λ files. files.faults };
+
+    ghost opens = { λ files. files.opens };
+
+    ghost pid = { λ files. files.pid };
+
+    fn begin(&mut self)
+        ensures { self.new ≡ self.old }
+    {}
+
+    fn own_pid(&self) -> u32 {
+        self.pid
+    }
+
+    fn stat(&mut self, path: &str) -> Result<Stamp, FileError>
+        ensures same { self.new ≡ after_look result self.old }
+        ensures faults { self.old.faults ≤ self.new.faults }
+        ensures fault { IsErrOf result FileError.Fault → HasRisen self.old.faults self.new.faults }
+        ensures memory { IsErrOf result FileError.OutOfMemory → ⊥ }
+    {
+        match stamp_at(&self.rt, path) {
+            Ok(stamp) => Ok(stamp),
+            Err(failed) => Err(self.count_fault(failed)),
+        }
+    }
+
+    fn read(&mut self, alloc: Global, path: &str) -> Result<Vec<u8>, FileError>
+        ensures within { IfOk result (λ bytes. length bytes.items ≤ most_bytes) }
+        ensures same { self.new ≡ after_read result self.old }
+        ensures faults { self.old.faults ≤ self.new.faults }
+        ensures fault { IsErrOf result FileError.Fault → HasRisen self.old.faults self.new.faults }
+    {
+        match bytes_at(&self.rt, alloc, path) {
+            Ok(bytes) => {
+                self.opens = self.opens.saturating_add(1);
+                Ok(bytes)
+            }
+            Err(failed) => Err(self.count_fault(failed)),
+        }
+    }
+}
+
+/// The stamp of the file at the path, from what the system says of it.
+fn stamp_at<R: rt::Files>(rt: &R, path: &str) -> Result<Stamp, FileError>
+    ensures memory { IsErrOf result FileError.OutOfMemory → ⊥ }
+{
+    match fs::metadata(rt, path) {
+        Ok(found) => Ok(stamp_of(&found)),
+        Err(failed) => match cause_of(path, failed) {
+            FileError::NotFound => Err(FileError::NotFound),
+            FileError::Denied => Err(FileError::Denied),
+            // A look takes no memory of its own, so this is the system's trouble.
+            FileError::Fault | FileError::OutOfMemory => Err(FileError::Fault),
+        },
+    }
+}
+
+/// The stamp of a file of which the system says this.
+fn stamp_of(found: &Metadata) -> Stamp
+    ensures { result.size ≡ metadata_len found.now }
+{
+    Stamp {
+        dev: found.dev(),
+        inode: found.ino(),
+        size: found.size(),
+        mtime_sec: found.mtime(),
+        mtime_nsec: found.mtime_nsec(),
+    }
+}
+
+/// The bytes of the file at the path. A longer file than is read is a fault.
+fn bytes_at<R: rt::Files>(rt: &R, alloc: Global, path: &str) -> Result<Vec<u8>, FileError>
+    ensures { IfOk result (λ bytes. length bytes.items ≤ most_bytes) }
+{
+    match read_most(rt, alloc, path) {
+        Ok(bytes) => {
+            if bytes.len() as u64 > MOST_BYTES {
+                Err(FileError::Fault)
+            } else {
+                Ok(bytes)
+            }
+        }
+        Err(failed) => Err(cause_of(path, failed)),
+    }
+}
+
+/// The bytes of the file at the path in one pass, but no more than one past the greatest length.
+fn read_most<R: rt::Files>(rt: &R, alloc: Global, path: &str) -> io::Result<Vec<u8>> {
+    let file = File::open(rt, path)?;
+    let length = file.metadata()?.size();
+    if length > MOST_BYTES {
+        return Err(io::Error::from(ErrorKind::FileTooLarge));
+    }
+    // Room for one byte more, so that the end is seen without the bytes being moved.
+    let mut bytes = Vec::with_capacity(alloc, length as usize + 1)?;
+    // What the system says of the length binds no file: it may grow, or have none to tell.
+    file.take(MOST_BYTES + 1).read_to_end(&mut bytes)?;
+    Ok(bytes)
+}
+
+/// Why a look at the path failed. A path at which no file can be is absent.
+fn cause_of(path: &str, failed: io::Error) -> FileError
+    ensures { result ≡ failure_of (list_any (λ byte. byte == 0) path.now) (error_kind failed) }
+{
+    match failed.kind() {
+        ErrorKind::NotFound => FileError::NotFound,
+        ErrorKind::NotADirectory => FileError::NotFound,
+        ErrorKind::InvalidFilename => FileError::NotFound,
+        ErrorKind::InvalidInput if path.as_bytes().contains(&0) => FileError::NotFound,
+        ErrorKind::PermissionDenied => FileError::Denied,
+        ErrorKind::OutOfMemory => FileError::OutOfMemory,
+        _ => FileError::Fault,
+    }
+}

@@ -1,0 +1,125 @@
+//! The ends of texts over std's readers and writers. What bytes these have is told as far as they tell it themselves.
+
+ghost use Rattle.std.specs.Prelude.{◌≡◌, ◌<◌, ◌≤◌, None, length, IfOk, OnOk, OnErr, IsErrOf};
+ghost use Rattle.std.specs.Io.KnownBytes.{ReadConsumes, WriteAppends};
+ghost use Rattle.bz_files.specs.Count.{counted, HasRisen};
+ghost use Rattle.bz_files.specs.RealEnd.{new_end};
+
+use crate::text::{IoFault, TextIn, TextOut};
+use std::io::{Read, Write};
+use std::marker::Model;
+
+/// A text that is read from a reader.
+#[derive(Drop)]
+pub struct RealIn<R: Read + Drop> {
+    reader: R,
+    faults: u64,
+}
+
+impl<R: Read + Drop> Model for RealIn<R> {
+    ghost use Rattle.bz_files.specs.RealEnd.{RealEnd};
+
+    ghost Value = { RealEnd };
+
+    ghost view = { λ a. record { faults = a.faults; known = R.remaining a.reader } };
+}
+
+impl<R: Read + Drop> RealIn<R> {
+    /// The text that the reader gives, of which no read failed yet.
+    pub fn new(reader: R) -> RealIn<R>
+        ensures { result ≡ new_end (R.remaining reader) }
+    {
+        RealIn { reader, faults: 0 }
+    }
+
+    /// How many calls have failed.
+    pub fn faults(&self) -> u64
+        ensures { result ≡ self.now.faults }
+    {
+        self.faults
+    }
+}
+
+impl<R: Read + Drop> TextIn for RealIn<R> {
+    ghost use Rattle.std.specs.Prelude.{None};
+
+    ghost left = { λ _. None };
+
+    ghost faults = { λ end. end.faults };
+
+    fn take(&mut self, piece: &mut [u8]) -> Result<usize, IoFault>
+        ensures within { IfOk result (λ n. n ≤ length piece.old) }
+        ensures bytes { ReadConsumes self.old.known self.new.known result piece.new }
+        ensures ok { OnOk result (self.new.faults ≡ self.old.faults) }
+        ensures err { OnErr result (self.new.faults ≡ counted self.old.faults) }
+        ensures faults { self.old.faults ≤ self.new.faults }
+        ensures fault { IsErrOf result IoFault.Fault → HasRisen self.old.faults self.new.faults }
+        ensures memory { IsErrOf result IoFault.OutOfMemory → ⊥ }
+    {
+        match self.reader.read(piece) {
+            Ok(n) => Ok(n),
+            Err(_) => {
+                self.faults = self.faults.saturating_add(1);
+                Err(IoFault::Fault)
+            }
+        }
+    }
+}
+
+/// A text that is written to a writer.
+#[derive(Drop)]
+pub struct RealOut<W: Write + Drop> {
+    writer: W,
+    faults: u64,
+}
+
+impl<W: Write + Drop> Model for RealOut<W> {
+    ghost use Rattle.bz_files.specs.RealEnd.{RealEnd};
+
+    ghost Value = { RealEnd };
+
+    ghost view = { λ a. record { faults = a.faults; known = W.contents a.writer } };
+}
+
+impl<W: Write + Drop> RealOut<W> {
+    /// The text that the writer is given, of which no write failed yet.
+    pub fn new(writer: W) -> RealOut<W>
+        ensures { result ≡ new_end (W.contents writer) }
+    {
+        RealOut { writer, faults: 0 }
+    }
+
+    /// How many calls have failed.
+    pub fn faults(&self) -> u64
+        ensures { result ≡ self.now.faults }
+    {
+        self.faults
+    }
+}
+
+impl<W: Write + Drop> TextOut for RealOut<W> {
+    ghost use Rattle.std.specs.Prelude.{None};
+
+    ghost written = { λ _. None };
+
+    ghost faults = { λ end. end.faults };
+
+    fn put(&mut self, piece: &[u8]) -> Result<usize, IoFault>
+        ensures within { IfOk result (λ n. n ≤ length piece.now) }
+        ensures bytes { WriteAppends self.old.known self.new.known result piece.now }
+        ensures some { IfOk result (λ n. 0 < length piece.now → 0 < n) }
+        ensures ok { OnOk result (self.new.faults ≡ self.old.faults) }
+        ensures err { OnErr result (self.new.faults ≡ counted self.old.faults) }
+        ensures faults { self.old.faults ≤ self.new.faults }
+        ensures fault { IsErrOf result IoFault.Fault → HasRisen self.old.faults self.new.faults }
+        ensures memory { IsErrOf result IoFault.OutOfMemory → ⊥ }
+    {
+        match self.writer.write(piece) {
+            Ok(n) if n > 0 || piece.is_empty() => Ok(n),
+            _ => {
+                self.faults = self.faults.saturating_add(1);
+                Err(IoFault::Fault)
+            }
+        }
+    }
+}
