@@ -1,0 +1,12 @@
+pub mod CoherenceLaws
+pub mod Evicting
+pub mod FiniteMaps
+pub mod Looking
+pub mod MapScans
+pub mod MapViews
+pub mod Naming
+pub mod Pinning
+pub mod SortedEdits
+pub mod SortedPairs
+pub mod Stamps
+pub mod Stored

@@ -1,0 +1,5 @@
+use Rattle.bz_cache.proofs.Naming.{tidy_new}
+use Rattle.bz_cache.proofs.file_cache.CacheBuilder.build.Goals as goal
+
+pub invariant_of-result : goal.invariant_of-result
+invariant_of-result g c = rw (c.new.ensures.empty, c.new-2.ensures.empty) (tidy_new g.T.Version.test c.self.inside.reload)

@@ -1,0 +1,96 @@
+-- What a file cache keeps: versions by their stamps, and for each held path the stamps that it names.
+use Rattle.std.specs.Prelude.{◌≡◌, ℕ, Bool, true, ◌||◌, List, Option, Some, None, option_map, option_and_then, is_some, IsSome, refl}
+use Rattle.std.specs.List.{list_any}
+use Rattle.std.specs.Option.{option_map_or}
+use Rattle.std.specs.Ordering.{nat_cmp}
+use Rattle.std.specs.Cmp.Lexicographic.{slice_cmp}
+use Rattle.std.specs.declared.cmp.Ordering.{Ordering}
+use Rattle.std.specs.FinMap.{FinMap}
+use Rattle.std.specs.FinMap as map
+use Rattle.std.specs.Coded.{Coded, code_by, coded×, coded_ℕ, coded_bool, coded_list}
+use Rattle.bz_base.specs.declared.error.Error.{Error}
+use Rattle.bz_files.specs.declared.stamp.Stamp.{Stamp}
+use Rattle.bz_files.specs.contracts.stamp.StampOrd.TheImpl as stamp_ord
+use Rattle.bz_files.specs.contracts.stamp.StampPartialEq.TheImpl as stamp_partial_eq
+use Rattle.bz_files.specs.World.{coded_stamp}
+
+-- the order of stamps
+abbrev pub stamp_cmp : Stamp → Stamp → Ordering
+stamp_cmp = (stamp_ord.ghosts).cmp
+
+-- whether two stamps are equal
+abbrev pub stamp_eq : Stamp → Stamp → Bool
+stamp_eq = (stamp_partial_eq.ghosts).eq
+
+-- a held path: the stamp that it was last seen with, whether it stays there, and the stamps that it was seen with before
+pub record PathState : Type 0 where
+  pub current : Stamp
+  pub pinned : Bool
+  pub earlier : List Stamp
+
+-- the bytes of the kept versions, by their stamps
+abbrev pub Kept : Type 0
+Kept = FinMap stamp_cmp (List ℕ)
+
+-- the held paths, by their bytes
+abbrev pub Paths : Type 0
+Paths = FinMap (slice_cmp nat_cmp) PathState
+
+-- a cache: whether paths are looked at anew, the kept versions and the held paths
+pub record Cache : Type 0 where
+  pub reload : Bool
+  pub kept : Kept
+  pub paths : Paths
+
+-- whether the stamp is among these
+abbrev pub is_among : List Stamp → Stamp → Bool
+is_among stamps s = list_any (λ t. stamp_eq t s) stamps
+
+-- a path names its current stamp and its earlier ones
+abbrev pub names : PathState → Stamp → Bool
+names e s = stamp_eq e.current s || is_among e.earlier s
+
+-- the current stamp of the path, if it is held
+abbrev pub current_of : Cache → List ℕ → Option Stamp
+current_of c p = option_map (λ e. e.current) (map.get c.paths p)
+
+-- the kept bytes of the path's current stamp
+abbrev pub kept_at : Cache → List ℕ → Option (List ℕ)
+kept_at c p = option_and_then (λ s. map.get c.kept s) (current_of c p)
+
+-- the path is held
+abbrev pub is_held : Cache → List ℕ → Bool
+is_held c p = is_some (map.get c.paths p)
+
+-- the stamp is kept exactly while some path names it, and every kept version is in the format
+pub record Tidy (test : List ℕ → Option Error) (c : Cache) : Type 0 where
+  pub needed : (s : Stamp) → IsSome (map.get c.kept s) → (p : List ℕ) × (e : PathState) × (map.get c.paths p ≡ Some e) × (names e s ≡ true)
+  pub held : (p : List ℕ) (e : PathState) (s : Stamp) → map.get c.paths p ≡ Some e → names e s ≡ true → IsSome (map.get c.kept s)
+  pub formed : (s : Stamp) (b : List ℕ) → map.get c.kept s ≡ Some b → test b ≡ None
+
+-- a cache that keeps nothing
+abbrev pub new_cache : Bool → Cache
+new_cache reload = record { reload = reload; kept = map.empty; paths = map.empty }
+
+-- the paths, where this one has the pin if it is held
+abbrev pub with_pinned : Bool → Paths → List ℕ → Paths
+with_pinned pinned paths p = option_map_or (λ e. map.insert paths p (record e { pinned = pinned })) (map.get paths p) paths
+
+-- the cache, where the path has the pin if it is held
+abbrev pub with_pin : Bool → Cache → List ℕ → Cache
+with_pin pinned c p = record c { paths = with_pinned pinned c.paths p }
+
+-- caches can be kept in the model of a value
+abbrev pub coded_state : Coded PathState
+coded_state =
+    code_by (Stamp × (Bool × List Stamp)) (coded× coded_stamp (coded× coded_bool (coded_list coded_stamp)))
+    (λ e. (e.current, (e.pinned, e.earlier)))
+    (λ p. record { current = p.0; pinned = p.1.0; earlier = p.1.1 })
+    (λ _. refl)
+
+abbrev pub coded_cache : Coded Cache
+coded_cache =
+    code_by (Bool × (Kept × Paths)) (coded× coded_bool (coded× (map.code coded_stamp (coded_list coded_ℕ)) (map.code (coded_list coded_ℕ) coded_state)))
+    (λ c. (c.reload, (c.kept, c.paths)))
+    (λ p. record { reload = p.0; kept = p.1.0; paths = p.1.1 })
+    (λ _. refl)

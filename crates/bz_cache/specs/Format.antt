@@ -1,0 +1,54 @@
+-- When the bytes of a version are refused, and what a call of the cache may answer.
+use Rattle.std.specs.Prelude.{◌≡◌, ℕ, List, Option, Some, None, Result, Ok, Err}
+use Rattle.bz_base.specs.declared.error.Error.{Error}
+use Rattle.bz_base.specs.declared.error.Error.TheVariants as errors
+use Rattle.bz_files.specs.declared.stamp.Stamp.{Stamp}
+use Rattle.bz_files.specs.World.{Entry, Denied, Present}
+
+-- a format refuses bytes by one of these; want of memory may come anywhere
+abbrev pub MayRefuse : Error → Type 0
+MayRefuse errors.Unsupported = Unit {0}
+MayRefuse errors.InvalidInput = Unit {0}
+MayRefuse errors.InvalidData = Unit {0}
+MayRefuse errors.NotBuilt = Unit {0}
+MayRefuse errors.OutOfMemory = Unit {0}
+MayRefuse _ = ⊥
+
+-- the refusal is the one that the format's test gives, and so the bytes aren't in the format; but for want of memory
+abbrev pub IsRefusalBy : Option Error → Error → Type 0
+IsRefusalBy given errors.OutOfMemory = Unit {0}
+IsRefusalBy given e = given ≡ Some e
+
+-- the refusal is the one that is expected; but for a fault and want of memory, which may come anywhere
+abbrev pub FailsAs : {A : Type 0} → Result A Error → Error → Type 0
+FailsAs expected errors.ReadFault = Unit {0}
+FailsAs expected errors.OutOfMemory = Unit {0}
+FailsAs expected e = expected ≡ Err e
+
+-- the answer reads as the expected one; but for a fault and want of memory, which may come anywhere
+abbrev pub Comes : {A B : Type 0} → (A → B) → Result B Error → Result A Error → Type 0
+Comes reading expected (Ok x) = expected ≡ Ok (reading x)
+Comes reading expected (Err e) = FailsAs expected e
+
+-- a look at a file that is told answers what lies there; a fault and want of memory may come anywhere
+abbrev pub Finds : {A : Type 0} → (A → Stamp → List ℕ → Type 0) → Option Entry → Result A Error → Type 0
+Finds Gives there (Ok given) = (stamp : Stamp) × (bytes : List ℕ) × (there ≡ Some (Present stamp bytes)) × Gives given stamp bytes
+Finds Gives there (Err errors.NotFound) = there ≡ None
+Finds Gives there (Err errors.PermissionDenied) = there ≡ Some Denied
+Finds Gives there (Err errors.ReadFault) = Unit {0}
+Finds Gives there (Err errors.OutOfMemory) = Unit {0}
+Finds Gives there (Err _) = ⊥
+
+-- a look at a file is refused by one of these
+abbrev pub MayMiss : Error → Type 0
+MayMiss errors.NotFound = Unit {0}
+MayMiss errors.PermissionDenied = Unit {0}
+MayMiss errors.ReadFault = Unit {0}
+MayMiss errors.OutOfMemory = Unit {0}
+MayMiss _ = ⊥
+
+-- a look through the cache is refused by any refusal but these two
+abbrev pub MayFail : Error → Type 0
+MayFail errors.UnexpectedEof = ⊥
+MayFail errors.AlreadyExists = ⊥
+MayFail _ = Unit {0}

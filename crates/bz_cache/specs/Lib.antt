@@ -1,0 +1,9 @@
+pub mod Cache
+pub mod Coherence
+pub mod Eviction
+pub mod Format
+pub mod InsertMap
+pub mod InsertMapLoan
+pub mod Look
+pub mod Store
+pub mod View

@@ -1,0 +1,22 @@
+-- How the cache's maps read as its kept versions and its held paths.
+use Rattle.std.specs.Prelude.{ℕ, List, map}
+use Rattle.std.specs.BTreeMap.{BTreeMap}
+use Rattle.std.specs.FinMap.{from_entries}
+use Rattle.std.specs.String.{string_bytes}
+use Rattle.std.specs.declared.string.String.{String}
+use Rattle.std.specs.declared.rc.Rc.{Rc}
+use Rattle.bz_files.specs.declared.stamp.Stamp.{Stamp}
+use Rattle.bz_cache.specs.declared.file_cache.paths.PathEntry.{PathEntry}
+use Rattle.bz_cache.specs.Cache.{Kept, Paths, PathState}
+
+-- the bytes of each version, by its stamp
+abbrev pub kept_of : {T A : Type 0} → (T → List ℕ) → BTreeMap Stamp (Rc T A) → Kept
+kept_of bytes_of m = from_entries (map (λ e. (e.0, bytes_of e.1.value)) m.entries)
+
+-- what a path's entry says
+abbrev pub state_of : PathEntry → PathState
+state_of e = record { current = e.current; pinned = e.pinned; earlier = e.earlier.items }
+
+-- the state of each path, by its bytes
+abbrev pub paths_of : {A : Type 0} → BTreeMap (String A) PathEntry → Paths
+paths_of m = from_entries (map (λ e. (string_bytes e.0, state_of e.1)) m.entries)

@@ -1,0 +1,301 @@
+//! A cache of parsed files.
+
+ghost use Rattle.std.specs.Prelude.{◌≡◌, ◌≤◌, ◌⊎◌, Option, None, OnOk, OnErr, IfOk, IfErr, IsOk, IsOkUnless, IsErrOf, IsSome, is_some, Some, Bool, true, false};
+ghost use Rattle.std.specs.FinMap as map;
+ghost use Rattle.bz_cache.specs.Cache.{Cache, PathState, Tidy, new_cache, stamp_eq, current_of, is_held, with_pin};
+ghost use Rattle.bz_cache.specs.Eviction.{evicted, evicts};
+ghost use Rattle.bz_files.specs.Count.{HasRisen, counted};
+ghost use Rattle.bz_files.specs.World.{Told, in_view, entry_at};
+ghost use Rattle.bz_cache.specs.Format.{Comes, MayFail};
+ghost use Rattle.bz_cache.specs.Look.{named, look, by_entry, is_new, will_open, opens_after, IsUnmoved, IsSomeEntry, IsSomeLook, Leaves};
+ghost use Rattle.bz_cache.specs.View.{fixed, bytes_at};
+
+use crate::version::Version;
+use bz_base::{Error, Result};
+use bz_files::{Files, Stamp};
+use std::alloc::Global;
+use std::collections::BTreeMap;
+use std::marker::{Model, PhantomData};
+use std::rc::Rc;
+
+mod entries;
+mod paths;
+mod sight;
+
+use paths::PathEntry;
+
+/// Parsed files, kept by their stamps, and the paths that name these.
+pub struct FileCache<T: Version + Drop> {
+    entries: BTreeMap<Stamp, Rc<T>>,
+    paths: BTreeMap<String, PathEntry>,
+    reload: bool,
+}
+
+impl<T: Version + Drop> Model for FileCache<T> {
+    ghost use Rattle.bz_cache.specs.Cache.{Cache, coded_cache, Tidy};
+
+    ghost Value = { Cache };
+
+    ghost coded = { coded_cache };
+
+    ghost use Rattle.bz_cache.specs.Store.{kept_of, paths_of};
+
+    ghost view = { λ a. record { reload = a.reload; kept = kept_of T.bytes_of a.entries; paths = paths_of a.paths } };
+
+    ghost invariant = { λ a. Tidy T.test (record { reload = a.reload; kept = kept_of T.bytes_of a.entries; paths = paths_of a.paths }) };
+}
+
+impl<T: Version + Drop> Drop for FileCache<T> {
+    fn drop(self) {
+        let FileCache {
+            entries: _,
+            paths: _,
+            reload: _,
+        } = self;
+    }
+}
+
+impl<T: Version + Drop> FileCache<T> {
+    /// Whether a version with the stamp is kept. A stamp is kept exactly while some path names it.
+    pub fn is_kept(&self, stamp: &Stamp) -> bool
+        ensures kept { result ≡ is_some (map.get self.now.kept stamp.now) }
+        ensures tidy { Tidy T.test self.now }
+    {
+        entries::is_kept(&self.entries, stamp)
+    }
+
+    /// Keeps a held path at its current version, also where its file changes.
+    pub fn pin(&mut self, path: &str) -> Option<()>
+        ensures held { is_some result ≡ is_held self.old path.now }
+        ensures state { self.new ≡ with_pin true self.old path.now }
+    {
+        paths::set_pinned(&mut self.paths, path, true)
+    }
+
+    /// Has a held path looked at anew from the next look on.
+    pub fn unpin(&mut self, path: &str) -> Option<()>
+        ensures held { is_some result ≡ is_held self.old path.now }
+        ensures state { self.new ≡ with_pin false self.old path.now }
+    {
+        paths::set_pinned(&mut self.paths, path, false)
+    }
+
+    /// Forgets a path, and with it the versions that no other path names. Says whether a version
+    /// was dropped.
+    pub fn evict(&mut self, path: &str) -> bool
+        ensures dropped { result ≡ evicts self.old path.now }
+        ensures state { self.new ≡ evicted self.old path.now }
+        ensures unheld { is_held self.old path.now ≡ false → (result ≡ false) × (self.new ≡ self.old) }
+    {
+        paths::forget(&mut self.paths, path);
+        let dropped = entries::has_unnamed(&self.entries, &self.paths);
+        entries::give_up_unnamed(&mut self.entries, &self.paths);
+        dropped
+    }
+
+    /// How many versions are kept.
+    pub fn entry_count(&self) -> usize
+        ensures { result ≡ map.len self.now.kept }
+    {
+        entries::count(&self.entries)
+    }
+
+    /// How many paths are held.
+    pub fn path_count(&self) -> usize
+        ensures { result ≡ map.len self.now.paths }
+    {
+        paths::count(&self.paths)
+    }
+
+    // The path's current stamp, if it is answered without a look.
+    fn fixed(&self, path: &str) -> Option<Stamp>
+        ensures fixed { result ≡ fixed self.now path.now }
+        ensures tidy { Tidy T.test self.now }
+    {
+        match paths::standing(&self.paths, path) {
+            Some((current, pinned)) if pinned || !self.reload => Some(current),
+            _ => None,
+        }
+    }
+
+    // The kept version with the stamp.
+    fn version(&self, stamp: &Stamp) -> &T
+        requires { IsSome (map.get self.now.kept stamp.now) }
+        ensures { map.get self.now.kept stamp.now ≡ Some (T.bytes_of result.now) }
+    {
+        entries::version(&self.entries, stamp)
+    }
+
+    // Makes the kept version with the stamp the path's current one.
+    fn point(&mut self, alloc: Global, path: &str, stamp: Stamp) -> Result<()>
+        requires { IsSome (map.get self.old.kept stamp) }
+        ensures ok { OnOk result (self.new ≡ named self.old path.now stamp (bytes_at self.old stamp)) }
+        ensures err { OnErr result (self.new ≡ self.old) }
+        ensures memory { IsOkUnless result Error.OutOfMemory }
+        ensures tidy { OnOk result (Tidy T.test self.new) }
+        ensures sure { (e : PathState) → map.get self.old.paths path.now ≡ Some e → stamp_eq e.current stamp ≡ true → IsOk result }
+    {
+        paths::place(&mut self.paths, alloc, path, stamp)?;
+        Ok(())
+    }
+
+    // Takes in a version that wasn't kept, as the path's current one.
+    fn take_in(&mut self, alloc: Global, path: &str, stamp: Stamp, version: T) -> Result<()>
+        requires absent { map.get self.old.kept stamp ≡ None }
+        requires formed { T.test (T.bytes_of version) ≡ None }
+        ensures ok { OnOk result (self.new ≡ named self.old path.now stamp (T.bytes_of version)) }
+        ensures tidy { OnOk result (Tidy T.test self.new) }
+        ensures err { OnErr result (self.new ≡ self.old) }
+        ensures memory { IsOkUnless result Error.OutOfMemory }
+    {
+        entries::keep(&mut self.entries, alloc, stamp, version)?;
+        if let Err(error) = paths::place(&mut self.paths, alloc, path, stamp) {
+            entries::give_up(&mut self.entries, &stamp);
+            return Err(error);
+        }
+        Ok(())
+    }
+}
+
+impl<T: Version + Drop> FileCache<T> {
+    ghost use Rattle.std.specs.Prelude.{⊤, MatchResult, ◌≡◌, ◌≤◌, ◌⊎◌, Option, None, OnOk, OnErr, IfOk, IfErr, IsOk, IsOkUnless, IsErrOf, IsSome, is_some, Some, Bool, true, false};
+    ghost use Rattle.std.specs.Borrow.{sem, follows_so};
+    ghost use mathlib.Core.Option.{none};
+    ghost use Rattle.bz_cache.specs.contracts.file_cache.FileCache.{the_row};
+
+    /// The version of the file at the path. A path that is pinned, or that is held where the cache
+    /// doesn't reload, answers by the version that it has; any other is looked at, and read where no
+    /// version with its stamp is kept. After a refusal the cache is as before.
+    pub fn entry<F: Files>(&mut self, alloc: Global, files: &mut F, path: &str) -> Result<&T>
+        ensures* after { sem 𝓛 (follows_so (the_row T.row T.Version) (the_row T.row T.Version) self.entry.ghost_name none (λ _ _. ⊤) (λ n. MatchResult result (λ v. Leaves T.test self.old n path.now (T.bytes_of v.now) (in_view (F.worlds files.old))) (λ _. n ≡ self.old))) }
+        ensures answer { Told (in_view (F.worlds files.old)) (λ w. Comes (λ v. T.bytes_of v.now) (look T.test self.old path.now (entry_at w path.now)).0 result) }
+        ensures fixed { IsSome (fixed self.old path.now) → IsOk result }
+        ensures unseen { IsSome (fixed self.old path.now) → files.new ≡ files.old }
+        // No memory is taken where the present stamp is the path's current one.
+        ensures unmoved { Told (in_view (F.worlds files.old)) (λ w. IsUnmoved self.old path.now (entry_at w path.now) → IsOkUnless result Error.ReadFault) }
+        ensures opened { Told (in_view (F.worlds files.old)) (λ w. OnOk result (F.opens files.new ≡ opens_after (will_open self.old path.now (entry_at w path.now)) (F.opens files.old))) }
+        ensures spared { Told (in_view (F.worlds files.old)) (λ w. will_open self.old path.now (entry_at w path.now) ≡ false → F.opens files.new ≡ F.opens files.old) }
+        ensures most { (F.opens files.new ≡ F.opens files.old) ⊎ (F.opens files.new ≡ counted (F.opens files.old)) }
+        ensures worlds { F.worlds files.new ≡ F.worlds files.old }
+        ensures pid { F.pid files.new ≡ F.pid files.old }
+        ensures faults { F.faults files.old ≤ F.faults files.new }
+        ensures fault { IsErrOf result Error.ReadFault → HasRisen (F.faults files.old) (F.faults files.new) }
+        ensures refusal { IfErr result MayFail }
+    {
+        let stamp = self.look(alloc, files, path)?;
+        Ok(self.version(&stamp))
+    }
+
+    // The stamp of the version that the path answers by.
+    fn look<F: Files>(&mut self, alloc: Global, files: &mut F, path: &str) -> Result<Stamp>
+        ensures answer { Told (in_view (F.worlds files.old)) (λ w. Comes (bytes_at self.new) (look T.test self.old path.now (entry_at w path.now)).0 result) }
+        ensures ok { Told (in_view (F.worlds files.old)) (λ w. OnOk result (self.new ≡ (look T.test self.old path.now (entry_at w path.now)).1)) }
+        ensures err { OnErr result (self.new ≡ self.old) }
+        ensures current { IfOk result (λ stamp. current_of self.new path.now ≡ Some stamp) }
+        ensures tidy { OnOk result (Tidy T.test self.new) }
+        ensures some { IfOk result (λ stamp. IsSomeLook T.test self.old self.new path.now (bytes_at self.new stamp)) }
+        ensures fixed { IsSome (fixed self.old path.now) → IsOk result }
+        ensures unseen { IsSome (fixed self.old path.now) → files.new ≡ files.old }
+        ensures unchanged { IsSome (fixed self.old path.now) → self.new ≡ self.old }
+        ensures unmoved { Told (in_view (F.worlds files.old)) (λ w. IsUnmoved self.old path.now (entry_at w path.now) → IsOkUnless result Error.ReadFault) }
+        ensures opened { Told (in_view (F.worlds files.old)) (λ w. OnOk result (F.opens files.new ≡ opens_after (will_open self.old path.now (entry_at w path.now)) (F.opens files.old))) }
+        ensures spared { Told (in_view (F.worlds files.old)) (λ w. will_open self.old path.now (entry_at w path.now) ≡ false → F.opens files.new ≡ F.opens files.old) }
+        ensures most { (F.opens files.new ≡ F.opens files.old) ⊎ (F.opens files.new ≡ counted (F.opens files.old)) }
+        ensures worlds { F.worlds files.new ≡ F.worlds files.old }
+        ensures pid { F.pid files.new ≡ F.pid files.old }
+        ensures faults { F.faults files.old ≤ F.faults files.new }
+        ensures fault { IsErrOf result Error.ReadFault → HasRisen (F.faults files.old) (F.faults files.new) }
+        ensures refusal { IfErr result MayFail }
+    {
+        match self.fixed(path) {
+            Some(stamp) => Ok(stamp),
+            None => self.refresh(alloc, files, path),
+        }
+    }
+
+    // The present stamp of a path that isn't fixed, whose version is taken in if it wasn't kept.
+    fn refresh<F: Files>(&mut self, alloc: Global, files: &mut F, path: &str) -> Result<Stamp>
+        ensures answer { Told (in_view (F.worlds files.old)) (λ w. Comes (bytes_at self.new) (by_entry T.test self.old path.now (entry_at w path.now)).0 result) }
+        ensures ok { Told (in_view (F.worlds files.old)) (λ w. OnOk result (self.new ≡ (by_entry T.test self.old path.now (entry_at w path.now)).1)) }
+        ensures err { OnErr result (self.new ≡ self.old) }
+        ensures current { IfOk result (λ stamp. current_of self.new path.now ≡ Some stamp) }
+        ensures tidy { OnOk result (Tidy T.test self.new) }
+        ensures some { IfOk result (λ stamp. IsSomeEntry T.test self.old self.new path.now (bytes_at self.new stamp)) }
+        ensures unmoved { Told (in_view (F.worlds files.old)) (λ w. IsUnmoved self.old path.now (entry_at w path.now) → IsOkUnless result Error.ReadFault) }
+        ensures opened { Told (in_view (F.worlds files.old)) (λ w. OnOk result (F.opens files.new ≡ opens_after (is_new self.old (entry_at w path.now)) (F.opens files.old))) }
+        ensures spared { Told (in_view (F.worlds files.old)) (λ w. is_new self.old (entry_at w path.now) ≡ false → F.opens files.new ≡ F.opens files.old) }
+        ensures most { (F.opens files.new ≡ F.opens files.old) ⊎ (F.opens files.new ≡ counted (F.opens files.old)) }
+        ensures worlds { F.worlds files.new ≡ F.worlds files.old }
+        ensures pid { F.pid files.new ≡ F.pid files.old }
+        ensures faults { F.faults files.old ≤ F.faults files.new }
+        ensures fault { IsErrOf result Error.ReadFault → HasRisen (F.faults files.old) (F.faults files.new) }
+        ensures refusal { IfErr result MayFail }
+    {
+        let stamp = sight::present(files, path)?;
+        if self.is_kept(&stamp) {
+            self.point(alloc, path, stamp)?;
+            return Ok(stamp);
+        }
+        let bytes = sight::contents(files, alloc, path)?;
+        let version = T::parse(alloc, bytes)?;
+        self.take_in(alloc, path, stamp, version)?;
+        Ok(stamp)
+    }
+}
+
+/// How a cache is made.
+pub struct CacheBuilder<T: Version + Drop> {
+    reload: bool,
+    versions: PhantomData<T>,
+}
+
+impl<T: Version + Drop> Model for CacheBuilder<T> {
+    ghost use Rattle.std.specs.Prelude.{Bool};
+
+    ghost Value = { Bool };
+
+    ghost view = { λ a. a.reload };
+}
+
+impl<T: Version + Drop> FileCache<T> {
+    /// A builder of caches that look at their paths anew.
+    pub fn builder() -> CacheBuilder<T>
+        ensures { result ≡ true }
+    {
+        CacheBuilder {
+            reload: true,
+            versions: PhantomData,
+        }
+    }
+}
+
+impl<T: Version + Drop> CacheBuilder<T> {
+    /// Whether the cache looks at a held path anew. Else it answers by the version that it has.
+    pub fn enable_auto_reload(self, enable: bool) -> Self
+        ensures { result ≡ enable }
+    {
+        let CacheBuilder {
+            reload: _,
+            versions,
+        } = self;
+        CacheBuilder {
+            reload: enable,
+            versions,
+        }
+    }
+
+    /// A cache that keeps nothing.
+    pub fn build(self, alloc: Global) -> FileCache<T>
+        ensures { result ≡ new_cache self }
+    {
+        let CacheBuilder {
+            reload,
+            versions: _,
+        } = self;
+        FileCache {
+            entries: BTreeMap::new(alloc),
+            paths: BTreeMap::new(alloc),
+            reload,
+        }
+    }
+}

@@ -1,0 +1,147 @@
+//! The held paths, and the stamps that each names.
+
+ghost use Rattle.std.specs.Prelude.{◌≡◌, OnOk, OnErr, IsOk, IsOkUnless, IsSomeAnd, Option, Some, None, option_map, is_some, true};
+ghost use Rattle.std.specs.List.{list_any};
+ghost use Rattle.std.specs.BTreeMap.{values, IsOrdered};
+ghost use Rattle.std.specs.String.{string_cmp};
+ghost use Rattle.std.specs.FinMap as map;
+ghost use Rattle.bz_files.specs.declared.stamp.Stamp.{Stamp};
+ghost use Rattle.bz_cache.specs.Cache.{stamp_eq, is_among, names, with_pinned, PathState};
+ghost use Rattle.bz_cache.specs.Eviction.{is_named};
+ghost use Rattle.bz_cache.specs.Look.{with_earlier, moved};
+ghost use Rattle.bz_cache.specs.Store.{paths_of, state_of};
+
+use bz_base::{Error, Result};
+use bz_files::Stamp;
+use std::alloc::Global;
+use std::collections::BTreeMap;
+
+/// What is known of a held path.
+#[derive(Drop)]
+pub struct PathEntry {
+    /// The stamp that it was last seen with.
+    pub current: Stamp,
+    /// Whether it stays at that stamp.
+    pub pinned: bool,
+    /// The stamps that it was seen with before.
+    pub earlier: Vec<Stamp>,
+}
+
+/// The path's current stamp, and whether it is pinned.
+pub fn standing(paths: &BTreeMap<String, PathEntry>, path: &str) -> Option<(Stamp, bool)>
+    ensures { result ≡ option_map (λ e. (e.current, e.pinned)) (map.get (paths_of paths.now) path.now) }
+{
+    match paths.get(path) {
+        Some(entry) => Some((entry.current, entry.pinned)),
+        None => None,
+    }
+}
+
+/// Makes the stamp the path's current one, and unpins the path.
+pub fn place(
+    paths: &mut BTreeMap<String, PathEntry>,
+    alloc: Global,
+    path: &str,
+    stamp: Stamp,
+) -> Result<()>
+    ensures ok { OnOk result (paths_of paths.new ≡ map.insert (paths_of paths.old) path.now (moved stamp (map.get (paths_of paths.old) path.now))) }
+    ensures err { OnErr result (paths_of paths.new ≡ paths_of paths.old) }
+    ensures memory { IsOkUnless result Error.OutOfMemory }
+    ensures sure { (e : PathState) → map.get (paths_of paths.old) path.now ≡ Some e → stamp_eq e.current stamp ≡ true → IsOk result }
+{
+    match paths.get_mut(path) {
+        Some(entry) => shift(entry, stamp),
+        None => add(paths, alloc, path, stamp),
+    }
+}
+
+fn add(
+    paths: &mut BTreeMap<String, PathEntry>,
+    alloc: Global,
+    path: &str,
+    stamp: Stamp,
+) -> Result<()>
+    ensures ok { OnOk result (paths_of paths.new ≡ map.insert (paths_of paths.old) path.now (moved stamp None)) }
+    ensures err { OnErr result (paths_of paths.new ≡ paths_of paths.old) }
+    ensures memory { IsOkUnless result Error.OutOfMemory }
+{
+    let name = String::from_str(alloc, path)?;
+    let entry = PathEntry {
+        current: stamp,
+        pinned: false,
+        earlier: Vec::new(alloc),
+    };
+    paths.insert(name, entry)?;
+    Ok(())
+}
+
+fn shift(entry: &mut PathEntry, stamp: Stamp) -> Result<()>
+    ensures ok { OnOk result (state_of entry.new ≡ moved stamp (Some (state_of entry.old))) }
+    ensures err { OnErr result (state_of entry.new ≡ state_of entry.old) }
+    ensures memory { IsOkUnless result Error.OutOfMemory }
+    ensures sure { stamp_eq entry.old.current stamp ≡ true → IsOk result }
+{
+    if entry.current == stamp {
+        entry.pinned = false;
+        return Ok(());
+    }
+    remember(&mut entry.earlier, entry.current)?;
+    entry.current = stamp;
+    entry.pinned = false;
+    Ok(())
+}
+
+fn remember(earlier: &mut Vec<Stamp>, stamp: Stamp) -> Result<()>
+    ensures ok { OnOk result (earlier.new.items ≡ with_earlier earlier.old.items stamp) }
+    ensures err { OnErr result (earlier.new.items ≡ earlier.old.items) }
+    ensures memory { IsOkUnless result Error.OutOfMemory }
+{
+    if !earlier.contains(&stamp) {
+        earlier.push(stamp)?;
+    }
+    Ok(())
+}
+
+/// Pins a held path, or unpins it.
+pub fn set_pinned(paths: &mut BTreeMap<String, PathEntry>, path: &str, pinned: bool) -> Option<()>
+    ensures some { is_some result ≡ is_some (map.get (paths_of paths.old) path.now) }
+    ensures paths { paths_of paths.new ≡ with_pinned pinned (paths_of paths.old) path.now }
+{
+    let entry = paths.get_mut(path)?;
+    entry.pinned = pinned;
+    Some(())
+}
+
+/// Forgets a path.
+pub fn forget(paths: &mut BTreeMap<String, PathEntry>, path: &str)
+    ensures { paths_of paths.new ≡ map.remove (paths_of paths.old) path.now }
+{
+    paths.remove(path);
+}
+
+/// Whether some path names the stamp.
+pub fn is_named(paths: &BTreeMap<String, PathEntry>, stamp: &Stamp) -> bool
+    ensures { result ≡ is_named (paths_of paths.now) stamp.now }
+{
+    some_names(paths, stamp)
+}
+
+fn some_names(paths: &BTreeMap<String, PathEntry>, stamp: &Stamp) -> bool
+    ensures value { result ≡ list_any (λ e. names (state_of e) stamp.now) (values paths.now) }
+    ensures ordered { IsOrdered string_cmp paths.now }
+{
+    paths.values().any(|entry| names(entry, stamp))
+}
+
+fn names(entry: &PathEntry, stamp: &Stamp) -> bool
+    ensures { result ≡ names (state_of entry.now) stamp.now }
+{
+    entry.current == *stamp || entry.earlier.contains(stamp)
+}
+
+/// How many paths are held.
+pub fn count(paths: &BTreeMap<String, PathEntry>) -> usize
+    ensures { result ≡ map.len (paths_of paths.now) }
+{
+    paths.len()
+}

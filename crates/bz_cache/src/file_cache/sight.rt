@@ -1,0 +1,50 @@
+//! Looks at files, whose refusals are those of a symbolizer.
+
+ghost use Rattle.std.specs.Prelude.{◌≡◌, ◌≤◌, OnOk, OnErr, IfErr, IsErrOf};
+ghost use Rattle.bz_files.specs.World.{Told, in_view, entry_at};
+ghost use Rattle.bz_files.specs.Count.{HasRisen, counted};
+ghost use Rattle.bz_cache.specs.Format.{Finds, MayMiss};
+
+use bz_base::{Error, Result};
+use bz_files::{FileError, Files, Stamp};
+use std::alloc::Global;
+
+/// The stamp of the file at the path.
+pub fn present<F: Files>(files: &mut F, path: &str) -> Result<Stamp>
+    ensures answer { Told (in_view (F.worlds files.old)) (λ w. Finds (λ given stamp bytes. given ≡ stamp) (entry_at w path.now) result) }
+    ensures worlds { F.worlds files.new ≡ F.worlds files.old }
+    ensures opens { F.opens files.new ≡ F.opens files.old }
+    ensures pid { F.pid files.new ≡ F.pid files.old }
+    ensures faults { F.faults files.old ≤ F.faults files.new }
+    ensures fault { IsErrOf result Error.ReadFault → HasRisen (F.faults files.old) (F.faults files.new) }
+    ensures memory { IsErrOf result Error.OutOfMemory → ⊥ }
+    ensures refusal { IfErr result MayMiss }
+{
+    match files.stat(path) {
+        Ok(stamp) => Ok(stamp),
+        Err(FileError::NotFound) => Err(Error::NotFound),
+        Err(FileError::Denied) => Err(Error::PermissionDenied),
+        Err(FileError::Fault) => Err(Error::ReadFault),
+        Err(FileError::OutOfMemory) => Err(Error::OutOfMemory),
+    }
+}
+
+/// The bytes of the file at the path.
+pub fn contents<F: Files>(files: &mut F, alloc: Global, path: &str) -> Result<Vec<u8>>
+    ensures answer { Told (in_view (F.worlds files.old)) (λ w. Finds (λ given stamp bytes. given.items ≡ bytes) (entry_at w path.now) result) }
+    ensures worlds { F.worlds files.new ≡ F.worlds files.old }
+    ensures opened { OnOk result (F.opens files.new ≡ counted (F.opens files.old)) }
+    ensures unopened { OnErr result (F.opens files.new ≡ F.opens files.old) }
+    ensures pid { F.pid files.new ≡ F.pid files.old }
+    ensures faults { F.faults files.old ≤ F.faults files.new }
+    ensures fault { IsErrOf result Error.ReadFault → HasRisen (F.faults files.old) (F.faults files.new) }
+    ensures refusal { IfErr result MayMiss }
+{
+    match files.read(alloc, path) {
+        Ok(bytes) => Ok(bytes),
+        Err(FileError::NotFound) => Err(Error::NotFound),
+        Err(FileError::Denied) => Err(Error::PermissionDenied),
+        Err(FileError::Fault) => Err(Error::ReadFault),
+        Err(FileError::OutOfMemory) => Err(Error::OutOfMemory),
+    }
+}
