@@ -1,0 +1,3 @@
+pub mod PromiseLemmas
+pub mod NewLemmas
+pub mod ViewLemmas

@@ -1,0 +1,39 @@
+-- The state of a symbolizer: how it was set, and the files that it keeps.
+use Rattle.std.specs.Prelude.{ℕ, Bool, true, List, Option, None, refl}
+use Rattle.std.specs.Coded.{Coded, code_by, coded×, coded_ℕ, coded_bool, coded_list, coded_option}
+use Rattle.bz_cache.specs.Cache.{Cache, new_cache, coded_cache}
+
+-- how a symbolizer is set: whether files are looked at anew, whether names are demangled, and where debug files are looked
+-- for. The last two are kept and have no effect.
+pub record Settings : Type 0 where
+  pub reload : Bool
+  pub demangling : Bool
+  pub debug_dirs : Option (List (List ℕ))
+
+-- all features on, and no directories
+abbrev pub default_settings : Settings
+default_settings = record { reload = true; demangling = true; debug_dirs = None }
+
+-- a symbolizer: its settings, and the Breakpad files that it keeps
+pub record State : Type 0 where
+  pub settings : Settings
+  pub breakpad : Cache
+
+-- a symbolizer that keeps nothing
+abbrev pub new_state : Settings → State
+new_state settings = record { settings = settings; breakpad = new_cache settings.reload }
+
+-- settings and states can be kept in the model of a value
+abbrev pub coded_settings : Coded Settings
+coded_settings =
+    code_by (Bool × (Bool × Option (List (List ℕ)))) (coded× coded_bool (coded× coded_bool (coded_option (coded_list (coded_list coded_ℕ)))))
+    (λ s. (s.reload, (s.demangling, s.debug_dirs)))
+    (λ p. record { reload = p.0; demangling = p.1.0; debug_dirs = p.1.1 })
+    (λ _. refl)
+
+abbrev pub coded_state : Coded State
+coded_state =
+    code_by (Settings × Cache) (coded× coded_settings coded_cache)
+    (λ s. (s.settings, s.breakpad))
+    (λ p. record { settings = p.0; breakpad = p.1 })
+    (λ _. refl)
