@@ -1,0 +1,6 @@
+pub mod AnswerTextLemmas
+pub mod InputGrammarLemmas
+pub mod InputTextLemmas
+pub mod OutputLemmas
+pub mod ReplyLemmas
+pub mod RunLemmas

@@ -1,0 +1,12 @@
+use Rattle.std.proofs.Common.{◌≡◌, ℕ, ◌≤◌, ◌++◌, List, Some, length}
+use Rattle.bz_files.specs.World.{Told}
+use Rattle.symq.proofs.output.write_all.Given as goal
+
+-- a front is written, and the rest is left
+abbrev pub invariant-loop-rest : goal.invariant-loop-rest
+invariant-loop-rest g l =
+    ((front : List ℕ) × (l.text ≡ front ++ l.rest) × Told (g.W.TextOut.written l.initial.output) (λ old. g.W.TextOut.written l.output ≡ Some (old ++ front)))
+    × (g.W.TextOut.faults l.initial.output ≤ g.W.TextOut.faults l.output)
+
+abbrev pub decreases-loop-rest : goal.decreases-loop-rest
+decreases-loop-rest g l = length l.rest

@@ -1,0 +1,29 @@
+use Rattle.std.proofs.Common.{◌≡◌, ◌≤◌, length, map, string_bytes, refl, sym, ap, inl, ◌∙◌, arith}
+use Rattle.symq.specs.InputText.{greatest_input}
+use Rattle.symq.specs.Run.{Outcome}
+use Rattle.symq.proofs.RunLemmas.{input_from_read, none_from_bad}
+use Rattle.symq.proofs.program.reply_to_words.Goals as goal
+
+-- the input was read whole, and whether it is addresses decides
+pub returns-in-Ok-clause-input : goal.returns-in-Ok-clause-input
+returns-in-Ok-clause-input g c text left =
+    let whole : c.as_slice.result.now ≡ text = c.as_slice.ensures.value ∙ c.in-Ok.ensures.whole text left in
+    let few : length c.as_slice.result.now ≤ greatest_input = omega (arith, c.as_slice.ensures.len, c.in-Ok.ensures.short) in
+    let short = rw whole at few in
+    let read = rw whole at c.reply_to_input.ensures.input in
+    input_from_read (map string_bytes c.args.words.now) c.in-Some.path.now text c.reply_to_input.result (sym c.in-Some.ensures) short read
+
+-- an input that is no addresses leaves the files alone
+pub returns-in-Ok-clause-unopened : goal.returns-in-Ok-clause-unopened
+returns-in-Ok-clause-unopened g c text left bad =
+    let whole : c.as_slice.result.now ≡ text = c.as_slice.ensures.value ∙ c.in-Ok.ensures.whole text left in
+    let few : length c.as_slice.result.now ≤ greatest_input = omega (arith, c.as_slice.ensures.len, c.in-Ok.ensures.short) in
+    let short = rw whole at few in
+    let none = none_from_bad (map string_bytes c.args.words.now) c.in-Some.path.now text (sym c.in-Some.ensures) short bad in
+    c.reply_to_input.ensures.unopened (rw whole none)
+
+-- an input that is too long is a bad one
+pub returns-in-Err-TooLong-clause-input : goal.returns-in-Err-TooLong-clause-input
+returns-in-Err-TooLong-clause-input g c text left =
+    let long = rw (c.in-Err-TooLong.field-0-is) at c.in-Err-TooLong.ensures.long in
+    (λ is. (c.in-Some.path.now, sym c.in-Some.ensures, inl (long text left refl)), λ bad. ap (λ (o : Outcome). o.status) c.fixed-in-Err-TooLong.ensures)

@@ -1,0 +1,11 @@
+use Rattle.std.proofs.Common.{true}
+use Rattle.bz_base.specs.declared.types.FindSymOpts.TheVariants.{Basic}
+use Rattle.bz_files.specs.World.{entry_at}
+use Rattle.bz_symbolize.proofs.NewLemmas.{new_answer}
+use Rattle.symq.proofs.program.symbolize.Goals as goal
+
+-- a symbolizer that keeps nothing answers by what lies at the path
+pub returns-clause-answer : goal.returns-clause-answer
+returns-clause-answer g c world told =
+    let looked = rw (c.new-2.ensures, c.from-src.ensures, c.new.ensures, c.in_ok-path.ensures.ok) at (c.symbolize.ensures.answer world told) in
+    rw (new_answer Basic true c.args.path.now c.args.addrs.now (entry_at world c.args.path.now)) at looked

@@ -1,0 +1,5 @@
+pub mod AnswerText
+pub mod InputText
+pub mod Reply
+pub mod Run
+pub mod Words

@@ -1,0 +1,106 @@
+//! The input: addresses, one on each line.
+
+ghost use Rattle.std.specs.Prelude.{◌≡◌, ◌+◌, ◌<◌, ◌≤◌, ◌++◌, [], ℕ, List, Option, Some, None, option_map, length, drop, vec_len, IfOk, IsErrOf, IsOkUnless};
+ghost use Rattle.bz_files.specs.Count.{HasRisen};
+ghost use Rattle.bz_files.specs.World.{Told};
+ghost use Rattle.symq.specs.InputText.{address_in, addresses_in, greatest_input, Moves};
+
+use bz_base::{Error, Result};
+use bz_breakpad::next_line;
+use bz_files::{IoFault, TextIn};
+use std::alloc::Global;
+
+/// The greatest length of an input, in bytes.
+const GREATEST_INPUT: usize = 16_777_216;
+
+/// How many bytes are asked for at a time.
+const PIECE: usize = 16_384;
+
+/// Why the input wasn't read to its end.
+#[derive(Clone, Copy, Debug, PartialEq, Eq)]
+pub enum ReadStop {
+    /// It is longer than any input.
+    TooLong,
+    /// Reading failed.
+    Fault,
+    /// Memory ran out.
+    Memory,
+}
+
+/// The whole input. Of one that is too long, one byte past the greatest length is read.
+pub fn read_input<R: TextIn>(alloc: Global, input: &mut R) -> std::result::Result<Vec<u8>, ReadStop>
+    ensures whole { Told (R.left input.old) (λ text. IfOk result (λ bytes. bytes.items ≡ text)) }
+    ensures short { IfOk result (λ bytes. vec_len bytes ≤ greatest_input) }
+    ensures long { Told (R.left input.old) (λ text. IsErrOf result ReadStop.TooLong → greatest_input < length text) }
+    ensures end { Told (R.left input.old) (λ text. IfOk result (λ bytes. R.left input.new ≡ Some [])) }
+    ensures past { Told (R.left input.old) (λ text. IsErrOf result ReadStop.TooLong → R.left input.new ≡ Some (drop (greatest_input + 1) text)) }
+    ensures faults { R.faults input.old ≤ R.faults input.new }
+    ensures fault { IsErrOf result ReadStop.Fault → HasRisen (R.faults input.old) (R.faults input.new) }
+{
+    let mut all = Vec::new(alloc);
+    while all.len() <= GREATEST_INPUT {
+        if read_piece(input, &mut all)? == 0 {
+            return Ok(all);
+        }
+    }
+    Err(ReadStop::TooLong)
+}
+
+// Reads the next piece to the end of what was read, and says how many bytes it has.
+fn read_piece<R: TextIn>(input: &mut R, all: &mut Vec<u8>) -> std::result::Result<usize, ReadStop>
+    requires { vec_len all.old ≤ greatest_input }
+    ensures piece { IfOk result (λ n. (front : List ℕ) × (length front ≡ n) × (all.new.items ≡ all.old.items ++ front) × Moves (R.left input.old) (R.left input.new) front) }
+    ensures end { Told (R.left input.old) (λ text. IfOk result (λ n. n ≡ 0 → text ≡ [])) }
+    ensures few { IfOk result (λ n. vec_len all.new ≤ greatest_input + 1) }
+    ensures grown { IfOk result (λ n. vec_len all.new ≡ vec_len all.old + n) }
+    ensures faults { R.faults input.old ≤ R.faults input.new }
+    ensures fault { IsErrOf result ReadStop.Fault → HasRisen (R.faults input.old) (R.faults input.new) }
+    ensures never_long { IsErrOf result ReadStop.TooLong → ⊥ }
+{
+    let mut piece = [0u8; PIECE];
+    let room = PIECE.min(GREATEST_INPUT + 1 - all.len());
+    match input.take(&mut piece[..room]) {
+        Ok(n) => match all.extend_from_slice(&piece[..n]) {
+            Ok(()) => Ok(n),
+            Err(_) => Err(ReadStop::Memory),
+        },
+        Err(IoFault::Fault) => Err(ReadStop::Fault),
+        Err(IoFault::OutOfMemory) => Err(ReadStop::Memory),
+    }
+}
+
+/// The addresses that the lines of the input spell; none where some line spells no address.
+pub fn addresses(alloc: Global, text: &[u8]) -> Result<Option<Vec<u64>>>
+    ensures ok { IfOk result (λ addrs. option_map (λ all. all.items) addrs ≡ addresses_in text.now) }
+    ensures memory { IsOkUnless result Error.OutOfMemory }
+{
+    let mut all = Vec::new(alloc);
+    let mut rest = text;
+    while let Some((line, after)) = next_line(rest) {
+        let Some(addr) = address(line) else {
+            return Ok(None);
+        };
+        all.push(addr)?;
+        rest = after;
+    }
+    if rest.is_empty() {
+        Ok(Some(all))
+    } else {
+        Ok(None)
+    }
+}
+
+// The address that a line spells: 1 to 16 hexadecimal digits.
+fn address(line: &[u8]) -> Option<u64>
+    ensures { result ≡ address_in line.now }
+{
+    if line.is_empty() || line.len() > 16 {
+        return None;
+    }
+    let mut value = 0u64;
+    for byte in line {
+        let digit = char::from(*byte).to_digit(16)?;
+        value = value * 16 + u64::from(digit);
+    }
+    Some(value)
+}

@@ -1,0 +1,54 @@
+//! Symbolizes addresses: the answers of a symbol file to the addresses on standard input.
+#![tactic(auto)]
+
+mod answer;
+mod input;
+mod laws;
+mod output;
+mod program;
+mod status;
+#[cfg(test)]
+mod tests;
+mod words;
+
+use bz_files::{RealFiles, RealIn, RealOut};
+use program::run;
+use status::Status;
+use std::process::ExitCode;
+use std::{env, io};
+
+fn main(rt: HostRuntime) -> ExitCode {
+    ExitCode::from(run_real(&rt).code())
+}
+
+// Runs the program over the real files and the standard streams.
+fn run_real(rt: &HostRuntime) -> Status {
+    let words = match command_words(rt) {
+        Ok(words) => words,
+        Err(error) if error.kind() == io::ErrorKind::OutOfMemory => return Status::Memory,
+        // A word that isn't UTF-8 makes the words no command, as no words do.
+        Err(_) => Vec::new(rt.alloc()),
+    };
+    let Ok(files_rt) = rt.clone() else {
+        return Status::Memory;
+    };
+    let mut files = RealFiles::new(files_rt, 0);
+    let mut input = RealIn::new(rt.reader());
+    let mut output = RealOut::new(io::writer(rt));
+    run(
+        rt.alloc(),
+        words.as_slice(),
+        &mut input,
+        &mut output,
+        &mut files,
+    )
+}
+
+// The words of the command line, without the program's name.
+fn command_words(rt: &HostRuntime) -> io::Result<Vec<String>> {
+    let mut words = Vec::new(rt.alloc());
+    for word in env::args(rt)?.skip(1) {
+        words.push(word)?;
+    }
+    Ok(words)
+}

@@ -1,0 +1,37 @@
+//! How a run ends.
+
+ghost use Rattle.std.specs.Prelude.{◌≡◌};
+ghost use Rattle.symq.specs.Run.{code_of};
+
+/// How a run ended.
+#[derive(Clone, Copy, Debug, PartialEq, Eq)]
+pub enum Status {
+    /// The answers were written.
+    Done,
+    /// The call was refused.
+    Refused,
+    /// The words are no command.
+    Usage,
+    /// The input is too long or out of form.
+    Input,
+    /// Reading or writing failed.
+    Fault,
+    /// Memory ran out.
+    Memory,
+}
+
+impl Status {
+    /// The number that the program ends with: 0 to 5.
+    pub fn code(&self) -> u8
+        ensures { result ≡ code_of self.now }
+    {
+        match self {
+            Status::Done => 0,
+            Status::Refused => 1,
+            Status::Usage => 2,
+            Status::Input => 3,
+            Status::Fault => 4,
+            Status::Memory => 5,
+        }
+    }
+}
