@@ -1,19 +1,17 @@
 -- Values that are equal exactly where their readings are the same, in options, lists and records of them.
-use Rattle.std.proofs.Common.{◌≡◌, ◌↔◌, ℕ, true, false, ◌&&◌, Bool, IsTrue, List, [], ◌∷◌, Option, Some, None, map, option_map, nat_eq, rules, ap}
+use Rattle.std.proofs.Common.{◌≡◌, ◌↔◌, ℕ, true, false, ◌&&◌, Bool, IsTrue, List, [], ◌∷◌, Option, Some, None, map, option_map, nat_eq, rules, refl, sym, ap, ◌∙◌}
 use Rattle.std.specs.Cow.{cow_str_bytes}
 use Rattle.std.specs.Option.{option_eq}
 use Rattle.std.proofs.Common.{Global}
 use Rattle.std.specs.declared.borrow.CowStr.{CowStr}
 use lib.Pointwise.{pointwise}
-use Rattle.bz_base.specs.Answer.{site_of, call_of, symbol_of}
-use Rattle.bz_base.specs.declared.types.CodeInfo.{CodeInfo}
-use Rattle.bz_base.specs.declared.types.InlinedFn.{InlinedFn}
-use Rattle.bz_base.specs.declared.types.Sym.{Sym}
+use Rattle.bz_base.specs.Answer.{Site, Call, Symbol, Resolved}
+use Rattle.bz_base.specs.declared.types.SrcLang.{SrcLang}
 
--- two tests both hold exactly where both of what they tell holds
-pub both_agree : {A B : Type 0} (a b : Bool) → (IsTrue a ↔ A) → (IsTrue b ↔ B) → IsTrue (a && b) ↔ (A × B)
-both_agree true b first second = search (first, second, rules)
-both_agree false b first second = search (first, rules)
+-- two tests both hold exactly where two pairs are the same, if each test tells that of one part
+pub pairs_agree : {A B : Type 0} {x y : A} {z w : B} (a b : Bool) → (IsTrue a ↔ (x ≡ y)) → (IsTrue b ↔ (z ≡ w)) → IsTrue (a && b) ↔ ◌≡◌ {A = A × B} (x, z) (y, w)
+pairs_agree true b first second = search (first, second, rules)
+pairs_agree false b first second = search (first, rules)
 
 module _ {A B : Type 0} (E : A → A → Bool) (f : A → B) (agrees : (x y : A) → IsTrue (E x y) ↔ (f x ≡ f y)) where
   -- options are equal exactly where their readings are
@@ -38,36 +36,34 @@ texts_agree x y = search rules
 pub sizes_agree : (a b : Option ℕ) → IsTrue (option_eq nat_eq a b) ↔ (a ≡ b)
 sizes_agree a b = search rules
 
--- what two symbols read the same in, part by part
-abbrev Parts : Sym → Sym → Type 0
-Parts a b = (cow_str_bytes a.name ≡ cow_str_bytes b.name)
-    × ((option_map cow_str_bytes a.«module» ≡ option_map cow_str_bytes b.«module»)
-    × ((a.addr ≡ b.addr) × ((a.offset ≡ b.offset) × ((a.size ≡ b.size)
-    × ((option_map site_of a.code_info ≡ option_map site_of b.code_info)
-    × (map call_of a.inlined.items ≡ map call_of b.inlined.items))))))
+-- a value is the same exactly where its parts are, if it can be made of them again
+parts_agree : {A P : Type 0} (parts : A → P) (whole : P → A) → ((x : A) → whole (parts x) ≡ x) → (test : Bool) (a b : A) → (IsTrue test ↔ (parts a ≡ parts b)) → IsTrue test ↔ (a ≡ b)
+parts_agree parts whole again test a b agrees = (λ holds. sym (again a) ∙ ap whole (agrees.0 holds) ∙ again b, λ same. agrees.1 (ap parts same))
 
--- symbols read the same exactly where each part does
-parts_agree : (a b : Sym) → Parts a b ↔ (symbol_of a ≡ symbol_of b)
-parts_agree a b = (λ parts. cc, λ same. (ap (λ s. s.name) same, (ap (λ s. s.«module») same, (ap (λ s. s.addr) same, (ap (λ s. s.offset) same, (ap (λ s. s.size) same, (ap (λ s. s.site) same, ap (λ s. s.calls) same)))))))
+-- the parts of a symbol, as one pair
+abbrev SymbolParts : Type 0
+SymbolParts = List ℕ × (Option (List ℕ) × (ℕ × (ℕ × (Option ℕ × (Option Site × List Call)))))
 
-module _ (P : CodeInfo → CodeInfo → Bool) (C : InlinedFn → InlinedFn → Bool)
-    (places : (a b : CodeInfo) → IsTrue (P a b) ↔ (site_of a ≡ site_of b))
-    (calls : (a b : InlinedFn) → IsTrue (C a b) ↔ (call_of a ≡ call_of b)) where
-  -- the test of two symbols
-  abbrev same_symbol : Sym → Sym → Bool
-  same_symbol a b = pointwise nat_eq (cow_str_bytes a.name) (cow_str_bytes b.name)
-      && (option_eq (λ x y. pointwise nat_eq (cow_str_bytes x) (cow_str_bytes y)) a.«module» b.«module»
-      && (nat_eq a.addr b.addr && (nat_eq a.offset b.offset && (option_eq nat_eq a.size b.size
-      && (option_eq P a.code_info b.code_info && pointwise C a.inlined.items b.inlined.items)))))
+abbrev pub symbol_parts : Symbol → SymbolParts
+symbol_parts s = (s.name, (s.«module», (s.addr, (s.offset, (s.size, (s.site, s.calls))))))
 
-  -- it holds exactly where each part is the same
-  tests_agree : (a b : Sym) → IsTrue (same_symbol a b) ↔ Parts a b
-  tests_agree a b =
-      both_agree _ _ (texts_agree a.name b.name)
-      (both_agree _ _ (options_agree (λ x y. pointwise nat_eq (cow_str_bytes x) (cow_str_bytes y)) cow_str_bytes texts_agree a.«module» b.«module»)
-      (both_agree _ _ (search rules) (both_agree _ _ (search rules) (both_agree _ _ (sizes_agree a.size b.size)
-      (both_agree _ _ (options_agree P site_of places a.code_info b.code_info) (lists_agree C call_of calls a.inlined.items b.inlined.items))))))
+abbrev symbol_whole : SymbolParts → Symbol
+symbol_whole (name, (within, (addr, (offset, (size, (site, calls)))))) = record { name = name; «module» = within; addr = addr; offset = offset; size = size; site = site; calls = calls }
 
-  -- symbols are equal exactly where they read the same, if their parts are
-  pub symbols_agree : (a b : Sym) → IsTrue (same_symbol a b) ↔ (symbol_of a ≡ symbol_of b)
-  symbols_agree a b = (λ tests. (parts_agree a b).0 ((tests_agree a b).0 tests), λ same. (tests_agree a b).1 ((parts_agree a b).1 same))
+-- a test of the parts of two symbols is one of the symbols
+pub symbols_agree : (test : Bool) (a b : Symbol) → (IsTrue test ↔ (symbol_parts a ≡ symbol_parts b)) → IsTrue test ↔ (a ≡ b)
+symbols_agree = parts_agree symbol_parts symbol_whole (λ s. refl)
+
+-- the parts of a table's symbol, as one pair
+abbrev ResolvedParts : Type 0
+ResolvedParts = List ℕ × (Option (List ℕ) × (ℕ × (Option ℕ × (SrcLang × (Option Site × List Call)))))
+
+abbrev pub resolved_parts : Resolved → ResolvedParts
+resolved_parts r = (r.name, (r.«module», (r.addr, (r.size, (r.lang, (r.site, r.calls))))))
+
+abbrev resolved_whole : ResolvedParts → Resolved
+resolved_whole (name, (within, (addr, (size, (lang, (site, calls)))))) = record { name = name; «module» = within; addr = addr; size = size; lang = lang; site = site; calls = calls }
+
+-- a test of the parts of two table's symbols is one of the symbols
+pub resolved_agree : (test : Bool) (a b : Resolved) → (IsTrue test ↔ (resolved_parts a ≡ resolved_parts b)) → IsTrue test ↔ (a ≡ b)
+resolved_agree = parts_agree resolved_parts resolved_whole (λ r. refl)

@@ -1,2 +1,3 @@
 pub mod EqualityLemmas
+pub mod HashLemmas
 pub mod NearestLemmas

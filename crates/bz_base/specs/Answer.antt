@@ -4,6 +4,8 @@ use Rattle.std.specs.Cow.{cow_str_bytes}
 use Rattle.bz_base.specs.declared.types.CodeInfo.{CodeInfo}
 use Rattle.bz_base.specs.declared.types.InlinedFn.{InlinedFn}
 use Rattle.bz_base.specs.declared.types.Sym.{Sym}
+use Rattle.bz_base.specs.declared.types.ResolvedSym.{ResolvedSym}
+use Rattle.bz_base.specs.declared.types.SrcLang.{SrcLang}
 use Rattle.bz_base.specs.declared.types.Reason.{Reason}
 use Rattle.bz_base.specs.declared.types.Symbolized.{Symbolized}
 use Rattle.bz_base.specs.declared.types.Symbolized.TheVariants as symbolized
@@ -30,6 +32,16 @@ pub record Symbol : Type 0 where
   pub site : Option Site
   pub calls : List Call
 
+-- a symbol as a table gives it
+pub record Resolved : Type 0 where
+  pub name : List ℕ
+  pub «module» : Option (List ℕ)
+  pub addr : ℕ
+  pub size : Option ℕ
+  pub lang : SrcLang
+  pub site : Option Site
+  pub calls : List Call
+
 -- the answer for an address
 pub data Answer : Type 0 where
   Known : Symbol → Answer
@@ -48,6 +60,17 @@ symbol_of s = record {
   addr = s.addr;
   offset = s.offset;
   size = s.size;
+  site = option_map site_of s.code_info;
+  calls = map call_of s.inlined.items;
+}
+
+abbrev pub resolved_of : ResolvedSym → Resolved
+resolved_of s = record {
+  name = s.name.now;
+  «module» = option_map (λ text. text.now) s.«module»;
+  addr = s.addr;
+  size = s.size;
+  lang = s.lang;
   site = option_map site_of s.code_info;
   calls = map call_of s.inlined.items;
 }
