@@ -8,4 +8,5 @@ pub mod Refusal
 pub mod Shelf
 pub mod StampOrder
 pub mod TextEnd
+pub mod Whole
 pub mod World

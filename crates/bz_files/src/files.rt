@@ -1,6 +1,6 @@
 //! What a symbolizer asks of files.
 
-ghost use Rattle.std.specs.Prelude.{◌≡◌, ℕ, ◌≤◌, List, Option, option_map, OnOk, OnErr, IsErrOf};
+ghost use Rattle.std.specs.Prelude.{◌≡◌, ◌⊎◌, ℕ, ◌≤◌, List, Option, option_map, OnOk, OnErr, IsErrOf};
 ghost use Rattle.bz_files.specs.World.{World, Told, in_view, next_worlds, entry_at, IsAnswer};
 ghost use Rattle.bz_files.specs.Count.{HasRisen, counted};
 ghost use Rattle.bz_files.specs.Refusal.{error_of};
@@ -27,7 +27,7 @@ pub trait Files {
     /// The worlds to come, the first of them in view; none where nothing is told.
     ghost worlds: { Self → Option (List World) };
 
-    /// How many looks have failed. It never falls.
+    /// How many looks have failed. It never falls, and rises at no other answer than a fault.
     ghost faults: { Self → ℕ };
 
     /// How many files were read.
@@ -55,6 +55,7 @@ pub trait Files {
         ensures pid { pid self.new ≡ pid self.old }
         ensures faults { faults self.old ≤ faults self.new }
         ensures fault { IsErrOf result FileError.Fault → HasRisen (faults self.old) (faults self.new) }
+        ensures steady { IsErrOf result FileError.Fault ⊎ (faults self.new ≡ faults self.old) }
         ensures memory { IsErrOf result FileError.OutOfMemory → ⊥ };
 
     /// The bytes of the file at the path.
@@ -65,7 +66,8 @@ pub trait Files {
         ensures unopened { OnErr result (opens self.new ≡ opens self.old) }
         ensures pid { pid self.new ≡ pid self.old }
         ensures faults { faults self.old ≤ faults self.new }
-        ensures fault { IsErrOf result FileError.Fault → HasRisen (faults self.old) (faults self.new) };
+        ensures fault { IsErrOf result FileError.Fault → HasRisen (faults self.old) (faults self.new) }
+        ensures steady { IsErrOf result FileError.Fault ⊎ (faults self.new ≡ faults self.old) };
 }
 
 impl From<FileError> for Error {

@@ -1,6 +1,6 @@
 //! Files in memory, whose worlds are told.
 
-ghost use Rattle.std.specs.Prelude.{◌≡◌, ◌+◌, ◌<◌, ◌≤◌, ◌↔◌, [], ◌∷◌, ◌++◌, length, is_some, option_map, IsTrue, IfOk, OnOk, OnErr, IfSome, IfNone, IsErrOf, IsOkUnless};
+ghost use Rattle.std.specs.Prelude.{◌≡◌, ◌⊎◌, ◌+◌, ◌<◌, ◌≤◌, ◌↔◌, [], ◌∷◌, ◌++◌, length, is_some, option_map, IsTrue, IfOk, OnOk, OnErr, IfSome, IfNone, IsErrOf, IsOkUnless};
 ghost use Rattle.std.specs.FinMap as map;
 ghost use Rattle.bz_files.specs.Count.{HasRisen};
 ghost use Rattle.bz_files.specs.World.{Denied, Present, entry_at, with_entry, without_entry, in_view, next_worlds, Told, IsAnswer};
@@ -200,6 +200,7 @@ impl Files for MemFiles {
         ensures failing { IsErrOf result FileError.Fault ↔ IsTrue (fails_next self.old) }
         ensures faults { self.old.faults ≤ self.new.faults }
         ensures fault { IsErrOf result FileError.Fault → HasRisen self.old.faults self.new.faults }
+        ensures steady { IsErrOf result FileError.Fault ⊎ (self.new.faults ≡ self.old.faults) }
         ensures memory { IsErrOf result FileError.OutOfMemory → ⊥ }
     {
         if self.begin_look() {
@@ -218,6 +219,7 @@ impl Files for MemFiles {
         ensures failing { IsErrOf result FileError.Fault ↔ IsTrue (fails_next self.old) }
         ensures faults { self.old.faults ≤ self.new.faults }
         ensures fault { IsErrOf result FileError.Fault → HasRisen self.old.faults self.new.faults }
+        ensures steady { IsErrOf result FileError.Fault ⊎ (self.new.faults ≡ self.old.faults) }
     {
         if self.begin_look() {
             return Err(FileError::Fault);

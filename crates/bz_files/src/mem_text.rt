@@ -1,6 +1,6 @@
 //! The ends of texts in memory, whose bytes are told.
 
-ghost use Rattle.std.specs.Prelude.{◌≡◌, if◌then◌else◌, ◌<◌, ◌≤◌, ◌↔◌, [], ◌++◌, Some, length, drop, min, IsTrue, IfOk, OnOk, OnErr, IsErrOf};
+ghost use Rattle.std.specs.Prelude.{◌≡◌, ◌⊎◌, if◌then◌else◌, ◌<◌, ◌≤◌, ◌↔◌, [], ◌++◌, Some, length, drop, min, IsTrue, IfOk, OnOk, OnErr, IsErrOf};
 ghost use Rattle.bz_files.specs.Count.{counted, HasRisen};
 ghost use Rattle.bz_files.specs.TextEnd.{Takes, Puts};
 ghost use Rattle.bz_files.specs.MemEnd.{new_end, is_failing, fails_next, after_call};
@@ -111,6 +111,7 @@ impl TextIn for MemIn {
         ensures failing { IsErrOf result IoFault.Fault ↔ IsTrue (fails_next self.old) }
         ensures faults { self.old.faults ≤ self.new.faults }
         ensures fault { IsErrOf result IoFault.Fault → HasRisen self.old.faults self.new.faults }
+        ensures steady { IsErrOf result IoFault.Fault ⊎ (self.new.faults ≡ self.old.faults) }
         ensures memory { IsErrOf result IoFault.OutOfMemory → ⊥ }
     {
         if self.calls.begin() {
@@ -188,6 +189,7 @@ impl TextOut for MemOut {
         ensures failing { IsErrOf result IoFault.Fault ↔ IsTrue (fails_next self.old) }
         ensures faults { self.old.faults ≤ self.new.faults }
         ensures fault { IsErrOf result IoFault.Fault → HasRisen self.old.faults self.new.faults }
+        ensures steady { IsErrOf result IoFault.Fault ⊎ (self.new.faults ≡ self.old.faults) }
     {
         if self.calls.begin() {
             return Err(IoFault::Fault);

@@ -1,8 +1,10 @@
 //! The files of the system, of whose worlds nothing is told.
 
-ghost use Rattle.std.specs.Prelude.{◌≡◌, ◌==◌, ◌≤◌, length, IfOk, IsErrOf};
+ghost use Rattle.std.specs.Prelude.{◌≡◌, ◌⊎◌, ◌==◌, ◌≤◌, length, option_map, IfOk, IfSome, IsErrOf};
 ghost use Rattle.bz_files.specs.Count.{HasRisen};
 ghost use Rattle.bz_files.specs.Looks.{most_bytes, after_failure, after_look, after_read};
+ghost use Rattle.bz_files.specs.Whole.{readable, IsWholeFile};
+ghost use Rattle.bz_files.specs.World.{Told};
 ghost use Rattle.bz_files.specs.Cause.{failure_of};
 ghost use Rattle.std.specs.Fs.{metadata_len};
 ghost use Rattle.std.specs.IoError.{error_kind};
@@ -106,6 +108,7 @@ impl<R: rt::Files + Drop> Files for RealFiles<R> {
         ensures same { self.new ≡ after_look result self.old }
         ensures faults { self.old.faults ≤ self.new.faults }
         ensures fault { IsErrOf result FileError.Fault → HasRisen self.old.faults self.new.faults }
+        ensures steady { IsErrOf result FileError.Fault ⊎ (self.new.faults ≡ self.old.faults) }
         ensures memory { IsErrOf result FileError.OutOfMemory → ⊥ }
     {
         match stamp_at(&self.rt, path) {
@@ -115,10 +118,12 @@ impl<R: rt::Files + Drop> Files for RealFiles<R> {
     }
 
     fn read(&mut self, alloc: Global, path: &str) -> Result<Vec<u8>, FileError>
+        ensures whole { IfOk result (λ bytes. IsWholeFile R.File.remaining bytes.items) }
         ensures within { IfOk result (λ bytes. length bytes.items ≤ most_bytes) }
         ensures same { self.new ≡ after_read result self.old }
         ensures faults { self.old.faults ≤ self.new.faults }
         ensures fault { IsErrOf result FileError.Fault → HasRisen self.old.faults self.new.faults }
+        ensures steady { IsErrOf result FileError.Fault ⊎ (self.new.faults ≡ self.old.faults) }
     {
         match bytes_at(&self.rt, alloc, path) {
             Ok(bytes) => {
@@ -160,32 +165,47 @@ fn stamp_of(found: &Metadata) -> Stamp
 
 /// The bytes of the file at the path. A longer file than is read is a fault.
 fn bytes_at<R: rt::Files>(rt: &R, alloc: Global, path: &str) -> Result<Vec<u8>, FileError>
-    ensures { IfOk result (λ bytes. length bytes.items ≤ most_bytes) }
+    ensures whole { IfOk result (λ bytes. IsWholeFile R.File.remaining bytes.items) }
+    ensures within { IfOk result (λ bytes. length bytes.items ≤ most_bytes) }
 {
-    match read_most(rt, alloc, path) {
-        Ok(bytes) => {
-            if bytes.len() as u64 > MOST_BYTES {
-                Err(FileError::Fault)
-            } else {
-                Ok(bytes)
-            }
-        }
+    match read_file(rt, alloc, path) {
+        Ok(bytes) => Ok(bytes),
         Err(failed) => Err(cause_of(path, failed)),
     }
 }
 
-/// The bytes of the file at the path in one pass, but no more than one past the greatest length.
-fn read_most<R: rt::Files>(rt: &R, alloc: Global, path: &str) -> io::Result<Vec<u8>> {
+/// The bytes of the file at the path.
+fn read_file<R: rt::Files>(rt: &R, alloc: Global, path: &str) -> io::Result<Vec<u8>>
+    ensures whole { IfOk result (λ bytes. IsWholeFile R.File.remaining bytes.items) }
+    ensures within { IfOk result (λ bytes. length bytes.items ≤ most_bytes) }
+{
     let file = File::open(rt, path)?;
     let length = file.metadata()?.size();
     if length > MOST_BYTES {
         return Err(io::Error::from(ErrorKind::FileTooLarge));
     }
-    // Room for one byte more, so that the end is seen without the bytes being moved.
-    let mut bytes = Vec::with_capacity(alloc, length as usize + 1)?;
-    // What the system says of the length binds no file: it may grow, or have none to tell.
-    file.take(MOST_BYTES + 1).read_to_end(&mut bytes)?;
-    Ok(bytes)
+    // What the system says of the length binds no file: it may grow, or have none to tell. So the
+    // length only makes room, with one byte more, so that the end is seen without the bytes being
+    // moved.
+    match read_whole(alloc, file, length as usize + 1)? {
+        Some(bytes) => Ok(bytes),
+        None => Err(io::Error::from(ErrorKind::FileTooLarge)),
+    }
+}
+
+/// All bytes that the reader has left, in one pass, unless they are too many.
+fn read_whole<R: Read + Drop>(alloc: Global, reader: R, room: usize) -> io::Result<Option<Vec<u8>>>
+    ensures whole { Told (R.remaining reader) (λ left. IfOk result (λ read. option_map (λ bytes. bytes.items) read ≡ readable left)) }
+    ensures within { IfOk result (λ read. IfSome read (λ bytes. length bytes.items ≤ most_bytes)) }
+{
+    let mut bytes = Vec::with_capacity(alloc, room)?;
+    // One byte past the limit is enough to see that there are too many.
+    reader.take(MOST_BYTES + 1).read_to_end(&mut bytes)?;
+    if bytes.len() as u64 > MOST_BYTES {
+        Ok(None)
+    } else {
+        Ok(Some(bytes))
+    }
 }
 
 /// Why a look at the path failed. A path at which no file can be is absent.

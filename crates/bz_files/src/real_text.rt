@@ -1,6 +1,6 @@
 //! The ends of texts over std's readers and writers. What bytes these have is told as far as they tell it themselves.
 
-ghost use Rattle.std.specs.Prelude.{◌≡◌, ◌<◌, ◌≤◌, None, length, IfOk, OnOk, OnErr, IsErrOf};
+ghost use Rattle.std.specs.Prelude.{◌≡◌, ◌⊎◌, ◌<◌, ◌≤◌, None, length, IfOk, OnOk, OnErr, IsErrOf};
 ghost use Rattle.std.specs.Io.KnownBytes.{ReadConsumes, WriteAppends};
 ghost use Rattle.bz_files.specs.Count.{counted, HasRisen};
 ghost use Rattle.bz_files.specs.RealEnd.{new_end};
@@ -54,6 +54,7 @@ impl<R: Read + Drop> TextIn for RealIn<R> {
         ensures err { OnErr result (self.new.faults ≡ counted self.old.faults) }
         ensures faults { self.old.faults ≤ self.new.faults }
         ensures fault { IsErrOf result IoFault.Fault → HasRisen self.old.faults self.new.faults }
+        ensures steady { IsErrOf result IoFault.Fault ⊎ (self.new.faults ≡ self.old.faults) }
         ensures memory { IsErrOf result IoFault.OutOfMemory → ⊥ }
     {
         match self.reader.read(piece) {
@@ -112,6 +113,7 @@ impl<W: Write + Drop> TextOut for RealOut<W> {
         ensures err { OnErr result (self.new.faults ≡ counted self.old.faults) }
         ensures faults { self.old.faults ≤ self.new.faults }
         ensures fault { IsErrOf result IoFault.Fault → HasRisen self.old.faults self.new.faults }
+        ensures steady { IsErrOf result IoFault.Fault ⊎ (self.new.faults ≡ self.old.faults) }
         ensures memory { IsErrOf result IoFault.OutOfMemory → ⊥ }
     {
         match self.writer.write(piece) {

@@ -155,6 +155,16 @@ fn real_files_are_looked_at(rt: HostRuntime) -> Result<(), Fail> {
 }
 
 #[test]
+fn real_files_that_tell_no_length_are_read(rt: HostRuntime) -> Result<(), Fail> {
+    let alloc = rt.alloc();
+    let mut files = RealFiles::new(rt.clone()?, 0);
+    let path = "/proc/version";
+    assert_eq!(rt; files.stat(path)?.size, 0);
+    assert!(rt; files.read(alloc, path)?.starts_with(b"Linux version "));
+    Ok(())
+}
+
+#[test]
 fn real_stamps_tell_files_apart(rt: HostRuntime) -> Result<(), Fail> {
     let mut files = RealFiles::new(rt.clone()?, 0);
     let changed = SystemTime::UNIX_EPOCH

@@ -1,6 +1,6 @@
 //! The ends of texts: what a program reads its input from and writes its output to.
 
-ghost use Rattle.std.specs.Prelude.{◌≡◌, ℕ, ◌<◌, ◌≤◌, List, Option, length, IfOk, IsErrOf};
+ghost use Rattle.std.specs.Prelude.{◌≡◌, ◌⊎◌, ℕ, ◌<◌, ◌≤◌, List, Option, length, IfOk, IsErrOf};
 ghost use Rattle.bz_files.specs.Count.{HasRisen};
 ghost use Rattle.bz_files.specs.TextEnd.{Takes, Puts};
 
@@ -18,7 +18,7 @@ pub trait TextIn {
     /// The bytes that are left; none where they aren't told.
     ghost left: { Self → Option (List ℕ) };
 
-    /// How many calls have failed. It never falls.
+    /// How many calls have failed. It never falls, and rises at no other answer than a fault.
     ghost faults: { Self → ℕ };
 
     /// Moves the next bytes to the front of `piece`, and says how many. At a piece that isn't empty
@@ -28,6 +28,7 @@ pub trait TextIn {
         ensures takes { Takes (left self.old) (left self.new) piece.old piece.new result }
         ensures faults { faults self.old ≤ faults self.new }
         ensures fault { IsErrOf result IoFault.Fault → HasRisen (faults self.old) (faults self.new) }
+        ensures steady { IsErrOf result IoFault.Fault ⊎ (faults self.new ≡ faults self.old) }
         ensures memory { IsErrOf result IoFault.OutOfMemory → ⊥ };
 }
 
@@ -36,7 +37,7 @@ pub trait TextOut {
     /// The bytes written so far; none where they aren't told.
     ghost written: { Self → Option (List ℕ) };
 
-    /// How many calls have failed. It never falls.
+    /// How many calls have failed. It never falls, and rises at no other answer than a fault.
     ghost faults: { Self → ℕ };
 
     /// Writes bytes from the front of `piece`, at least one where there is one, and says how many.
@@ -45,5 +46,6 @@ pub trait TextOut {
         ensures some { IfOk result (λ n. 0 < length piece.now → 0 < n) }
         ensures puts { Puts (written self.old) (written self.new) piece.now result }
         ensures faults { faults self.old ≤ faults self.new }
-        ensures fault { IsErrOf result IoFault.Fault → HasRisen (faults self.old) (faults self.new) };
+        ensures fault { IsErrOf result IoFault.Fault → HasRisen (faults self.old) (faults self.new) }
+        ensures steady { IsErrOf result IoFault.Fault ⊎ (faults self.new ≡ faults self.old) };
 }
