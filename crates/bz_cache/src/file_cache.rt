@@ -180,6 +180,7 @@ impl<T: Version + Drop> FileCache<T> {
         ensures pid { F.pid files.new ≡ F.pid files.old }
         ensures faults { F.faults files.old ≤ F.faults files.new }
         ensures fault { IsErrOf result Error.ReadFault → HasRisen (F.faults files.old) (F.faults files.new) }
+        ensures steady { IsErrOf result Error.ReadFault ⊎ (F.faults files.new ≡ F.faults files.old) }
         ensures refusal { IfErr result MayFail }
     {
         let stamp = self.look(alloc, files, path)?;
@@ -205,6 +206,7 @@ impl<T: Version + Drop> FileCache<T> {
         ensures pid { F.pid files.new ≡ F.pid files.old }
         ensures faults { F.faults files.old ≤ F.faults files.new }
         ensures fault { IsErrOf result Error.ReadFault → HasRisen (F.faults files.old) (F.faults files.new) }
+        ensures steady { IsErrOf result Error.ReadFault ⊎ (F.faults files.new ≡ F.faults files.old) }
         ensures refusal { IfErr result MayFail }
     {
         match self.fixed(path) {
@@ -229,8 +231,11 @@ impl<T: Version + Drop> FileCache<T> {
         ensures pid { F.pid files.new ≡ F.pid files.old }
         ensures faults { F.faults files.old ≤ F.faults files.new }
         ensures fault { IsErrOf result Error.ReadFault → HasRisen (F.faults files.old) (F.faults files.new) }
+        ensures steady { IsErrOf result Error.ReadFault ⊎ (F.faults files.new ≡ F.faults files.old) }
         ensures refusal { IfErr result MayFail }
     {
+        // The stamp comes first: were it taken after the bytes, a file that changed in between would
+        // keep its older bytes under its newer stamp.
         let stamp = sight::present(files, path)?;
         if self.is_kept(&stamp) {
             self.point(alloc, path, stamp)?;

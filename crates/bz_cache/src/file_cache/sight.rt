@@ -1,6 +1,6 @@
 //! Looks at files, whose refusals are those of a symbolizer.
 
-ghost use Rattle.std.specs.Prelude.{◌≡◌, ◌≤◌, OnOk, OnErr, IfErr, IsErrOf};
+ghost use Rattle.std.specs.Prelude.{◌≡◌, ◌⊎◌, ◌≤◌, OnOk, OnErr, IfErr, IsErrOf};
 ghost use Rattle.bz_files.specs.World.{Told, in_view, entry_at};
 ghost use Rattle.bz_files.specs.Count.{HasRisen, counted};
 ghost use Rattle.bz_cache.specs.Format.{Finds, MayMiss};
@@ -17,6 +17,7 @@ pub fn present<F: Files>(files: &mut F, path: &str) -> Result<Stamp>
     ensures pid { F.pid files.new ≡ F.pid files.old }
     ensures faults { F.faults files.old ≤ F.faults files.new }
     ensures fault { IsErrOf result Error.ReadFault → HasRisen (F.faults files.old) (F.faults files.new) }
+    ensures steady { IsErrOf result Error.ReadFault ⊎ (F.faults files.new ≡ F.faults files.old) }
     ensures memory { IsErrOf result Error.OutOfMemory → ⊥ }
     ensures refusal { IfErr result MayMiss }
 {
@@ -38,6 +39,7 @@ pub fn contents<F: Files>(files: &mut F, alloc: Global, path: &str) -> Result<Ve
     ensures pid { F.pid files.new ≡ F.pid files.old }
     ensures faults { F.faults files.old ≤ F.faults files.new }
     ensures fault { IsErrOf result Error.ReadFault → HasRisen (F.faults files.old) (F.faults files.new) }
+    ensures steady { IsErrOf result Error.ReadFault ⊎ (F.faults files.new ≡ F.faults files.old) }
     ensures refusal { IfErr result MayMiss }
 {
     match files.read(alloc, path) {
