@@ -29,7 +29,7 @@ fn takes_texts(rt: HostRuntime) -> Result<(), Fail> {
     ];
     for text in texts {
         let file = file_of(rt.alloc(), text);
-        assert!(rt; file.is_ok());
+        assert_eq!(rt; file.err(), None);
     }
     Ok(())
 }
