@@ -35,7 +35,7 @@ pub struct Symbolizer {
 }
 
 impl Model for Symbolizer {
-    ghost use Rattle.std.specs.Prelude.{map, option_map, string_bytes};
+    ghost use Rattle.std.specs.Prelude.{◌≡◌, map, option_map, string_bytes};
     ghost use Rattle.bz_symbolize.specs.State.{State, coded_state};
 
     ghost Value = { State };
@@ -43,6 +43,9 @@ impl Model for Symbolizer {
     ghost coded = { coded_state };
 
     ghost view = { λ s. record { settings = record { reload = s.reload; demangling = s.demangling; debug_dirs = option_map (λ dirs. map string_bytes dirs.items) s.debug_dirs }; breakpad = s.breakpad } };
+
+    // The cache looks at its paths anew where the settings say so.
+    ghost invariant = { λ s. s.breakpad.reload ≡ s.reload };
 }
 
 impl Symbolizer {
@@ -104,6 +107,8 @@ impl Symbolizer {
         ensures out_of_memory { OnBreakpad src.now (λ path. IsErrOf result Error.OutOfMemory → (self.new ≡ self.old) ⊎ IsSome (kept_at self.new.breakpad path)) }
         ensures refusal { IfErr result MayFail }
         ensures settings { self.new.settings ≡ self.old.settings }
+        // Of any symbolizer: paths are looked at anew exactly where its settings say so.
+        ensures reload { self.new.breakpad.reload ≡ self.new.settings.reload }
         // Where kept versions cohere with the world in view, each refusal has its cause in the view.
         ensures causes { OnBreakpad src.now (λ path. Told (in_view (F.worlds files.old)) (λ world. Coherent self.old.breakpad.kept world → Comes (λ answers. map reading answers.items) (view_answer Basic self.old path input.entry world) result)) }
         ensures complete { OnBreakpad src.now (λ path. Told (in_view (F.worlds files.old)) (λ world. Coherent self.old.breakpad.kept world → IsValid self.old world path input.entry → IsOkOrFails result)) }
@@ -114,6 +119,7 @@ impl Symbolizer {
         ensures pid { F.pid files.new ≡ F.pid files.old }
         ensures faults { F.faults files.old ≤ F.faults files.new }
         ensures fault { IsErrOf result Error.ReadFault → HasRisen (F.faults files.old) (F.faults files.new) }
+        ensures steady { IsErrOf result Error.ReadFault ⊎ (F.faults files.new ≡ F.faults files.old) }
     {
         match src {
             Source::Breakpad(_) => self.symbolize_breakpad(alloc, files, src.path(), input),
@@ -143,6 +149,7 @@ impl Symbolizer {
         ensures out_of_memory { IsErrOf result Error.OutOfMemory → (self.new ≡ self.old) ⊎ IsSome (kept_at self.new.breakpad path.now) }
         ensures refusal { IfErr result MayFail }
         ensures settings { self.new.settings ≡ self.old.settings }
+        ensures reload { self.new.breakpad.reload ≡ self.new.settings.reload }
         ensures opened { Told (in_view (F.worlds files.old)) (λ world. OnOk result (F.opens files.new ≡ opens_after (breakpad_opens self.old path.now input.entry world) (F.opens files.old))) }
         ensures spared { Told (in_view (F.worlds files.old)) (λ world. breakpad_opens self.old path.now input.entry world ≡ false → F.opens files.new ≡ F.opens files.old) }
         ensures most { (F.opens files.new ≡ F.opens files.old) ⊎ (F.opens files.new ≡ counted (F.opens files.old)) }
@@ -150,6 +157,7 @@ impl Symbolizer {
         ensures pid { F.pid files.new ≡ F.pid files.old }
         ensures faults { F.faults files.old ≤ F.faults files.new }
         ensures fault { IsErrOf result Error.ReadFault → HasRisen (F.faults files.old) (F.faults files.new) }
+        ensures steady { IsErrOf result Error.ReadFault ⊎ (F.faults files.new ≡ F.faults files.old) }
     {
         self.answer_breakpad(alloc, files, path, input)
     }
@@ -173,6 +181,7 @@ impl Symbolizer {
         ensures out_of_memory { IsErrOf result Error.OutOfMemory → (self.new ≡ self.old) ⊎ IsSome (kept_at self.new.breakpad path.now) }
         ensures refusal { IfErr result MayFail }
         ensures settings { self.new.settings ≡ self.old.settings }
+        ensures reload { self.new.breakpad.reload ≡ self.new.settings.reload }
         ensures opened { Told (in_view (F.worlds files.old)) (λ world. OnOk result (F.opens files.new ≡ opens_after (breakpad_opens self.old path.now input.entry world) (F.opens files.old))) }
         ensures spared { Told (in_view (F.worlds files.old)) (λ world. breakpad_opens self.old path.now input.entry world ≡ false → F.opens files.new ≡ F.opens files.old) }
         ensures most { (F.opens files.new ≡ F.opens files.old) ⊎ (F.opens files.new ≡ counted (F.opens files.old)) }
@@ -180,6 +189,7 @@ impl Symbolizer {
         ensures pid { F.pid files.new ≡ F.pid files.old }
         ensures faults { F.faults files.old ≤ F.faults files.new }
         ensures fault { IsErrOf result Error.ReadFault → HasRisen (F.faults files.old) (F.faults files.new) }
+        ensures steady { IsErrOf result Error.ReadFault ⊎ (F.faults files.new ≡ F.faults files.old) }
     {
         match input {
             Input::FileOffset(addrs) => {

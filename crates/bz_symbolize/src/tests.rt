@@ -58,7 +58,7 @@ fn expect_row(
             assert!(rt; symbol.inlined.is_empty());
         }
         (Err(error), Err(expected)) => assert_eq!(rt; error, expected),
-        (_, _) => assert!(rt; false),
+        (answered, expected) => assert_eq!(rt; answered.err(), expected.err()),
     }
     assert_eq!(rt; files.opens(), row.1);
     Ok(())
