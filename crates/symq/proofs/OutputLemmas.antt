@@ -1,5 +1,5 @@
 -- A text that is written piece by piece.
-use Rattle.std.proofs.Common.{◌≡◌, ℕ, ◌-◌, List, ◌++◌, length, take, drop, Option, Some, Ok, sym, ap, ◌∙◌, append_assoc}
+use Rattle.std.proofs.Common.{◌≡◌, ℕ, ◌-◌, false, List, [], ◌∷◌, ◌++◌, length, take, drop, Option, Some, Ok, sym, ap, ◌∙◌, append_assoc, length-append, arith, eqb}
 use Rattle.std.proofs.Math.Seq.{take-length}
 use Rattle.std.proofs.lemmas.List.{take-append-drop, length-drop}
 use Rattle.bz_files.specs.TextEnd.{Puts}
@@ -15,3 +15,8 @@ front_more text front rest n whole =
 pub written_more : (before after : Option (List ℕ)) (old front rest : List ℕ) (n : ℕ) → before ≡ Some (old ++ front) →
     Puts before after rest (Ok n) → after ≡ Some (old ++ (front ++ take n rest))
 written_more before after old front rest n told puts = (rw told at puts) ∙ ap Some (append_assoc old front (take n rest))
+
+-- nothing has no rest that isn't empty
+pub nothing_left : (text front rest : List ℕ) → text ≡ front ++ rest → text ≡ [] → false ≡ eqb (length rest) 0 → ⊥
+nothing_left text front [] whole none more = cc
+nothing_left text front (b ∷ bs) whole none more = omega (arith, ap length (sym none ∙ whole), length-append front (b ∷ bs))

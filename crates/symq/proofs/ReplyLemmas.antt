@@ -1,5 +1,5 @@
 -- Replies to calls that were refused.
-use Rattle.std.proofs.Common.{ℕ, List, Result, Ok, Err}
+use Rattle.std.proofs.Common.{ℕ, List, Result, Ok, Err, IfOk}
 use Rattle.bz_base.specs.Answer.{Answer}
 use Rattle.bz_base.specs.declared.error.Error.{Error}
 use Rattle.bz_base.specs.declared.error.Error.TheVariants as errors
@@ -15,3 +15,8 @@ replies_refused view addrs expected errors.ReadFault result comes is = rw is tt
 replies_refused view addrs expected errors.OutOfMemory result comes is = rw is tt
 replies_refused view addrs expected _ (Ok reply) comes is = rw comes is
 replies_refused view addrs expected _ (Err e) comes is = rw is tt
+
+-- what holds holds wherever a reply is given
+pub given_always : {A B : Type 0} {P : Type 0} (result : Result A B) → P → IfOk result (λ _. P)
+given_always (Ok given) holds = holds
+given_always (Err e) holds = tt

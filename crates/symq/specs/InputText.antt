@@ -1,5 +1,5 @@
 -- The program's input: a list of lines, each an address of 1 to 16 hexadecimal digits.
-use Rattle.std.specs.Prelude.{◌≡◌, ℕ, Bool, ◌&&◌, nat_lt, nat_le, List, [], ◌∷◌, ◌++◌, length, flat_map, Option, Some, None, if◌then◌else◌, option_map, option_and_then}
+use Rattle.std.specs.Prelude.{◌≡◌, ℕ, ◌+◌, ◌-◌, ◌≤◌, Bool, ◌&&◌, nat_lt, nat_le, List, [], ◌∷◌, ◌++◌, length, drop, flat_map, Option, Some, None, if◌then◌else◌, option_map, option_and_then}
 use Rattle.std.specs.List.{AllZip, list_all}
 use Rattle.std.specs.Char.{digit_value}
 use Rattle.std.specs.Str.Parse.{digits_value}
@@ -41,3 +41,15 @@ addresses_in text = option_and_then addresses_of (lines_in text)
 -- the bytes in front of what was left have been moved, and the rest is left
 abbrev pub Moves : Option (List ℕ) → Option (List ℕ) → List ℕ → Type 0
 Moves before after front = Told before (λ text. (rest : List ℕ) × (text ≡ front ++ rest) × (after ≡ Some rest))
+
+-- how many bytes are still read where so many were: to one past the greatest length
+abbrev pub room_after : ℕ → ℕ
+room_after n = greatest_input + 1 - n
+
+-- what is left of an input once it was read: nothing, or what lies past the byte that makes it too long
+abbrev pub left_over : List ℕ → List ℕ
+left_over text = drop (greatest_input + 1) text
+
+-- no more than so many bytes in front of what was left have been moved
+abbrev pub MovesAtMost : ℕ → Option (List ℕ) → Option (List ℕ) → Type 0
+MovesAtMost most before after = Told before (λ text. (n : ℕ) × (n ≤ most) × (after ≡ Some (drop n text)))

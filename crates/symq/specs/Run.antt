@@ -5,7 +5,7 @@ use Rattle.bz_base.specs.ErrorNames.{name_of}
 use Rattle.bz_base.specs.declared.error.Error.{Error}
 use Rattle.bz_base.specs.declared.error.Error.TheVariants as errors
 use Rattle.bz_base.specs.declared.types.FindSymOpts.TheVariants.{Basic}
-use Rattle.bz_files.specs.World.{World, Entry, entry_at}
+use Rattle.bz_files.specs.World.{World, Entry, Told, entry_at}
 use Rattle.bz_files.specs.World.Entry.{Denied, Present}
 use Rattle.bz_files.specs.declared.stamp.Stamp.{Stamp}
 use Rattle.bz_breakpad.specs.Table.{Table}
@@ -13,7 +13,7 @@ use Rattle.bz_breakpad.specs.Grammar.{Accepted}
 use Rattle.bz_breakpad.specs.Plain.{batch}
 use Rattle.bz_symbolize.specs.Lookup.{by_entry}
 use Rattle.symq.specs.AnswerText.{answer_texts}
-use Rattle.symq.specs.InputText.{AreAddresses, addresses_in, greatest_input}
+use Rattle.symq.specs.InputText.{AreAddresses, addresses_in, greatest_input, left_over}
 use Rattle.symq.specs.Words.{path_in}
 use Rattle.symq.specs.declared.status.Status.{Status}
 use Rattle.symq.specs.declared.status.Status.TheVariants as statuses
@@ -130,3 +130,7 @@ IsOrFails expected status = (status ≡ expected) ⊎ ((status ≡ statuses.Faul
 -- the status is one of those that a run ends with where nothing failed
 abbrev pub IsNoFailure : Status → Type 0
 IsNoFailure status = (status ≢ statuses.Fault) × (status ≢ statuses.Memory)
+
+-- the input that the words ask for was read: to its end, or to the byte that makes it too long
+abbrev pub IsRead : List (List ℕ) → Option (List ℕ) → Option (List ℕ) → Type 0
+IsRead words before after = (path : List ℕ) → path_in words ≡ Some path → Told before (λ text. after ≡ Some (left_over text))

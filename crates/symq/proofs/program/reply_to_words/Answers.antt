@@ -1,6 +1,8 @@
-use Rattle.std.proofs.Common.{◌≡◌, ◌≤◌, length, map, string_bytes, refl, sym, ap, inl, ◌∙◌, arith}
+use Rattle.std.proofs.Common.{◌≡◌, ◌≤◌, length, map, string_bytes, refl, sym, ap, inl, inr, ◌∙◌, arith}
 use Rattle.symq.specs.InputText.{greatest_input}
 use Rattle.symq.specs.Run.{Outcome}
+use Rattle.symq.proofs.InputTextLemmas.{over_at_end}
+use Rattle.symq.proofs.ReplyLemmas.{given_always}
 use Rattle.symq.proofs.RunLemmas.{input_from_read, none_from_bad}
 use Rattle.symq.proofs.program.reply_to_words.Goals as goal
 
@@ -27,3 +29,14 @@ pub returns-in-Err-TooLong-clause-input : goal.returns-in-Err-TooLong-clause-inp
 returns-in-Err-TooLong-clause-input g c text left =
     let long = rw (c.in-Err-TooLong.field-0-is) at c.in-Err-TooLong.ensures.long in
     (λ is. (c.in-Some.path.now, sym c.in-Some.ensures, inl (long text left refl)), λ bad. ap (λ (o : Outcome). o.status) c.fixed-in-Err-TooLong.ensures)
+
+-- the input was read to its end
+pub returns-in-Ok-clause-read : goal.returns-in-Ok-clause-read
+returns-in-Ok-clause-read g c =
+    let few : length c.in-Ok.text.items ≤ greatest_input = omega (arith, c.in-Ok.text.ok.0, c.in-Ok.ensures.short) in
+    given_always c.reply_to_input.result (λ path named. over_at_end _ _ c.in-Ok.text.items few c.in-Ok.ensures.whole c.in-Ok.ensures.end)
+
+pub returns-in-Ok-clause-order : goal.returns-in-Ok-clause-order
+returns-in-Ok-clause-order g c =
+    let few : length c.in-Ok.text.items ≤ greatest_input = omega (arith, c.in-Ok.text.ok.0, c.in-Ok.ensures.short) in
+    inr (λ path named. over_at_end _ _ c.in-Ok.text.items few c.in-Ok.ensures.whole c.in-Ok.ensures.end)
