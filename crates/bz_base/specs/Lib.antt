@@ -3,4 +3,5 @@ pub mod ErrorNames
 pub mod InputKind
 pub mod Nearest
 pub mod ReasonText
+pub mod Refusals
 pub mod Span

@@ -1,6 +1,6 @@
 //! A Breakpad file as a version that a cache keeps.
 
-ghost use Rattle.bz_breakpad.specs.Version.{format_test};
+ghost use Rattle.bz_breakpad.specs.Version.{format_test, format_refusals};
 
 use crate::file::SymbolFile;
 use bz_base::Result;
@@ -15,4 +15,11 @@ impl Version for SymbolFile {
     fn parse(alloc: Global, bytes: Vec<u8>) -> Result<SymbolFile> {
         SymbolFile::from_bytes(alloc, bytes)
     }
+
+    fn formed(&self) {
+        // Only a file with a table has a count.
+        let _count = self.function_count();
+    }
+
+    ghost refusals = { format_refusals };
 }

@@ -6,11 +6,11 @@ use Rattle.std.specs.FinMap.{get-empty}
 use Rattle.bz_base.specs.declared.error.Error.{Error}
 use Rattle.bz_files.specs.declared.stamp.Stamp.{Stamp}
 use Rattle.bz_files.specs.World.{World, Entry, Denied, Present, entry_at}
-use Rattle.bz_cache.specs.Cache.{Cache, Tidy, stamp_cmp, new_cache}
+use Rattle.bz_cache.specs.Cache.{Cache, Consistent, stamp_cmp, new_cache}
 use Rattle.bz_cache.specs.Coherence.{AgreeOn, Coherent}
 use Rattle.bz_cache.specs.Eviction.{is_named, evicted}
 use Rattle.bz_cache.specs.Look.{by_test, by_entry, by_fixed, look}
-use Rattle.bz_cache.specs.View.{View, Shown, shown, fixed, bytes_at, by_fixed_view, by_format, answer_of, view}
+use Rattle.bz_cache.specs.View.{View, Shown, shown, fixed, bytes_at, by_fixed_view, by_format, bytes_of_view, view}
 use Rattle.bz_cache.proofs.FiniteMaps.{insert_cases}
 use Rattle.bz_cache.proofs.Looking.{fixed_current, current_kept}
 use Rattle.bz_cache.proofs.Naming.{some_at}
@@ -34,7 +34,7 @@ same_version (Some k) b same = sym (same k refl)
 
 module _ (test : List ℕ → Option Error) (c : Cache) (w : World) (p : List ℕ) (coherent : Coherent c.kept w) where
   -- what lies there answers by its bytes
-  by_there : (there : Option Entry) → entry_at w p ≡ there → (by_entry test c p there).0 ≡ answer_of test (shown there)
+  by_there : (there : Option Entry) → entry_at w p ≡ there → (by_entry test c p there).0 ≡ bytes_of_view test (shown there)
   by_there None is = refl
   by_there (Some Denied) is = refl
   by_there (Some (Present s b)) is =
@@ -42,20 +42,20 @@ module _ (test : List ℕ → Option Error) (c : Cache) (w : World) (p : List �
       ∙ ap (λ v. by_format v (test v)) (same_version (map.get c.kept s) b (λ k kept. coherent p s b k is kept))
 
   -- a look answers by the version in view
-  pub answer_by_view : Tidy test c → (look test c p (entry_at w p)).0 ≡ answer_of test (view c w p)
-  answer_by_view tidy = by_fix (fixed c p) refl
+  pub answer_by_view : Consistent test c → (look test c p (entry_at w p)).0 ≡ bytes_of_view test (view c w p)
+  answer_by_view consistent = by_fix (fixed c p) refl
     where
-      by_fix : (o : Option Stamp) → fixed c p ≡ o → (by_fixed test c p (entry_at w p) o).0 ≡ answer_of test (by_fixed_view c (entry_at w p) o)
+      by_fix : (o : Option Stamp) → fixed c p ≡ o → (by_fixed test c p (entry_at w p) o).0 ≡ bytes_of_view test (by_fixed_view c (entry_at w p) o)
       by_fix None is = by_there (entry_at w p) refl
       by_fix (Some s) is =
-          let kept = current_kept test c p s [] tidy (fixed_current test c p s [] is) in
-          sym (ap (by_format (bytes_at c s)) (tidy.formed s (bytes_at c s) (some_at (map.get c.kept s) [] kept)))
+          let kept = current_kept test c p s [] consistent (fixed_current test c p s [] is) in
+          sym (ap (by_format (bytes_at c s)) (consistent.formed s (bytes_at c s) (some_at (map.get c.kept s) [] kept)))
 
   -- where it is Ok, its bytes are those in view
   pub shown_by_view : (v : List ℕ) → (look test c p (entry_at w p)).0 ≡ Ok v → view c w p ≡ Shown v
   shown_by_view v = by_fix (fixed c p)
     where
-      of_answer : (x : View) → answer_of test x ≡ Ok v → x ≡ Shown v
+      of_answer : (x : View) → bytes_of_view test x ≡ Ok v → x ≡ Shown v
       of_answer View.Absent is = cc is
       of_answer View.Hidden is = cc is
       of_answer (Shown b) is = by_format_ok (test b) is

@@ -1,4 +1,4 @@
--- A cache stays tidy once a path is forgotten, and forgetting a path that isn't held changes nothing.
+-- A cache stays consistent once a path is forgotten, and forgetting a path that isn't held changes nothing.
 use Rattle.std.proofs.Common.{◌≡◌, ℕ, Bool, true, false, not, ◌||◌, ◌&&◌, cond, T, List, [], ◌∷◌, Option, Some, None, is_some, IsSome, inl, inr, sym, ap, subst, ◌∙◌, refl}
 use Rattle.std.specs.List.{list_any}
 use Rattle.std.specs.Ordering.{nat_cmp, eq_by_cmp, is_eq, is_lt}
@@ -12,7 +12,7 @@ use Rattle.std.specs.FinMap.Entries.{below_all}
 use Rattle.std.proofs.lemmas.Bool.{false≢true}
 use Rattle.bz_base.specs.declared.error.Error.{Error}
 use Rattle.bz_files.specs.declared.stamp.Stamp.{Stamp}
-use Rattle.bz_cache.specs.Cache.{Cache, PathState, Kept, Paths, Tidy, names}
+use Rattle.bz_cache.specs.Cache.{Cache, PathState, Kept, Paths, Consistent, names}
 use Rattle.bz_cache.specs.Eviction.{is_named, evicted, evicts}
 use Rattle.bz_cache.proofs.FiniteMaps.{remove_cases, remove_absent}
 use Rattle.bz_cache.proofs.Naming.{or_cases, or_left, or_right, paths_apart}
@@ -97,7 +97,7 @@ never_kept : (b : Bool) → ◌≡◌ {A = Option (List ℕ)} (cond b None None)
 never_kept true = refl
 never_kept false = refl
 
-module _ (test : List ℕ → Option Error) (c : Cache) (p : List ℕ) (tidy : Tidy test c) where
+module _ (test : List ℕ → Option Error) (c : Cache) (p : List ℕ) (consistent : Consistent test c) where
   -- the paths that stay were held
   was_held : (q : List ℕ) (e : PathState) → map.get (map.remove c.paths p) q ≡ Some e → map.get c.paths q ≡ Some e
   was_held q e has = elim (remove_cases nat_list_cmp_total paths_apart c.paths p q) [
@@ -105,15 +105,15 @@ module _ (test : List ℕ → Option Error) (c : Cache) (p : List ℕ) (tidy : T
     | inr stays ↦ sym stays ∙ has
   ]
 
-  pub tidy_evicted : Tidy test (evicted c p)
-  tidy_evicted = record {
+  pub consistent_evicted : Consistent test (evicted c p)
+  consistent_evicted = record {
     needed = λ s there.
         named_by (map.remove c.paths p) s (found_retained (is_named (map.remove c.paths p) s) (map.get c.kept s) (sym (ap is_some (retained c.kept (is_named (map.remove c.paths p)) s)) ∙ there)).0;
     held = λ q e s has named_s.
-        ap is_some (retained c.kept (is_named (map.remove c.paths p)) s ∙ ap (λ b. cond b (map.get c.kept s) None) (is_named-at (map.remove c.paths p) q e s has named_s)) ∙ tidy.held q e s (was_held q e has) named_s;
+        ap is_some (retained c.kept (is_named (map.remove c.paths p)) s ∙ ap (λ b. cond b (map.get c.kept s) None) (is_named-at (map.remove c.paths p) q e s has named_s)) ∙ consistent.held q e s (was_held q e has) named_s;
     formed = λ s b has.
         let named_s = (found_retained (is_named (map.remove c.paths p) s) (map.get c.kept s) (ap is_some (sym (retained c.kept (is_named (map.remove c.paths p)) s) ∙ has))).0 in
-        tidy.formed s b (sym (retained c.kept (is_named (map.remove c.paths p)) s ∙ ap (λ b. cond b (map.get c.kept s) None) named_s) ∙ has);
+        consistent.formed s b (sym (retained c.kept (is_named (map.remove c.paths p)) s ∙ ap (λ b. cond b (map.get c.kept s) None) named_s) ∙ has);
   }
 
   module _ (unheld : map.get c.paths p ≡ None) where
@@ -123,7 +123,7 @@ module _ (test : List ℕ → Option Error) (c : Cache) (p : List ℕ) (tidy : T
 
     -- each kept stamp is named
     still_named : (s : Stamp) → IsSome (map.get c.kept s) → is_named c.paths s ≡ true
-    still_named s there = let old = tidy.needed s there in is_named-at c.paths old.0 old.1 s old.2 old.3
+    still_named s there = let old = consistent.needed s there in is_named-at c.paths old.0 old.1 s old.2 old.3
 
     -- so each stays
     kept_stays : map.retain_keys c.kept (is_named c.paths) ≡ c.kept

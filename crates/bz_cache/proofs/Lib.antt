@@ -6,6 +6,7 @@ pub mod MapScans
 pub mod MapViews
 pub mod Naming
 pub mod Pinning
+pub mod Refusing
 pub mod SortedEdits
 pub mod SortedPairs
 pub mod Stamps

@@ -6,7 +6,7 @@ use Rattle.std.proofs.lemmas.Bool.{false≢true}
 use Rattle.bz_base.specs.declared.error.Error.{Error}
 use Rattle.bz_files.specs.declared.stamp.Stamp.{Stamp}
 use Rattle.bz_files.specs.World.{Entry, Present}
-use Rattle.bz_cache.specs.Cache.{Cache, PathState, Tidy, is_among, stamp_eq, current_of}
+use Rattle.bz_cache.specs.Cache.{Cache, PathState, Consistent, is_among, stamp_eq, current_of}
 use Rattle.bz_cache.specs.Look.{moved, named, with_earlier, by_test, by_entry, IsUnmoved, IsSomeEntry}
 use Rattle.bz_cache.specs.View.{fixed, bytes_at}
 use Rattle.bz_cache.proofs.FiniteMaps.{get_inserted}
@@ -36,10 +36,10 @@ module _ (test : List ℕ → Option Error) (c : Cache) (p : List ℕ) (s : Stam
   taken v formed = ap (by_test c p s v) formed
 
   -- a kept version answers
-  pub by_kept : Tidy test c → IsSome (map.get c.kept s) → by_entry test c p (Some (Present s b)) ≡ (Ok (bytes_at c s), named c p s (bytes_at c s))
-  by_kept tidy there =
+  pub by_kept : Consistent test c → IsSome (map.get c.kept s) → by_entry test c p (Some (Present s b)) ≡ (Ok (bytes_at c s), named c p s (bytes_at c s))
+  by_kept consistent there =
       let is = some_at (map.get c.kept s) [] there in
-      ap (λ (o : Option (List ℕ)). by_test c p s (unwrap_or o b) (test (unwrap_or o b))) is ∙ taken (bytes_at c s) (tidy.formed s (bytes_at c s) is)
+      ap (λ (o : Option (List ℕ)). by_test c p s (unwrap_or o b) (test (unwrap_or o b))) is ∙ taken (bytes_at c s) (consistent.formed s (bytes_at c s) is)
 
   -- a new version in the format answers
   pub by_new : map.get c.kept s ≡ None → test b ≡ None → by_entry test c p (Some (Present s b)) ≡ (Ok b, named c p s b)
@@ -47,20 +47,20 @@ module _ (test : List ℕ → Option Error) (c : Cache) (p : List ℕ) (s : Stam
       ap (λ (o : Option (List ℕ)). by_test c p s (unwrap_or o b) (test (unwrap_or o b))) absent ∙ taken b formed
 
   -- a path's current stamp is kept
-  pub current_kept : Tidy test c → current_of c p ≡ Some s → IsSome (map.get c.kept s)
-  current_kept tidy current = by_state (map.get c.paths p) refl current
+  pub current_kept : Consistent test c → current_of c p ≡ Some s → IsSome (map.get c.kept s)
+  current_kept consistent current = by_state (map.get c.paths p) refl current
     where
       by_state : (o : Option PathState) → map.get c.paths p ≡ o → option_map (λ (e : PathState). e.current) o ≡ Some s → IsSome (map.get c.kept s)
       by_state None held is = absurd (false≢true (ap is_some is))
       by_state (Some e) held is =
           let same : e.current ≡ s = cc is in
-          tidy.held p e s held (or_left (stamp_eq e.current s) (is_among e.earlier s) (subst (λ (t : Stamp). stamp_eq e.current t ≡ true) same (stamp_eq_self e.current)))
+          consistent.held p e s held (or_left (stamp_eq e.current s) (is_among e.earlier s) (subst (λ (t : Stamp). stamp_eq e.current t ≡ true) same (stamp_eq_self e.current)))
 
   -- where the path is held and its current stamp lies there, that stamp is kept
-  pub unmoved_kept : (there : Option Entry) → Tidy test c → IsUnmoved c p there → there ≡ Some (Present s b) → IsSome (map.get c.kept s)
-  unmoved_kept there tidy unmoved is =
+  pub unmoved_kept : (there : Option Entry) → Consistent test c → IsUnmoved c p there → there ≡ Some (Present s b) → IsSome (map.get c.kept s)
+  unmoved_kept there consistent unmoved is =
       let same : unmoved.state.current ≡ s = cc (unmoved.present, is) in
-      current_kept tidy (ap (option_map (λ (e : PathState). e.current)) unmoved.held ∙ ap Some same)
+      current_kept consistent (ap (option_map (λ (e : PathState). e.current)) unmoved.held ∙ ap Some same)
 
   -- a fixed path's stamp is its current one
   pub fixed_current : fixed c p ≡ Some s → current_of c p ≡ Some s
@@ -93,9 +93,9 @@ module _ (test : List ℕ → Option Error) (c new : Cache) (p : List ℕ) (s : 
   present = found.2 ∙ ap (λ (t : Stamp). Some (Present t found.1)) (sym found.3)
 
   -- the answer where the stamp is kept
-  pub answer_kept : Tidy test c → IsSome (map.get c.kept s) → new ≡ named c p s (bytes_at c s) → (by_entry test c p there).0 ≡ Ok (bytes_at new s)
-  answer_kept tidy kept is =
-      rw (present, is) (ap (λ (x : Result (List ℕ) Error × Cache). x.0) (by_kept test c p s found.1 tidy kept) ∙ ap Ok (sym (bytes_named c p s (bytes_at c s))))
+  pub answer_kept : Consistent test c → IsSome (map.get c.kept s) → new ≡ named c p s (bytes_at c s) → (by_entry test c p there).0 ≡ Ok (bytes_at new s)
+  answer_kept consistent kept is =
+      rw (present, is) (ap (λ (x : Result (List ℕ) Error × Cache). x.0) (by_kept test c p s found.1 consistent kept) ∙ ap Ok (sym (bytes_named c p s (bytes_at c s))))
 
   -- the answer where a new version was read
   pub answer_new : (items v : List ℕ) → map.get c.kept s ≡ None → IsBytesAt there items → test items ≡ None → v ≡ items → new ≡ named c p s v → (by_entry test c p there).0 ≡ Ok (bytes_at new s)
@@ -104,8 +104,8 @@ module _ (test : List ℕ → Option Error) (c new : Cache) (p : List ℕ) (s : 
       rw (present, is, bytes_named c p s v, version, same) (ap (λ (x : Result (List ℕ) Error × Cache). x.0) (by_new test c p s found.1 absent (subst (λ (b : List ℕ). test b ≡ None) same formed)))
 
   -- where the path is unmoved, its stamp is kept
-  pub not_unmoved : Tidy test c → is_some (map.get c.kept s) ≡ false → IsUnmoved c p there → ⊥
-  not_unmoved tidy absent unmoved = false≢true (sym absent ∙ unmoved_kept test c p s found.1 there tidy unmoved present)
+  pub not_unmoved : Consistent test c → is_some (map.get c.kept s) ≡ false → IsUnmoved c p there → ⊥
+  not_unmoved consistent absent unmoved = false≢true (sym absent ∙ unmoved_kept test c p s found.1 there consistent unmoved present)
 
 module _ (test : List ℕ → Option Error) (c new : Cache) (p : List ℕ) (s : Stamp) where
   -- what is left where a stamp is named with its version, as some look leaves it
@@ -115,8 +115,8 @@ module _ (test : List ℕ → Option Error) (c new : Cache) (p : List ℕ) (s : 
       subst P (sym is) (there, look_is ∙ ap (λ (b : List ℕ). (Ok b, named c p s v)) (sym (bytes_named c p s v)))
 
   -- some look leaves what is left where the stamp is kept
-  pub some_kept : Tidy test c → IsSome (map.get c.kept s) → new ≡ named c p s (bytes_at c s) → IsSomeEntry test c new p (bytes_at new s)
-  some_kept tidy kept is = as_named (Some (Present s [])) (bytes_at c s) (by_kept test c p s [] tidy kept) is
+  pub some_kept : Consistent test c → IsSome (map.get c.kept s) → new ≡ named c p s (bytes_at c s) → IsSomeEntry test c new p (bytes_at new s)
+  some_kept consistent kept is = as_named (Some (Present s [])) (bytes_at c s) (by_kept test c p s [] consistent kept) is
 
   -- and what is left where a new version was read
   pub some_new : (items v : List ℕ) → map.get c.kept s ≡ None → test items ≡ None → v ≡ items → new ≡ named c p s v → IsSomeEntry test c new p (bytes_at new s)

@@ -1,4 +1,4 @@
--- A cache stays tidy once a path is seen with a stamp.
+-- A cache stays consistent once a path is seen with a stamp.
 use Rattle.std.proofs.Common.{◌≡◌, ℕ, Bool, true, false, ◌||◌, cond, List, [], ◌∷◌, ◌++◌, Option, Some, None, unwrap_or, is_some, IsSome, ◌⊎◌, inl, inr, sym, ap, subst, ◌∙◌, refl}
 use Rattle.std.specs.Ordering.{nat_cmp}
 use Rattle.std.specs.Cmp.Lexicographic.{slice_cmp, nat_list_cmp_total}
@@ -7,7 +7,7 @@ use Rattle.std.specs.FinMap.{IsAntisymmetric, slice_cmp-IsAntisymmetric, nat_cmp
 use Rattle.std.proofs.lemmas.Bool.{false≢true}
 use Rattle.bz_base.specs.declared.error.Error.{Error}
 use Rattle.bz_files.specs.declared.stamp.Stamp.{Stamp}
-use Rattle.bz_cache.specs.Cache.{Cache, PathState, Kept, Paths, Tidy, new_cache, names, is_among, stamp_cmp, stamp_eq}
+use Rattle.bz_cache.specs.Cache.{Cache, PathState, Kept, Paths, Consistent, new_cache, names, is_among, stamp_cmp, stamp_eq}
 use Rattle.bz_cache.specs.Look.{with_earlier, moved, named}
 use Rattle.bz_cache.specs.View.{bytes_at}
 use Rattle.bz_cache.proofs.FiniteMaps.{insert_same, insert_cases, get_inserted, still_there}
@@ -111,11 +111,11 @@ module _ (s : Stamp) where
         | inr earlier ↦ inr (e, refl, swap_or (is_among e.earlier t) (stamp_eq e.current t) (earlier_only e.earlier e.current t earlier))
       ]
 
-module _ (test : List ℕ → Option Error) (c : Cache) (p : List ℕ) (s : Stamp) (v : List ℕ) (tidy : Tidy test c) (formed_v : test v ≡ None) where
+module _ (test : List ℕ → Option Error) (c : Cache) (p : List ℕ) (s : Stamp) (v : List ℕ) (consistent : Consistent test c) (formed_v : test v ≡ None) where
   -- a path that names a stamp in the cache before, or else one that does after the look
   needed_after : (t : Stamp) → IsSome (map.get c.kept t) → (q : List ℕ) × (e : PathState) × (map.get (named c p s v).paths q ≡ Some e) × (names e t ≡ true)
   needed_after t there =
-      let old = tidy.needed t there in
+      let old = consistent.needed t there in
       elim (insert_cases nat_list_cmp_total paths_apart c.paths p (moved s (map.get c.paths p)) old.0) [
         | inl at_p ↦
             let same : map.get c.paths p ≡ Some old.1 = ap (map.get c.paths) (sym at_p.0) ∙ old.2 in
@@ -123,9 +123,9 @@ module _ (test : List ℕ → Option Error) (c : Cache) (p : List ℕ) (s : Stam
         | inr stays ↦ (old.0, old.1, stays ∙ old.2, old.3)
       ]
 
-  -- the cache stays tidy
-  pub tidy_named : Tidy test (named c p s v)
-  tidy_named = record {
+  -- the cache stays consistent
+  pub consistent_named : Consistent test (named c p s v)
+  consistent_named = record {
     needed = λ t there. elim (insert_cases stamp_total stamps_apart c.kept s v t) [
       | inl at_s ↦ (p, moved s (map.get c.paths p), get_inserted nat_list_cmp_total paths_apart c.paths p _, moved_names s (map.get c.paths p) t (sym at_s.0))
       | inr stays ↦ needed_after t (sym (ap is_some stays) ∙ there)
@@ -135,13 +135,13 @@ module _ (test : List ℕ → Option Error) (c : Cache) (p : List ℕ) (s : Stam
           let is : moved s (map.get c.paths p) ≡ e = cc (at_p.1, has) in
           elim (moved_only s (map.get c.paths p) t (subst (λ (x : PathState). names x t ≡ true) (sym is) named_t)) [
             | inl same ↦ subst (λ (u : Stamp). IsSome (map.get (map.insert c.kept s v) u)) same (ap is_some (get_inserted stamp_total stamps_apart c.kept s v))
-            | inr old ↦ still_there stamp_total stamps_apart c.kept s v t (tidy.held p old.0 t old.1 old.2)
+            | inr old ↦ still_there stamp_total stamps_apart c.kept s v t (consistent.held p old.0 t old.1 old.2)
           ]
-      | inr stays ↦ still_there stamp_total stamps_apart c.kept s v t (tidy.held q e t (sym stays ∙ has) named_t)
+      | inr stays ↦ still_there stamp_total stamps_apart c.kept s v t (consistent.held q e t (sym stays ∙ has) named_t)
     ];
     formed = λ t b has. elim (insert_cases stamp_total stamps_apart c.kept s v t) [
       | inl at_s ↦ let is : v ≡ b = cc (at_s.1, has) in subst (λ (x : List ℕ). test x ≡ None) is formed_v
-      | inr stays ↦ tidy.formed t b (sym stays ∙ has)
+      | inr stays ↦ consistent.formed t b (sym stays ∙ has)
     ];
   }
 
@@ -154,20 +154,20 @@ some_at (Some x) d there = refl
 pub named_kept : (c : Cache) (p : List ℕ) (s : Stamp) → IsSome (map.get c.kept s) → named c p s (bytes_at c s) ≡ record { reload = c.reload; kept = c.kept; paths = map.insert c.paths p (moved s (map.get c.paths p)) }
 named_kept c p s there = ap (λ (k : Kept). record { reload = c.reload; kept = k; paths = map.insert c.paths p (moved s (map.get c.paths p)) }) (insert_same stamp_total stamps_apart c.kept s (bytes_at c s) (some_at (map.get c.kept s) [] there))
 
--- a new cache is tidy
-pub tidy_new : (test : List ℕ → Option Error) (reload : Bool) → Tidy test (new_cache reload)
-tidy_new test reload = record {
+-- a new cache is consistent
+pub consistent_new : (test : List ℕ → Option Error) (reload : Bool) → Consistent test (new_cache reload)
+consistent_new test reload = record {
   needed = λ s there. absurd (false≢true (sym (ap is_some (get-empty stamp_cmp s)) ∙ there));
   held = λ p e s has _. absurd (false≢true (sym (ap is_some (get-empty (slice_cmp nat_cmp) p)) ∙ ap is_some has));
   formed = λ s b has. absurd (false≢true (sym (ap is_some (get-empty stamp_cmp s)) ∙ ap is_some has));
 }
 
-module _ (test : List ℕ → Option Error) (c : Cache) (p : List ℕ) (s : Stamp) (tidy : Tidy test c) (paths : Paths) (placed : paths ≡ map.insert c.paths p (moved s (map.get c.paths p))) where
-  -- a cache stays tidy where a path goes to a kept stamp
-  pub tidy_pointed : IsSome (map.get c.kept s) → Tidy test (record { reload = c.reload; kept = c.kept; paths = paths })
-  tidy_pointed there =
-      rw placed (subst (Tidy test) (named_kept c p s there) (tidy_named test c p s (bytes_at c s) tidy (tidy.formed s (bytes_at c s) (some_at (map.get c.kept s) [] there))))
+module _ (test : List ℕ → Option Error) (c : Cache) (p : List ℕ) (s : Stamp) (consistent : Consistent test c) (paths : Paths) (placed : paths ≡ map.insert c.paths p (moved s (map.get c.paths p))) where
+  -- a cache stays consistent where a path goes to a kept stamp
+  pub consistent_pointed : IsSome (map.get c.kept s) → Consistent test (record { reload = c.reload; kept = c.kept; paths = paths })
+  consistent_pointed there =
+      rw placed (subst (Consistent test) (named_kept c p s there) (consistent_named test c p s (bytes_at c s) consistent (consistent.formed s (bytes_at c s) (some_at (map.get c.kept s) [] there))))
 
   -- and where a version in the format is taken in
-  pub tidy_taken : (v : List ℕ) → test v ≡ None → (kept : Kept) → kept ≡ map.insert c.kept s v → Tidy test (record { reload = c.reload; kept = kept; paths = paths })
-  tidy_taken v formed kept is = rw (placed, is) (tidy_named test c p s v tidy formed)
+  pub consistent_taken : (v : List ℕ) → test v ≡ None → (kept : Kept) → kept ≡ map.insert c.kept s v → Consistent test (record { reload = c.reload; kept = kept; paths = paths })
+  consistent_taken v formed kept is = rw (placed, is) (consistent_named test c p s v consistent formed)

@@ -13,7 +13,7 @@ use Rattle.std.proofs.lemmas.Map.Text.{btree_map_updates_text, is_eq-slice_cmp}
 use Rattle.bz_files.specs.declared.stamp.Stamp.{Stamp}
 use Rattle.bz_cache.specs.declared.file_cache.paths.PathEntry.{PathEntry}
 use Rattle.bz_cache.specs.Cache.{stamp_cmp, PathState}
-use Rattle.bz_cache.specs.Store.{kept_of, paths_of, state_of}
+use Rattle.bz_cache.specs.Store.{kept_of, paths_of, path_state}
 use Rattle.bz_cache.proofs.Stamps.{stamp_total, stamps_apart}
 use Rattle.bz_cache.proofs.FiniteMaps.{insert_same}
 use Rattle.bz_cache.proofs.MapScans.{len_read, any_read, read_retain, list_any-map}
@@ -46,16 +46,16 @@ module _ {T A : Type 0} (bytes_of : T → List ℕ) where
 
 module _ {A : Type 0} where
   -- the state of what the map has at the path
-  pub get_path : (m : BTreeMap (String A) PathEntry) (p : List ℕ) → map.get (paths_of m) p ≡ option_map state_of (get_by_text m p)
-  get_path m p = get_read (slice_cmp nat_cmp) string_bytes state_of nat_list_cmp_total m.entries p
+  pub get_path : (m : BTreeMap (String A) PathEntry) (p : List ℕ) → map.get (paths_of m) p ≡ option_map path_state (get_by_text m p)
+  get_path m p = get_read (slice_cmp nat_cmp) string_bytes path_state nat_list_cmp_total m.entries p
 
   -- a path that the map has
-  pub path_found : (m : BTreeMap (String A) PathEntry) (p : List ℕ) (e : PathEntry) → get_by_text m p ≡ Some e → map.get (paths_of m) p ≡ Some (state_of e)
-  path_found m p e found = get_path m p ∙ ap (option_map state_of) found
+  pub path_found : (m : BTreeMap (String A) PathEntry) (p : List ℕ) (e : PathEntry) → get_by_text m p ≡ Some e → map.get (paths_of m) p ≡ Some (path_state e)
+  path_found m p e found = get_path m p ∙ ap (option_map path_state) found
 
   -- a path that the map hasn't
   pub path_absent : (m : BTreeMap (String A) PathEntry) (p : List ℕ) → get_by_text m p ≡ None → map.get (paths_of m) p ≡ None
-  path_absent m p absent = get_path m p ∙ ap (option_map state_of) absent
+  path_absent m p absent = get_path m p ∙ ap (option_map path_state) absent
 
   module _ (m n : BTreeMap (String A) PathEntry) (p : List ℕ) (w : Option PathEntry) (updates : UpdatesBy string_cmp (λ k. slice_cmp nat_cmp p (string_bytes k)) m n w) where
     -- what the changed map has at each path
@@ -63,22 +63,22 @@ module _ {A : Type 0} where
     updated_text q = btree_map_updates_text p m n w updates q ∙ ap (λ b. cond b w (get_by_text m q)) (sym (is_eq-slice_cmp p q))
 
     -- a path that was put in
-    pub paths_insert : (e : PathEntry) → w ≡ Some e → paths_of n ≡ map.insert (paths_of m) p (state_of e)
-    paths_insert e is = read_insert (slice_cmp nat_cmp) string_bytes state_of nat_list_cmp_total (slice_cmp-IsAntisymmetric nat_cmp-IsAntisymmetric) m.entries n.entries p w updated_text e is
+    pub paths_insert : (e : PathEntry) → w ≡ Some e → paths_of n ≡ map.insert (paths_of m) p (path_state e)
+    paths_insert e is = read_insert (slice_cmp nat_cmp) string_bytes path_state nat_list_cmp_total (slice_cmp-IsAntisymmetric nat_cmp-IsAntisymmetric) m.entries n.entries p w updated_text e is
 
     -- a path that was taken out
     pub paths_remove : w ≡ None → paths_of n ≡ map.remove (paths_of m) p
-    paths_remove is = read_remove (slice_cmp nat_cmp) string_bytes state_of nat_list_cmp_total (slice_cmp-IsAntisymmetric nat_cmp-IsAntisymmetric) m.entries n.entries p w updated_text is
+    paths_remove is = read_remove (slice_cmp nat_cmp) string_bytes path_state nat_list_cmp_total (slice_cmp-IsAntisymmetric nat_cmp-IsAntisymmetric) m.entries n.entries p w updated_text is
 
   module _ (m n : BTreeMap (String A) PathEntry) (p : List ℕ) (e w : PathEntry) (found : get_by_text m p ≡ Some e)
       (updates : UpdatesBy string_cmp (λ k. slice_cmp nat_cmp p (string_bytes k)) m n (Some w)) where
     -- the entry of a path that was changed to another state
-    pub paths_changed : (s : PathState) → state_of w ≡ s → paths_of n ≡ map.insert (paths_of m) p s
+    pub paths_changed : (s : PathState) → path_state w ≡ s → paths_of n ≡ map.insert (paths_of m) p s
     paths_changed s is = paths_insert m n p (Some w) updates w refl ∙ ap (map.insert (paths_of m) p) is
 
     -- an entry whose state stayed
-    pub paths_stay : state_of w ≡ state_of e → paths_of n ≡ paths_of m
-    paths_stay is = paths_changed (state_of e) is ∙ insert_same nat_list_cmp_total (slice_cmp-IsAntisymmetric nat_cmp-IsAntisymmetric) (paths_of m) p (state_of e) (path_found m p e found)
+    pub paths_stay : path_state w ≡ path_state e → paths_of n ≡ paths_of m
+    paths_stay is = paths_changed (path_state e) is ∙ insert_same nat_list_cmp_total (slice_cmp-IsAntisymmetric nat_cmp-IsAntisymmetric) (paths_of m) p (path_state e) (path_found m p e found)
 
 module _ {T A : Type 0} (bytes_of : T → List ℕ) (m : BTreeMap Stamp (Rc T A)) (ordered : IsOrdered stamp_cmp m) where
   -- as many versions are kept as the map has entries
@@ -96,8 +96,8 @@ kept_retain {T} {A} bytes_of p m n is = read_retain stamp_cmp (λ (k : Stamp). k
 module _ {A : Type 0} (m : BTreeMap (String A) PathEntry) (ordered : IsOrdered string_cmp m) where
   -- as many paths are held as the map has entries
   pub paths_len : map.len (paths_of m) ≡ btree_map_len m
-  paths_len = len_read (slice_cmp nat_cmp) string_bytes state_of nat_list_cmp_total m.entries ordered
+  paths_len = len_read (slice_cmp nat_cmp) string_bytes path_state nat_list_cmp_total m.entries ordered
 
   -- whether some path's state passes
-  pub paths_any : (p : PathState → Bool) → list_any (λ e. p e.1) (map.entries (paths_of m)) ≡ list_any (λ e. p (state_of e)) (values m)
-  paths_any p = any_read (slice_cmp nat_cmp) string_bytes state_of nat_list_cmp_total (λ e. p e.1) m.entries ordered ∙ sym (list_any-map (λ (e : String A × PathEntry). e.1) (λ e. p (state_of e)) m.entries)
+  pub paths_any : (p : PathState → Bool) → list_any (λ e. p e.1) (map.entries (paths_of m)) ≡ list_any (λ e. p (path_state e)) (values m)
+  paths_any p = any_read (slice_cmp nat_cmp) string_bytes path_state nat_list_cmp_total (λ e. p e.1) m.entries ordered ∙ sym (list_any-map (λ (e : String A × PathEntry). e.1) (λ e. p (path_state e)) m.entries)

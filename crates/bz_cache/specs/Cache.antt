@@ -63,7 +63,7 @@ abbrev pub is_held : Cache → List ℕ → Bool
 is_held c p = is_some (map.get c.paths p)
 
 -- the stamp is kept exactly while some path names it, and every kept version is in the format
-pub record Tidy (test : List ℕ → Option Error) (c : Cache) : Type 0 where
+pub record Consistent (test : List ℕ → Option Error) (c : Cache) : Type 0 where
   pub needed : (s : Stamp) → IsSome (map.get c.kept s) → (p : List ℕ) × (e : PathState) × (map.get c.paths p ≡ Some e) × (names e s ≡ true)
   pub held : (p : List ℕ) (e : PathState) (s : Stamp) → map.get c.paths p ≡ Some e → names e s ≡ true → IsSome (map.get c.kept s)
   pub formed : (s : Stamp) (b : List ℕ) → map.get c.kept s ≡ Some b → test b ≡ None

@@ -1,18 +1,16 @@
 -- When the bytes of a version are refused, and what a call of the cache may answer.
-use Rattle.std.specs.Prelude.{◌≡◌, ℕ, List, Option, Some, None, Result, Ok, Err}
+use Rattle.std.specs.Prelude.{◌≡◌, ℕ, Bool, true, false, cond, List, Option, Some, None, Result, Ok, Err}
+use Rattle.std.proofs.Common.{subst}
+use Rattle.bz_base.specs.Refusals.{IsFormatRefusal}
 use Rattle.bz_base.specs.declared.error.Error.{Error}
 use Rattle.bz_base.specs.declared.error.Error.TheVariants as errors
 use Rattle.bz_files.specs.declared.stamp.Stamp.{Stamp}
 use Rattle.bz_files.specs.World.{Entry, Denied, Present}
 
--- a format refuses bytes by one of these; want of memory may come anywhere
-abbrev pub MayRefuse : Error → Type 0
-MayRefuse errors.Unsupported = Unit {0}
-MayRefuse errors.InvalidInput = Unit {0}
-MayRefuse errors.InvalidData = Unit {0}
-MayRefuse errors.NotBuilt = Unit {0}
-MayRefuse errors.OutOfMemory = Unit {0}
-MayRefuse _ = ⊥
+-- a format that refuses all other bytes by one refusal refuses by no other
+pub refused_by : (formed : Bool) (refusal e : Error) → IsFormatRefusal refusal → cond formed None (Some refusal) ≡ Some e → IsFormatRefusal e
+refused_by true refusal e may is = cc
+refused_by false refusal e may is = subst IsFormatRefusal (cc is) may
 
 -- the refusal is the one that the format's test gives, and so the bytes aren't in the format; but for want of memory
 abbrev pub IsRefusalBy : Option Error → Error → Type 0
@@ -47,8 +45,11 @@ MayMiss errors.ReadFault = Unit {0}
 MayMiss errors.OutOfMemory = Unit {0}
 MayMiss _ = ⊥
 
--- a look through the cache is refused by any refusal but these two
-abbrev pub MayFail : Error → Type 0
-MayFail errors.UnexpectedEof = ⊥
-MayFail errors.AlreadyExists = ⊥
-MayFail _ = Unit {0}
+-- a look through the cache at files of a format is refused by one of the four of a look at a file, or by a refusal that the
+-- format gives to some bytes
+abbrev pub MayFail : (List ℕ → Option Error) → Error → Type 0
+MayFail test errors.NotFound = Unit {0}
+MayFail test errors.PermissionDenied = Unit {0}
+MayFail test errors.ReadFault = Unit {0}
+MayFail test errors.OutOfMemory = Unit {0}
+MayFail test e = (bytes : List ℕ) × (test bytes ≡ Some e)

@@ -6,7 +6,7 @@ use Rattle.bz_base.specs.declared.error.Error.TheVariants as errors
 use Rattle.bz_files.specs.declared.stamp.Stamp.{Stamp}
 use Rattle.bz_files.specs.World.{World, Entry, Denied, Present, Told, entry_at}
 use Rattle.bz_files.specs.Count.{counted}
-use Rattle.bz_cache.specs.Cache.{Cache, PathState, stamp_eq, is_among, kept_at}
+use Rattle.bz_cache.specs.Cache.{Cache, PathState, Consistent, stamp_eq, is_among, kept_at}
 use Rattle.bz_cache.specs.View.{fixed, bytes_at}
 
 -- the earlier stamps with one more, if it isn't there
@@ -72,12 +72,14 @@ abbrev pub IsSomeLook : (List ℕ → Option Error) → Cache → Cache → List
 IsSomeLook test old new p bytes = (there : Option Entry) × (look test old p there ≡ (Ok bytes, new))
 
 -- what an answered look lends and leaves: the kept bytes of the path's current stamp, and the cache after a look at what
--- lies there where that is told; whatever is told, the cache after some look, and for a fixed path the cache as it was
-pub record Leaves (test : List ℕ → Option Error) (old new : Cache) (p bytes : List ℕ) (in_view : Option World) : Type 0 where
+-- lies there where that is told; whatever is told, a consistent cache after some look, and for a fixed path the cache as it
+-- was
+pub record Lends (test : List ℕ → Option Error) (old new : Cache) (p bytes : List ℕ) (in_view : Option World) : Type 0 where
   pub kept : IsKeptAt test new p bytes
   pub state : Told in_view (λ w. new ≡ (look test old p (entry_at w p)).1)
   pub some : IsSomeLook test old new p bytes
   pub unchanged : IsSome (fixed old p) → new ≡ old
+  pub consistent : Consistent test new
 
 -- the count of opens once a file was opened or not
 abbrev pub opens_after : Bool → ℕ → ℕ

@@ -14,9 +14,9 @@ abbrev pub kept_of : {T A : Type 0} → (T → List ℕ) → BTreeMap Stamp (Rc 
 kept_of bytes_of m = from_entries (map (λ e. (e.0, bytes_of e.1.value)) m.entries)
 
 -- what a path's entry says
-abbrev pub state_of : PathEntry → PathState
-state_of e = record { current = e.current; pinned = e.pinned; earlier = e.earlier.items }
+abbrev pub path_state : PathEntry → PathState
+path_state e = record { current = e.current; pinned = e.pinned; earlier = e.earlier.items }
 
 -- the state of each path, by its bytes
 abbrev pub paths_of : {A : Type 0} → BTreeMap (String A) PathEntry → Paths
-paths_of m = from_entries (map (λ e. (string_bytes e.0, state_of e.1)) m.entries)
+paths_of m = from_entries (map (λ e. (string_bytes e.0, path_state e.1)) m.entries)

@@ -42,7 +42,7 @@ by_format b None = Ok b
 by_format b (Some e) = Err e
 
 -- the answer that a version in view gives
-abbrev pub answer_of : (List ℕ → Option Error) → View → Result (List ℕ) Error
-answer_of test Absent = Err errors.NotFound
-answer_of test Hidden = Err errors.PermissionDenied
-answer_of test (Shown b) = by_format b (test b)
+abbrev pub bytes_of_view : (List ℕ → Option Error) → View → Result (List ℕ) Error
+bytes_of_view test Absent = Err errors.NotFound
+bytes_of_view test Hidden = Err errors.PermissionDenied
+bytes_of_view test (Shown b) = by_format b (test b)

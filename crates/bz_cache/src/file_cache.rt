@@ -2,12 +2,12 @@
 
 ghost use Rattle.std.specs.Prelude.{◌≡◌, ◌≤◌, ◌⊎◌, Option, None, OnOk, OnErr, IfOk, IfErr, IsOk, IsOkUnless, IsErrOf, IsSome, is_some, Some, Bool, true, false};
 ghost use Rattle.std.specs.FinMap as map;
-ghost use Rattle.bz_cache.specs.Cache.{Cache, PathState, Tidy, new_cache, stamp_eq, current_of, is_held, with_pin};
+ghost use Rattle.bz_cache.specs.Cache.{Cache, PathState, Consistent, new_cache, stamp_eq, current_of, is_held, with_pin};
 ghost use Rattle.bz_cache.specs.Eviction.{evicted, evicts};
-ghost use Rattle.bz_files.specs.Count.{HasRisen, counted};
+ghost use Rattle.bz_files.specs.Looked.{Faulted, Looked, ReadsOne};
 ghost use Rattle.bz_files.specs.World.{Told, in_view, entry_at};
 ghost use Rattle.bz_cache.specs.Format.{Comes, MayFail};
-ghost use Rattle.bz_cache.specs.Look.{named, look, by_entry, is_new, will_open, opens_after, IsUnmoved, IsSomeEntry, IsSomeLook, Leaves};
+ghost use Rattle.bz_cache.specs.Look.{named, look, by_entry, is_new, will_open, opens_after, IsUnmoved, IsSomeEntry, IsSomeLook, Lends};
 ghost use Rattle.bz_cache.specs.View.{fixed, bytes_at};
 
 use crate::version::Version;
@@ -20,7 +20,7 @@ use std::rc::Rc;
 
 mod entries;
 mod paths;
-mod sight;
+mod lookup;
 
 use paths::PathEntry;
 
@@ -32,7 +32,7 @@ pub struct FileCache<T: Version + Drop> {
 }
 
 impl<T: Version + Drop> Model for FileCache<T> {
-    ghost use Rattle.bz_cache.specs.Cache.{Cache, coded_cache, Tidy};
+    ghost use Rattle.bz_cache.specs.Cache.{Cache, coded_cache, Consistent};
 
     ghost Value = { Cache };
 
@@ -42,7 +42,7 @@ impl<T: Version + Drop> Model for FileCache<T> {
 
     ghost view = { λ a. record { reload = a.reload; kept = kept_of T.bytes_of a.entries; paths = paths_of a.paths } };
 
-    ghost invariant = { λ a. Tidy T.test (record { reload = a.reload; kept = kept_of T.bytes_of a.entries; paths = paths_of a.paths }) };
+    ghost invariant = { λ a. Consistent T.test (record { reload = a.reload; kept = kept_of T.bytes_of a.entries; paths = paths_of a.paths }) };
 }
 
 impl<T: Version + Drop> Drop for FileCache<T> {
@@ -59,7 +59,7 @@ impl<T: Version + Drop> FileCache<T> {
     /// Whether a version with the stamp is kept. A stamp is kept exactly while some path names it.
     pub fn is_kept(&self, stamp: &Stamp) -> bool
         ensures kept { result ≡ is_some (map.get self.now.kept stamp.now) }
-        ensures tidy { Tidy T.test self.now }
+        ensures consistent { Consistent T.test self.now }
     {
         entries::is_kept(&self.entries, stamp)
     }
@@ -109,8 +109,8 @@ impl<T: Version + Drop> FileCache<T> {
 
     // The path's current stamp, if it is answered without a look.
     fn fixed(&self, path: &str) -> Option<Stamp>
-        ensures fixed { result ≡ fixed self.now path.now }
-        ensures tidy { Tidy T.test self.now }
+        ensures stamp { result ≡ fixed self.now path.now }
+        ensures consistent { Consistent T.test self.now }
     {
         match paths::standing(&self.paths, path) {
             Some((current, pinned)) if pinned || !self.reload => Some(current),
@@ -132,7 +132,7 @@ impl<T: Version + Drop> FileCache<T> {
         ensures ok { OnOk result (self.new ≡ named self.old path.now stamp (bytes_at self.old stamp)) }
         ensures err { OnErr result (self.new ≡ self.old) }
         ensures memory { IsOkUnless result Error.OutOfMemory }
-        ensures tidy { OnOk result (Tidy T.test self.new) }
+        ensures consistent { OnOk result (Consistent T.test self.new) }
         ensures sure { (e : PathState) → map.get self.old.paths path.now ≡ Some e → stamp_eq e.current stamp ≡ true → IsOk result }
     {
         paths::place(&mut self.paths, alloc, path, stamp)?;
@@ -144,7 +144,7 @@ impl<T: Version + Drop> FileCache<T> {
         requires absent { map.get self.old.kept stamp ≡ None }
         requires formed { T.test (T.bytes_of version) ≡ None }
         ensures ok { OnOk result (self.new ≡ named self.old path.now stamp (T.bytes_of version)) }
-        ensures tidy { OnOk result (Tidy T.test self.new) }
+        ensures consistent { OnOk result (Consistent T.test self.new) }
         ensures err { OnErr result (self.new ≡ self.old) }
         ensures memory { IsOkUnless result Error.OutOfMemory }
     {
@@ -167,21 +167,17 @@ impl<T: Version + Drop> FileCache<T> {
     /// doesn't reload, answers by the version that it has; any other is looked at, and read where no
     /// version with its stamp is kept. After a refusal the cache is as before.
     pub fn entry<F: Files>(&mut self, alloc: Global, files: &mut F, path: &str) -> Result<&T>
-        ensures* after { sem 𝓛 (follows_so (the_row T.row T.Version) (the_row T.row T.Version) self.entry.ghost_name none (λ _ _. ⊤) (λ n. MatchResult result (λ v. Leaves T.test self.old n path.now (T.bytes_of v.now) (in_view (F.worlds files.old))) (λ _. n ≡ self.old))) }
+        ensures* after { sem 𝓛 (follows_so (the_row T.row T.Version) (the_row T.row T.Version) self.entry.ghost_name none (λ _ _. ⊤) (λ n. MatchResult result (λ v. Lends T.test self.old n path.now (T.bytes_of v.now) (in_view (F.worlds files.old))) (λ _. n ≡ self.old))) }
         ensures answer { Told (in_view (F.worlds files.old)) (λ w. Comes (λ v. T.bytes_of v.now) (look T.test self.old path.now (entry_at w path.now)).0 result) }
-        ensures fixed { IsSome (fixed self.old path.now) → IsOk result }
+        ensures sure { IsSome (fixed self.old path.now) → IsOk result }
         ensures unseen { IsSome (fixed self.old path.now) → files.new ≡ files.old }
         // No memory is taken where the present stamp is the path's current one.
         ensures unmoved { Told (in_view (F.worlds files.old)) (λ w. IsUnmoved self.old path.now (entry_at w path.now) → IsOkUnless result Error.ReadFault) }
         ensures opened { Told (in_view (F.worlds files.old)) (λ w. OnOk result (F.opens files.new ≡ opens_after (will_open self.old path.now (entry_at w path.now)) (F.opens files.old))) }
         ensures spared { Told (in_view (F.worlds files.old)) (λ w. will_open self.old path.now (entry_at w path.now) ≡ false → F.opens files.new ≡ F.opens files.old) }
-        ensures most { (F.opens files.new ≡ F.opens files.old) ⊎ (F.opens files.new ≡ counted (F.opens files.old)) }
-        ensures worlds { F.worlds files.new ≡ F.worlds files.old }
-        ensures pid { F.pid files.new ≡ F.pid files.old }
-        ensures faults { F.faults files.old ≤ F.faults files.new }
-        ensures fault { IsErrOf result Error.ReadFault → HasRisen (F.faults files.old) (F.faults files.new) }
-        ensures steady { IsErrOf result Error.ReadFault ⊎ (F.faults files.new ≡ F.faults files.old) }
-        ensures refusal { IfErr result MayFail }
+        ensures most { ReadsOne F.Files files.old files.new }
+        ensures files { Looked F.Files files.old files.new (Faulted result) }
+        ensures refusal { IfErr result (MayFail T.test) }
     {
         let stamp = self.look(alloc, files, path)?;
         Ok(self.version(&stamp))
@@ -193,21 +189,17 @@ impl<T: Version + Drop> FileCache<T> {
         ensures ok { Told (in_view (F.worlds files.old)) (λ w. OnOk result (self.new ≡ (look T.test self.old path.now (entry_at w path.now)).1)) }
         ensures err { OnErr result (self.new ≡ self.old) }
         ensures current { IfOk result (λ stamp. current_of self.new path.now ≡ Some stamp) }
-        ensures tidy { OnOk result (Tidy T.test self.new) }
+        ensures consistent { OnOk result (Consistent T.test self.new) }
         ensures some { IfOk result (λ stamp. IsSomeLook T.test self.old self.new path.now (bytes_at self.new stamp)) }
-        ensures fixed { IsSome (fixed self.old path.now) → IsOk result }
+        ensures sure { IsSome (fixed self.old path.now) → IsOk result }
         ensures unseen { IsSome (fixed self.old path.now) → files.new ≡ files.old }
         ensures unchanged { IsSome (fixed self.old path.now) → self.new ≡ self.old }
         ensures unmoved { Told (in_view (F.worlds files.old)) (λ w. IsUnmoved self.old path.now (entry_at w path.now) → IsOkUnless result Error.ReadFault) }
         ensures opened { Told (in_view (F.worlds files.old)) (λ w. OnOk result (F.opens files.new ≡ opens_after (will_open self.old path.now (entry_at w path.now)) (F.opens files.old))) }
         ensures spared { Told (in_view (F.worlds files.old)) (λ w. will_open self.old path.now (entry_at w path.now) ≡ false → F.opens files.new ≡ F.opens files.old) }
-        ensures most { (F.opens files.new ≡ F.opens files.old) ⊎ (F.opens files.new ≡ counted (F.opens files.old)) }
-        ensures worlds { F.worlds files.new ≡ F.worlds files.old }
-        ensures pid { F.pid files.new ≡ F.pid files.old }
-        ensures faults { F.faults files.old ≤ F.faults files.new }
-        ensures fault { IsErrOf result Error.ReadFault → HasRisen (F.faults files.old) (F.faults files.new) }
-        ensures steady { IsErrOf result Error.ReadFault ⊎ (F.faults files.new ≡ F.faults files.old) }
-        ensures refusal { IfErr result MayFail }
+        ensures most { ReadsOne F.Files files.old files.new }
+        ensures files { Looked F.Files files.old files.new (Faulted result) }
+        ensures refusal { IfErr result (MayFail T.test) }
     {
         match self.fixed(path) {
             Some(stamp) => Ok(stamp),
@@ -221,27 +213,23 @@ impl<T: Version + Drop> FileCache<T> {
         ensures ok { Told (in_view (F.worlds files.old)) (λ w. OnOk result (self.new ≡ (by_entry T.test self.old path.now (entry_at w path.now)).1)) }
         ensures err { OnErr result (self.new ≡ self.old) }
         ensures current { IfOk result (λ stamp. current_of self.new path.now ≡ Some stamp) }
-        ensures tidy { OnOk result (Tidy T.test self.new) }
+        ensures consistent { OnOk result (Consistent T.test self.new) }
         ensures some { IfOk result (λ stamp. IsSomeEntry T.test self.old self.new path.now (bytes_at self.new stamp)) }
         ensures unmoved { Told (in_view (F.worlds files.old)) (λ w. IsUnmoved self.old path.now (entry_at w path.now) → IsOkUnless result Error.ReadFault) }
         ensures opened { Told (in_view (F.worlds files.old)) (λ w. OnOk result (F.opens files.new ≡ opens_after (is_new self.old (entry_at w path.now)) (F.opens files.old))) }
         ensures spared { Told (in_view (F.worlds files.old)) (λ w. is_new self.old (entry_at w path.now) ≡ false → F.opens files.new ≡ F.opens files.old) }
-        ensures most { (F.opens files.new ≡ F.opens files.old) ⊎ (F.opens files.new ≡ counted (F.opens files.old)) }
-        ensures worlds { F.worlds files.new ≡ F.worlds files.old }
-        ensures pid { F.pid files.new ≡ F.pid files.old }
-        ensures faults { F.faults files.old ≤ F.faults files.new }
-        ensures fault { IsErrOf result Error.ReadFault → HasRisen (F.faults files.old) (F.faults files.new) }
-        ensures steady { IsErrOf result Error.ReadFault ⊎ (F.faults files.new ≡ F.faults files.old) }
-        ensures refusal { IfErr result MayFail }
+        ensures most { ReadsOne F.Files files.old files.new }
+        ensures files { Looked F.Files files.old files.new (Faulted result) }
+        ensures refusal { IfErr result (MayFail T.test) }
     {
         // The stamp comes first: were it taken after the bytes, a file that changed in between would
         // keep its older bytes under its newer stamp.
-        let stamp = sight::present(files, path)?;
+        let stamp = lookup::present(files, path)?;
         if self.is_kept(&stamp) {
             self.point(alloc, path, stamp)?;
             return Ok(stamp);
         }
-        let bytes = sight::contents(files, alloc, path)?;
+        let bytes = lookup::contents(files, alloc, path)?;
         let version = T::parse(alloc, bytes)?;
         self.take_in(alloc, path, stamp, version)?;
         Ok(stamp)
@@ -291,7 +279,8 @@ impl<T: Version + Drop> CacheBuilder<T> {
 
     /// A cache that keeps nothing.
     pub fn build(self, alloc: Global) -> FileCache<T>
-        ensures { result ≡ new_cache self }
+        ensures new { result ≡ new_cache self }
+        ensures consistent { Consistent T.test result }
     {
         let CacheBuilder {
             reload,

@@ -3,15 +3,15 @@
 ghost use Rattle.std.specs.Prelude.{◌≡◌, ℕ, Bool, List, Option, Result, Ok, Contains};
 ghost use Rattle.bz_base.specs.declared.error.Error.{Error};
 ghost use Rattle.bz_files.specs.World.{World, entry_at};
-ghost use Rattle.bz_cache.specs.Cache.{Cache, Tidy, new_cache, with_pin};
+ghost use Rattle.bz_cache.specs.Cache.{Cache, Consistent, new_cache, with_pin};
 ghost use Rattle.bz_cache.specs.Coherence.{Agree, Coherent, CoherentWithAll};
 ghost use Rattle.bz_cache.specs.Eviction.{evicted};
 ghost use Rattle.bz_cache.specs.Look.{look};
-ghost use Rattle.bz_cache.specs.View.{Shown, view, answer_of};
+ghost use Rattle.bz_cache.specs.View.{Shown, view, bytes_of_view};
 
 /// Where the kept versions cohere with the world in view, a look answers by the version in view.
 pub fn look_answers_by_view()
-    ensures answer { (test : List ℕ → Option Error) (c : Cache) (w : World) (p : List ℕ) → Tidy test c → Coherent c.kept w → (look test c p (entry_at w p)).0 ≡ answer_of test (view c w p) }
+    ensures answer { (test : List ℕ → Option Error) (c : Cache) (w : World) (p : List ℕ) → Consistent test c → Coherent c.kept w → (look test c p (entry_at w p)).0 ≡ bytes_of_view test (view c w p) }
     ensures shown { (test : List ℕ → Option Error) (c : Cache) (w : World) (p v : List ℕ) → Coherent c.kept w → (look test c p (entry_at w p)).0 ≡ Ok v → view c w p ≡ Shown v }
 {}
 

@@ -1,7 +1,8 @@
 //! What no clause says: that the calls succeed, and how they look together.
-ghost use Rattle.std.specs.Prelude.{◌==◌, Some, None, cond, slice_get};
+ghost use Rattle.std.specs.Prelude.{◌≡◌, ◌==◌, Some, None, cond, true, false, slice_get};
 ghost use Rattle.std.specs.Option.{option_map_or};
 ghost use Rattle.bz_base.specs.declared.error.Error.TheVariants.{InvalidInput};
+ghost use Rattle.bz_cache.specs.Format.{refused_by};
 
 use crate::{FileCache, InsertMap, Version};
 use bz_base::{Error, Result};
@@ -13,12 +14,13 @@ use std::test::Fail;
 #[derive(Drop)]
 struct Note {
     bytes: Vec<u8>,
+    ghost formed: { option_map_or (λ first. first == 86) (slice_get bytes.items 0) false ≡ true },
 }
 
 impl Version for Note {
     ghost bytes_of = { λ note. note.bytes.items };
 
-    ghost test = { λ bytes. option_map_or (λ first. cond (first == 86) None (Some InvalidInput)) (slice_get bytes 0) (Some InvalidInput) };
+    ghost test = { λ bytes. cond (option_map_or (λ first. first == 86) (slice_get bytes 0) false) None (Some InvalidInput) };
 
     fn parse(_alloc: Global, bytes: Vec<u8>) -> Result<Note> {
         match bytes.first() {
@@ -26,6 +28,12 @@ impl Version for Note {
             _ => Err(Error::InvalidInput),
         }
     }
+
+    fn formed(&self) {
+        let _bytes = &self.bytes;
+    }
+
+    ghost refusals = { λ bytes e. refused_by (option_map_or (λ first. first == 86) (slice_get bytes 0) false) InvalidInput e tt };
 }
 
 /// The text that the cache answers at the path, or why there is none.
@@ -167,6 +175,35 @@ fn a_refused_look_changes_nothing(rt: HostRuntime) -> std::result::Result<(), Fa
     assert_eq!(rt;
         text(&mut cache, alloc, &mut files, "/s")?,
         b"V1".as_slice()
+    );
+    Ok(())
+}
+
+#[test]
+fn a_look_asks_for_the_stamp_and_the_bytes_alone(rt: HostRuntime) -> std::result::Result<(), Fail> {
+    let alloc = rt.alloc();
+    let mut files = MemFiles::new(alloc, 0);
+    let mut cache = FileCache::<Note>::builder().build(alloc);
+    files.put(alloc, "/s", b"V1".to_vec(alloc)?)?;
+    files.fail_call(alloc, 3)?;
+    assert_eq!(rt;
+        text(&mut cache, alloc, &mut files, "/s")?,
+        b"V1".as_slice()
+    );
+    // The third call is the next look's.
+    assert_eq!(rt;
+        text(&mut cache, alloc, &mut files, "/s").err(),
+        Some(Error::ReadFault)
+    );
+    // A version that is kept needs no more than its stamp.
+    files.fail_call(alloc, 5)?;
+    assert_eq!(rt;
+        text(&mut cache, alloc, &mut files, "/s")?,
+        b"V1".as_slice()
+    );
+    assert_eq!(rt;
+        text(&mut cache, alloc, &mut files, "/s").err(),
+        Some(Error::ReadFault)
     );
     Ok(())
 }

@@ -1,8 +1,9 @@
 //! What a cached file is.
 
-ghost use Rattle.std.specs.Prelude.{◌≡◌, ℕ, List, Option, None, IfOk, IfErr};
+ghost use Rattle.std.specs.Prelude.{◌≡◌, ℕ, List, Option, Some, None, IfOk, IfErr};
+ghost use Rattle.bz_base.specs.Refusals.{IsFormatRefusal};
 ghost use Rattle.bz_base.specs.declared.error.Error.{Error};
-ghost use Rattle.bz_cache.specs.Format.{IsRefusalBy, MayRefuse};
+ghost use Rattle.bz_cache.specs.Format.{IsRefusalBy};
 
 use bz_base::Result;
 use std::alloc::Global;
@@ -19,6 +20,12 @@ pub trait Version: Sized {
     fn parse(alloc: Global, bytes: Vec<u8>) -> Result<Self>
         ensures ok { IfOk result (λ version. bytes_of version ≡ bytes.items) }
         ensures formed { IfOk result (λ version. test bytes.items ≡ None) }
-        ensures err { IfErr result (IsRefusalBy (test bytes.items)) }
-        ensures refusal { IfErr result MayRefuse };
+        ensures err { IfErr result (IsRefusalBy (test bytes.items)) };
+
+    /// Shows that the bytes are in the format, and does nothing.
+    fn formed(&self)
+        ensures { test (bytes_of self.now) ≡ None };
+
+    /// A format refuses bytes by these refusals alone.
+    ghost refusals: { (bytes : List ℕ) (e : Error) → test bytes ≡ Some e → IsFormatRefusal e };
 }

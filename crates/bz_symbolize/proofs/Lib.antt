@@ -1,3 +1,5 @@
-pub mod PromiseLemmas
+pub mod FileLemmas
+pub mod Formats
+pub mod LookedLemmas
 pub mod NewLemmas
-pub mod ViewLemmas
+pub mod PromiseLemmas

@@ -3,29 +3,31 @@ use Rattle.std.proofs.Common.{◌≡◌, ℕ, Bool, List, Option, Some, None, re
 use Rattle.std.specs.FinMap as map
 use Rattle.std.specs.Ordering.{nat_cmp}
 use Rattle.std.specs.Cmp.Lexicographic.{slice_cmp}
+use Rattle.bz_base.specs.declared.input.Input.TheVariants.{FileOffset}
 use Rattle.bz_base.specs.declared.types.FindSymOpts.{FindSymOpts}
 use Rattle.bz_files.specs.declared.stamp.Stamp.{Stamp}
 use Rattle.bz_files.specs.World.{Entry, Denied, Present}
 use Rattle.bz_cache.specs.Cache.{new_cache, stamp_cmp, PathState}
-use Rattle.bz_cache.specs.Look.{look, by_entry, by_test}
+use Rattle.bz_cache.specs.Look as looking
 use Rattle.bz_breakpad.specs.Reader.{table_in}
 use Rattle.bz_breakpad.specs.Table.{Table}
 use Rattle.bz_breakpad.specs.Version.{format_test, refusal_of}
-use Rattle.bz_symbolize.specs.Lookup.{by_table, by_look}
-use Rattle.bz_symbolize.specs.Lookup as lookup
+use Rattle.bz_symbolize.specs.FileCall.{by_look, file_answer}
+use Rattle.bz_symbolize.specs.Lookup.{by_table, by_entry, breakpad_asked}
+use denote.Ref.{Bor}
 
-module _ (opts : FindSymOpts) (reload : Bool) (path addrs : List ℕ) where
+module _ (opts : FindSymOpts) (reload : Bool) (path : List ℕ) (addrs : Bor (List ℕ)) where
   -- bytes that are looked at for the first time answer by their table
   by_read : (s : Stamp) (bytes : List ℕ) (read : Option Table) → table_in bytes ≡ read →
-      by_look opts addrs (by_test (new_cache reload) path s bytes (refusal_of read)).0 ≡ by_table opts addrs read
+      by_look (breakpad_asked opts path (FileOffset addrs)) (looking.by_test (new_cache reload) path s bytes (refusal_of read)).0 ≡ by_table opts addrs.now read
   by_read s bytes None is = refl
-  by_read s bytes (Some table) is = rw is refl
+  by_read s bytes (Some table) is = rw (is, is) refl
 
-  by_there : (there : Option Entry) → by_look opts addrs (by_entry format_test (new_cache reload) path there).0 ≡ lookup.by_entry opts addrs there
+  by_there : (there : Option Entry) → by_look (breakpad_asked opts path (FileOffset addrs)) (looking.by_entry format_test (new_cache reload) path there).0 ≡ by_entry opts addrs.now there
   by_there None = refl
   by_there (Some Denied) = refl
   by_there (Some (Present s bytes)) = rw (map.get-empty {X = List ℕ} stamp_cmp s) (by_read s bytes (table_in bytes) refl)
 
   -- a cache that keeps nothing gives what lies at the path
-  pub new_answer : (there : Option Entry) → by_look opts addrs (look format_test (new_cache reload) path there).0 ≡ lookup.by_entry opts addrs there
+  pub new_answer : (there : Option Entry) → file_answer (breakpad_asked opts path (FileOffset addrs)) (new_cache reload) path there ≡ by_entry opts addrs.now there
   new_answer there = rw (map.get-empty {X = PathState} (slice_cmp nat_cmp) path) (by_there there)

@@ -1,96 +1,31 @@
--- From a call's answer by a look to what it promises in the words of the subject.
-use Rattle.std.proofs.Common.{◌≡◌, ℕ, List, Option, Some, None, unwrap_or, Result, Ok, Err, IfOk, refl, sym, ap}
-use Rattle.std.specs.FinMap as map
+-- From what a call on one file does to what it promises in the words of the subject, whatever the source.
+use Rattle.std.proofs.Common.{◌≡◌, ◌⊎◌, ℕ, Bool, true, false, cond, List, Option, Some, None, is_some, IsSome, Result, Ok, Err, IfOk, IsOkUnless, inl, inr, refl, sym, ap, subst, ◌∙◌}
+use Rattle.std.proofs.lemmas.Bool.{false≢true}
 use Rattle.bz_base.specs.Answer.{Answer}
-use Rattle.bz_base.specs.InputKind.{payload}
 use Rattle.bz_base.specs.declared.error.Error.{Error}
 use Rattle.bz_base.specs.declared.error.Error.TheVariants as errors
 use Rattle.bz_base.specs.declared.input.Input.{Input}
-use Rattle.bz_base.specs.declared.input.Input.TheVariants.{AbsAddr, VirtOffset, FileOffset}
 use Rattle.bz_base.specs.declared.types.FindSymOpts.{FindSymOpts}
-use Rattle.bz_files.specs.declared.stamp.Stamp.{Stamp}
-use Rattle.bz_files.specs.World.{World, Entry, Denied, Present, entry_at}
+use Rattle.bz_files.specs.World.{World, Entry, entry_at}
 use Rattle.bz_cache.specs.Cache.{Cache, kept_at}
 use Rattle.bz_cache.specs.Coherence.{Coherent}
 use Rattle.bz_cache.specs.Format.{Comes}
-use Rattle.bz_cache.specs.Look.{look, by_fixed, by_entry}
-use Rattle.bz_cache.specs.View.{Shown, fixed, bytes_at, by_fixed_view, shown, view}
+use Rattle.bz_cache.specs.Look.{look}
 use Rattle.bz_cache.proofs.CoherenceLaws.{shown_by_view}
-use Rattle.bz_breakpad.proofs.GrammarLemmas.{accepted_found, accepted_again}
-use Rattle.bz_breakpad.specs.Plain.{batch}
-use Rattle.bz_breakpad.specs.Reader.{table_in}
-use Rattle.bz_breakpad.specs.Table.{Table}
-use Rattle.bz_breakpad.specs.Version.{format_test}
-use Rattle.bz_symbolize.specs.Lookup.{by_table, by_look, breakpad_look, breakpad_answer}
-use Rattle.bz_symbolize.specs.Promise.{OnBreakpad, path_of, IsBatchOf, AnswersView, AnswersLook, AnswersKept, IsValid, IsOkOrFails}
+use Rattle.bz_symbolize.proofs.FileLemmas.{look_by_view}
+use Rattle.bz_symbolize.specs.FileCall.{Question, by_formed, by_version, by_look, batch_given, file_answer, Leaves, FileTold, ByVersion, FileSome}
+use Rattle.bz_symbolize.specs.Lookup.{FileSource, Kind, OneFile, asked_of, by_view, view_answer}
+use Rattle.bz_symbolize.specs.Promise.{IsBatchOf, IsVersionOf, AnswersView, AnswersLook, AnswersKept, CallTold, LeavesOld, IsAfterSomeLook, FileLeaves, IsValid, IsOkOrFails}
 use Rattle.bz_symbolize.specs.State.{State}
 use Rattle.bz_symbolize.specs.declared.source.Source.{Source}
-use Rattle.bz_symbolize.specs.declared.source.Source.TheVariants.{Breakpad}
 use denote.Ref.{Bor}
 
--- the batch of a table that was read is the batch of a Breakpad file
-pub batch_of : (opts : FindSymOpts) (bytes addrs : List ℕ) (answers : List Answer) (table : Table) → table_in bytes ≡ Some table →
-    answers ≡ batch table opts addrs → IsBatchOf opts bytes addrs answers
-batch_of opts bytes addrs answers table read plain = record { table = table; accepted = accepted_found bytes table read; plain = plain }
-
--- answers by bytes are the batch of the bytes' table
-answered : (opts : FindSymOpts) (bytes addrs : List ℕ) (answers : List Answer) (read : Option Table) → table_in bytes ≡ read →
-    by_table opts addrs read ≡ Ok answers → IsBatchOf opts bytes addrs answers
-answered opts bytes addrs answers None is comes = cc
-answered opts bytes addrs answers (Some table) is comes = batch_of opts bytes addrs answers table is cc
-
-module _ (opts : FindSymOpts) (state : State) (world : World) (path : List ℕ) where
-  -- answers by a look are those of the version that the look gives
-  by_looked : (addrs : List ℕ) (answers : List Answer) (looked : Result (List ℕ) Error) → (breakpad_look state path world).0 ≡ looked →
-      by_look opts addrs looked ≡ Ok answers → AnswersLook opts state world path addrs answers
-  by_looked addrs answers (Ok bytes) is comes = record { bytes = bytes; looked = is; answered = answered opts bytes addrs answers (table_in bytes) refl comes }
-  by_looked addrs answers (Err e) is comes = cc
-
-  by_input : (input : Input (Bor (List ℕ))) (answers : List Answer) → breakpad_answer opts state path input world ≡ Ok answers →
-      AnswersLook opts state world path (payload input).now answers
-  by_input (FileOffset addrs) answers comes = by_looked addrs.now answers (breakpad_look state path world).0 refl comes
-  by_input (AbsAddr addrs) answers comes = cc
-  by_input (VirtOffset addrs) answers comes = cc
-
-  -- an answered call answers the version that a look gives
-  pub look_from_answer : {A : Type 0} (reading : A → List Answer) (input : Input (Bor (List ℕ))) (result : Result A Error) →
-      Comes reading (breakpad_answer opts state path input world) result →
-      IfOk result (λ given. AnswersLook opts state world path (payload input).now (reading given))
-  look_from_answer reading input (Ok given) comes = by_input input (reading given) comes
-  look_from_answer reading input (Err e) comes = tt
-
-  module _ (coherent : Coherent state.breakpad.kept world) where
-    -- where kept versions cohere with the world, that is the version in view
-    pub view_from_look : {A : Type 0} (reading : A → List Answer) (addrs : List ℕ) (result : Result A Error) →
-        IfOk result (λ given. AnswersLook opts state world path addrs (reading given)) →
-        IfOk result (λ given. AnswersView opts state world path addrs (reading given))
-    view_from_look reading addrs (Ok given) is = record {
-      bytes = is.bytes;
-      in_view = shown_by_view format_test state.breakpad world path coherent is.bytes is.looked;
-      answered = is.answered;
-    }
-    view_from_look reading addrs (Err e) is = tt
-
--- what is kept, or else what lies there, is what lies there where both are the same
-pub same_version : (kept : Option (List ℕ)) (bytes : List ℕ) → ((k : List ℕ) → kept ≡ Some k → bytes ≡ k) → unwrap_or kept bytes ≡ bytes
-same_version None bytes same = refl
-same_version (Some k) bytes same = sym (same k refl)
-
-module _ (test : List ℕ → Option Error) (c : Cache) (w : World) (p bytes : List ℕ) (coherent : Coherent c.kept w) (formed : test bytes ≡ None) where
-  by_there : (there : Option Entry) → entry_at w p ≡ there → shown there ≡ Shown bytes → (by_entry test c p there).0 ≡ Ok bytes
-  by_there None is in_view = cc
-  by_there (Some Denied) is in_view = cc
-  by_there (Some (Present s b)) is in_view =
-      let same : b ≡ bytes = cc in
-      rw (same_version (map.get c.kept s) b (λ k kept. coherent p s b k is kept), same, formed) refl
-
-  -- a version in view that is in the format is what a look gives
-  pub look_from_view : view c w p ≡ Shown bytes → (look test c p (entry_at w p)).0 ≡ Ok bytes
-  look_from_view = by_fix (fixed c p)
-    where
-      by_fix : (o : Option Stamp) → by_fixed_view c (entry_at w p) o ≡ Shown bytes → (by_fixed test c p (entry_at w p) o).0 ≡ Ok bytes
-      by_fix (Some s) in_view = let same : bytes_at c s ≡ bytes = cc in ap Ok same
-      by_fix None in_view = by_there (entry_at w p) refl in_view
+-- what is to be shown of each source that is one file: that its cache can be put back, and what its format means
+pub record IsFormatOf (source : Source) (file : FileSource) : Type 0 where
+  pub same : (s : State) → file.with_cache s (file.cache s) ≡ s
+  pub batch : (opts : FindSymOpts) (bytes : List ℕ) (input : Input (Bor (List ℕ))) → file.test bytes ≡ None →
+      IsBatchOf source opts bytes input (file.answering.batch opts file.path bytes input)
+  pub formed : (bytes : List ℕ) → IsVersionOf source bytes → file.test bytes ≡ None
 
 -- a call whose answer is expected is answered or fails
 ok_or_fails : {A : Type 0} (reading : A → List Answer) (answers : List Answer) (result : Result A Error) → Comes reading (Ok answers) result → IsOkOrFails result
@@ -99,25 +34,136 @@ ok_or_fails reading answers (Err errors.ReadFault) comes = tt
 ok_or_fails reading answers (Err errors.OutOfMemory) comes = tt
 ok_or_fails reading answers (Err _) comes = cc
 
--- where a Breakpad file is in view, a call with file offsets is answered or fails
-pub complete_from_answer : {A : Type 0} (opts : FindSymOpts) (state : State) (world : World) (path : List ℕ) (reading : A → List Answer) (input : Input (Bor (List ℕ))) (result : Result A Error) →
-    Comes reading (breakpad_answer opts state path input world) result → Coherent state.breakpad.kept world → IsValid state world path input → IsOkOrFails result
-complete_from_answer opts state world path reading input result comes coherent valid =
-    let read = accepted_again valid.bytes valid.table valid.accepted in
-    let formed : format_test valid.bytes ≡ None = rw read refl in
-    let looked = look_from_view format_test state.breakpad world path valid.bytes coherent formed valid.in_view in
-    let expected : breakpad_answer opts state path input world ≡ Ok (batch valid.table opts valid.addrs.now) = rw (valid.kind, looked, read) refl in
-    ok_or_fails reading (batch valid.table opts valid.addrs.now) result (rw expected at comes)
+module _ (opts : FindSymOpts) (source : Source) (file : FileSource) (laws : IsFormatOf source file) (input : Input (Bor (List ℕ))) (old : State) where
+  -- a version that answers gives its batch
+  batch_by_kind : (bytes : List ℕ) (answers : List Answer) (b : Bool) → cond b (Ok (file.answering.batch opts file.path bytes input)) (Err errors.Unsupported) ≡ Ok answers →
+      file.answering.batch opts file.path bytes input ≡ answers
+  batch_by_kind bytes answers true is = cc
+  batch_by_kind bytes answers false is = cc
 
--- where a version was kept for the path, and its table's batch answered, the kept version is answered
-pub kept_from_entry : {A : Type 0} (opts : FindSymOpts) (state : State) (path bytes addrs : List ℕ) (reading : A → List Answer) (result : Result A Error) →
-    kept_at state.breakpad path ≡ Some bytes →
-    IfOk result (λ given. (table : Table) × (table_in bytes ≡ Some table) × (reading given ≡ batch table opts addrs)) →
-    IfOk result (λ given. AnswersKept opts state path addrs (reading given))
-kept_from_entry opts state path bytes addrs reading (Ok given) kept batched =
-    record { bytes = bytes; kept = kept; answered = batch_of opts bytes addrs (reading given) batched.0 batched.1 batched.2 }
-kept_from_entry opts state path bytes addrs reading (Err e) kept batched = tt
+  batch_by_given : (bytes : List ℕ) (answers : List Answer) → file.test bytes ≡ None → batch_given file.answering opts file.path input bytes ≡ Ok answers → IsBatchOf source opts bytes input answers
+  batch_by_given bytes answers formed is =
+      subst (λ (a : List Answer). IsBatchOf source opts bytes input a) (batch_by_kind bytes answers (file.answering.serves input) is) (laws.batch opts bytes input formed)
 
--- a fact of the path that a source names
-pub on_breakpad : (source : Source) (P : List ℕ → Type 0) → P (path_of source) → OnBreakpad source P
-on_breakpad (Breakpad source) P holds = holds
+  batch_by_version : (bytes : List ℕ) (answers : List Answer) (t : Option Error) → file.test bytes ≡ t → by_formed (asked_of file opts input) bytes t ≡ Ok answers → IsBatchOf source opts bytes input answers
+  batch_by_version bytes answers None formed is = batch_by_given bytes answers formed is
+  batch_by_version bytes answers (Some e) formed is = cc
+
+  by_looked : (world : World) (answers : List Answer) (looked : Result (List ℕ) Error) → (look file.test (file.cache old) file.path (entry_at world file.path)).0 ≡ looked →
+      by_look (asked_of file opts input) looked ≡ Ok answers → AnswersLook opts source file old world input answers
+  by_looked world answers (Ok bytes) is comes = record { bytes = bytes; looked = is; answered = batch_by_version bytes answers (file.test bytes) refl comes }
+  by_looked world answers (Err e) is comes = cc
+
+  by_taken : (world : World) (answers : List Answer) (taken : Bool) →
+      cond taken (by_look (asked_of file opts input) (look file.test (file.cache old) file.path (entry_at world file.path)).0) (Err errors.Unsupported) ≡ Ok answers →
+      AnswersLook opts source file old world input answers
+  by_taken world answers true comes = by_looked world answers _ refl comes
+  by_taken world answers false comes = cc
+
+  -- where the kind of input is served, a version answers its batch; else it refuses the kind
+  served : (bytes : List ℕ) → file.answering.serves input ≡ true → batch_given file.answering opts file.path input bytes ≡ Ok (file.answering.batch opts file.path bytes input)
+  served bytes serves = rw serves refl
+
+  unserved : (bytes : List ℕ) (e : Error) (b : Bool) → file.answering.serves input ≡ b → cond b (Ok (file.answering.batch opts file.path bytes input)) (Err errors.Unsupported) ≡ Err e → file.answering.serves input ≡ false
+  unserved bytes e true serves is = cc
+  unserved bytes e false serves is = serves
+
+  module _ {A : Type 0} (reading : A → List Answer) where
+    -- an answered call answers the version that a look gives
+    pub look_from_told : (world : World) (result : Result A Error) →
+        Comes reading (file_answer (asked_of file opts input) (file.cache old) file.path (entry_at world file.path)) result →
+        IfOk result (λ given. AnswersLook opts source file old world input (reading given))
+    look_from_told world (Ok given) comes = by_taken world (reading given) (file.answering.takes input) comes
+    look_from_told world (Err e) comes = tt
+
+    -- where kept versions cohere with the world, that is the version in view
+    view_from_look : (world : World) (result : Result A Error) → Coherent (file.cache old).kept world →
+        IfOk result (λ given. AnswersLook opts source file old world input (reading given)) →
+        IfOk result (λ given. AnswersView opts source file old world input (reading given))
+    view_from_look world (Ok given) coherent is = record {
+      bytes = is.bytes;
+      in_view = shown_by_view file.test (file.cache old) world file.path coherent is.bytes is.looked;
+      answered = is.answered;
+    }
+    view_from_look world (Err e) coherent is = tt
+
+    -- where kept versions cohere with the world, refusals have their causes in the view
+    pub causes_from_told : (world : World) (result : Result A Error) → Coherent (file.cache old).kept world →
+        Comes reading (file_answer (asked_of file opts input) (file.cache old) file.path (entry_at world file.path)) result →
+        Comes reading (view_answer (asked_of file opts input) (file.cache old) world file.path) result
+    causes_from_told world result coherent comes = rw (look_by_view (asked_of file opts input) (file.cache old) world file.path coherent) at comes
+
+    -- where a version of the format is in view, a call that it serves is answered or fails
+    complete_from_causes : (world : World) (result : Result A Error) → Comes reading (view_answer (asked_of file opts input) (file.cache old) world file.path) result →
+        IsValid source file old world input → IsOkOrFails result
+    complete_from_causes world result comes valid =
+        let formed = laws.formed valid.bytes valid.formed in
+        let expected : view_answer (asked_of file opts input) (file.cache old) world file.path ≡ Ok (file.answering.batch opts file.path valid.bytes input) = rw (valid.takes, valid.in_view, formed) (served valid.bytes valid.serves) in
+        ok_or_fails reading (file.answering.batch opts file.path valid.bytes input) result (rw expected at comes)
+
+    pub view_from_told : (world : World) (result : Result A Error) → Coherent (file.cache old).kept world →
+        Comes reading (file_answer (asked_of file opts input) (file.cache old) file.path (entry_at world file.path)) result →
+        IfOk result (λ given. AnswersView opts source file old world input (reading given))
+    view_from_told world result coherent comes = view_from_look world result coherent (look_from_told world result comes)
+
+    pub complete_from_told : (world : World) (result : Result A Error) → Coherent (file.cache old).kept world →
+        Comes reading (file_answer (asked_of file opts input) (file.cache old) file.path (entry_at world file.path)) result →
+        IsValid source file old world input → IsOkOrFails result
+    complete_from_told world result coherent comes valid = complete_from_causes world result (causes_from_told world result coherent comes) valid
+
+    module _ (now : State) where
+      -- whatever is told, the kept version is answered
+      pub kept_from_some : (result : Result A Error) → FileSome reading (asked_of file opts input) file.path result (file.cache old) (file.cache now) →
+          IfOk result (λ given. AnswersKept opts source file now input (reading given))
+      kept_from_some (Ok given) (inl by) = record { bytes = by.bytes; kept = by.kept.0; answered = batch_by_given by.bytes (reading given) by.kept.1 by.given }
+      kept_from_some (Ok given) (inr not_ok) = absurd (false≢true not_ok.0)
+      kept_from_some (Err e) some = tt
+
+      -- a call that a version serves wants memory alone
+      pub ready_from_version : (result : Result A Error) → file.answering.serves input ≡ true →
+          ByVersion reading (asked_of file opts input) file.path result (file.cache old) (file.cache now) → IsOkUnless result errors.OutOfMemory
+      ready_from_version (Ok given) serves by = tt
+      ready_from_version (Err errors.OutOfMemory) serves by = refl
+      ready_from_version (Err _) serves by = let is = served by.bytes serves in let given = by.given in cc
+
+      module _ (rest : now ≡ file.with_cache old (file.cache now)) where
+        -- where the cache is as before, the state is
+        unchanged : file.cache now ≡ file.cache old → now ≡ old
+        unchanged is = rest ∙ ap (file.with_cache old) is ∙ laws.same old
+
+        leaves_state : (result : Result A Error) (expected : Cache) → Leaves result (file.cache old) expected (file.cache now) → Leaves result old (file.with_cache old expected) now
+        leaves_state (Ok given) expected is = rest ∙ ap (file.with_cache old) is
+        leaves_state (Err errors.ReadFault) expected is = unchanged is
+        leaves_state (Err errors.OutOfMemory) expected (inl is) = inl (unchanged is)
+        leaves_state (Err errors.OutOfMemory) expected (inr is) = inr (rest ∙ ap (file.with_cache old) is)
+        leaves_state (Err _) expected is = rest ∙ ap (file.with_cache old) is
+
+        pub told_from_file : (world : World) (before after : ℕ) (result : Result A Error) →
+            FileTold reading (asked_of file opts input) file.path result (file.cache old) (file.cache now) (entry_at world file.path) before after →
+            CallTold reading opts (OneFile file) input result old now world before after
+        told_from_file world before after result told =
+            record { answer = told.answer; state = leaves_state result _ told.state; opened = told.opened; spared = told.spared }
+
+        refused_from_some : (result : Result A Error) → (file.answering.takes input ≡ false → now ≡ old) →
+            FileSome reading (asked_of file opts input) file.path result (file.cache old) (file.cache now) →
+            file.answering.takes input ≡ file.answering.serves input → LeavesOld result old now
+        refused_from_some (Ok given) untaken some alike = tt
+        refused_from_some (Err errors.OutOfMemory) untaken some alike = tt
+        refused_from_some (Err _) untaken (inl by) alike = untaken (alike ∙ unserved by.bytes _ (file.answering.serves input) refl by.given)
+        refused_from_some (Err _) untaken (inr same) alike = unchanged same.1
+
+        step_from_some : (result : Result A Error) → FileSome reading (asked_of file opts input) file.path result (file.cache old) (file.cache now) →
+            (now ≡ old) ⊎ IsAfterSomeLook file old now
+        step_from_some result (inl by) = inr (by.looked.0, rest ∙ ap (file.with_cache old) (sym (ap (λ (x : Result (List ℕ) Error × Cache). x.1) by.looked.1)))
+        step_from_some result (inr same) = inl (unchanged same.1)
+
+        memory_from_some : (result : Result A Error) → FileSome reading (asked_of file opts input) file.path result (file.cache old) (file.cache now) →
+            (now ≡ old) ⊎ IsSome (kept_at (file.cache now) file.path)
+        memory_from_some result (inl by) = inr (ap is_some by.kept.0)
+        memory_from_some result (inr same) = inl (unchanged same.1)
+
+        -- what a call leaves, whatever is told
+        pub leaves_from_some : (result : Result A Error) → (file.answering.takes input ≡ false → now ≡ old) →
+            FileSome reading (asked_of file opts input) file.path result (file.cache old) (file.cache now) → FileLeaves file input result old now
+        leaves_from_some result untaken some =
+            record { step = step_from_some result some; refused = refused_from_some result untaken some; out_of_memory = λ _. memory_from_some result some }

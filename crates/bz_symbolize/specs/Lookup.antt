@@ -1,7 +1,9 @@
 -- What a call of a symbolizer answers, and the state that it leaves.
-use Rattle.std.specs.Prelude.{ℕ, Bool, true, false, List, Option, Some, None, Result, Ok, Err, string_bytes}
+use Rattle.std.specs.Prelude.{ℕ, Bool, true, false, cond, List, [], Option, Some, None, Result, Ok, Err, string_bytes}
+use Rattle.std.specs.Option.{option_map_or}
 use denote.Ref.{Bor}
 use Rattle.bz_base.specs.Answer.{Answer}
+use Rattle.bz_base.specs.InputKind.{payload}
 use Rattle.bz_base.specs.declared.error.Error.{Error}
 use Rattle.bz_base.specs.declared.error.Error.TheVariants as errors
 use Rattle.bz_base.specs.declared.input.Input.{Input}
@@ -10,81 +12,111 @@ use Rattle.bz_base.specs.declared.types.FindSymOpts.{FindSymOpts}
 use Rattle.bz_files.specs.World.{World, Entry, entry_at}
 use Rattle.bz_files.specs.World.Entry.{Denied, Present}
 use Rattle.bz_cache.specs.Cache.{Cache}
-use Rattle.bz_cache.specs.Look.{look, will_open}
 use Rattle.bz_cache.specs.View.{View, Absent, Hidden, Shown, view}
 use Rattle.bz_breakpad.specs.Table.{Table}
 use Rattle.bz_breakpad.specs.Reader.{table_in}
 use Rattle.bz_breakpad.specs.Plain.{batch}
 use Rattle.bz_breakpad.specs.Version.{format_test}
+use Rattle.bz_symbolize.specs.FileCall.{Answering, Question, batch_asked, by_version, file_answer, file_cache, file_opens}
+use Rattle.bz_symbolize.specs.Lines.{lines_test, lines_answering}
 use Rattle.bz_symbolize.specs.State.{State}
 use Rattle.bz_symbolize.specs.declared.source.Source.{Source}
-use Rattle.bz_symbolize.specs.declared.source.Source.TheVariants.{Breakpad}
+use Rattle.bz_symbolize.specs.declared.source.Source.TheVariants as sources
 
 -- the batch of the table, or the refusal of bytes that have none
 abbrev pub by_table : FindSymOpts → List ℕ → Option Table → Result (List Answer) Error
 by_table opts addrs None = Err errors.NotBuilt
 by_table opts addrs (Some table) = Ok (batch table opts addrs)
 
--- the batch of the bytes that a look gave, or its refusal
-abbrev pub by_look : FindSymOpts → List ℕ → Result (List ℕ) Error → Result (List Answer) Error
-by_look opts addrs (Ok bytes) = by_table opts addrs (table_in bytes)
-by_look opts addrs (Err e) = Err e
-
--- a look at a Breakpad file
-abbrev pub breakpad_look : State → List ℕ → World → Result (List ℕ) Error × Cache
-breakpad_look state path world = look format_test state.breakpad path (entry_at world path)
-
--- a Breakpad source takes file offsets, and answers by a look at its path
-abbrev pub breakpad_answer : FindSymOpts → State → List ℕ → Input (Bor (List ℕ)) → World → Result (List Answer) Error
-breakpad_answer opts state path (FileOffset addrs) world = by_look opts addrs.now (breakpad_look state path world).0
-breakpad_answer opts state path (AbsAddr addrs) world = Err errors.Unsupported
-breakpad_answer opts state path (VirtOffset addrs) world = Err errors.Unsupported
-
--- and leaves what that look leaves
-abbrev pub breakpad_state : State → List ℕ → Input (Bor (List ℕ)) → World → State
-breakpad_state state path (FileOffset addrs) world = record state { breakpad = (breakpad_look state path world).1 }
-breakpad_state state path (AbsAddr addrs) world = state
-breakpad_state state path (VirtOffset addrs) world = state
-
--- and reads the file where that look does
-abbrev pub breakpad_opens : State → List ℕ → Input (Bor (List ℕ)) → World → Bool
-breakpad_opens state path (FileOffset addrs) world = will_open state.breakpad path (entry_at world path)
-breakpad_opens state path (AbsAddr addrs) world = false
-breakpad_opens state path (VirtOffset addrs) world = false
-
 -- a Breakpad source takes file offsets alone
-abbrev pub breakpad_takes : {T : Type 0} → Input T → Bool
-breakpad_takes (FileOffset x) = true
-breakpad_takes (AbsAddr x) = false
-breakpad_takes (VirtOffset x) = false
+abbrev pub is_file_offset : {T : Type 0} → Input T → Bool
+is_file_offset (FileOffset x) = true
+is_file_offset (AbsAddr x) = false
+is_file_offset (VirtOffset x) = false
 
--- what the version in view answers: the batch of its table, or the refusal of a file that is absent, may not be read or has none
-abbrev pub by_view : FindSymOpts → List ℕ → View → Result (List Answer) Error
-by_view opts addrs Absent = Err errors.NotFound
-by_view opts addrs Hidden = Err errors.PermissionDenied
-by_view opts addrs (Shown bytes) = by_table opts addrs (table_in bytes)
+-- the batch of the bytes' table
+abbrev pub breakpad_batch : FindSymOpts → List ℕ → List ℕ → List Answer
+breakpad_batch opts bytes addrs = option_map_or (λ table. batch table opts addrs) (table_in bytes) []
 
--- what a Breakpad source answers by the version in view
-abbrev pub view_answer : FindSymOpts → State → List ℕ → Input (Bor (List ℕ)) → World → Result (List Answer) Error
-view_answer opts state path (FileOffset addrs) world = by_view opts addrs.now (view state.breakpad world path)
-view_answer opts state path (AbsAddr addrs) world = Err errors.Unsupported
-view_answer opts state path (VirtOffset addrs) world = Err errors.Unsupported
+abbrev pub breakpad_answering : Answering
+breakpad_answering = record { takes = is_file_offset; serves = is_file_offset; batch = λ opts path bytes input. breakpad_batch opts bytes (payload input).now }
 
--- whether the source takes the kind of input
-abbrev pub takes : {T : Type 0} → Source → Input T → Bool
-takes (Breakpad source) input = breakpad_takes input
+-- what a batch asks of a Breakpad file
+abbrev pub breakpad_asked : FindSymOpts → List ℕ → Input (Bor (List ℕ)) → Question (List Answer)
+breakpad_asked opts path input = batch_asked format_test breakpad_answering opts path input
+
+-- a source that is one file in one cache: its format, its path, and which cache of a symbolizer keeps it
+pub record FileSource : Type 0 where
+  pub test : List ℕ → Option Error
+  pub answering : Answering
+  pub path : List ℕ
+  pub cache : State → Cache
+  pub with_cache : State → Cache → State
+
+-- what a batch asks of the source's file
+abbrev pub asked_of : FileSource → FindSymOpts → Input (Bor (List ℕ)) → Question (List Answer)
+asked_of file opts input = batch_asked file.test file.answering opts file.path input
+
+-- a source that is bytes handed in
+pub record HandedSource : Type 0 where
+  pub test : List ℕ → Option Error
+  pub answering : Answering
+  pub bytes : List ℕ
+
+-- what a batch of it answers
+abbrev pub handed_answer : HandedSource → FindSymOpts → Input (Bor (List ℕ)) → Result (List Answer) Error
+handed_answer given opts input = cond (given.answering.takes input) (by_version (batch_asked given.test given.answering opts [] input) given.bytes) (Err errors.Unsupported)
+
+-- the kinds of source
+pub data Kind : Type 0 where
+  OneFile : FileSource → Kind
+  Handed : HandedSource → Kind
+
+abbrev pub kind_of : Source → Kind
+kind_of (sources.Breakpad source) = OneFile (record { test = format_test; answering = breakpad_answering; path = string_bytes source.path; cache = λ s. s.breakpad; with_cache = λ s c. record s { breakpad = c } })
+kind_of (sources.Lines source) = OneFile (record { test = lines_test; answering = lines_answering; path = string_bytes source.path; cache = λ s. s.lines; with_cache = λ s c. record s { lines = c } })
+kind_of (sources.LinesData source) = Handed (record { test = lines_test; answering = lines_answering; bytes = source.bytes.items })
+
+-- a fact of the file of a source that is one
+abbrev pub OnFileKind : Kind → (FileSource → Type 0) → Type 0
+OnFileKind (OneFile file) P = P file
+OnFileKind (Handed given) P = Unit {0}
+
+abbrev pub OnFile : Source → (FileSource → Type 0) → Type 0
+OnFile source P = OnFileKind (kind_of source) P
+
+-- a fact of a source that is bytes handed in
+abbrev pub OnHandedKind : Kind → (HandedSource → Type 0) → Type 0
+OnHandedKind (OneFile file) P = Unit {0}
+OnHandedKind (Handed given) P = P given
+
+abbrev pub OnHanded : Source → (HandedSource → Type 0) → Type 0
+OnHanded source P = OnHandedKind (kind_of source) P
 
 -- what a call answers
-abbrev pub answer_of : FindSymOpts → State → Source → Input (Bor (List ℕ)) → World → Result (List Answer) Error
-answer_of opts state (Breakpad source) input world = breakpad_answer opts state (string_bytes source.path) input world
+abbrev pub kind_answer : FindSymOpts → State → Kind → Input (Bor (List ℕ)) → World → Result (List Answer) Error
+kind_answer opts state (OneFile file) input world = file_answer (asked_of file opts input) (file.cache state) file.path (entry_at world file.path)
+kind_answer opts state (Handed given) input world = handed_answer given opts input
 
--- the state that a call leaves, if it isn't refused
-abbrev pub state_of : State → Source → Input (Bor (List ℕ)) → World → State
-state_of state (Breakpad source) input world = breakpad_state state (string_bytes source.path) input world
+-- the state that a call leaves
+abbrev pub kind_state : FindSymOpts → State → Kind → Input (Bor (List ℕ)) → World → State
+kind_state opts state (OneFile file) input world = file.with_cache state (file_cache (asked_of file opts input) (file.cache state) file.path (entry_at world file.path))
+kind_state opts state (Handed given) input world = state
 
 -- whether a call reads a file
-abbrev pub opens_of : State → Source → Input (Bor (List ℕ)) → World → Bool
-opens_of state (Breakpad source) input world = breakpad_opens state (string_bytes source.path) input world
+abbrev pub kind_opens : FindSymOpts → State → Kind → Input (Bor (List ℕ)) → World → Bool
+kind_opens opts state (OneFile file) input world = file_opens (asked_of file opts input) (file.cache state) file.path (entry_at world file.path)
+kind_opens opts state (Handed given) input world = false
+
+-- what the version in view answers, or the refusal of a file that is absent, may not be read or isn't in the format
+abbrev pub by_view : {B : Type 0} → Question B → View → Result B Error
+by_view asked Absent = Err errors.NotFound
+by_view asked Hidden = Err errors.PermissionDenied
+by_view asked (Shown bytes) = by_version asked bytes
+
+-- what a call on one file answers by the version in view
+abbrev pub view_answer : {B : Type 0} → Question B → Cache → World → List ℕ → Result B Error
+view_answer asked cache world path = cond asked.taken (by_view asked (view cache world path)) (Err errors.Unsupported)
 
 -- what a symbolizer that keeps nothing answers of a Breakpad file, by what lies at its path
 abbrev pub by_entry : FindSymOpts → List ℕ → Option Entry → Result (List Answer) Error

@@ -1,5 +1,5 @@
 -- The state of a symbolizer: how it was set, and the files that it keeps.
-use Rattle.std.specs.Prelude.{ℕ, Bool, true, List, Option, None, refl}
+use Rattle.std.specs.Prelude.{◌≡◌, ℕ, Bool, true, List, Option, None, refl}
 use Rattle.std.specs.Coded.{Coded, code_by, coded×, coded_ℕ, coded_bool, coded_list, coded_option}
 use Rattle.bz_cache.specs.Cache.{Cache, new_cache, coded_cache}
 
@@ -14,14 +14,20 @@ pub record Settings : Type 0 where
 abbrev pub default_settings : Settings
 default_settings = record { reload = true; demangling = true; debug_dirs = None }
 
--- a symbolizer: its settings, and the Breakpad files that it keeps
+-- a symbolizer: its settings, and the files of each format that it keeps
 pub record State : Type 0 where
   pub settings : Settings
   pub breakpad : Cache
+  pub lines : Cache
+
+-- files are looked at anew exactly where the settings say so
+pub record ReloadsAsSet (state : State) : Type 0 where
+  pub breakpad : state.breakpad.reload ≡ state.settings.reload
+  pub lines : state.lines.reload ≡ state.settings.reload
 
 -- a symbolizer that keeps nothing
 abbrev pub new_state : Settings → State
-new_state settings = record { settings = settings; breakpad = new_cache settings.reload }
+new_state settings = record { settings = settings; breakpad = new_cache settings.reload; lines = new_cache settings.reload }
 
 -- settings and states can be kept in the model of a value
 abbrev pub coded_settings : Coded Settings
@@ -33,7 +39,7 @@ coded_settings =
 
 abbrev pub coded_state : Coded State
 coded_state =
-    code_by (Settings × Cache) (coded× coded_settings coded_cache)
-    (λ s. (s.settings, s.breakpad))
-    (λ p. record { settings = p.0; breakpad = p.1 })
+    code_by (Settings × (Cache × Cache)) (coded× coded_settings (coded× coded_cache coded_cache))
+    (λ s. (s.settings, (s.breakpad, s.lines)))
+    (λ p. record { settings = p.0; breakpad = p.1.0; lines = p.1.1 })
     (λ _. refl)

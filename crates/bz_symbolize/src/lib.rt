@@ -1,9 +1,11 @@
 //! A symbolizer: sources of symbols, and the answers that they give for batches of addresses.
 #![tactic(auto)]
 
-mod answers;
+mod answering;
+mod breakpad;
 mod builder;
 pub mod laws;
+mod lines;
 pub mod source;
 mod symbolizer;
 #[cfg(test)]

@@ -29,11 +29,45 @@ impl fmt::Debug for Breakpad {
     }
 }
 
+/// A file of any bytes but none. It knows no symbols.
+#[derive(Drop)]
+pub struct Lines {
+    /// The path of the file.
+    pub path: String,
+}
+
+impl Lines {
+    /// The file at a path.
+    pub fn new(path: String) -> Lines
+        ensures { result.path ≡ path }
+    {
+        Lines { path }
+    }
+}
+
+impl fmt::Debug for Lines {
+    fn fmt<W: fmt::Write>(&self, f: &mut fmt::Formatter<W>) -> fmt::Result {
+        let path = &self.path;
+        write!(f, "Lines({path:?})")
+    }
+}
+
+/// Bytes that know no symbols, handed in.
+#[derive(Drop)]
+pub struct LinesData {
+    /// The bytes.
+    pub bytes: Vec<u8>,
+}
+
 /// Any source of symbols.
 #[derive(Drop)]
 pub enum Source {
     /// A Breakpad file.
     Breakpad(Breakpad),
+    /// A file that knows no symbols.
+    Lines(Lines),
+    /// Bytes that know no symbols.
+    LinesData(LinesData),
 }
 
 impl Source {
@@ -43,6 +77,8 @@ impl Source {
     {
         match self {
             Source::Breakpad(source) => source.path.as_str(),
+            Source::Lines(source) => source.path.as_str(),
+            Source::LinesData(_) => "",
         }
     }
 }
@@ -51,6 +87,8 @@ impl fmt::Debug for Source {
     fn fmt<W: fmt::Write>(&self, f: &mut fmt::Formatter<W>) -> fmt::Result {
         match self {
             Source::Breakpad(source) => write!(f, "{source:?}"),
+            Source::Lines(source) => write!(f, "{source:?}"),
+            Source::LinesData(_) => f.write_str("LinesData"),
         }
     }
 }
@@ -60,5 +98,13 @@ impl From<Breakpad> for Source {
 
     fn from(source: Breakpad) -> Source {
         Source::Breakpad(source)
+    }
+}
+
+impl From<Lines> for Source {
+    ghost from_gives = { λ source given. given ≡ sources.Lines source };
+
+    fn from(source: Lines) -> Source {
+        Source::Lines(source)
     }
 }

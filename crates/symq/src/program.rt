@@ -4,6 +4,7 @@ ghost use Rattle.std.specs.Prelude.{◌≡◌, ◌≢◌, ◌⊎◌, ◌+◌, �
 ghost use Rattle.bz_base.specs.Answer.{reading};
 ghost use Rattle.bz_base.specs.declared.types.FindSymOpts.TheVariants.{Basic};
 ghost use Rattle.bz_files.specs.Count.{HasRisen, counted};
+ghost use Rattle.bz_files.specs.Looked.{Faulted, Looked, ReadsOne};
 ghost use Rattle.bz_files.specs.World.{Told, in_view, entry_at};
 ghost use Rattle.bz_cache.specs.Format.{Comes};
 ghost use Rattle.bz_symbolize.specs.Lookup.{by_entry};
@@ -149,12 +150,9 @@ fn reply_to_input<F: Files>(alloc: Global, path: &str, text: &[u8], files: &mut 
     ensures usage { IfOk result (λ given. given.status ≢ Status.Usage) }
     ensures input { IfOk result (λ given. (given.status ≡ Status.Input → addresses_in text.now ≡ None) × (addresses_in text.now ≡ None → given.status ≡ Status.Input)) }
     ensures unopened { addresses_in text.now ≡ None → files.new ≡ files.old }
-    ensures most { (F.opens files.new ≡ F.opens files.old) ⊎ (F.opens files.new ≡ counted (F.opens files.old)) }
+    ensures most { ReadsOne F.Files files.old files.new }
     ensures opened { Told (in_view (F.worlds files.old)) (λ world. IfOk result (λ given. given.status ≡ Status.Done → F.opens files.new ≡ counted (F.opens files.old))) }
-    ensures worlds { F.worlds files.new ≡ F.worlds files.old }
-    ensures pid { F.pid files.new ≡ F.pid files.old }
-    ensures fault { IsErrOf result Error.ReadFault → HasRisen (F.faults files.old) (F.faults files.new) }
-    ensures steady { IsErrOf result Error.ReadFault ⊎ (F.faults files.new ≡ F.faults files.old) }
+    ensures files { Looked F.Files files.old files.new (Faulted result) }
 {
     match input::addresses(alloc, text) {
         Ok(Some(addrs)) => reply_to_batch(alloc, path, addrs.as_slice(), files),
@@ -170,13 +168,10 @@ fn reply_to_batch<F: Files>(
     files: &mut F,
 ) -> Result<Reply>
     ensures reply { Told (in_view (F.worlds files.old)) (λ world. Replies (by_answer addrs.now (by_entry Basic addrs.now (entry_at world path.now))) result) }
-    ensures most { (F.opens files.new ≡ F.opens files.old) ⊎ (F.opens files.new ≡ counted (F.opens files.old)) }
+    ensures most { ReadsOne F.Files files.old files.new }
     ensures opened { Told (in_view (F.worlds files.old)) (λ world. IfOk result (λ given. given.status ≡ Status.Done → F.opens files.new ≡ counted (F.opens files.old))) }
-    ensures worlds { F.worlds files.new ≡ F.worlds files.old }
-    ensures pid { F.pid files.new ≡ F.pid files.old }
     ensures status { IfOk result (λ given. (given.status ≡ Status.Done) ⊎ (given.status ≡ Status.Refused)) }
-    ensures fault { IsErrOf result Error.ReadFault → HasRisen (F.faults files.old) (F.faults files.new) }
-    ensures steady { IsErrOf result Error.ReadFault ⊎ (F.faults files.new ≡ F.faults files.old) }
+    ensures files { Looked F.Files files.old files.new (Faulted result) }
 {
     match symbolize(alloc, path, addrs, files) {
         Ok(answers) => {
@@ -198,12 +193,9 @@ fn symbolize<F: Files>(
     files: &mut F,
 ) -> Result<Vec<Symbolized<'static>>>
     ensures answer { Told (in_view (F.worlds files.old)) (λ world. Comes (λ answers. map reading answers.items) (by_entry Basic addrs.now (entry_at world path.now)) result) }
-    ensures most { (F.opens files.new ≡ F.opens files.old) ⊎ (F.opens files.new ≡ counted (F.opens files.old)) }
+    ensures most { ReadsOne F.Files files.old files.new }
     ensures opened { Told (in_view (F.worlds files.old)) (λ world. OnOk result (F.opens files.new ≡ counted (F.opens files.old))) }
-    ensures worlds { F.worlds files.new ≡ F.worlds files.old }
-    ensures pid { F.pid files.new ≡ F.pid files.old }
-    ensures fault { IsErrOf result Error.ReadFault → HasRisen (F.faults files.old) (F.faults files.new) }
-    ensures steady { IsErrOf result Error.ReadFault ⊎ (F.faults files.new ≡ F.faults files.old) }
+    ensures files { Looked F.Files files.old files.new (Faulted result) }
 {
     let path = String::from_str(alloc, path)?;
     let src = Source::from(Breakpad::new(path));

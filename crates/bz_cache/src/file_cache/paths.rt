@@ -9,7 +9,7 @@ ghost use Rattle.bz_files.specs.declared.stamp.Stamp.{Stamp};
 ghost use Rattle.bz_cache.specs.Cache.{stamp_eq, is_among, names, with_pinned, PathState};
 ghost use Rattle.bz_cache.specs.Eviction.{is_named};
 ghost use Rattle.bz_cache.specs.Look.{with_earlier, moved};
-ghost use Rattle.bz_cache.specs.Store.{paths_of, state_of};
+ghost use Rattle.bz_cache.specs.Store.{paths_of, path_state};
 
 use bz_base::{Error, Result};
 use bz_files::Stamp;
@@ -76,8 +76,8 @@ fn add(
 }
 
 fn shift(entry: &mut PathEntry, stamp: Stamp) -> Result<()>
-    ensures ok { OnOk result (state_of entry.new ≡ moved stamp (Some (state_of entry.old))) }
-    ensures err { OnErr result (state_of entry.new ≡ state_of entry.old) }
+    ensures ok { OnOk result (path_state entry.new ≡ moved stamp (Some (path_state entry.old))) }
+    ensures err { OnErr result (path_state entry.new ≡ path_state entry.old) }
     ensures memory { IsOkUnless result Error.OutOfMemory }
     ensures sure { stamp_eq entry.old.current stamp ≡ true → IsOk result }
 {
@@ -127,14 +127,14 @@ pub fn is_named(paths: &BTreeMap<String, PathEntry>, stamp: &Stamp) -> bool
 }
 
 fn some_names(paths: &BTreeMap<String, PathEntry>, stamp: &Stamp) -> bool
-    ensures value { result ≡ list_any (λ e. names (state_of e) stamp.now) (values paths.now) }
+    ensures value { result ≡ list_any (λ e. names (path_state e) stamp.now) (values paths.now) }
     ensures ordered { IsOrdered string_cmp paths.now }
 {
     paths.values().any(|entry| names(entry, stamp))
 }
 
 fn names(entry: &PathEntry, stamp: &Stamp) -> bool
-    ensures { result ≡ names (state_of entry.now) stamp.now }
+    ensures { result ≡ names (path_state entry.now) stamp.now }
 {
     entry.current == *stamp || entry.earlier.contains(stamp)
 }

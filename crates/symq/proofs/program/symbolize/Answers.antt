@@ -10,11 +10,11 @@ use Rattle.symq.proofs.program.symbolize.Goals as goal
 -- a symbolizer that keeps nothing answers by what lies at the path
 pub returns-clause-answer : goal.returns-clause-answer
 returns-clause-answer g c world told =
-    let looked = rw (c.new-2.ensures, c.from-src.ensures, c.new.ensures, c.in_ok-path.ensures.ok) at (c.symbolize.ensures.answer world told) in
-    rw (new_answer Basic true c.args.path.now c.args.addrs.now (entry_at world c.args.path.now)) at looked
+    let looked = rw (c.new-2.ensures, c.from-src.ensures, c.new.ensures, c.in_ok-path.ensures.ok) at ((c.symbolize.ensures.told world told).answer) in
+    rw (new_answer Basic true c.args.path.now c.args.addrs (entry_at world c.args.path.now)) at looked
 
 -- and reads the file whose answers it gives
 pub returns-clause-opened : goal.returns-clause-opened
 returns-clause-opened g c world told =
-    let opened = rw (c.new-2.ensures, c.from-src.ensures, c.new.ensures, c.in_ok-path.ensures.ok) at (c.symbolize.ensures.opened world told) in
+    let opened = rw (c.new-2.ensures, c.from-src.ensures, c.new.ensures, c.in_ok-path.ensures.ok) at ((c.symbolize.ensures.told world told).opened) in
     opened_new (λ (answers : Vec Symbolized Global). map reading answers.items) c.args.path.now c.args.addrs.now (entry_at world c.args.path.now) _ _ c.symbolize.result (returns-clause-answer g c world told) opened

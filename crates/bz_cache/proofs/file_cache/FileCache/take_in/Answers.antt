@@ -3,7 +3,7 @@ use Rattle.std.specs.FinMap as map
 use Rattle.bz_cache.specs.Cache.{Cache}
 use Rattle.bz_cache.specs.Store.{kept_of, paths_of}
 use Rattle.bz_cache.proofs.FiniteMaps.{remove_inserted}
-use Rattle.bz_cache.proofs.Naming.{tidy_taken}
+use Rattle.bz_cache.proofs.Naming.{consistent_taken}
 use Rattle.bz_cache.proofs.Stamps.{stamp_total, stamps_apart}
 use Rattle.bz_cache.proofs.file_cache.FileCache.take_in.Goals as goal
 
@@ -24,9 +24,9 @@ returns-in-Err-clause-err g c =
 pub invariant_of-self-in_default : goal.invariant_of-self-in_default
 invariant_of-self-in_default g c =
     let old : Cache = record { reload = c.self.inside.reload; kept = kept_of g.T.Version.bytes_of c.self.inside.entries; paths = paths_of c.self.inside.paths } in
-    tidy_taken g.T.Version.test old c.args.path.now c.args.stamp c.self.invariant (paths_of c.place.new.paths) c.in_default.ensures.ok (g.T.Version.bytes_of c.args.version) c.requires.formed (kept_of g.T.Version.bytes_of c.keep.new.entries) c.in_ok-keep.ensures.ok
+    consistent_taken g.T.Version.test old c.args.path.now c.args.stamp c.self.invariant (paths_of c.place.new.paths) c.in_default.ensures.ok (g.T.Version.bytes_of c.args.version) c.requires.formed (kept_of g.T.Version.bytes_of c.keep.new.entries) c.in_ok-keep.ensures.ok
 
-pub returns-clause-tidy : goal.returns-clause-tidy
-returns-clause-tidy g c =
+pub returns-clause-consistent : goal.returns-clause-consistent
+returns-clause-consistent g c =
     let old : Cache = record { reload = c.self.inside.reload; kept = kept_of g.T.Version.bytes_of c.self.inside.entries; paths = paths_of c.self.inside.paths } in
-    tidy_taken g.T.Version.test old c.args.path.now c.args.stamp c.self.invariant (paths_of c.place.new.paths) c.in_default.ensures.ok (g.T.Version.bytes_of c.args.version) c.requires.formed (kept_of g.T.Version.bytes_of c.keep.new.entries) c.in_ok-keep.ensures.ok
+    consistent_taken g.T.Version.test old c.args.path.now c.args.stamp c.self.invariant (paths_of c.place.new.paths) c.in_default.ensures.ok (g.T.Version.bytes_of c.args.version) c.requires.formed (kept_of g.T.Version.bytes_of c.keep.new.entries) c.in_ok-keep.ensures.ok

@@ -3,7 +3,7 @@ use Rattle.std.specs.Option.{option_copied_mut}
 use Rattle.std.proofs.lemmas.Bool.{false≢true}
 use Rattle.std.proofs.lemmas.Result.{on_ok_weaker, on_err_weaker}
 use Rattle.bz_cache.specs.Cache.{PathState, stamp_eq}
-use Rattle.bz_cache.specs.Store.{state_of}
+use Rattle.bz_cache.specs.Store.{path_state}
 use Rattle.bz_cache.proofs.Stored.{path_found, path_absent, paths_changed, paths_stay}
 use Rattle.bz_cache.proofs.file_cache.paths.place.Goals as goal
 
@@ -24,7 +24,7 @@ returns-in-Some-clause-err c =
 pub returns-in-Some-clause-sure : goal.returns-in-Some-clause-sure
 returns-in-Some-clause-sure c = λ e held same.
     let found = sym c.get_mut.ensures.value ∙ ap option_copied_mut c.in-Some.is in
-    let is : e ≡ state_of c.in-Some.entry.now = cc (path_found c.args.paths.now c.args.path.now _ found, held) in
+    let is : e ≡ path_state c.in-Some.entry.now = cc (path_found c.args.paths.now c.args.path.now _ found, held) in
     c.shift.ensures.sure (subst (λ (s : PathState). stamp_eq s.current c.args.stamp ≡ true) is same)
 
 pub returns-in-None-clause-ok : goal.returns-in-None-clause-ok

@@ -2,7 +2,8 @@
 
 ghost use Rattle.std.specs.Prelude.{◌≡◌, ◌⊎◌, ◌≤◌, OnOk, OnErr, IfErr, IsErrOf};
 ghost use Rattle.bz_files.specs.World.{Told, in_view, entry_at};
-ghost use Rattle.bz_files.specs.Count.{HasRisen, counted};
+ghost use Rattle.bz_files.specs.Count.{counted};
+ghost use Rattle.bz_files.specs.Looked.{Faulted, Looked};
 ghost use Rattle.bz_cache.specs.Format.{Finds, MayMiss};
 
 use bz_base::{Error, Result};
@@ -12,12 +13,8 @@ use std::alloc::Global;
 /// The stamp of the file at the path.
 pub fn present<F: Files>(files: &mut F, path: &str) -> Result<Stamp>
     ensures answer { Told (in_view (F.worlds files.old)) (λ w. Finds (λ given stamp bytes. given ≡ stamp) (entry_at w path.now) result) }
-    ensures worlds { F.worlds files.new ≡ F.worlds files.old }
     ensures opens { F.opens files.new ≡ F.opens files.old }
-    ensures pid { F.pid files.new ≡ F.pid files.old }
-    ensures faults { F.faults files.old ≤ F.faults files.new }
-    ensures fault { IsErrOf result Error.ReadFault → HasRisen (F.faults files.old) (F.faults files.new) }
-    ensures steady { IsErrOf result Error.ReadFault ⊎ (F.faults files.new ≡ F.faults files.old) }
+    ensures files { Looked F.Files files.old files.new (Faulted result) }
     ensures memory { IsErrOf result Error.OutOfMemory → ⊥ }
     ensures refusal { IfErr result MayMiss }
 {
@@ -33,13 +30,9 @@ pub fn present<F: Files>(files: &mut F, path: &str) -> Result<Stamp>
 /// The bytes of the file at the path.
 pub fn contents<F: Files>(files: &mut F, alloc: Global, path: &str) -> Result<Vec<u8>>
     ensures answer { Told (in_view (F.worlds files.old)) (λ w. Finds (λ given stamp bytes. given.items ≡ bytes) (entry_at w path.now) result) }
-    ensures worlds { F.worlds files.new ≡ F.worlds files.old }
     ensures opened { OnOk result (F.opens files.new ≡ counted (F.opens files.old)) }
     ensures unopened { OnErr result (F.opens files.new ≡ F.opens files.old) }
-    ensures pid { F.pid files.new ≡ F.pid files.old }
-    ensures faults { F.faults files.old ≤ F.faults files.new }
-    ensures fault { IsErrOf result Error.ReadFault → HasRisen (F.faults files.old) (F.faults files.new) }
-    ensures steady { IsErrOf result Error.ReadFault ⊎ (F.faults files.new ≡ F.faults files.old) }
+    ensures files { Looked F.Files files.old files.new (Faulted result) }
     ensures refusal { IfErr result MayMiss }
 {
     match files.read(alloc, path) {
