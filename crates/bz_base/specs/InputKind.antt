@@ -1,6 +1,17 @@
--- What an input holds, apart from what it is relative to.
+-- What an input is relative to, and what it holds.
 use Rattle.bz_base.specs.declared.input.Input.{Input}
 use Rattle.bz_base.specs.declared.input.Input.TheVariants.{AbsAddr, VirtOffset, FileOffset}
+
+-- what addresses are relative to: a running process, a symbol table, or the file that a source names
+pub data AddressKind : Type 0 where
+  InProcess : AddressKind
+  InTable : AddressKind
+  InFile : AddressKind
+
+abbrev pub address_kind : {T : Type 0} → Input T → AddressKind
+address_kind (AbsAddr x) = InProcess
+address_kind (VirtOffset x) = InTable
+address_kind (FileOffset x) = InFile
 
 -- the payload
 abbrev pub payload : {T : Type 0} → Input T → T

@@ -7,10 +7,10 @@ use Rattle.bz_files.specs.declared.stamp.Stamp.{Stamp}
 use Rattle.bz_files.specs.World.{World, Entry, Denied, Present, entry_at}
 use Rattle.bz_cache.specs.Cache.{Cache}
 use Rattle.bz_cache.specs.Coherence.{Coherent}
-use Rattle.bz_cache.specs.Format.{Comes, FailsAs, MayRefuse}
+use Rattle.bz_cache.specs.Format.{Comes, FailsAs, MayFail}
 use Rattle.bz_cache.specs.Look.{look, will_open, by_test, by_entry, by_fixed}
 use Rattle.bz_cache.specs.View.{fixed, by_fixed_view, shown, view}
-use Rattle.bz_symbolize.specs.FileCall.{Question, by_formed, by_version, by_look, Gives, Leaves, FileTold}
+use Rattle.bz_symbolize.specs.FileCall.{Question, by_version, by_look, Gives, Leaves, FileTold, IsBatchRefusal, MayBeRefused}
 use Rattle.bz_symbolize.specs.Lookup.{by_view}
 
 module _ {A B : Type 0} (reading : A → B) (asked : Question B) (bytes : List ℕ) (formed : asked.test bytes ≡ None) where
@@ -23,11 +23,21 @@ module _ {A B : Type 0} (reading : A → B) (asked : Question B) (bytes : List �
   comes_by_version looked (Err _) is gives = rw (is, formed) gives
 
 -- a version that answers or refuses leaves what is expected
-pub leaves_by_version : {A S : Type 0} (result : Result A Error) (old expected now : S) → now ≡ expected → IfErr result MayRefuse → Leaves result old expected now
+pub leaves_by_version : {A S : Type 0} (result : Result A Error) (old expected now : S) → now ≡ expected → IfErr result IsBatchRefusal → Leaves result old expected now
 leaves_by_version (Ok given) old expected now is may = is
 leaves_by_version (Err errors.ReadFault) old expected now is may = absurd may
 leaves_by_version (Err errors.OutOfMemory) old expected now is may = inr is
 leaves_by_version (Err _) old expected now is may = is
+
+-- the refusals of a batch, and those of a look, are ones that a call may have
+pub batch_may_refuse : (test : List ℕ → Option Error) (e : Error) → IsBatchRefusal e → MayBeRefused test e
+batch_may_refuse test errors.Unsupported may = tt
+batch_may_refuse test errors.OutOfMemory may = tt
+batch_may_refuse test _ may = absurd may
+
+pub look_may_refuse : (test : List ℕ → Option Error) (e : Error) → MayFail test e → MayBeRefused test e
+look_may_refuse test errors.Unsupported may = tt
+look_may_refuse test _ may = may
 
 -- the answer of a call that a look refuses
 comes_refused : {A B : Type 0} (reading : A → B) (asked : Question B) (looked : Result (List ℕ) Error) (e : Error) →

@@ -1,5 +1,5 @@
 pub mod FileLemmas
 pub mod Formats
-pub mod LookedLemmas
+pub mod HistoryLemmas
 pub mod NewLemmas
 pub mod PromiseLemmas

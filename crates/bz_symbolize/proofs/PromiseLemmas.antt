@@ -2,6 +2,7 @@
 use Rattle.std.proofs.Common.{◌≡◌, ◌⊎◌, ℕ, Bool, true, false, cond, List, Option, Some, None, is_some, IsSome, Result, Ok, Err, IfOk, IsOkUnless, inl, inr, refl, sym, ap, subst, ◌∙◌}
 use Rattle.std.proofs.lemmas.Bool.{false≢true}
 use Rattle.bz_base.specs.Answer.{Answer}
+use Rattle.bz_base.specs.InputKind.{address_kind}
 use Rattle.bz_base.specs.declared.error.Error.{Error}
 use Rattle.bz_base.specs.declared.error.Error.TheVariants as errors
 use Rattle.bz_base.specs.declared.input.Input.{Input}
@@ -13,8 +14,9 @@ use Rattle.bz_cache.specs.Format.{Comes}
 use Rattle.bz_cache.specs.Look.{look}
 use Rattle.bz_cache.proofs.CoherenceLaws.{shown_by_view}
 use Rattle.bz_symbolize.proofs.FileLemmas.{look_by_view}
-use Rattle.bz_symbolize.specs.FileCall.{Question, by_formed, by_version, by_look, batch_given, file_answer, Leaves, FileTold, ByVersion, FileSome}
-use Rattle.bz_symbolize.specs.Lookup.{FileSource, Kind, OneFile, asked_of, by_view, view_answer}
+use Rattle.bz_symbolize.specs.FileCall.{Question, by_test, by_version, by_look, batch_given, file_answer, Leaves, FileTold, ByVersion, FileSome}
+use Rattle.bz_symbolize.specs.Lookup.{by_view, view_answer}
+use Rattle.bz_symbolize.specs.Sources.{FileSource, OneFile, asked_of}
 use Rattle.bz_symbolize.specs.Promise.{IsBatchOf, IsVersionOf, AnswersView, AnswersLook, AnswersKept, CallTold, LeavesOld, IsAfterSomeLook, FileLeaves, IsValid, IsOkOrFails}
 use Rattle.bz_symbolize.specs.State.{State}
 use Rattle.bz_symbolize.specs.declared.source.Source.{Source}
@@ -34,6 +36,13 @@ ok_or_fails reading answers (Err errors.ReadFault) comes = tt
 ok_or_fails reading answers (Err errors.OutOfMemory) comes = tt
 ok_or_fails reading answers (Err _) comes = cc
 
+-- what is left is the state as it was, or the one that is expected
+pub step_from_told : {A : Type 0} (result : Result A Error) (old now expected : State) → Leaves result old expected now → (now ≡ old) ⊎ (now ≡ expected)
+step_from_told (Ok given) old now expected is = inr is
+step_from_told (Err errors.ReadFault) old now expected is = inl is
+step_from_told (Err errors.OutOfMemory) old now expected is = is
+step_from_told (Err _) old now expected is = inr is
+
 module _ (opts : FindSymOpts) (source : Source) (file : FileSource) (laws : IsFormatOf source file) (input : Input (Bor (List ℕ))) (old : State) where
   -- a version that answers gives its batch
   batch_by_kind : (bytes : List ℕ) (answers : List Answer) (b : Bool) → cond b (Ok (file.answering.batch opts file.path bytes input)) (Err errors.Unsupported) ≡ Ok answers →
@@ -43,9 +52,9 @@ module _ (opts : FindSymOpts) (source : Source) (file : FileSource) (laws : IsFo
 
   batch_by_given : (bytes : List ℕ) (answers : List Answer) → file.test bytes ≡ None → batch_given file.answering opts file.path input bytes ≡ Ok answers → IsBatchOf source opts bytes input answers
   batch_by_given bytes answers formed is =
-      subst (λ (a : List Answer). IsBatchOf source opts bytes input a) (batch_by_kind bytes answers (file.answering.serves input) is) (laws.batch opts bytes input formed)
+      subst (λ (a : List Answer). IsBatchOf source opts bytes input a) (batch_by_kind bytes answers (file.answering.serves (address_kind input)) is) (laws.batch opts bytes input formed)
 
-  batch_by_version : (bytes : List ℕ) (answers : List Answer) (t : Option Error) → file.test bytes ≡ t → by_formed (asked_of file opts input) bytes t ≡ Ok answers → IsBatchOf source opts bytes input answers
+  batch_by_version : (bytes : List ℕ) (answers : List Answer) (t : Option Error) → file.test bytes ≡ t → by_test (asked_of file opts input) bytes t ≡ Ok answers → IsBatchOf source opts bytes input answers
   batch_by_version bytes answers None formed is = batch_by_given bytes answers formed is
   batch_by_version bytes answers (Some e) formed is = cc
 
@@ -61,10 +70,10 @@ module _ (opts : FindSymOpts) (source : Source) (file : FileSource) (laws : IsFo
   by_taken world answers false comes = cc
 
   -- where the kind of input is served, a version answers its batch; else it refuses the kind
-  served : (bytes : List ℕ) → file.answering.serves input ≡ true → batch_given file.answering opts file.path input bytes ≡ Ok (file.answering.batch opts file.path bytes input)
+  served : (bytes : List ℕ) → file.answering.serves (address_kind input) ≡ true → batch_given file.answering opts file.path input bytes ≡ Ok (file.answering.batch opts file.path bytes input)
   served bytes serves = rw serves refl
 
-  unserved : (bytes : List ℕ) (e : Error) (b : Bool) → file.answering.serves input ≡ b → cond b (Ok (file.answering.batch opts file.path bytes input)) (Err errors.Unsupported) ≡ Err e → file.answering.serves input ≡ false
+  unserved : (bytes : List ℕ) (e : Error) (b : Bool) → file.answering.serves (address_kind input) ≡ b → cond b (Ok (file.answering.batch opts file.path bytes input)) (Err errors.Unsupported) ≡ Err e → file.answering.serves (address_kind input) ≡ false
   unserved bytes e true serves is = cc
   unserved bytes e false serves is = serves
 
@@ -73,7 +82,7 @@ module _ (opts : FindSymOpts) (source : Source) (file : FileSource) (laws : IsFo
     pub look_from_told : (world : World) (result : Result A Error) →
         Comes reading (file_answer (asked_of file opts input) (file.cache old) file.path (entry_at world file.path)) result →
         IfOk result (λ given. AnswersLook opts source file old world input (reading given))
-    look_from_told world (Ok given) comes = by_taken world (reading given) (file.answering.takes input) comes
+    look_from_told world (Ok given) comes = by_taken world (reading given) (file.answering.takes (address_kind input)) comes
     look_from_told world (Err e) comes = tt
 
     -- where kept versions cohere with the world, that is the version in view
@@ -120,7 +129,7 @@ module _ (opts : FindSymOpts) (source : Source) (file : FileSource) (laws : IsFo
       kept_from_some (Err e) some = tt
 
       -- a call that a version serves wants memory alone
-      pub ready_from_version : (result : Result A Error) → file.answering.serves input ≡ true →
+      pub ready_from_version : (result : Result A Error) → file.answering.serves (address_kind input) ≡ true →
           ByVersion reading (asked_of file opts input) file.path result (file.cache old) (file.cache now) → IsOkUnless result errors.OutOfMemory
       ready_from_version (Ok given) serves by = tt
       ready_from_version (Err errors.OutOfMemory) serves by = refl
@@ -144,12 +153,12 @@ module _ (opts : FindSymOpts) (source : Source) (file : FileSource) (laws : IsFo
         told_from_file world before after result told =
             record { answer = told.answer; state = leaves_state result _ told.state; opened = told.opened; spared = told.spared }
 
-        refused_from_some : (result : Result A Error) → (file.answering.takes input ≡ false → now ≡ old) →
+        refused_from_some : (result : Result A Error) → (file.answering.takes (address_kind input) ≡ false → now ≡ old) →
             FileSome reading (asked_of file opts input) file.path result (file.cache old) (file.cache now) →
-            file.answering.takes input ≡ file.answering.serves input → LeavesOld result old now
+            file.answering.takes (address_kind input) ≡ file.answering.serves (address_kind input) → LeavesOld result old now
         refused_from_some (Ok given) untaken some alike = tt
         refused_from_some (Err errors.OutOfMemory) untaken some alike = tt
-        refused_from_some (Err _) untaken (inl by) alike = untaken (alike ∙ unserved by.bytes _ (file.answering.serves input) refl by.given)
+        refused_from_some (Err _) untaken (inl by) alike = untaken (alike ∙ unserved by.bytes _ (file.answering.serves (address_kind input)) refl by.given)
         refused_from_some (Err _) untaken (inr same) alike = unchanged same.1
 
         step_from_some : (result : Result A Error) → FileSome reading (asked_of file opts input) file.path result (file.cache old) (file.cache now) →
@@ -163,7 +172,7 @@ module _ (opts : FindSymOpts) (source : Source) (file : FileSource) (laws : IsFo
         memory_from_some result (inr same) = inl (unchanged same.1)
 
         -- what a call leaves, whatever is told
-        pub leaves_from_some : (result : Result A Error) → (file.answering.takes input ≡ false → now ≡ old) →
+        pub leaves_from_some : (result : Result A Error) → (file.answering.takes (address_kind input) ≡ false → now ≡ old) →
             FileSome reading (asked_of file opts input) file.path result (file.cache old) (file.cache now) → FileLeaves file input result old now
         leaves_from_some result untaken some =
             record { step = step_from_some result some; refused = refused_from_some result untaken some; out_of_memory = λ _. memory_from_some result some }

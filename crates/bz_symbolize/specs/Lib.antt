@@ -1,5 +1,6 @@
 pub mod FileCall
-pub mod Lines
+pub mod History
 pub mod Lookup
 pub mod Promise
+pub mod Sources
 pub mod State

@@ -1,7 +1,11 @@
 -- The state of a symbolizer: how it was set, and the files that it keeps.
 use Rattle.std.specs.Prelude.{◌≡◌, ℕ, Bool, true, List, Option, None, refl}
 use Rattle.std.specs.Coded.{Coded, code_by, coded×, coded_ℕ, coded_bool, coded_list, coded_option}
-use Rattle.bz_cache.specs.Cache.{Cache, new_cache, coded_cache}
+use Rattle.bz_base.specs.declared.error.Error.{Error}
+use Rattle.bz_base.specs.declared.types.FindSymOpts.{FindSymOpts}
+use Rattle.bz_base.specs.declared.types.FindSymOpts.TheVariants.{Basic}
+use Rattle.bz_cache.specs.Cache.{Cache, Consistent, new_cache, coded_cache}
+use Rattle.bz_breakpad.specs.Version.{format_test}
 
 -- how a symbolizer is set: whether files are looked at anew, whether names are demangled, and where debug files are looked
 -- for. The last two are kept and have no effect.
@@ -14,20 +18,28 @@ pub record Settings : Type 0 where
 abbrev pub default_settings : Settings
 default_settings = record { reload = true; demangling = true; debug_dirs = None }
 
--- a symbolizer: its settings, and the files of each format that it keeps
+-- the options of a look-up. Until source lines are read, answers have none, whatever the settings.
+abbrev pub opts_of : Settings → FindSymOpts
+opts_of settings = Basic
+
+-- a symbolizer: its settings, and the Breakpad files that it keeps
 pub record State : Type 0 where
   pub settings : Settings
   pub breakpad : Cache
-  pub lines : Cache
-
--- files are looked at anew exactly where the settings say so
-pub record ReloadsAsSet (state : State) : Type 0 where
-  pub breakpad : state.breakpad.reload ≡ state.settings.reload
-  pub lines : state.lines.reload ≡ state.settings.reload
 
 -- a symbolizer that keeps nothing
 abbrev pub new_state : Settings → State
-new_state settings = record { settings = settings; breakpad = new_cache settings.reload; lines = new_cache settings.reload }
+new_state settings = record { settings = settings; breakpad = new_cache settings.reload }
+
+-- a cache of a symbolizer is well kept: a stamp is kept exactly while some path names it, every version is in the format,
+-- and paths are looked at anew exactly where the settings say so
+pub record IsWellKept (test : List ℕ → Option Error) (settings : Settings) (cache : Cache) : Type 0 where
+  pub consistent : Consistent test cache
+  pub reload : cache.reload ≡ settings.reload
+
+-- every cache is well kept
+pub record WellKept (state : State) : Type 0 where
+  pub breakpad : IsWellKept format_test state.settings state.breakpad
 
 -- settings and states can be kept in the model of a value
 abbrev pub coded_settings : Coded Settings
@@ -39,7 +51,7 @@ coded_settings =
 
 abbrev pub coded_state : Coded State
 coded_state =
-    code_by (Settings × (Cache × Cache)) (coded× coded_settings (coded× coded_cache coded_cache))
-    (λ s. (s.settings, (s.breakpad, s.lines)))
-    (λ p. record { settings = p.0; breakpad = p.1.0; lines = p.1.1 })
+    code_by (Settings × Cache) (coded× coded_settings coded_cache)
+    (λ s. (s.settings, s.breakpad))
+    (λ p. record { settings = p.0; breakpad = p.1 })
     (λ _. refl)

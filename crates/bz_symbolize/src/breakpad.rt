@@ -5,7 +5,7 @@ ghost use Rattle.bz_base.specs.Answer.{reading};
 ghost use Rattle.bz_breakpad.specs.Plain.{batch};
 ghost use Rattle.bz_breakpad.specs.Reader.{table_in};
 ghost use Rattle.bz_breakpad.specs.Table.{Table};
-ghost use Rattle.bz_symbolize.specs.Lookup.{breakpad_answering};
+ghost use Rattle.bz_symbolize.specs.Sources.{breakpad_answering};
 
 use crate::answering::Answers;
 use bz_base::{Error, FindSymOpts, Input, Result, Steps, Sym, Symbolized};
@@ -31,6 +31,7 @@ impl Answers for SymbolFile {
         input: Input<&[u64]>,
         steps: &mut Steps<L>,
     ) -> Result<Vec<Symbolized<'static>>> {
+        // A Breakpad answer names no path.
         let _path = path;
         match input {
             Input::FileOffset(addrs) => answers_of(alloc, self, opts, addrs, steps),

@@ -3,6 +3,7 @@
 ghost use Rattle.std.specs.Prelude.{◌≡◌, map, option_map, string_bytes};
 ghost use Rattle.bz_symbolize.specs.State.{default_settings, new_state};
 
+use crate::settings::Settings;
 use crate::symbolizer::Symbolizer;
 use std::alloc::Global;
 use std::default::Default;
@@ -11,20 +12,17 @@ use std::marker::Model;
 /// The settings of a symbolizer to be. All features start on.
 #[derive(Drop)]
 pub struct Builder {
-    reload: bool,
-    demangling: bool,
-    debug_dirs: Option<Vec<String>>,
+    settings: Settings,
 }
 
 impl Model for Builder {
-    ghost use Rattle.std.specs.Prelude.{map, option_map, string_bytes};
     ghost use Rattle.bz_symbolize.specs.State.{Settings, coded_settings};
 
     ghost Value = { Settings };
 
     ghost coded = { coded_settings };
 
-    ghost view = { λ b. record { reload = b.reload; demangling = b.demangling; debug_dirs = option_map (λ dirs. map string_bytes dirs.items) b.debug_dirs } };
+    ghost view = { λ b. b.settings };
 }
 
 impl Builder {
@@ -33,51 +31,44 @@ impl Builder {
         ensures { result ≡ default_settings }
     {
         Builder {
-            reload: true,
-            demangling: true,
-            debug_dirs: None,
+            settings: Settings {
+                reload: true,
+                demangling: true,
+                debug_dirs: None,
+            },
         }
     }
 
     /// Whether files are looked at anew at each call. Else a file answers by the version that was
     /// taken in first.
-    pub fn enable_auto_reload(self, enable: bool) -> Builder
+    pub fn enable_auto_reload(mut self, enable: bool) -> Builder
         ensures { result ≡ record self { reload = enable } }
     {
-        Builder {
-            reload: enable,
-            demangling: self.demangling,
-            debug_dirs: self.debug_dirs,
-        }
+        self.settings.reload = enable;
+        self
     }
 
     /// Whether names are demangled. It has no effect: names stay as they are.
-    pub fn enable_demangling(self, enable: bool) -> Builder
+    pub fn enable_demangling(mut self, enable: bool) -> Builder
         ensures { result ≡ record self { demangling = enable } }
     {
-        Builder {
-            reload: self.reload,
-            demangling: enable,
-            debug_dirs: self.debug_dirs,
-        }
+        self.settings.demangling = enable;
+        self
     }
 
     /// Where debug files are looked for. It has no effect: none are.
-    pub fn set_debug_dirs(self, dirs: Option<Vec<String>>) -> Builder
+    pub fn set_debug_dirs(mut self, dirs: Option<Vec<String>>) -> Builder
         ensures { result ≡ record self { debug_dirs = option_map (λ all. map string_bytes all.items) dirs } }
     {
-        Builder {
-            reload: self.reload,
-            demangling: self.demangling,
-            debug_dirs: dirs,
-        }
+        self.settings.debug_dirs = dirs;
+        self
     }
 
     /// A symbolizer that keeps nothing yet.
     pub fn build(self, alloc: Global) -> Symbolizer
         ensures { result ≡ new_state self }
     {
-        Symbolizer::with_settings(alloc, self.reload, self.demangling, self.debug_dirs)
+        Symbolizer::with_settings(alloc, self.settings)
     }
 }
 

@@ -5,7 +5,7 @@ mod answering;
 mod breakpad;
 mod builder;
 pub mod laws;
-mod lines;
+mod settings;
 pub mod source;
 mod symbolizer;
 #[cfg(test)]

@@ -1,20 +1,19 @@
 //! The symbolizer.
 
-ghost use Rattle.std.specs.Prelude.{◌≡◌, map, option_map, string_bytes, ◌<◌, IfErr, IsErrOf, IsSome, true, false};
+ghost use Rattle.std.specs.Prelude.{◌≡◌, ◌<◌, map, true, false, IfErr, IsErrOf, IsOkUnless, IsSome};
 ghost use Rattle.bz_base.specs.Answer.{reading};
-ghost use Rattle.bz_base.specs.declared.types.FindSymOpts.TheVariants.{Basic};
+ghost use Rattle.bz_base.specs.InputKind.{address_kind};
 ghost use Rattle.bz_files.specs.Looked.{Faulted, Looked, ReadsOne};
 ghost use Rattle.bz_files.specs.World.{Told, in_view, entry_at};
-ghost use Rattle.bz_cache.specs.Format.{MayFail};
 ghost use Rattle.bz_cache.specs.View.{fixed};
-ghost use Rattle.bz_symbolize.specs.FileCall.{ByVersion, FileSome, FileTold, Gives};
-ghost use Rattle.bz_symbolize.specs.Lookup.{OnFile, OnHanded, asked_of, handed_answer};
+ghost use Rattle.bz_symbolize.specs.FileCall.{FileSome, FileTold, MayBeRefused};
 ghost use Rattle.bz_symbolize.specs.Promise.{Symbolizes};
-ghost use Rattle.bz_symbolize.specs.State.{ReloadsAsSet, default_settings, new_state};
+ghost use Rattle.bz_symbolize.specs.Sources.{OnFile, asked_of};
+ghost use Rattle.bz_symbolize.specs.State.{WellKept, default_settings, new_state};
 
 use crate::answering::answer_file;
 use crate::builder::Builder;
-use crate::lines::{LinesFile, answer_lines};
+use crate::settings::Settings;
 use crate::source::Source;
 use bz_base::{Error, FindSymOpts, Input, Result, Steps, Symbolized};
 use bz_breakpad::SymbolFile;
@@ -27,25 +26,20 @@ use std::sync::ledger::{Blank, Ledger};
 /// Answers batches of addresses, and keeps the files that it has read.
 #[derive(Drop)]
 pub struct Symbolizer {
-    reload: bool,
-    demangling: bool,
-    debug_dirs: Option<Vec<String>>,
+    settings: Settings,
     breakpad: FileCache<SymbolFile>,
-    lines: FileCache<LinesFile>,
 }
 
 impl Model for Symbolizer {
-    ghost use Rattle.std.specs.Prelude.{◌≡◌, map, option_map, string_bytes};
-    ghost use Rattle.bz_symbolize.specs.State.{State, coded_state};
+    ghost use Rattle.bz_symbolize.specs.State.{State, WellKept, coded_state};
 
     ghost Value = { State };
 
     ghost coded = { coded_state };
 
-    ghost view = { λ s. record { settings = record { reload = s.reload; demangling = s.demangling; debug_dirs = option_map (λ dirs. map string_bytes dirs.items) s.debug_dirs }; breakpad = s.breakpad; lines = s.lines } };
+    ghost view = { λ s. record { settings = s.settings; breakpad = s.breakpad } };
 
-    // The caches look at their paths anew where the settings say so.
-    ghost invariant = { λ s. (s.breakpad.reload ≡ s.reload) × (s.lines.reload ≡ s.reload) };
+    ghost invariant = { λ s. WellKept (record { settings = s.settings; breakpad = s.breakpad }) };
 }
 
 impl Symbolizer {
@@ -64,24 +58,17 @@ impl Symbolizer {
     }
 
     // A symbolizer that keeps nothing yet, with these settings.
-    pub(crate) fn with_settings(
-        alloc: Global,
-        reload: bool,
-        demangling: bool,
-        debug_dirs: Option<Vec<String>>,
-    ) -> Symbolizer
-        ensures { result ≡ new_state (record { reload = reload; demangling = demangling; debug_dirs = option_map (λ dirs. map string_bytes dirs.items) debug_dirs }) }
+    pub(crate) fn with_settings(alloc: Global, settings: Settings) -> Symbolizer
+        ensures { result ≡ new_state settings }
     {
-        Symbolizer {
-            reload,
-            demangling,
-            debug_dirs,
-            breakpad: FileCache::builder().enable_auto_reload(reload).build(alloc),
-            lines: FileCache::builder().enable_auto_reload(reload).build(alloc),
-        }
+        let breakpad = FileCache::builder().enable_auto_reload(settings.reload).build(alloc);
+        Symbolizer { settings, breakpad }
     }
 
-    /// The answers of the source to the addresses, in their order. An empty batch looks at its file too.
+    /// The answers of the source to the addresses, in their order. An empty batch looks at its file
+    /// too. A call is refused by `Unsupported` where the source doesn't take the kind of address, by
+    /// `NotFound`, `PermissionDenied` and `ReadFault` where its file is absent, may not be read or
+    /// can't be, by the refusal of its format where its bytes aren't in it, and by `OutOfMemory`.
     pub fn symbolize<F: Files>(
         &mut self,
         alloc: Global,
@@ -89,9 +76,9 @@ impl Symbolizer {
         src: &Source,
         input: Input<&[u64]>,
     ) -> Result<Vec<Symbolized<'static>>>
-        ensures { Symbolizes F.Files (λ answers. map reading answers.items) Basic src.now input.entry result self.old self.new files.old files.new }
+        ensures { Symbolizes F.Files (λ answers. map reading answers.items) src.now input.entry result self.old self.new files.old files.new }
     {
-        self.symbolize_with::<F, Brand>(alloc, files, src, input, Blank::new(1))
+        self.symbolize_blank::<F, Brand>(alloc, files, src, input, Blank::new(1))
     }
 
     /// The same answers, with a count of the steps of their searches.
@@ -103,13 +90,14 @@ impl Symbolizer {
         input: Input<&[u64]>,
         steps: &mut Steps<L>,
     ) -> Result<Vec<Symbolized<'static>>>
-        ensures { Symbolizes F.Files (λ answers. map reading answers.items) Basic src.now input.entry result self.old self.new files.old files.new }
+        ensures { Symbolizes F.Files (λ answers. map reading answers.items) src.now input.entry result self.old self.new files.old files.new }
     {
-        self.answer_source(alloc, files, src, input, steps)
+        let opts = self.settings.opts();
+        self.answer_source(alloc, files, src, &opts, input, steps)
     }
 
     // The same, with a count that nobody reads.
-    fn symbolize_with<F: Files, L: Ledger>(
+    fn symbolize_blank<F: Files, L: Ledger>(
         &mut self,
         alloc: Global,
         files: &mut F,
@@ -120,59 +108,44 @@ impl Symbolizer {
         requires name { blank.name ≡ L.name }
         requires parts { blank.parts ≡ L.parts }
         requires some { 0 < L.parts }
-        ensures { Symbolizes F.Files (λ answers. map reading answers.items) Basic src.now input.entry result self.old self.new files.old files.new }
+        ensures { Symbolizes F.Files (λ answers. map reading answers.items) src.now input.entry result self.old self.new files.old files.new }
     {
         let mut steps = Steps::<L>::new(blank);
         self.symbolize_counted(alloc, files, src, input, &mut steps)
     }
 
-    // The answers by the source's kind and format.
+    // The answers by the source's form and format.
     fn answer_source<F: Files, L: Ledger>(
         &mut self,
         alloc: Global,
         files: &mut F,
         src: &Source,
+        opts: &FindSymOpts,
         input: Input<&[u64]>,
         steps: &mut Steps<L>,
     ) -> Result<Vec<Symbolized<'static>>>
-        ensures told { OnFile src.now (λ file. Told (in_view (F.worlds files.old)) (λ world. FileTold (λ answers. map reading answers.items) (asked_of file Basic input.entry) file.path result (file.cache self.old) (file.cache self.new) (entry_at world file.path) (F.opens files.old) (F.opens files.new))) }
-        ensures some { OnFile src.now (λ file. FileSome (λ answers. map reading answers.items) (asked_of file Basic input.entry) file.path result (file.cache self.old) (file.cache self.new)) }
+        ensures told { OnFile src.now (λ file. Told (in_view (F.worlds files.old)) (λ world. FileTold (λ answers. map reading answers.items) (asked_of file opts.now input.entry) file.path result (file.cache self.old) (file.cache self.new) (entry_at world file.path) (F.opens files.old) (F.opens files.new))) }
+        ensures some { OnFile src.now (λ file. FileSome (λ answers. map reading answers.items) (asked_of file opts.now input.entry) file.path result (file.cache self.old) (file.cache self.new)) }
         ensures rest { OnFile src.now (λ file. self.new ≡ file.with_cache self.old (file.cache self.new)) }
-        ensures untaken { OnFile src.now (λ file. file.answering.takes input.entry ≡ false → IsErrOf result Error.Unsupported × (self.new ≡ self.old) × (files.new ≡ files.old)) }
-        ensures fixed { OnFile src.now (λ file. IsSome (fixed (file.cache self.old) file.path) → (self.new ≡ self.old) × (files.new ≡ files.old)) }
-        ensures ready { OnFile src.now (λ file. IsSome (fixed (file.cache self.old) file.path) → file.answering.takes input.entry ≡ true → ByVersion (λ answers. map reading answers.items) (asked_of file Basic input.entry) file.path result (file.cache self.old) (file.cache self.new)) }
-        ensures handed { OnHanded src.now (λ given. Gives (λ answers. map reading answers.items) (handed_answer given Basic input.entry) result × (self.new ≡ self.old) × (files.new ≡ files.old)) }
-        ensures refusal { IfErr result MayFail }
+        ensures untaken { OnFile src.now (λ file. file.answering.takes (address_kind input.entry) ≡ false → IsErrOf result Error.Unsupported × (self.new ≡ self.old) × (files.new ≡ files.old)) }
+        ensures stays { OnFile src.now (λ file. IsSome (fixed (file.cache self.old) file.path) → (self.new ≡ self.old) × (files.new ≡ files.old)) }
+        ensures ready { OnFile src.now (λ file. IsSome (fixed (file.cache self.old) file.path) → file.answering.takes (address_kind input.entry) ≡ true → file.answering.serves (address_kind input.entry) ≡ true → IsOkUnless result Error.OutOfMemory) }
+        ensures refusal { OnFile src.now (λ file. IfErr result (MayBeRefused file.test)) }
         ensures settings { self.new.settings ≡ self.old.settings }
-        ensures reload { ReloadsAsSet self.new }
+        ensures caches { WellKept self.new }
         ensures files { Looked F.Files files.old files.new (Faulted result) }
-        ensures most { ReadsOne F.Files files.old files.new }
+        ensures most { OnFile src.now (λ file. ReadsOne F.Files files.old files.new) }
     {
-        let opts = FindSymOpts::Basic;
         match src {
-            Source::Breakpad(source) => {
-                answer_file(
-                    &mut self.breakpad,
-                    alloc,
-                    files,
-                    source.path.as_str(),
-                    &opts,
-                    input,
-                    steps,
-                )
-            }
-            Source::Lines(source) => {
-                answer_file(
-                    &mut self.lines,
-                    alloc,
-                    files,
-                    source.path.as_str(),
-                    &opts,
-                    input,
-                    steps,
-                )
-            }
-            Source::LinesData(source) => answer_lines(alloc, source.bytes.as_slice(), input),
+            Source::Breakpad(source) => answer_file(
+                &mut self.breakpad,
+                alloc,
+                files,
+                source.path.as_str(),
+                opts,
+                input,
+                steps,
+            ),
         }
     }
 }

@@ -1,0 +1,68 @@
+-- Over worlds that agree, calls leave every cache coherent with all of them.
+use Rattle.std.proofs.Common.{◌≡◌, ◌⊎◌, ◌<◌, ℕ, Bool, true, false, cond, List, [], ◌∷◌, length, map, string_bytes, inl, inr, refl, sym, subst, zero, suc, suc-le-suc, zero-lt-suc}
+use Rattle.std.specs.Prelude.{Contains}
+use denote.Ref.{Bor}
+use Rattle.bz_base.specs.Answer.{Answer}
+use Rattle.bz_base.specs.declared.input.Input.{Input}
+use Rattle.bz_files.specs.World.{World, entry_at}
+use Rattle.bz_cache.specs.Cache.{Cache}
+use Rattle.bz_cache.specs.Coherence.{Agree, CoherentWithAll}
+use Rattle.bz_cache.specs.Look.{look}
+use Rattle.bz_cache.proofs.CoherenceLaws.{look_coherent, new_coherent}
+use Rattle.bz_breakpad.specs.Version.{format_test}
+use Rattle.bz_symbolize.specs.FileCall.{Question, batch_asked, file_cache}
+use Rattle.bz_symbolize.specs.History.{Call, Symbolize, Coheres, MayLeave, MayReach, state_after}
+use Rattle.bz_symbolize.specs.Sources.{breakpad_answering}
+use Rattle.bz_symbolize.specs.State.{Settings, State, new_state, opts_of}
+use Rattle.bz_symbolize.specs.declared.source.Source.{Source}
+use Rattle.bz_symbolize.specs.declared.source.Source.TheVariants as sources
+
+-- the worlds of the calls
+abbrev worlds_of : List (World × Call) → List World
+worlds_of calls = map (λ call. call.0) calls
+
+-- what is among the later ones is among all
+among_later : (world w : World) (worlds : List World) → Contains worlds w → Contains (world ∷ worlds) w
+among_later world w worlds (k, lt, at) = (suc k, suc-le-suc lt, at)
+
+-- the first one is among them
+among_first : (world : World) (worlds : List World) → Contains (world ∷ worlds) world
+among_first world worlds = (zero, zero-lt-suc _, refl)
+
+module _ (worlds : List World) (agree : Agree worlds) where
+  -- a call on one file leaves its cache coherent
+  after_file : (asked : Question (List Answer)) (c : Cache) (p : List ℕ) (w : World) → Contains worlds w → CoherentWithAll c.kept worlds →
+      CoherentWithAll (file_cache asked c p (entry_at w p)).kept worlds
+  after_file asked c p w has coherent = by_taken asked.taken
+    where
+      by_taken : (taken : Bool) → CoherentWithAll (cond taken (look asked.test c p (entry_at w p)).1 c).kept worlds
+      by_taken true v has_v = look_coherent asked.test c w v p (agree w v has has_v) (coherent v has_v)
+      by_taken false v has_v = coherent v has_v
+
+  after_source : (source : Source) (input : Input (Bor (List ℕ))) (s : State) (w : World) → Contains worlds w → CoherentWithAll s.breakpad.kept worlds →
+      CoherentWithAll (state_after s w (Symbolize source input)).breakpad.kept worlds
+  after_source (sources.Breakpad source) input s w has coherent =
+      after_file (batch_asked format_test breakpad_answering (opts_of s.settings) (string_bytes source.path) input) s.breakpad (string_bytes source.path) w has coherent
+
+  after_call : (call : Call) (s : State) (w : World) → Contains worlds w → CoherentWithAll s.breakpad.kept worlds → CoherentWithAll (state_after s w call).breakpad.kept worlds
+  after_call (Symbolize source input) s w has coherent = after_source source input s w has coherent
+
+  after_step : (call : Call) (s now : State) (w : World) → Contains worlds w → CoherentWithAll s.breakpad.kept worlds → MayLeave s w call now → CoherentWithAll now.breakpad.kept worlds
+  after_step call s now w has coherent (inl same) = subst (λ (t : State). CoherentWithAll t.breakpad.kept worlds) (sym same) coherent
+  after_step call s now w has coherent (inr after) = subst (λ (t : State). CoherentWithAll t.breakpad.kept worlds) (sym after) (after_call call s w has coherent)
+
+  -- a list of calls
+  reached : (calls : List (World × Call)) (s end : State) → ((w : World) → Contains (worlds_of calls) w → Contains worlds w) → CoherentWithAll s.breakpad.kept worlds →
+      MayReach s calls end → CoherentWithAll end.breakpad.kept worlds
+  reached [] s end among coherent same = subst (λ (t : State). CoherentWithAll t.breakpad.kept worlds) (sym same) coherent
+  reached (step ∷ later) s end among coherent (next, leaves, rest) =
+      reached later next end (λ w has. among w (among_later step.0 w (worlds_of later) has))
+      (after_step step.1 s next step.0 (among step.0 (among_first step.0 (worlds_of later))) coherent leaves) rest
+
+-- from a new symbolizer on
+pub history_coheres : (settings : Settings) (calls : List (World × Call)) (state : State) (world : World) →
+    Agree (world ∷ worlds_of calls) → MayReach (new_state settings) calls state → Coheres state world
+history_coheres settings calls state world agree reach = record {
+  breakpad = reached (world ∷ worlds_of calls) agree calls (new_state settings) state (λ w has. among_later world w (worlds_of calls) has)
+      (λ w has. new_coherent settings.reload w) reach world (among_first world (worlds_of calls));
+}

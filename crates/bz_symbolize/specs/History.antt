@@ -1,0 +1,31 @@
+-- What a list of calls may leave of a symbolizer, each call in its world.
+use Rattle.std.specs.Prelude.{◌≡◌, ◌⊎◌, ℕ, List, [], ◌∷◌}
+use denote.Ref.{Bor}
+use Rattle.bz_base.specs.declared.input.Input.{Input}
+use Rattle.bz_files.specs.World.{World}
+use Rattle.bz_cache.specs.Coherence.{Coherent}
+use Rattle.bz_symbolize.specs.Lookup.{state_of}
+use Rattle.bz_symbolize.specs.Sources.{form_of}
+use Rattle.bz_symbolize.specs.State.{State, opts_of}
+use Rattle.bz_symbolize.specs.declared.source.Source.{Source}
+
+-- a call of a symbolizer
+pub data Call : Type 0 where
+  Symbolize : Source → Input (Bor (List ℕ)) → Call
+
+-- the state that a call leaves in its world, if it comes to it
+abbrev pub state_after : State → World → Call → State
+state_after state world (Symbolize source input) = state_of (opts_of state.settings) state (form_of source) input world
+
+-- what a call may leave in its world: the state as it was, or the one after it
+abbrev pub MayLeave : State → World → Call → State → Type 0
+MayLeave old world call now = (now ≡ old) ⊎ (now ≡ state_after old world call)
+
+-- the states that a list of calls may leave, each call in its own world
+abbrev pub MayReach : State → List (World × Call) → State → Type 0
+MayReach start [] end = end ≡ start
+MayReach start (step ∷ later) end = (next : State) × MayLeave start step.0 step.1 next × MayReach next later end
+
+-- in every cache, kept versions cohere with the world: equal stamps mean equal bytes
+pub record Coheres (state : State) (world : World) : Type 0 where
+  pub breakpad : Coherent state.breakpad.kept world
