@@ -1,5 +1,5 @@
 -- Counts of 64 bits, which stand still at their end.
-use Rattle.std.specs.Prelude.{ℕ, ◌+◌, ◌<◌, ◌≤◌, ◌⊎◌, min}
+use Rattle.std.specs.Prelude.{◌≡◌, ℕ, ◌+◌, ◌<◌, ◌≤◌, ◌⊎◌, min}
 
 -- the last value of a count
 abbrev pub last_count : ℕ
@@ -12,3 +12,9 @@ counted n = min (n + 1) last_count
 -- the count rose, or stands at its last value
 abbrev pub HasRisen : ℕ → ℕ → Type 0
 HasRisen before now = (before < now) ⊎ (last_count ≤ now)
+
+-- how a count of faults stands after a call: it never falls, rose where the call failed by a fault, and stands still else
+pub record CountsFaults (before after : ℕ) (failed : Type 0) : Type 0 where
+  pub grows : before ≤ after
+  pub fault : failed → HasRisen before after
+  pub steady : failed ⊎ (after ≡ before)

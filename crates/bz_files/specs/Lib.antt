@@ -1,6 +1,7 @@
 pub mod Cause
 pub mod Count
 pub mod Held
+pub mod Looked
 pub mod Looks
 pub mod MemEnd
 pub mod RealEnd

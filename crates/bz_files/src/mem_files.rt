@@ -1,8 +1,8 @@
 //! Files in memory, whose worlds are told.
 
-ghost use Rattle.std.specs.Prelude.{◌≡◌, ◌⊎◌, ◌+◌, ◌<◌, ◌≤◌, ◌↔◌, [], ◌∷◌, ◌++◌, length, is_some, option_map, IsTrue, IfOk, OnOk, OnErr, IfSome, IfNone, IsErrOf, IsOkUnless};
+ghost use Rattle.std.specs.Prelude.{◌≡◌, ◌+◌, ◌<◌, ◌≤◌, ◌↔◌, [], ◌∷◌, ◌++◌, length, is_some, option_map, IsTrue, IfOk, OnOk, OnErr, IfSome, IfNone, IsErrOf, IsOkUnless};
 ghost use Rattle.std.specs.FinMap as map;
-ghost use Rattle.bz_files.specs.Count.{HasRisen};
+ghost use Rattle.bz_files.specs.Count.{CountsFaults};
 ghost use Rattle.bz_files.specs.World.{Denied, Present, entry_at, with_entry, without_entry, in_view, next_worlds, Told, IsAnswer};
 ghost use Rattle.bz_files.specs.Shelf.{empty_shelf, last_world, on_last, is_version, with_link, fresh_stamp, fails_next, after_look, after_read};
 ghost use Rattle.bz_files.specs.Held.{entry_of, world_of};
@@ -161,8 +161,7 @@ impl MemFiles {
     fn begin_look(&mut self) -> bool
         ensures same { self.new ≡ after_look self.old }
         ensures failing { result ≡ fails_next self.old }
-        ensures faults { self.old.faults ≤ self.new.faults }
-        ensures risen { IsTrue result → HasRisen self.old.faults self.new.faults }
+        ensures faults { CountsFaults self.old.faults self.new.faults (IsTrue result) }
     {
         self.calls = self.calls.saturating_add(1);
         let fails = self.failing.contains(&self.calls);
@@ -198,9 +197,7 @@ impl Files for MemFiles {
         ensures answer { Told (in_view (Some self.old.worlds)) (λ world. IsAnswer (λ given stamp bytes. given ≡ stamp) (entry_at world path.now) result) }
         ensures same { self.new ≡ after_look self.old }
         ensures failing { IsErrOf result FileError.Fault ↔ IsTrue (fails_next self.old) }
-        ensures faults { self.old.faults ≤ self.new.faults }
-        ensures fault { IsErrOf result FileError.Fault → HasRisen self.old.faults self.new.faults }
-        ensures steady { IsErrOf result FileError.Fault ⊎ (self.new.faults ≡ self.old.faults) }
+        ensures faults { CountsFaults self.old.faults self.new.faults (IsErrOf result FileError.Fault) }
         ensures memory { IsErrOf result FileError.OutOfMemory → ⊥ }
     {
         if self.begin_look() {
@@ -217,9 +214,7 @@ impl Files for MemFiles {
         ensures answer { Told (in_view (Some self.old.worlds)) (λ world. IsAnswer (λ given stamp bytes. given.items ≡ bytes) (entry_at world path.now) result) }
         ensures same { self.new ≡ after_read result self.old }
         ensures failing { IsErrOf result FileError.Fault ↔ IsTrue (fails_next self.old) }
-        ensures faults { self.old.faults ≤ self.new.faults }
-        ensures fault { IsErrOf result FileError.Fault → HasRisen self.old.faults self.new.faults }
-        ensures steady { IsErrOf result FileError.Fault ⊎ (self.new.faults ≡ self.old.faults) }
+        ensures faults { CountsFaults self.old.faults self.new.faults (IsErrOf result FileError.Fault) }
     {
         if self.begin_look() {
             return Err(FileError::Fault);
