@@ -1,1 +1,2 @@
 pub mod HeldWorlds
+pub mod NumberedTexts
