@@ -1,2 +1,3 @@
 pub mod HeldWorlds
 pub mod NumberedTexts
+pub mod StampHashing
