@@ -7,7 +7,8 @@ use Rattle.bz_base.specs.declared.error.Error.{Error}
 use Rattle.bz_files.specs.declared.stamp.Stamp.{Stamp}
 use Rattle.bz_files.specs.World.{World, Entry, Denied, Present, entry_at}
 use Rattle.bz_cache.specs.Cache.{Cache, Consistent, stamp_cmp, new_cache}
-use Rattle.bz_cache.specs.Coherence.{AgreeOn, Coherent}
+use Rattle.bz_files.specs.Agreement.{AgreeOn}
+use Rattle.bz_cache.specs.Coherence.{Coherent}
 use Rattle.bz_cache.specs.Eviction.{is_named, evicted}
 use Rattle.bz_cache.specs.Look.{by_test, by_entry, by_fixed, look}
 use Rattle.bz_cache.specs.View.{View, Shown, shown, fixed, bytes_at, by_fixed_view, by_format, bytes_of_view, view}

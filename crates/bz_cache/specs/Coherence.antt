@@ -9,14 +9,6 @@ use Rattle.bz_cache.specs.Cache.{Kept}
 abbrev pub Coherent : Kept → World → Type 0
 Coherent kept w = (p : List ℕ) (s : Stamp) (b k : List ℕ) → entry_at w p ≡ Some (Present s b) → map.get kept s ≡ Some k → b ≡ k
 
--- equal stamps have equal bytes between two worlds
-abbrev pub AgreeOn : World → World → Type 0
-AgreeOn w v = (p q : List ℕ) (s : Stamp) (a b : List ℕ) → entry_at w p ≡ Some (Present s a) → entry_at v q ≡ Some (Present s b) → a ≡ b
-
--- equal stamps have equal bytes within each world and between any two
-abbrev pub Agree : List World → Type 0
-Agree worlds = (w v : World) → Contains worlds w → Contains worlds v → AgreeOn w v
-
 -- the kept versions cohere with each of the worlds
 abbrev pub CoherentWithAll : Kept → List World → Type 0
 CoherentWithAll kept worlds = (w : World) → Contains worlds w → Coherent kept w

@@ -4,7 +4,8 @@ ghost use Rattle.std.specs.Prelude.{◌≡◌, ℕ, Bool, List, Option, Result, 
 ghost use Rattle.bz_base.specs.declared.error.Error.{Error};
 ghost use Rattle.bz_files.specs.World.{World, entry_at};
 ghost use Rattle.bz_cache.specs.Cache.{Cache, Consistent, new_cache, with_pin};
-ghost use Rattle.bz_cache.specs.Coherence.{Agree, Coherent, CoherentWithAll};
+ghost use Rattle.bz_files.specs.Agreement.{Agree};
+ghost use Rattle.bz_cache.specs.Coherence.{Coherent, CoherentWithAll};
 ghost use Rattle.bz_cache.specs.Eviction.{evicted};
 ghost use Rattle.bz_cache.specs.Look.{look};
 ghost use Rattle.bz_cache.specs.View.{Shown, view, bytes_of_view};

@@ -1,2 +1,4 @@
 pub mod HeldWorlds
 pub mod LookedLemmas
+pub mod NumberedTexts
+pub mod StampHashing

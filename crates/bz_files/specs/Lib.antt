@@ -1,12 +1,14 @@
+pub mod Agreement
 pub mod Cause
 pub mod Count
+pub mod Edits
 pub mod Held
 pub mod Looked
 pub mod Looks
 pub mod MemEnd
+pub mod MemWorlds
 pub mod RealEnd
 pub mod Refusal
-pub mod Shelf
 pub mod StampOrder
 pub mod TextEnd
 pub mod Whole

@@ -1,5 +1,6 @@
 -- When two stamps are equal, and which comes first.
-use Rattle.std.specs.Prelude.{◌≡◌}
+use Rattle.std.specs.Prelude.{◌≡◌, ◌<◌, ◌^◌, FitsSigned}
+use Rattle.std.specs.Int.{w64}
 use Rattle.std.specs.Ordering.{nat_cmp, int_cmp, ordering_then}
 use Rattle.std.specs.declared.cmp.Ordering.{Ordering}
 use Rattle.bz_files.specs.declared.stamp.Stamp.{Stamp}
@@ -11,6 +12,14 @@ pub record SameFields (a b : Stamp) : Type 0 where
   pub size : a.size ≡ b.size
   pub mtime_sec : a.mtime_sec ≡ b.mtime_sec
   pub mtime_nsec : a.mtime_nsec ≡ b.mtime_nsec
+
+-- every field is in the range of its type
+pub record FieldsFit (s : Stamp) : Type 0 where
+  pub dev : s.dev < 2 ^ 64
+  pub inode : s.inode < 2 ^ 64
+  pub size : s.size < 2 ^ 64
+  pub mtime_sec : FitsSigned w64 s.mtime_sec
+  pub mtime_nsec : FitsSigned w64 s.mtime_nsec
 
 -- the order of the first field that differs
 abbrev pub by_fields : Stamp → Stamp → Ordering

@@ -1,8 +1,8 @@
 //! What a symbolizer asks of files.
 
-ghost use Rattle.std.specs.Prelude.{◌≡◌, ◌⊎◌, ℕ, ◌≤◌, List, Option, option_map, OnOk, OnErr, IsErrOf};
+ghost use Rattle.std.specs.Prelude.{◌≡◌, ℕ, List, Option, option_map, OnOk, OnErr, IsErrOf};
 ghost use Rattle.bz_files.specs.World.{World, Told, in_view, next_worlds, entry_at, IsAnswer};
-ghost use Rattle.bz_files.specs.Count.{HasRisen, counted};
+ghost use Rattle.bz_files.specs.Count.{CountsFaults, counted};
 ghost use Rattle.bz_files.specs.Refusal.{error_of};
 
 use crate::stamp::Stamp;
@@ -53,9 +53,7 @@ pub trait Files {
         ensures worlds { worlds self.new ≡ worlds self.old }
         ensures opens { opens self.new ≡ opens self.old }
         ensures pid { pid self.new ≡ pid self.old }
-        ensures faults { faults self.old ≤ faults self.new }
-        ensures fault { IsErrOf result FileError.Fault → HasRisen (faults self.old) (faults self.new) }
-        ensures steady { IsErrOf result FileError.Fault ⊎ (faults self.new ≡ faults self.old) }
+        ensures faults { CountsFaults (faults self.old) (faults self.new) (IsErrOf result FileError.Fault) }
         ensures memory { IsErrOf result FileError.OutOfMemory → ⊥ };
 
     /// The bytes of the file at the path.
@@ -65,9 +63,7 @@ pub trait Files {
         ensures opened { OnOk result (opens self.new ≡ counted (opens self.old)) }
         ensures unopened { OnErr result (opens self.new ≡ opens self.old) }
         ensures pid { pid self.new ≡ pid self.old }
-        ensures faults { faults self.old ≤ faults self.new }
-        ensures fault { IsErrOf result FileError.Fault → HasRisen (faults self.old) (faults self.new) }
-        ensures steady { IsErrOf result FileError.Fault ⊎ (faults self.new ≡ faults self.old) };
+        ensures faults { CountsFaults (faults self.old) (faults self.new) (IsErrOf result FileError.Fault) };
 }
 
 impl From<FileError> for Error {

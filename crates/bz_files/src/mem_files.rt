@@ -1,10 +1,10 @@
 //! Files in memory, whose worlds are told.
 
-ghost use Rattle.std.specs.Prelude.{◌≡◌, ◌⊎◌, ◌+◌, ◌<◌, ◌≤◌, ◌↔◌, [], ◌∷◌, ◌++◌, length, is_some, option_map, IsTrue, IfOk, OnOk, OnErr, IfSome, IfNone, IsErrOf, IsOkUnless};
+ghost use Rattle.std.specs.Prelude.{◌≡◌, ◌+◌, ◌<◌, ◌≤◌, ◌↔◌, [], ◌∷◌, ◌++◌, length, is_some, option_map, IsTrue, IfOk, OnOk, OnErr, IfSome, IsErrOf, IsOkUnless};
 ghost use Rattle.std.specs.FinMap as map;
-ghost use Rattle.bz_files.specs.Count.{HasRisen};
+ghost use Rattle.bz_files.specs.Count.{CountsFaults};
 ghost use Rattle.bz_files.specs.World.{Denied, Present, entry_at, with_entry, without_entry, in_view, next_worlds, Told, IsAnswer};
-ghost use Rattle.bz_files.specs.Shelf.{empty_shelf, last_world, on_last, is_version, with_link, fresh_stamp, fails_next, after_look, after_read};
+ghost use Rattle.bz_files.specs.MemWorlds.{new_worlds, last_world, on_last, is_version, fresh_stamp, after_put, after_link, fails_next, after_look, after_read};
 ghost use Rattle.bz_files.specs.Held.{entry_of, world_of};
 
 use crate::files::{FileError, Files};
@@ -40,11 +40,11 @@ pub struct MemFiles {
 
 impl Model for MemFiles {
     ghost use Rattle.std.specs.Prelude.{[], ◌∷◌, ◌≤◌};
-    ghost use Rattle.bz_files.specs.Shelf.{Shelf, coded_shelf, last_stamp};
+    ghost use Rattle.bz_files.specs.MemWorlds.{MemWorlds, coded_mem_worlds, last_stamp};
 
-    ghost Value = { Shelf };
+    ghost Value = { MemWorlds };
 
-    ghost coded = { coded_shelf };
+    ghost coded = { coded_mem_worlds };
 
     ghost use Rattle.bz_files.specs.Held.{world_of};
 
@@ -56,7 +56,7 @@ impl Model for MemFiles {
 impl MemFiles {
     /// One empty world, in which nothing failed yet.
     pub fn new(alloc: Global, own_pid: u32) -> MemFiles
-        ensures { result ≡ empty_shelf own_pid }
+        ensures { result ≡ new_worlds own_pid }
     {
         MemFiles {
             entries: BTreeMap::new(alloc),
@@ -72,8 +72,7 @@ impl MemFiles {
     /// Puts the bytes at the path under a fresh stamp. Without one left nothing changes.
     pub fn put(&mut self, alloc: Global, path: &str, bytes: Vec<u8>) -> Result<Option<Stamp>, Error>
         ensures stamp { IfOk result (λ given. given ≡ fresh_stamp self.old.stamps (length bytes.items)) }
-        ensures ok { IfOk result (λ given. IfSome given (λ stamp. self.new ≡ record self.old { worlds = on_last (with_entry path.now (Present stamp bytes.items)) self.old.worlds; stamps = self.old.stamps + 1 })) }
-        ensures none { IfOk result (λ given. IfNone given (self.new ≡ self.old)) }
+        ensures ok { OnOk result (self.new ≡ after_put path.now bytes.items self.old) }
         ensures err { OnErr result (self.new ≡ self.old) }
         ensures memory { IsOkUnless result Error.OutOfMemory }
     {
@@ -103,7 +102,7 @@ impl MemFiles {
     /// Gives the path the stamp and the bytes that are at `old`. Says whether there was such a file.
     pub fn link(&mut self, alloc: Global, path: &str, old: &str) -> Result<bool, Error>
         ensures linked { IfOk result (λ linked. linked ≡ is_version (entry_at (last_world self.old.worlds) old.now)) }
-        ensures ok { OnOk result (self.new ≡ record self.old { worlds = on_last (with_link path.now old.now) self.old.worlds }) }
+        ensures ok { OnOk result (self.new ≡ after_link path.now old.now self.old) }
         ensures err { OnErr result (self.new ≡ self.old) }
         ensures memory { IsOkUnless result Error.OutOfMemory }
     {
@@ -161,8 +160,7 @@ impl MemFiles {
     fn begin_look(&mut self) -> bool
         ensures same { self.new ≡ after_look self.old }
         ensures failing { result ≡ fails_next self.old }
-        ensures faults { self.old.faults ≤ self.new.faults }
-        ensures risen { IsTrue result → HasRisen self.old.faults self.new.faults }
+        ensures faults { CountsFaults self.old.faults self.new.faults (IsTrue result) }
     {
         self.calls = self.calls.saturating_add(1);
         let fails = self.failing.contains(&self.calls);
@@ -198,9 +196,7 @@ impl Files for MemFiles {
         ensures answer { Told (in_view (Some self.old.worlds)) (λ world. IsAnswer (λ given stamp bytes. given ≡ stamp) (entry_at world path.now) result) }
         ensures same { self.new ≡ after_look self.old }
         ensures failing { IsErrOf result FileError.Fault ↔ IsTrue (fails_next self.old) }
-        ensures faults { self.old.faults ≤ self.new.faults }
-        ensures fault { IsErrOf result FileError.Fault → HasRisen self.old.faults self.new.faults }
-        ensures steady { IsErrOf result FileError.Fault ⊎ (self.new.faults ≡ self.old.faults) }
+        ensures faults { CountsFaults self.old.faults self.new.faults (IsErrOf result FileError.Fault) }
         ensures memory { IsErrOf result FileError.OutOfMemory → ⊥ }
     {
         if self.begin_look() {
@@ -217,9 +213,7 @@ impl Files for MemFiles {
         ensures answer { Told (in_view (Some self.old.worlds)) (λ world. IsAnswer (λ given stamp bytes. given.items ≡ bytes) (entry_at world path.now) result) }
         ensures same { self.new ≡ after_read result self.old }
         ensures failing { IsErrOf result FileError.Fault ↔ IsTrue (fails_next self.old) }
-        ensures faults { self.old.faults ≤ self.new.faults }
-        ensures fault { IsErrOf result FileError.Fault → HasRisen self.old.faults self.new.faults }
-        ensures steady { IsErrOf result FileError.Fault ⊎ (self.new.faults ≡ self.old.faults) }
+        ensures faults { CountsFaults self.old.faults self.new.faults (IsErrOf result FileError.Fault) }
     {
         if self.begin_look() {
             return Err(FileError::Fault);

@@ -1,7 +1,7 @@
 //! The ends of texts in memory, whose bytes are told.
 
-ghost use Rattle.std.specs.Prelude.{◌≡◌, ◌⊎◌, if◌then◌else◌, ◌<◌, ◌≤◌, ◌↔◌, [], ◌++◌, Some, length, drop, min, IsTrue, IfOk, OnOk, OnErr, IsErrOf};
-ghost use Rattle.bz_files.specs.Count.{counted, HasRisen};
+ghost use Rattle.std.specs.Prelude.{◌≡◌, if◌then◌else◌, ◌<◌, ◌≤◌, ◌↔◌, [], ◌++◌, Some, length, drop, min, IsTrue, IfOk, OnOk, OnErr, IsErrOf};
+ghost use Rattle.bz_files.specs.Count.{CountsFaults, counted};
 ghost use Rattle.bz_files.specs.TextEnd.{Takes, Puts};
 ghost use Rattle.bz_files.specs.MemEnd.{new_end, is_failing, fails_next, after_call};
 
@@ -35,8 +35,7 @@ impl Calls {
         ensures fails { result ≡ is_failing self.old.failing (counted self.old.number) }
         ensures failing { self.new.failing ≡ self.old.failing }
         ensures counts { self.new.faults ≡ (if result then counted self.old.faults else self.old.faults) }
-        ensures rises { self.old.faults ≤ self.new.faults }
-        ensures risen { IsTrue result → HasRisen self.old.faults self.new.faults }
+        ensures faults { CountsFaults self.old.faults self.new.faults (IsTrue result) }
     {
         self.number = self.number.saturating_add(1);
         let fails = match self.failing {
@@ -109,9 +108,7 @@ impl TextIn for MemIn {
         ensures ok { IfOk result (λ n. self.new ≡ record (after_call self.old) { bytes = drop n self.old.bytes }) }
         ensures err { OnErr result (self.new ≡ after_call self.old) }
         ensures failing { IsErrOf result IoFault.Fault ↔ IsTrue (fails_next self.old) }
-        ensures faults { self.old.faults ≤ self.new.faults }
-        ensures fault { IsErrOf result IoFault.Fault → HasRisen self.old.faults self.new.faults }
-        ensures steady { IsErrOf result IoFault.Fault ⊎ (self.new.faults ≡ self.old.faults) }
+        ensures faults { CountsFaults self.old.faults self.new.faults (IsErrOf result IoFault.Fault) }
         ensures memory { IsErrOf result IoFault.OutOfMemory → ⊥ }
     {
         if self.calls.begin() {
@@ -187,9 +184,7 @@ impl TextOut for MemOut {
         ensures ok { OnOk result (self.new ≡ record (after_call self.old) { bytes = self.old.bytes ++ piece.now }) }
         ensures err { OnErr result (self.new ≡ after_call self.old) }
         ensures failing { IsErrOf result IoFault.Fault ↔ IsTrue (fails_next self.old) }
-        ensures faults { self.old.faults ≤ self.new.faults }
-        ensures fault { IsErrOf result IoFault.Fault → HasRisen self.old.faults self.new.faults }
-        ensures steady { IsErrOf result IoFault.Fault ⊎ (self.new.faults ≡ self.old.faults) }
+        ensures faults { CountsFaults self.old.faults self.new.faults (IsErrOf result IoFault.Fault) }
     {
         if self.calls.begin() {
             return Err(IoFault::Fault);

@@ -1,7 +1,7 @@
 //! The files of the system, of whose worlds nothing is told.
 
-ghost use Rattle.std.specs.Prelude.{◌≡◌, ◌⊎◌, ◌==◌, ◌≤◌, length, option_map, IfOk, IfSome, IsErrOf};
-ghost use Rattle.bz_files.specs.Count.{HasRisen};
+ghost use Rattle.std.specs.Prelude.{◌≡◌, ◌==◌, ◌≤◌, length, option_map, IfOk, IfSome, IsErrOf};
+ghost use Rattle.bz_files.specs.Count.{CountsFaults};
 ghost use Rattle.bz_files.specs.Looks.{most_bytes, after_failure, after_look, after_read};
 ghost use Rattle.bz_files.specs.Whole.{readable, IsWholeFile};
 ghost use Rattle.bz_files.specs.World.{Told};
@@ -70,8 +70,7 @@ impl<R: rt::Files + Drop> RealFiles<R> {
     fn count_fault(&mut self, failed: FileError) -> FileError
         ensures same { result ≡ failed }
         ensures after { self.new ≡ after_failure failed self.old }
-        ensures rises { self.old.faults ≤ self.new.faults }
-        ensures risen { failed ≡ FileError.Fault → HasRisen self.old.faults self.new.faults }
+        ensures faults { CountsFaults self.old.faults self.new.faults (failed ≡ FileError.Fault) }
     {
         match failed {
             FileError::Fault => {
@@ -106,9 +105,7 @@ impl<R: rt::Files + Drop> Files for RealFiles<R> {
 
     fn stat(&mut self, path: &str) -> Result<Stamp, FileError>
         ensures same { self.new ≡ after_look result self.old }
-        ensures faults { self.old.faults ≤ self.new.faults }
-        ensures fault { IsErrOf result FileError.Fault → HasRisen self.old.faults self.new.faults }
-        ensures steady { IsErrOf result FileError.Fault ⊎ (self.new.faults ≡ self.old.faults) }
+        ensures faults { CountsFaults self.old.faults self.new.faults (IsErrOf result FileError.Fault) }
         ensures memory { IsErrOf result FileError.OutOfMemory → ⊥ }
     {
         match stamp_at(&self.rt, path) {
@@ -121,9 +118,7 @@ impl<R: rt::Files + Drop> Files for RealFiles<R> {
         ensures whole { IfOk result (λ bytes. IsWholeFile R.File.remaining bytes.items) }
         ensures within { IfOk result (λ bytes. length bytes.items ≤ most_bytes) }
         ensures same { self.new ≡ after_read result self.old }
-        ensures faults { self.old.faults ≤ self.new.faults }
-        ensures fault { IsErrOf result FileError.Fault → HasRisen self.old.faults self.new.faults }
-        ensures steady { IsErrOf result FileError.Fault ⊎ (self.new.faults ≡ self.old.faults) }
+        ensures faults { CountsFaults self.old.faults self.new.faults (IsErrOf result FileError.Fault) }
     {
         match bytes_at(&self.rt, alloc, path) {
             Ok(bytes) => {

@@ -1,8 +1,8 @@
 //! The ends of texts over std's readers and writers. What bytes these have is told as far as they tell it themselves.
 
-ghost use Rattle.std.specs.Prelude.{◌≡◌, ◌⊎◌, ◌<◌, ◌≤◌, None, length, IfOk, OnOk, OnErr, IsErrOf};
+ghost use Rattle.std.specs.Prelude.{◌≡◌, ◌<◌, ◌≤◌, None, length, IfOk, OnOk, OnErr, IsErrOf};
 ghost use Rattle.std.specs.Io.KnownBytes.{ReadConsumes, WriteAppends};
-ghost use Rattle.bz_files.specs.Count.{counted, HasRisen};
+ghost use Rattle.bz_files.specs.Count.{CountsFaults, counted};
 ghost use Rattle.bz_files.specs.RealEnd.{new_end};
 
 use crate::text::{IoFault, TextIn, TextOut};
@@ -52,9 +52,7 @@ impl<R: Read + Drop> TextIn for RealIn<R> {
         ensures bytes { ReadConsumes self.old.known self.new.known result piece.new }
         ensures ok { OnOk result (self.new.faults ≡ self.old.faults) }
         ensures err { OnErr result (self.new.faults ≡ counted self.old.faults) }
-        ensures faults { self.old.faults ≤ self.new.faults }
-        ensures fault { IsErrOf result IoFault.Fault → HasRisen self.old.faults self.new.faults }
-        ensures steady { IsErrOf result IoFault.Fault ⊎ (self.new.faults ≡ self.old.faults) }
+        ensures faults { CountsFaults self.old.faults self.new.faults (IsErrOf result IoFault.Fault) }
         ensures memory { IsErrOf result IoFault.OutOfMemory → ⊥ }
     {
         match self.reader.read(piece) {
@@ -111,9 +109,7 @@ impl<W: Write + Drop> TextOut for RealOut<W> {
         ensures some { IfOk result (λ n. 0 < length piece.now → 0 < n) }
         ensures ok { OnOk result (self.new.faults ≡ self.old.faults) }
         ensures err { OnErr result (self.new.faults ≡ counted self.old.faults) }
-        ensures faults { self.old.faults ≤ self.new.faults }
-        ensures fault { IsErrOf result IoFault.Fault → HasRisen self.old.faults self.new.faults }
-        ensures steady { IsErrOf result IoFault.Fault ⊎ (self.new.faults ≡ self.old.faults) }
+        ensures faults { CountsFaults self.old.faults self.new.faults (IsErrOf result IoFault.Fault) }
         ensures memory { IsErrOf result IoFault.OutOfMemory → ⊥ }
     {
         match self.writer.write(piece) {

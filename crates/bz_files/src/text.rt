@@ -1,7 +1,7 @@
 //! The ends of texts: what a program reads its input from and writes its output to.
 
-ghost use Rattle.std.specs.Prelude.{◌≡◌, ◌⊎◌, ℕ, ◌<◌, ◌≤◌, List, Option, length, IfOk, IsErrOf};
-ghost use Rattle.bz_files.specs.Count.{HasRisen};
+ghost use Rattle.std.specs.Prelude.{ℕ, ◌<◌, ◌≤◌, List, Option, length, IfOk, IsErrOf};
+ghost use Rattle.bz_files.specs.Count.{CountsFaults};
 ghost use Rattle.bz_files.specs.TextEnd.{Takes, Puts};
 
 /// Why an end of a text failed.
@@ -26,9 +26,7 @@ pub trait TextIn {
     fn take(&mut self, piece: &mut [u8]) -> Result<usize, IoFault>
         ensures within { IfOk result (λ n. n ≤ length piece.old) }
         ensures takes { Takes (left self.old) (left self.new) piece.old piece.new result }
-        ensures faults { faults self.old ≤ faults self.new }
-        ensures fault { IsErrOf result IoFault.Fault → HasRisen (faults self.old) (faults self.new) }
-        ensures steady { IsErrOf result IoFault.Fault ⊎ (faults self.new ≡ faults self.old) }
+        ensures faults { CountsFaults (faults self.old) (faults self.new) (IsErrOf result IoFault.Fault) }
         ensures memory { IsErrOf result IoFault.OutOfMemory → ⊥ };
 }
 
@@ -45,7 +43,5 @@ pub trait TextOut {
         ensures within { IfOk result (λ n. n ≤ length piece.now) }
         ensures some { IfOk result (λ n. 0 < length piece.now → 0 < n) }
         ensures puts { Puts (written self.old) (written self.new) piece.now result }
-        ensures faults { faults self.old ≤ faults self.new }
-        ensures fault { IsErrOf result IoFault.Fault → HasRisen (faults self.old) (faults self.new) }
-        ensures steady { IsErrOf result IoFault.Fault ⊎ (faults self.new ≡ faults self.old) };
+        ensures faults { CountsFaults (faults self.old) (faults self.new) (IsErrOf result IoFault.Fault) };
 }

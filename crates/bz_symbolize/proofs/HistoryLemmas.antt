@@ -6,7 +6,8 @@ use Rattle.bz_base.specs.Answer.{Answer}
 use Rattle.bz_base.specs.declared.input.Input.{Input}
 use Rattle.bz_files.specs.World.{World, entry_at}
 use Rattle.bz_cache.specs.Cache.{Cache}
-use Rattle.bz_cache.specs.Coherence.{Agree, CoherentWithAll}
+use Rattle.bz_files.specs.Agreement.{Agree}
+use Rattle.bz_cache.specs.Coherence.{CoherentWithAll}
 use Rattle.bz_cache.specs.Look.{look}
 use Rattle.bz_cache.proofs.CoherenceLaws.{look_coherent, new_coherent}
 use Rattle.bz_breakpad.specs.Version.{format_test}

@@ -4,7 +4,7 @@ ghost use Rattle.std.specs.Prelude.{◌≡◌, ◌∷◌, ℕ, List, map};
 ghost use denote.Ref.{Bor};
 ghost use Rattle.bz_base.specs.declared.input.Input.TheVariants.{FileOffset};
 ghost use Rattle.bz_base.specs.declared.types.FindSymOpts.{FindSymOpts};
-ghost use Rattle.bz_cache.specs.Coherence.{Agree};
+ghost use Rattle.bz_files.specs.Agreement.{Agree};
 ghost use Rattle.bz_breakpad.specs.Version.{format_test};
 ghost use Rattle.bz_files.specs.World.{World, entry_at};
 ghost use Rattle.bz_symbolize.specs.FileCall.{batch_asked, file_answer};

@@ -1,5 +1,5 @@
--- Files kept in memory: their worlds, what an edit does to the last of them, and what a look leaves.
-use Rattle.std.specs.Prelude.{ℕ, ◌+◌, ◌==◌, pos, Bool, true, false, if◌then◌else◌, List, [], ◌∷◌, Option, Some, None, Result, Ok, Err, refl}
+-- Files in memory as one value: their worlds, what an edit does to the last of them, and what a look leaves.
+use Rattle.std.specs.Prelude.{ℕ, ◌+◌, ◌==◌, pos, Bool, true, false, if◌then◌else◌, List, [], ◌∷◌, Option, Some, None, length, Result, Ok, Err, refl}
 use Rattle.std.specs.List.{list_any}
 use Rattle.std.specs.FinMap as map
 use Rattle.std.specs.Coded.{Coded, code_by, coded×, coded_ℕ, coded_list}
@@ -10,7 +10,7 @@ use Rattle.bz_files.specs.World.{World, Entry, Denied, Present, entry_at, with_e
 
 -- the worlds to come, how many fresh stamps were given, how many looks there were and the numbers of those that fail,
 -- how many failed, how many files were read, and the id of the own process
-pub record Shelf : Type 0 where
+pub record MemWorlds : Type 0 where
   pub worlds : List World
   pub stamps : ℕ
   pub calls : ℕ
@@ -19,9 +19,9 @@ pub record Shelf : Type 0 where
   pub opens : ℕ
   pub pid : ℕ
 
--- the shelf of one empty world, on which nothing happened yet
-abbrev pub empty_shelf : ℕ → Shelf
-empty_shelf pid = record { worlds = map.empty ∷ []; stamps = 0; calls = 0; failing = []; faults = 0; opens = 0; pid = pid }
+-- one empty world, in which nothing was looked at yet
+abbrev pub new_worlds : ℕ → MemWorlds
+new_worlds pid = record { worlds = map.empty ∷ []; stamps = 0; calls = 0; failing = []; faults = 0; opens = 0; pid = pid }
 
 -- the world that edits act on is the last one
 abbrev pub last_world : List World → World
@@ -60,22 +60,35 @@ abbrev pub fresh_stamp : ℕ → ℕ → Option Stamp
 fresh_stamp stamps size =
     if stamps == last_stamp then None else Some (record { dev = 1; inode = stamps + 1; size = size; mtime_sec = pos (stamps + 1); mtime_nsec = pos 0 })
 
+-- the files after the bytes were put at the path under this stamp, which was fresh; as they were where none was left
+abbrev pub with_put : List ℕ → List ℕ → Option Stamp → MemWorlds → MemWorlds
+with_put path bytes None files = files
+with_put path bytes (Some stamp) files = record files { worlds = on_last (with_entry path (Present stamp bytes)) files.worlds; stamps = files.stamps + 1 }
+
+-- the files after the bytes were put at the path
+abbrev pub after_put : List ℕ → List ℕ → MemWorlds → MemWorlds
+after_put path bytes files = with_put path bytes (fresh_stamp files.stamps (length bytes)) files
+
+-- the files after the path got what is at the old path
+abbrev pub after_link : List ℕ → List ℕ → MemWorlds → MemWorlds
+after_link path old files = record files { worlds = on_last (with_link path old) files.worlds }
+
 -- the next look is one of those that fail
-abbrev pub fails_next : Shelf → Bool
-fails_next shelf = list_any (λ number. number == counted shelf.calls) shelf.failing
+abbrev pub fails_next : MemWorlds → Bool
+fails_next files = list_any (λ number. number == counted files.calls) files.failing
 
--- the shelf after one more look, which is counted, as is the fault if it is one of those that fail
-abbrev pub after_look : Shelf → Shelf
-after_look shelf = record shelf { calls = counted shelf.calls; faults = if fails_next shelf then counted shelf.faults else shelf.faults }
+-- the files after one more look, which is counted, as is the fault if it is one of those that fail
+abbrev pub after_look : MemWorlds → MemWorlds
+after_look files = record files { calls = counted files.calls; faults = if fails_next files then counted files.faults else files.faults }
 
--- the shelf after a read with this answer: a file that was read is counted
-abbrev pub after_read : {A : Type 0} → Result A FileError → Shelf → Shelf
-after_read (Ok bytes) shelf = record (after_look shelf) { opens = counted shelf.opens }
-after_read (Err failed) shelf = after_look shelf
+-- the files after a read with this answer: a file that was read is counted
+abbrev pub after_read : {A : Type 0} → Result A FileError → MemWorlds → MemWorlds
+after_read (Ok bytes) files = record (after_look files) { opens = counted files.opens }
+after_read (Err failed) files = after_look files
 
--- shelves can be kept in the model of a value
-abbrev pub coded_shelf : Coded Shelf
-coded_shelf =
+-- files in memory can be kept in the model of a value
+abbrev pub coded_mem_worlds : Coded MemWorlds
+coded_mem_worlds =
     code_by (List World × (ℕ × (ℕ × (List ℕ × (ℕ × (ℕ × ℕ))))))
     (coded× (coded_list coded_world) (coded× coded_ℕ (coded× coded_ℕ (coded× (coded_list coded_ℕ) (coded× coded_ℕ (coded× coded_ℕ coded_ℕ))))))
     (λ s. (s.worlds, (s.stamps, (s.calls, (s.failing, (s.faults, (s.opens, s.pid)))))))

@@ -1,0 +1,5 @@
+use Rattle.bz_files.proofs.NumberedTexts.{worlds_seen_agree}
+use Rattle.bz_files.proofs.laws.edited_worlds_agree.Goals as goal
+
+pub returns : goal.returns
+returns c = worlds_seen_agree
