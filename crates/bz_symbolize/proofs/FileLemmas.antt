@@ -1,5 +1,5 @@
 -- What a call on one file does, from what a look gives and what a version answers, whatever the format and the question.
-use Rattle.std.proofs.Common.{◌≡◌, ◌⊎◌, ℕ, Bool, true, false, cond, List, Option, Some, None, unwrap_or, Result, Ok, Err, IfErr, inl, inr, refl, sym, ap, ◌∙◌}
+use Rattle.std.proofs.Common.{◌≡◌, ℕ, true, false, List, Option, Some, None, unwrap_or, Result, Err, inl, refl, sym, ◌∙◌}
 use Rattle.std.specs.FinMap as map
 use Rattle.bz_base.specs.declared.error.Error.{Error}
 use Rattle.bz_base.specs.declared.error.Error.TheVariants as errors
@@ -7,37 +7,11 @@ use Rattle.bz_files.specs.declared.stamp.Stamp.{Stamp}
 use Rattle.bz_files.specs.World.{World, Entry, Denied, Present, entry_at}
 use Rattle.bz_cache.specs.Cache.{Cache}
 use Rattle.bz_cache.specs.Coherence.{Coherent}
-use Rattle.bz_cache.specs.Format.{Comes, FailsAs, MayFail}
+use Rattle.bz_cache.specs.Format.{Comes, FailsAs}
 use Rattle.bz_cache.specs.Look.{look, will_open, by_test, by_entry, by_fixed}
 use Rattle.bz_cache.specs.View.{fixed, by_fixed_view, shown, view}
-use Rattle.bz_symbolize.specs.FileCall.{Question, by_version, by_look, Gives, Leaves, FileTold, IsBatchRefusal, MayBeRefused}
+use Rattle.bz_symbolize.specs.FileCall.{Question, by_version, by_look, Leaves, FileTold}
 use Rattle.bz_symbolize.specs.Lookup.{by_view}
-
-module _ {A B : Type 0} (reading : A → B) (asked : Question B) (bytes : List ℕ) (formed : asked.test bytes ≡ None) where
-  -- what a version gives is what a call by a look at it answers
-  pub comes_by_version : (looked : Result (List ℕ) Error) (result : Result A Error) → looked ≡ Ok bytes → Gives reading (asked.given bytes) result →
-      Comes reading (by_look asked looked) result
-  comes_by_version looked (Ok given) is gives = rw (is, formed) gives
-  comes_by_version looked (Err errors.ReadFault) is gives = tt
-  comes_by_version looked (Err errors.OutOfMemory) is gives = tt
-  comes_by_version looked (Err _) is gives = rw (is, formed) gives
-
--- a version that answers or refuses leaves what is expected
-pub leaves_by_version : {A S : Type 0} (result : Result A Error) (old expected now : S) → now ≡ expected → IfErr result IsBatchRefusal → Leaves result old expected now
-leaves_by_version (Ok given) old expected now is may = is
-leaves_by_version (Err errors.ReadFault) old expected now is may = absurd may
-leaves_by_version (Err errors.OutOfMemory) old expected now is may = inr is
-leaves_by_version (Err _) old expected now is may = is
-
--- the refusals of a batch, and those of a look, are ones that a call may have
-pub batch_may_refuse : (test : List ℕ → Option Error) (e : Error) → IsBatchRefusal e → MayBeRefused test e
-batch_may_refuse test errors.Unsupported may = tt
-batch_may_refuse test errors.OutOfMemory may = tt
-batch_may_refuse test _ may = absurd may
-
-pub look_may_refuse : (test : List ℕ → Option Error) (e : Error) → MayFail test e → MayBeRefused test e
-look_may_refuse test errors.Unsupported may = tt
-look_may_refuse test _ may = may
 
 -- the answer of a call that a look refuses
 comes_refused : {A B : Type 0} (reading : A → B) (asked : Question B) (looked : Result (List ℕ) Error) (e : Error) →
@@ -70,23 +44,6 @@ module _ (test : List ℕ → Option Error) (c : Cache) (p : List ℕ) where
   leaves_refused A there errors.ReadFault now is fails = is
   leaves_refused A there errors.OutOfMemory now is fails = inl is
   leaves_refused A there _ now is fails = is ∙ sym (refused_look there _ fails)
-
-  reload_test : (s : Stamp) (v : List ℕ) (t : Option Error) → (by_test c p s v t).1.reload ≡ c.reload
-  reload_test s v None = refl
-  reload_test s v (Some _) = refl
-
-  reload_entry : (there : Option Entry) → (by_entry test c p there).1.reload ≡ c.reload
-  reload_entry None = refl
-  reload_entry (Some Denied) = refl
-  reload_entry (Some (Present s b)) = reload_test s _ _
-
-  -- a look leaves how paths are looked at
-  pub reload_look : (there : Option Entry) → (look test c p there).1.reload ≡ c.reload
-  reload_look there = by_fix (fixed c p)
-    where
-      by_fix : (o : Option Stamp) → (by_fixed test c p there o).1.reload ≡ c.reload
-      by_fix (Some s) = refl
-      by_fix None = reload_entry there
 
 -- what is kept, or else what lies there, is what lies there where both are the same
 same_version : (kept : Option (List ℕ)) (bytes : List ℕ) → ((k : List ℕ) → kept ≡ Some k → bytes ≡ k) → unwrap_or kept bytes ≡ bytes

@@ -1,5 +1,5 @@
 -- Over worlds that agree, calls leave every cache coherent with all of them.
-use Rattle.std.proofs.Common.{◌≡◌, ◌⊎◌, ◌<◌, ℕ, Bool, true, false, cond, List, [], ◌∷◌, length, map, string_bytes, inl, inr, refl, sym, subst, zero, suc, suc-le-suc, zero-lt-suc}
+use Rattle.std.proofs.Common.{ℕ, Bool, true, false, cond, List, [], ◌∷◌, map, string_bytes, inl, inr, refl, sym, subst, zero, suc, suc-le-suc, zero-lt-suc}
 use Rattle.std.specs.Prelude.{Contains}
 use denote.Ref.{Bor}
 use Rattle.bz_base.specs.Answer.{Answer}

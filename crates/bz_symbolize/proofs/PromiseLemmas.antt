@@ -1,5 +1,5 @@
 -- From what a call on one file does to what it promises in the words of the subject, whatever the source.
-use Rattle.std.proofs.Common.{◌≡◌, ◌⊎◌, ℕ, Bool, true, false, cond, List, Option, Some, None, is_some, IsSome, Result, Ok, Err, IfOk, IsOkUnless, inl, inr, refl, sym, ap, subst, ◌∙◌}
+use Rattle.std.proofs.Common.{◌≡◌, ◌⊎◌, ℕ, Bool, true, false, cond, List, Option, Some, None, is_some, IsSome, Result, Ok, Err, IfOk, inl, inr, refl, sym, ap, subst, ◌∙◌}
 use Rattle.std.proofs.lemmas.Bool.{false≢true}
 use Rattle.bz_base.specs.Answer.{Answer}
 use Rattle.bz_base.specs.InputKind.{address_kind}
@@ -7,15 +7,15 @@ use Rattle.bz_base.specs.declared.error.Error.{Error}
 use Rattle.bz_base.specs.declared.error.Error.TheVariants as errors
 use Rattle.bz_base.specs.declared.input.Input.{Input}
 use Rattle.bz_base.specs.declared.types.FindSymOpts.{FindSymOpts}
-use Rattle.bz_files.specs.World.{World, Entry, entry_at}
+use Rattle.bz_files.specs.World.{World, entry_at}
 use Rattle.bz_cache.specs.Cache.{Cache, kept_at}
 use Rattle.bz_cache.specs.Coherence.{Coherent}
 use Rattle.bz_cache.specs.Format.{Comes}
 use Rattle.bz_cache.specs.Look.{look}
 use Rattle.bz_cache.proofs.CoherenceLaws.{shown_by_view}
 use Rattle.bz_symbolize.proofs.FileLemmas.{look_by_view}
-use Rattle.bz_symbolize.specs.FileCall.{Question, by_test, by_version, by_look, batch_given, file_answer, Leaves, FileTold, ByVersion, FileSome}
-use Rattle.bz_symbolize.specs.Lookup.{by_view, view_answer}
+use Rattle.bz_symbolize.specs.FileCall.{by_test, by_look, batch_given, file_answer, Leaves, FileTold, FileSome}
+use Rattle.bz_symbolize.specs.Lookup.{view_answer}
 use Rattle.bz_symbolize.specs.Sources.{FileSource, OneFile, asked_of}
 use Rattle.bz_symbolize.specs.Promise.{IsBatchOf, IsVersionOf, AnswersView, AnswersLook, AnswersKept, CallTold, LeavesOld, IsAfterSomeLook, FileLeaves, IsValid, IsOkOrFails}
 use Rattle.bz_symbolize.specs.State.{State}
@@ -127,13 +127,6 @@ module _ (opts : FindSymOpts) (source : Source) (file : FileSource) (laws : IsFo
       kept_from_some (Ok given) (inl by) = record { bytes = by.bytes; kept = by.kept.0; answered = batch_by_given by.bytes (reading given) by.kept.1 by.given }
       kept_from_some (Ok given) (inr not_ok) = absurd (false≢true not_ok.0)
       kept_from_some (Err e) some = tt
-
-      -- a call that a version serves wants memory alone
-      pub ready_from_version : (result : Result A Error) → file.answering.serves (address_kind input) ≡ true →
-          ByVersion reading (asked_of file opts input) file.path result (file.cache old) (file.cache now) → IsOkUnless result errors.OutOfMemory
-      ready_from_version (Ok given) serves by = tt
-      ready_from_version (Err errors.OutOfMemory) serves by = refl
-      ready_from_version (Err _) serves by = let is = served by.bytes serves in let given = by.given in cc
 
       module _ (rest : now ≡ file.with_cache old (file.cache now)) where
         -- where the cache is as before, the state is

@@ -1,5 +1,5 @@
 -- What a call on one file in one cache does, whatever the format of the file and the question.
-use Rattle.std.specs.Prelude.{◌≡◌, ◌⊎◌, ℕ, Bool, true, false, ◌&&◌, cond, List, Option, Some, None, Result, Ok, Err, IsErr, OnOk}
+use Rattle.std.specs.Prelude.{◌≡◌, ◌⊎◌, ℕ, Bool, false, ◌&&◌, cond, List, Option, Some, None, Result, Ok, Err, IsErr, OnOk}
 use denote.Ref.{Bor}
 use Rattle.bz_base.specs.Answer.{Answer}
 use Rattle.bz_base.specs.InputKind.{AddressKind, address_kind}

@@ -1,4 +1,4 @@
-use Rattle.std.proofs.Common.{◌≡◌, true, map, Vec, Global, List, refl, rules}
+use Rattle.std.proofs.Common.{◌≡◌, true, map, Vec, Global, List, rules}
 use Rattle.std.proofs.lemmas.Result.{err_from_is_err_and}
 use Rattle.bz_base.specs.Answer.{Answer, reading}
 use Rattle.bz_base.specs.InputKind.{address_kind}
