@@ -61,7 +61,9 @@ impl Symbolizer {
     pub(crate) fn with_settings(alloc: Global, settings: Settings) -> Symbolizer
         ensures { result ≡ new_state settings }
     {
-        let breakpad = FileCache::builder().enable_auto_reload(settings.reload).build(alloc);
+        let breakpad = FileCache::builder()
+            .enable_auto_reload(settings.reload)
+            .build(alloc);
         Symbolizer { settings, breakpad }
     }
 

@@ -1,12 +1,16 @@
 //! What no clause says: that the calls succeed, and how they look together.
 
+ghost use Rattle.std.specs.Prelude.{◌≡◌, ◌<◌};
+
 use crate::source::{Breakpad, Source};
 use crate::{Builder, Symbolizer, laws};
-use bz_base::{Error, Input, Result, Symbolized};
+use bz_base::{Error, Input, Result, Steps, Symbolized};
 use bz_files::MemFiles;
 use std::alloc::Global;
 use std::default::Default;
+use std::marker::Brand;
 use std::process::Abort;
+use std::sync::ledger::{Blank, Ledger};
 use std::test::Fail;
 
 const FIRST: &[u8] = b"FUNC 1000 20 0 one\n";
@@ -192,14 +196,41 @@ fn builds_from_settings(rt: HostRuntime) -> std::result::Result<(), Fail> {
     Ok(())
 }
 
+fn counted<L: Ledger>(
+    alloc: Global,
+    blank: Blank,
+    files: &mut MemFiles,
+    src: &Source,
+) -> Result<Vec<Symbolized<'static>>>
+    requires name { blank.name ≡ L.name }
+    requires parts { blank.parts ≡ L.parts }
+    requires some { 0 < L.parts }
+{
+    let mut steps = Steps::<L>::new(blank);
+    let input = Input::FileOffset(ADDRESSES);
+    Symbolizer::new(alloc).symbolize_counted(alloc, files, src, input, &mut steps)
+}
+
 #[test]
-fn tells_the_path_of_a_source(rt: HostRuntime) -> std::result::Result<(), Fail> {
+fn answers_with_a_count(rt: HostRuntime) -> std::result::Result<(), Fail> {
+    laws::runs_stay_coherent();
+    let alloc = rt.alloc();
+    let mut files = first_files(alloc)?;
+    let src = Source::from(Breakpad::new(String::from_str(alloc, "/s.sym")?));
+    let answers = counted::<Brand>(alloc, Blank::new(1), &mut files, &src)?;
+    assert_eq!(rt; answers.len(), 1);
+    let symbol = answers[0].as_sym().ok_or("no symbol")?;
+    assert_eq!(rt; symbol.name.as_str(), "one");
+    Ok(())
+}
+
+#[test]
+fn prints_a_source_by_its_path(rt: HostRuntime) -> std::result::Result<(), Fail> {
     let alloc = rt.alloc();
     let breakpad = Breakpad::new(String::from_str(alloc, "/s.sym")?);
     let text = format!(in alloc; "{breakpad:?}")?;
     assert_eq!(rt; text.as_str(), "Breakpad(\"/s.sym\")");
     let src = Source::from(breakpad);
-    assert_eq!(rt; src.path(), "/s.sym");
     let text = format!(in alloc; "{src:?}")?;
     assert_eq!(rt; text.as_str(), "Breakpad(\"/s.sym\")");
     Ok(())

@@ -26,7 +26,7 @@ returns g c =
     let told_of = rw c.opts-opts.ensures at did.told in
     let some_of = rw c.opts-opts.ensures at did.some in
     let told_all : Told (in_view (g.F.Files.worlds c.args.files.now)) (λ world. CallTold read opts (form_of source) input result old now world (g.F.Files.opens c.args.files.now) (g.F.Files.opens c.answer_source.new.files)) = λ world seen. told_by_form read opts (form_of source) input result old now world _ _
-        (on_file source (both source _ _ did.rest told_of) (λ file laws all. told_from_file opts source file laws input old read now all.0 world _ _ result (all.1 world seen))) in
+    (on_file source (both source _ _ did.rest told_of) (λ file laws all. told_from_file opts source file laws input old read now all.0 world _ _ result (all.1 world seen))) in
     record {
       view = on_file source told_of (λ file laws told world seen coherent. view_from_told opts source file laws input old read world result coherent (told world seen).answer);
       look = on_file source told_of (λ file laws told world seen. look_from_told opts source file laws input old read world result (told world seen).answer);
