@@ -1,3 +1,8 @@
+pub mod ChainLemmas
 pub mod EqualityLemmas
 pub mod HashLemmas
 pub mod NearestLemmas
+pub mod StartsLemmas
+pub mod FilterLemmas
+pub mod SweepLemmas
+pub mod TableLemmas

@@ -1,6 +1,7 @@
 -- Which of several records answers for an address: the one with the nearest start, if it covers the address.
 -- The records stand in the order of their file, and may repeat and overlap.
 use Rattle.std.specs.Prelude.{◌≡◌, ◌⊎◌, ℕ, ◌<◌, ◌≤◌, Bool, true, false, not, ◌==◌, nat_le, nat_lt, ◌&&◌, ◌||◌, List, [], ◌∷◌, Option, Some, None, if◌then◌else◌, slice_get, option_and_then}
+use Rattle.std.specs.List.{filter}
 use Rattle.bz_base.specs.Span.{covers}
 
 module _ {X : Type 0} (start size : X → ℕ) where
@@ -45,3 +46,14 @@ module _ {X : Type 0} (start size : X → ℕ) where
   -- the record that answers
   abbrev pub nearest : ℕ → List X → Option X
   nearest addr records = option_and_then (if_covers addr) (candidate addr records)
+
+  -- a record has this start and this size
+  abbrev pub has_span : ℕ → ℕ → X → Bool
+  has_span at length x = at == start x && length == size x
+
+  -- the table has the records of the list by start and then by size, and those that are alike in both in the order of the
+  -- list
+  pub record IsTable (records table : List X) : Type 0 where
+    pub starts_ascend : (i j : ℕ) (x y : X) → i ≤ j → slice_get table i ≡ Some x → slice_get table j ≡ Some y → start x ≤ start y
+    pub sizes_ascend : (i j : ℕ) (x y : X) → i ≤ j → slice_get table i ≡ Some x → slice_get table j ≡ Some y → start x ≡ start y → size x ≤ size y
+    pub alike : (at length : ℕ) → filter (has_span at length) table ≡ filter (has_span at length) records

@@ -1,10 +1,12 @@
 //! What holds of the definitions that the contracts cite.
 
-ghost use Rattle.std.specs.Prelude.{◌≡◌, ◌↔◌, ℕ, true, List, Option, IsTrue};
+ghost use Rattle.std.specs.Prelude.{◌≡◌, ◌↔◌, ℕ, true, List, Option, IsTrue, map, option_and_then, slice_get};
 ghost use Rattle.bz_base.specs.Answer.{site_of, call_of, symbol_of, resolved_of, reading};
+ghost use Rattle.bz_base.specs.Chain.{IsInner, IsChainTo, inner, chain, last_depth};
 ghost use Rattle.bz_base.specs.InputKind.{payload, MapsTo};
-ghost use Rattle.bz_base.specs.Nearest.{IsNearest, nearest};
+ghost use Rattle.bz_base.specs.Nearest.{IsNearest, IsTable, candidate, nearest};
 ghost use Rattle.bz_base.specs.Span.{covers, Covers};
+ghost use Rattle.bz_base.specs.Starts.{IsFound};
 ghost use Rattle.bz_base.specs.declared.error.Error.{Error};
 ghost use Rattle.bz_base.specs.declared.error.ErrorKind.{ErrorKind};
 ghost use Rattle.bz_base.specs.declared.input.Input.{Input};
@@ -32,6 +34,21 @@ pub fn covers_is_exact()
 pub fn nearest_is_exact()
     ensures is { (records : List (ℕ × ℕ)) (addr : ℕ) → IsNearest (λ r. r.0) (λ r. r.1) records addr (nearest (λ r. r.0) (λ r. r.1) addr records) }
     ensures only { (records : List (ℕ × ℕ)) (addr : ℕ) (answer : Option (ℕ × ℕ)) → IsNearest (λ r. r.0) (λ r. r.1) records addr answer → answer ≡ nearest (λ r. r.0) (λ r. r.1) addr records }
+{}
+
+/// In a table of a list's records by start and size, the record at the place that a search among
+/// the starts finds is the one to be tried of the list in its own order.
+pub fn tables_answer_alike<T>()
+    ensures { (start size : T → ℕ) (records table : List T) → IsTable start size records table → (addr : ℕ) (found : Option (ℕ × ℕ)) → IsFound (map start table) addr found →
+        option_and_then (λ p. slice_get table p.0) found ≡ candidate start size addr records }
+{}
+
+/// At a depth the search gives the record that lies nearest around an address, and what lies
+/// nearest is what it gives.
+pub fn inner_is_exact<T>()
+    ensures is { (depth start : T → ℕ) (records : List T) (at addr : ℕ) (x : T) → inner depth start at addr records ≡ Some x → (place : ℕ) × IsInner depth start records at addr place x }
+    ensures only { (depth start : T → ℕ) (records : List T) (at addr place : ℕ) (x : T) → IsInner depth start records at addr place x → inner depth start at addr records ≡ Some x }
+    ensures chain { (depth start size : T → ℕ) (records : List T) (addr : ℕ) → IsChainTo depth start size last_depth records addr 0 (chain depth start size records addr) }
 {}
 
 /// Kinds, reasons and refusals are equal exactly where they are the same variant.

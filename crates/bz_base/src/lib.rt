@@ -1,17 +1,25 @@
 //! What an answer of the symbolizer is, and why there is none.
 #![tactic(auto)]
 
+mod chain;
 mod error;
 mod input;
 pub mod laws;
 mod search;
+mod starts;
 mod steps;
+mod sweep;
+mod table;
 mod types;
 
+pub use chain::{Nested, chain_in, inner_in, sort_nested};
 pub use error::{Error, ErrorKind, Result};
 pub use input::Input;
-pub use search::covers;
+pub use search::{covers, inside};
+pub use starts::{Starts, nearest};
 pub use steps::Steps;
+pub use sweep::nearest_each;
+pub use table::{Spanned, answering, nearest_in, sort_table, starts_of};
 pub use types::{
     Addr, CodeInfo, FindSymOpts, InlinedFn, Reason, ResolvedSym, SrcLang, Sym, SymType, Symbolized,
 };

@@ -3,5 +3,5 @@ pub mod FieldLemmas
 pub mod FormLemmas
 pub mod GrammarLemmas
 pub mod LineLemmas
-pub mod PlainLemmas
+pub mod SortedLemmas
 pub mod RecordLemmas

@@ -8,3 +8,4 @@ pub mod Reader
 pub mod Refusal
 pub mod Table
 pub mod Version
+pub mod Sorted
