@@ -42,7 +42,7 @@ module _ {X : Type 0} (test : X → Bool) where
       after place found zero z at q = absurd (cc)
       after place found (suc k) z at q = let h : place ≤ k = found.before_others k z at q in omega arith
 
-  -- and the other way round
+  -- the first that passes is the first of those that pass
   pub first_in_filter : (xs : List X) (place : ℕ) (x : X) → IsFirst xs place x → (rest : List X) × (filter test xs ≡ x ∷ rest)
   first_in_filter [] place x first = absurd (cc (first.there))
   first_in_filter (y ∷ ys) zero x first = let same : y ≡ x = cc (first.there) in (filter test ys, rw (ap test same ∙ first.passes) (ap (λ z. z ∷ filter test ys) same))
@@ -63,6 +63,7 @@ module _ {X : Type 0} (test : X → Bool) where
     by_test true passes more = absurd (none 0 y refl passes)
     by_test false fails more = more
 
+  -- where none is left, none passes
   none_left : (xs : List X) → filter test xs ≡ [] → (k : ℕ) (y : X) → slice_get xs k ≡ Some y → test y ≡ true → ⊥
   none_left xs none k y at passes = let some = some_pass xs k y at passes in cc (some.2)
 
@@ -88,7 +89,7 @@ module _ {X : Type 0} (test : X → Bool) where
     by_test true passes (f ∷ fs) is more = let found = more fs (cc) in (suc found.0, later found.0 found.1)
     by_test false fails front is more = let found = more front is in (suc found.0, later found.0 found.1)
 
-  -- and the other way round
+  -- the last that passes is the last of those that pass
   pub last_in_filter : (xs : List X) (place : ℕ) (x : X) → IsLast xs place x → (front : List X) × (filter test xs ≡ front ++ x ∷ [])
   last_in_filter [] place x last = absurd (cc (last.there))
   last_in_filter (y ∷ ys) zero x last = let same : y ≡ x = cc (last.there) in

@@ -1,8 +1,12 @@
 pub mod ChainLemmas
 pub mod EqualityLemmas
-pub mod HashLemmas
-pub mod NearestLemmas
-pub mod StartsLemmas
 pub mod FilterLemmas
+pub mod HashLemmas
+pub mod InnerLemmas
+pub mod InnerTableLemmas
+pub mod NearestLemmas
+pub mod SortLemmas
+pub mod StartsLemmas
 pub mod SweepLemmas
 pub mod TableLemmas
+pub mod ViewLemmas

@@ -34,24 +34,27 @@ pub few_within : (probes count most : ℕ) → 2 ^ probes ≤ 2 * count + 1 → 
 few_within probes count most few enough =
     let h : probes < most + 1 = lesser_exponent probes (most + 1) (omega (arith, power_more most)) in omega arith
 
--- halving once more
+-- a half with its power still reaches the count
 pub halved_enough : (count most left : ℕ) → count < 2 ^ most * (left + 1) → count < 2 ^ (most + 1) * (left / 2 + 1)
 halved_enough count most left enough =
     let e : 2 ^ (most + 1) * (left / 2 + 1) ≡ 2 ^ most * (2 * (left / 2 + 1)) = rw (power_more most) (mul_assoc (2 ^ most) 2 (left / 2 + 1)) in
     let m : 2 ^ most * (left + 1) ≤ 2 ^ most * (2 * (left / 2 + 1)) = mul-le-mul_left (2 ^ most) (omega arith) in
     omega (arith, e, m)
 
+-- and stays within it
 pub halved_within : (count most left : ℕ) → 2 ^ most * left ≤ count → 2 ^ (most + 1) * (left / 2) ≤ count
 halved_within count most left within =
     let e : 2 ^ (most + 1) * (left / 2) ≡ 2 ^ most * (2 * (left / 2)) = rw (power_more most) (mul_assoc (2 ^ most) 2 (left / 2)) in
     let m : 2 ^ most * (2 * (left / 2)) ≤ 2 ^ most * left = mul-le-mul_left (2 ^ most) (omega arith) in
     omega (arith, e, m)
 
+-- a half more is needed only where the power is within twice the count
 pub halved_needed : (count most left : ℕ) → 0 < left → 2 ^ most * left ≤ count → 2 ^ (most + 1) ≤ 2 * count + 1
 halved_needed count most left some within =
     let m : 2 ^ most * 1 ≤ 2 ^ most * left = mul-le-mul_left (2 ^ most) some in
     omega (arith, power_more most, m)
 
+-- a count of 64 bits is halved fewer than 64 times before the last
 pub halved_few : (count most left : ℕ) → 0 < left → 2 ^ most * left ≤ count → count < 2 ^ 64 → most < 64
 halved_few count most left some within fits =
     let m : 2 ^ most * 1 ≤ 2 ^ most * left = mul-le-mul_left (2 ^ most) some in

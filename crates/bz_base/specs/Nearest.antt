@@ -17,10 +17,10 @@ module _ {X : Type 0} (start size : X → ℕ) where
     pub largest_below : start x < addr → (i : ℕ) (y : X) → slice_get records i ≡ Some y → start y ≡ start x →
         (size y < size x) ⊎ ((size y ≡ size x) × (i ≤ place))
 
-  -- the answer is the candidate if it covers the address; an enclosing record that starts earlier is never tried
-  abbrev pub IsNearest : List X → ℕ → Option X → Type 0
-  IsNearest records addr (Some x) = (place : ℕ) × IsCandidate records addr place x × (covers (start x) (size x) addr ≡ true)
-  IsNearest records addr None = (place : ℕ) (x : X) → IsCandidate records addr place x → covers (start x) (size x) addr ≡ false
+  -- the answer is the candidate if it covers the address, and else none; an enclosing record that starts earlier is never tried
+  abbrev pub IsNearestCovering : List X → ℕ → Option X → Type 0
+  IsNearestCovering records addr (Some x) = (place : ℕ) × IsCandidate records addr place x × (covers (start x) (size x) addr ≡ true)
+  IsNearestCovering records addr None = (place : ℕ) (x : X) → IsCandidate records addr place x → covers (start x) (size x) addr ≡ false
 
   -- whether a record is to be tried before another, which stands after it and doesn't start above the address
   abbrev pub comes_first : ℕ → X → X → Bool
@@ -43,9 +43,9 @@ module _ {X : Type 0} (start size : X → ℕ) where
   abbrev pub if_covers : ℕ → X → Option X
   if_covers addr x = if covers (start x) (size x) addr then Some x else None
 
-  -- the record that answers
-  abbrev pub nearest : ℕ → List X → Option X
-  nearest addr records = option_and_then (if_covers addr) (candidate addr records)
+  -- the record to be tried, if it covers the address
+  abbrev pub nearest_covering : ℕ → List X → Option X
+  nearest_covering addr records = option_and_then (if_covers addr) (candidate addr records)
 
   -- a record has this start and this size
   abbrev pub has_span : ℕ → ℕ → X → Bool

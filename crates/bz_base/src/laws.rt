@@ -1,10 +1,10 @@
 //! What holds of the definitions that the contracts cite.
 
-ghost use Rattle.std.specs.Prelude.{◌≡◌, ◌↔◌, ℕ, true, List, Option, IsTrue, map, option_and_then, slice_get};
+ghost use Rattle.std.specs.Prelude.{◌≡◌, ◌↔◌, ℕ, true, List, Option, Some, IsTrue, map, option_and_then, slice_get};
 ghost use Rattle.bz_base.specs.Answer.{site_of, call_of, symbol_of, resolved_of, reading};
 ghost use Rattle.bz_base.specs.Chain.{IsInner, IsChainTo, inner, chain, last_depth};
 ghost use Rattle.bz_base.specs.InputKind.{payload, MapsTo};
-ghost use Rattle.bz_base.specs.Nearest.{IsNearest, IsTable, candidate, nearest};
+ghost use Rattle.bz_base.specs.Nearest.{IsCandidate, IsNearestCovering, IsTable, candidate, nearest_covering};
 ghost use Rattle.bz_base.specs.Span.{covers, Covers};
 ghost use Rattle.bz_base.specs.Starts.{IsFound};
 ghost use Rattle.bz_base.specs.declared.error.Error.{Error};
@@ -29,11 +29,12 @@ pub fn covers_is_exact()
     ensures { (start size addr : ℕ) → (covers start size addr ≡ true) ↔ Covers start size addr }
 {}
 
-/// Over records of a start and a size, the search gives the nearest record that answers for the
-/// address, and what is nearest is what the search gives.
-pub fn nearest_is_exact()
-    ensures is { (records : List (ℕ × ℕ)) (addr : ℕ) → IsNearest (λ r. r.0) (λ r. r.1) records addr (nearest (λ r. r.0) (λ r. r.1) addr records) }
-    ensures only { (records : List (ℕ × ℕ)) (addr : ℕ) (answer : Option (ℕ × ℕ)) → IsNearest (λ r. r.0) (λ r. r.1) records addr answer → answer ≡ nearest (λ r. r.0) (λ r. r.1) addr records }
+/// Over records of any kind with a start and a size, the scan gives the record that is to be tried,
+/// and with the test the nearest one if it covers the address; and what is nearest is what it gives.
+pub fn nearest_is_exact<T>()
+    ensures tried { (start size : T → ℕ) (records : List T) (addr place : ℕ) (x : T) → IsCandidate start size records addr place x → candidate start size addr records ≡ Some x }
+    ensures is { (start size : T → ℕ) (records : List T) (addr : ℕ) → IsNearestCovering start size records addr (nearest_covering start size addr records) }
+    ensures only { (start size : T → ℕ) (records : List T) (addr : ℕ) (answer : Option T) → IsNearestCovering start size records addr answer → answer ≡ nearest_covering start size addr records }
 {}
 
 /// In a table of a list's records by start and size, the record at the place that a search among

@@ -1,7 +1,7 @@
 //! Tables of records by start and size, and the search for the record that answers for an address.
 
 ghost use Rattle.std.specs.Prelude.{◌≡◌, ℕ, ◌-◌, ◌≤◌, List, length, map, option_map, OnOk, OnErr, IfOk, IfSome};
-ghost use Rattle.bz_base.specs.Nearest.{IsTable, if_covers, nearest};
+ghost use Rattle.bz_base.specs.Nearest.{IsTable, if_covers, nearest_covering};
 ghost use Rattle.bz_base.specs.Starts.{NeverDescends, IsFound, AreFew};
 
 use crate::search::covers;
@@ -50,27 +50,27 @@ pub fn starts_of<T: Spanned>(alloc: Global, table: &[T]) -> Result<Starts, Alloc
 }
 
 /// The record that answers for the address, of a table and its starts.
-pub fn nearest_in<'t, T: Spanned, L: Ledger>(
+pub fn nearest_covering<'t, T: Spanned, L: Ledger>(
     table: &'t [T],
     starts: &Starts,
     addr: Addr,
     steps: &mut Steps<L>,
 ) -> Option<&'t T>
     requires { starts.now ≡ map T.start table.now }
-    ensures nearest { (records : List T) → IsTable T.start T.size records table.now →
-        option_map (λ r. r.now) result ≡ nearest T.start T.size addr records }
+    ensures covering { (records : List T) → IsTable T.start T.size records table.now →
+        option_map (λ r. r.now) result ≡ nearest_covering T.start T.size addr records }
     ensures more { steps.old ≤ steps.new }
     ensures few { AreFew (steps.new - steps.old) (length table.now) }
 {
-    answering(table, nearest(starts, addr, steps), addr)
+    covering_at(table, nearest(starts, addr, steps), addr)
 }
 
 /// The record that answers for the address, of a table and the place that a search among its
 /// starts found.
-pub fn answering<T: Spanned>(table: &[T], place: Option<(usize, Addr)>, addr: Addr) -> Option<&T>
+pub fn covering_at<T: Spanned>(table: &[T], place: Option<(usize, Addr)>, addr: Addr) -> Option<&T>
     requires { IsFound (map T.start table.now) addr place }
-    ensures nearest { (records : List T) → IsTable T.start T.size records table.now →
-        option_map (λ r. r.now) result ≡ nearest T.start T.size addr records }
+    ensures covering { (records : List T) → IsTable T.start T.size records table.now →
+        option_map (λ r. r.now) result ≡ nearest_covering T.start T.size addr records }
     ensures below { IfSome result (λ r. T.start r.now ≤ addr) }
 {
     match place {
@@ -80,7 +80,7 @@ pub fn answering<T: Spanned>(table: &[T], place: Option<(usize, Addr)>, addr: Ad
 }
 
 /// The record, if it covers the address.
-fn if_covers<T: Spanned>(entry: &T, addr: Addr) -> Option<&T>
+pub(crate) fn if_covers<T: Spanned>(entry: &T, addr: Addr) -> Option<&T>
     ensures same { IfSome result (λ r. r.now ≡ entry.now) }
     ensures value { option_map (λ r. r.now) result ≡ if_covers T.start T.size addr entry.now }
 {

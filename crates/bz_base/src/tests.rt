@@ -1,9 +1,10 @@
+mod search;
+
 ghost use Rattle.std.specs.Prelude.{◌≡◌, ◌+◌, ◌<◌};
 
 use crate::{
-    CodeInfo, Error, ErrorKind, InlinedFn, Input, Nested, Reason, Spanned, SrcLang, Steps, Sym,
-    SymType, Symbolized, answering, chain_in, covers, nearest_each, sort_nested, sort_table,
-    starts_of,
+    CodeInfo, Error, ErrorKind, InlinedFn, Input, Reason, SrcLang, Steps, Sym, SymType, Symbolized,
+    covers,
 };
 use std::alloc::{AllocError, Global};
 use std::borrow::CowStr;
@@ -192,113 +193,4 @@ fn tick_twice<L: Ledger>(steps: &mut Steps<L>)
 fn steps_take_no_bytes(rt: HostRuntime) {
     count_two::<Brand>(Blank::new(1));
     assert_eq!(rt; size_of::<Steps<Brand>>(), 0);
-}
-
-#[derive(Drop)]
-struct Entry {
-    start: u64,
-    size: u64,
-    depth: u32,
-    id: u8,
-}
-
-impl Spanned for Entry {
-    ghost start = { λ e. e.start };
-
-    ghost size = { λ e. e.size };
-
-    fn start(&self) -> u64 {
-        self.start
-    }
-
-    fn size(&self) -> u64 {
-        self.size
-    }
-}
-
-impl Nested for Entry {
-    ghost depth = { λ e. e.depth };
-
-    fn depth(&self) -> u32 {
-        self.depth
-    }
-}
-
-fn entries(alloc: Global, spans: &[(u64, u64, u32)]) -> Result<Vec<Entry>, AllocError> {
-    let mut entries = Vec::new(alloc);
-    let mut id: u8 = 0;
-    for (start, size, depth) in spans {
-        entries.push(Entry {
-            start: *start,
-            size: *size,
-            depth: *depth,
-            id,
-        })?;
-        id = id.wrapping_add(1);
-    }
-    Ok(entries)
-}
-
-fn found_of<L: Ledger>(
-    blank: Blank,
-    alloc: Global,
-    spans: &[(u64, u64, u32)],
-    addrs: &[u64],
-) -> Result<Vec<Option<u8>>, AllocError>
-    requires name { blank.name ≡ L.name }
-    requires parts { blank.parts ≡ L.parts }
-    requires some { 0 < L.parts }
-{
-    let mut steps = Steps::<L>::new(blank);
-    let mut table = entries(alloc, spans)?;
-    sort_table(&mut table)?;
-    let starts = starts_of(alloc, &table)?;
-    let places = nearest_each(alloc, &starts, addrs, &mut steps)?;
-    let mut found = Vec::new(alloc);
-    for (k, addr) in addrs.iter().enumerate() {
-        found.push(answering(&table, places[k], *addr).map(|entry| entry.id))?;
-    }
-    Ok(found)
-}
-
-#[test]
-fn finds_nearest(rt: HostRuntime) -> Result<(), Fail> {
-    let all = [
-        (16, 8, 0),
-        (16, 4, 0),
-        (32, 0, 0),
-        (16, 4, 0),
-        (16, 8, 0),
-        (8, 100, 0),
-    ];
-    let addrs = [17, 16, 40, 7, 32, 8, 15, 23, 24];
-    let found = found_of::<Brand>(Blank::new(1), rt.alloc(), &all, &addrs)?;
-    let want = [
-        Some(4),
-        Some(1),
-        None,
-        None,
-        Some(2),
-        Some(5),
-        Some(5),
-        Some(4),
-        None,
-    ];
-    assert_eq!(rt; found.as_slice(), want.as_slice());
-    let one = found_of::<Brand>(Blank::new(1), rt.alloc(), &all, &addrs[..1])?;
-    assert_eq!(rt; one.as_slice(), &want[..1]);
-    Ok(())
-}
-
-#[test]
-fn finds_chain(rt: HostRuntime) -> Result<(), Fail> {
-    let all = [(4, 9, 1), (0, 20, 0), (4, 9, 1), (5, 2, 2), (6, 0, 3)];
-    let mut table = entries(rt.alloc(), &all)?;
-    sort_nested(&mut table)?;
-    let mut ids = Vec::new(rt.alloc());
-    for entry in &chain_in(rt.alloc(), &table, 6)? {
-        ids.push(entry.id)?;
-    }
-    assert_eq!(rt; ids.as_slice(), [1, 2, 3].as_slice());
-    Ok(())
 }

@@ -9,7 +9,7 @@ ghost use Rattle.bz_breakpad.specs.Table.{Function};
 ghost use Rattle.bz_breakpad.specs.declared.types.KeptFunction.{KeptFunction};
 
 use crate::types::KeptFunction;
-use bz_base::{Spanned, answering};
+use bz_base::{Spanned, covering_at};
 
 impl Spanned for KeptFunction {
     ghost start = { λ f. f.start };
@@ -37,5 +37,5 @@ pub(crate) fn nearest(
         lent_function result ≡ function_at addr list }
     ensures below { IfSome result (λ f. f.now.start ≤ addr) }
 {
-    answering(functions, place, addr)
+    covering_at(functions, place, addr)
 }

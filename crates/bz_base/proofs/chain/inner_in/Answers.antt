@@ -1,6 +1,6 @@
 use Rattle.std.proofs.Common.{rules, sym, ◌∙◌}
 use Rattle.std.proofs.lemmas.List.Sorted.{IsPartitionPoint-from_clause}
-use Rattle.bz_base.proofs.ChainLemmas.{is_before, is_parted, at_point, not_at_point, no_point}
+use Rattle.bz_base.proofs.InnerTableLemmas.{is_before, is_parted, at_point, not_at_point, no_point}
 use Rattle.bz_base.proofs.chain.inner_in.Goals as goal
 
 pub returns-then-place-eq0 : goal.returns-then-place-eq0

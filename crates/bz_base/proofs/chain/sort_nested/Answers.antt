@@ -1,6 +1,6 @@
 use Rattle.std.proofs.Common.{rules}
 use Rattle.std.proofs.lemmas.List.Sorted.{answers_always}
-use Rattle.bz_base.proofs.TableLemmas.{table_from_sort}
+use Rattle.bz_base.proofs.SortLemmas.{table_from_sort}
 use Rattle.bz_base.proofs.chain.sort_nested.Goals as goal
 
 pub returns-clause-table : goal.returns-clause-table

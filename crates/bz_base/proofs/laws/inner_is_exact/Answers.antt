@@ -1,4 +1,5 @@
-use Rattle.bz_base.proofs.ChainLemmas.{inner_is, inner_again, chain_is}
+use Rattle.bz_base.proofs.ChainLemmas.{chain_is}
+use Rattle.bz_base.proofs.InnerLemmas.{inner_is, inner_again}
 use Rattle.bz_base.proofs.laws.inner_is_exact.Goals as goal
 
 pub returns-clause-is : goal.returns-clause-is

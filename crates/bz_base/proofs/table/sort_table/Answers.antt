@@ -1,6 +1,6 @@
 use Rattle.std.proofs.Common.{rules}
 use Rattle.std.proofs.lemmas.List.Sorted.{answers_always, length_permutation}
-use Rattle.bz_base.proofs.TableLemmas.{table_from_sort, starts_never_descend}
+use Rattle.bz_base.proofs.SortLemmas.{table_from_sort, starts_never_descend}
 use Rattle.bz_base.proofs.table.sort_table.Goals as goal
 
 pub returns-clause-table : goal.returns-clause-table

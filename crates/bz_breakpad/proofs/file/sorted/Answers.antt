@@ -1,6 +1,6 @@
 use Rattle.std.proofs.Common.{refl, map, ap, sym, ◌∙◌}
 use Rattle.std.proofs.lemmas.List.{length-map}
-use Rattle.bz_base.proofs.TableLemmas.{table_seen}
+use Rattle.bz_base.proofs.ViewLemmas.{table_seen}
 use Rattle.bz_breakpad.specs.Kept.{kept_function}
 use Rattle.bz_breakpad.specs.Table.{Function}
 use Rattle.bz_breakpad.specs.declared.types.KeptFunction.{KeptFunction}
