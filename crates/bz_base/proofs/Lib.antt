@@ -4,7 +4,9 @@ pub mod FilterLemmas
 pub mod HashLemmas
 pub mod InnerLemmas
 pub mod InnerTableLemmas
+pub mod LineLemmas
 pub mod NearestLemmas
+pub mod NumberLemmas
 pub mod SortLemmas
 pub mod StartsLemmas
 pub mod SweepLemmas

@@ -1,10 +1,12 @@
 //! What holds of the definitions that the contracts cite.
 
-ghost use Rattle.std.specs.Prelude.{◌≡◌, ◌↔◌, ℕ, true, List, Option, Some, IsTrue, map, option_and_then, slice_get};
+ghost use Rattle.std.specs.Prelude.{◌≡◌, ◌↔◌, ◌≤◌, ℕ, true, List, Option, Some, IsTrue, map, option_and_then, slice_get};
 ghost use Rattle.bz_base.specs.Answer.{site_of, call_of, symbol_of, resolved_of, reading};
 ghost use Rattle.bz_base.specs.Chain.{IsInner, IsChainTo, inner, chain, last_depth};
 ghost use Rattle.bz_base.specs.InputKind.{payload, MapsTo};
+ghost use Rattle.bz_base.specs.Line.{AreEnded, AreLines, all_lines, ended_lines};
 ghost use Rattle.bz_base.specs.Nearest.{IsCandidate, IsNearestCovering, IsTable, candidate, nearest_covering};
+ghost use Rattle.bz_base.specs.Number.{IsAtFront, IsDecimal, IsHex, decimal_at, hex_at, number_at, whole};
 ghost use Rattle.bz_base.specs.Span.{covers, Covers};
 ghost use Rattle.bz_base.specs.Starts.{IsFound};
 ghost use Rattle.bz_base.specs.declared.error.Error.{Error};
@@ -35,6 +37,22 @@ pub fn nearest_is_exact<T>()
     ensures tried { (start size : T → ℕ) (records : List T) (addr place : ℕ) (x : T) → IsCandidate start size records addr place x → candidate start size addr records ≡ Some x }
     ensures is { (start size : T → ℕ) (records : List T) (addr : ℕ) → IsNearestCovering start size records addr (nearest_covering start size addr records) }
     ensures only { (start size : T → ℕ) (records : List T) (addr : ℕ) (answer : Option T) → IsNearestCovering start size records addr answer → answer ≡ nearest_covering start size addr records }
+{}
+
+/// The lines that are read of a text are those that make it up side by side: each with its end, and
+/// with an end that the last one may lack.
+pub fn lines_are_exact()
+    ensures ended { (text : List ℕ) (lines : List (List ℕ)) → (ended_lines text ≡ Some lines) ↔ AreEnded text lines }
+    ensures all { (text : List ℕ) (lines : List (List ℕ)) → (all_lines text ≡ lines) ↔ AreLines text lines }
+{}
+
+/// The numbers that are read of a text, from its front or from the whole of it, are those that its
+/// digits spell.
+pub fn numbers_are_exact()
+    ensures front { (base most : ℕ) (text : List ℕ) (value : ℕ) (rest : List ℕ) → (number_at base most text ≡ Some (value, rest)) ↔ IsAtFront base most text value rest }
+    ensures decimal_front { (most greatest : ℕ) (text : List ℕ) (value : ℕ) (rest : List ℕ) → (decimal_at most greatest text ≡ Some (value, rest)) ↔ (IsAtFront 10 most text value rest × (value ≤ greatest)) }
+    ensures whole_hex { (most : ℕ) (text : List ℕ) (value : ℕ) → (whole (hex_at most text) ≡ Some value) ↔ IsHex most text value }
+    ensures whole_decimal { (most greatest : ℕ) (text : List ℕ) (value : ℕ) → (whole (decimal_at most greatest text) ≡ Some value) ↔ IsDecimal most greatest text value }
 {}
 
 /// In a table of a list's records by start and size, the record at the place that a search among
