@@ -1,8 +1,6 @@
-pub mod Byte
 pub mod Field
 pub mod Grammar
 pub mod Kept
-pub mod Line
 pub mod Plain
 pub mod Reader
 pub mod Refusal
