@@ -1,3 +1,14 @@
+pub mod ChainLemmas
 pub mod EqualityLemmas
+pub mod FilterLemmas
 pub mod HashLemmas
+pub mod InnerLemmas
+pub mod InnerTableLemmas
+pub mod LineLemmas
 pub mod NearestLemmas
+pub mod NumberLemmas
+pub mod SortLemmas
+pub mod StartsLemmas
+pub mod SweepLemmas
+pub mod TableLemmas
+pub mod ViewLemmas

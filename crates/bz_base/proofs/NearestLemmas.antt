@@ -1,10 +1,10 @@
--- The record that the search by `nearest` gives is the one that `IsNearest` describes, and the only one.
+-- The record that the search by `nearest_covering` gives is the one that `IsNearestCovering` describes, and the only one.
 use Rattle.std.proofs.Common.{◌≡◌, ◌⊎◌, ℕ, zero, suc, ◌<◌, ◌≤◌, true, false, nat_le, List, [], ◌∷◌, Option, Some, None, option_and_then, refl, sym, ap, subst, ◌∙◌, arith}
 use Rattle.std.specs.List.{slice_get}
 use Rattle.std.proofs.lemmas.Bool.{cond_both}
 use Rattle.std.proofs.lemmas.Bool.Decides.{nat_tests}
 use Rattle.bz_base.specs.Span.{covers}
-use Rattle.bz_base.specs.Nearest.{IsCandidate, IsNearest, comes_first, first_of, candidate, if_covers, nearest}
+use Rattle.bz_base.specs.Nearest.{IsCandidate, IsNearestCovering, comes_first, first_of, candidate, if_covers, nearest_covering}
 
 module _ {X : Type 0} (start size : X → ℕ) where
   -- a place has one record
@@ -157,20 +157,20 @@ module _ {X : Type 0} (start size : X → ℕ) where
     by_result None found = absurd (omega (arith, found place x is.there, is.not_above))
     by_result (Some y) found = ap Some (candidate_only addr records found.0 place y x found.1 is)
 
-  -- what `nearest` gives is the nearest record, if it covers the address
-  pub nearest_is : (addr : ℕ) (records : List X) → IsNearest start size records addr (nearest start size addr records)
-  nearest_is addr records = by_candidate (candidate start size addr records) refl where
-    by_candidate : (o : Option X) → candidate start size addr records ≡ o → IsNearest start size records addr (option_and_then (if_covers start size addr) o)
+  -- what `nearest_covering` gives is the nearest record, if it covers the address
+  pub nearest_covering_is : (addr : ℕ) (records : List X) → IsNearestCovering start size records addr (nearest_covering start size addr records)
+  nearest_covering_is addr records = by_candidate (candidate start size addr records) refl where
+    by_candidate : (o : Option X) → candidate start size addr records ≡ o → IsNearestCovering start size records addr (option_and_then (if_covers start size addr) o)
     by_candidate None none = λ place x is. absurd (omega (arith, none_below addr records none place x is.there, is.not_above))
-    by_candidate (Some x) found = cond_both (covers (start x) (size x) addr) (Some x) None (IsNearest start size records addr)
+    by_candidate (Some x) found = cond_both (covers (start x) (size x) addr) (Some x) None (IsNearestCovering start size records addr)
         (λ yes. let is = candidate_is addr records x found in (is.0, is.1, yes))
         (λ no place y is. let same : x ≡ y = same_some x y (sym found ∙ candidate_again addr records place y is) in
         subst (λ w. covers (start w) (size w) addr ≡ false) same no)
 
   -- and only that is
-  pub nearest_only : (addr : ℕ) (records : List X) (answer : Option X) → IsNearest start size records addr answer → answer ≡ nearest start size addr records
-  nearest_only addr records (Some x) is = rw (candidate_again addr records is.0 x is.1, is.2)
-  nearest_only addr records None is = by_candidate (candidate start size addr records) refl where
+  pub nearest_covering_only : (addr : ℕ) (records : List X) (answer : Option X) → IsNearestCovering start size records addr answer → answer ≡ nearest_covering start size addr records
+  nearest_covering_only addr records (Some x) is = rw (candidate_again addr records is.0 x is.1, is.2)
+  nearest_covering_only addr records None is = by_candidate (candidate start size addr records) refl where
     by_candidate : (o : Option X) → candidate start size addr records ≡ o → None ≡ option_and_then (if_covers start size addr) o
     by_candidate None none = refl
     by_candidate (Some x) found = let place = candidate_is addr records x found in rw (is place.0 x place.1)

@@ -1,7 +1,12 @@
 pub mod Answer
+pub mod Byte
+pub mod Chain
 pub mod ErrorNames
 pub mod InputKind
+pub mod Line
 pub mod Nearest
+pub mod Number
 pub mod ReasonText
 pub mod Refusals
 pub mod Span
+pub mod Starts

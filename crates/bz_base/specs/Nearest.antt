@@ -1,6 +1,7 @@
 -- Which of several records answers for an address: the one with the nearest start, if it covers the address.
 -- The records stand in the order of their file, and may repeat and overlap.
 use Rattle.std.specs.Prelude.{◌≡◌, ◌⊎◌, ℕ, ◌<◌, ◌≤◌, Bool, true, false, not, ◌==◌, nat_le, nat_lt, ◌&&◌, ◌||◌, List, [], ◌∷◌, Option, Some, None, if◌then◌else◌, slice_get, option_and_then}
+use Rattle.std.specs.List.{filter}
 use Rattle.bz_base.specs.Span.{covers}
 
 module _ {X : Type 0} (start size : X → ℕ) where
@@ -16,10 +17,10 @@ module _ {X : Type 0} (start size : X → ℕ) where
     pub largest_below : start x < addr → (i : ℕ) (y : X) → slice_get records i ≡ Some y → start y ≡ start x →
         (size y < size x) ⊎ ((size y ≡ size x) × (i ≤ place))
 
-  -- the answer is the candidate if it covers the address; an enclosing record that starts earlier is never tried
-  abbrev pub IsNearest : List X → ℕ → Option X → Type 0
-  IsNearest records addr (Some x) = (place : ℕ) × IsCandidate records addr place x × (covers (start x) (size x) addr ≡ true)
-  IsNearest records addr None = (place : ℕ) (x : X) → IsCandidate records addr place x → covers (start x) (size x) addr ≡ false
+  -- the answer is the candidate if it covers the address, and else none; an enclosing record that starts earlier is never tried
+  abbrev pub IsNearestCovering : List X → ℕ → Option X → Type 0
+  IsNearestCovering records addr (Some x) = (place : ℕ) × IsCandidate records addr place x × (covers (start x) (size x) addr ≡ true)
+  IsNearestCovering records addr None = (place : ℕ) (x : X) → IsCandidate records addr place x → covers (start x) (size x) addr ≡ false
 
   -- whether a record is to be tried before another, which stands after it and doesn't start above the address
   abbrev pub comes_first : ℕ → X → X → Bool
@@ -42,6 +43,17 @@ module _ {X : Type 0} (start size : X → ℕ) where
   abbrev pub if_covers : ℕ → X → Option X
   if_covers addr x = if covers (start x) (size x) addr then Some x else None
 
-  -- the record that answers
-  abbrev pub nearest : ℕ → List X → Option X
-  nearest addr records = option_and_then (if_covers addr) (candidate addr records)
+  -- the record to be tried, if it covers the address
+  abbrev pub nearest_covering : ℕ → List X → Option X
+  nearest_covering addr records = option_and_then (if_covers addr) (candidate addr records)
+
+  -- a record has this start and this size
+  abbrev pub has_span : ℕ → ℕ → X → Bool
+  has_span at length x = at == start x && length == size x
+
+  -- the table has the records of the list by start and then by size, and those that are alike in both in the order of the
+  -- list
+  pub record IsTable (records table : List X) : Type 0 where
+    pub starts_ascend : (i j : ℕ) (x y : X) → i ≤ j → slice_get table i ≡ Some x → slice_get table j ≡ Some y → start x ≤ start y
+    pub sizes_ascend : (i j : ℕ) (x y : X) → i ≤ j → slice_get table i ≡ Some x → slice_get table j ≡ Some y → start x ≡ start y → size x ≤ size y
+    pub alike : (at length : ℕ) → filter (has_span at length) table ≡ filter (has_span at length) records

@@ -1,10 +1,14 @@
 //! What holds of the definitions that the contracts cite.
 
-ghost use Rattle.std.specs.Prelude.{◌≡◌, ◌↔◌, ℕ, true, List, Option, IsTrue};
+ghost use Rattle.std.specs.Prelude.{◌≡◌, ◌↔◌, ◌≤◌, ℕ, true, List, Option, Some, IsTrue, map, option_and_then, slice_get};
 ghost use Rattle.bz_base.specs.Answer.{site_of, call_of, symbol_of, resolved_of, reading};
+ghost use Rattle.bz_base.specs.Chain.{IsInner, IsChainTo, inner, chain, last_depth};
 ghost use Rattle.bz_base.specs.InputKind.{payload, MapsTo};
-ghost use Rattle.bz_base.specs.Nearest.{IsNearest, nearest};
+ghost use Rattle.bz_base.specs.Line.{AreEnded, AreLines, all_lines, ended_lines};
+ghost use Rattle.bz_base.specs.Nearest.{IsCandidate, IsNearestCovering, IsTable, candidate, nearest_covering};
+ghost use Rattle.bz_base.specs.Number.{IsAtFront, IsDecimal, IsHex, decimal_at, hex_at, number_at, whole};
 ghost use Rattle.bz_base.specs.Span.{covers, Covers};
+ghost use Rattle.bz_base.specs.Starts.{IsFound};
 ghost use Rattle.bz_base.specs.declared.error.Error.{Error};
 ghost use Rattle.bz_base.specs.declared.error.ErrorKind.{ErrorKind};
 ghost use Rattle.bz_base.specs.declared.input.Input.{Input};
@@ -27,11 +31,43 @@ pub fn covers_is_exact()
     ensures { (start size addr : ℕ) → (covers start size addr ≡ true) ↔ Covers start size addr }
 {}
 
-/// Over records of a start and a size, the search gives the nearest record that answers for the
-/// address, and what is nearest is what the search gives.
-pub fn nearest_is_exact()
-    ensures is { (records : List (ℕ × ℕ)) (addr : ℕ) → IsNearest (λ r. r.0) (λ r. r.1) records addr (nearest (λ r. r.0) (λ r. r.1) addr records) }
-    ensures only { (records : List (ℕ × ℕ)) (addr : ℕ) (answer : Option (ℕ × ℕ)) → IsNearest (λ r. r.0) (λ r. r.1) records addr answer → answer ≡ nearest (λ r. r.0) (λ r. r.1) addr records }
+/// Over records of any kind with a start and a size, the scan gives the record that is to be tried,
+/// and with the test the nearest one if it covers the address; and what is nearest is what it gives.
+pub fn nearest_is_exact<T>()
+    ensures tried { (start size : T → ℕ) (records : List T) (addr place : ℕ) (x : T) → IsCandidate start size records addr place x → candidate start size addr records ≡ Some x }
+    ensures is { (start size : T → ℕ) (records : List T) (addr : ℕ) → IsNearestCovering start size records addr (nearest_covering start size addr records) }
+    ensures only { (start size : T → ℕ) (records : List T) (addr : ℕ) (answer : Option T) → IsNearestCovering start size records addr answer → answer ≡ nearest_covering start size addr records }
+{}
+
+/// The lines that are read of a text are those that make it up side by side: each with its end, and
+/// with an end that the last one may lack.
+pub fn lines_are_exact()
+    ensures ended { (text : List ℕ) (lines : List (List ℕ)) → (ended_lines text ≡ Some lines) ↔ AreEnded text lines }
+    ensures all { (text : List ℕ) (lines : List (List ℕ)) → (all_lines text ≡ lines) ↔ AreLines text lines }
+{}
+
+/// The numbers that are read of a text, from its front or from the whole of it, are those that its
+/// digits spell.
+pub fn numbers_are_exact()
+    ensures front { (base most : ℕ) (text : List ℕ) (value : ℕ) (rest : List ℕ) → (number_at base most text ≡ Some (value, rest)) ↔ IsAtFront base most text value rest }
+    ensures decimal_front { (most greatest : ℕ) (text : List ℕ) (value : ℕ) (rest : List ℕ) → (decimal_at most greatest text ≡ Some (value, rest)) ↔ (IsAtFront 10 most text value rest × (value ≤ greatest)) }
+    ensures whole_hex { (most : ℕ) (text : List ℕ) (value : ℕ) → (whole (hex_at most text) ≡ Some value) ↔ IsHex most text value }
+    ensures whole_decimal { (most greatest : ℕ) (text : List ℕ) (value : ℕ) → (whole (decimal_at most greatest text) ≡ Some value) ↔ IsDecimal most greatest text value }
+{}
+
+/// In a table of a list's records by start and size, the record at the place that a search among
+/// the starts finds is the one to be tried of the list in its own order.
+pub fn tables_answer_alike<T>()
+    ensures { (start size : T → ℕ) (records table : List T) → IsTable start size records table → (addr : ℕ) (found : Option (ℕ × ℕ)) → IsFound (map start table) addr found →
+        option_and_then (λ p. slice_get table p.0) found ≡ candidate start size addr records }
+{}
+
+/// At a depth the search gives the record that lies nearest around an address, and what lies
+/// nearest is what it gives.
+pub fn inner_is_exact<T>()
+    ensures is { (depth start : T → ℕ) (records : List T) (at addr : ℕ) (x : T) → inner depth start at addr records ≡ Some x → (place : ℕ) × IsInner depth start records at addr place x }
+    ensures only { (depth start : T → ℕ) (records : List T) (at addr place : ℕ) (x : T) → IsInner depth start records at addr place x → inner depth start at addr records ≡ Some x }
+    ensures chain { (depth start size : T → ℕ) (records : List T) (addr : ℕ) → IsChainTo depth start size last_depth records addr 0 (chain depth start size records addr) }
 {}
 
 /// Kinds, reasons and refusals are equal exactly where they are the same variant.

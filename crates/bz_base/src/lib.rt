@@ -1,17 +1,31 @@
 //! What an answer of the symbolizer is, and why there is none.
 #![tactic(auto)]
 
+mod chain;
 mod error;
 mod input;
 pub mod laws;
+mod number;
+mod scan;
 mod search;
+mod starts;
 mod steps;
+mod sweep;
+mod table;
+mod text;
 mod types;
 
+pub use chain::{Nested, chain_in, inner_in, sort_nested};
 pub use error::{Error, ErrorKind, Result};
 pub use input::Input;
-pub use search::covers;
+pub use number::{decimal, hex, whole_decimal, whole_hex};
+pub use scan::nearest_by_scan;
+pub use search::{covers, inside};
+pub use starts::{Starts, nearest};
 pub use steps::Steps;
+pub use sweep::nearest_each;
+pub use table::{Spanned, covering_at, nearest_covering, sort_table, starts_of};
+pub use text::{first_line, next_line};
 pub use types::{
     Addr, CodeInfo, FindSymOpts, InlinedFn, Reason, ResolvedSym, SrcLang, Sym, SymType, Symbolized,
 };

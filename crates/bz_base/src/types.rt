@@ -3,6 +3,7 @@
 ghost use Rattle.std.specs.Prelude.{◌≡◌, ◌++◌, ◌∷◌, [], Some, IfOk, IsOkUnless, map, option_map, option_copied};
 ghost use Rattle.std.specs.Cow.{cow_str_bytes};
 ghost use Rattle.bz_base.specs.Answer.{site_of, call_of, symbol_of, sym_in};
+ghost use Rattle.bz_base.specs.Byte.{zero_byte};
 ghost use Rattle.bz_base.specs.ReasonText.{text_of};
 
 use crate::error::{Error, Result};
@@ -190,7 +191,7 @@ impl Sym<'_> {
 impl Reason {
     /// The text of the reason, with a zero byte at its end.
     pub fn as_bytes(&self) -> &'static [u8]
-        ensures { result.now ≡ text_of self.now ++ 0 ∷ [] }
+        ensures { result.now ≡ text_of self.now ++ zero_byte ∷ [] }
     {
         match self {
             Reason::Unmapped => b"absolute address not found in virtual memory map of process\0",

@@ -5,11 +5,11 @@ use Rattle.std.specs.List.{list_any, flat_map, AllZip}
 use Rattle.std.specs.Str.Parse.{AllDigits}
 use Rattle.std.proofs.lemmas.Bool.{or_parts, or_from, ne_eqb}
 use Rattle.std.proofs.lemmas.List.Folds.{list_any-append}
-use Rattle.bz_breakpad.specs.Byte.{line_feed, carriage_return, space, HasNo}
+use Rattle.bz_base.specs.Byte.{line_feed, carriage_return, space, HasNo}
 use Rattle.bz_breakpad.specs.Field.{IsSeparator, ends_word}
 use Rattle.bz_breakpad.specs.Grammar.{Record, IsModule, IsFunc, IsRecord}
 use Rattle.bz_breakpad.specs.Grammar.Record.{Module, Func}
-use Rattle.bz_breakpad.specs.Line.{ended}
+use Rattle.bz_base.specs.Line.{ended}
 use Rattle.bz_breakpad.specs.Table.{Function}
 
 -- the text holds none

@@ -11,10 +11,11 @@ use Rattle.std.proofs.lemmas.List.Sums.{prefix_len-le-length}
 use Rattle.std.proofs.Math.Seq.{take-append_seam, drop-append_seam}
 use Rattle.std.proofs.lemmas.Option.{cond_some, none-some}
 use Rattle.std.proofs.lemmas.Str.{IsUtf8-from_is_utf8, is_utf8-from_IsUtf8}
-use Rattle.bz_breakpad.specs.Byte.{tab, line_feed, carriage_return, space, is_blank, HasNo}
-use Rattle.bz_breakpad.specs.Field.{IsHex, IsName, IsWord, begins_with, ends_word}
-use Rattle.bz_breakpad.specs.Reader.{tag_at, separator_at, is_hex, hex_len, hex_at, word_len, word_at, name_at}
-use Rattle.bz_breakpad.proofs.FieldLemmas.{hex_at-some}
+use Rattle.bz_base.specs.Byte.{tab, line_feed, carriage_return, space, is_blank, HasNo, begins_with}
+use Rattle.bz_base.specs.Number.{IsHex, hex_at}
+use Rattle.bz_base.proofs.NumberLemmas.{number_found, number_again}
+use Rattle.bz_breakpad.specs.Field.{IsName, IsWord, ends_word}
+use Rattle.bz_breakpad.specs.Reader.{tag_at, separator_at, word_len, word_at, name_at}
 
 -- a text whose first bytes are the tag's begins with the tag
 begins_with_tag : (tag text : List ℕ) → pointwise nat_eq tag (take (length tag) text) ≡ true → text ≡ tag ++ drop (length tag) text
@@ -37,31 +38,10 @@ separator_found (b ∷ text) rest read =
     let parts = cond_some (nat_eq b space) text rest read in
     ap (λ c. c ∷ text) (eqb-true b space parts.0) ∙ ap (λ after. space ∷ after) parts.1
 
--- the digits in front are digits
-front_digits : (text : List ℕ) → AllDigits 16 (take (hex_len text) text)
-front_digits [] = tt
-front_digits (c ∷ text) =
-    let more : 1 + hex_len text ≡ suc (hex_len text) = omega arith in
-    cond_both (is_hex c) (1 + hex_len text) 0 (λ n. AllDigits 16 (take n (c ∷ text)))
-    (λ yes. rw more (ltb-true (digit_value c) 16 yes, front_digits text)) (λ no. tt)
-
+-- a hexadecimal number that is read stands in front
 pub hex_found : (most : ℕ) (text : List ℕ) (read : ℕ × List ℕ) → hex_at most text ≡ Some read →
     (digits : List ℕ) × IsHex most digits read.0 × (text ≡ digits ++ read.1)
-unfolding hex_at
-hex_found most text read is =
-    let n = hex_len text in
-    let parts = cond_some (nat_lt 0 n && nat_le n most) (digits_value 16 (take n text), drop n text) read is in
-    let fits = and_parts (nat_lt 0 n) (nat_le n most) parts.0 in
-    let len : length (take n text) ≡ n = length-take-le n text (prefix_len-le-length is_hex text) in (
-      take n text,
-      record {
-        some = rw len (ltb-true 0 n fits.0);
-        few = rw len (leb-true n most fits.1);
-        digits = front_digits text;
-        valued = sym (ap (λ r. r.0) parts.1);
-      },
-      sym (take-append-drop n text) ∙ ap (λ r. take n text ++ r.1) parts.1,
-    )
+hex_found most text read is = let at = number_found 16 most text read.0 read.1 is in (at.front, at.number, at.split)
 
 -- the bytes in front that end no word
 front_word : (text : List ℕ) → list_any ends_word (take (word_len text) text) ≡ false
@@ -108,20 +88,10 @@ name_found text name line is =
     } in
     (rw parts.1 at named, parts.1)
 
--- the digits before a space are all the digits in front
-hex_len-before : (digits rest : List ℕ) → AllDigits 16 digits → hex_len (digits ++ space ∷ rest) ≡ length digits
-hex_len-before [] rest all = refl
-hex_len-before (c ∷ digits) rest all =
-    rw (lt-ltb (digit_value c) 16 all.0) (omega (arith, hex_len-before digits rest all.1))
-
+-- a hexadecimal number before a space is read
 pub hex_again : (most : ℕ) (digits rest : List ℕ) (value : ℕ) → IsHex most digits value →
     hex_at most (digits ++ space ∷ rest) ≡ Some (value, space ∷ rest)
-hex_again most digits rest value is =
-    let text = digits ++ space ∷ rest in
-    hex_at-some most text (length digits) (hex_len-before digits rest is.digits) is.some is.few
-    ∙ ap (λ bs. Some (digits_value 16 bs, drop (length digits) text)) (take-append_seam digits (space ∷ rest))
-    ∙ ap (λ bs. Some (digits_value 16 digits, bs)) (drop-append_seam digits (space ∷ rest))
-    ∙ ap (λ v. Some (v, space ∷ rest)) (sym is.valued)
+hex_again most digits rest value is = number_again 16 most digits (space ∷ rest) value is refl
 
 word_len-before : (word rest : List ℕ) → list_any ends_word word ≡ false → word_len (word ++ space ∷ rest) ≡ length word
 word_len-before [] rest none = refl

@@ -3,13 +3,13 @@ use Rattle.std.proofs.Common.{◌≡◌, ℕ, ◌<◌, true, false, List, [], �
 use Rattle.std.specs.List.{AllByRecursion, AllZip, flat_map, filter_map}
 use Rattle.std.proofs.lemmas.List.{append-nil}
 use Rattle.std.proofs.lemmas.Option.{none-some, same_Some}
-use Rattle.bz_breakpad.specs.Byte.{line_feed, carriage_return, HasNo}
+use Rattle.bz_base.specs.Byte.{line_feed, carriage_return, HasNo}
 use Rattle.bz_breakpad.specs.Grammar.{Record, IsRecord, IsNoModule, Accepted, function_of, table_of}
 use Rattle.bz_breakpad.specs.Grammar.Record.{Module, Func}
-use Rattle.bz_breakpad.specs.Line.{ended, lines_in}
+use Rattle.bz_base.specs.Line.{ended, AreEnded, ended_lines}
 use Rattle.bz_breakpad.specs.Reader.{◌>>=◌, record_at, empty_table, with_record, table_with, table_in}
 use Rattle.bz_breakpad.specs.Table.{Function, Table}
-use Rattle.bz_breakpad.proofs.LineLemmas.{IsTextOf, lines_found, lines_again}
+use Rattle.bz_base.proofs.LineLemmas.{ended_found, side_by_side_again}
 use Rattle.bz_breakpad.proofs.CarriageReturnLemmas.{no_carriage_return}
 use Rattle.bz_breakpad.proofs.RecordLemmas.{bind_some, first_found, first_again, later_found, later_again}
 
@@ -67,7 +67,7 @@ later_lines_again (line ∷ lines) (r ∷ records) table are no_module =
     rw (later_again line r are.0 no_module.0)
     (later_lines_again lines records (with_record table r) are.1 no_module.1 ∙ ap (λ t. Some t) (with_later table r records no_module.0))
 
-lines_accepted : (b : ℕ) (bytes : List ℕ) (lines : List (List ℕ)) (table : Table) → IsTextOf (b ∷ bytes) lines →
+lines_accepted : (b : ℕ) (bytes : List ℕ) (lines : List (List ℕ)) (table : Table) → AreEnded (b ∷ bytes) lines →
     table_with true empty_table lines ≡ Some table → Accepted (b ∷ bytes) table
 lines_accepted b bytes [] table text read = absurd (omega (arith, ap length text.whole))
 lines_accepted b bytes (line ∷ lines) table text read =
@@ -78,7 +78,8 @@ lines_accepted b bytes (line ∷ lines) table text read =
     record {
       lines = line ∷ lines;
       records = r.0 ∷ rest.records;
-      are_lines = record { some = omega arith; whole = text.whole; no_line_feed = text.no_line_feed };
+      some = omega arith;
+      are_lines = text;
       no_carriage_return = let P : List ℕ → Type 0 = HasNo carriage_return in subst P (sym text.whole) (no_carriage_return (line ∷ lines) (r.0 ∷ rest.records) are_records);
       are_records = are_records;
       module_first = rest.no_module;
@@ -89,11 +90,11 @@ pub accepted_found : (bytes : List ℕ) (table : Table) → table_in bytes ≡ S
 unfolding table_in
 accepted_found [] table read = absurd (none-some table read)
 accepted_found (b ∷ bytes) table read =
-    let lines = bind_some (lines_in (b ∷ bytes)) _ table read in
-    lines_accepted b bytes lines.0 table (lines_found (b ∷ bytes) lines.0 lines.1) lines.2
+    let lines = bind_some (ended_lines (b ∷ bytes)) _ table read in
+    lines_accepted b bytes lines.0 table (ended_found (b ∷ bytes) lines.0 lines.1) lines.2
 
 -- bytes that are there are read line by line
-table_in-some : (bytes : List ℕ) → 0 < length bytes → table_in bytes ≡ lines_in bytes >>= table_with true empty_table
+table_in-some : (bytes : List ℕ) → 0 < length bytes → table_in bytes ≡ ended_lines bytes >>= table_with true empty_table
 unfolding table_in
 table_in-some [] some = absurd (omega arith)
 table_in-some (b ∷ bytes) some = refl
@@ -115,7 +116,7 @@ pub accepted_again : (bytes : List ℕ) (table : Table) → Accepted bytes table
 accepted_again bytes table is =
     let text = flat_map ended is.lines in
     ap table_in is.are_lines.whole
-    ∙ table_in-some text (text_some is.lines is.are_lines.some)
-    ∙ ap (λ lines. lines >>= table_with true empty_table) (lines_again is.lines is.are_lines.no_line_feed)
-    ∙ lines_again_accepted is.lines is.records is.are_lines.some is.are_records is.module_first
+    ∙ table_in-some text (text_some is.lines is.some)
+    ∙ ap (λ lines. lines >>= table_with true empty_table) (side_by_side_again is.lines is.are_lines.no_line_feed)
+    ∙ lines_again_accepted is.lines is.records is.some is.are_records is.module_first
     ∙ ap (λ t. Some t) (sym is.says)

@@ -2,6 +2,5 @@ pub mod CarriageReturnLemmas
 pub mod FieldLemmas
 pub mod FormLemmas
 pub mod GrammarLemmas
-pub mod LineLemmas
-pub mod PlainLemmas
+pub mod SortedLemmas
 pub mod RecordLemmas

@@ -1,13 +1,13 @@
 -- Each record is read exactly from the lines of its form.
 use Rattle.std.proofs.Common.{◌≡◌, ℕ, true, false, List, [], ◌∷◌, ◌++◌, codes, Option, Some, None, option_map, refl, ap, subst, ◌∙◌}
 use Rattle.std.proofs.lemmas.Option.{none-some, same_Some}
-use Rattle.bz_breakpad.specs.Byte.{line_feed, space, HasNo}
+use Rattle.bz_base.specs.Byte.{line_feed, space, HasNo}
 use Rattle.bz_breakpad.specs.Grammar.{Record, IsModule, IsFunc, IsRecord, IsNoModule}
 use Rattle.bz_breakpad.specs.Grammar.Record.{Module, Func}
 use Rattle.bz_breakpad.specs.Reader.{◌>>=◌, tag_at, separator_at, module_at, func_at, or_module, record_at}
 use Rattle.bz_breakpad.specs.Table.{Function}
 use Rattle.bz_breakpad.proofs.FormLemmas.{tag_found, separator_found, hex_found, hex_again, word_found, word_again, name_found, name_again}
-use Rattle.bz_breakpad.proofs.LineLemmas.{HasNo-after}
+use Rattle.bz_base.proofs.LineLemmas.{HasNo-after}
 
 -- where the second of two readings gives something, the first did
 pub bind_some : {A B : Type 0} (o : Option A) (f : A → Option B) (y : B) → (o >>= f) ≡ Some y → (x : A) × (o ≡ Some x) × (f x ≡ Some y)

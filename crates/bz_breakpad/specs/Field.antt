@@ -1,24 +1,11 @@
 -- The fields of a record's line, each as the set of its texts. After Breakpad's documentation of its symbol files.
-use Rattle.std.specs.Prelude.{◌≡◌, ℕ, ◌<◌, ◌≤◌, Bool, false, ◌||◌, ◌==◌, List, [], ◌∷◌, length, IsUtf8}
+use Rattle.std.specs.Prelude.{◌≡◌, ℕ, ◌<◌, Bool, false, ◌||◌, ◌==◌, List, [], ◌∷◌, length, IsUtf8}
 use Rattle.std.specs.List.{list_any}
-use Rattle.std.specs.Str.Parse.{AllDigits, digits_value}
-use Rattle.bz_breakpad.specs.Byte.{tab, line_feed, carriage_return, space, is_blank, HasNo}
-
--- one to so many hexadecimal digits, in either case, and the number that they spell
-pub record IsHex (most : ℕ) (text : List ℕ) (value : ℕ) : Type 0 where
-  pub some : 0 < length text
-  pub few : length text ≤ most
-  pub digits : AllDigits 16 text
-  pub valued : value ≡ digits_value 16 text
+use Rattle.bz_base.specs.Byte.{tab, line_feed, carriage_return, space, is_blank, HasNo, begins_with}
 
 -- between two fields: one space
 abbrev pub IsSeparator : List ℕ → Type 0
 IsSeparator text = text ≡ space ∷ []
-
--- the text begins with a byte that passes
-abbrev pub begins_with : (ℕ → Bool) → List ℕ → Bool
-begins_with test [] = false
-begins_with test (b ∷ bs) = test b
 
 -- a name: text that begins with neither a space nor a tab; it may be empty
 pub record IsName (text : List ℕ) : Type 0 where

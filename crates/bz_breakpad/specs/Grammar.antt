@@ -1,10 +1,11 @@
 -- Which bytes are a Breakpad file, and of which table: each line is a record, its tag, separators and fields set side by
 -- side. The records read so far are MODULE, on the first line alone, and FUNC.
-use Rattle.std.specs.Prelude.{◌≡◌, ℕ, List, [], ◌∷◌, ◌++◌, drop, codes, Option, Some, None, filter_map}
+use Rattle.std.specs.Prelude.{◌≡◌, ℕ, ◌<◌, List, [], ◌∷◌, ◌++◌, length, drop, codes, Option, Some, None, filter_map}
 use Rattle.std.specs.List.{AllByRecursion, AllZip}
-use Rattle.bz_breakpad.specs.Byte.{carriage_return, HasNo}
-use Rattle.bz_breakpad.specs.Field.{IsHex, IsSeparator, IsName, IsWord}
-use Rattle.bz_breakpad.specs.Line.{AreLines}
+use Rattle.bz_base.specs.Byte.{carriage_return, HasNo}
+use Rattle.bz_base.specs.Line.{AreEnded}
+use Rattle.bz_base.specs.Number.{IsHex}
+use Rattle.bz_breakpad.specs.Field.{IsSeparator, IsName, IsWord}
 use Rattle.bz_breakpad.specs.Table.{Function, Table}
 
 -- a record of a file
@@ -72,11 +73,12 @@ function_of (Func f) = Some f
 abbrev pub table_of : List Record → Table
 table_of records = record { «module» = module_of records; functions = filter_map function_of records }
 
--- the bytes are a Breakpad file, and the table is what it says
+-- the bytes are a Breakpad file, of one line at least, and the table is what it says
 pub record Accepted (bytes : List ℕ) (table : Table) : Type 0 where
   pub lines : List (List ℕ)
   pub records : List Record
-  pub are_lines : AreLines bytes lines
+  pub some : 0 < length lines
+  pub are_lines : AreEnded bytes lines
   pub no_carriage_return : HasNo carriage_return bytes
   pub are_records : AllZip IsRecord lines records
   pub module_first : AllByRecursion IsNoModule (drop 1 records)

@@ -1,10 +1,9 @@
-pub mod Byte
 pub mod Field
 pub mod Grammar
 pub mod Kept
-pub mod Line
 pub mod Plain
 pub mod Reader
 pub mod Refusal
 pub mod Table
 pub mod Version
+pub mod Sorted

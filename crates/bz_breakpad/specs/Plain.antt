@@ -2,14 +2,14 @@
 use Rattle.std.specs.Prelude.{ℕ, ◌-◌, List, [], ◌∷◌, map, Option, Some, None}
 use Rattle.bz_base.specs.Answer.{Site, Call, Symbol, Answer}
 use Rattle.bz_base.specs.Answer.Answer.{Known, Unknown}
-use Rattle.bz_base.specs.Nearest.{nearest}
+use Rattle.bz_base.specs.Nearest.{nearest_covering}
 use Rattle.bz_base.specs.declared.types.FindSymOpts.{FindSymOpts}
 use Rattle.bz_base.specs.declared.types.Reason.TheVariants as reasons
 use Rattle.bz_breakpad.specs.Table.{Function, Table}
 
 -- the function that answers for the address
 abbrev pub function_at : ℕ → List Function → Option Function
-function_at addr functions = nearest (λ f. f.start) (λ f. f.size) addr functions
+function_at addr functions = nearest_covering (λ f. f.start) (λ f. f.size) addr functions
 
 -- the place in the source code: the records read so far tell none
 abbrev pub site_at : Table → FindSymOpts → Function → ℕ → Option Site

@@ -1,14 +1,13 @@
 -- The table of a Breakpad file, read from its front. That it is the table of the grammar is a law of this crate.
 use Rattle.std.specs.Prelude.{ℕ, Bool, true, false, not, ◌==◌, ◌&&◌, nat_lt, nat_le, nat_eq, List, [], ◌∷◌, ◌++◌, length, take, drop, codes, Option, Some, None, option_map, if◌then◌else◌}
-use Rattle.std.specs.Char.{is_digit}
 use Rattle.std.specs.List.{list_any, prefix_len, starts_with}
 use Rattle.std.specs.Str.{is_utf8}
-use Rattle.std.specs.Str.Parse.{digits_value}
-use Rattle.bz_breakpad.specs.Byte.{tab, carriage_return, space, is_blank}
-use Rattle.bz_breakpad.specs.Field.{begins_with, ends_word}
+use Rattle.bz_base.specs.Byte.{tab, carriage_return, space, is_blank, begins_with}
+use Rattle.bz_base.specs.Line.{ended_lines}
+use Rattle.bz_base.specs.Number.{hex_at}
+use Rattle.bz_breakpad.specs.Field.{ends_word}
 use Rattle.bz_breakpad.specs.Grammar.{Record}
 use Rattle.bz_breakpad.specs.Grammar.Record.{Module, Func}
-use Rattle.bz_breakpad.specs.Line.{lines_in}
 use Rattle.bz_breakpad.specs.Table.{Function, Table}
 
 -- what is read next, where the first was there
@@ -25,21 +24,6 @@ tag_at tag text = if starts_with nat_eq text tag then Some (drop (length tag) te
 unfoldable pub separator_at : List ℕ → Option (List ℕ)
 separator_at [] = None
 separator_at (b ∷ text) = if b == space then Some text else None
-
--- the byte is a hexadecimal digit
-abbrev pub is_hex : ℕ → Bool
-is_hex b = is_digit b 16
-
--- how many hexadecimal digits stand in front
-abbrev pub hex_len : List ℕ → ℕ
-hex_len text = prefix_len is_hex text
-
--- the number of the hexadecimal digits in front, at most so many, and the text after them
-unfoldable pub hex_at : ℕ → List ℕ → Option (ℕ × List ℕ)
-hex_at most text =
-    if nat_lt 0 (hex_len text) && nat_le (hex_len text) most
-    then Some (digits_value 16 (take (hex_len text) text), drop (hex_len text) text)
-    else None
 
 -- how many bytes of a word stand in front
 abbrev pub word_len : List ℕ → ℕ
@@ -111,4 +95,4 @@ table_with first table (line ∷ lines) = record_at first line >>= (λ r. table_
 -- the table of the bytes, if they are a Breakpad file
 unfoldable pub table_in : List ℕ → Option Table
 table_in [] = None
-table_in (b ∷ bytes) = lines_in (b ∷ bytes) >>= table_with true empty_table
+table_in (b ∷ bytes) = ended_lines (b ∷ bytes) >>= table_with true empty_table

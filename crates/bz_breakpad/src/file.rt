@@ -1,20 +1,25 @@
 //! A parsed Breakpad file.
 
-ghost use Rattle.std.specs.Prelude.{◌≡◌, ◌≤◌, map, length, option_map, Some, IfOk, IfErr, IsOkUnless, IsSome};
+ghost use Rattle.std.specs.Prelude.{◌≡◌, ◌≤◌, ◌<◌, ◌+◌, ◌-◌, ◌*◌, ◌^◌, ℕ, map, length, option_map, Some, IfOk, IfErr, IsOkUnless, IsSome};
 ghost use Rattle.std.specs.Cow.{cow_str_bytes};
+ghost use Rattle.std.specs.String.{string_bytes};
 ghost use Rattle.bz_base.specs.Answer.{reading, symbol_of};
+ghost use Rattle.bz_base.specs.Starts.{IsFound};
 ghost use Rattle.bz_base.specs.declared.types.FindSymOpts.{FindSymOpts};
 ghost use Rattle.bz_breakpad.specs.Grammar.{Accepted};
 ghost use Rattle.bz_breakpad.specs.Kept.{kept_function, kept_table};
 ghost use Rattle.bz_breakpad.specs.Plain.{batch, plain, symbol_at};
 ghost use Rattle.bz_breakpad.specs.Reader.{table_in};
 ghost use Rattle.bz_breakpad.specs.Refusal.{Refuses};
+ghost use Rattle.bz_breakpad.specs.Sorted.{IsKept, StandsFor, starts_of};
 ghost use Rattle.bz_breakpad.specs.Table.{Table};
 
 use crate::parser;
 use crate::search::nearest;
 use crate::types::{KeptFunction, KeptTable};
-use bz_base::{Error, FindSymOpts, Reason, Result, Steps, Sym, Symbolized};
+use bz_base::{
+    Error, FindSymOpts, Reason, Result, Starts, Steps, Sym, Symbolized, nearest_each, sort_table,
+};
 use std::alloc::Global;
 use std::borrow::CowStr;
 use std::marker::Model;
@@ -25,18 +30,19 @@ use std::sync::ledger::Ledger;
 pub struct SymbolFile {
     bytes: Vec<u8>,
     table: KeptTable,
+    starts: Starts,
 }
 
 impl Model for SymbolFile {
-    ghost use Rattle.std.specs.Prelude.{ℕ, List, ◌≡◌, Some};
-    ghost use Rattle.bz_breakpad.specs.Kept.{kept_table};
+    ghost use Rattle.std.specs.Prelude.{ℕ, List};
     ghost use Rattle.bz_breakpad.specs.Reader.{table_in};
+    ghost use Rattle.bz_breakpad.specs.Sorted.{IsKept};
 
     ghost Value = { List ℕ };
 
     ghost view = { λ file. file.bytes.items };
 
-    ghost invariant = { λ file. table_in file.bytes.items ≡ Some (kept_table file.table) };
+    ghost invariant = { λ file. IsKept (table_in file.bytes.items) file.table file.starts };
 }
 
 impl SymbolFile {
@@ -46,15 +52,20 @@ impl SymbolFile {
         ensures accepted { IfOk result (λ file. (table : Table) × (table_in bytes.items ≡ Some table) × Accepted bytes.items table) }
         ensures refusal { IfErr result (Refuses (table_in bytes.items)) }
     {
-        let table = parser::table(alloc, bytes.as_slice())?;
-        Ok(SymbolFile { bytes, table })
+        let mut table = parser::table(alloc, bytes.as_slice())?;
+        let starts = sorted(alloc, &mut table)?;
+        Ok(SymbolFile {
+            bytes,
+            table,
+            starts,
+        })
     }
 
     /// The name in the MODULE record, if the file has one.
     pub fn module(&self) -> Option<&str>
         ensures { option_map (λ table. table.«module») (table_in self.now) ≡ Some (option_map (λ name. name.now) result) }
     {
-        self.table.module.as_ref().map(|name| name.as_str())
+        module_of(&self.table)
     }
 
     /// How many functions the file has.
@@ -74,27 +85,54 @@ impl SymbolFile {
     ) -> Result<Vec<Symbolized<'_>>>
         ensures answers { IfOk result (λ answers. (table : Table) × (table_in self.now ≡ Some table) × (map reading answers.items ≡ batch table opts.now addrs.now)) }
         ensures count { IfOk result (λ answers. length answers.items ≡ length addrs.now) }
+        ensures more { steps.old ≤ steps.new }
+        ensures swept { (table : Table) → table_in self.now ≡ Some table → steps.new - steps.old ≤ length addrs.now + length table.functions }
+        ensures searched { (table : Table) (p : ℕ) → table_in self.now ≡ Some table → 2 * (2 * length table.functions + 1) < 2 ^ (p + 1) → steps.new - steps.old ≤ length addrs.now * p }
         ensures memory { IsOkUnless result Error.OutOfMemory }
     {
-        let _steps = steps;
+        let places = nearest_each(alloc, &self.starts, addrs, steps)?;
         let mut answers = Vec::new(alloc);
-        for addr in addrs {
-            answers.push(answer(alloc, &self.table, opts, *addr))?;
+        for (k, addr) in addrs.iter().enumerate() {
+            answers.push(answer(alloc, &self.table, opts, places[k], *addr))?;
         }
         Ok(answers)
     }
 }
 
-/// The answer at an address.
-fn answer<'a>(alloc: Global, table: &'a KeptTable, opts: &FindSymOpts, addr: u64) -> Symbolized<'a>
-    ensures { reading result ≡ plain (kept_table table.now) opts.now addr }
+/// The module, lent.
+fn module_of(kept: &KeptTable) -> Option<&str>
+    ensures { option_map (λ name. name.now) result ≡ option_map string_bytes kept.now.«module» }
+{
+    kept.module.as_ref().map(|name| name.as_str())
+}
+
+/// Puts the functions in order, and gives their starts.
+fn sorted(alloc: Global, kept: &mut KeptTable) -> Result<Starts>
+    ensures ok { IfOk result (λ starts. StandsFor (kept_table kept.old) kept.new × (starts ≡ starts_of kept.new)) }
+    ensures memory { IsOkUnless result Error.OutOfMemory }
+{
+    sort_table(&mut kept.functions)?;
+    let starts = bz_base::starts_of(alloc, &kept.functions)?;
+    Ok(starts)
+}
+
+/// The answer at an address, from the place that a search found.
+fn answer<'a>(
+    alloc: Global,
+    kept: &'a KeptTable,
+    opts: &FindSymOpts,
+    place: Option<(usize, u64)>,
+    addr: u64,
+) -> Symbolized<'a>
+    requires { IsFound (starts_of kept.now) addr place }
+    ensures { (table : Table) → StandsFor table kept.now → reading result ≡ plain table opts.now addr }
 {
     let _opts = opts;
-    if table.functions.is_empty() {
+    if kept.functions.is_empty() {
         return Symbolized::Unknown(Reason::MissingSyms);
     }
-    match nearest(&table.functions, addr) {
-        Some(function) => Symbolized::Sym(symbol(alloc, table, function, addr)),
+    match nearest(&kept.functions, place, addr) {
+        Some(function) => Symbolized::Sym(symbol(alloc, kept, function, addr)),
         None => Symbolized::Unknown(Reason::UnknownAddr),
     }
 }
@@ -102,8 +140,8 @@ fn answer<'a>(alloc: Global, table: &'a KeptTable, opts: &FindSymOpts, addr: u64
 /// The function as the symbol at the address.
 fn symbol<'a>(alloc: Global, table: &'a KeptTable, function: &'a KeptFunction, addr: u64) -> Sym<'a>
     requires { function.now.start ≤ addr }
-    ensures { (opts : FindSymOpts) →
-        symbol_of result ≡ symbol_at (kept_table table.now) opts (kept_function function.now) addr }
+    ensures { (read : Table) (opts : FindSymOpts) → read.«module» ≡ (kept_table table.now).«module» →
+        symbol_of result ≡ symbol_at read opts (kept_function function.now) addr }
 {
     Sym {
         name: CowStr::Borrowed(function.name.as_str()),

@@ -1,7 +1,7 @@
 //! What holds of this crate's definitions.
 
 ghost use Rattle.std.specs.Prelude.{◌≡◌, ◌↔◌, ℕ, List, Option, Some};
-ghost use Rattle.bz_base.specs.Nearest.{IsNearest};
+ghost use Rattle.bz_base.specs.Nearest.{IsNearestCovering};
 ghost use Rattle.bz_breakpad.specs.Grammar.{Accepted};
 ghost use Rattle.bz_breakpad.specs.Plain.{function_at};
 ghost use Rattle.bz_breakpad.specs.Reader.{table_in};
@@ -15,7 +15,7 @@ pub fn reading_accepts()
 /// The function that answers for an address is the nearest one, and no other is.
 pub fn nearest_function()
     ensures is { (functions : List Function) (addr : ℕ) →
-        IsNearest (λ f. f.start) (λ f. f.size) functions addr (function_at addr functions) }
+        IsNearestCovering (λ f. f.start) (λ f. f.size) functions addr (function_at addr functions) }
     ensures only { (functions : List Function) (addr : ℕ) (answer : Option Function) →
-        IsNearest (λ f. f.start) (λ f. f.size) functions addr answer → answer ≡ function_at addr functions }
+        IsNearestCovering (λ f. f.start) (λ f. f.size) functions addr answer → answer ≡ function_at addr functions }
 {}

@@ -11,4 +11,3 @@ mod types;
 mod version;
 
 pub use file::SymbolFile;
-pub use parser::line::next_line;

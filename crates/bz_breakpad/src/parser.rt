@@ -1,7 +1,6 @@
 //! Reads a Breakpad text, line by line.
 
 pub(crate) mod field;
-pub(crate) mod line;
 pub(crate) mod record;
 
 ghost use Rattle.std.specs.Prelude.{◌≡◌, Some, IfOk, IfErr, OnOk, IsOkUnless};
@@ -9,10 +8,9 @@ ghost use Rattle.bz_breakpad.specs.Kept.{kept_table, line_record};
 ghost use Rattle.bz_breakpad.specs.Reader.{table_in, with_record};
 ghost use Rattle.bz_breakpad.specs.Refusal.{Refuses};
 
-use crate::parser::line::next_line;
 use crate::parser::record::{RecordLine, read_record};
 use crate::types::{KeptFunction, KeptTable};
-use bz_base::{Error, Result};
+use bz_base::{Error, Result, next_line};
 use std::alloc::Global;
 
 /// The records of a Breakpad file.

@@ -2,7 +2,7 @@
 
 ghost use Rattle.std.specs.Prelude.{◌≡◌, ◌<◌};
 
-use crate::{SymbolFile, laws, next_line};
+use crate::{SymbolFile, laws};
 use bz_base::{Error, FindSymOpts, Reason, Steps, Symbolized};
 use std::alloc::Global;
 use std::marker::Brand;
@@ -56,17 +56,6 @@ fn refuses_texts(rt: HostRuntime) -> Result<(), Fail> {
             Err(error) => assert_eq!(rt; error, Error::NotBuilt),
         }
     }
-    Ok(())
-}
-
-#[test]
-fn cuts_lines(rt: HostRuntime) -> Result<(), Fail> {
-    let (line, rest) = next_line(b"ab\n\nc").ok_or("no line")?;
-    assert_eq!(rt; line, b"ab".as_slice());
-    let (line, rest) = next_line(rest).ok_or("no line")?;
-    assert_eq!(rt; line, b"".as_slice());
-    assert_eq!(rt; rest, b"c".as_slice());
-    assert!(rt; next_line(rest).is_none());
     Ok(())
 }
 

@@ -1,10 +1,9 @@
 //! The fields of a record's line, read from its front.
 
-ghost use Rattle.std.specs.Prelude.{◌≡◌, ◌<◌, ◌≤◌, ◌^◌, length, option_map, IfSome};
-ghost use Rattle.std.specs.Char.{digit_value};
-ghost use Rattle.bz_breakpad.specs.Byte.{is_blank};
-ghost use Rattle.bz_breakpad.specs.Field.{begins_with, ends_word};
-ghost use Rattle.bz_breakpad.specs.Reader.{tag_at, separator_at, hex_at, word_len, word_at, name_at};
+ghost use Rattle.std.specs.Prelude.{◌≡◌, ◌≤◌, length, option_map};
+ghost use Rattle.bz_base.specs.Byte.{begins_with, is_blank};
+ghost use Rattle.bz_breakpad.specs.Field.{ends_word};
+ghost use Rattle.bz_breakpad.specs.Reader.{tag_at, separator_at, word_len, word_at, name_at};
 
 /// The text after the tag, if the text begins with it.
 #[tactic(auto, unfolding(crate::specs::Reader::tag_at))]
@@ -27,44 +26,6 @@ pub(crate) fn after_separator(text: &[u8]) -> Option<&[u8]>
         [b' ', rest @ ..] => Some(rest),
         _ => None,
     }
-}
-
-/// The value of the byte as a digit, or 36 where it is no digit of any base.
-fn digit(byte: u8) -> u8
-    ensures { result ≡ digit_value byte }
-{
-    match byte {
-        b'0'..=b'9' => byte - b'0',
-        b'A'..=b'Z' => byte - b'A' + 10,
-        b'a'..=b'z' => byte - b'a' + 10,
-        _ => 36,
-    }
-}
-
-/// The number of the one to `most` hexadecimal digits at the front, and the text after them.
-#[tactic(auto, unfolding(crate::specs::Reader::hex_at))]
-pub(crate) fn hex(text: &[u8], most: usize) -> Option<(u64, &[u8])>
-    requires { most ≤ 16 }
-    ensures reads { option_map (λ read. (read.0, read.1.now)) result ≡ hex_at most text.now }
-    ensures small { IfSome result (λ read. read.0 < 16 ^ most) }
-{
-    let mut value = 0;
-    let mut len = 0;
-    for byte in text {
-        let digit = digit(*byte);
-        if digit >= 16 {
-            break;
-        }
-        if len == most {
-            return None;
-        }
-        value = value * 16 + u64::from(digit);
-        len += 1;
-    }
-    if len == 0 {
-        return None;
-    }
-    Some((value, &text[len..]))
 }
 
 /// The number of bytes of a word at the front.

@@ -4,7 +4,8 @@ ghost use Rattle.std.specs.Prelude.{◌≡◌, option_map};
 ghost use Rattle.bz_breakpad.specs.Kept.{line_function, line_record};
 ghost use Rattle.bz_breakpad.specs.Reader.{module_at, func_at, record_at};
 
-use crate::parser::field::{after_separator, after_tag, after_word, hex, name};
+use crate::parser::field::{after_separator, after_tag, after_word, name};
+use bz_base::hex;
 
 /// A FUNC record in the text.
 #[derive(Drop)]

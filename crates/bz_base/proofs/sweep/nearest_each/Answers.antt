@@ -1,0 +1,7 @@
+use Rattle.std.proofs.Common.{arith, length}
+use Rattle.bz_base.proofs.StartsLemmas.{batch_bound}
+use Rattle.bz_base.proofs.sweep.nearest_each.Goals as goal
+
+pub returns-then-swept-searched-clause-searched : goal.returns-then-swept-searched-clause-searched
+returns-then-swept-searched-clause-searched g c p greatest =
+    omega (arith, c.if-swept-searched.true, c.sweep.ensures.cost, batch_bound (length c.args.addrs.now) c.most_probes-most.result p (length c.args.table.now) (omega arith) greatest)

@@ -1,0 +1,40 @@
+-- Starts that never descend, and where a search among them ends.
+use Rattle.std.specs.Prelude.{◌≡◌, ℕ, ◌+◌, ◌*◌, ◌^◌, ◌<◌, ◌≤◌, List, length, Option, Some, None, slice_index, slice_index_or, ◌-◌}
+
+-- no start is below one before it
+abbrev pub NeverDescends : List ℕ → Type 0
+NeverDescends starts = (i j : ℕ) → i ≤ j → j < length starts → slice_index starts i ≤ slice_index starts j
+
+-- the place is the first whose start equals the address, else the last of those with a smaller start
+pub record IsPlace (starts : List ℕ) (addr place start : ℕ) : Type 0 where
+  pub within : place < length starts
+  pub start_is : slice_index starts place ≡ start
+  pub not_above : start ≤ addr
+  pub first : start ≡ addr → (k : ℕ) → k < place → slice_index starts k < addr
+  pub last : start < addr → (k : ℕ) → place < k → k < length starts → addr < slice_index starts k
+
+-- the search gives that place with its start, or none where each start is above the address
+abbrev pub IsFound : List ℕ → ℕ → Option (ℕ × ℕ) → Type 0
+IsFound starts addr (Some x) = IsPlace starts addr x.0 x.1
+IsFound starts addr None = (k : ℕ) → k < length starts → addr < slice_index starts k
+
+-- so many probes are few enough for a search among so many starts
+abbrev pub AreFew : ℕ → ℕ → Type 0
+AreFew probes count = 2 ^ probes ≤ 2 * (2 * count + 1)
+
+-- the places are found one by one, each for the address that stands at the same index
+abbrev pub AreFound : List ℕ → List ℕ → List (Option (ℕ × ℕ)) → Type 0
+AreFound starts addrs places = (k : ℕ) → k < length addrs → IsFound starts (slice_index addrs k) (slice_index_or places k None)
+
+-- where a sweep stands for an address: the starts before the place are below the address, and those from there on aren't;
+-- the starts beside the place are known
+pub record IsGap (starts : List ℕ) (addr place below above : ℕ) : Type 0 where
+  pub within : place ≤ length starts
+  pub lower : (k : ℕ) → k < place → slice_index starts k < addr
+  pub upper : (k : ℕ) → place ≤ k → k < length starts → addr ≤ slice_index starts k
+  pub below_is : 0 < place → slice_index starts (place - 1) ≡ below
+  pub above_is : place < length starts → slice_index starts place ≡ above
+
+-- an address of the batch with its index
+abbrev pub IsEntry : List ℕ → ℕ × ℕ → Type 0
+IsEntry addrs entry = (entry.1 < length addrs) × (slice_index addrs entry.1 ≡ entry.0)

@@ -1,0 +1,119 @@
+//! Numbers in a text, read from its front or from the whole of it.
+
+ghost use Rattle.std.specs.Prelude.{◌≡◌, ◌<◌, ◌≤◌, ◌^◌, length, option_map, IfSome};
+ghost use Rattle.std.specs.Char.{digit_value, is_digit};
+ghost use Rattle.std.specs.Str.Parse.{AllDigits, digits_value};
+ghost use Rattle.bz_base.specs.Number.{alone, decimal_at, digits_len, hex_at, number_at, whole};
+
+/// The number of the one to `most` hexadecimal digits at the front, in either case, and the text
+/// after them.
+pub fn hex(text: &[u8], most: usize) -> Option<(u64, &[u8])>
+    requires { most ≤ 16 }
+    ensures reads { option_map (λ read. (read.0, read.1.now)) result ≡ hex_at most text.now }
+    ensures small { IfSome result (λ read. read.0 < 16 ^ most) }
+{
+    number_at(text, 16, most)
+}
+
+/// The number of the one to `most` decimal digits at the front, which is at most `greatest`, and
+/// the text after them.
+pub fn decimal(text: &[u8], most: usize, greatest: u64) -> Option<(u64, &[u8])>
+    requires { most ≤ 19 }
+    ensures reads { option_map (λ read. (read.0, read.1.now)) result ≡ decimal_at most greatest text.now }
+    ensures small { IfSome result (λ read. read.0 ≤ greatest) }
+{
+    let (value, rest) = number_at(text, 10, most)?;
+    if value > greatest {
+        return None;
+    }
+    Some((value, rest))
+}
+
+/// The number that the whole text is: one to `most` hexadecimal digits, in either case.
+pub fn whole_hex(text: &[u8], most: usize) -> Option<u64>
+    requires { most ≤ 16 }
+    ensures reads { result ≡ whole (hex_at most text.now) }
+    ensures small { IfSome result (λ value. value < 16 ^ most) }
+{
+    let (value, rest) = hex(text, most)?;
+    alone(value, rest)
+}
+
+/// The number that the whole text is: one to `most` decimal digits, of a number of at most
+/// `greatest`.
+pub fn whole_decimal(text: &[u8], most: usize, greatest: u64) -> Option<u64>
+    requires { most ≤ 19 }
+    ensures reads { result ≡ whole (decimal_at most greatest text.now) }
+    ensures small { IfSome result (λ value. value ≤ greatest) }
+{
+    let (value, rest) = decimal(text, most, greatest)?;
+    alone(value, rest)
+}
+
+/// The value, if nothing stands after it.
+fn alone(value: u64, rest: &[u8]) -> Option<u64>
+    ensures reads { result ≡ alone value rest.now }
+    ensures same { IfSome result (λ read. read ≡ value) }
+{
+    match rest {
+        [] => Some(value),
+        _ => None,
+    }
+}
+
+/// The number of the one to `most` digits of the base at the front, and the text after them.
+#[tactic(auto, using(crate::proofs::NumberLemmas::front_digits), unfolding(crate::specs::Number::number_at))]
+fn number_at(text: &[u8], base: u64, most: usize) -> Option<(u64, &[u8])>
+    requires some { 0 < base }
+    requires fits { base ^ most ≤ 2 ^ 64 }
+    ensures reads { option_map (λ read. (read.0, read.1.now)) result ≡ number_at base most text.now }
+    ensures small { IfSome result (λ read. read.0 < base ^ most) }
+{
+    let len = digits_len(text, base);
+    if len == 0 || len > most {
+        return None;
+    }
+    let digits = &text[..len];
+    Some((digits_value(digits, base), &text[len..]))
+}
+
+/// How many digits of the base stand in front.
+fn digits_len(text: &[u8], base: u64) -> usize
+    ensures value { result ≡ digits_len base text.now }
+    ensures within { result ≤ length text.now }
+{
+    text.iter().take_while(|b| is_digit(**b, base)).count()
+}
+
+/// The number that digits spell.
+fn digits_value(digits: &[u8], base: u64) -> u64
+    requires digits { AllDigits base digits.now }
+    requires some { 0 < base }
+    requires fits { base ^ length digits.now ≤ 2 ^ 64 }
+    ensures { result ≡ digits_value base digits.now }
+{
+    let mut value = 0;
+    for byte in digits {
+        value = value * base + u64::from(digit(*byte));
+    }
+    value
+}
+
+/// Whether the byte is a digit of the base.
+fn is_digit(byte: u8, base: u64) -> bool
+    ensures { result ≡ is_digit byte base }
+{
+    u64::from(digit(byte)) < base
+}
+
+/// The value of the byte as a digit, or 36 where it is no digit of any base.
+fn digit(byte: u8) -> u8
+    ensures { result ≡ digit_value byte }
+{
+    match byte {
+        b'0'..=b'9' => byte - b'0',
+        b'A'..=b'Z' => byte - b'A' + 10,
+        b'a'..=b'z' => byte - b'a' + 10,
+        _ => 36,
+    }
+}
