@@ -15,12 +15,12 @@ use bz_base::{Error, Result};
 use bz_files::{Files, Stamp};
 use std::alloc::Global;
 use std::collections::BTreeMap;
-use std::marker::{Model, PhantomData};
+use std::marker::Model;
 use std::rc::Rc;
 
 mod entries;
-mod paths;
 mod lookup;
+mod paths;
 
 use paths::PathEntry;
 
@@ -56,6 +56,18 @@ impl<T: Version + Drop> Drop for FileCache<T> {
 }
 
 impl<T: Version + Drop> FileCache<T> {
+    // A cache that keeps nothing.
+    pub(crate) fn empty(alloc: Global, reload: bool) -> FileCache<T>
+        ensures new { result ≡ new_cache reload }
+        ensures consistent { Consistent T.test result }
+    {
+        FileCache {
+            entries: BTreeMap::new(alloc),
+            paths: BTreeMap::new(alloc),
+            reload,
+        }
+    }
+
     /// Whether a version with the stamp is kept. A stamp is kept exactly while some path names it.
     pub fn is_kept(&self, stamp: &Stamp) -> bool
         ensures kept { result ≡ is_some (map.get self.now.kept stamp.now) }
@@ -87,9 +99,9 @@ impl<T: Version + Drop> FileCache<T> {
         ensures state { self.new ≡ evicted self.old path.now }
         ensures unheld { is_held self.old path.now ≡ false → (result ≡ false) × (self.new ≡ self.old) }
     {
-        paths::forget(&mut self.paths, path);
+        paths::remove(&mut self.paths, path);
         let dropped = entries::has_unnamed(&self.entries, &self.paths);
-        entries::give_up_unnamed(&mut self.entries, &self.paths);
+        entries::retain_named(&mut self.entries, &self.paths);
         dropped
     }
 
@@ -97,14 +109,14 @@ impl<T: Version + Drop> FileCache<T> {
     pub fn entry_count(&self) -> usize
         ensures { result ≡ map.len self.now.kept }
     {
-        entries::count(&self.entries)
+        entries::len(&self.entries)
     }
 
     /// How many paths are held.
     pub fn path_count(&self) -> usize
         ensures { result ≡ map.len self.now.paths }
     {
-        paths::count(&self.paths)
+        paths::len(&self.paths)
     }
 
     // The path's current stamp, if it is answered without a look.
@@ -112,7 +124,7 @@ impl<T: Version + Drop> FileCache<T> {
         ensures stamp { result ≡ fixed self.now path.now }
         ensures consistent { Consistent T.test self.now }
     {
-        match paths::standing(&self.paths, path) {
+        match paths::get(&self.paths, path) {
             Some((current, pinned)) if pinned || !self.reload => Some(current),
             _ => None,
         }
@@ -123,11 +135,11 @@ impl<T: Version + Drop> FileCache<T> {
         requires { IsSome (map.get self.now.kept stamp.now) }
         ensures { map.get self.now.kept stamp.now ≡ Some (T.bytes_of result.now) }
     {
-        entries::version(&self.entries, stamp)
+        entries::get(&self.entries, stamp)
     }
 
     // Makes the kept version with the stamp the path's current one.
-    fn point(&mut self, alloc: Global, path: &str, stamp: Stamp) -> Result<()>
+    fn update_path(&mut self, alloc: Global, path: &str, stamp: Stamp) -> Result<()>
         requires { IsSome (map.get self.old.kept stamp) }
         ensures ok { OnOk result (self.new ≡ named self.old path.now stamp (bytes_at self.old stamp)) }
         ensures err { OnErr result (self.new ≡ self.old) }
@@ -135,12 +147,12 @@ impl<T: Version + Drop> FileCache<T> {
         ensures consistent { OnOk result (Consistent T.test self.new) }
         ensures sure { (e : PathState) → map.get self.old.paths path.now ≡ Some e → stamp_eq e.current stamp ≡ true → IsOk result }
     {
-        paths::place(&mut self.paths, alloc, path, stamp)?;
+        paths::update(&mut self.paths, alloc, path, stamp)?;
         Ok(())
     }
 
     // Takes in a version that wasn't kept, as the path's current one.
-    fn take_in(&mut self, alloc: Global, path: &str, stamp: Stamp, version: T) -> Result<()>
+    fn insert_version(&mut self, alloc: Global, path: &str, stamp: Stamp, version: T) -> Result<()>
         requires absent { map.get self.old.kept stamp ≡ None }
         requires formed { T.test (T.bytes_of version) ≡ None }
         ensures ok { OnOk result (self.new ≡ named self.old path.now stamp (T.bytes_of version)) }
@@ -148,9 +160,9 @@ impl<T: Version + Drop> FileCache<T> {
         ensures err { OnErr result (self.new ≡ self.old) }
         ensures memory { IsOkUnless result Error.OutOfMemory }
     {
-        entries::keep(&mut self.entries, alloc, stamp, version)?;
-        if let Err(error) = paths::place(&mut self.paths, alloc, path, stamp) {
-            entries::give_up(&mut self.entries, &stamp);
+        entries::insert(&mut self.entries, alloc, stamp, version)?;
+        if let Err(error) = paths::update(&mut self.paths, alloc, path, stamp) {
+            entries::remove(&mut self.entries, &stamp);
             return Err(error);
         }
         Ok(())
@@ -226,70 +238,12 @@ impl<T: Version + Drop> FileCache<T> {
         // keep its older bytes under its newer stamp.
         let stamp = lookup::present(files, path)?;
         if self.is_kept(&stamp) {
-            self.point(alloc, path, stamp)?;
+            self.update_path(alloc, path, stamp)?;
             return Ok(stamp);
         }
         let bytes = lookup::contents(files, alloc, path)?;
         let version = T::parse(alloc, bytes)?;
-        self.take_in(alloc, path, stamp, version)?;
+        self.insert_version(alloc, path, stamp, version)?;
         Ok(stamp)
-    }
-}
-
-/// How a cache is made.
-pub struct CacheBuilder<T: Version + Drop> {
-    reload: bool,
-    versions: PhantomData<T>,
-}
-
-impl<T: Version + Drop> Model for CacheBuilder<T> {
-    ghost use Rattle.std.specs.Prelude.{Bool};
-
-    ghost Value = { Bool };
-
-    ghost view = { λ a. a.reload };
-}
-
-impl<T: Version + Drop> FileCache<T> {
-    /// A builder of caches that look at their paths anew.
-    pub fn builder() -> CacheBuilder<T>
-        ensures { result ≡ true }
-    {
-        CacheBuilder {
-            reload: true,
-            versions: PhantomData,
-        }
-    }
-}
-
-impl<T: Version + Drop> CacheBuilder<T> {
-    /// Whether the cache looks at a held path anew. Else it answers by the version that it has.
-    pub fn enable_auto_reload(self, enable: bool) -> Self
-        ensures { result ≡ enable }
-    {
-        let CacheBuilder {
-            reload: _,
-            versions,
-        } = self;
-        CacheBuilder {
-            reload: enable,
-            versions,
-        }
-    }
-
-    /// A cache that keeps nothing.
-    pub fn build(self, alloc: Global) -> FileCache<T>
-        ensures new { result ≡ new_cache self }
-        ensures consistent { Consistent T.test result }
-    {
-        let CacheBuilder {
-            reload,
-            versions: _,
-        } = self;
-        FileCache {
-            entries: BTreeMap::new(alloc),
-            paths: BTreeMap::new(alloc),
-            reload,
-        }
     }
 }

@@ -25,7 +25,7 @@ pub fn is_kept<T: Version + Drop>(entries: &BTreeMap<Stamp, Rc<T>>, stamp: &Stam
 }
 
 /// The kept version with the stamp.
-pub fn version<'e, T: Version + Drop>(entries: &'e BTreeMap<Stamp, Rc<T>>, stamp: &Stamp) -> &'e T
+pub fn get<'e, T: Version + Drop>(entries: &'e BTreeMap<Stamp, Rc<T>>, stamp: &Stamp) -> &'e T
     requires { IsSome (map.get (kept_of T.bytes_of entries.now) stamp.now) }
     ensures { map.get (kept_of T.bytes_of entries.now) stamp.now ≡ Some (T.bytes_of result.now) }
 {
@@ -36,7 +36,7 @@ pub fn version<'e, T: Version + Drop>(entries: &'e BTreeMap<Stamp, Rc<T>>, stamp
 }
 
 /// Keeps a version under the stamp.
-pub fn keep<T: Version + Drop>(
+pub fn insert<T: Version + Drop>(
     entries: &mut BTreeMap<Stamp, Rc<T>>,
     alloc: Global,
     stamp: Stamp,
@@ -51,8 +51,8 @@ pub fn keep<T: Version + Drop>(
     Ok(())
 }
 
-/// Gives up the version with the stamp.
-pub fn give_up<T: Version + Drop>(entries: &mut BTreeMap<Stamp, Rc<T>>, stamp: &Stamp)
+/// Takes out the version with the stamp.
+pub fn remove<T: Version + Drop>(entries: &mut BTreeMap<Stamp, Rc<T>>, stamp: &Stamp)
     ensures { kept_of T.bytes_of entries.new ≡ map.remove (kept_of T.bytes_of entries.old) stamp.now }
 {
     entries.remove(stamp);
@@ -78,8 +78,8 @@ fn some_unnamed<T: Version + Drop>(
     entries.keys().any(|stamp| !is_named(paths, stamp))
 }
 
-/// Gives up the versions that no path names.
-pub fn give_up_unnamed<T: Version + Drop>(
+/// Keeps the versions that some path names.
+pub fn retain_named<T: Version + Drop>(
     entries: &mut BTreeMap<Stamp, Rc<T>>,
     paths: &BTreeMap<String, PathEntry>,
 )
@@ -89,7 +89,7 @@ pub fn give_up_unnamed<T: Version + Drop>(
 }
 
 /// How many versions are kept.
-pub fn count<T: Version + Drop>(entries: &BTreeMap<Stamp, Rc<T>>) -> usize
+pub fn len<T: Version + Drop>(entries: &BTreeMap<Stamp, Rc<T>>) -> usize
     ensures { result ≡ map.len (kept_of T.bytes_of entries.now) }
 {
     entries.len()

@@ -7,7 +7,7 @@ ghost use Rattle.bz_files.specs.Looked.{Faulted, Looked};
 ghost use Rattle.bz_cache.specs.Format.{Finds, MayMiss};
 
 use bz_base::{Error, Result};
-use bz_files::{FileError, Files, Stamp};
+use bz_files::{Files, Stamp};
 use std::alloc::Global;
 
 /// The stamp of the file at the path.
@@ -18,13 +18,7 @@ pub fn present<F: Files>(files: &mut F, path: &str) -> Result<Stamp>
     ensures memory { IsErrOf result Error.OutOfMemory → ⊥ }
     ensures refusal { IfErr result MayMiss }
 {
-    match files.stat(path) {
-        Ok(stamp) => Ok(stamp),
-        Err(FileError::NotFound) => Err(Error::NotFound),
-        Err(FileError::Denied) => Err(Error::PermissionDenied),
-        Err(FileError::Fault) => Err(Error::ReadFault),
-        Err(FileError::OutOfMemory) => Err(Error::OutOfMemory),
-    }
+    Ok(files.stat(path)?)
 }
 
 /// The bytes of the file at the path.
@@ -35,11 +29,5 @@ pub fn contents<F: Files>(files: &mut F, alloc: Global, path: &str) -> Result<Ve
     ensures files { Looked F.Files files.old files.new (Faulted result) }
     ensures refusal { IfErr result MayMiss }
 {
-    match files.read(alloc, path) {
-        Ok(bytes) => Ok(bytes),
-        Err(FileError::NotFound) => Err(Error::NotFound),
-        Err(FileError::Denied) => Err(Error::PermissionDenied),
-        Err(FileError::Fault) => Err(Error::ReadFault),
-        Err(FileError::OutOfMemory) => Err(Error::OutOfMemory),
-    }
+    Ok(files.read(alloc, path)?)
 }

@@ -28,7 +28,7 @@ pub struct PathEntry {
 }
 
 /// The path's current stamp, and whether it is pinned.
-pub fn standing(paths: &BTreeMap<String, PathEntry>, path: &str) -> Option<(Stamp, bool)>
+pub fn get(paths: &BTreeMap<String, PathEntry>, path: &str) -> Option<(Stamp, bool)>
     ensures { result ≡ option_map (λ e. (e.current, e.pinned)) (map.get (paths_of paths.now) path.now) }
 {
     match paths.get(path) {
@@ -38,7 +38,7 @@ pub fn standing(paths: &BTreeMap<String, PathEntry>, path: &str) -> Option<(Stam
 }
 
 /// Makes the stamp the path's current one, and unpins the path.
-pub fn place(
+pub fn update(
     paths: &mut BTreeMap<String, PathEntry>,
     alloc: Global,
     path: &str,
@@ -50,12 +50,12 @@ pub fn place(
     ensures sure { (e : PathState) → map.get (paths_of paths.old) path.now ≡ Some e → stamp_eq e.current stamp ≡ true → IsOk result }
 {
     match paths.get_mut(path) {
-        Some(entry) => shift(entry, stamp),
-        None => add(paths, alloc, path, stamp),
+        Some(entry) => replace(entry, stamp),
+        None => insert(paths, alloc, path, stamp),
     }
 }
 
-fn add(
+fn insert(
     paths: &mut BTreeMap<String, PathEntry>,
     alloc: Global,
     path: &str,
@@ -75,7 +75,7 @@ fn add(
     Ok(())
 }
 
-fn shift(entry: &mut PathEntry, stamp: Stamp) -> Result<()>
+fn replace(entry: &mut PathEntry, stamp: Stamp) -> Result<()>
     ensures ok { OnOk result (path_state entry.new ≡ moved stamp (Some (path_state entry.old))) }
     ensures err { OnErr result (path_state entry.new ≡ path_state entry.old) }
     ensures memory { IsOkUnless result Error.OutOfMemory }
@@ -113,7 +113,7 @@ pub fn set_pinned(paths: &mut BTreeMap<String, PathEntry>, path: &str, pinned: b
 }
 
 /// Forgets a path.
-pub fn forget(paths: &mut BTreeMap<String, PathEntry>, path: &str)
+pub fn remove(paths: &mut BTreeMap<String, PathEntry>, path: &str)
     ensures { paths_of paths.new ≡ map.remove (paths_of paths.old) path.now }
 {
     paths.remove(path);
@@ -140,7 +140,7 @@ fn names(entry: &PathEntry, stamp: &Stamp) -> bool
 }
 
 /// How many paths are held.
-pub fn count(paths: &BTreeMap<String, PathEntry>) -> usize
+pub fn len(paths: &BTreeMap<String, PathEntry>) -> usize
     ensures { result ≡ map.len (paths_of paths.now) }
 {
     paths.len()

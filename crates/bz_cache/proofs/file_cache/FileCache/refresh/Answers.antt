@@ -15,12 +15,12 @@ returns-in_err-version-clause-files g c =
 
 pub returns-then-is_kept-clause-answer : goal.returns-then-is_kept-clause-answer
 returns-then-is_kept-clause-answer g c = λ w told.
-    answer_kept g.T.Version.test c.args.self.now c.point.new.self c.args.path.now c.in_ok-stamp.stamp _ (c.in_ok-stamp.ensures.answer w told)
-    c.is_kept.ensures.consistent (sym c.is_kept.ensures.kept ∙ c.if-is_kept.true) c.in_ok-point.ensures.ok
+    answer_kept g.T.Version.test c.args.self.now c.update_path.new.self c.args.path.now c.in_ok-stamp.stamp _ (c.in_ok-stamp.ensures.answer w told)
+    c.is_kept.ensures.consistent (sym c.is_kept.ensures.kept ∙ c.if-is_kept.true) c.in_ok-update_path.ensures.ok
 
 pub returns-then-is_kept-clause-current : goal.returns-then-is_kept-clause-current
 returns-then-is_kept-clause-current g c =
-    rw c.in_ok-point.ensures.ok (current_named c.args.self.now c.args.path.now c.in_ok-stamp.stamp (bytes_at c.args.self.now c.in_ok-stamp.stamp))
+    rw c.in_ok-update_path.ensures.ok (current_named c.args.self.now c.args.path.now c.in_ok-stamp.stamp (bytes_at c.args.self.now c.in_ok-stamp.stamp))
 
 pub returns-in_err-bytes-clause-unmoved : goal.returns-in_err-bytes-clause-unmoved
 returns-in_err-bytes-clause-unmoved g c = λ w told unmoved.
@@ -30,25 +30,25 @@ pub returns-in_err-version-clause-unmoved : goal.returns-in_err-version-clause-u
 returns-in_err-version-clause-unmoved g c = λ w told unmoved.
     absurd (not_unmoved g.T.Version.test c.args.self.now c.args.self.now c.args.path.now c.in_ok-stamp.stamp _ (c.in_ok-stamp.ensures.answer w told) c.is_kept.ensures.consistent (sym c.is_kept.ensures.kept ∙ c.if-is_kept.false) unmoved)
 
-pub returns-in_err-take_in-clause-unmoved : goal.returns-in_err-take_in-clause-unmoved
-returns-in_err-take_in-clause-unmoved g c = λ w told unmoved.
+pub returns-in_err-insert_version-clause-unmoved : goal.returns-in_err-insert_version-clause-unmoved
+returns-in_err-insert_version-clause-unmoved g c = λ w told unmoved.
     absurd (not_unmoved g.T.Version.test c.args.self.now c.args.self.now c.args.path.now c.in_ok-stamp.stamp _ (c.in_ok-stamp.ensures.answer w told) c.is_kept.ensures.consistent (sym c.is_kept.ensures.kept ∙ c.if-is_kept.false) unmoved)
 
 pub returns-clause-answer : goal.returns-clause-answer
 returns-clause-answer g c = λ w told.
-    answer_new g.T.Version.test c.args.self.now c.take_in.new.self c.args.path.now c.in_ok-stamp.stamp _ (c.in_ok-stamp.ensures.answer w told)
+    answer_new g.T.Version.test c.args.self.now c.insert_version.new.self c.args.path.now c.in_ok-stamp.stamp _ (c.in_ok-stamp.ensures.answer w told)
     c.in_ok-bytes.bytes.items (g.T.Version.bytes_of c.in_ok-version.version) (none_of _ (sym c.is_kept.ensures.kept ∙ c.if-is_kept.false)) (c.in_ok-bytes.ensures.answer w (rw c.in_ok-stamp.ensures.files.worlds told))
-    c.in_ok-version.ensures.formed c.in_ok-version.ensures.ok c.in_ok-take_in.ensures.ok
+    c.in_ok-version.ensures.formed c.in_ok-version.ensures.ok c.in_ok-insert_version.ensures.ok
 
 pub returns-clause-current : goal.returns-clause-current
 returns-clause-current g c =
-    rw c.in_ok-take_in.ensures.ok (current_named c.args.self.now c.args.path.now c.in_ok-stamp.stamp (g.T.Version.bytes_of c.in_ok-version.version))
+    rw c.in_ok-insert_version.ensures.ok (current_named c.args.self.now c.args.path.now c.in_ok-stamp.stamp (g.T.Version.bytes_of c.in_ok-version.version))
 
 pub returns-then-is_kept-clause-some : goal.returns-then-is_kept-clause-some
 returns-then-is_kept-clause-some g c =
-    some_kept g.T.Version.test c.args.self.now c.point.new.self c.args.path.now c.in_ok-stamp.stamp c.is_kept.ensures.consistent (sym c.is_kept.ensures.kept ∙ c.if-is_kept.true) c.in_ok-point.ensures.ok
+    some_kept g.T.Version.test c.args.self.now c.update_path.new.self c.args.path.now c.in_ok-stamp.stamp c.is_kept.ensures.consistent (sym c.is_kept.ensures.kept ∙ c.if-is_kept.true) c.in_ok-update_path.ensures.ok
 
 pub returns-clause-some : goal.returns-clause-some
 returns-clause-some g c =
-    some_new g.T.Version.test c.args.self.now c.take_in.new.self c.args.path.now c.in_ok-stamp.stamp c.in_ok-bytes.bytes.items (g.T.Version.bytes_of c.in_ok-version.version)
-    (none_of _ (sym c.is_kept.ensures.kept ∙ c.if-is_kept.false)) c.in_ok-version.ensures.formed c.in_ok-version.ensures.ok c.in_ok-take_in.ensures.ok
+    some_new g.T.Version.test c.args.self.now c.insert_version.new.self c.args.path.now c.in_ok-stamp.stamp c.in_ok-bytes.bytes.items (g.T.Version.bytes_of c.in_ok-version.version)
+    (none_of _ (sym c.is_kept.ensures.kept ∙ c.if-is_kept.false)) c.in_ok-version.ensures.formed c.in_ok-version.ensures.ok c.in_ok-insert_version.ensures.ok

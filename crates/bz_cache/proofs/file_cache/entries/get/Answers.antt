@@ -2,7 +2,7 @@ use Rattle.std.proofs.Common.{sym, ap, is_some, ◌∙◌}
 use Rattle.std.specs.Option.{option_copied}
 use Rattle.std.proofs.lemmas.Bool.{false≢true}
 use Rattle.bz_cache.proofs.Stored.{kept_found, kept_absent}
-use Rattle.bz_cache.proofs.file_cache.entries.version.Goals as goal
+use Rattle.bz_cache.proofs.file_cache.entries.get.Goals as goal
 
 pub unreachable-requires : goal.unreachable-requires
 unreachable-requires g c =

@@ -3,7 +3,7 @@ use Rattle.std.proofs.lemmas.Map.Made.{filter_same_pairs}
 use Rattle.bz_cache.specs.Eviction.{is_named}
 use Rattle.bz_cache.specs.Store.{paths_of}
 use Rattle.bz_cache.proofs.Stored.{kept_retain}
-use Rattle.bz_cache.proofs.file_cache.entries.give_up_unnamed.Goals as goal
+use Rattle.bz_cache.proofs.file_cache.entries.retain_named.Goals as goal
 
 pub returns : goal.returns
 returns g c =

@@ -1,5 +1,5 @@
 use Rattle.bz_cache.proofs.Stored.{kept_insert}
-use Rattle.bz_cache.proofs.file_cache.entries.keep.Goals as goal
+use Rattle.bz_cache.proofs.file_cache.entries.insert.Goals as goal
 
 pub returns-clause-ok : goal.returns-clause-ok
 returns-clause-ok g c =

@@ -1,7 +1,7 @@
 use Rattle.std.proofs.Common.{sym, ap, ◌∙◌}
 use Rattle.std.specs.Option.{option_copied}
 use Rattle.bz_cache.proofs.Stored.{path_found, path_absent}
-use Rattle.bz_cache.proofs.file_cache.paths.standing.Goals as goal
+use Rattle.bz_cache.proofs.file_cache.paths.get.Goals as goal
 
 pub returns-in-Some : goal.returns-in-Some
 returns-in-Some c =

@@ -4,7 +4,7 @@ use Rattle.std.specs.String.{string_bytes}
 use Rattle.bz_files.specs.declared.stamp.Stamp.{Stamp}
 use Rattle.bz_cache.specs.Store.{paths_of}
 use Rattle.bz_cache.proofs.Stored.{paths_insert}
-use Rattle.bz_cache.proofs.file_cache.paths.add.Goals as goal
+use Rattle.bz_cache.proofs.file_cache.paths.insert.Goals as goal
 
 pub returns-clause-ok : goal.returns-clause-ok
 returns-clause-ok c =
