@@ -9,3 +9,4 @@ pub mod Number
 pub mod ReasonText
 pub mod Span
 pub mod Starts
+pub mod Sweep
