@@ -16,11 +16,13 @@ module _ {X : Type 0} (test : X → Bool) where
     pub after_others : (k : ℕ) (y : X) → slice_get xs k ≡ Some y → test y ≡ true → k ≤ place
 
   -- where one passes, some are left
-  pub some_pass : (xs : List X) (place : ℕ) (x : X) → slice_get xs place ≡ Some x → test x ≡ true → (z : X) × (rest : List X) × (filter test xs ≡ z ∷ rest)
+  pub some_pass : (xs : List X) (place : ℕ) (x : X) → slice_get xs place ≡ Some x → test x ≡ true →
+      (z : X) × (rest : List X) × (filter test xs ≡ z ∷ rest)
   some_pass [] place x there passes = absurd (cc)
   some_pass (y ∷ ys) zero x there passes = let same : y ≡ x = cc in (y, filter test ys, rw (ap test same ∙ passes) refl)
   some_pass (y ∷ ys) (suc place) x there passes = by_test (test y) (some_pass ys place x there passes) where
-    by_test : (b : Bool) → (z : X) × (rest : List X) × (filter test ys ≡ z ∷ rest) → (z : X) × (rest : List X) × (cond b (y ∷ filter test ys) (filter test ys) ≡ z ∷ rest)
+    by_test : (b : Bool) → (z : X) × (rest : List X) × (filter test ys ≡ z ∷ rest) →
+        (z : X) × (rest : List X) × (cond b (y ∷ filter test ys) (filter test ys) ≡ z ∷ rest)
     by_test true more = (y, filter test ys, refl)
     by_test false more = more
 
@@ -28,7 +30,8 @@ module _ {X : Type 0} (test : X → Bool) where
   pub first_in_list : (xs : List X) (x : X) (rest : List X) → filter test xs ≡ x ∷ rest → (place : ℕ) × IsFirst xs place x
   first_in_list [] x rest is = absurd (cc)
   first_in_list (y ∷ ys) x rest is = by_test (test y) refl is (λ more. first_in_list ys x rest more) where
-    by_test : (b : Bool) → test y ≡ b → cond b (y ∷ filter test ys) (filter test ys) ≡ x ∷ rest → (filter test ys ≡ x ∷ rest → (place : ℕ) × IsFirst ys place x) → (place : ℕ) × IsFirst (y ∷ ys) place x
+    by_test : (b : Bool) → test y ≡ b → cond b (y ∷ filter test ys) (filter test ys) ≡ x ∷ rest →
+        (filter test ys ≡ x ∷ rest → (place : ℕ) × IsFirst ys place x) → (place : ℕ) × IsFirst (y ∷ ys) place x
     by_test true passes is more = (0, record { there = cc; passes = cc; before_others = λ k z at q. omega arith })
     by_test false fails is more = let found = more is in (
       suc found.0,
@@ -51,7 +54,8 @@ module _ {X : Type 0} (test : X → Bool) where
     passes = first.passes;
     before_others = λ k z at q. let h : suc place ≤ suc k = first.before_others (suc k) z at q in omega arith;
   })) where
-    by_test : (b : Bool) → test y ≡ b → (rest : List X) × (filter test ys ≡ x ∷ rest) → (rest : List X) × (cond b (y ∷ filter test ys) (filter test ys) ≡ x ∷ rest)
+    by_test : (b : Bool) → test y ≡ b → (rest : List X) × (filter test ys ≡ x ∷ rest) →
+        (rest : List X) × (cond b (y ∷ filter test ys) (filter test ys) ≡ x ∷ rest)
     by_test true passes more = absurd (omega (arith, first.before_others 0 y refl passes))
     by_test false fails more = more
 
@@ -84,13 +88,16 @@ module _ {X : Type 0} (test : X → Bool) where
       after zero z at q = omega arith
       after (suc k) z at q = absurd (none_left ys none k z at q)
 
-    by_test : (b : Bool) → test y ≡ b → (front : List X) → cond b (y ∷ filter test ys) (filter test ys) ≡ front ++ x ∷ [] → ((fs : List X) → filter test ys ≡ fs ++ x ∷ [] → (place : ℕ) × IsLast ys place x) → (place : ℕ) × IsLast (y ∷ ys) place x
+    by_test : (b : Bool) → test y ≡ b → (front : List X) → cond b (y ∷ filter test ys) (filter test ys) ≡ front ++ x ∷ [] →
+        ((fs : List X) → filter test ys ≡ fs ++ x ∷ [] → (place : ℕ) × IsLast ys place x) →
+        (place : ℕ) × IsLast (y ∷ ys) place x
     by_test true passes [] is more = (0, alone passes (cc) (cc))
     by_test true passes (f ∷ fs) is more = let found = more fs (cc) in (suc found.0, later found.0 found.1)
     by_test false fails front is more = let found = more front is in (suc found.0, later found.0 found.1)
 
   -- the last that passes is the last of those that pass
-  pub last_in_filter : (xs : List X) (place : ℕ) (x : X) → IsLast xs place x → (front : List X) × (filter test xs ≡ front ++ x ∷ [])
+  pub last_in_filter : (xs : List X) (place : ℕ) (x : X) → IsLast xs place x →
+      (front : List X) × (filter test xs ≡ front ++ x ∷ [])
   last_in_filter [] place x last = absurd (cc (last.there))
   last_in_filter (y ∷ ys) zero x last = let same : y ≡ x = cc (last.there) in
       let none : filter test ys ≡ [] = none_pass ys (λ k z at q. omega (arith, last.after_others (suc k) z at q)) in
@@ -100,6 +107,7 @@ module _ {X : Type 0} (test : X → Bool) where
     passes = last.passes;
     after_others = λ k z at q. let h : suc k ≤ suc place = last.after_others (suc k) z at q in omega arith;
   })) where
-    by_test : (b : Bool) → (front : List X) × (filter test ys ≡ front ++ x ∷ []) → (front : List X) × (cond b (y ∷ filter test ys) (filter test ys) ≡ front ++ x ∷ [])
+    by_test : (b : Bool) → (front : List X) × (filter test ys ≡ front ++ x ∷ []) →
+        (front : List X) × (cond b (y ∷ filter test ys) (filter test ys) ≡ front ++ x ∷ [])
     by_test true more = (y ∷ more.0, ap (λ l. y ∷ l) more.1)
     by_test false more = more

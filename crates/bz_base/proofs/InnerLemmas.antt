@@ -28,7 +28,9 @@ module _ {X : Type 0} (depth start : X → ℕ) where
   Finds at addr records None = (i : ℕ) (y : X) → slice_get records i ≡ Some y → depth y ≡ at → addr < start y
 
   -- the first record is the one to try where it fits and is nearer than those after it
-  first_is : (at addr : ℕ) (x : X) (xs : List X) → fits depth start at addr x ≡ true → ((i : ℕ) (y : X) → slice_get xs i ≡ Some y → depth y ≡ at → start y ≤ addr → start y < start x) → IsInner depth start (x ∷ xs) at addr 0 x
+  first_is : (at addr : ℕ) (x : X) (xs : List X) → fits depth start at addr x ≡ true →
+      ((i : ℕ) (y : X) → slice_get xs i ≡ Some y → depth y ≡ at → start y ≤ addr → start y < start x) →
+      IsInner depth start (x ∷ xs) at addr 0 x
   first_is at addr x xs holds nearer = record {
     there = refl;
     depth_is = has_depth at addr x holds;
@@ -45,7 +47,9 @@ module _ {X : Type 0} (depth start : X → ℕ) where
     last (suc i) y there d s = let h : start y < start x = nearer i y there d (omega (arith, is_below at addr x holds)) in absurd (omega arith)
 
   -- a record further on stays the one to try where the first isn't nearer
-  later_is : (at addr : ℕ) (x : X) (xs : List X) (y : X) (place : ℕ) → (fits depth start at addr x && nat_lt (start y) (start x)) ≡ false → IsInner depth start xs at addr place y → IsInner depth start (x ∷ xs) at addr (suc place) y
+  later_is : (at addr : ℕ) (x : X) (xs : List X) (y : X) (place : ℕ) →
+      (fits depth start at addr x && nat_lt (start y) (start x)) ≡ false → IsInner depth start xs at addr place y →
+      IsInner depth start (x ∷ xs) at addr (suc place) y
   later_is at addr x xs y place fails is = record {
     there = is.there;
     depth_is = is.depth_is;
@@ -65,7 +69,8 @@ module _ {X : Type 0} (depth start : X → ℕ) where
     last (suc i) z there d s = let h : i ≤ place = is.last i z there d s in omega arith
 
   -- putting a record in front keeps that the search finds the record to try
-  inner_of_finds : (at addr : ℕ) (x : X) (xs : List X) (rest : Option X) → Finds at addr xs rest → Finds at addr (x ∷ xs) (inner_of depth start at addr x rest)
+  inner_of_finds : (at addr : ℕ) (x : X) (xs : List X) (rest : Option X) → Finds at addr xs rest →
+      Finds at addr (x ∷ xs) (inner_of depth start at addr x rest)
   inner_of_finds at addr x xs None none = cond_both (fits depth start at addr x) (Some x) None (Finds at addr (x ∷ xs))
       (λ holds. (0, first_is at addr x xs holds (λ i y there d s. absurd (omega (arith, none i y there d))))) all_above where
         all_above : fits depth start at addr x ≡ false → Finds at addr (x ∷ xs) None
@@ -88,7 +93,8 @@ module _ {X : Type 0} (depth start : X → ℕ) where
   inner_finds at addr (x ∷ xs) = inner_of_finds at addr x xs (inner depth start at addr xs) (inner_finds at addr xs)
 
   -- a record to try is what the search gives
-  pub inner_again : (records : List X) (at addr place : ℕ) (x : X) → IsInner depth start records at addr place x → inner depth start at addr records ≡ Some x
+  pub inner_again : (records : List X) (at addr place : ℕ) (x : X) → IsInner depth start records at addr place x →
+      inner depth start at addr records ≡ Some x
   inner_again records at addr place x is = by_result (inner depth start at addr records) (inner_finds at addr records) where
     by_result : (o : Option X) → Finds at addr records o → o ≡ Some x
     by_result None none = absurd (omega (arith, none place x is.there is.depth_is, is.not_above))
@@ -101,12 +107,15 @@ module _ {X : Type 0} (depth start : X → ℕ) where
         ap Some (same_some y x (sym found.1.there ∙ ap (slice_get records) same ∙ is.there))
 
   -- and it gives none where none fits
-  pub inner_none : (records : List X) (at addr : ℕ) → ((i : ℕ) (y : X) → slice_get records i ≡ Some y → depth y ≡ at → addr < start y) → inner depth start at addr records ≡ None
+  pub inner_none : (records : List X) (at addr : ℕ) →
+      ((i : ℕ) (y : X) → slice_get records i ≡ Some y → depth y ≡ at → addr < start y) →
+      inner depth start at addr records ≡ None
   inner_none records at addr above = by_result (inner depth start at addr records) (inner_finds at addr records) where
     by_result : (o : Option X) → Finds at addr records o → o ≡ None
     by_result None none = refl
     by_result (Some y) found = absurd (omega (arith, above found.0 y found.1.there found.1.depth_is, found.1.not_above))
 
   -- what is given is a record to try
-  pub inner_is : (records : List X) (at addr : ℕ) (x : X) → inner depth start at addr records ≡ Some x → (place : ℕ) × IsInner depth start records at addr place x
+  pub inner_is : (records : List X) (at addr : ℕ) (x : X) → inner depth start at addr records ≡ Some x →
+      (place : ℕ) × IsInner depth start records at addr place x
   inner_is records at addr x found = subst (Finds at addr records) found (inner_finds at addr records)

@@ -21,7 +21,8 @@ module _ {X : Type 0} (depth start : X → ℕ) where
   is_before at addr x = nat_lt (depth x) at || (depth x == at && nat_le (start x) addr)
 
   -- what stands before such a record is one too
-  pub still_before : (at addr : ℕ) (x y : X) → depth x ≤ depth y → (depth x ≡ depth y → start x ≤ start y) → is_before at addr y ≡ true → is_before at addr x ≡ true
+  pub still_before : (at addr : ℕ) (x y : X) → depth x ≤ depth y → (depth x ≡ depth y → start x ≤ start y) →
+      is_before at addr y ≡ true → is_before at addr x ≡ true
   still_before at addr x y depths starts later = grind (arith, nat_tests)
 
   -- a record that comes after, and isn't deeper, has the depth
@@ -49,7 +50,9 @@ module _ {X : Type 0} (depth start : X → ℕ) where
 
   module _ (records table : List X) (is : IsTable depth start records table) (at addr : ℕ) where
     -- the last record of the table that doesn't come after the depth and the address is the one to try, if it has the depth
-    pub table_inner : (place : ℕ) (x : X) → slice_get table place ≡ Some x → depth x ≡ at → start x ≤ addr → ((k : ℕ) (y : X) → place < k → slice_get table k ≡ Some y → IsAfter at addr y) → inner depth start at addr records ≡ Some x
+    pub table_inner : (place : ℕ) (x : X) → slice_get table place ≡ Some x → depth x ≡ at → start x ≤ addr →
+        ((k : ℕ) (y : X) → place < k → slice_get table k ≡ Some y → IsAfter at addr y) →
+        inner depth start at addr records ≡ Some x
     table_inner place x there d s after = inner_again depth start records at addr last.0 x (record {
       there = last.1.there;
       depth_is = d;
@@ -81,7 +84,9 @@ module _ {X : Type 0} (depth start : X → ℕ) where
           omega (arith, like.size_is)
 
     -- where each record of the table up to a place has a lesser depth, and those from there on come after, there is none
-    pub table_no_inner : (place : ℕ) → ((k : ℕ) (y : X) → k < place → slice_get table k ≡ Some y → depth y < at) → ((k : ℕ) (y : X) → place ≤ k → slice_get table k ≡ Some y → IsAfter at addr y) → inner depth start at addr records ≡ None
+    pub table_no_inner : (place : ℕ) → ((k : ℕ) (y : X) → k < place → slice_get table k ≡ Some y → depth y < at) →
+        ((k : ℕ) (y : X) → place ≤ k → slice_get table k ≡ Some y → IsAfter at addr y) →
+        inner depth start at addr records ≡ None
     table_no_inner place before after = inner_none depth start records at addr (λ i y at_y depth_y.
         let like = in_table depth start records table is i y at_y in
         elim (cases_lt like.place place) [
@@ -102,14 +107,16 @@ module _ {X : Type 0} (depth start : X → ℕ) where
       after_point k y higher there = does_come_after at addr y (rw (get_or_from_slice_get table k y y there) at (point.1 k y higher (slice_get_within table k y there)))
 
       -- the last record before the point is the one to try, if it has the depth
-      pub at_point : (x : X) → place ≤ length table → ¬ (place ≡ 0) → x ≡ get_or table (place - 1) x → depth x ≡ at → Some x ≡ inner depth start at addr records
+      pub at_point : (x : X) → place ≤ length table → ¬ (place ≡ 0) → x ≡ get_or table (place - 1) x → depth x ≡ at →
+          Some x ≡ inner depth start at addr records
       at_point x within some read d =
           let there : slice_get table (place - 1) ≡ Some x = slice_get_read table (length table) (place - 1) x refl (omega arith) read in
           let before : is_before at addr x ≡ true = rw (sym read) at (point.0 (place - 1) x (omega arith) (omega arith)) in
           sym (table_inner (place - 1) x there d (before_is_below at addr x d before) (λ k y higher at_y. after_point k y (omega arith) at_y))
 
       -- and else there is none
-      pub not_at_point : (x : X) → place ≤ length table → ¬ (place ≡ 0) → x ≡ get_or table (place - 1) x → ¬ (depth x ≡ at) → None ≡ inner depth start at addr records
+      pub not_at_point : (x : X) → place ≤ length table → ¬ (place ≡ 0) → x ≡ get_or table (place - 1) x → ¬ (depth x ≡ at) →
+          None ≡ inner depth start at addr records
       not_at_point x within some read other =
           let there : slice_get table (place - 1) ≡ Some x = slice_get_read table (length table) (place - 1) x refl (omega arith) read in
           let before : is_before at addr x ≡ true = rw (sym read) at (point.0 (place - 1) x (omega arith) (omega arith)) in
@@ -150,7 +157,8 @@ module _ {X : Type 0} (depth start : X → ℕ) (records table : List X) (is : I
   -- table and list have the same record to try
   pub inner_of_table : inner depth start at addr table ≡ inner depth start at addr records
   inner_of_table = by_table (inner depth start at addr table) refl (inner_finds depth start at addr table) where
-    by_table : (o : Option X) → inner depth start at addr table ≡ o → Finds depth start at addr table o → o ≡ inner depth start at addr records
+    by_table : (o : Option X) → inner depth start at addr table ≡ o → Finds depth start at addr table o →
+        o ≡ inner depth start at addr records
     by_table (Some x) found finds = sym (inner_of_list finds.0 x finds.1)
     by_table None none above = sym (inner_none depth start records at addr (λ i y there d.
         let like = in_table depth start records table is i y there in

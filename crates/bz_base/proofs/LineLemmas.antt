@@ -9,7 +9,8 @@ use Rattle.bz_base.specs.Byte.{line_feed, HasNo}
 use Rattle.bz_base.specs.Line.{ended, AreEnded, unended, AreLines, begins_ended, before_ended, ended_lines, begins_line, all_lines}
 
 -- a byte that doesn't stand at a place before k isn't among the first k bytes
-pub HasNo-take : (byte : ℕ) (text : List ℕ) (k : ℕ) → ((i : ℕ) → i < k → i < length text → nat_eq (slice_index text i) byte ≡ true → ⊥) → HasNo byte (take k text)
+pub HasNo-take : (byte : ℕ) (text : List ℕ) (k : ℕ) →
+    ((i : ℕ) → i < k → i < length text → nat_eq (slice_index text i) byte ≡ true → ⊥) → HasNo byte (take k text)
 HasNo-take byte [] zero nowhere = refl
 HasNo-take byte [] (suc k) nowhere = refl
 HasNo-take byte (b ∷ text) zero nowhere = refl
@@ -18,7 +19,8 @@ HasNo-take byte (b ∷ text) (suc k) nowhere =
     (HasNo-take byte text k (λ i below within. nowhere (suc i) (omega arith) (omega arith)))
 
 -- a byte that stands at no place isn't in the text
-pub HasNo-nowhere : (byte : ℕ) (text : List ℕ) → ((i : ℕ) → i < length text → nat_eq (slice_index text i) byte ≡ true → ⊥) → HasNo byte text
+pub HasNo-nowhere : (byte : ℕ) (text : List ℕ) → ((i : ℕ) → i < length text → nat_eq (slice_index text i) byte ≡ true → ⊥) →
+    HasNo byte text
 HasNo-nowhere byte [] nowhere = refl
 HasNo-nowhere byte (b ∷ text) nowhere =
     or_from _ _ (false_from_ne_true _ (nowhere 0 (omega arith)))
@@ -107,7 +109,8 @@ ended_found [] lines read =
 ended_found (b ∷ text) lines read = before_ended-found_in b text lines (ended_lines text) (ended_found text) read
 
 -- lines set side by side are read again
-pub side_by_side_again : (lines : List (List ℕ)) → AllByRecursion (HasNo line_feed) lines → ended_lines (flat_map ended lines) ≡ Some lines
+pub side_by_side_again : (lines : List (List ℕ)) → AllByRecursion (HasNo line_feed) lines →
+    ended_lines (flat_map ended lines) ≡ Some lines
 side_by_side_again [] none = refl
 side_by_side_again (line ∷ lines) none =
     ap ended_lines (append_assoc line (line_feed ∷ []) (flat_map ended lines))

@@ -1,7 +1,6 @@
 -- Numbers are read exactly from the texts that spell them.
-use Rattle.std.proofs.Common.{◌≡◌, ℕ, zero, suc, ◌+◌, ◌*◌, ◌^◌, ◌<◌, ◌≤◌, Bool, true, false, cond, ◌&&◌, List, [], ◌∷◌, ◌++◌, length, take, drop, get_or, Option, Some, None, nat_lt, nat_le, refl, sym, ap, subst, ◌∙◌, arith, append-nil}
+use Rattle.std.proofs.Common.{◌≡◌, ℕ, zero, suc, ◌+◌, ◌*◌, ◌^◌, ◌<◌, ◌≤◌, false, ◌&&◌, List, [], ◌∷◌, ◌++◌, length, take, drop, get_or, Option, Some, None, nat_lt, nat_le, refl, sym, ap, subst, ◌∙◌, arith, append-nil}
 use Rattle.std.specs.Char.{is_digit, digit_value}
-use Rattle.std.specs.List.{prefix_len}
 use Rattle.std.specs.Option.{option_and_then}
 use Rattle.std.specs.Str.Parse.{AllDigits, digits_value}
 use Rattle.std.proofs.lemmas.Bool.{and_parts, ltb-true, leb-true, lt-ltb, le-leb, cond_both}
@@ -12,7 +11,7 @@ use Rattle.std.proofs.lemmas.Option.{cond_some, none-some, same_Some}
 use Rattle.std.proofs.Math.Nat.{pow-le-pow_right}
 use Rattle.std.proofs.Math.Seq.{take-append_seam, drop-append_seam}
 use Rattle.bz_base.specs.Byte.{begins_with}
-use Rattle.bz_base.specs.Number.{IsNumber, IsDecimal, IsAtFront, digits_len, number_at, not_above, decimal_at, alone, whole}
+use Rattle.bz_base.specs.Number.{IsNumber, IsDecimal, IsAtFront, digits_len, number_at, not_above, decimal_at, whole}
 
 module _ (base : ℕ) where
   -- the digits in front are digits
@@ -40,7 +39,8 @@ module _ (base : ℕ) where
       rw (lt-ltb (digit_value c) base all.0) (omega (arith, digits_len-front digits rest all.1 ends))
 
   -- so many digits spell no more than this
-  pub digits_below : (text : List ℕ) (most : ℕ) → 0 < base → length text ≤ most → AllDigits base text → digits_value base text < base ^ most
+  pub digits_below : (text : List ℕ) (most : ℕ) → 0 < base → length text ≤ most → AllDigits base text →
+      digits_value base text < base ^ most
   digits_below text most some few digits =
       let below = digits_value-lt base text digits in
       let wide = pow-le-pow_right {n = base} some few in
@@ -61,7 +61,8 @@ module _ (base : ℕ) where
       omega (arith, digits_value_more base text i within, below, fits)
 
   -- fewer digits than fit 64 bits fit too
-  pub fewer_fit : (text : List ℕ) (n most : ℕ) → 0 < base → base ^ most ≤ 2 ^ 64 → n ≤ most → base ^ length (take n text) ≤ 2 ^ 64
+  pub fewer_fit : (text : List ℕ) (n most : ℕ) → 0 < base → base ^ most ≤ 2 ^ 64 → n ≤ most →
+      base ^ length (take n text) ≤ 2 ^ 64
   fewer_fit text n most some fits few =
       let within : length (take n text) ≤ most = omega (arith, length-take {A = ℕ}) in
       let wide = pow-le-pow_right {n = base} some within in
@@ -75,7 +76,8 @@ module _ (base : ℕ) where
 
   module _ (most : ℕ) where
     -- a number that is read stands at the front
-    pub number_found : (text : List ℕ) (value : ℕ) (rest : List ℕ) → number_at base most text ≡ Some (value, rest) → IsAtFront base most text value rest
+    pub number_found : (text : List ℕ) (value : ℕ) (rest : List ℕ) → number_at base most text ≡ Some (value, rest) →
+        IsAtFront base most text value rest
     unfolding number_at
     number_found text value rest read =
         let n = digits_len base text in
@@ -96,7 +98,8 @@ module _ (base : ℕ) where
         }
 
     -- digits with no digit after them are read
-    pub number_again : (digits rest : List ℕ) (value : ℕ) → IsNumber base most digits value → begins_with (λ b. is_digit b base) rest ≡ false →
+    pub number_again : (digits rest : List ℕ) (value : ℕ) → IsNumber base most digits value →
+        begins_with (λ b. is_digit b base) rest ≡ false →
         number_at base most (digits ++ rest) ≡ Some (value, rest)
     unfolding number_at
     number_again digits rest value is ends =
@@ -109,7 +112,8 @@ module _ (base : ℕ) where
         ) (ap (λ v. Some (v, rest)) (sym is.valued))
 
     -- a number at the front is read
-    pub front_again : (text : List ℕ) (value : ℕ) (rest : List ℕ) → IsAtFront base most text value rest → number_at base most text ≡ Some (value, rest)
+    pub front_again : (text : List ℕ) (value : ℕ) (rest : List ℕ) → IsAtFront base most text value rest →
+        number_at base most text ≡ Some (value, rest)
     front_again text value rest is = ap (number_at base most) is.split ∙ number_again is.front rest value is.number is.ends
 
     -- a number with nothing after it is the whole text
@@ -127,14 +131,17 @@ whole_found (Some (v, [])) value is = ap (λ n. Some (n, [])) (same_Some v value
 whole_found (Some (v, b ∷ rest)) value is = absurd (none-some value is)
 
 -- a number that is the whole text is read, and no other text is
-pub number_whole_found : (base most : ℕ) (text : List ℕ) (value : ℕ) → whole (number_at base most text) ≡ Some value → IsNumber base most text value
+pub number_whole_found : (base most : ℕ) (text : List ℕ) (value : ℕ) → whole (number_at base most text) ≡ Some value →
+    IsNumber base most text value
 number_whole_found base most text value read = front_whole base most text value (number_found base most text value [] (whole_found _ value read))
 
-pub number_whole_again : (base most : ℕ) (text : List ℕ) (value : ℕ) → IsNumber base most text value → whole (number_at base most text) ≡ Some value
+pub number_whole_again : (base most : ℕ) (text : List ℕ) (value : ℕ) → IsNumber base most text value →
+    whole (number_at base most text) ≡ Some value
 number_whole_again base most text value is = ap whole (front_again base most text value [] (whole_front base most text value is))
 
 -- a decimal number that is read was read, and isn't above the greatest
-decimal_parts : (greatest : ℕ) (read : Option (ℕ × List ℕ)) (found : ℕ × List ℕ) → option_and_then (not_above greatest) read ≡ Some found →
+decimal_parts : (greatest : ℕ) (read : Option (ℕ × List ℕ)) (found : ℕ × List ℕ) →
+    option_and_then (not_above greatest) read ≡ Some found →
     (read ≡ Some found) × (found.0 ≤ greatest)
 decimal_parts greatest None found is = absurd (none-some found is)
 decimal_parts greatest (Some r) found is =
@@ -143,24 +150,28 @@ decimal_parts greatest (Some r) found is =
     (ap Some parts.1, subst P parts.1 (leb-true r.0 greatest parts.0))
 
 -- a decimal number that is read stands at the front, and isn't above the greatest
-pub decimal_found : (most greatest : ℕ) (text : List ℕ) (value : ℕ) (rest : List ℕ) → decimal_at most greatest text ≡ Some (value, rest) →
+pub decimal_found : (most greatest : ℕ) (text : List ℕ) (value : ℕ) (rest : List ℕ) →
+    decimal_at most greatest text ≡ Some (value, rest) →
     IsAtFront 10 most text value rest × (value ≤ greatest)
 decimal_found most greatest text value rest read =
     let parts = decimal_parts greatest (number_at 10 most text) (value, rest) read in
     (number_found 10 most text value rest parts.0, parts.1)
 
 -- a decimal number at the front that isn't above the greatest is read
-pub decimal_again : (most greatest : ℕ) (text : List ℕ) (value : ℕ) (rest : List ℕ) → IsAtFront 10 most text value rest → value ≤ greatest →
+pub decimal_again : (most greatest : ℕ) (text : List ℕ) (value : ℕ) (rest : List ℕ) → IsAtFront 10 most text value rest →
+    value ≤ greatest →
     decimal_at most greatest text ≡ Some (value, rest)
 decimal_again most greatest text value rest is fits = rw (front_again 10 most text value rest is, le-leb value greatest fits) refl
 
 -- a decimal number that is the whole text is read, and no other text is
-pub decimal_whole_found : (most greatest : ℕ) (text : List ℕ) (value : ℕ) → whole (decimal_at most greatest text) ≡ Some value → IsDecimal most greatest text value
+pub decimal_whole_found : (most greatest : ℕ) (text : List ℕ) (value : ℕ) →
+    whole (decimal_at most greatest text) ≡ Some value → IsDecimal most greatest text value
 decimal_whole_found most greatest text value read =
     let found = decimal_found most greatest text value [] (whole_found _ value read) in
     record { number = front_whole 10 most text value found.0; fits = found.1 }
 
-pub decimal_whole_again : (most greatest : ℕ) (text : List ℕ) (value : ℕ) → IsDecimal most greatest text value → whole (decimal_at most greatest text) ≡ Some value
+pub decimal_whole_again : (most greatest : ℕ) (text : List ℕ) (value : ℕ) → IsDecimal most greatest text value →
+    whole (decimal_at most greatest text) ≡ Some value
 decimal_whole_again most greatest text value is = ap whole (decimal_again most greatest text value [] (whole_front 10 most text value is.number) is.fits)
 
 -- sixteen hexadecimal digits fit 64 bits

@@ -13,14 +13,16 @@ doubled : (old now : ℕ) → old ≤ now → 2 ^ (now + 1 - old) ≡ 2 ^ (now -
 doubled old now h = let e : now + 1 - old ≡ suc (now - old) = omega arith in rw (e, pow-suc 2 (now - old))
 
 -- what is left stays within the whole, by the power
-pub still_halved : (old now left less count : ℕ) → old ≤ now → 2 * less ≤ left → 2 ^ (now - old) * left ≤ count → 2 ^ (now + 1 - old) * less ≤ count
+pub still_halved : (old now left less count : ℕ) → old ≤ now → 2 * less ≤ left → 2 ^ (now - old) * left ≤ count →
+    2 ^ (now + 1 - old) * less ≤ count
 still_halved old now left less count h half bound =
     let e : 2 ^ (now + 1 - old) * less ≡ 2 ^ (now - old) * (2 * less) = rw (doubled old now h) (mul_assoc (2 ^ (now - old)) 2 less) in
     let m : 2 ^ (now - old) * (2 * less) ≤ 2 ^ (now - old) * left = mul-le-mul_left (2 ^ (now - old)) half in
     omega (arith, e, m)
 
 -- and the power within twice the whole
-pub still_few : (old now left count : ℕ) → old ≤ now → 1 ≤ left → 2 ^ (now - old) * left ≤ count → 2 ^ (now + 1 - old) ≤ 2 * count + 1
+pub still_few : (old now left count : ℕ) → old ≤ now → 1 ≤ left → 2 ^ (now - old) * left ≤ count →
+    2 ^ (now + 1 - old) ≤ 2 * count + 1
 still_few old now left count h some bound =
     let m : 2 ^ (now - old) * 1 ≤ 2 ^ (now - old) * left = mul-le-mul_left (2 ^ (now - old)) some in
     omega (arith, doubled old now h, m)
@@ -67,7 +69,8 @@ one_more done count most less =
     omega (arith, m, mul_comm most (done + 1), mul_comm most count, mul_comm most done)
 
 -- the bound of a batch by search grows with the bound of a search
-pub batch_bound : (count most p starts : ℕ) → 2 ^ most ≤ 2 * starts + 1 → 2 * (2 * starts + 1) < 2 ^ (p + 1) → count * most ≤ count * p
+pub batch_bound : (count most p starts : ℕ) → 2 ^ most ≤ 2 * starts + 1 → 2 * (2 * starts + 1) < 2 ^ (p + 1) →
+    count * most ≤ count * p
 batch_bound count most p starts needed greatest =
     let h : most < p + 1 = lesser_exponent most (p + 1) (omega arith) in
     mul-le-mul_left count (omega arith)

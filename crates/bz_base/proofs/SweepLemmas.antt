@@ -6,7 +6,8 @@ use Rattle.std.proofs.lemmas.List.{get_or-set_other, get_or_append_left}
 use Rattle.std.proofs.Math.Seq.{get_or-append_seam, take-append_seam}
 use Rattle.std.proofs.lemmas.Grind.{get_or-set_at}
 use Rattle.std.proofs.lemmas.Option.{slice_get-get_or, get_or_from_slice_get}
-use Rattle.bz_base.specs.Starts.{IsFound, AreFound, IsEntry}
+use Rattle.bz_base.specs.Starts.{IsFound, AreFound}
+use Rattle.bz_base.specs.Sweep.{IsEntry}
 
 -- what stands at a place doesn't depend on the default
 any_default : {X : Type 0} (xs : List X) (k : ℕ) (d e : X) → k < length xs → get_or xs k e ≡ get_or xs k d
@@ -40,7 +41,8 @@ module _ (starts addrs : List ℕ) (order : List (ℕ × ℕ)) (entries : All (I
   SoFar done places = (j : ℕ) → j < done → IsFound starts (entry j).0 (slice_index_or places (entry j).1 None)
 
   -- one more
-  pub so_far_more : (done : ℕ) (places : List (Option (ℕ × ℕ))) (found : Option (ℕ × ℕ)) → done < length order → length places ≡ length addrs → SoFar done places → IsFound starts (entry done).0 found
+  pub so_far_more : (done : ℕ) (places : List (Option (ℕ × ℕ))) (found : Option (ℕ × ℕ)) → done < length order →
+      length places ≡ length addrs → SoFar done places → IsFound starts (entry done).0 found
       → SoFar (done + 1) (slice_set places (entry done).1 found)
   so_far_more done places found more count before now j within = elim (same_or_other (entry j).1 (entry done).1) [
     | inl same ↦
@@ -56,15 +58,19 @@ module _ (starts addrs : List ℕ) (order : List (ℕ × ℕ)) (entries : All (I
   ]
 
   -- in the end each address has its place
-  pub all_found : (places : List (Option (ℕ × ℕ))) → ((k : ℕ) → k < length addrs → Contains order (slice_index addrs k, k)) → SoFar (length order) places → AreFound starts addrs places
+  pub all_found : (places : List (Option (ℕ × ℕ))) → ((k : ℕ) → k < length addrs → Contains order (slice_index addrs k, k)) →
+      SoFar (length order) places → AreFound starts addrs places
   all_found places each found k within =
       let c = each k within in
       let e : entry c.0 ≡ (slice_index addrs k, k) = any_default order c.0 (slice_index addrs k, k) (0, 0) c.1 ∙ c.2 in
       subst (λ x. IsFound starts x.0 (slice_index_or places x.1 None)) e (found c.0 c.1)
 
 -- one more address has its place, put at the end
-pub found_more : (starts addrs : List ℕ) (done : ℕ) (places : List (Option (ℕ × ℕ))) (found : Option (ℕ × ℕ)) → length places ≡ done → ((k : ℕ) → k < done → IsFound starts (slice_index addrs k) (slice_index_or places k None)) → IsFound starts (slice_index addrs done) found
-    → (after : List (Option (ℕ × ℕ))) → after ≡ places ++ found ∷ [] → (k : ℕ) → k < done + 1 → IsFound starts (slice_index addrs k) (slice_index_or after k None)
+pub found_more : (starts addrs : List ℕ) (done : ℕ) (places : List (Option (ℕ × ℕ))) (found : Option (ℕ × ℕ)) →
+    length places ≡ done → ((k : ℕ) → k < done → IsFound starts (slice_index addrs k) (slice_index_or places k None)) →
+    IsFound starts (slice_index addrs done) found
+    → (after : List (Option (ℕ × ℕ))) → after ≡ places ++ found ∷ [] → (k : ℕ) → k < done + 1 →
+    IsFound starts (slice_index addrs k) (slice_index_or after k None)
 found_more starts addrs done places found count before now after is k within = elim (cases_lt k done) [
   | inl less ↦ subst (λ o. IsFound starts (slice_index addrs k) o) (sym (ap (λ l. get_or l k None) is ∙ get_or_append_left places (found ∷ []) None k (omega (arith, count)))) (before k less)
   | inr not_less ↦

@@ -32,7 +32,8 @@ module _ {X : Type 0} (start size : X → ℕ) where
     pub size_is : size like ≡ size y
 
   -- each record of the list has its like in the table
-  pub in_table : (records table : List X) → IsTable start size records table → (i : ℕ) (y : X) → slice_get records i ≡ Some y → InTable table y
+  pub in_table : (records table : List X) → IsTable start size records table → (i : ℕ) (y : X) →
+      slice_get records i ≡ Some y → InTable table y
   in_table records table is i y at =
       let some = some_pass (has_span start size (start y) (size y)) records i y at (spans_same y y refl refl) in
       let first = first_in_list (has_span start size (start y) (size y)) table some.0 some.1 (is.alike (start y) (size y) ∙ some.2) in
@@ -44,7 +45,8 @@ module _ {X : Type 0} (start size : X → ℕ) where
 
   module _ (records table : List X) (is : IsTable start size records table) (addr place : ℕ) (x : X) (there : slice_get table place ≡ Some x) where
     -- the first record of the table that starts at the address is the one to try
-    pub at_start : start x ≡ addr → ((k : ℕ) (y : X) → k < place → slice_get table k ≡ Some y → start y < addr) → (p : ℕ) × IsCandidate start size records addr p x
+    pub at_start : start x ≡ addr → ((k : ℕ) (y : X) → k < place → slice_get table k ≡ Some y → start y < addr) →
+        (p : ℕ) × IsCandidate start size records addr p x
     at_start exact before = (
       first.0,
       record {
@@ -73,7 +75,8 @@ module _ {X : Type 0} (start size : X → ℕ) where
           omega (arith, like.size_is)
 
     -- and else the last record that starts below the address
-    pub below_address : start x < addr → ((k : ℕ) (y : X) → place < k → slice_get table k ≡ Some y → addr < start y) → (p : ℕ) × IsCandidate start size records addr p x
+    pub below_address : start x < addr → ((k : ℕ) (y : X) → place < k → slice_get table k ≡ Some y → addr < start y) →
+        (p : ℕ) × IsCandidate start size records addr p x
     below_address below after = (
       last.0,
       record {
@@ -96,7 +99,8 @@ module _ {X : Type 0} (start size : X → ℕ) where
       last : (p : ℕ) × IsLast (has_span start size (start x) (size x)) records p x
       last = last_in_list (has_span start size (start x) (size x)) records found.0 x (sym (is.alike (start x) (size x)) ∙ found.1)
 
-      early : (i : ℕ) (y : X) (at : slice_get records i ≡ Some y) → start y ≤ addr → (in_table records table is i y at).place ≤ place
+      early : (i : ℕ) (y : X) (at : slice_get records i ≡ Some y) → start y ≤ addr →
+          (in_table records table is i y at).place ≤ place
       early i y at within =
           let like = in_table records table is i y at in
           elim (cases_lt place like.place) [ inl higher ↦ absurd (omega (arith, after like.place like.like higher like.there, like.start_is)) | inr before ↦ before ]
@@ -120,7 +124,8 @@ module _ {X : Type 0} (start size : X → ℕ) where
   starts_within table k y at = omega (arith, slice_get_within table k y at, length-map table start)
 
   -- what the search finds in the starts of the table is the record to try of the list in its own order
-  pub table_candidate : (records table : List X) → IsTable start size records table → (addr : ℕ) (found : Option (ℕ × ℕ)) → IsFound (map start table) addr found
+  pub table_candidate : (records table : List X) → IsTable start size records table → (addr : ℕ) (found : Option (ℕ × ℕ)) →
+      IsFound (map start table) addr found
       → option_and_then (λ p. slice_get table p.0) found ≡ candidate start size addr records
   table_candidate records table is addr None none = sym (none_from_above start size addr records (λ i y at.
       let like = in_table records table is i y at in
@@ -129,7 +134,8 @@ module _ {X : Type 0} (start size : X → ℕ) where
       let y = record_at table p.0 found.within in
       let start_is : start y.0 ≡ p.1 = sym (start_at table p.0 y.0 y.1) ∙ found.start_is in
       y.1 ∙ sym (candidate_again start size addr records (is_tried y.0 y.1 start_is).0 y.0 (is_tried y.0 y.1 start_is).1) where
-        is_tried : (x : X) → slice_get table p.0 ≡ Some x → start x ≡ p.1 → (place : ℕ) × IsCandidate start size records addr place x
+        is_tried : (x : X) → slice_get table p.0 ≡ Some x → start x ≡ p.1 →
+            (place : ℕ) × IsCandidate start size records addr place x
         is_tried x there start_is = elim (cases_lt p.1 addr) [
           | inl below ↦ below_address records table is addr p.0 x there (omega arith) (λ k y higher at.
               omega (arith, found.last below k higher (starts_within table k y at), start_at table k y at))
@@ -138,12 +144,14 @@ module _ {X : Type 0} (start size : X → ℕ) where
         ]
 
   -- the record at a place that the search found answers if it covers the address
-  pub covering_at : (records table : List X) → IsTable start size records table → (addr place at : ℕ) (x : X) → IsPlace (map start table) addr place at → x ≡ get_or table place x
+  pub covering_at : (records table : List X) → IsTable start size records table → (addr place at : ℕ) (x : X) →
+      IsPlace (map start table) addr place at → x ≡ get_or table place x
       → if_covers start size addr x ≡ nearest_covering start size addr records
   covering_at records table is addr place at x found read =
       let there : slice_get table place ≡ Some x = slice_get_read table (length table) place x refl (omega (arith, found.within, length-map table start)) read in
       ap (option_and_then (if_covers start size addr)) (sym there ∙ table_candidate records table is addr (Some (place, at)) found)
 
   -- and none answers where it found no place
-  pub covering_nowhere : (records table : List X) → IsTable start size records table → (addr : ℕ) → IsFound (map start table) addr None → None ≡ nearest_covering start size addr records
+  pub covering_nowhere : (records table : List X) → IsTable start size records table → (addr : ℕ) →
+      IsFound (map start table) addr None → None ≡ nearest_covering start size addr records
   covering_nowhere records table is addr found = ap (option_and_then (if_covers start size addr)) (table_candidate records table is addr None found)

@@ -20,12 +20,14 @@ module _ {X Y : Type 0} (start size : X → ℕ) (view : Y → X) where
   filter-map : (test : X → Bool) (ys : List Y) → filter test (map view ys) ≡ map view (filter (λ y. test (view y)) ys)
   filter-map test [] = refl
   filter-map test (y ∷ ys) = by_test (test (view y)) (filter-map test ys) where
-    by_test : (b : Bool) → filter test (map view ys) ≡ map view (filter (λ z. test (view z)) ys) → cond b (view y ∷ filter test (map view ys)) (filter test (map view ys)) ≡ map view (cond b (y ∷ filter (λ z. test (view z)) ys) (filter (λ z. test (view z)) ys))
+    by_test : (b : Bool) → filter test (map view ys) ≡ map view (filter (λ z. test (view z)) ys) →
+        cond b (view y ∷ filter test (map view ys)) (filter test (map view ys)) ≡ map view (cond b (y ∷ filter (λ z. test (view z)) ys) (filter (λ z. test (view z)) ys))
     by_test true more = ap (λ l. view y ∷ l) more
     by_test false more = more
 
   -- what is seen at a place is the view of what stands there
-  seen_at : (ys : List Y) (i : ℕ) (x : X) → slice_get (map view ys) i ≡ Some x → (y : Y) × (slice_get ys i ≡ Some y) × (view y ≡ x)
+  seen_at : (ys : List Y) (i : ℕ) (x : X) → slice_get (map view ys) i ≡ Some x →
+      (y : Y) × (slice_get ys i ≡ Some y) × (view y ≡ x)
   seen_at ys i x there = elim ((slice_get_cases ys i).1) [
     | inl within ↦ (within.0, within.2, same_some (view within.0) x (sym (slice_get-map view ys i ∙ ap (option_map view) within.2) ∙ there))
     | inr past ↦ absurd (cc (slice_get-map view ys i, ap (option_map view) past.1))
@@ -34,7 +36,8 @@ module _ {X Y : Type 0} (start size : X → ℕ) (view : Y → X) where
     same_some a b same = cc
 
   -- the view of a table is the table of the view
-  pub table_seen : (records table : List Y) → IsTable (λ y. start (view y)) (λ y. size (view y)) records table → IsTable start size (map view records) (map view table)
+  pub table_seen : (records table : List Y) → IsTable (λ y. start (view y)) (λ y. size (view y)) records table →
+      IsTable start size (map view records) (map view table)
   table_seen records table is = record {
     starts_ascend = λ i j x y up at_x at_y. let a = seen_at table i x at_x in let b = seen_at table j y at_y in
         omega (arith, is.starts_ascend i j a.0 b.0 up a.1 b.1, ap start a.2, ap start b.2);
@@ -44,7 +47,8 @@ module _ {X Y : Type 0} (start size : X → ℕ) (view : Y → X) where
   }
 
   -- a list whose view is a table is a table of itself
-  pub table_itself : (records : List X) (table : List Y) → IsTable start size records (map view table) → IsTable (λ y. start (view y)) (λ y. size (view y)) table table
+  pub table_itself : (records : List X) (table : List Y) → IsTable start size records (map view table) →
+      IsTable (λ y. start (view y)) (λ y. size (view y)) table table
   table_itself records table is = record {
     starts_ascend = λ i j x y up at_x at_y. is.starts_ascend i j (view x) (view y) up (slice_get-map view table i ∙ ap (option_map view) at_x) (slice_get-map view table j ∙ ap (option_map view) at_y);
     sizes_ascend = λ i j x y up at_x at_y same. is.sizes_ascend i j (view x) (view y) up (slice_get-map view table i ∙ ap (option_map view) at_x) (slice_get-map view table j ∙ ap (option_map view) at_y) same;
@@ -52,28 +56,33 @@ module _ {X Y : Type 0} (start size : X → ℕ) (view : Y → X) where
   }
 
   -- of a record and the candidate after it, the view is to be tried where the record is
-  first_of_seen : (addr : ℕ) (y : Y) (o : Option Y) → option_map view (first_of (λ z. start (view z)) (λ z. size (view z)) addr y o) ≡ first_of start size addr (view y) (option_map view o)
+  first_of_seen : (addr : ℕ) (y : Y) (o : Option Y) →
+      option_map view (first_of (λ z. start (view z)) (λ z. size (view z)) addr y o) ≡ first_of start size addr (view y) (option_map view o)
   first_of_seen addr y None = map_cond view (nat_le (start (view y)) addr) (Some y) None
   first_of_seen addr y (Some z) = map_cond view (comes_first start size addr (view y) (view z)) (Some y) (Some z)
 
   -- the view of the candidate is the candidate of the view
-  candidate_seen : (addr : ℕ) (ys : List Y) → option_map view (candidate (λ y. start (view y)) (λ y. size (view y)) addr ys) ≡ candidate start size addr (map view ys)
+  candidate_seen : (addr : ℕ) (ys : List Y) →
+      option_map view (candidate (λ y. start (view y)) (λ y. size (view y)) addr ys) ≡ candidate start size addr (map view ys)
   candidate_seen addr [] = refl
   candidate_seen addr (y ∷ ys) = first_of_seen addr y (candidate (λ z. start (view z)) (λ z. size (view z)) addr ys) ∙ ap (first_of start size addr (view y)) (candidate_seen addr ys)
 
   -- the view covers an address where the record does
-  if_covers_seen : (addr : ℕ) (o : Option Y) → option_map view (option_and_then (if_covers (λ y. start (view y)) (λ y. size (view y)) addr) o) ≡ option_and_then (if_covers start size addr) (option_map view o)
+  if_covers_seen : (addr : ℕ) (o : Option Y) →
+      option_map view (option_and_then (if_covers (λ y. start (view y)) (λ y. size (view y)) addr) o) ≡ option_and_then (if_covers start size addr) (option_map view o)
   if_covers_seen addr None = refl
   if_covers_seen addr (Some y) = map_cond view (covers (start (view y)) (size (view y)) addr) (Some y) None
 
   -- the view of the nearest is the nearest of the view
-  pub covering_seen : (addr : ℕ) (ys : List Y) → option_map view (nearest_covering (λ y. start (view y)) (λ y. size (view y)) addr ys) ≡ nearest_covering start size addr (map view ys)
+  pub covering_seen : (addr : ℕ) (ys : List Y) →
+      option_map view (nearest_covering (λ y. start (view y)) (λ y. size (view y)) addr ys) ≡ nearest_covering start size addr (map view ys)
   covering_seen addr ys = if_covers_seen addr (candidate (λ y. start (view y)) (λ y. size (view y)) addr ys) ∙ ap (option_and_then (if_covers start size addr)) (candidate_seen addr ys)
 
 -- The nearest record of a table is that of the list.
 module _ {X : Type 0} (start size : X → ℕ) (records table : List X) (is : IsTable start size records table) (addr : ℕ) where
   -- a candidate of the table is the one of the list
-  candidate_of_list : (place : ℕ) (x : X) → IsCandidate start size table addr place x → candidate start size addr records ≡ Some x
+  candidate_of_list : (place : ℕ) (x : X) → IsCandidate start size table addr place x →
+      candidate start size addr records ≡ Some x
   candidate_of_list place x found = elim (cases_lt (start x) addr) [
     | inl below ↦ again (below_address start size records table is addr place x found.there below (above below))
     | inr not_below ↦ again (at_start start size records table is addr place x found.there (omega (arith, found.not_above)) (before (omega (arith, found.not_above))))
@@ -119,6 +128,7 @@ module _ {X : Type 0} (start size : X → ℕ) (records table : List X) (is : Is
   covering_of_table = ap (option_and_then (if_covers start size addr)) candidate_of_table
 
 -- a search in a table whose view is a table of the list gives what is nearest in the list
-pub covering_through : {X Y : Type 0} (start size : X → ℕ) (view : Y → X) (records : List X) (table : List Y) → IsTable start size records (map view table) → (addr : ℕ)
+pub covering_through : {X Y : Type 0} (start size : X → ℕ) (view : Y → X) (records : List X) (table : List Y) →
+    IsTable start size records (map view table) → (addr : ℕ)
     → option_map view (nearest_covering (λ y. start (view y)) (λ y. size (view y)) addr table) ≡ nearest_covering start size addr records
 covering_through start size view records table is addr = covering_seen start size view addr table ∙ covering_of_table start size records (map view table) is addr

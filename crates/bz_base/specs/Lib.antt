@@ -10,3 +10,4 @@ pub mod ReasonText
 pub mod Refusals
 pub mod Span
 pub mod Starts
+pub mod Sweep

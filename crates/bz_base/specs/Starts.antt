@@ -1,5 +1,5 @@
 -- Starts that never descend, and where a search among them ends.
-use Rattle.std.specs.Prelude.{◌≡◌, ℕ, ◌+◌, ◌*◌, ◌^◌, ◌<◌, ◌≤◌, List, length, Option, Some, None, slice_index, slice_index_or, ◌-◌}
+use Rattle.std.specs.Prelude.{◌≡◌, ℕ, ◌+◌, ◌*◌, ◌^◌, ◌<◌, ◌≤◌, List, length, Option, Some, None, slice_index, slice_index_or}
 
 -- no start is below one before it
 abbrev pub NeverDescends : List ℕ → Type 0
@@ -25,16 +25,3 @@ AreFew probes count = 2 ^ probes ≤ 2 * (2 * count + 1)
 -- the places are found one by one, each for the address that stands at the same index
 abbrev pub AreFound : List ℕ → List ℕ → List (Option (ℕ × ℕ)) → Type 0
 AreFound starts addrs places = (k : ℕ) → k < length addrs → IsFound starts (slice_index addrs k) (slice_index_or places k None)
-
--- where a sweep stands for an address: the starts before the place are below the address, and those from there on aren't;
--- the starts beside the place are known
-pub record IsGap (starts : List ℕ) (addr place below above : ℕ) : Type 0 where
-  pub within : place ≤ length starts
-  pub lower : (k : ℕ) → k < place → slice_index starts k < addr
-  pub upper : (k : ℕ) → place ≤ k → k < length starts → addr ≤ slice_index starts k
-  pub below_is : 0 < place → slice_index starts (place - 1) ≡ below
-  pub above_is : place < length starts → slice_index starts place ≡ above
-
--- an address of the batch with its index
-abbrev pub IsEntry : List ℕ → ℕ × ℕ → Type 0
-IsEntry addrs entry = (entry.1 < length addrs) × (slice_index addrs entry.1 ≡ entry.0)

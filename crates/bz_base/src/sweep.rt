@@ -2,7 +2,8 @@
 
 ghost use Rattle.std.specs.Prelude.{◌≡◌, ℕ, ◌+◌, ◌-◌, ◌*◌, ◌^◌, ◌<◌, ◌≤◌, length, slice_index, slice_index_or, All, Contains, IfOk};
 ghost use Rattle.std.specs.List.Sorted.{IsNonDecreasingBy};
-ghost use Rattle.bz_base.specs.Starts.{IsFound, AreFound, IsGap, IsEntry};
+ghost use Rattle.bz_base.specs.Starts.{IsFound, AreFound};
+ghost use Rattle.bz_base.specs.Sweep.{IsGap, IsEntry};
 
 use crate::starts::{Starts, nearest};
 use crate::steps::Steps;

@@ -1,4 +1,5 @@
 mod search;
+mod text;
 
 ghost use Rattle.std.specs.Prelude.{◌≡◌, ◌+◌, ◌<◌};
 

@@ -4,6 +4,6 @@ pub mod Kept
 pub mod Plain
 pub mod Reader
 pub mod Refusal
+pub mod Sorted
 pub mod Table
 pub mod Version
-pub mod Sorted

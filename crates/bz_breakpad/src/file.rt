@@ -15,7 +15,7 @@ ghost use Rattle.bz_breakpad.specs.Sorted.{IsKept, StandsFor, starts_of};
 ghost use Rattle.bz_breakpad.specs.Table.{Table};
 
 use crate::parser;
-use crate::search::nearest;
+use crate::search::function_at;
 use crate::types::{KeptFunction, KeptTable};
 use bz_base::{
     Error, FindSymOpts, Reason, Result, Starts, Steps, Sym, Symbolized, nearest_each, sort_table,
@@ -131,7 +131,7 @@ fn answer<'a>(
     if kept.functions.is_empty() {
         return Symbolized::Unknown(Reason::MissingSyms);
     }
-    match nearest(&kept.functions, place, addr) {
+    match function_at(&kept.functions, place, addr) {
         Some(function) => Symbolized::Sym(symbol(alloc, kept, function, addr)),
         None => Symbolized::Unknown(Reason::UnknownAddr),
     }

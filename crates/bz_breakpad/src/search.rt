@@ -27,13 +27,13 @@ impl Spanned for KeptFunction {
 
 /// The function that answers for the address, of functions in order and the place that a search
 /// among their starts found.
-pub(crate) fn nearest(
+pub(crate) fn function_at(
     functions: &[KeptFunction],
     place: Option<(usize, u64)>,
     addr: u64,
 ) -> Option<&KeptFunction>
     requires { IsFound (map (λ (f : KeptFunction). f.start) functions.now) addr place }
-    ensures nearest { (list : List Function) → IsTable (λ f. f.start) (λ f. f.size) list (kept_functions functions.now) →
+    ensures answers { (list : List Function) → IsTable (λ f. f.start) (λ f. f.size) list (kept_functions functions.now) →
         lent_function result ≡ function_at addr list }
     ensures below { IfSome result (λ f. f.now.start ≤ addr) }
 {

@@ -18,6 +18,6 @@ pub(crate) struct KeptFunction {
 pub(crate) struct KeptTable {
     /// The name in the MODULE record.
     pub module: Option<String>,
-    /// The FUNC records, in the order of the file.
+    /// The FUNC records: in the order of the file as they are read, and then by start and size.
     pub functions: Vec<KeptFunction>,
 }

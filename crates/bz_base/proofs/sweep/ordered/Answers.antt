@@ -1,6 +1,6 @@
 use Rattle.std.proofs.Common.{rules, slice_index}
 use Rattle.std.proofs.lemmas.List.Sorted.{All-permutation, Contains-permutation, IsNonDecreasingBy-from_sort_by_key}
-use Rattle.bz_base.specs.Starts.{IsEntry}
+use Rattle.bz_base.specs.Sweep.{IsEntry}
 use Rattle.bz_base.proofs.SweepLemmas.{entry_at, entry_in}
 use Rattle.bz_base.proofs.sweep.ordered.Goals as goal
 

@@ -12,4 +12,4 @@ returns-in-Some c table stands =
     ap Known (c.symbol.ensures table c.args.opts.now stands.module_is)
     ∙ plain-some table c.args.opts.now c.args.addr (Some (kept_function c.in-Some.function.now))
     (omega (arith, stands.count, c.args.kept.now.functions.ok.0, eqb-false _ 0 (sym c.is_empty.ensures ∙ c.if-is_empty.false)))
-    (c.in-Some.ensures.nearest table.functions (subst (λ fs. IsTable (λ (f : Function). f.start) (λ f. f.size) table.functions (kept_functions fs)) (sym c.deref.ensures.value) stands.functions))
+    (c.in-Some.ensures.answers table.functions (subst (λ fs. IsTable (λ (f : Function). f.start) (λ f. f.size) table.functions (kept_functions fs)) (sym c.deref.ensures.value) stands.functions))
