@@ -1,6 +1,7 @@
 //! What a file is to a symbolizer: worlds of files, their stamps and faults, and the ends of texts.
 #![tactic(auto)]
 
+mod counter;
 mod files;
 pub mod laws;
 mod mem_files;

@@ -7,6 +7,7 @@ ghost use Rattle.bz_files.specs.World.{Denied, Present, entry_at, with_entry, wi
 ghost use Rattle.bz_files.specs.MemWorlds.{new_worlds, last_world, on_last, is_version, fresh_stamp, after_put, after_link, fails_next, after_look, after_read};
 ghost use Rattle.bz_files.specs.Held.{entry_of, world_of};
 
+use crate::counter::Counter;
 use crate::files::{FileError, Files};
 use crate::stamp::Stamp;
 use bz_base::Error;
@@ -31,10 +32,10 @@ enum Held {
 pub struct MemFiles {
     entries: BTreeMap<String, Held>,
     stamps: u64,
-    calls: u64,
+    calls: Counter,
     failing: Vec<u64>,
-    faults: u64,
-    opens: u64,
+    faults: Counter,
+    opens: Counter,
     pid: u32,
 }
 
@@ -61,10 +62,10 @@ impl MemFiles {
         MemFiles {
             entries: BTreeMap::new(alloc),
             stamps: 0,
-            calls: 0,
+            calls: Counter::new(),
             failing: Vec::new(alloc),
-            faults: 0,
-            opens: 0,
+            faults: Counter::new(),
+            opens: Counter::new(),
             pid: own_pid,
         }
     }
@@ -146,14 +147,14 @@ impl MemFiles {
     pub fn faults(&self) -> u64
         ensures { result ≡ self.now.faults }
     {
-        self.faults
+        self.faults.get()
     }
 
     /// How many files were read.
     pub fn opens(&self) -> u64
         ensures { result ≡ self.now.opens }
     {
-        self.opens
+        self.opens.get()
     }
 
     /// Counts one more look, and says whether it is one of those that fail.
@@ -162,10 +163,10 @@ impl MemFiles {
         ensures failing { result ≡ fails_next self.old }
         ensures faults { CountsFaults self.old.faults self.new.faults (IsTrue result) }
     {
-        self.calls = self.calls.saturating_add(1);
-        let fails = self.failing.contains(&self.calls);
+        self.calls.add_one();
+        let fails = self.failing.contains(&self.calls.get());
         if fails {
-            self.faults = self.faults.saturating_add(1);
+            self.faults.add_one();
         }
         fails
     }
@@ -219,7 +220,7 @@ impl Files for MemFiles {
             return Err(FileError::Fault);
         }
         let bytes = copy_of(look(&self.entries, path), alloc)?;
-        self.opens = self.opens.saturating_add(1);
+        self.opens.add_one();
         Ok(bytes)
     }
 }

@@ -5,6 +5,7 @@ ghost use Rattle.bz_files.specs.Count.{CountsFaults, counted};
 ghost use Rattle.bz_files.specs.TextEnd.{Takes, Puts};
 ghost use Rattle.bz_files.specs.MemEnd.{new_end, is_failing, fails_next, after_call};
 
+use crate::counter::Counter;
 use crate::text::{IoFault, TextIn, TextOut};
 use std::alloc::Global;
 use std::marker::Model;
@@ -12,9 +13,9 @@ use std::marker::Model;
 /// How many calls there were, which one fails, and how many failed.
 #[derive(Drop)]
 struct Calls {
-    number: u64,
+    number: Counter,
     failing: Option<u64>,
-    faults: u64,
+    faults: Counter,
 }
 
 impl Calls {
@@ -23,9 +24,9 @@ impl Calls {
         ensures { result ≡ record { number = 0; failing = None; faults = 0 } }
     {
         Calls {
-            number: 0,
+            number: Counter::new(),
             failing: None,
-            faults: 0,
+            faults: Counter::new(),
         }
     }
 
@@ -37,13 +38,13 @@ impl Calls {
         ensures counts { self.new.faults ≡ (if result then counted self.old.faults else self.old.faults) }
         ensures faults { CountsFaults self.old.faults self.new.faults (IsTrue result) }
     {
-        self.number = self.number.saturating_add(1);
+        self.number.add_one();
         let fails = match self.failing {
-            Some(failing) => failing == self.number,
+            Some(failing) => failing == self.number.get(),
             None => false,
         };
         if fails {
-            self.faults = self.faults.saturating_add(1);
+            self.faults.add_one();
         }
         fails
     }
@@ -91,7 +92,7 @@ impl MemIn {
     pub fn faults(&self) -> u64
         ensures { result ≡ self.now.faults }
     {
-        self.calls.faults
+        self.calls.faults.get()
     }
 }
 
@@ -159,7 +160,7 @@ impl MemOut {
     pub fn faults(&self) -> u64
         ensures { result ≡ self.now.faults }
     {
-        self.calls.faults
+        self.calls.faults.get()
     }
 
     /// The bytes written so far.

@@ -10,6 +10,7 @@ ghost use Rattle.std.specs.Fs.{metadata_len};
 ghost use Rattle.std.specs.IoError.{error_kind};
 ghost use Rattle.std.specs.List.{list_any};
 
+use crate::counter::Counter;
 use crate::files::{FileError, Files};
 use crate::stamp::Stamp;
 use std::alloc::Global;
@@ -27,8 +28,8 @@ const MOST_BYTES: u64 = 1073741824;
 pub struct RealFiles<R: Drop> {
     rt: R,
     pid: u32,
-    faults: u64,
-    opens: u64,
+    faults: Counter,
+    opens: Counter,
 }
 
 impl<R: Drop> Model for RealFiles<R> {
@@ -47,8 +48,8 @@ impl<R: rt::Files + Drop> RealFiles<R> {
         RealFiles {
             rt,
             pid: own_pid,
-            faults: 0,
-            opens: 0,
+            faults: Counter::new(),
+            opens: Counter::new(),
         }
     }
 
@@ -56,14 +57,14 @@ impl<R: rt::Files + Drop> RealFiles<R> {
     pub fn faults(&self) -> u64
         ensures { result ≡ self.now.faults }
     {
-        self.faults
+        self.faults.get()
     }
 
     /// How many files were read.
     pub fn opens(&self) -> u64
         ensures { result ≡ self.now.opens }
     {
-        self.opens
+        self.opens.get()
     }
 
     /// Counts the fault, if this is one.
@@ -74,7 +75,7 @@ impl<R: rt::Files + Drop> RealFiles<R> {
     {
         match failed {
             FileError::Fault => {
-                self.faults = self.faults.saturating_add(1);
+                self.faults.add_one();
                 FileError::Fault
             }
             FileError::NotFound => FileError::NotFound,
@@ -122,7 +123,7 @@ impl<R: rt::Files + Drop> Files for RealFiles<R> {
     {
         match bytes_at(&self.rt, alloc, path) {
             Ok(bytes) => {
-                self.opens = self.opens.saturating_add(1);
+                self.opens.add_one();
                 Ok(bytes)
             }
             Err(failed) => Err(self.count_fault(failed)),

@@ -5,6 +5,7 @@ ghost use Rattle.std.specs.Io.KnownBytes.{ReadConsumes, WriteAppends};
 ghost use Rattle.bz_files.specs.Count.{CountsFaults, counted};
 ghost use Rattle.bz_files.specs.RealEnd.{new_end};
 
+use crate::counter::Counter;
 use crate::text::{IoFault, TextIn, TextOut};
 use std::io::{Read, Write};
 use std::marker::Model;
@@ -13,7 +14,7 @@ use std::marker::Model;
 #[derive(Drop)]
 pub struct RealIn<R: Read + Drop> {
     reader: R,
-    faults: u64,
+    faults: Counter,
 }
 
 impl<R: Read + Drop> Model for RealIn<R> {
@@ -29,14 +30,17 @@ impl<R: Read + Drop> RealIn<R> {
     pub fn new(reader: R) -> RealIn<R>
         ensures { result ≡ new_end (R.remaining reader) }
     {
-        RealIn { reader, faults: 0 }
+        RealIn {
+            reader,
+            faults: Counter::new(),
+        }
     }
 
     /// How many calls have failed.
     pub fn faults(&self) -> u64
         ensures { result ≡ self.now.faults }
     {
-        self.faults
+        self.faults.get()
     }
 }
 
@@ -58,7 +62,7 @@ impl<R: Read + Drop> TextIn for RealIn<R> {
         match self.reader.read(piece) {
             Ok(n) => Ok(n),
             Err(_) => {
-                self.faults = self.faults.saturating_add(1);
+                self.faults.add_one();
                 Err(IoFault::Fault)
             }
         }
@@ -69,7 +73,7 @@ impl<R: Read + Drop> TextIn for RealIn<R> {
 #[derive(Drop)]
 pub struct RealOut<W: Write + Drop> {
     writer: W,
-    faults: u64,
+    faults: Counter,
 }
 
 impl<W: Write + Drop> Model for RealOut<W> {
@@ -85,14 +89,17 @@ impl<W: Write + Drop> RealOut<W> {
     pub fn new(writer: W) -> RealOut<W>
         ensures { result ≡ new_end (W.contents writer) }
     {
-        RealOut { writer, faults: 0 }
+        RealOut {
+            writer,
+            faults: Counter::new(),
+        }
     }
 
     /// How many calls have failed.
     pub fn faults(&self) -> u64
         ensures { result ≡ self.now.faults }
     {
-        self.faults
+        self.faults.get()
     }
 }
 
@@ -115,7 +122,7 @@ impl<W: Write + Drop> TextOut for RealOut<W> {
         match self.writer.write(piece) {
             Ok(n) if n > 0 || piece.is_empty() => Ok(n),
             _ => {
-                self.faults = self.faults.saturating_add(1);
+                self.faults.add_one();
                 Err(IoFault::Fault)
             }
         }
