@@ -118,7 +118,7 @@ pub fn clones_never_fail()
 /// payload may fail.
 pub fn clones_keep_the_kind<T: Clone>()
     ensures clone { (a b : Input T) → ⟦<Input<T> as Clone>⟧.is_clone a b ↔ MapsTo T.is_clone a b }
-    ensures memory { (a : Input T) → T.is_infallible (payload a) → ⟦<Input<T> as Clone>⟧.is_infallible a }
+    ensures no_memory { (a : Input T) → T.is_infallible (payload a) → ⟦<Input<T> as Clone>⟧.is_infallible a }
 {}
 
 /// Answers and their parts are equal exactly where they read the same, whether borrowed or owned.

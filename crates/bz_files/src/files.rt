@@ -54,7 +54,7 @@ pub trait Files {
         ensures opens { opens self.new ≡ opens self.old }
         ensures pid { pid self.new ≡ pid self.old }
         ensures faults { CountsFaults (faults self.old) (faults self.new) (IsErrOf result FileError.Fault) }
-        ensures memory { IsErrOf result FileError.OutOfMemory → ⊥ };
+        ensures no_memory { IsErrOf result FileError.OutOfMemory → ⊥ };
 
     /// The bytes of the file at the path.
     fn read(&mut self, alloc: Global, path: &str) -> Result<Vec<u8>, FileError>

@@ -198,7 +198,7 @@ impl Files for MemFiles {
         ensures same { self.new ≡ after_look self.old }
         ensures failing { IsErrOf result FileError.Fault ↔ IsTrue (fails_next self.old) }
         ensures faults { CountsFaults self.old.faults self.new.faults (IsErrOf result FileError.Fault) }
-        ensures memory { IsErrOf result FileError.OutOfMemory → ⊥ }
+        ensures no_memory { IsErrOf result FileError.OutOfMemory → ⊥ }
     {
         if self.begin_look() {
             return Err(FileError::Fault);

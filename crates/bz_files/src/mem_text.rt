@@ -110,7 +110,7 @@ impl TextIn for MemIn {
         ensures err { OnErr result (self.new ≡ after_call self.old) }
         ensures failing { IsErrOf result IoFault.Fault ↔ IsTrue (fails_next self.old) }
         ensures faults { CountsFaults self.old.faults self.new.faults (IsErrOf result IoFault.Fault) }
-        ensures memory { IsErrOf result IoFault.OutOfMemory → ⊥ }
+        ensures no_memory { IsErrOf result IoFault.OutOfMemory → ⊥ }
     {
         if self.calls.begin() {
             return Err(IoFault::Fault);

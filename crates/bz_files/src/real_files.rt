@@ -107,7 +107,7 @@ impl<R: rt::Files + Drop> Files for RealFiles<R> {
     fn stat(&mut self, path: &str) -> Result<Stamp, FileError>
         ensures same { self.new ≡ after_look result self.old }
         ensures faults { CountsFaults self.old.faults self.new.faults (IsErrOf result FileError.Fault) }
-        ensures memory { IsErrOf result FileError.OutOfMemory → ⊥ }
+        ensures no_memory { IsErrOf result FileError.OutOfMemory → ⊥ }
     {
         match stamp_at(&self.rt, path) {
             Ok(stamp) => Ok(stamp),
@@ -133,7 +133,7 @@ impl<R: rt::Files + Drop> Files for RealFiles<R> {
 
 /// The stamp of the file at the path, from what the system says of it.
 fn stamp_at<R: rt::Files>(rt: &R, path: &str) -> Result<Stamp, FileError>
-    ensures memory { IsErrOf result FileError.OutOfMemory → ⊥ }
+    ensures no_memory { IsErrOf result FileError.OutOfMemory → ⊥ }
 {
     match fs::metadata(rt, path) {
         Ok(found) => Ok(stamp_of(&found)),

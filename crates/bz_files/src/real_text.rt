@@ -57,7 +57,7 @@ impl<R: Read + Drop> TextIn for RealIn<R> {
         ensures ok { OnOk result (self.new.faults ≡ self.old.faults) }
         ensures err { OnErr result (self.new.faults ≡ counted self.old.faults) }
         ensures faults { CountsFaults self.old.faults self.new.faults (IsErrOf result IoFault.Fault) }
-        ensures memory { IsErrOf result IoFault.OutOfMemory → ⊥ }
+        ensures no_memory { IsErrOf result IoFault.OutOfMemory → ⊥ }
     {
         match self.reader.read(piece) {
             Ok(n) => Ok(n),
@@ -117,7 +117,7 @@ impl<W: Write + Drop> TextOut for RealOut<W> {
         ensures ok { OnOk result (self.new.faults ≡ self.old.faults) }
         ensures err { OnErr result (self.new.faults ≡ counted self.old.faults) }
         ensures faults { CountsFaults self.old.faults self.new.faults (IsErrOf result IoFault.Fault) }
-        ensures memory { IsErrOf result IoFault.OutOfMemory → ⊥ }
+        ensures no_memory { IsErrOf result IoFault.OutOfMemory → ⊥ }
     {
         match self.writer.write(piece) {
             Ok(n) if n > 0 || piece.is_empty() => Ok(n),

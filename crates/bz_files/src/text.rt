@@ -27,7 +27,7 @@ pub trait TextIn {
         ensures within { IfOk result (λ n. n ≤ length piece.old) }
         ensures takes { Takes (left self.old) (left self.new) piece.old piece.new result }
         ensures faults { CountsFaults (faults self.old) (faults self.new) (IsErrOf result IoFault.Fault) }
-        ensures memory { IsErrOf result IoFault.OutOfMemory → ⊥ };
+        ensures no_memory { IsErrOf result IoFault.OutOfMemory → ⊥ };
 }
 
 /// Where a text is written to.

@@ -15,7 +15,7 @@ pub fn present<F: Files>(files: &mut F, path: &str) -> Result<Stamp>
     ensures answer { Told (in_view (F.worlds files.old)) (λ w. Finds (λ given stamp bytes. given ≡ stamp) (entry_at w path.now) result) }
     ensures opens { F.opens files.new ≡ F.opens files.old }
     ensures files { Looked F.Files files.old files.new (Faulted result) }
-    ensures memory { IsErrOf result Error.OutOfMemory → ⊥ }
+    ensures no_memory { IsErrOf result Error.OutOfMemory → ⊥ }
     ensures refusal { IfErr result MayMiss }
 {
     Ok(files.stat(path)?)
