@@ -1,35 +1,11 @@
 -- The lines of a text, and where the first one ends.
-use Rattle.std.proofs.Common.{◌≡◌, ℕ, zero, suc, ◌<◌, true, false, List, [], ◌∷◌, ◌++◌, length, take, drop, Bool, cond, Option, Some, None, option_map, nat_eq, ◌+◌, ◌-◌, get_or, refl, sym, ap, subst, ◌∙◌, arith, append_assoc, drop-cons, add-one}
+use Rattle.std.proofs.Common.{◌≡◌, ℕ, suc, ◌<◌, true, false, List, [], ◌∷◌, ◌++◌, length, take, drop, Bool, cond, Option, Some, None, option_map, nat_eq, ◌+◌, ◌-◌, get_or, refl, sym, ap, subst, ◌∙◌, arith, append_assoc, drop-cons, add-one}
 use Rattle.std.specs.List.{slice_index, flat_map, list_any, AllByRecursion}
-use Rattle.std.proofs.lemmas.Bool.{or_parts, or_from, false_from_ne_true, eqb-true}
-use Rattle.std.proofs.lemmas.List.Folds.{list_any-append}
+use Rattle.std.proofs.lemmas.Bool.{or_parts, or_from, eqb-true}
 use Rattle.std.proofs.lemmas.Option.{none-some, same_Some}
 use Rattle.std.proofs.lemmas.List.{take-append-drop, take_rest}
 use Rattle.bz_base.specs.Byte.{line_feed, HasNo}
 use Rattle.bz_base.specs.Line.{ended, AreEnded, unended, AreLines, begins_ended, before_ended, ended_lines, begins_line, all_lines}
-
--- a byte that doesn't stand at a place before k isn't among the first k bytes
-pub HasNo-take : (byte : ℕ) (text : List ℕ) (k : ℕ) →
-    ((i : ℕ) → i < k → i < length text → nat_eq (slice_index text i) byte ≡ true → ⊥) → HasNo byte (take k text)
-HasNo-take byte [] zero nowhere = refl
-HasNo-take byte [] (suc k) nowhere = refl
-HasNo-take byte (b ∷ text) zero nowhere = refl
-HasNo-take byte (b ∷ text) (suc k) nowhere =
-    or_from _ _ (false_from_ne_true _ (nowhere 0 (omega arith) (omega arith)))
-    (HasNo-take byte text k (λ i below within. nowhere (suc i) (omega arith) (omega arith)))
-
--- a byte that stands at no place isn't in the text
-pub HasNo-nowhere : (byte : ℕ) (text : List ℕ) → ((i : ℕ) → i < length text → nat_eq (slice_index text i) byte ≡ true → ⊥) →
-    HasNo byte text
-HasNo-nowhere byte [] nowhere = refl
-HasNo-nowhere byte (b ∷ text) nowhere =
-    or_from _ _ (false_from_ne_true _ (nowhere 0 (omega arith)))
-    (HasNo-nowhere byte text (λ i within. nowhere (suc i) (omega arith)))
-
--- a byte that isn't in a text isn't in its end
-pub HasNo-after : (byte : ℕ) (front rest : List ℕ) → HasNo byte (front ++ rest) → HasNo byte rest
-HasNo-after byte front rest none =
-    (or_parts (list_any (λ b. nat_eq b byte) front) (list_any (λ b. nat_eq b byte) rest) (sym (list_any-append (λ b. nat_eq b byte) front rest) ∙ none)).1
 
 -- the text is what stands before a line feed, the line feed, and what stands after it
 split_at_line_feed : (text : List ℕ) (k : ℕ) → k < length text → nat_eq (slice_index text k) line_feed ≡ true →

@@ -1,11 +1,11 @@
 -- No record holds a carriage return.
-use Rattle.std.proofs.Common.{◌≡◌, ℕ, ◌<◌, false, List, [], ◌∷◌, ◌++◌, codes, nat_eq, refl, subst, ◌∙◌, arith}
-use Rattle.std.specs.Char.{digit_value}
+use Rattle.std.proofs.Common.{◌≡◌, ℕ, false, List, [], ◌∷◌, ◌++◌, codes, nat_eq, refl, ◌∙◌, arith}
 use Rattle.std.specs.List.{list_any, flat_map, AllZip}
 use Rattle.std.specs.Str.Parse.{AllDigits}
-use Rattle.std.proofs.lemmas.Bool.{or_parts, or_from, ne_eqb}
+use Rattle.std.proofs.lemmas.Bool.{or_parts, or_from}
 use Rattle.std.proofs.lemmas.List.Folds.{list_any-append}
 use Rattle.bz_base.specs.Byte.{line_feed, carriage_return, space, HasNo}
+use Rattle.bz_base.proofs.ByteLemmas.{HasNo-digits}
 use Rattle.bz_breakpad.specs.Field.{IsSeparator, ends_word}
 use Rattle.bz_breakpad.specs.Grammar.{Record, IsModule, IsFunc, IsRecord}
 use Rattle.bz_breakpad.specs.Grammar.Record.{Module, Func}
@@ -23,11 +23,7 @@ side_by_side {front} {rest} in_front in_rest = record {
 }
 
 digits_hold_none : (digits : List ℕ) → AllDigits 16 digits → HoldsNone digits
-digits_hold_none [] all = record { none = refl }
-digits_hold_none (c ∷ digits) all =
-    let P : ℕ → Type 0 = λ b. digit_value b < 16 in
-    let other = ne_eqb c carriage_return (λ same. let small : 36 < 16 = subst P same all.0 in omega arith) in
-    record { none = or_from _ _ other (digits_hold_none digits all.1).none }
+digits_hold_none digits all = record { none = HasNo-digits 16 carriage_return digits (omega arith) all }
 
 words_hold_none : (word : List ℕ) → list_any ends_word word ≡ false → HoldsNone word
 words_hold_none [] none = record { none = refl }

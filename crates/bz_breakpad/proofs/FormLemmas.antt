@@ -1,14 +1,12 @@
 -- Each field is read exactly as its set of texts says: what is found at the front, and that it is found again.
-use Rattle.std.proofs.Common.{◌≡◌, ℕ, zero, suc, ◌+◌, ◌<◌, Bool, true, false, not, ◌&&◌, List, [], ◌∷◌, ◌++◌, length, take, drop, Some, nat_eq, nat_lt, nat_le, ◌==◌, refl, sym, ap, ◌∙◌, arith}
-use Rattle.std.specs.Char.{digit_value}
+use Rattle.std.proofs.Common.{◌≡◌, ℕ, zero, suc, ◌+◌, ◌<◌, Bool, true, false, not, ◌&&◌, List, [], ◌∷◌, ◌++◌, length, take, drop, Some, nat_eq, nat_lt, ◌==◌, refl, sym, ap, ◌∙◌, arith}
 use Rattle.std.specs.List.{list_any, starts_with}
 use lib.Pointwise.{pointwise}
 use Rattle.std.specs.Str.{is_utf8}
-use Rattle.std.specs.Str.Parse.{AllDigits, digits_value}
-use Rattle.std.proofs.lemmas.Bool.{and_parts, not-true, or_parts, or_from, eqb-true, ltb-true, leb-true, lt-ltb, cond_both, false≢true}
+use Rattle.std.proofs.lemmas.Bool.{and_parts, not-true, or_parts, or_from, eqb-true, ltb-true, lt-ltb, cond_both, false≢true}
 use Rattle.std.proofs.lemmas.List.{take-append-drop, length-take-le}
 use Rattle.std.proofs.lemmas.List.Sums.{prefix_len-le-length}
-use Rattle.std.proofs.Math.Seq.{take-append_seam, drop-append_seam}
+use Rattle.std.proofs.Math.Seq.{drop-append_seam}
 use Rattle.std.proofs.lemmas.Option.{cond_some, none-some}
 use Rattle.std.proofs.lemmas.Str.{IsUtf8-from_is_utf8, is_utf8-from_IsUtf8}
 use Rattle.bz_base.specs.Byte.{tab, line_feed, carriage_return, space, is_blank, HasNo, begins_with}

@@ -7,7 +7,7 @@ use Rattle.bz_breakpad.specs.Grammar.Record.{Module, Func}
 use Rattle.bz_breakpad.specs.Reader.{◌>>=◌, tag_at, separator_at, module_at, func_at, or_module, record_at}
 use Rattle.bz_breakpad.specs.Table.{Function}
 use Rattle.bz_breakpad.proofs.FormLemmas.{tag_found, separator_found, hex_found, hex_again, word_found, word_again, name_found, name_again}
-use Rattle.bz_base.proofs.LineLemmas.{HasNo-after}
+use Rattle.bz_base.proofs.ByteLemmas.{HasNo-after}
 
 -- where the second of two readings gives something, the first did
 pub bind_some : {A B : Type 0} (o : Option A) (f : A → Option B) (y : B) → (o >>= f) ≡ Some y → (x : A) × (o ≡ Some x) × (f x ≡ Some y)

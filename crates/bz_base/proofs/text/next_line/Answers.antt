@@ -1,6 +1,7 @@
 use Rattle.std.proofs.Common.{arith}
 use Rattle.bz_base.specs.Byte.{line_feed}
-use Rattle.bz_base.proofs.LineLemmas.{HasNo-take, HasNo-nowhere, ended_lines-first, ended_lines-none, all_lines-first, all_lines-last}
+use Rattle.bz_base.proofs.ByteLemmas.{HasNo-take, HasNo-nowhere}
+use Rattle.bz_base.proofs.LineLemmas.{ended_lines-first, ended_lines-none, all_lines-first, all_lines-last}
 use Rattle.bz_base.proofs.text.next_line.Goals as goal
 
 pub returns-in_err-end-clause-none : goal.returns-in_err-end-clause-none
