@@ -3,6 +3,7 @@ use crate::{
     FileError, Files, IoFault, MemFiles, MemIn, MemOut, RealFiles, RealIn, RealOut, Stamp, TextIn,
     TextOut,
 };
+use std::cell::Cell;
 use std::fs;
 use std::fs::OpenFile;
 use std::io::{self, ErrorKind, Read, Write};
@@ -207,19 +208,35 @@ fn real_files_fail(rt: HostRuntime) -> Result<(), Fail> {
     Ok(())
 }
 
-/// A reader and writer that always fails.
+/// A reader and writer that fails at its first call, and then serves.
 #[derive(Drop)]
-struct Broken;
+struct FailsOnce {
+    failed: bool,
+}
 
-impl Read for Broken {
-    fn read(&mut self, _piece: &mut [u8]) -> io::Result<usize> {
-        Err(io::Error::from(ErrorKind::BrokenPipe))
+impl Read for FailsOnce {
+    fn read(&mut self, piece: &mut [u8]) -> io::Result<usize> {
+        if !self.failed {
+            self.failed = true;
+            return Err(io::Error::from(ErrorKind::BrokenPipe));
+        }
+        match piece.first_mut() {
+            Some(byte) => {
+                *byte = b'a';
+                Ok(1)
+            }
+            None => Ok(0),
+        }
     }
 }
 
-impl Write for Broken {
-    fn write(&mut self, _piece: &[u8]) -> io::Result<usize> {
-        Err(io::Error::from(ErrorKind::BrokenPipe))
+impl Write for FailsOnce {
+    fn write(&mut self, piece: &[u8]) -> io::Result<usize> {
+        if !self.failed {
+            self.failed = true;
+            return Err(io::Error::from(ErrorKind::BrokenPipe));
+        }
+        Ok(piece.len())
     }
 
     fn flush(&mut self) -> io::Result<()> {
@@ -251,11 +268,14 @@ fn real_texts_go_in_pieces(rt: HostRuntime) -> Result<(), Fail> {
 #[test]
 fn real_texts_fail(rt: HostRuntime) -> Result<(), Fail> {
     let mut piece = [0u8; 3];
-    let mut input = RealIn::new(Broken);
+    let mut input = RealIn::new(FailsOnce { failed: false });
     assert_eq!(rt; input.take(&mut piece), Err(IoFault::Fault));
+    assert_eq!(rt; input.take(&mut piece), Ok(1));
+    assert_eq!(rt; piece, *b"a\0\0");
     assert_eq!(rt; input.faults(), 1);
-    let mut output = RealOut::new(Broken);
+    let mut output = RealOut::new(FailsOnce { failed: false });
     assert_eq!(rt; output.put(b"abc"), Err(IoFault::Fault));
+    assert_eq!(rt; output.put(b"abc"), Ok(3));
     assert_eq!(rt; output.faults(), 1);
     // A writer over an array takes nothing once it is full.
     let mut room = [0u8; 2];
@@ -264,5 +284,106 @@ fn real_texts_fail(rt: HostRuntime) -> Result<(), Fail> {
     assert_eq!(rt; full.put(b"c"), Err(IoFault::Fault));
     assert_eq!(rt; full.put(b""), Ok(0));
     assert_eq!(rt; full.faults(), 1);
+    Ok(())
+}
+
+/// A runtime whose first look fails in one way, if it is at `/a`. Any further look finds nothing, and
+/// a look at another path is refused.
+#[derive(Drop)]
+struct Failing {
+    kind: Cell<ErrorKind>,
+}
+
+impl Failing {
+    fn look<T>(&self, path: &str) -> io::Result<T> {
+        if path != "/a" {
+            return Err(io::Error::from(ErrorKind::Unsupported));
+        }
+        let kind = self.kind.get();
+        self.kind.set(ErrorKind::NotFound);
+        Err(io::Error::from(kind))
+    }
+}
+
+impl std::rt::Files for Failing {
+    type File = fs::File;
+
+    type Dir = &'static [u8];
+
+    fn open_file(&self, _how: &fs::OpenOptions, path: &str) -> io::Result<fs::File> {
+        self.look(path)
+    }
+
+    fn open_dir(&self, path: &str) -> io::Result<&'static [u8]> {
+        self.look(path)
+    }
+
+    fn metadata(&self, path: &str) -> io::Result<fs::Metadata> {
+        self.look(path)
+    }
+
+    fn symlink_metadata(&self, path: &str) -> io::Result<fs::Metadata> {
+        self.look(path)
+    }
+
+    fn copy(&self, _from: &str, to: &str) -> io::Result<u64> {
+        self.look(to)
+    }
+
+    fn rename(&self, _from: &str, to: &str) -> io::Result<()> {
+        self.look(to)
+    }
+
+    fn remove_file(&self, path: &str) -> io::Result<()> {
+        self.look(path)
+    }
+
+    fn create_dir(&self, path: &str) -> io::Result<()> {
+        self.look(path)
+    }
+
+    fn remove_dir(&self, path: &str) -> io::Result<()> {
+        self.look(path)
+    }
+
+    fn remove_dir_all<B: std::alloc::Allocator>(&self, _alloc: B, path: &str) -> io::Result<()> {
+        self.look(path)
+    }
+}
+
+/// Files over such a runtime.
+fn first_fails(kind: ErrorKind) -> RealFiles<Failing> {
+    let kind = Cell::new(kind);
+    RealFiles::new(Failing { kind }, 0)
+}
+
+#[test]
+fn each_failure_of_the_system_has_its_answer(rt: HostRuntime) -> Result<(), Fail> {
+    let alloc = rt.alloc();
+    for (kind, stat, read) in [
+        (
+            ErrorKind::NotFound,
+            FileError::NotFound,
+            FileError::NotFound,
+        ),
+        (
+            ErrorKind::PermissionDenied,
+            FileError::Denied,
+            FileError::Denied,
+        ),
+        (
+            ErrorKind::OutOfMemory,
+            FileError::Fault,
+            FileError::OutOfMemory,
+        ),
+        (ErrorKind::Other, FileError::Fault, FileError::Fault),
+    ] {
+        let mut files = first_fails(kind);
+        assert_eq!(rt; files.stat("/a"), Err(stat));
+        assert_eq!(rt; files.faults(), u64::from(stat == FileError::Fault));
+        let mut files = first_fails(kind);
+        assert_eq!(rt; files.read(alloc, "/a").err(), Some(read));
+        assert_eq!(rt; files.faults(), u64::from(read == FileError::Fault));
+    }
     Ok(())
 }
