@@ -1,6 +1,6 @@
 //! One run of the program.
 
-ghost use Rattle.std.specs.Prelude.{◌≡◌, ◌≢◌, ◌⊎◌, ◌+◌, [], Some, None, map, string_bytes, IfOk, OnOk, IsErrOf, IsOkUnless};
+ghost use Rattle.std.specs.Prelude.{◌≡◌, ◌≢◌, ◌⊎◌, ◌↔◌, ◌+◌, [], Some, None, map, string_bytes, IfOk, OnOk, IsOkUnless};
 ghost use Rattle.bz_base.specs.Answer.{reading};
 ghost use Rattle.bz_files.specs.Count.{counted};
 ghost use Rattle.bz_files.specs.Looked.{Faulted, Looked, ReadsOne};
@@ -61,7 +61,7 @@ fn write_reply<R: TextIn, W: TextOut, F: Files>(
     ensures usage { (result ≡ Status.Usage → command_in (map string_bytes words.now) ≡ None) × (command_in (map string_bytes words.now) ≡ None → IsOrFails Status.Usage result) }
     ensures input { Told (R.left input.old) (λ text. (result ≡ Status.Input → IsBadInput (map string_bytes words.now) text) × (IsBadInput (map string_bytes words.now) text → IsOrFails Status.Input result)) }
     ensures unread { command_in (map string_bytes words.now) ≡ None → (input.new ≡ input.old) × (files.new ≡ files.old) }
-    ensures unopened { Told (R.left input.old) (λ text. IsBadInput (map string_bytes words.now) text → files.new ≡ files.old) }
+    ensures unlooked { Told (R.left input.old) (λ text. IsBadInput (map string_bytes words.now) text → files.new ≡ files.old) }
     ensures read { IsNoFailure result → IsReadWhole (map string_bytes words.now) (R.left input.old) (R.left input.new) }
     ensures bounded { MovesAtMost (greatest_input + 1) (R.left input.old) (R.left input.new) }
     ensures order { ((files.new ≡ files.old) × (output.new ≡ output.old)) ⊎ IsReadWhole (map string_bytes words.now) (R.left input.old) (R.left input.new) }
@@ -90,7 +90,7 @@ fn reply_to_words<R: TextIn, F: Files>(
     ensures usage { IfOk result (λ given. (given.status ≡ Status.Usage → command_in (map string_bytes words.now) ≡ None) × (command_in (map string_bytes words.now) ≡ None → given.status ≡ Status.Usage)) }
     ensures input { Told (R.left input.old) (λ text. IfOk result (λ given. (given.status ≡ Status.Input → IsBadInput (map string_bytes words.now) text) × (IsBadInput (map string_bytes words.now) text → given.status ≡ Status.Input))) }
     ensures unread { command_in (map string_bytes words.now) ≡ None → (input.new ≡ input.old) × (files.new ≡ files.old) }
-    ensures unopened { Told (R.left input.old) (λ text. IsBadInput (map string_bytes words.now) text → files.new ≡ files.old) }
+    ensures unlooked { Told (R.left input.old) (λ text. IsBadInput (map string_bytes words.now) text → files.new ≡ files.old) }
     ensures read { IfOk result (λ given. IsReadWhole (map string_bytes words.now) (R.left input.old) (R.left input.new)) }
     ensures bounded { MovesAtMost (greatest_input + 1) (R.left input.old) (R.left input.new) }
     ensures order { (files.new ≡ files.old) ⊎ IsReadWhole (map string_bytes words.now) (R.left input.old) (R.left input.new) }
@@ -120,7 +120,7 @@ fn reply_to_input<F: Files>(
     ensures no_failure { IfOk result (λ given. IsNoFailure given.status) }
     ensures usage { IfOk result (λ given. given.status ≢ Status.Usage) }
     ensures input { IfOk result (λ given. (given.status ≡ Status.Input → addresses_in text.now ≡ None) × (addresses_in text.now ≡ None → given.status ≡ Status.Input)) }
-    ensures unopened { addresses_in text.now ≡ None → files.new ≡ files.old }
+    ensures unlooked { addresses_in text.now ≡ None → files.new ≡ files.old }
     ensures most { ReadsOne F.Files files.old files.new }
     ensures opened { Told (in_view (F.worlds files.old)) (λ world. IfOk result (λ given. given.status ≡ Status.Done → F.opens files.new ≡ counted (F.opens files.old))) }
     ensures files { Looked F.Files files.old files.new (Faulted result) }
@@ -200,8 +200,7 @@ fn input_for<'a>(command: &Command<'_>, addrs: &'a [u64]) -> Input<&'a [u64]>
 fn refusal(alloc: Global, error: Error) -> Result<Reply>
     ensures reply { RepliesTo error result }
     ensures status { IfOk result (λ given. given.status ≡ Status.Refused) }
-    ensures fault { IsErrOf result Error.ReadFault → error ≡ Error.ReadFault }
-    ensures steady { IsErrOf result Error.ReadFault ⊎ (error ≢ Error.ReadFault) }
+    ensures fault { Faulted result ↔ (error ≡ Error.ReadFault) }
 {
     match error {
         Error::ReadFault => Err(Error::ReadFault),

@@ -27,13 +27,13 @@ returns-in-Ok-clause-answered g c text left =
     some_from_reply (map string_bytes c.args.words.now) (command_of c.in-Some.command) text (sym c.in-Some.ensures) short c.reply_to_input.result answered
 
 -- an input that is no addresses leaves the files alone
-pub returns-in-Ok-clause-unopened : goal.returns-in-Ok-clause-unopened
-returns-in-Ok-clause-unopened g c text left bad =
+pub returns-in-Ok-clause-unlooked : goal.returns-in-Ok-clause-unlooked
+returns-in-Ok-clause-unlooked g c text left bad =
     let whole : c.as_slice.result.now ≡ text = c.as_slice.ensures.value ∙ c.in-Ok.ensures.whole text left in
     let few : length c.as_slice.result.now ≤ greatest_input = omega (arith, c.as_slice.ensures.len, c.in-Ok.ensures.short) in
     let short = rw whole at few in
     let none = none_from_bad (map string_bytes c.args.words.now) (command_of c.in-Some.command) text (sym c.in-Some.ensures) short bad in
-    c.reply_to_input.ensures.unopened (rw whole none)
+    c.reply_to_input.ensures.unlooked (rw whole none)
 
 -- an input that is too long is a bad one
 pub returns-in-Err-TooLong-clause-input : goal.returns-in-Err-TooLong-clause-input
