@@ -7,8 +7,8 @@ use Rattle.bz_files.specs.World.{World}
 use Rattle.symq.specs.Commands.{answer_to}
 use Rattle.symq.specs.InputText.{AreAddresses, addresses_in, greatest_input}
 use Rattle.symq.specs.Outcome.{Outcome, run_outcome, by_command, by_length, by_addresses, by_answer}
-use Rattle.symq.specs.Reply.{outcome_of, IsInputReply}
-use Rattle.symq.specs.Run.{Asks, Ends, IsAnswerable, IsBadInput, IsDone, IsRefusable, IsRefused, IsSomeAnswer}
+use Rattle.symq.specs.Reply.{IsInputReply, IsRunReply}
+use Rattle.symq.specs.Run.{Asks, Ends, IsAnswerable, IsBadInput, IsDone, IsRefusable, IsRefused}
 use Rattle.symq.specs.Words.{Command, command_in}
 use Rattle.symq.specs.declared.program.Reply.{Reply}
 use Rattle.symq.specs.declared.status.Status.{Status}
@@ -38,9 +38,8 @@ module _ (words : List (List ℕ)) (command : Command) (input : List ℕ) (comma
   input_from_read (Err e) read = tt
 
   -- the addresses that a reply answers are those that the run is asked for
-  pub some_from_reply : (result : Result Reply Error) → IfOk result (λ given. IsInputReply command input given) →
-      IfOk result (λ given. given.status ≡ statuses.Done → IsSomeAnswer words input (outcome_of given).text)
-  some_from_reply (Ok reply) answered = λ done.
+  pub some_from_reply : (result : Result Reply Error) → IfOk result (λ given. IsInputReply command input given) → IfOk result (λ given. IsRunReply words input given)
+  some_from_reply (Ok reply) answered = λ done old new written.
       let given = answered done in
       record {
         command = command;
@@ -48,7 +47,7 @@ module _ (words : List (List ℕ)) (command : Command) (input : List ℕ) (comma
         answers = given.2.answers;
         asks = record { command_is = command_is; short = short; input_is = addresses_found input given.0 given.1 };
         answers_are = given.2.answers_are;
-        text_is = given.2.text_is;
+        written = written ∙ ap (λ text. Some (old ++ text)) given.2.text_is;
       }
   some_from_reply (Err e) answered = tt
 

@@ -57,19 +57,15 @@ pub record IsDone (words : List (List ℕ)) (input : List ℕ) (world : World) (
   pub answers_are : AnswersIn command world addrs answers
   pub written : new ≡ Some (old ++ answer_texts addrs answers)
 
--- the run was asked for addresses, and the text is that of plain answers at them, in their order, by some bytes in the format
--- of the source
-pub record IsSomeAnswer (words : List (List ℕ)) (input text : List ℕ) : Type 0 where
+-- the run was asked for addresses, and whatever the files tell, the texts of the plain answers of some bytes in the format of
+-- its source, at the addresses, in their order, are what was written
+pub record IsSomeDone (words : List (List ℕ)) (input old : List ℕ) (new : Option (List ℕ)) : Type 0 where
   pub command : Command
   pub addrs : List ℕ
   pub answers : List Answer
   pub asks : Asks words input command addrs
   pub answers_are : AnswersSome command addrs answers
-  pub text_is : text ≡ answer_texts addrs answers
-
--- and such a text is what was written
-abbrev pub IsSomeDone : List (List ℕ) → List ℕ → List ℕ → Option (List ℕ) → Type 0
-IsSomeDone words input old new = (text : List ℕ) × IsSomeAnswer words input text × (new ≡ Some (old ++ text))
+  pub written : new ≡ Some (old ++ answer_texts addrs answers)
 
 -- the run is asked for addresses of a source that has no answers
 pub record IsRefusable (words : List (List ℕ)) (input : List ℕ) (world : World) : Type 0 where

@@ -1,16 +1,16 @@
 //! One run of the program.
 
-ghost use Rattle.std.specs.Prelude.{◌≡◌, ◌≢◌, ◌⊎◌, ◌↔◌, ◌+◌, [], Some, None, map, string_bytes, IfOk, OnOk, IsOkUnless};
+ghost use Rattle.std.specs.Prelude.{◌≡◌, ◌≢◌, ◌⊎◌, ◌↔◌, ◌+◌, ◌≤◌, [], Some, None, map, string_bytes, IfOk, OnOk, IsOkUnless};
 ghost use Rattle.bz_base.specs.Answer.{reading};
-ghost use Rattle.bz_files.specs.Count.{counted};
+ghost use Rattle.bz_files.specs.Count.{HasRisen, counted};
 ghost use Rattle.bz_files.specs.Looked.{Faulted, Looked, ReadsOne};
 ghost use Rattle.bz_files.specs.World.{Told, in_view};
 ghost use Rattle.bz_cache.specs.Format.{Comes};
 ghost use Rattle.symq.specs.Commands.{answer_to, input_of, AnswersSome, IsSourceOf};
 ghost use Rattle.symq.specs.InputText.{addresses_in, greatest_input, MovesAtMost};
 ghost use Rattle.symq.specs.Outcome.{by_answer, by_addresses, run_outcome};
-ghost use Rattle.symq.specs.Reply.{outcome_of, FailsBefore, IsBatchReply, IsInputReply, Replies, RepliesTo};
-ghost use Rattle.symq.specs.Run.{Ends, Fails, IsBadInput, IsNoFailure, IsOrFails, IsReadWhole, IsSomeAnswer, IsSomeDone, Runs};
+ghost use Rattle.symq.specs.Reply.{outcome_of, IsBatchReply, IsInputReply, IsRunReply, Replies, RepliesTo};
+ghost use Rattle.symq.specs.Run.{Ends, IsBadInput, IsNoFailure, IsOrFails, IsReadWhole, IsSomeDone, Runs};
 ghost use Rattle.symq.specs.Words.{command_in, command_of};
 
 use crate::input::{self, ReadStop};
@@ -68,10 +68,17 @@ fn write_reply<R: TextIn, W: TextOut, F: Files>(
     ensures silent { Told (R.left input.old) (λ text. Told (in_view (F.worlds files.old)) (λ world. (run_outcome (map string_bytes words.now) text world).text ≡ [] → output.new ≡ output.old)) }
     ensures most { ReadsOne F.Files files.old files.new }
     ensures opened { Told (in_view (F.worlds files.old)) (λ world. result ≡ Status.Done → F.opens files.new ≡ counted (F.opens files.old)) }
-    ensures fails { Fails R.TextIn W.TextOut F.Files result input.old input.new output.old output.new files.old files.new }
+    ensures worlds { F.worlds files.new ≡ F.worlds files.old }
+    ensures pid { F.pid files.new ≡ F.pid files.old }
+    ensures grows { (R.faults input.old ≤ R.faults input.new) × (W.faults output.old ≤ W.faults output.new) × (F.faults files.old ≤ F.faults files.new) }
+    ensures fault { result ≡ Status.Fault →
+        (HasRisen (R.faults input.old) (R.faults input.new) × (files.new ≡ files.old) × (output.new ≡ output.old))
+        ⊎ ((HasRisen (F.faults files.old) (F.faults files.new) × (R.faults input.new ≡ R.faults input.old) × (output.new ≡ output.old))
+        ⊎ (HasRisen (W.faults output.old) (W.faults output.new) × (R.faults input.new ≡ R.faults input.old) × (F.faults files.new ≡ F.faults files.old))) }
+    ensures steady { (result ≡ Status.Fault) ⊎ ((R.faults input.new ≡ R.faults input.old) × (W.faults output.new ≡ W.faults output.old) × (F.faults files.new ≡ F.faults files.old)) }
 {
     match reply_to_words(alloc, words, input, files) {
-        Ok(reply) => finish(output, reply.status, reply.text.as_str().as_bytes()),
+        Ok(reply) => finish(output, &reply),
         Err(Error::ReadFault) => Status::Fault,
         Err(_) => Status::Memory,
     }
@@ -85,7 +92,7 @@ fn reply_to_words<R: TextIn, F: Files>(
     files: &mut F,
 ) -> Result<Reply>
     ensures reply { Told (R.left input.old) (λ text. Told (in_view (F.worlds files.old)) (λ world. Replies (run_outcome (map string_bytes words.now) text world) result)) }
-    ensures answered { Told (R.left input.old) (λ text. IfOk result (λ given. given.status ≡ Status.Done → IsSomeAnswer (map string_bytes words.now) text (outcome_of given).text)) }
+    ensures answered { Told (R.left input.old) (λ text. IfOk result (λ given. IsRunReply (map string_bytes words.now) text given)) }
     ensures no_failure { IfOk result (λ given. IsNoFailure given.status) }
     ensures usage { IfOk result (λ given. (given.status ≡ Status.Usage → command_in (map string_bytes words.now) ≡ None) × (command_in (map string_bytes words.now) ≡ None → given.status ≡ Status.Usage)) }
     ensures input { Told (R.left input.old) (λ text. IfOk result (λ given. (given.status ≡ Status.Input → IsBadInput (map string_bytes words.now) text) × (IsBadInput (map string_bytes words.now) text → given.status ≡ Status.Input))) }
@@ -96,7 +103,13 @@ fn reply_to_words<R: TextIn, F: Files>(
     ensures order { (files.new ≡ files.old) ⊎ IsReadWhole (map string_bytes words.now) (R.left input.old) (R.left input.new) }
     ensures most { ReadsOne F.Files files.old files.new }
     ensures opened { Told (in_view (F.worlds files.old)) (λ world. IfOk result (λ given. given.status ≡ Status.Done → F.opens files.new ≡ counted (F.opens files.old))) }
-    ensures fails { FailsBefore R.TextIn F.Files result input.old input.new files.old files.new }
+    ensures worlds { F.worlds files.new ≡ F.worlds files.old }
+    ensures pid { F.pid files.new ≡ F.pid files.old }
+    ensures grows { (R.faults input.old ≤ R.faults input.new) × (F.faults files.old ≤ F.faults files.new) }
+    ensures fault { Faulted result →
+        (HasRisen (R.faults input.old) (R.faults input.new) × (files.new ≡ files.old))
+        ⊎ (HasRisen (F.faults files.old) (F.faults files.new) × (R.faults input.new ≡ R.faults input.old)) }
+    ensures steady { Faulted result ⊎ ((R.faults input.new ≡ R.faults input.old) × (F.faults files.new ≡ F.faults files.old)) }
 {
     let Some(command) = words::command_in(words) else {
         return Ok(said(Status::Usage, "usage: symq [OPTION] KIND [ARG]...\n"));

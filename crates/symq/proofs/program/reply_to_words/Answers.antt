@@ -2,7 +2,6 @@ use Rattle.std.proofs.Common.{◌≡◌, ◌≤◌, length, map, string_bytes, r
 use Rattle.symq.specs.InputText.{greatest_input}
 use Rattle.symq.specs.Outcome.{Outcome}
 use Rattle.symq.specs.Words.{command_of}
-use Rattle.symq.proofs.FaultLemmas.{fails_at_files, fails_at_input}
 use Rattle.symq.proofs.InputTextLemmas.{over_at_end}
 use Rattle.symq.proofs.ReplyLemmas.{given_always}
 use Rattle.symq.proofs.RunLemmas.{input_from_read, none_from_bad, some_from_reply}
@@ -51,13 +50,3 @@ pub returns-in-Ok-clause-order : goal.returns-in-Ok-clause-order
 returns-in-Ok-clause-order g c =
     let few : length c.in-Ok.text.items ≤ greatest_input = omega (arith, c.in-Ok.text.ok.0, c.in-Ok.ensures.short) in
     inr (λ command given. over_at_end _ _ c.in-Ok.text.items few c.in-Ok.ensures.whole c.in-Ok.ensures.end)
-
--- the input was read, and the files may have failed
-pub returns-in-Ok-clause-fails : goal.returns-in-Ok-clause-fails
-returns-in-Ok-clause-fails g c =
-    fails_at_files g.R.TextIn g.F.Files c.reply_to_input.result _ _ _ c.in-Ok.ensures.faults _ _ (λ failed. cc) c.reply_to_input.ensures.files
-
--- the input failed
-pub returns-in-Err-Fault-clause-fails : goal.returns-in-Err-Fault-clause-fails
-returns-in-Err-Fault-clause-fails g c =
-    fails_at_input g.R.TextIn g.F.Files _ _ _ _ (rw c.in-Err-Fault.field-0-is at c.in-Err-Fault.ensures.faults) _ refl refl
