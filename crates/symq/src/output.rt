@@ -1,25 +1,27 @@
 //! The output.
 
-ghost use Rattle.std.specs.Prelude.{◌≡◌, ◌⊎◌, ◌≤◌, ◌++◌, [], Some, OnOk, OnErr, IsErrOf};
-ghost use Rattle.bz_files.specs.Count.{HasRisen};
+ghost use Rattle.std.specs.Prelude.{◌≡◌, ◌++◌, [], Some, OnOk, OnErr, IsErrOf};
+ghost use Rattle.bz_files.specs.Count.{CountsFaults};
 ghost use Rattle.bz_files.specs.World.{Told};
+ghost use Rattle.symq.specs.Reply.{outcome_of};
 ghost use Rattle.symq.specs.Run.{Ends, WritesFront, IsNoFailure, IsOrFails};
 
+use crate::program::Reply;
 use crate::status::Status;
 use bz_files::{IoFault, TextOut};
 
-/// Writes the text, and ends with the status.
-pub fn finish<W: TextOut>(output: &mut W, status: Status, text: &[u8]) -> Status
-    requires no_failure { IsNoFailure status }
-    ensures ends { Told (W.written output.old) (λ old. Ends (record { status = status; text = text.now }) old result (W.written output.new)) }
-    ensures silent { text.now ≡ [] → output.new ≡ output.old }
-    ensures status { IsOrFails status result }
-    ensures faults { W.faults output.old ≤ W.faults output.new }
-    ensures fault { result ≡ Status.Fault → HasRisen (W.faults output.old) (W.faults output.new) }
-    ensures steady { (result ≡ Status.Fault) ⊎ (W.faults output.new ≡ W.faults output.old) }
+/// Writes the reply, and ends with its status.
+pub fn finish<W: TextOut>(output: &mut W, reply: &Reply) -> Status
+    requires no_failure { IsNoFailure reply.now.status }
+    ensures ends { Told (W.written output.old) (λ old. Ends (outcome_of reply.now) old result (W.written output.new)) }
+    ensures done { result ≡ Status.Done → reply.now.status ≡ Status.Done }
+    ensures whole { result ≡ Status.Done → Told (W.written output.old) (λ old. W.written output.new ≡ Some (old ++ (outcome_of reply.now).text)) }
+    ensures silent { (outcome_of reply.now).text ≡ [] → output.new ≡ output.old }
+    ensures status { IsOrFails reply.now.status result }
+    ensures faults { CountsFaults (W.faults output.old) (W.faults output.new) (result ≡ Status.Fault) }
 {
-    match write_all(output, text) {
-        Ok(()) => status,
+    match write_all(output, reply.text.as_str().as_bytes()) {
+        Ok(()) => reply.status,
         Err(IoFault::Fault) => Status::Fault,
         Err(IoFault::OutOfMemory) => Status::Memory,
     }
@@ -30,9 +32,7 @@ fn write_all<W: TextOut>(output: &mut W, text: &[u8]) -> Result<(), IoFault>
     ensures whole { Told (W.written output.old) (λ old. OnOk result (W.written output.new ≡ Some (old ++ text.now))) }
     ensures silent { text.now ≡ [] → output.new ≡ output.old }
     ensures front { Told (W.written output.old) (λ old. OnErr result (WritesFront text.now old (W.written output.new))) }
-    ensures faults { W.faults output.old ≤ W.faults output.new }
-    ensures fault { IsErrOf result IoFault.Fault → HasRisen (W.faults output.old) (W.faults output.new) }
-    ensures steady { IsErrOf result IoFault.Fault ⊎ (W.faults output.new ≡ W.faults output.old) }
+    ensures faults { CountsFaults (W.faults output.old) (W.faults output.new) (IsErrOf result IoFault.Fault) }
 {
     let mut rest = text;
     while !rest.is_empty() {
