@@ -116,7 +116,7 @@ impl<K: Ord + Drop, V: Drop> InsertMap<K, V> {
 
     /// The value at the key.
     pub fn get(&mut self, key: &K) -> Option<&V>
-        ensures* same { sem 𝓛 (ends_so K.row V.row K.Ord self.entry (λ n. n ≡ self.old)) }
+        ensures* after { sem 𝓛 (ends_so K.row V.row K.Ord self.entry (λ n. n ≡ self.old)) }
         ensures value { option_copied result ≡ value_at K.cmp self.old key.now }
     {
         match self.find(key) {

@@ -159,7 +159,7 @@ impl MemFiles {
 
     /// Counts one more look, and says whether it is one of those that fail.
     fn begin_look(&mut self) -> bool
-        ensures same { self.new ≡ after_look self.old }
+        ensures state { self.new ≡ after_look self.old }
         ensures failing { result ≡ fails_next self.old }
         ensures faults { CountsFaults self.old.faults self.new.faults (IsTrue result) }
     {
@@ -186,6 +186,7 @@ impl Files for MemFiles {
     fn begin(&mut self)
         ensures { self.new ≡ record self.old { worlds = next_worlds self.old.worlds } }
     {
+        // There is one world, and so no next one: a look at it shows that.
         let _entries = &self.entries;
     }
 
@@ -195,7 +196,7 @@ impl Files for MemFiles {
 
     fn stat(&mut self, path: &str) -> Result<Stamp, FileError>
         ensures answer { Told (in_view (Some self.old.worlds)) (λ world. IsAnswer (λ given stamp bytes. given ≡ stamp) (entry_at world path.now) result) }
-        ensures same { self.new ≡ after_look self.old }
+        ensures state { self.new ≡ after_look self.old }
         ensures failing { IsErrOf result FileError.Fault ↔ IsTrue (fails_next self.old) }
         ensures faults { CountsFaults self.old.faults self.new.faults (IsErrOf result FileError.Fault) }
         ensures no_memory { IsErrOf result FileError.OutOfMemory → ⊥ }
@@ -212,7 +213,7 @@ impl Files for MemFiles {
 
     fn read(&mut self, alloc: Global, path: &str) -> Result<Vec<u8>, FileError>
         ensures answer { Told (in_view (Some self.old.worlds)) (λ world. IsAnswer (λ given stamp bytes. given.items ≡ bytes) (entry_at world path.now) result) }
-        ensures same { self.new ≡ after_read result self.old }
+        ensures state { self.new ≡ after_read result self.old }
         ensures failing { IsErrOf result FileError.Fault ↔ IsTrue (fails_next self.old) }
         ensures faults { CountsFaults self.old.faults self.new.faults (IsErrOf result FileError.Fault) }
     {

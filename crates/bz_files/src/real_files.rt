@@ -105,7 +105,7 @@ impl<R: rt::Files + Drop> Files for RealFiles<R> {
     }
 
     fn stat(&mut self, path: &str) -> Result<Stamp, FileError>
-        ensures same { self.new ≡ after_look result self.old }
+        ensures state { self.new ≡ after_look result self.old }
         ensures faults { CountsFaults self.old.faults self.new.faults (IsErrOf result FileError.Fault) }
         ensures no_memory { IsErrOf result FileError.OutOfMemory → ⊥ }
     {
@@ -118,7 +118,7 @@ impl<R: rt::Files + Drop> Files for RealFiles<R> {
     fn read(&mut self, alloc: Global, path: &str) -> Result<Vec<u8>, FileError>
         ensures whole { IfOk result (λ bytes. IsWholeFile R.File.remaining bytes.items) }
         ensures within { IfOk result (λ bytes. length bytes.items ≤ most_bytes) }
-        ensures same { self.new ≡ after_read result self.old }
+        ensures state { self.new ≡ after_read result self.old }
         ensures faults { CountsFaults self.old.faults self.new.faults (IsErrOf result FileError.Fault) }
     {
         match bytes_at(&self.rt, alloc, path) {
