@@ -21,9 +21,9 @@ module _ {R W F : Type 0} (reads : input_trait.Ghosts R) (writes : output_trait.
     (worlds : looks.worlds files_after ≡ looks.worlds files_before) (pid : looks.pid files_after ≡ looks.pid files_before)
     (grows : (reads.faults input_before ≤ reads.faults input_after) × (writes.faults output_before ≤ writes.faults output_after) × (looks.faults files_before ≤ looks.faults files_after))
     (fault : status ≡ statuses.Fault →
-        (HasRisen (reads.faults input_before) (reads.faults input_after) × (files_after ≡ files_before) × (output_after ≡ output_before))
-        ⊎ ((HasRisen (looks.faults files_before) (looks.faults files_after) × (reads.faults input_after ≡ reads.faults input_before) × (output_after ≡ output_before))
-        ⊎ (HasRisen (writes.faults output_before) (writes.faults output_after) × (reads.faults input_after ≡ reads.faults input_before) × (looks.faults files_after ≡ looks.faults files_before))))
+    (HasRisen (reads.faults input_before) (reads.faults input_after) × (files_after ≡ files_before) × (output_after ≡ output_before))
+    ⊎ ((HasRisen (looks.faults files_before) (looks.faults files_after) × (reads.faults input_after ≡ reads.faults input_before) × (output_after ≡ output_before))
+    ⊎ (HasRisen (writes.faults output_before) (writes.faults output_after) × (reads.faults input_after ≡ reads.faults input_before) × (looks.faults files_after ≡ looks.faults files_before))))
     (steady : (status ≡ statuses.Fault) ⊎ ((reads.faults input_after ≡ reads.faults input_before) × (writes.faults output_after ≡ writes.faults output_before) × (looks.faults files_after ≡ looks.faults files_before))) where
   -- the side where a call failed, from what is known of each side
   pub fails_by_status : Fails reads writes looks status input_before input_after output_before output_after files_before files_after
@@ -58,6 +58,7 @@ module _ {R W F : Type 0} (reads : input_trait.Ghosts R) (writes : output_trait.
         files = record { worlds = worlds; pid = pid; faults = counts_still _ _ _ (λ other. cc) at.2 };
         untouched = λ other. cc;
       }
+
       by_steady : (status ≡ statuses.Fault → ⊥) → (status ≡ statuses.Fault) ⊎ ((reads.faults input_after ≡ reads.faults input_before) × (writes.faults output_after ≡ writes.faults output_before) × (looks.faults files_after ≡ looks.faults files_before)) →
           Fails reads writes looks status input_before input_after output_before output_after files_before files_after
       by_steady never (inl is) = absurd (never is)
@@ -69,6 +70,7 @@ module _ {R W F : Type 0} (reads : input_trait.Ghosts R) (writes : output_trait.
         files = record { worlds = worlds; pid = pid; faults = counts_still _ _ _ (λ at. cc) same.2 };
         untouched = λ at. cc;
       }
+
       by_status : (s : Status) → status ≡ s → Fails reads writes looks status input_before input_after output_before output_after files_before files_after
       by_status statuses.Fault is = by_fault is (fault is)
       by_status _ is = by_steady (λ failed. cc) steady

@@ -1,4 +1,4 @@
-use Rattle.std.proofs.Common.{◌≡◌, map, string_bytes}
+use Rattle.std.proofs.Common.{map, string_bytes}
 use Rattle.symq.proofs.FaultLemmas.{before_from_fails, fails_by_status, fault_from_fails, steady_from_fails}
 use Rattle.symq.proofs.RunLemmas.{answerable_is_done, done_from_ends, refusable_is_refused, refused_from_ends}
 use Rattle.symq.proofs.program.run.Goals as goal

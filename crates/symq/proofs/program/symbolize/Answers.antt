@@ -1,7 +1,6 @@
-use Rattle.std.proofs.Common.{◌≡◌, List, map, Vec, Global}
+use Rattle.std.proofs.Common.{List, map, Vec, Global}
 use Rattle.bz_base.specs.Answer.{Answer, reading}
 use Rattle.bz_base.specs.declared.types.Symbolized.{Symbolized}
-use Rattle.bz_symbolize.specs.State.{default_settings, new_state}
 use Rattle.symq.specs.Words.{command_of}
 use Rattle.symq.proofs.CommandLemmas.{answer_new, of_any_file, opened_by_command, some_from_kept}
 use Rattle.symq.proofs.program.symbolize.Goals as goal
