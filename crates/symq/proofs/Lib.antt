@@ -1,7 +1,9 @@
-pub mod AnswerTextLemmas
-pub mod InputGrammarLemmas
-pub mod InputTextLemmas
-pub mod OpenLemmas
-pub mod OutputLemmas
-pub mod ReplyLemmas
-pub mod RunLemmas
+mod AnswerTextLemmas
+mod CommandLemmas
+mod FaultLemmas
+mod InputGrammarLemmas
+mod InputTextLemmas
+mod OpenLemmas
+mod OutputLemmas
+mod ReplyLemmas
+mod RunLemmas

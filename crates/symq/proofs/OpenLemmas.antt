@@ -12,10 +12,10 @@ use Rattle.bz_files.specs.World.Entry.{Denied, Present}
 use Rattle.bz_cache.specs.Cache.{new_cache, stamp_cmp, PathState}
 use Rattle.bz_cache.specs.Format.{Comes}
 use Rattle.bz_cache.specs.Look.{opens_after, will_open}
-use Rattle.bz_symbolize.specs.Lookup.{by_entry}
+use Rattle.bz_symbolize.specs.Lookup.{fresh_answer}
 
 -- what is there is read
-opens_present : (path : List ℕ) (there : Option Entry) (answers : List Answer) (addrs : List ℕ) (before after : ℕ) → by_entry Basic addrs there ≡ Ok answers →
+opens_present : (path : List ℕ) (there : Option Entry) (answers : List Answer) (addrs : List ℕ) (before after : ℕ) → fresh_answer Basic addrs there ≡ Ok answers →
     after ≡ opens_after (will_open (new_cache true) path there) before → after ≡ counted before
 opens_present path None answers addrs before after given opens = cc
 opens_present path (Some Denied) answers addrs before after given opens = cc
@@ -24,7 +24,7 @@ opens_present path (Some (Present s b)) answers addrs before after given opens =
 
 -- where its answers are given, the file was read
 pub opened_new : {A : Type 0} (view : A → List Answer) (path addrs : List ℕ) (there : Option Entry) (before after : ℕ) (result : Result A Error) →
-    Comes view (by_entry Basic addrs there) result → OnOk result (after ≡ opens_after (will_open (new_cache true) path there) before) →
+    Comes view (fresh_answer Basic addrs there) result → OnOk result (after ≡ opens_after (will_open (new_cache true) path there) before) →
     OnOk result (after ≡ counted before)
 opened_new view path addrs there before after (Ok answers) comes opens = opens_present path there (view answers) addrs before after comes opens
 opened_new view path addrs there before after (Err e) comes opens = tt

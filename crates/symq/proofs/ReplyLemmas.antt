@@ -4,7 +4,7 @@ use Rattle.bz_base.specs.Answer.{Answer}
 use Rattle.bz_base.specs.declared.error.Error.{Error}
 use Rattle.bz_base.specs.declared.error.Error.TheVariants as errors
 use Rattle.bz_cache.specs.Format.{Comes}
-use Rattle.symq.specs.Run.{by_answer}
+use Rattle.symq.specs.Outcome.{by_answer}
 use Rattle.symq.specs.Reply.{Replies, RepliesTo}
 use Rattle.symq.specs.declared.program.Reply.{Reply}
 

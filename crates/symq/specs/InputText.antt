@@ -52,4 +52,4 @@ left_over text = drop (greatest_input + 1) text
 
 -- no more than so many bytes in front of what was left have been moved
 abbrev pub MovesAtMost : ℕ → Option (List ℕ) → Option (List ℕ) → Type 0
-MovesAtMost most before after = Told before (λ text. (n : ℕ) × (n ≤ most) × (after ≡ Some (drop n text)))
+MovesAtMost bound before after = Told before (λ text. (n : ℕ) × (n ≤ bound) × (after ≡ Some (drop n text)))

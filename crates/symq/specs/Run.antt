@@ -1,69 +1,20 @@
--- What a run of the program writes and ends with, where nothing fails.
-use Rattle.std.specs.Prelude.{◌≡◌, ◌≢◌, ◌⊎◌, ℕ, Bool, true, false, ◌<◌, ◌≤◌, nat_lt, List, ◌++◌, length, codes, Option, Some, None, Result, Ok, Err}
+-- What a run of the program promises: what it writes and ends with, and what it does to its input, its output and the files.
+use Rattle.std.specs.Prelude.{◌≡◌, ◌≢◌, ◌⊎◌, ◌↔◌, ℕ, ◌+◌, ◌<◌, ◌≤◌, List, [], ◌++◌, length, Option, Some, None, IsSome}
 use Rattle.bz_base.specs.Answer.{Answer}
-use Rattle.bz_base.specs.ErrorNames.{name_of}
 use Rattle.bz_base.specs.declared.error.Error.{Error}
-use Rattle.bz_base.specs.declared.error.Error.TheVariants as errors
-use Rattle.bz_base.specs.declared.types.FindSymOpts.TheVariants.{Basic}
-use Rattle.bz_files.specs.World.{World, Entry, Told, entry_at}
-use Rattle.bz_files.specs.World.Entry.{Denied, Present}
-use Rattle.bz_files.specs.declared.stamp.Stamp.{Stamp}
-use Rattle.bz_breakpad.specs.Table.{Table}
-use Rattle.bz_breakpad.specs.Grammar.{Accepted}
-use Rattle.bz_breakpad.specs.Plain.{batch}
-use Rattle.bz_symbolize.specs.Lookup.{by_entry}
+use Rattle.bz_files.specs.Count.{CountsFaults, HasRisen, counted}
+use Rattle.bz_files.specs.Looked.{Looked, ReadsOne}
+use Rattle.bz_files.specs.World.{World, Told, in_view}
+use Rattle.bz_files.specs.declared.files.Files as files_trait
+use Rattle.bz_files.specs.declared.text.TextIn as input_trait
+use Rattle.bz_files.specs.declared.text.TextOut as output_trait
 use Rattle.symq.specs.AnswerText.{answer_texts}
-use Rattle.symq.specs.InputText.{AreAddresses, addresses_in, greatest_input, left_over}
-use Rattle.symq.specs.Words.{path_in}
+use Rattle.symq.specs.Commands.{HasAnswers, AnswersIn, AnswersSome, IsCause}
+use Rattle.symq.specs.InputText.{AreAddresses, greatest_input, left_over, MovesAtMost}
+use Rattle.symq.specs.Outcome.{Outcome, refused, run_outcome}
+use Rattle.symq.specs.Words.{Command, command_in}
 use Rattle.symq.specs.declared.status.Status.{Status}
 use Rattle.symq.specs.declared.status.Status.TheVariants as statuses
-
--- the number that the program ends with
-abbrev pub code_of : Status → ℕ
-code_of statuses.Done = 0
-code_of statuses.Refused = 1
-code_of statuses.Usage = 2
-code_of statuses.Input = 3
-code_of statuses.Fault = 4
-code_of statuses.Memory = 5
-
--- a status, and all that is written
-pub record Outcome : Type 0 where
-  pub status : Status
-  pub text : List ℕ
-
-abbrev pub usage_text : List ℕ
-usage_text = codes "usage: symq [OPTION] KIND [ARG]...\n"
-
--- a refusal is written by its name
-abbrev pub refused : Error → Outcome
-refused e = record { status = statuses.Refused; text = codes "refused: " ++ (name_of e ++ codes "\n") }
-
--- the answers' texts, or the refusal
-abbrev pub by_answer : List ℕ → Result (List Answer) Error → Outcome
-by_answer addrs (Ok answers) = record { status = statuses.Done; text = answer_texts addrs answers }
-by_answer addrs (Err e) = refused e
-
--- an input that isn't a list of addresses is named, else the file at the path answers
-abbrev pub by_addresses : Option Entry → Option (List ℕ) → Outcome
-by_addresses there None = record { status = statuses.Input; text = codes "input: not built\n" }
-by_addresses there (Some addrs) = by_answer addrs (by_entry Basic addrs there)
-
--- an input that is too long is named before it is read
-abbrev pub by_length : Option Entry → List ℕ → Bool → Outcome
-by_length there input true = record { status = statuses.Input; text = codes "input: too long\n" }
-by_length there input false = by_addresses there (addresses_in input)
-
-abbrev pub by_input : Option Entry → List ℕ → Outcome
-by_input there input = by_length there input (nat_lt greatest_input (length input))
-
-abbrev pub by_path : World → List ℕ → Option (List ℕ) → Outcome
-by_path world input None = record { status = statuses.Usage; text = usage_text }
-by_path world input (Some path) = by_input (entry_at world path) input
-
--- the words come first, then the whole input, then the file
-abbrev pub outcome : List (List ℕ) → List ℕ → World → Outcome
-outcome words input world = by_path world input (path_in words)
 
 -- a front of the text was written after what stood there
 abbrev pub WritesFront : List ℕ → List ℕ → Option (List ℕ) → Type 0
@@ -75,54 +26,6 @@ Ends expected old statuses.Fault new = WritesFront expected.text old new
 Ends expected old statuses.Memory new = WritesFront expected.text old new
 Ends expected old status new = (expected.status ≡ status) × (new ≡ Some (old ++ expected.text))
 
--- the words name the path, and the input is the addresses
-pub record Asks (words : List (List ℕ)) (input path addrs : List ℕ) : Type 0 where
-  pub words_are : path_in words ≡ Some path
-  pub short : length input ≤ greatest_input
-  pub input_is : AreAddresses input addrs
-
--- the run is asked for addresses of a Breakpad file: the path has bytes with a table
-pub record IsValid (words : List (List ℕ)) (input : List ℕ) (world : World) : Type 0 where
-  pub path : List ℕ
-  pub addrs : List ℕ
-  pub stamp : Stamp
-  pub bytes : List ℕ
-  pub table : Table
-  pub asks : Asks words input path addrs
-  pub present : entry_at world path ≡ Some (Present stamp bytes)
-  pub accepted : Accepted bytes table
-
--- the run was asked for addresses of a Breakpad file, and has answered them all: the texts of the table's plain answers at
--- the addresses, in their order, are what was written
-pub record IsDone (words : List (List ℕ)) (input : List ℕ) (world : World) (old : List ℕ) (new : Option (List ℕ)) : Type 0 where
-  pub valid : IsValid words input world
-  pub written : new ≡ Some (old ++ answer_texts valid.addrs (batch valid.table Basic valid.addrs))
-
--- the words are a command, and the input is too long for it, or isn't the lines of any addresses
-abbrev pub IsBadInput : List (List ℕ) → List ℕ → Type 0
-IsBadInput words input =
-    (path : List ℕ) × (path_in words ≡ Some path)
-    × ((greatest_input < length input) ⊎ ((addrs : List ℕ) → AreAddresses input addrs → ⊥))
-
--- why a file has no answers: it is absent, it may not be read, or its bytes have no table
-abbrev pub IsCause : Option Entry → Error → Type 0
-IsCause None e = e ≡ errors.NotFound
-IsCause (Some Denied) e = e ≡ errors.PermissionDenied
-IsCause (Some (Present stamp bytes)) e = (e ≡ errors.NotBuilt) × ((table : Table) → Accepted bytes table → ⊥)
-
--- the run is asked for addresses of a file that has no answers
-pub record IsRefusable (words : List (List ℕ)) (input : List ℕ) (world : World) : Type 0 where
-  pub path : List ℕ
-  pub addrs : List ℕ
-  pub refusal : Error
-  pub asks : Asks words input path addrs
-  pub cause : IsCause (entry_at world path) refusal
-
--- the run was asked for addresses of a file that has no answers: the refusal is what was written
-pub record IsRefused (words : List (List ℕ)) (input : List ℕ) (world : World) (old : List ℕ) (new : Option (List ℕ)) : Type 0 where
-  pub refusable : IsRefusable words input world
-  pub written : new ≡ Some (old ++ (refused refusable.refusal).text)
-
 -- the run ends with the status, or it failed
 abbrev pub IsOrFails : Status → Status → Type 0
 IsOrFails expected status = (status ≡ expected) ⊎ ((status ≡ statuses.Fault) ⊎ (status ≡ statuses.Memory))
@@ -131,6 +34,128 @@ IsOrFails expected status = (status ≡ expected) ⊎ ((status ≡ statuses.Faul
 abbrev pub IsNoFailure : Status → Type 0
 IsNoFailure status = (status ≢ statuses.Fault) × (status ≢ statuses.Memory)
 
--- the input that the words ask for was read: to its end, or to the byte that makes it too long
-abbrev pub IsRead : List (List ℕ) → Option (List ℕ) → Option (List ℕ) → Type 0
-IsRead words before after = (path : List ℕ) → path_in words ≡ Some path → Told before (λ text. after ≡ Some (left_over text))
+-- the words give the command, and the input is the addresses
+pub record Asks (words : List (List ℕ)) (input : List ℕ) (command : Command) (addrs : List ℕ) : Type 0 where
+  pub command_is : command_in words ≡ Some command
+  pub short : length input ≤ greatest_input
+  pub input_is : AreAddresses input addrs
+
+-- the run is asked for addresses of a source that has answers: a file in its format
+pub record IsAnswerable (words : List (List ℕ)) (input : List ℕ) (world : World) : Type 0 where
+  pub command : Command
+  pub addrs : List ℕ
+  pub asks : Asks words input command addrs
+  pub answerable : HasAnswers command world
+
+-- the run was asked for addresses of a source that has answers: the texts of its plain answers at the addresses, in their
+-- order, are what was written
+pub record IsDone (words : List (List ℕ)) (input : List ℕ) (world : World) (old : List ℕ) (new : Option (List ℕ)) : Type 0 where
+  pub command : Command
+  pub addrs : List ℕ
+  pub answers : List Answer
+  pub asks : Asks words input command addrs
+  pub answered : AnswersIn command world addrs answers
+  pub written : new ≡ Some (old ++ answer_texts addrs answers)
+
+-- the run was asked for addresses, and the text is that of plain answers at them, in their order, by some bytes in the format
+-- of the source
+pub record IsSomeAnswer (words : List (List ℕ)) (input text : List ℕ) : Type 0 where
+  pub command : Command
+  pub addrs : List ℕ
+  pub answers : List Answer
+  pub asks : Asks words input command addrs
+  pub answered : AnswersSome command addrs answers
+  pub text_is : text ≡ answer_texts addrs answers
+
+-- and such a text is what was written
+abbrev pub IsSomeDone : List (List ℕ) → List ℕ → List ℕ → Option (List ℕ) → Type 0
+IsSomeDone words input old new = (text : List ℕ) × IsSomeAnswer words input text × (new ≡ Some (old ++ text))
+
+-- the run is asked for addresses of a source that has no answers
+pub record IsRefusable (words : List (List ℕ)) (input : List ℕ) (world : World) : Type 0 where
+  pub command : Command
+  pub addrs : List ℕ
+  pub refusal : Error
+  pub asks : Asks words input command addrs
+  pub cause : IsCause command world refusal
+
+-- the run was asked for addresses of a source that has no answers: the refusal is what was written
+pub record IsRefused (words : List (List ℕ)) (input : List ℕ) (world : World) (old : List ℕ) (new : Option (List ℕ)) : Type 0 where
+  pub refusable : IsRefusable words input world
+  pub written : new ≡ Some (old ++ (refused refusable.refusal).text)
+
+-- the words are a command, and the input is too long for it, or isn't the lines of any addresses
+abbrev pub IsBadInput : List (List ℕ) → List ℕ → Type 0
+IsBadInput words input =
+    (command : Command) × (command_in words ≡ Some command)
+    × ((greatest_input < length input) ⊎ ((addrs : List ℕ) → AreAddresses input addrs → ⊥))
+
+-- the input that a command asks for was read: to its end, or to the byte that makes it too long
+abbrev pub IsReadWhole : List (List ℕ) → Option (List ℕ) → Option (List ℕ) → Type 0
+IsReadWhole words before after = (command : Command) → command_in words ≡ Some command → Told before (λ text. after ≡ Some (left_over text))
+
+-- the ends of a run: what it reads, what it looks at and what it writes to
+pub data End : Type 0 where
+  AtInput : End
+  AtFiles : End
+  AtOutput : End
+
+-- at which end a call failed, if one did, in a run that ends by a fault exactly then. At that end the count of faults rose, at
+-- the others it stands still: no failed call is hidden or tried again.
+pub record Fails {R W F : Type 0} (reads : input_trait.Ghosts R) (writes : output_trait.Ghosts W) (looks : files_trait.Ghosts F) (status : Status)
+    (input_before input_after : R) (output_before output_after : W) (files_before files_after : F) : Type 0 where
+  pub failed : Option End
+  pub fault : (status ≡ statuses.Fault) ↔ IsSome failed
+  pub input : CountsFaults (reads.faults input_before) (reads.faults input_after) (failed ≡ Some AtInput)
+  pub output : CountsFaults (writes.faults output_before) (writes.faults output_after) (failed ≡ Some AtOutput)
+  -- no other world of files comes into view
+  pub files : Looked looks files_before files_after (failed ≡ Some AtFiles)
+  -- files are looked at only while the output is as it was, so they fail only then
+  pub untouched : failed ≡ Some AtFiles → output_after ≡ output_before
+
+-- all that a run promises
+pub record Runs {R W F : Type 0} (reads : input_trait.Ghosts R) (writes : output_trait.Ghosts W) (looks : files_trait.Ghosts F) (words : List (List ℕ)) (ended : Status)
+    (input_before input_after : R) (output_before output_after : W) (files_before files_after : F) : Type 0 where
+  -- what was written is the outcome's text, or a front of it where the run failed; and the run ends as the outcome, if it
+  -- doesn't fail
+  pub ends : Told (reads.left input_before) (λ text. Told (in_view (looks.worlds files_before)) (λ world. Told (writes.written output_before) (λ old.
+      Ends (run_outcome words text world) old ended (writes.written output_after))))
+  pub status : Told (reads.left input_before) (λ text. Told (in_view (looks.worlds files_before)) (λ world.
+      IsOrFails (run_outcome words text world).status ended))
+  -- status 0 means that the input was addresses of a source that has answers, and that these are what was written
+  pub done : ended ≡ statuses.Done → Told (reads.left input_before) (λ text. Told (in_view (looks.worlds files_before)) (λ world.
+      Told (writes.written output_before) (λ old. IsDone words text world old (writes.written output_after))))
+  -- and whatever the files tell, that they are those of some bytes in the format of the source
+  pub answered : ended ≡ statuses.Done → Told (reads.left input_before) (λ text. Told (writes.written output_before) (λ old.
+      IsSomeDone words text old (writes.written output_after)))
+  -- status 1 means that the input was addresses of a source that has no answers, and that its refusal is what was written
+  pub refused : ended ≡ statuses.Refused → Told (reads.left input_before) (λ text. Told (in_view (looks.worlds files_before)) (λ world.
+      Told (writes.written output_before) (λ old. IsRefused words text world old (writes.written output_after))))
+  -- the words alone decide on status 2, and words and input alone on status 3
+  pub usage : (ended ≡ statuses.Usage → command_in words ≡ None) × (command_in words ≡ None → IsOrFails statuses.Usage ended)
+  pub input : Told (reads.left input_before) (λ text. (ended ≡ statuses.Input → IsBadInput words text) × (IsBadInput words text → IsOrFails statuses.Input ended))
+  -- a source that has answers is answered, unless something fails or memory runs out
+  pub complete : Told (reads.left input_before) (λ text. Told (in_view (looks.worlds files_before)) (λ world. IsAnswerable words text world → IsOrFails statuses.Done ended))
+  -- a source that has none is refused, unless something fails or memory runs out
+  pub refuses : Told (reads.left input_before) (λ text. Told (in_view (looks.worlds files_before)) (λ world. IsRefusable words text world → IsOrFails statuses.Refused ended))
+  -- the words come first, then the input: what a run doesn't come to, it leaves alone
+  pub unread : command_in words ≡ None → (input_after ≡ input_before) × (files_after ≡ files_before)
+  pub unopened : Told (reads.left input_before) (λ text. IsBadInput words text → files_after ≡ files_before)
+  -- a run that doesn't fail has read the input, and no run reads on past the byte that makes it too long
+  pub read : IsNoFailure ended → IsReadWhole words (reads.left input_before) (reads.left input_after)
+  pub bounded : MovesAtMost (greatest_input + 1) (reads.left input_before) (reads.left input_after)
+  -- until the input is read, no file is looked at and nothing is written
+  pub order : ((files_after ≡ files_before) × (output_after ≡ output_before)) ⊎ IsReadWhole words (reads.left input_before) (reads.left input_after)
+  -- where there is nothing to write, the output is left alone
+  pub silent : Told (reads.left input_before) (λ text. Told (in_view (looks.worlds files_before)) (λ world. (run_outcome words text world).text ≡ [] → output_after ≡ output_before))
+  -- one file at most is read, and where answers were written one was
+  pub most : ReadsOne looks files_before files_after
+  pub opened : Told (in_view (looks.worlds files_before)) (λ world. ended ≡ statuses.Done → looks.opens files_after ≡ counted (looks.opens files_before))
+  -- one end at most failed, and files only before the output; a fault comes only where a call failed, and at any other status
+  -- none has
+  pub fails : Fails reads writes looks ended input_before input_after output_before output_after files_before files_after
+  pub fault : ended ≡ statuses.Fault → HasRisen (reads.faults input_before) (reads.faults input_after)
+      ⊎ (HasRisen (writes.faults output_before) (writes.faults output_after) ⊎ HasRisen (looks.faults files_before) (looks.faults files_after))
+  pub steady : (ended ≡ statuses.Fault) ⊎ ((reads.faults input_after ≡ reads.faults input_before) × (writes.faults output_after ≡ writes.faults output_before)
+      × (looks.faults files_after ≡ looks.faults files_before))
+  pub before_output : (looks.faults files_after ≡ looks.faults files_before) ⊎ (output_after ≡ output_before)

@@ -1,11 +1,22 @@
--- The words of a command line, without the program's name.
+-- The words of a command line, without the program's name, and the command that they give.
 use Rattle.std.specs.Prelude.{ℕ, Bool, false, not, ◌==◌, ◌&&◌, List, [], ◌∷◌, codes, Option, Some, None, if◌then◌else◌, bytes_eq}
+use Rattle.symq.specs.declared.words.Command as lent
+use Rattle.symq.specs.declared.words.Command.TheVariants as lents
+
+-- what words ask for: the answers of a source to the addresses of the input
+pub data Command : Type 0 where
+  -- those of the Breakpad file at a path
+  Breakpad : List ℕ → Command
+
+-- the command whose words are lent
+abbrev pub command_of : lent.Command → Command
+command_of (lents.Breakpad path) = Breakpad path.now
 
 abbrev pub begins_with_dash : List ℕ → Bool
 begins_with_dash [] = false
 begins_with_dash (b ∷ bs) = b == 45
 
--- `breakpad PATH`, with a path that doesn't begin with a dash: the path
-abbrev pub path_in : List (List ℕ) → Option (List ℕ)
-path_in (kind ∷ path ∷ []) = if bytes_eq kind (codes "breakpad") && not (begins_with_dash path) then Some path else None
-path_in _ = None
+-- `breakpad PATH`, with a path that doesn't begin with a dash
+abbrev pub command_in : List (List ℕ) → Option Command
+command_in (kind ∷ path ∷ []) = if bytes_eq kind (codes "breakpad") && not (begins_with_dash path) then Some (Breakpad path) else None
+command_in _ = None

@@ -1,7 +1,7 @@
 //! The input: addresses, one on each line.
 
-ghost use Rattle.std.specs.Prelude.{◌≡◌, ◌⊎◌, ◌+◌, ◌<◌, ◌≤◌, ◌++◌, [], ℕ, List, Option, Some, None, option_map, length, drop, vec_len, IfOk, IsErrOf, IsOkUnless};
-ghost use Rattle.bz_files.specs.Count.{HasRisen};
+ghost use Rattle.std.specs.Prelude.{◌≡◌, ◌+◌, ◌<◌, ◌≤◌, ◌++◌, [], ℕ, List, Option, Some, None, option_map, length, drop, vec_len, IfOk, IsErrOf, IsOkUnless};
+ghost use Rattle.bz_files.specs.Count.{CountsFaults};
 ghost use Rattle.bz_files.specs.World.{Told};
 ghost use Rattle.symq.specs.InputText.{address_in, addresses_in, greatest_input, left_over, room_after, Moves, MovesAtMost};
 
@@ -34,10 +34,8 @@ pub fn read_input<R: TextIn>(alloc: Global, input: &mut R) -> std::result::Resul
     ensures long { Told (R.left input.old) (λ text. IsErrOf result ReadStop.TooLong → greatest_input < length text) }
     ensures end { Told (R.left input.old) (λ text. IfOk result (λ bytes. R.left input.new ≡ Some [])) }
     ensures past { Told (R.left input.old) (λ text. IsErrOf result ReadStop.TooLong → R.left input.new ≡ Some (left_over text)) }
-    ensures most { MovesAtMost (greatest_input + 1) (R.left input.old) (R.left input.new) }
-    ensures faults { R.faults input.old ≤ R.faults input.new }
-    ensures fault { IsErrOf result ReadStop.Fault → HasRisen (R.faults input.old) (R.faults input.new) }
-    ensures steady { IsErrOf result ReadStop.Fault ⊎ (R.faults input.new ≡ R.faults input.old) }
+    ensures bounded { MovesAtMost (greatest_input + 1) (R.left input.old) (R.left input.new) }
+    ensures faults { CountsFaults (R.faults input.old) (R.faults input.new) (IsErrOf result ReadStop.Fault) }
 {
     let mut all = Vec::new(alloc);
     while all.len() <= GREATEST_INPUT {
@@ -53,12 +51,10 @@ fn read_piece<R: TextIn>(input: &mut R, all: &mut Vec<u8>) -> std::result::Resul
     requires { vec_len all.old ≤ greatest_input }
     ensures piece { IfOk result (λ n. (front : List ℕ) × (length front ≡ n) × (all.new.items ≡ all.old.items ++ front) × Moves (R.left input.old) (R.left input.new) front) }
     ensures end { Told (R.left input.old) (λ text. IfOk result (λ n. n ≡ 0 → text ≡ [])) }
-    ensures most { MovesAtMost (room_after (vec_len all.old)) (R.left input.old) (R.left input.new) }
+    ensures bounded { MovesAtMost (room_after (vec_len all.old)) (R.left input.old) (R.left input.new) }
     ensures few { IfOk result (λ n. vec_len all.new ≤ greatest_input + 1) }
     ensures grown { IfOk result (λ n. vec_len all.new ≡ vec_len all.old + n) }
-    ensures faults { R.faults input.old ≤ R.faults input.new }
-    ensures fault { IsErrOf result ReadStop.Fault → HasRisen (R.faults input.old) (R.faults input.new) }
-    ensures steady { IsErrOf result ReadStop.Fault ⊎ (R.faults input.new ≡ R.faults input.old) }
+    ensures faults { CountsFaults (R.faults input.old) (R.faults input.new) (IsErrOf result ReadStop.Fault) }
     ensures never_long { IsErrOf result ReadStop.TooLong → ⊥ }
 {
     let mut piece = [0u8; PIECE];

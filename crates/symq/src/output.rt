@@ -1,7 +1,7 @@
 //! The output.
 
-ghost use Rattle.std.specs.Prelude.{◌≡◌, ◌⊎◌, ◌≤◌, ◌++◌, [], Some, OnOk, OnErr, IsErrOf};
-ghost use Rattle.bz_files.specs.Count.{HasRisen};
+ghost use Rattle.std.specs.Prelude.{◌≡◌, ◌++◌, [], Some, OnOk, OnErr, IsErrOf};
+ghost use Rattle.bz_files.specs.Count.{CountsFaults};
 ghost use Rattle.bz_files.specs.World.{Told};
 ghost use Rattle.symq.specs.Run.{Ends, WritesFront, IsNoFailure, IsOrFails};
 
@@ -14,9 +14,7 @@ pub fn finish<W: TextOut>(output: &mut W, status: Status, text: &[u8]) -> Status
     ensures ends { Told (W.written output.old) (λ old. Ends (record { status = status; text = text.now }) old result (W.written output.new)) }
     ensures silent { text.now ≡ [] → output.new ≡ output.old }
     ensures status { IsOrFails status result }
-    ensures faults { W.faults output.old ≤ W.faults output.new }
-    ensures fault { result ≡ Status.Fault → HasRisen (W.faults output.old) (W.faults output.new) }
-    ensures steady { (result ≡ Status.Fault) ⊎ (W.faults output.new ≡ W.faults output.old) }
+    ensures faults { CountsFaults (W.faults output.old) (W.faults output.new) (result ≡ Status.Fault) }
 {
     match write_all(output, text) {
         Ok(()) => status,
@@ -30,9 +28,7 @@ fn write_all<W: TextOut>(output: &mut W, text: &[u8]) -> Result<(), IoFault>
     ensures whole { Told (W.written output.old) (λ old. OnOk result (W.written output.new ≡ Some (old ++ text.now))) }
     ensures silent { text.now ≡ [] → output.new ≡ output.old }
     ensures front { Told (W.written output.old) (λ old. OnErr result (WritesFront text.now old (W.written output.new))) }
-    ensures faults { W.faults output.old ≤ W.faults output.new }
-    ensures fault { IsErrOf result IoFault.Fault → HasRisen (W.faults output.old) (W.faults output.new) }
-    ensures steady { IsErrOf result IoFault.Fault ⊎ (W.faults output.new ≡ W.faults output.old) }
+    ensures faults { CountsFaults (W.faults output.old) (W.faults output.new) (IsErrOf result IoFault.Fault) }
 {
     let mut rest = text;
     while !rest.is_empty() {

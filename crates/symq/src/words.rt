@@ -1,23 +1,30 @@
 //! The words of the command line.
 
 ghost use Rattle.std.specs.Prelude.{◌≡◌, ◌∷◌, [], map, option_map, string_bytes};
-ghost use Rattle.symq.specs.Words.{path_in, begins_with_dash};
+ghost use Rattle.symq.specs.Words.{begins_with_dash, command_in, command_of};
 
-/// The path of the Breakpad file that the words ask for.
-pub fn path(words: &[String]) -> Option<&str>
-    ensures { option_map (λ path. path.now) result ≡ path_in (map string_bytes words.now) }
+/// What the words ask for, in words that are lent.
+#[derive(Clone, Copy, Debug)]
+pub enum Command<'a> {
+    /// The answers of the Breakpad file at a path.
+    Breakpad(&'a str),
+}
+
+/// The command that the words give.
+pub fn command_in(words: &[String]) -> Option<Command<'_>>
+    ensures { option_map command_of result ≡ command_in (map string_bytes words.now) }
 {
     match words {
-        [kind, path] => named_path(kind.as_str(), path.as_str()),
+        [kind, path] => named_command(kind.as_str(), path.as_str()),
         _ => None,
     }
 }
 
-fn named_path<'a>(kind: &str, path: &'a str) -> Option<&'a str>
-    ensures { option_map (λ path. path.now) result ≡ path_in (kind.now ∷ path.now ∷ []) }
+fn named_command<'a>(kind: &str, path: &'a str) -> Option<Command<'a>>
+    ensures { option_map command_of result ≡ command_in (kind.now ∷ path.now ∷ []) }
 {
     if kind == "breakpad" && !begins_with_dash(path) {
-        Some(path)
+        Some(Command::Breakpad(path))
     } else {
         None
     }

@@ -23,6 +23,6 @@ returns-then-branch-eq0-clause-end g c text left =
     read.1
 
 -- the read that failed kept to its room
-pub returns-in_err-read_piece-clause-most : goal.returns-in_err-read_piece-clause-most
-returns-in_err-read_piece-clause-most g c =
-    moves_within _ _ _ c.loop-input.all.items (vec_len c.loop-input.all) (omega (arith, c.loop-input.all.ok.0)) c.loop-input.invariant.1 c.loop-input.invariant.0 c.in_err-read_piece.ensures.most
+pub returns-in_err-read_piece-clause-bounded : goal.returns-in_err-read_piece-clause-bounded
+returns-in_err-read_piece-clause-bounded g c =
+    moves_within _ _ _ c.loop-input.all.items (vec_len c.loop-input.all) (omega (arith, c.loop-input.all.ok.0)) c.loop-input.invariant.1 c.loop-input.invariant.0 c.in_err-read_piece.ensures.bounded

@@ -1,19 +1,33 @@
-use Rattle.std.proofs.Common.{map, string_bytes}
-use Rattle.symq.proofs.RunLemmas.{done_from_ends, refused_from_ends, refusable_is_refused, valid_is_done}
+use Rattle.std.proofs.Common.{◌≡◌, map, string_bytes}
+use Rattle.symq.proofs.FaultLemmas.{before_from_fails, fault_from_fails, steady_from_fails}
+use Rattle.symq.proofs.RunLemmas.{answerable_is_done, done_from_ends, refusable_is_refused, refused_from_ends}
 use Rattle.symq.proofs.program.run.Goals as goal
 
-pub returns-clause-done : goal.returns-clause-done
-returns-clause-done g c done text left world seen old written =
-    done_from_ends _ _ _ _ _ (rw done at (c.write_reply.ensures.ends text left world seen old written))
-
-pub returns-clause-refused : goal.returns-clause-refused
-returns-clause-refused g c refused text left world seen old written =
-    refused_from_ends _ _ _ _ _ (rw refused at (c.write_reply.ensures.ends text left world seen old written))
-
-pub returns-clause-complete : goal.returns-clause-complete
-returns-clause-complete g c text left world seen valid =
-    rw (valid_is_done (map string_bytes c.args.words.now) text world valid) at (c.write_reply.ensures.status text left world seen)
-
-pub returns-clause-refuses : goal.returns-clause-refuses
-returns-clause-refuses g c text left world seen refusable =
-    rw (refusable_is_refused (map string_bytes c.args.words.now) text world refusable) at (c.write_reply.ensures.status text left world seen)
+-- all that a run promises, from what follows from nothing else
+pub returns : goal.returns
+returns g c =
+    let words = map string_bytes c.args.words.now in
+    let did = c.write_reply.ensures in
+    record {
+      ends = did.ends;
+      status = did.status;
+      done = λ done text left world seen old written. done_from_ends _ _ _ _ _ (rw done at (did.ends text left world seen old written));
+      answered = did.answered;
+      refused = λ refused text left world seen old written. refused_from_ends _ _ _ _ _ (rw refused at (did.ends text left world seen old written));
+      usage = did.usage;
+      input = did.input;
+      complete = λ text left world seen is. rw (answerable_is_done words text world is) at (did.status text left world seen);
+      refuses = λ text left world seen is. rw (refusable_is_refused words text world is) at (did.status text left world seen);
+      unread = did.unread;
+      unopened = did.unopened;
+      read = did.read;
+      bounded = did.bounded;
+      order = did.order;
+      silent = did.silent;
+      most = did.most;
+      opened = did.opened;
+      fails = did.fails;
+      fault = fault_from_fails _ _ _ _ _ _ _ _ _ _ did.fails;
+      steady = steady_from_fails _ _ _ _ _ _ _ _ _ _ did.fails;
+      before_output = before_from_fails _ _ _ _ _ _ _ _ _ _ did.fails;
+    }

@@ -1,20 +1,32 @@
-use Rattle.std.proofs.Common.{true, map, Vec, Global}
-use Rattle.bz_base.specs.Answer.{reading}
-use Rattle.bz_base.specs.declared.types.FindSymOpts.TheVariants.{Basic}
+use Rattle.std.proofs.Common.{◌≡◌, List, map, Vec, Global}
+use Rattle.bz_base.specs.Answer.{Answer, reading}
 use Rattle.bz_base.specs.declared.types.Symbolized.{Symbolized}
-use Rattle.bz_files.specs.World.{entry_at}
-use Rattle.bz_symbolize.proofs.NewLemmas.{new_answer}
-use Rattle.symq.proofs.OpenLemmas.{opened_new}
+use Rattle.bz_symbolize.specs.State.{default_settings, new_state}
+use Rattle.symq.specs.Words.{command_of}
+use Rattle.symq.proofs.CommandLemmas.{answer_new, of_any_file, opened_by_command, some_from_kept}
 use Rattle.symq.proofs.program.symbolize.Goals as goal
 
--- a symbolizer that keeps nothing answers by what lies at the path
+abbrev read : Vec Symbolized Global → List Answer
+read answers = map reading answers.items
+
+-- a symbolizer that keeps nothing answers as the command is answered
 pub returns-clause-answer : goal.returns-clause-answer
 returns-clause-answer g c world told =
-    let looked = rw (c.new-2.ensures, c.from-src.ensures, c.new.ensures, c.in_ok-path.ensures.ok) at ((c.symbolize.ensures.told world told).answer) in
-    rw (new_answer Basic true c.args.path.now c.args.addrs (entry_at world c.args.path.now)) at looked
+    let looked = rw (c.new.ensures, c.input_for.ensures) at ((c.symbolize.ensures.told world told).answer) in
+    rw (answer_new (command_of c.args.command.now) c.in_ok-src.src c.args.addrs world c.in_ok-src.ensures.ok) at looked
 
--- and reads the file whose answers it gives
+-- by bytes in the format, whatever is told
+pub returns-clause-answered : goal.returns-clause-answered
+returns-clause-answered g c =
+    let kept = rw c.input_for.ensures at c.symbolize.ensures.kept in
+    some_from_kept read (command_of c.args.command.now) c.in_ok-src.src c.args.addrs _ c.symbolize.result c.in_ok-src.ensures.ok kept
+
+-- one file at most was read
+pub returns-clause-most : goal.returns-clause-most
+returns-clause-most g c = of_any_file c.in_ok-src.src _ c.symbolize.ensures.most
+
+-- and the file whose answers are given was
 pub returns-clause-opened : goal.returns-clause-opened
 returns-clause-opened g c world told =
-    let opened = rw (c.new-2.ensures, c.from-src.ensures, c.new.ensures, c.in_ok-path.ensures.ok) at ((c.symbolize.ensures.told world told).opened) in
-    opened_new (λ (answers : Vec Symbolized Global). map reading answers.items) c.args.path.now c.args.addrs.now (entry_at world c.args.path.now) _ _ c.symbolize.result (returns-clause-answer g c world told) opened
+    let opened = rw (c.new.ensures, c.input_for.ensures) at ((c.symbolize.ensures.told world told).opened) in
+    opened_by_command read (command_of c.args.command.now) c.in_ok-src.src c.args.addrs world _ _ c.symbolize.result c.in_ok-src.ensures.ok (returns-clause-answer g c world told) opened

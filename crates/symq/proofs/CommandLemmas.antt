@@ -1,0 +1,105 @@
+-- What each command is answered: from the symbolizer's promises to the words of commands, and to the causes of refusals.
+use Rattle.std.proofs.Common.{◌≡◌, ℕ, List, Option, Some, None, Result, Ok, Err, IfOk, OnOk, string_bytes, refl, sym, ap}
+use denote.Ref.{Bor}
+use Rattle.bz_base.specs.Answer.{Answer}
+use Rattle.bz_base.specs.declared.error.Error.{Error}
+use Rattle.bz_base.specs.declared.error.Error.TheVariants as errors
+use Rattle.bz_files.specs.Count.{counted}
+use Rattle.bz_files.specs.World.{World, Entry, entry_at}
+use Rattle.bz_files.specs.World.Entry.{Denied, Present}
+use Rattle.bz_files.specs.declared.stamp.Stamp.{Stamp}
+use Rattle.bz_cache.specs.Format.{Comes}
+use Rattle.bz_cache.specs.Look.{opens_after}
+use Rattle.bz_breakpad.specs.Plain.{batch}
+use Rattle.bz_breakpad.specs.Reader.{table_in}
+use Rattle.bz_breakpad.specs.Table.{Table}
+use Rattle.bz_breakpad.proofs.GrammarLemmas.{accepted_found, accepted_again}
+use Rattle.bz_symbolize.specs.Lookup.{answer_of, opens_of, by_table, fresh_answer}
+use Rattle.bz_symbolize.specs.Promise.{AnswersKept, IsBreakpadBatch}
+use Rattle.bz_symbolize.specs.Sources.{OnFile, form_of}
+use Rattle.bz_symbolize.specs.State.{State, default_settings, new_state}
+use Rattle.bz_symbolize.specs.declared.source.Source.{Source}
+use Rattle.bz_symbolize.specs.declared.source.Source.TheVariants as sources
+use Rattle.bz_symbolize.proofs.NewLemmas.{new_answer}
+use Rattle.symq.specs.Commands.{run_opts, IsSourceOf, input_of, answer_to, HasFile, HasAnswers, AnswersIn, AnswersSome, IsFileCause, IsRefusalOf, IsCause}
+use Rattle.symq.specs.Words.{Command, Breakpad}
+use Rattle.symq.proofs.OpenLemmas.{opened_new}
+
+-- a symbolizer that keeps nothing answers the command's source as the command is answered
+pub answer_new : (command : Command) (source : Source) (addrs : Bor (List ℕ)) (world : World) → IsSourceOf command source →
+    answer_of run_opts (new_state default_settings) (form_of source) (input_of command addrs) world ≡ answer_to command addrs.now world
+answer_new (Breakpad path) (sources.Breakpad source) addrs world is =
+    rw is (new_answer run_opts default_settings.reload path addrs (entry_at world path))
+
+-- and reads its file where it answers
+pub opened_by_command : {A : Type 0} (view : A → List Answer) (command : Command) (source : Source) (addrs : Bor (List ℕ)) (world : World) (before after : ℕ) (result : Result A Error) →
+    IsSourceOf command source → Comes view (answer_to command addrs.now world) result →
+    OnOk result (after ≡ opens_after (opens_of run_opts (new_state default_settings) (form_of source) (input_of command addrs) world) before) →
+    OnOk result (after ≡ counted before)
+opened_by_command view (Breakpad path) (sources.Breakpad source) addrs world before after result is comes opens =
+    opened_new view path addrs.now (entry_at world path) before after result comes (rw is at opens)
+
+-- what the symbolizer keeps is what it answers, so whatever is told, some bytes in the format are answered
+pub some_from_kept : {A : Type 0} (view : A → List Answer) (command : Command) (source : Source) (addrs : Bor (List ℕ)) (now : State) (result : Result A Error) →
+    IsSourceOf command source → OnFile source (λ file. IfOk result (λ given. AnswersKept run_opts source file now (input_of command addrs) (view given))) →
+    IfOk result (λ given. AnswersSome command addrs.now (view given))
+some_from_kept view (Breakpad path) (sources.Breakpad source) addrs now (Ok given) is kept = (kept.bytes, kept.answered)
+some_from_kept view (Breakpad path) (sources.Breakpad source) addrs now (Err e) is kept = tt
+
+-- what holds of the file of each source holds
+pub of_any_file : (source : Source) (P : Type 0) → OnFile source (λ file. P) → P
+of_any_file (sources.Breakpad source) P holds = holds
+
+module _ (addrs : List ℕ) where
+  -- answers that are given are those of the file
+  batch_from_table : (answers : List Answer) (stamp : Stamp) (bytes : List ℕ) (read : Option Table) → table_in bytes ≡ read → by_table run_opts addrs read ≡ Ok answers →
+      HasFile (λ b. IsBreakpadBatch run_opts b addrs answers) (Some (Present stamp bytes))
+  batch_from_table answers stamp bytes None is given = cc
+  batch_from_table answers stamp bytes (Some table) is given = record {
+    stamp = stamp;
+    bytes = bytes;
+    present = refl;
+    formed = record { table = table; accepted = accepted_found bytes table is; plain = cc };
+  }
+
+  batch_from_file : (answers : List Answer) (there : Option Entry) → fresh_answer run_opts addrs there ≡ Ok answers →
+      HasFile (λ b. IsBreakpadBatch run_opts b addrs answers) there
+  batch_from_file answers None given = cc
+  batch_from_file answers (Some Denied) given = cc
+  batch_from_file answers (Some (Present stamp bytes)) given = batch_from_table answers stamp bytes (table_in bytes) refl given
+
+  -- a refusal has its cause in the file
+  cause_from_table : (path : List ℕ) (e : Error) (bytes : List ℕ) (read : Option Table) → table_in bytes ≡ read → by_table run_opts addrs read ≡ Err e → IsRefusalOf (Breakpad path) bytes e
+  cause_from_table path e bytes None is given = (cc, λ table accepted. let read = accepted_again bytes table accepted in cc)
+  cause_from_table path e bytes (Some table) is given = cc
+
+  cause_from_file : (path : List ℕ) (e : Error) (there : Option Entry) → fresh_answer run_opts addrs there ≡ Err e → IsFileCause (IsRefusalOf (Breakpad path)) there e
+  cause_from_file path e None given = cc
+  cause_from_file path e (Some Denied) given = cc
+  cause_from_file path e (Some (Present stamp bytes)) given = cause_from_table path e bytes (table_in bytes) refl given
+
+  -- and where the file has the cause, the refusal is given
+  file_from_cause : (path : List ℕ) (e : Error) (there : Option Entry) → IsFileCause (IsRefusalOf (Breakpad path)) there e → fresh_answer run_opts addrs there ≡ Err e
+  file_from_cause path e None cause = ap Err (sym cause)
+  file_from_cause path e (Some Denied) cause = ap Err (sym cause)
+  file_from_cause path e (Some (Present stamp bytes)) cause = by_read (table_in bytes) refl
+    where
+      by_read : (read : Option Table) → table_in bytes ≡ read → by_table run_opts addrs read ≡ Err e
+      by_read None is = ap Err (sym cause.0)
+      by_read (Some table) is = absurd (cause.1 table (accepted_found bytes table is))
+
+-- answers that are given are those of the command's file
+pub answers_found : (command : Command) (world : World) (addrs : List ℕ) (answers : List Answer) → answer_to command addrs world ≡ Ok answers → AnswersIn command world addrs answers
+answers_found (Breakpad path) world addrs answers given = batch_from_file addrs answers (entry_at world path) given
+
+-- and a command that has answers is given some
+pub answers_given : (command : Command) (world : World) (addrs : List ℕ) → HasAnswers command world → (answers : List Answer) × (answer_to command addrs world ≡ Ok answers)
+answers_given (Breakpad path) world addrs has =
+    (batch has.formed.0 run_opts addrs, rw (has.present, accepted_again has.bytes has.formed.0 has.formed.1) refl)
+
+-- a command is refused exactly where its file has the cause
+pub cause_found : (command : Command) (world : World) (addrs : List ℕ) (e : Error) → answer_to command addrs world ≡ Err e → IsCause command world e
+cause_found (Breakpad path) world addrs e given = cause_from_file addrs path e (entry_at world path) given
+
+pub refusal_given : (command : Command) (world : World) (addrs : List ℕ) (e : Error) → IsCause command world e → answer_to command addrs world ≡ Err e
+refusal_given (Breakpad path) world addrs e cause = file_from_cause addrs path e (entry_at world path) cause
