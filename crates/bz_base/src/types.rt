@@ -11,7 +11,8 @@ use std::alloc::Global;
 use std::borrow::CowStr;
 use std::fmt;
 
-/// An address, or an offset in a file.
+/// An address, or an offset in a file: it is relative to what its [`Input`](crate::Input) says, and in a
+/// symbol to what the source counts from.
 pub type Addr = u64;
 
 /// What a symbol names.
@@ -78,7 +79,7 @@ pub struct ResolvedSym<'a> {
     pub name: &'a str,
     /// The module that the table is of.
     pub module: Option<&'a str>,
-    /// The symbol's start.
+    /// The symbol's start, as the source has it: in a Breakpad file relative to the module's base.
     pub addr: Addr,
     /// The symbol's size, in bytes.
     pub size: Option<usize>,
@@ -97,7 +98,7 @@ pub struct Sym<'a> {
     pub name: CowStr<'a>,
     /// The module that the symbol is in.
     pub module: Option<CowStr<'a>>,
-    /// The symbol's start.
+    /// The symbol's start, as the source has it: in a Breakpad file relative to the module's base.
     pub addr: Addr,
     /// How many bytes the address lies past the start.
     pub offset: usize,

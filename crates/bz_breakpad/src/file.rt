@@ -127,6 +127,7 @@ fn answer<'a>(
     requires { IsFound (starts_of kept.now) addr place }
     ensures { (table : Table) → StandsFor table kept.now → reading result ≡ plain table opts.now addr }
 {
+    // No record that is read tells a place in the source code, so the options change nothing.
     let _opts = opts;
     if kept.functions.is_empty() {
         return Symbolized::Unknown(Reason::MissingSyms);

@@ -31,6 +31,10 @@ among_first : (world : World) (worlds : List World) → Contains (world ∷ worl
 among_first world worlds = (zero, zero-lt-suc _, refl)
 
 module _ (worlds : List World) (agree : Agree worlds) where
+  -- every cache coheres with each of the worlds
+  abbrev CoheresWithAll : State → Type 0
+  CoheresWithAll s = (w : World) → Contains worlds w → Coheres s w
+
   -- a call on one file leaves its cache coherent
   after_file : (asked : Question (List Answer)) (c : Cache) (p : List ℕ) (w : World) → Contains worlds w → CoherentWithAll c.kept worlds →
       CoherentWithAll (file_cache asked c p (entry_at w p)).kept worlds
@@ -40,22 +44,23 @@ module _ (worlds : List World) (agree : Agree worlds) where
       by_taken true v has_v = look_coherent asked.test c w v p (agree w v has has_v) (coherent v has_v)
       by_taken false v has_v = coherent v has_v
 
-  after_source : (source : Source) (input : Input (Bor (List ℕ))) (s : State) (w : World) → Contains worlds w → CoherentWithAll s.breakpad.kept worlds →
-      CoherentWithAll (state_after s w (Symbolize source input)).breakpad.kept worlds
-  after_source (sources.Breakpad source) input s w has coherent =
-      after_file (batch_asked format_test breakpad_answering (opts_of s.settings) (string_bytes source.path) input) s.breakpad (string_bytes source.path) w has coherent
+  -- a call on a source leaves the other caches as they are
+  after_source : (source : Source) (input : Input (Bor (List ℕ))) (s : State) (w : World) → Contains worlds w → CoheresWithAll s → CoheresWithAll (state_after s w (Symbolize source input))
+  after_source (sources.Breakpad source) input s w has coherent v has_v = record {
+    breakpad = after_file (batch_asked format_test breakpad_answering (opts_of s.settings) (string_bytes source.path) input) s.breakpad (string_bytes source.path) w has
+        (λ u has_u. (coherent u has_u).breakpad) v has_v;
+  }
 
-  after_call : (call : Call) (s : State) (w : World) → Contains worlds w → CoherentWithAll s.breakpad.kept worlds → CoherentWithAll (state_after s w call).breakpad.kept worlds
+  after_call : (call : Call) (s : State) (w : World) → Contains worlds w → CoheresWithAll s → CoheresWithAll (state_after s w call)
   after_call (Symbolize source input) s w has coherent = after_source source input s w has coherent
 
-  after_step : (call : Call) (s now : State) (w : World) → Contains worlds w → CoherentWithAll s.breakpad.kept worlds → MayLeave s w call now → CoherentWithAll now.breakpad.kept worlds
-  after_step call s now w has coherent (inl same) = subst (λ (t : State). CoherentWithAll t.breakpad.kept worlds) (sym same) coherent
-  after_step call s now w has coherent (inr after) = subst (λ (t : State). CoherentWithAll t.breakpad.kept worlds) (sym after) (after_call call s w has coherent)
+  after_step : (call : Call) (s now : State) (w : World) → Contains worlds w → CoheresWithAll s → MayLeave s w call now → CoheresWithAll now
+  after_step call s now w has coherent (inl same) = subst CoheresWithAll (sym same) coherent
+  after_step call s now w has coherent (inr after) = subst CoheresWithAll (sym after) (after_call call s w has coherent)
 
   -- a list of calls
-  reached : (calls : List (World × Call)) (s end : State) → ((w : World) → Contains (worlds_of calls) w → Contains worlds w) → CoherentWithAll s.breakpad.kept worlds →
-      MayReach s calls end → CoherentWithAll end.breakpad.kept worlds
-  reached [] s end among coherent same = subst (λ (t : State). CoherentWithAll t.breakpad.kept worlds) (sym same) coherent
+  reached : (calls : List (World × Call)) (s end : State) → ((w : World) → Contains (worlds_of calls) w → Contains worlds w) → CoheresWithAll s → MayReach s calls end → CoheresWithAll end
+  reached [] s end among coherent same = subst CoheresWithAll (sym same) coherent
   reached (step ∷ later) s end among coherent (next, leaves, rest) =
       reached later next end (λ w has. among w (among_later step.0 w (worlds_of later) has))
       (after_step step.1 s next step.0 (among step.0 (among_first step.0 (worlds_of later))) coherent leaves) rest
@@ -63,7 +68,6 @@ module _ (worlds : List World) (agree : Agree worlds) where
 -- from a new symbolizer on
 pub history_coheres : (settings : Settings) (calls : List (World × Call)) (state : State) (world : World) →
     Agree (world ∷ worlds_of calls) → MayReach (new_state settings) calls state → Coheres state world
-history_coheres settings calls state world agree reach = record {
-  breakpad = reached (world ∷ worlds_of calls) agree calls (new_state settings) state (λ w has. among_later world w (worlds_of calls) has)
-      (λ w has. new_coherent settings.reload w) reach world (among_first world (worlds_of calls));
-}
+history_coheres settings calls state world agree reach =
+    reached (world ∷ worlds_of calls) agree calls (new_state settings) state (λ w has. among_later world w (worlds_of calls) has)
+    (λ w has. record { breakpad = new_coherent settings.reload w }) reach world (among_first world (worlds_of calls))

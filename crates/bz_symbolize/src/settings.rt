@@ -33,6 +33,7 @@ impl Settings {
     pub(crate) fn opts(&self) -> FindSymOpts
         ensures { result ≡ opts_of self.now }
     {
+        // No setting asks for more until source lines are read.
         let _settings = self;
         FindSymOpts::Basic
     }

@@ -5,7 +5,8 @@ ghost use Rattle.bz_symbolize.specs.declared.source.Source.TheVariants as source
 
 use std::fmt;
 
-/// A Breakpad file. It takes file offsets.
+/// A Breakpad file. It takes file offsets: addresses relative to the module's base, as the file's
+/// records have them.
 #[derive(Drop)]
 pub struct Breakpad {
     /// The path of the file.
