@@ -59,7 +59,7 @@ module _ (addrs : List ℕ) where
     stamp = stamp;
     bytes = bytes;
     present = refl;
-    formed = record { table = table; accepted = accepted_found bytes table is; plain = cc };
+    such = record { table = table; accepted = accepted_found bytes table is; plain = cc };
   }
 
   batch_from_file : (answers : List Answer) (there : Option Entry) → fresh_answer run_opts addrs there ≡ Ok answers →
@@ -95,7 +95,12 @@ answers_found (Breakpad path) world addrs answers given = batch_from_file addrs 
 -- and a command that has answers is given some
 pub answers_given : (command : Command) (world : World) (addrs : List ℕ) → HasAnswers command world → (answers : List Answer) × (answer_to command addrs world ≡ Ok answers)
 answers_given (Breakpad path) world addrs has =
-    (batch has.formed.0 run_opts addrs, rw (has.present, accepted_again has.bytes has.formed.0 has.formed.1) refl)
+    (batch has.such.0 run_opts addrs, rw (has.present, accepted_again has.bytes has.such.0 has.such.1) refl)
+
+-- where the command's file is answered, it has answers
+pub has_answers : (command : Command) (world : World) (addrs : List ℕ) (answers : List Answer) → AnswersIn command world addrs answers → HasAnswers command world
+has_answers (Breakpad path) world addrs answers has =
+    record { stamp = has.stamp; bytes = has.bytes; present = has.present; such = (has.such.table, has.such.accepted) }
 
 -- a command is refused exactly where its file has the cause
 pub cause_found : (command : Command) (world : World) (addrs : List ℕ) (e : Error) → answer_to command addrs world ≡ Err e → IsCause command world e

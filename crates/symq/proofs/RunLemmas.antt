@@ -1,19 +1,19 @@
 -- What the outcome of a run says of its words, its input and its source.
 use Rattle.std.proofs.Common.{◌≡◌, ℕ, ◌≤◌, Bool, true, false, List, ◌++◌, length, Option, Some, None, Ok, Err, Result, IfOk, refl, sym, ap, ◌∙◌, inl, inr, arith, ltb}
-use Rattle.std.proofs.lemmas.Bool.{le-ltb, ltb-false}
+use Rattle.std.proofs.lemmas.Bool.{false≢true, le-ltb, lt-ltb, ltb-false, ltb-true}
 use Rattle.bz_base.specs.Answer.{Answer}
 use Rattle.bz_base.specs.declared.error.Error.{Error}
 use Rattle.bz_files.specs.World.{World}
 use Rattle.symq.specs.Commands.{answer_to}
-use Rattle.symq.specs.InputText.{addresses_in, greatest_input}
+use Rattle.symq.specs.InputText.{AreAddresses, addresses_in, greatest_input}
 use Rattle.symq.specs.Outcome.{Outcome, run_outcome, by_command, by_length, by_addresses, by_answer}
-use Rattle.symq.specs.Reply.{outcome_of, IsInputReply}
-use Rattle.symq.specs.Run.{Asks, Ends, IsAnswerable, IsBadInput, IsDone, IsRefusable, IsRefused, IsSomeAnswer}
+use Rattle.symq.specs.Reply.{IsInputReply, IsRunReply}
+use Rattle.symq.specs.Run.{Asks, Ends, IsAnswerable, IsBadInput, IsDone, IsRefusable, IsRefused}
 use Rattle.symq.specs.Words.{Command, command_in}
 use Rattle.symq.specs.declared.program.Reply.{Reply}
 use Rattle.symq.specs.declared.status.Status.{Status}
 use Rattle.symq.specs.declared.status.Status.TheVariants as statuses
-use Rattle.symq.proofs.CommandLemmas.{answers_found, answers_given, cause_found, refusal_given}
+use Rattle.symq.proofs.CommandLemmas.{answers_found, answers_given, cause_found, has_answers, refusal_given}
 use Rattle.symq.proofs.InputGrammarLemmas.{addresses_found, addresses_again}
 
 module _ (words : List (List ℕ)) (command : Command) (input : List ℕ) (command_is : command_in words ≡ Some command) (short : length input ≤ greatest_input) where
@@ -38,17 +38,16 @@ module _ (words : List (List ℕ)) (command : Command) (input : List ℕ) (comma
   input_from_read (Err e) read = tt
 
   -- the addresses that a reply answers are those that the run is asked for
-  pub some_from_reply : (result : Result Reply Error) → IfOk result (λ given. IsInputReply command input given) →
-      IfOk result (λ given. given.status ≡ statuses.Done → IsSomeAnswer words input (outcome_of given).text)
-  some_from_reply (Ok reply) answered = λ done.
+  pub some_from_reply : (result : Result Reply Error) → IfOk result (λ given. IsInputReply command input given) → IfOk result (λ given. IsRunReply words input given)
+  some_from_reply (Ok reply) answered = λ done old new written.
       let given = answered done in
       record {
         command = command;
         addrs = given.0;
         answers = given.2.answers;
         asks = record { command_is = command_is; short = short; input_is = addresses_found input given.0 given.1 };
-        answered = given.2.answered;
-        text_is = given.2.text_is;
+        answers_are = given.2.answers_are;
+        written = written ∙ ap (λ text. Some (old ++ text)) given.2.text_is;
       }
   some_from_reply (Err e) answered = tt
 
@@ -110,7 +109,7 @@ module _ (words : List (List ℕ)) (input : List ℕ) (world : World) (old : Lis
         addrs = known.addrs;
         answers = given.0;
         asks = known.asks;
-        answered = answers_found known.command world known.addrs given.0 given.1;
+        answers_are = answers_found known.command world known.addrs given.0 given.1;
         written = ends.1 ∙ ap (λ (o : Outcome). Some (old ++ o.text)) (known.ends ∙ ap (by_answer known.addrs) given.1);
       }
 
@@ -140,3 +139,78 @@ module _ (words : List (List ℕ)) (input : List ℕ) (world : World) where
   pub refusable_is_refused : IsRefusable words input world → (run_outcome words input world).status ≡ statuses.Refused
   refusable_is_refused is =
       ap (λ (o : Outcome). o.status) (asked_outcome is.command is.addrs is.asks ∙ ap (by_answer is.addrs) (refusal_given is.command world is.addrs is.refusal is.cause))
+
+module _ (words : List (List ℕ)) (input : List ℕ) (world : World) where
+  -- and only such sources are
+  pub done_is_answerable : (run_outcome words input world).status ≡ statuses.Done → IsAnswerable words input world
+  done_is_answerable done =
+      let known = asking words input world (ap is_asking done) in
+      let answer : Result (List Answer) Error = answer_to known.command known.addrs world in
+      let given = ok_from_done known.addrs answer (ap (λ (o : Outcome). o.status) (sym known.ends) ∙ done) in
+      record {
+        command = known.command;
+        addrs = known.addrs;
+        asks = known.asks;
+        answerable = has_answers known.command world known.addrs given.0 (answers_found known.command world known.addrs given.0 given.1);
+      }
+
+  pub refused_is_refusable : (run_outcome words input world).status ≡ statuses.Refused → IsRefusable words input world
+  refused_is_refusable refused =
+      let known = asking words input world (ap is_asking refused) in
+      let answer : Result (List Answer) Error = answer_to known.command known.addrs world in
+      let given = err_from_refused known.addrs answer (ap (λ (o : Outcome). o.status) (sym known.ends) ∙ refused) in
+      record { command = known.command; addrs = known.addrs; refusal = given.0; asks = known.asks; cause = cause_found known.command world known.addrs given.0 given.1 }
+
+  -- words that are no command are named, and no others
+  answer_never : (addrs : List ℕ) (answer : Result (List Answer) Error) → is_asking (by_answer addrs answer).status ≡ true
+  answer_never addrs (Ok answers) = refl
+  answer_never addrs (Err e) = refl
+
+  usage_never_read : (command : Command) (read : Option (List ℕ)) → (by_addresses command world read).status ≡ statuses.Usage → ⊥
+  usage_never_read command None usage = cc
+  usage_never_read command (Some addrs) usage = let asks = answer_never addrs (answer_to command addrs world) in absurd (false≢true (sym (ap is_asking usage) ∙ asks))
+
+  usage_never : (command : Command) (long : Bool) → (by_length command input world long).status ≡ statuses.Usage → ⊥
+  usage_never command true usage = cc
+  usage_never command false usage = usage_never_read command (addresses_in input) usage
+
+  usage_by_command : (given : Option Command) → (by_command given input world).status ≡ statuses.Usage → given ≡ None
+  usage_by_command None usage = refl
+  usage_by_command (Some command) usage = absurd (usage_never command (ltb greatest_input (length input)) usage)
+
+  pub usage_is_cause : (run_outcome words input world).status ≡ statuses.Usage → command_in words ≡ None
+  usage_is_cause usage = usage_by_command (command_in words) usage
+
+  pub cause_is_usage : command_in words ≡ None → (run_outcome words input world).status ≡ statuses.Usage
+  cause_is_usage none = rw none refl
+
+  -- a bad input is named, and no other
+  input_by_read : (command : Command) → command_in words ≡ Some command → length input ≤ greatest_input → (read : Option (List ℕ)) → addresses_in input ≡ read →
+      (by_addresses command world read).status ≡ statuses.Input → IsBadInput words input
+  input_by_read command command_is short None is bad = bad_from_none words command input command_is short is
+  input_by_read command command_is short (Some addrs) is bad =
+      let asks = answer_never addrs (answer_to command addrs world) in absurd (false≢true (sym (ap is_asking bad) ∙ asks))
+
+  input_by_length : (command : Command) → command_in words ≡ Some command → (long : Bool) → ltb greatest_input (length input) ≡ long →
+      (by_length command input world long).status ≡ statuses.Input → IsBadInput words input
+  input_by_length command command_is true is bad = (command, command_is, inl (ltb-true _ _ is))
+  input_by_length command command_is false is bad = input_by_read command command_is (ltb-false _ _ is) (addresses_in input) refl bad
+
+  input_by_command : (given : Option Command) → command_in words ≡ given → (by_command given input world).status ≡ statuses.Input → IsBadInput words input
+  input_by_command None is bad = cc
+  input_by_command (Some command) is bad = input_by_length command is (ltb greatest_input (length input)) refl bad
+
+  pub input_is_bad : (run_outcome words input world).status ≡ statuses.Input → IsBadInput words input
+  input_is_bad bad = input_by_command (command_in words) refl bad
+
+  unread_is_input : (command : Command) → ((addrs : List ℕ) → AreAddresses input addrs → ⊥) → (read : Option (List ℕ)) → addresses_in input ≡ read → (by_addresses command world read).status ≡ statuses.Input
+  unread_is_input command never None is = refl
+  unread_is_input command never (Some addrs) is = absurd (never addrs (addresses_found input addrs is))
+
+  bad_by_length : (command : Command) → ((addrs : List ℕ) → AreAddresses input addrs → ⊥) → (long : Bool) → (by_length command input world long).status ≡ statuses.Input
+  bad_by_length command never true = refl
+  bad_by_length command never false = unread_is_input command never (addresses_in input) refl
+
+  pub bad_is_input : IsBadInput words input → (run_outcome words input world).status ≡ statuses.Input
+  bad_is_input (command, command_is, inl long) = rw (command_is, lt-ltb _ _ long) refl
+  bad_is_input (command, command_is, inr never) = rw command_is (bad_by_length command never (ltb greatest_input (length input)))

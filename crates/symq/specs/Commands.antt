@@ -56,7 +56,7 @@ pub record HasFile (P : List ℕ → Type 0) (there : Option Entry) : Type 0 whe
   pub stamp : Stamp
   pub bytes : List ℕ
   pub present : there ≡ Some (Present stamp bytes)
-  pub formed : P bytes
+  pub such : P bytes
 
 -- the command has answers in the world: its file is there, with bytes in its format
 abbrev pub HasAnswers : Command → World → Type 0

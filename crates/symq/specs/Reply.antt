@@ -1,18 +1,14 @@
 -- What a run is about to end with and write.
-use Rattle.std.specs.Prelude.{◌≡◌, ◌≢◌, ◌↔◌, ℕ, List, Option, Some, IsSome, Result, Ok, Err}
+use Rattle.std.specs.Prelude.{◌≡◌, ℕ, List, ◌++◌, Option, Some, Result, Ok, Err}
 use Rattle.std.specs.Cow.{cow_str_bytes}
 use Rattle.bz_base.specs.Answer.{Answer}
 use Rattle.bz_base.specs.declared.error.Error.{Error}
 use Rattle.bz_base.specs.declared.error.Error.TheVariants as errors
-use Rattle.bz_files.specs.Count.{CountsFaults}
-use Rattle.bz_files.specs.Looked.{Faulted, Looked}
-use Rattle.bz_files.specs.declared.files.Files as files_trait
-use Rattle.bz_files.specs.declared.text.TextIn as input_trait
 use Rattle.symq.specs.AnswerText.{answer_texts}
 use Rattle.symq.specs.Commands.{AnswersSome}
 use Rattle.symq.specs.InputText.{addresses_in}
 use Rattle.symq.specs.Outcome.{Outcome, refused}
-use Rattle.symq.specs.Run.{End, AtInput, AtFiles, AtOutput}
+use Rattle.symq.specs.Run.{IsSomeDone}
 use Rattle.symq.specs.Words.{Command}
 use Rattle.symq.specs.declared.program.Reply.{Reply}
 use Rattle.symq.specs.declared.status.Status.TheVariants as statuses
@@ -37,7 +33,7 @@ RepliesTo refusal (Err e) = e ≡ errors.OutOfMemory
 -- the text is that of answers to the addresses, by some bytes in the format of the command's source
 pub record IsBatchText (command : Command) (addrs text : List ℕ) : Type 0 where
   pub answers : List Answer
-  pub answered : AnswersSome command addrs answers
+  pub answers_are : AnswersSome command addrs answers
   pub text_is : text ≡ answer_texts addrs answers
 
 -- a reply that the run is done has such a text
@@ -48,11 +44,6 @@ IsBatchReply command addrs reply = reply.status ≡ statuses.Done → IsBatchTex
 abbrev pub IsInputReply : Command → List ℕ → Reply → Type 0
 IsInputReply command input reply = reply.status ≡ statuses.Done → (addrs : List ℕ) × (addresses_in input ≡ Some addrs) × IsBatchText command addrs (cow_str_bytes reply.text)
 
--- at which end a call failed before the reply, if one did: not at the output
-pub record FailsBefore {R F : Type 0} (reads : input_trait.Ghosts R) (looks : files_trait.Ghosts F) (result : Result Reply Error)
-    (input_before input_after : R) (files_before files_after : F) : Type 0 where
-  pub failed : Option End
-  pub fault : Faulted result ↔ IsSome failed
-  pub input : CountsFaults (reads.faults input_before) (reads.faults input_after) (failed ≡ Some AtInput)
-  pub files : Looked looks files_before files_after (failed ≡ Some AtFiles)
-  pub before_output : failed ≢ Some AtOutput
+-- and once it is written, the run has answered
+abbrev pub IsRunReply : List (List ℕ) → List ℕ → Reply → Type 0
+IsRunReply words input reply = reply.status ≡ statuses.Done → (old : List ℕ) (new : Option (List ℕ)) → new ≡ Some (old ++ cow_str_bytes reply.text) → IsSomeDone words input old new

@@ -54,22 +54,18 @@ pub record IsDone (words : List (List ℕ)) (input : List ℕ) (world : World) (
   pub addrs : List ℕ
   pub answers : List Answer
   pub asks : Asks words input command addrs
-  pub answered : AnswersIn command world addrs answers
+  pub answers_are : AnswersIn command world addrs answers
   pub written : new ≡ Some (old ++ answer_texts addrs answers)
 
--- the run was asked for addresses, and the text is that of plain answers at them, in their order, by some bytes in the format
--- of the source
-pub record IsSomeAnswer (words : List (List ℕ)) (input text : List ℕ) : Type 0 where
+-- the run was asked for addresses, and whatever the files tell, the texts of the plain answers of some bytes in the format of
+-- its source, at the addresses, in their order, are what was written
+pub record IsSomeDone (words : List (List ℕ)) (input old : List ℕ) (new : Option (List ℕ)) : Type 0 where
   pub command : Command
   pub addrs : List ℕ
   pub answers : List Answer
   pub asks : Asks words input command addrs
-  pub answered : AnswersSome command addrs answers
-  pub text_is : text ≡ answer_texts addrs answers
-
--- and such a text is what was written
-abbrev pub IsSomeDone : List (List ℕ) → List ℕ → List ℕ → Option (List ℕ) → Type 0
-IsSomeDone words input old new = (text : List ℕ) × IsSomeAnswer words input text × (new ≡ Some (old ++ text))
+  pub answers_are : AnswersSome command addrs answers
+  pub written : new ≡ Some (old ++ answer_texts addrs answers)
 
 -- the run is asked for addresses of a source that has no answers
 pub record IsRefusable (words : List (List ℕ)) (input : List ℕ) (world : World) : Type 0 where
@@ -94,20 +90,20 @@ IsBadInput words input =
 abbrev pub IsReadWhole : List (List ℕ) → Option (List ℕ) → Option (List ℕ) → Type 0
 IsReadWhole words before after = (command : Command) → command_in words ≡ Some command → Told before (λ text. after ≡ Some (left_over text))
 
--- the ends of a run: what it reads, what it looks at and what it writes to
-pub data End : Type 0 where
-  AtInput : End
-  AtFiles : End
-  AtOutput : End
+-- the sides of a run: what it reads, what it looks at and what it writes to
+pub data Side : Type 0 where
+  AtInput : Side
+  AtFiles : Side
+  AtOutput : Side
 
--- at which end a call failed, if one did, in a run that ends by a fault exactly then. At that end the count of faults rose, at
+-- at which side a call failed, if one did, in a run that ends by a fault exactly then. At that side the count of faults rose, at
 -- the others it stands still: no failed call is hidden or tried again.
 pub record Fails {R W F : Type 0} (reads : input_trait.Ghosts R) (writes : output_trait.Ghosts W) (looks : files_trait.Ghosts F) (status : Status)
     (input_before input_after : R) (output_before output_after : W) (files_before files_after : F) : Type 0 where
-  pub failed : Option End
+  pub failed : Option Side
   pub fault : (status ≡ statuses.Fault) ↔ IsSome failed
-  pub input : CountsFaults (reads.faults input_before) (reads.faults input_after) (failed ≡ Some AtInput)
-  pub output : CountsFaults (writes.faults output_before) (writes.faults output_after) (failed ≡ Some AtOutput)
+  pub input_faults : CountsFaults (reads.faults input_before) (reads.faults input_after) (failed ≡ Some AtInput)
+  pub output_faults : CountsFaults (writes.faults output_before) (writes.faults output_after) (failed ≡ Some AtOutput)
   -- no other world of files comes into view
   pub files : Looked looks files_before files_after (failed ≡ Some AtFiles)
   -- files are looked at only while the output is as it was, so they fail only then
@@ -140,7 +136,7 @@ pub record Runs {R W F : Type 0} (reads : input_trait.Ghosts R) (writes : output
   pub refuses : Told (reads.left input_before) (λ text. Told (in_view (looks.worlds files_before)) (λ world. IsRefusable words text world → IsOrFails statuses.Refused ended))
   -- the words come first, then the input: what a run doesn't come to, it leaves alone
   pub unread : command_in words ≡ None → (input_after ≡ input_before) × (files_after ≡ files_before)
-  pub unopened : Told (reads.left input_before) (λ text. IsBadInput words text → files_after ≡ files_before)
+  pub unlooked : Told (reads.left input_before) (λ text. IsBadInput words text → files_after ≡ files_before)
   -- a run that doesn't fail has read the input, and no run reads on past the byte that makes it too long
   pub read : IsNoFailure ended → IsReadWhole words (reads.left input_before) (reads.left input_after)
   pub bounded : MovesAtMost (greatest_input + 1) (reads.left input_before) (reads.left input_after)
@@ -151,7 +147,7 @@ pub record Runs {R W F : Type 0} (reads : input_trait.Ghosts R) (writes : output
   -- one file at most is read, and where answers were written one was
   pub most : ReadsOne looks files_before files_after
   pub opened : Told (in_view (looks.worlds files_before)) (λ world. ended ≡ statuses.Done → looks.opens files_after ≡ counted (looks.opens files_before))
-  -- one end at most failed, and files only before the output; a fault comes only where a call failed, and at any other status
+  -- one side at most failed, and files only before the output; a fault comes only where a call failed, and at any other status
   -- none has
   pub fails : Fails reads writes looks ended input_before input_after output_before output_after files_before files_after
   pub fault : ended ≡ statuses.Fault → HasRisen (reads.faults input_before) (reads.faults input_after)

@@ -3,21 +3,25 @@
 ghost use Rattle.std.specs.Prelude.{◌≡◌, ◌++◌, [], Some, OnOk, OnErr, IsErrOf};
 ghost use Rattle.bz_files.specs.Count.{CountsFaults};
 ghost use Rattle.bz_files.specs.World.{Told};
+ghost use Rattle.symq.specs.Reply.{outcome_of};
 ghost use Rattle.symq.specs.Run.{Ends, WritesFront, IsNoFailure, IsOrFails};
 
+use crate::program::Reply;
 use crate::status::Status;
 use bz_files::{IoFault, TextOut};
 
-/// Writes the text, and ends with the status.
-pub fn finish<W: TextOut>(output: &mut W, status: Status, text: &[u8]) -> Status
-    requires no_failure { IsNoFailure status }
-    ensures ends { Told (W.written output.old) (λ old. Ends (record { status = status; text = text.now }) old result (W.written output.new)) }
-    ensures silent { text.now ≡ [] → output.new ≡ output.old }
-    ensures status { IsOrFails status result }
+/// Writes the reply, and ends with its status.
+pub fn finish<W: TextOut>(output: &mut W, reply: &Reply) -> Status
+    requires no_failure { IsNoFailure reply.now.status }
+    ensures ends { Told (W.written output.old) (λ old. Ends (outcome_of reply.now) old result (W.written output.new)) }
+    ensures done { result ≡ Status.Done → reply.now.status ≡ Status.Done }
+    ensures whole { result ≡ Status.Done → Told (W.written output.old) (λ old. W.written output.new ≡ Some (old ++ (outcome_of reply.now).text)) }
+    ensures silent { (outcome_of reply.now).text ≡ [] → output.new ≡ output.old }
+    ensures status { IsOrFails reply.now.status result }
     ensures faults { CountsFaults (W.faults output.old) (W.faults output.new) (result ≡ Status.Fault) }
 {
-    match write_all(output, text) {
-        Ok(()) => status,
+    match write_all(output, reply.text.as_str().as_bytes()) {
+        Ok(()) => reply.status,
         Err(IoFault::Fault) => Status::Fault,
         Err(IoFault::OutOfMemory) => Status::Memory,
     }

@@ -1,16 +1,16 @@
 //! One run of the program.
 
-ghost use Rattle.std.specs.Prelude.{◌≡◌, ◌≢◌, ◌⊎◌, ◌+◌, [], Some, None, map, string_bytes, IfOk, OnOk, IsErrOf, IsOkUnless};
+ghost use Rattle.std.specs.Prelude.{◌≡◌, ◌≢◌, ◌⊎◌, ◌↔◌, ◌+◌, ◌≤◌, [], Some, None, map, string_bytes, IfOk, OnOk, IsOkUnless};
 ghost use Rattle.bz_base.specs.Answer.{reading};
-ghost use Rattle.bz_files.specs.Count.{counted};
+ghost use Rattle.bz_files.specs.Count.{HasRisen, counted};
 ghost use Rattle.bz_files.specs.Looked.{Faulted, Looked, ReadsOne};
 ghost use Rattle.bz_files.specs.World.{Told, in_view};
 ghost use Rattle.bz_cache.specs.Format.{Comes};
 ghost use Rattle.symq.specs.Commands.{answer_to, input_of, AnswersSome, IsSourceOf};
 ghost use Rattle.symq.specs.InputText.{addresses_in, greatest_input, MovesAtMost};
 ghost use Rattle.symq.specs.Outcome.{by_answer, by_addresses, run_outcome};
-ghost use Rattle.symq.specs.Reply.{outcome_of, FailsBefore, IsBatchReply, IsInputReply, Replies, RepliesTo};
-ghost use Rattle.symq.specs.Run.{Ends, Fails, IsBadInput, IsNoFailure, IsOrFails, IsReadWhole, IsSomeAnswer, IsSomeDone, Runs};
+ghost use Rattle.symq.specs.Reply.{outcome_of, IsBatchReply, IsInputReply, IsRunReply, Replies, RepliesTo};
+ghost use Rattle.symq.specs.Run.{Ends, IsBadInput, IsNoFailure, IsOrFails, IsReadWhole, IsSomeDone, Runs};
 ghost use Rattle.symq.specs.Words.{command_in, command_of};
 
 use crate::input::{self, ReadStop};
@@ -61,17 +61,24 @@ fn write_reply<R: TextIn, W: TextOut, F: Files>(
     ensures usage { (result ≡ Status.Usage → command_in (map string_bytes words.now) ≡ None) × (command_in (map string_bytes words.now) ≡ None → IsOrFails Status.Usage result) }
     ensures input { Told (R.left input.old) (λ text. (result ≡ Status.Input → IsBadInput (map string_bytes words.now) text) × (IsBadInput (map string_bytes words.now) text → IsOrFails Status.Input result)) }
     ensures unread { command_in (map string_bytes words.now) ≡ None → (input.new ≡ input.old) × (files.new ≡ files.old) }
-    ensures unopened { Told (R.left input.old) (λ text. IsBadInput (map string_bytes words.now) text → files.new ≡ files.old) }
+    ensures unlooked { Told (R.left input.old) (λ text. IsBadInput (map string_bytes words.now) text → files.new ≡ files.old) }
     ensures read { IsNoFailure result → IsReadWhole (map string_bytes words.now) (R.left input.old) (R.left input.new) }
     ensures bounded { MovesAtMost (greatest_input + 1) (R.left input.old) (R.left input.new) }
     ensures order { ((files.new ≡ files.old) × (output.new ≡ output.old)) ⊎ IsReadWhole (map string_bytes words.now) (R.left input.old) (R.left input.new) }
     ensures silent { Told (R.left input.old) (λ text. Told (in_view (F.worlds files.old)) (λ world. (run_outcome (map string_bytes words.now) text world).text ≡ [] → output.new ≡ output.old)) }
     ensures most { ReadsOne F.Files files.old files.new }
     ensures opened { Told (in_view (F.worlds files.old)) (λ world. result ≡ Status.Done → F.opens files.new ≡ counted (F.opens files.old)) }
-    ensures fails { Fails R.TextIn W.TextOut F.Files result input.old input.new output.old output.new files.old files.new }
+    ensures worlds { F.worlds files.new ≡ F.worlds files.old }
+    ensures pid { F.pid files.new ≡ F.pid files.old }
+    ensures grows { (R.faults input.old ≤ R.faults input.new) × (W.faults output.old ≤ W.faults output.new) × (F.faults files.old ≤ F.faults files.new) }
+    ensures fault { result ≡ Status.Fault →
+        (HasRisen (R.faults input.old) (R.faults input.new) × (files.new ≡ files.old) × (output.new ≡ output.old))
+        ⊎ ((HasRisen (F.faults files.old) (F.faults files.new) × (R.faults input.new ≡ R.faults input.old) × (output.new ≡ output.old))
+        ⊎ (HasRisen (W.faults output.old) (W.faults output.new) × (R.faults input.new ≡ R.faults input.old) × (F.faults files.new ≡ F.faults files.old))) }
+    ensures steady { (result ≡ Status.Fault) ⊎ ((R.faults input.new ≡ R.faults input.old) × (W.faults output.new ≡ W.faults output.old) × (F.faults files.new ≡ F.faults files.old)) }
 {
     match reply_to_words(alloc, words, input, files) {
-        Ok(reply) => finish(output, reply.status, reply.text.as_str().as_bytes()),
+        Ok(reply) => finish(output, &reply),
         Err(Error::ReadFault) => Status::Fault,
         Err(_) => Status::Memory,
     }
@@ -85,18 +92,24 @@ fn reply_to_words<R: TextIn, F: Files>(
     files: &mut F,
 ) -> Result<Reply>
     ensures reply { Told (R.left input.old) (λ text. Told (in_view (F.worlds files.old)) (λ world. Replies (run_outcome (map string_bytes words.now) text world) result)) }
-    ensures answered { Told (R.left input.old) (λ text. IfOk result (λ given. given.status ≡ Status.Done → IsSomeAnswer (map string_bytes words.now) text (outcome_of given).text)) }
+    ensures answered { Told (R.left input.old) (λ text. IfOk result (λ given. IsRunReply (map string_bytes words.now) text given)) }
     ensures no_failure { IfOk result (λ given. IsNoFailure given.status) }
     ensures usage { IfOk result (λ given. (given.status ≡ Status.Usage → command_in (map string_bytes words.now) ≡ None) × (command_in (map string_bytes words.now) ≡ None → given.status ≡ Status.Usage)) }
     ensures input { Told (R.left input.old) (λ text. IfOk result (λ given. (given.status ≡ Status.Input → IsBadInput (map string_bytes words.now) text) × (IsBadInput (map string_bytes words.now) text → given.status ≡ Status.Input))) }
     ensures unread { command_in (map string_bytes words.now) ≡ None → (input.new ≡ input.old) × (files.new ≡ files.old) }
-    ensures unopened { Told (R.left input.old) (λ text. IsBadInput (map string_bytes words.now) text → files.new ≡ files.old) }
+    ensures unlooked { Told (R.left input.old) (λ text. IsBadInput (map string_bytes words.now) text → files.new ≡ files.old) }
     ensures read { IfOk result (λ given. IsReadWhole (map string_bytes words.now) (R.left input.old) (R.left input.new)) }
     ensures bounded { MovesAtMost (greatest_input + 1) (R.left input.old) (R.left input.new) }
     ensures order { (files.new ≡ files.old) ⊎ IsReadWhole (map string_bytes words.now) (R.left input.old) (R.left input.new) }
     ensures most { ReadsOne F.Files files.old files.new }
     ensures opened { Told (in_view (F.worlds files.old)) (λ world. IfOk result (λ given. given.status ≡ Status.Done → F.opens files.new ≡ counted (F.opens files.old))) }
-    ensures fails { FailsBefore R.TextIn F.Files result input.old input.new files.old files.new }
+    ensures worlds { F.worlds files.new ≡ F.worlds files.old }
+    ensures pid { F.pid files.new ≡ F.pid files.old }
+    ensures grows { (R.faults input.old ≤ R.faults input.new) × (F.faults files.old ≤ F.faults files.new) }
+    ensures fault { Faulted result →
+        (HasRisen (R.faults input.old) (R.faults input.new) × (files.new ≡ files.old))
+        ⊎ (HasRisen (F.faults files.old) (F.faults files.new) × (R.faults input.new ≡ R.faults input.old)) }
+    ensures steady { Faulted result ⊎ ((R.faults input.new ≡ R.faults input.old) × (F.faults files.new ≡ F.faults files.old)) }
 {
     let Some(command) = words::command_in(words) else {
         return Ok(said(Status::Usage, "usage: symq [OPTION] KIND [ARG]...\n"));
@@ -120,7 +133,7 @@ fn reply_to_input<F: Files>(
     ensures no_failure { IfOk result (λ given. IsNoFailure given.status) }
     ensures usage { IfOk result (λ given. given.status ≢ Status.Usage) }
     ensures input { IfOk result (λ given. (given.status ≡ Status.Input → addresses_in text.now ≡ None) × (addresses_in text.now ≡ None → given.status ≡ Status.Input)) }
-    ensures unopened { addresses_in text.now ≡ None → files.new ≡ files.old }
+    ensures unlooked { addresses_in text.now ≡ None → files.new ≡ files.old }
     ensures most { ReadsOne F.Files files.old files.new }
     ensures opened { Told (in_view (F.worlds files.old)) (λ world. IfOk result (λ given. given.status ≡ Status.Done → F.opens files.new ≡ counted (F.opens files.old))) }
     ensures files { Looked F.Files files.old files.new (Faulted result) }
@@ -200,8 +213,7 @@ fn input_for<'a>(command: &Command<'_>, addrs: &'a [u64]) -> Input<&'a [u64]>
 fn refusal(alloc: Global, error: Error) -> Result<Reply>
     ensures reply { RepliesTo error result }
     ensures status { IfOk result (λ given. given.status ≡ Status.Refused) }
-    ensures fault { IsErrOf result Error.ReadFault → error ≡ Error.ReadFault }
-    ensures steady { IsErrOf result Error.ReadFault ⊎ (error ≢ Error.ReadFault) }
+    ensures fault { Faulted result ↔ (error ≡ Error.ReadFault) }
 {
     match error {
         Error::ReadFault => Err(Error::ReadFault),

@@ -2,7 +2,6 @@ use Rattle.std.proofs.Common.{◌≡◌, ◌≤◌, length, map, string_bytes, r
 use Rattle.symq.specs.InputText.{greatest_input}
 use Rattle.symq.specs.Outcome.{Outcome}
 use Rattle.symq.specs.Words.{command_of}
-use Rattle.symq.proofs.FaultLemmas.{fails_at_files, fails_at_input}
 use Rattle.symq.proofs.InputTextLemmas.{over_at_end}
 use Rattle.symq.proofs.ReplyLemmas.{given_always}
 use Rattle.symq.proofs.RunLemmas.{input_from_read, none_from_bad, some_from_reply}
@@ -27,13 +26,13 @@ returns-in-Ok-clause-answered g c text left =
     some_from_reply (map string_bytes c.args.words.now) (command_of c.in-Some.command) text (sym c.in-Some.ensures) short c.reply_to_input.result answered
 
 -- an input that is no addresses leaves the files alone
-pub returns-in-Ok-clause-unopened : goal.returns-in-Ok-clause-unopened
-returns-in-Ok-clause-unopened g c text left bad =
+pub returns-in-Ok-clause-unlooked : goal.returns-in-Ok-clause-unlooked
+returns-in-Ok-clause-unlooked g c text left bad =
     let whole : c.as_slice.result.now ≡ text = c.as_slice.ensures.value ∙ c.in-Ok.ensures.whole text left in
     let few : length c.as_slice.result.now ≤ greatest_input = omega (arith, c.as_slice.ensures.len, c.in-Ok.ensures.short) in
     let short = rw whole at few in
     let none = none_from_bad (map string_bytes c.args.words.now) (command_of c.in-Some.command) text (sym c.in-Some.ensures) short bad in
-    c.reply_to_input.ensures.unopened (rw whole none)
+    c.reply_to_input.ensures.unlooked (rw whole none)
 
 -- an input that is too long is a bad one
 pub returns-in-Err-TooLong-clause-input : goal.returns-in-Err-TooLong-clause-input
@@ -51,13 +50,3 @@ pub returns-in-Ok-clause-order : goal.returns-in-Ok-clause-order
 returns-in-Ok-clause-order g c =
     let few : length c.in-Ok.text.items ≤ greatest_input = omega (arith, c.in-Ok.text.ok.0, c.in-Ok.ensures.short) in
     inr (λ command given. over_at_end _ _ c.in-Ok.text.items few c.in-Ok.ensures.whole c.in-Ok.ensures.end)
-
--- the input was read, and the files may have failed
-pub returns-in-Ok-clause-fails : goal.returns-in-Ok-clause-fails
-returns-in-Ok-clause-fails g c =
-    fails_at_files g.R.TextIn g.F.Files c.reply_to_input.result _ _ _ c.in-Ok.ensures.faults _ _ (λ failed. cc) c.reply_to_input.ensures.files
-
--- the input failed
-pub returns-in-Err-Fault-clause-fails : goal.returns-in-Err-Fault-clause-fails
-returns-in-Err-Fault-clause-fails g c =
-    fails_at_input g.R.TextIn g.F.Files _ _ _ _ (rw c.in-Err-Fault.field-0-is at c.in-Err-Fault.ensures.faults) _ refl refl
