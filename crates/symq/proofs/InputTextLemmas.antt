@@ -39,18 +39,6 @@ pub prepended_more : (front : List ℕ) (addr : ℕ) (addrs : Option (List ℕ))
 prepended_more front addr None = refl
 prepended_more front addr (Some addrs) = ap Some (append_assoc front (addr ∷ []) addrs)
 
--- nothing is moved yet
-pub moves_none : (left : Option (List ℕ)) → Moves left left []
-moves_none left = λ text told. (text, refl, told)
-
--- one piece after another
-pub moves_more : (first second third : Option (List ℕ)) (front piece : List ℕ) → Moves first second front → Moves second third piece →
-    Moves first third (front ++ piece)
-moves_more first second third front piece before more = λ text told.
-    let so_far = before text told in
-    let next = more so_far.0 so_far.2 in
-    (next.0, so_far.1 ∙ (ap (λ rest. front ++ rest) next.1 ∙ sym (append_assoc front piece next.0)), next.2)
-
 -- a length that isn't 0
 pub some_from_test : (n : ℕ) → false ≡ eqb n 0 → 0 < n
 some_from_test zero test = cc

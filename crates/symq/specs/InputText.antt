@@ -1,5 +1,5 @@
 -- The program's input: a list of lines, each an address of 1 to 16 hexadecimal digits.
-use Rattle.std.specs.Prelude.{◌≡◌, ℕ, ◌+◌, ◌-◌, ◌≤◌, List, [], ◌∷◌, ◌++◌, length, drop, Option, Some, None, option_map, option_and_then}
+use Rattle.std.specs.Prelude.{◌≡◌, ℕ, ◌+◌, ◌-◌, ◌≤◌, List, [], ◌∷◌, ◌++◌, drop, Option, Some, None, option_map, option_and_then}
 use Rattle.std.specs.List.{AllZip}
 use Rattle.bz_base.specs.Line.{AreEnded, ended_lines}
 use Rattle.bz_base.specs.Number.{IsHex, hex_at, whole}
