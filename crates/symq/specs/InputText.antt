@@ -1,11 +1,9 @@
 -- The program's input: a list of lines, each an address of 1 to 16 hexadecimal digits.
-use Rattle.std.specs.Prelude.{◌≡◌, ℕ, ◌+◌, ◌-◌, ◌≤◌, Bool, ◌&&◌, nat_lt, nat_le, List, [], ◌∷◌, ◌++◌, length, drop, flat_map, Option, Some, None, if◌then◌else◌, option_map, option_and_then}
-use Rattle.std.specs.List.{AllZip, list_all}
-use Rattle.std.specs.Char.{digit_value}
-use Rattle.std.specs.Str.Parse.{digits_value}
+use Rattle.std.specs.Prelude.{◌≡◌, ℕ, ◌+◌, ◌-◌, ◌≤◌, List, [], ◌∷◌, ◌++◌, drop, Option, Some, None, option_map, option_and_then}
+use Rattle.std.specs.List.{AllZip}
+use Rattle.bz_base.specs.Line.{AreEnded, ended_lines}
+use Rattle.bz_base.specs.Number.{IsHex, hex_at, whole}
 use Rattle.bz_files.specs.World.{Told}
-use Rattle.bz_breakpad.specs.Field.{IsHex}
-use Rattle.bz_breakpad.specs.Line.{ended, lines_in}
 
 -- the greatest length of an input, in bytes
 abbrev pub greatest_input : ℕ
@@ -14,15 +12,8 @@ greatest_input = 16777216
 -- the text is one line for each address
 pub record AreAddresses (text addrs : List ℕ) : Type 0 where
   pub lines : List (List ℕ)
-  pub whole : text ≡ flat_map ended lines
+  pub are_lines : AreEnded text lines
   pub each : AllZip (IsHex 16) lines addrs
-
-abbrev pub is_address : List ℕ → Bool
-is_address line = nat_lt 0 (length line) && (nat_le (length line) 16 && list_all (λ b. nat_lt (digit_value b) 16) line)
-
--- the address that a line spells
-abbrev pub address_in : List ℕ → Option ℕ
-address_in line = if is_address line then Some (digits_value 16 line) else None
 
 -- an address in front of others
 abbrev pub with_address : Option ℕ → Option (List ℕ) → Option (List ℕ)
@@ -32,11 +23,11 @@ with_address (Some addr) addrs = option_map (λ rest. addr ∷ rest) addrs
 -- the addresses of the lines, if each line is one
 abbrev pub addresses_of : List (List ℕ) → Option (List ℕ)
 addresses_of [] = Some []
-addresses_of (line ∷ lines) = with_address (address_in line) (addresses_of lines)
+addresses_of (line ∷ lines) = with_address (whole (hex_at 16 line)) (addresses_of lines)
 
 -- the addresses of the text. That they are those of the relation above is a law of this crate.
 abbrev pub addresses_in : List ℕ → Option (List ℕ)
-addresses_in text = option_and_then addresses_of (lines_in text)
+addresses_in text = option_and_then addresses_of (ended_lines text)
 
 -- the bytes in front of what was left have been moved, and the rest is left
 abbrev pub Moves : Option (List ℕ) → Option (List ℕ) → List ℕ → Type 0

@@ -1,5 +1,6 @@
 -- The words of a command line, without the program's name, and the command that they give.
-use Rattle.std.specs.Prelude.{ℕ, Bool, false, not, ◌==◌, ◌&&◌, List, [], ◌∷◌, codes, Option, Some, None, if◌then◌else◌, bytes_eq}
+use Rattle.std.specs.Prelude.{ℕ, Bool, not, ◌==◌, ◌&&◌, List, [], ◌∷◌, codes, Option, Some, None, if◌then◌else◌, bytes_eq}
+use Rattle.bz_base.specs.Byte.{begins_with, dash}
 use Rattle.symq.specs.declared.words.Command as lent
 use Rattle.symq.specs.declared.words.Command.TheVariants as lents
 
@@ -13,8 +14,7 @@ abbrev pub command_of : lent.Command → Command
 command_of (lents.Breakpad path) = Breakpad path.now
 
 abbrev pub begins_with_dash : List ℕ → Bool
-begins_with_dash [] = false
-begins_with_dash (b ∷ bs) = b == 45
+begins_with_dash text = begins_with (λ b. b == dash) text
 
 -- `breakpad PATH`, with a path that doesn't begin with a dash
 abbrev pub command_in : List (List ℕ) → Option Command

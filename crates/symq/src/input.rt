@@ -3,10 +3,9 @@
 ghost use Rattle.std.specs.Prelude.{◌≡◌, ◌+◌, ◌<◌, ◌≤◌, ◌++◌, [], ℕ, List, Option, Some, None, option_map, length, drop, vec_len, IfOk, IsErrOf, IsOkUnless};
 ghost use Rattle.bz_files.specs.Count.{CountsFaults};
 ghost use Rattle.bz_files.specs.World.{Told};
-ghost use Rattle.symq.specs.InputText.{address_in, addresses_in, greatest_input, left_over, room_after, Moves, MovesAtMost};
+ghost use Rattle.symq.specs.InputText.{addresses_in, greatest_input, left_over, room_after, Moves, MovesAtMost};
 
-use bz_base::{Error, Result};
-use bz_breakpad::next_line;
+use bz_base::{Error, Result, next_line, whole_hex};
 use bz_files::{IoFault, TextIn};
 use std::alloc::Global;
 
@@ -77,7 +76,7 @@ pub fn addresses(alloc: Global, text: &[u8]) -> Result<Option<Vec<u64>>>
     let mut all = Vec::new(alloc);
     let mut rest = text;
     while let Some((line, after)) = next_line(rest) {
-        let Some(addr) = address(line) else {
+        let Some(addr) = whole_hex(line, 16) else {
             return Ok(None);
         };
         all.push(addr)?;
@@ -88,19 +87,4 @@ pub fn addresses(alloc: Global, text: &[u8]) -> Result<Option<Vec<u64>>>
     } else {
         Ok(None)
     }
-}
-
-// The address that a line spells: 1 to 16 hexadecimal digits.
-fn address(line: &[u8]) -> Option<u64>
-    ensures { result ≡ address_in line.now }
-{
-    if line.is_empty() || line.len() > 16 {
-        return None;
-    }
-    let mut value = 0u64;
-    for byte in line {
-        let digit = char::from(*byte).to_digit(16)?;
-        value = value * 16 + u64::from(digit);
-    }
-    Some(value)
 }
