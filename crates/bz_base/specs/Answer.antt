@@ -22,7 +22,7 @@ pub record Call : Type 0 where
   pub name : List ℕ
   pub site : Option Site
 
--- a symbol at an address
+-- a symbol at an address: its start as the source has it, and how far the address lies past it
 pub record Symbol : Type 0 where
   pub name : List ℕ
   pub «module» : Option (List ℕ)
@@ -47,6 +47,7 @@ pub data Answer : Type 0 where
   Known : Symbol → Answer
   Unknown : Reason → Answer
 
+-- the one reading of each part of an answer, whether borrowed or owned
 abbrev pub site_of : CodeInfo → Site
 site_of c = record { dir = option_map cow_str_bytes c.dir; file = cow_str_bytes c.file; line = c.line; column = c.column }
 

@@ -1,11 +1,11 @@
--- Records with a start and a size in bytes, and which of them answers for an address.
+-- Whether a record with a start and a size in bytes covers an address.
 use Rattle.std.specs.Prelude.{◌≡◌, ◌⊎◌, ℕ, ◌+◌, ◌<◌, ◌≤◌, Bool, ◌==◌, nat_le, nat_lt, ◌&&◌, ◌||◌}
 
 -- the greatest address
 abbrev pub last_address : ℕ
 last_address = 18446744073709551615
 
--- the record has the address inside: its end fits 64 bits, and lies above the address
+-- the record has the address inside: it lies from the start on and before the end, and the end fits 64 bits
 abbrev pub inside : ℕ → ℕ → ℕ → Bool
 inside start size addr = nat_le (start + size) last_address && (nat_le start addr && nat_lt addr (start + size))
 

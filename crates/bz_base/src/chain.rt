@@ -11,6 +11,7 @@ use std::alloc::{AllocError, Global};
 
 /// A record with a depth, in records around it.
 pub trait Nested: Spanned {
+    /// How many records are around it.
     ghost depth: { Self → ℕ };
 
     /// How many records are around it.

@@ -19,19 +19,19 @@ pub enum ErrorKind {
     NotFound,
     /// A file that is needed may not be read.
     PermissionDenied,
-    /// Breakpad text outside its grammar.
+    /// Text outside its format. No format here gives it yet.
     InvalidInput,
-    /// Binary tables, mappings or maps outside their formats.
+    /// Binary tables outside their format. No format here gives it yet.
     InvalidData,
-    /// A table of mappings without an entry.
+    /// A table of mappings without an entry. It isn't given yet.
     UnexpectedEof,
-    /// There is a version already.
+    /// There is a version already. It isn't given yet.
     AlreadyExists,
     /// Looking at a file failed: its count of faults rose.
     ReadFault,
     /// Memory ran out.
     OutOfMemory,
-    /// A form that isn't read yet.
+    /// Text that isn't of a form that is read so far.
     NotBuilt,
 }
 
@@ -44,19 +44,19 @@ pub enum Error {
     NotFound,
     /// A file that is needed may not be read.
     PermissionDenied,
-    /// Breakpad text outside its grammar.
+    /// Text outside its format. No format here gives it yet.
     InvalidInput,
-    /// Binary tables, mappings or maps outside their formats.
+    /// Binary tables outside their format. No format here gives it yet.
     InvalidData,
-    /// A table of mappings without an entry.
+    /// A table of mappings without an entry. It isn't given yet.
     UnexpectedEof,
-    /// There is a version already.
+    /// There is a version already. It isn't given yet.
     AlreadyExists,
     /// Looking at a file failed: its count of faults rose.
     ReadFault,
     /// Memory ran out.
     OutOfMemory,
-    /// A form that isn't read yet.
+    /// Text that isn't of a form that is read so far.
     NotBuilt,
 }
 

@@ -10,7 +10,8 @@ pub enum Input<T> {
     AbsAddr(T),
     /// An address as a symbol table has it.
     VirtOffset(T),
-    /// An offset in the file that the source names.
+    /// An offset in the file that the source names: for a Breakpad file an address relative to the
+    /// module's base, as its records have it.
     FileOffset(T),
 }
 

@@ -62,7 +62,7 @@ pub fn tables_answer_alike<T>()
         option_and_then (λ p. slice_get table p.0) found ≡ candidate start size addr records }
 {}
 
-/// At a depth the search gives the record that lies nearest around an address, and what lies
+/// At a depth the search gives the record with the nearest start not above an address, and what lies
 /// nearest is what it gives.
 pub fn inner_is_exact<T>()
     ensures is { (depth start : T → ℕ) (records : List T) (at addr : ℕ) (x : T) → inner depth start at addr records ≡ Some x → (place : ℕ) × IsInner depth start records at addr place x }

@@ -1,4 +1,5 @@
-//! What an answer of the symbolizer is, and why there is none.
+//! What an answer of the symbolizer is and why there is none, the lines and numbers of a text, and
+//! which record of a table answers for an address.
 #![tactic(auto)]
 
 mod chain;

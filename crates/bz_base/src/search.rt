@@ -1,4 +1,4 @@
-//! Which record covers an address.
+//! Whether a record covers an address.
 
 ghost use Rattle.std.specs.Prelude.{◌≡◌};
 ghost use Rattle.bz_base.specs.Span.{covers, inside};

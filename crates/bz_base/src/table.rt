@@ -13,11 +13,13 @@ use std::sync::ledger::Ledger;
 
 /// A record with a start and a size in bytes.
 pub trait Spanned {
+    /// The first address, as the source has it.
     ghost start: { Self → ℕ };
 
+    /// The number of bytes.
     ghost size: { Self → ℕ };
 
-    /// The first address.
+    /// The first address, as the source has it.
     fn start(&self) -> u64
         ensures { result ≡ start self.now };
 

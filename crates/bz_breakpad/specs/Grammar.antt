@@ -70,6 +70,7 @@ abbrev pub function_of : Record → Option Function
 function_of (Module name) = None
 function_of (Func f) = Some f
 
+-- the table that the records make
 abbrev pub table_of : List Record → Table
 table_of records = record { «module» = module_of records; functions = filter_map function_of records }
 

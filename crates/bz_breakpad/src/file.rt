@@ -76,6 +76,7 @@ impl SymbolFile {
     }
 
     /// The answers to the addresses, in their order, each the file's answer at that address alone.
+    /// Addresses are relative to the module's base.
     pub fn answer_batch<L: Ledger>(
         &self,
         alloc: Global,

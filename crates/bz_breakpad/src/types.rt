@@ -3,7 +3,7 @@
 /// A FUNC record.
 #[derive(Drop)]
 pub(crate) struct KeptFunction {
-    /// Where the function starts.
+    /// Where the function starts, relative to the module's base.
     pub start: u64,
     /// Its size, in bytes.
     pub size: u32,

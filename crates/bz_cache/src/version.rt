@@ -20,7 +20,7 @@ pub trait Version: Sized {
     fn parse(alloc: Global, bytes: Vec<u8>) -> Result<Self>
         ensures ok { IfOk result (λ version. bytes_of version ≡ bytes.items) }
         ensures formed { IfOk result (λ version. test bytes.items ≡ None) }
-        ensures err { IfErr result (IsRefusalBy (test bytes.items)) };
+        ensures refusal { IfErr result (IsRefusalBy (test bytes.items)) };
 
     /// Shows that the bytes are in the format, and does nothing.
     fn formed(&self)

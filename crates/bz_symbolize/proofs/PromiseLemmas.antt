@@ -168,4 +168,4 @@ module _ (opts : FindSymOpts) (source : Source) (file : FileSource) (laws : IsFo
         pub leaves_from_some : (result : Result A Error) → (file.answering.takes (address_kind input) ≡ false → now ≡ old) →
             FileSome reading (asked_of file opts input) file.path result (file.cache old) (file.cache now) → FileLeaves file input result old now
         leaves_from_some result untaken some =
-            record { step = step_from_some result some; refused = refused_from_some result untaken some; out_of_memory = λ _. memory_from_some result some }
+            record { one_look = step_from_some result some; on_refusal = refused_from_some result untaken some; out_of_memory = λ _. memory_from_some result some }

@@ -81,9 +81,9 @@ IsAfterSomeLook file old now = (there : Option Entry) × (now ≡ file.with_cach
 -- whatever is told and answered, what a call on one file leaves
 pub record FileLeaves {A : Type 0} (file : FileSource) (input : Input (Bor (List ℕ))) (result : Result A Error) (old now : State) : Type 0 where
   -- the old state, or the one after some look at the path
-  pub step : (now ≡ old) ⊎ IsAfterSomeLook file old now
+  pub one_look : (now ≡ old) ⊎ IsAfterSomeLook file old now
   -- a refusal leaves the old one, where the source refuses no kind of address after the look
-  pub refused : file.answering.takes (address_kind input) ≡ file.answering.serves (address_kind input) → LeavesOld result old now
+  pub on_refusal : file.answering.takes (address_kind input) ≡ file.answering.serves (address_kind input) → LeavesOld result old now
   -- where memory ran out, the path is kept or nothing has changed
   pub out_of_memory : IsErrOf result errors.OutOfMemory → (now ≡ old) ⊎ IsSome (kept_at (file.cache now) file.path)
 
@@ -122,7 +122,7 @@ pub record Symbolizes {A X : Type 0} (files : Ghosts X) (reading : A → List An
   -- the answer, the state that is left and the file that is read are those of the definitions
   pub told : Told (in_view (files.worlds before)) (λ world. CallTold reading (opts_of old.settings) (form_of source) input result old now world (files.opens before) (files.opens after))
   -- so the call is one of those whose lists keep versions coherent
-  pub step : Told (in_view (files.worlds before)) (λ world. MayLeave old world (Symbolize source input) now)
+  pub history : Told (in_view (files.worlds before)) (λ world. MayLeave old world (Symbolize source input) now)
   -- whatever is told and answered, the state is the old one, or the one after some look at the path
   pub leaves : OnFile source (λ file. FileLeaves file input result old now)
   -- a kind of address that isn't taken is refused before any look

@@ -47,6 +47,7 @@ asked_of file opts input = batch_asked file.test file.answering opts file.path i
 pub data SourceForm : Type 0 where
   OneFile : FileSource → SourceForm
 
+-- the form of each source
 abbrev pub form_of : Source → SourceForm
 form_of (sources.Breakpad source) = OneFile (record {
   test = format_test;
@@ -60,5 +61,6 @@ form_of (sources.Breakpad source) = OneFile (record {
 abbrev pub OnFileForm : SourceForm → (FileSource → Type 0) → Type 0
 OnFileForm (OneFile file) P = P file
 
+-- the same of a source
 abbrev pub OnFile : Source → (FileSource → Type 0) → Type 0
 OnFile source P = OnFileForm (form_of source) P

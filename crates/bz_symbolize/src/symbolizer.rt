@@ -70,7 +70,9 @@ impl Symbolizer {
     /// The answers of the source to the addresses, in their order. An empty batch looks at its file
     /// too. A call is refused by `Unsupported` where the source doesn't take the kind of address, by
     /// `NotFound`, `PermissionDenied` and `ReadFault` where its file is absent, may not be read or
-    /// can't be, by the refusal of its format where its bytes aren't in it, and by `OutOfMemory`.
+    /// can't be, by the refusal of its format where its bytes aren't in it, and by `OutOfMemory`. A
+    /// refused call leaves the symbolizer as it was; where memory ran out, the file may have been
+    /// taken in.
     pub fn symbolize<F: Files>(
         &mut self,
         alloc: Global,

@@ -25,6 +25,7 @@ pub record Outcome : Type 0 where
   pub status : Status
   pub text : List ℕ
 
+-- where the words give no command
 abbrev pub usage : Outcome
 usage = record { status = statuses.Usage; text = codes "usage: symq [OPTION] KIND [ARG]...\n" }
 
@@ -42,7 +43,7 @@ abbrev pub by_addresses : Command → World → Option (List ℕ) → Outcome
 by_addresses command world None = record { status = statuses.Input; text = codes "input: not built\n" }
 by_addresses command world (Some addrs) = by_answer addrs (answer_to command addrs world)
 
--- an input that is too long is named before it is read
+-- an input that is too long is named before its lines are read
 abbrev pub by_length : Command → List ℕ → World → Bool → Outcome
 by_length command input world true = record { status = statuses.Input; text = codes "input: too long\n" }
 by_length command input world false = by_addresses command world (addresses_in input)
@@ -51,6 +52,7 @@ by_length command input world false = by_addresses command world (addresses_in i
 abbrev pub outcome : Command → List ℕ → World → Outcome
 outcome command input world = by_length command input world (nat_lt greatest_input (length input))
 
+-- by the command, if there is one
 abbrev pub by_command : Option Command → List ℕ → World → Outcome
 by_command None input world = usage
 by_command (Some command) input world = outcome command input world

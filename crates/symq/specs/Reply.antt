@@ -13,6 +13,7 @@ use Rattle.symq.specs.Words.{Command}
 use Rattle.symq.specs.declared.program.Reply.{Reply}
 use Rattle.symq.specs.declared.status.Status.TheVariants as statuses
 
+-- the outcome that a reply is
 abbrev pub outcome_of : Reply → Outcome
 outcome_of reply = record { status = reply.status; text = cow_str_bytes reply.text }
 

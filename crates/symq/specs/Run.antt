@@ -97,7 +97,7 @@ pub data Side : Type 0 where
   AtOutput : Side
 
 -- at which side a call failed, if one did, in a run that ends by a fault exactly then. At that side the count of faults rose, at
--- the others it stands still: no failed call is hidden or tried again.
+-- the others it stands still: no failed call is hidden behind another status.
 pub record Fails {R W F : Type 0} (reads : input_trait.Ghosts R) (writes : output_trait.Ghosts W) (looks : files_trait.Ghosts F) (status : Status)
     (input_before input_after : R) (output_before output_after : W) (files_before files_after : F) : Type 0 where
   pub failed : Option Side

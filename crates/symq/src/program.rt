@@ -80,6 +80,7 @@ fn write_reply<R: TextIn, W: TextOut, F: Files>(
     match reply_to_words(alloc, words, input, files) {
         Ok(reply) => finish(output, &reply),
         Err(Error::ReadFault) => Status::Fault,
+        // Nothing else is left than want of memory.
         Err(_) => Status::Memory,
     }
 }
@@ -141,6 +142,7 @@ fn reply_to_input<F: Files>(
     match input::addresses(alloc, text) {
         Ok(Some(addrs)) => reply_to_batch(alloc, command, addrs.as_slice(), files),
         Ok(None) => Ok(said(Status::Input, "input: not built\n")),
+        // Reading addresses wants memory alone.
         Err(_) => Err(Error::OutOfMemory),
     }
 }
@@ -209,7 +211,7 @@ fn input_for<'a>(command: &Command<'_>, addrs: &'a [u64]) -> Input<&'a [u64]>
     }
 }
 
-// The reply to a refused call; a failure stays one.
+// The reply to a refused call; a failure stays one, and so ends the run by status 4 or 5.
 fn refusal(alloc: Global, error: Error) -> Result<Reply>
     ensures reply { RepliesTo error result }
     ensures status { IfOk result (λ given. given.status ≡ Status.Refused) }

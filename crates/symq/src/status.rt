@@ -6,17 +6,17 @@ ghost use Rattle.symq.specs.Outcome.{code_of};
 /// How a run ended.
 #[derive(Clone, Copy, Debug, PartialEq, Eq)]
 pub enum Status {
-    /// The answers were written.
+    /// 0: the answers were written.
     Done,
-    /// The call was refused.
+    /// 1: the source has no answers; its refusal was written.
     Refused,
-    /// The words are no command.
+    /// 2: the words are no command.
     Usage,
-    /// The input is too long or out of form.
+    /// 3: the input is too long or out of form.
     Input,
-    /// Reading or writing failed.
+    /// 4: reading or writing failed.
     Fault,
-    /// Memory ran out.
+    /// 5: memory ran out.
     Memory,
 }
 

@@ -10,7 +10,7 @@ use bz_base::hex;
 /// A FUNC record in the text.
 #[derive(Drop)]
 pub(crate) struct FuncLine<'a> {
-    /// Where the function starts.
+    /// Where the function starts, relative to the module's base.
     pub start: u64,
     /// Its size, in bytes.
     pub size: u32,

@@ -10,7 +10,7 @@ use Rattle.bz_cache.proofs.file_cache.FileCache.refresh.Goals as goal
 pub returns-in_err-version-clause-files : goal.returns-in_err-version-clause-files
 returns-in_err-version-clause-files g c =
     let same = err_from_is_err_and c.from_residual-in_err-version.result c.from_residual-in_err-version.ensures.1 in
-    let never = never_fault g.T.Version.test g.met.T.Version.refusals c.in_ok-bytes.bytes.items c.in_err-version.field-0.0 c.in_err-version.ensures.err in
+    let never = never_fault g.T.Version.test g.met.T.Version.refusals c.in_ok-bytes.bytes.items c.in_err-version.field-0.0 c.in_err-version.ensures.refusal in
     rw (same.1, same.2) (looked_unfailed g.F.Files c.args.files.now c.contents.new.files _ never (looked_then g.F.Files c.args.files.now c.present.new.files ⊥ c.contents.new.files c.in_ok-stamp.ensures.files c.in_ok-bytes.ensures.files))
 
 pub returns-then-is_kept-clause-answer : goal.returns-then-is_kept-clause-answer

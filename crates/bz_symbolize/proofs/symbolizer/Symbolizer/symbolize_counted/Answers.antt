@@ -34,7 +34,7 @@ returns g c =
       causes = on_file source told_of (λ file laws told world seen coherent. causes_from_told opts source file laws input old read world result coherent (told world seen).answer);
       complete = on_file source told_of (λ file laws told world seen coherent. complete_from_told opts source file laws input old read world result coherent (told world seen).answer);
       told = told_all;
-      step = λ world seen. step_from_told result old now _ (told_all world seen).state;
+      history = λ world seen. step_from_told result old now _ (told_all world seen).state;
       leaves = on_file source (both source _ _ did.rest (both source _ _ did.untaken some_of)) (λ file laws all.
           leaves_from_some opts source file laws input old read now all.0 result (λ other. (all.1.0 other).1) all.1.1);
       untaken = did.untaken;
