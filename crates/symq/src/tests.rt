@@ -9,6 +9,11 @@ use std::test::Fail;
 
 const FIRST: &str = "MODULE Linux x86 ffff0000 bar\nFUNC 1000 30 10 another func\n";
 
+/// The words that ask for `/a.sym`.
+const WORDS: &[&str] = &["breakpad", "/a.sym"];
+
+const USAGE: &str = "usage: symq [OPTION] KIND [ARG]...\n";
+
 const ADDRESSES: &str = "1010\n1030\n";
 
 const ANSWERS: &str =
@@ -18,8 +23,8 @@ const ANSWERS: &str =
 const NOT_BUILT: &str =
     "MODULE Linux x86 ffff0000 bar\nFILE 53 bar.c\nPUBLIC 1234 10 some public\nFUNC 1000 30 10 another func\n1000 30 7 53\n";
 
-/// What a test's run is given: the call of files, input and output that fails, if one does, counted from 1.
-#[derive(Drop)]
+/// The calls of files, input and output that fail, counted from 1; 0 where none does.
+#[derive(Clone, Copy)]
 struct Faults {
     files: u64,
     input: u64,
@@ -32,6 +37,35 @@ const NO_FAULTS: Faults = Faults {
     output: 0,
 };
 
+/// What a run is given, and how it is to end.
+#[derive(Clone, Copy)]
+struct Row<'a> {
+    words: &'a [&'a str],
+    /// The text of the file at `/a.sym`.
+    file: &'a str,
+    input: &'a [u8],
+    faults: Faults,
+    status: Status,
+    written: &'a str,
+}
+
+/// A run over the first file.
+fn over_first<'a>(
+    words: &'a [&'a str],
+    input: &'a str,
+    status: Status,
+    written: &'a str,
+) -> Row<'a> {
+    Row {
+        words,
+        file: FIRST,
+        input: input.as_bytes(),
+        faults: NO_FAULTS,
+        status,
+        written,
+    }
+}
+
 /// Files with one text at `/a.sym`, and nothing that may be read at `/denied`.
 fn files_with(alloc: Global, text: &[u8]) -> Result<MemFiles, Fail> {
     let mut files = MemFiles::new(alloc, 7);
@@ -40,30 +74,22 @@ fn files_with(alloc: Global, text: &[u8]) -> Result<MemFiles, Fail> {
     Ok(files)
 }
 
-fn check(
-    rt: &impl Abort,
-    alloc: Global,
-    words: &[&str],
-    text: &[u8],
-    input: &[u8],
-    faults: &Faults,
-    status: Status,
-    written: &str,
-) -> Result<(), Fail> {
-    let mut all = Vec::new(alloc);
-    for word in words {
-        all.push(String::from_str(alloc, word)?)?;
+fn check(rt: &impl Abort, alloc: Global, row: Row<'_>) -> Result<(), Fail> {
+    let mut words = Vec::new(alloc);
+    for word in row.words {
+        words.push(String::from_str(alloc, word)?)?;
     }
-    let mut files = files_with(alloc, text)?;
-    if faults.files != 0 {
-        files.fail_call(alloc, faults.files)?;
+    let mut files = files_with(alloc, row.file.as_bytes())?;
+    if row.faults.files != 0 {
+        files.fail_call(alloc, row.faults.files)?;
     }
-    let mut from = MemIn::new(Vec::from_slice(alloc, input)?);
-    from.fail_call(faults.input);
+    let mut from = MemIn::new(Vec::from_slice(alloc, row.input)?);
+    from.fail_call(row.faults.input);
     let mut to = MemOut::new(alloc);
-    to.fail_call(faults.output);
-    let ended = run(alloc, all.as_slice(), &mut from, &mut to, &mut files);
-    assert_eq!(rt; ended, status, "{written}");
+    to.fail_call(row.faults.output);
+    let ended = run(alloc, words.as_slice(), &mut from, &mut to, &mut files);
+    let written = row.written;
+    assert_eq!(rt; ended, row.status, "{written}");
     assert!(rt; to.written() == written.as_bytes(), "{written}");
     Ok(())
 }
@@ -90,17 +116,10 @@ fn answers_addresses_in_their_order(rt: HostRuntime) -> Result<(), Fail> {
         ),
         (FIRST, "", ""),
     ];
-    for (text, input, written) in rows {
-        check(
-            &rt,
-            rt.alloc(),
-            &["breakpad", "/a.sym"],
-            text.as_bytes(),
-            input.as_bytes(),
-            &NO_FAULTS,
-            Status::Done,
-            written,
-        )?;
+    for (file, input, written) in rows {
+        let mut row = over_first(WORDS, input, Status::Done, written);
+        row.file = file;
+        check(&rt, rt.alloc(), row)?;
     }
     Ok(())
 }
@@ -116,17 +135,17 @@ fn names_the_refusal(rt: HostRuntime) -> Result<(), Fail> {
         ("", FIRST, ADDRESSES, "refused: NotFound\n"),
         ("/denied", FIRST, ADDRESSES, "refused: PermissionDenied\n"),
     ];
-    for (path, text, input, written) in rows {
-        check(
-            &rt,
-            rt.alloc(),
-            &["breakpad", path],
-            text.as_bytes(),
-            input.as_bytes(),
-            &NO_FAULTS,
-            Status::Refused,
+    for (path, file, input, written) in rows {
+        let words = ["breakpad", path];
+        let row = Row {
+            words: &words,
+            file,
+            input: input.as_bytes(),
+            faults: NO_FAULTS,
+            status: Status::Refused,
             written,
-        )?;
+        };
+        check(&rt, rt.alloc(), row)?;
     }
     Ok(())
 }
@@ -134,48 +153,16 @@ fn names_the_refusal(rt: HostRuntime) -> Result<(), Fail> {
 /// Words that are no command, and inputs that are no addresses.
 #[test]
 fn names_bad_words_and_bad_input(rt: HostRuntime) -> Result<(), Fail> {
-    let usage = "usage: symq [OPTION] KIND [ARG]...\n";
     let alloc = rt.alloc();
-    check(
-        &rt,
-        alloc,
+    let commands: [&[&str]; 4] = [
         &[],
-        FIRST.as_bytes(),
-        b"",
-        &NO_FAULTS,
-        Status::Usage,
-        usage,
-    )?;
-    check(
-        &rt,
-        alloc,
         &["breakpad", "-"],
-        FIRST.as_bytes(),
-        b"",
-        &NO_FAULTS,
-        Status::Usage,
-        usage,
-    )?;
-    check(
-        &rt,
-        alloc,
         &["breakpad", "/a.sym", "x"],
-        FIRST.as_bytes(),
-        b"",
-        &NO_FAULTS,
-        Status::Usage,
-        usage,
-    )?;
-    check(
-        &rt,
-        alloc,
         &["elf", "/a.sym"],
-        FIRST.as_bytes(),
-        b"",
-        &NO_FAULTS,
-        Status::Usage,
-        usage,
-    )?;
+    ];
+    for words in commands {
+        check(&rt, alloc, over_first(words, "", Status::Usage, USAGE))?;
+    }
     for input in [
         "10 \n",
         "\n",
@@ -189,12 +176,7 @@ fn names_bad_words_and_bad_input(rt: HostRuntime) -> Result<(), Fail> {
         check(
             &rt,
             alloc,
-            &["breakpad", "/a.sym"],
-            FIRST.as_bytes(),
-            input.as_bytes(),
-            &NO_FAULTS,
-            Status::Input,
-            "input: not built\n",
+            over_first(WORDS, input, Status::Input, "input: not built\n"),
         )?;
     }
     Ok(())
@@ -203,44 +185,14 @@ fn names_bad_words_and_bad_input(rt: HostRuntime) -> Result<(), Fail> {
 /// A call that fails ends the run, and nothing is written of what was to come.
 #[test]
 fn ends_where_a_call_fails(rt: HostRuntime) -> Result<(), Fail> {
-    let rows = [
-        Faults {
-            files: 1,
-            input: 0,
-            output: 0,
-        },
-        Faults {
-            files: 2,
-            input: 0,
-            output: 0,
-        },
-        Faults {
-            files: 0,
-            input: 1,
-            output: 0,
-        },
-        Faults {
-            files: 0,
-            input: 2,
-            output: 0,
-        },
-        Faults {
-            files: 0,
-            input: 0,
-            output: 1,
-        },
-    ];
-    for faults in rows {
-        check(
-            &rt,
-            rt.alloc(),
-            &["breakpad", "/a.sym"],
-            FIRST.as_bytes(),
-            ADDRESSES.as_bytes(),
-            &faults,
-            Status::Fault,
-            "",
-        )?;
+    for (files, input, output) in [(1, 0, 0), (2, 0, 0), (0, 1, 0), (0, 2, 0), (0, 0, 1)] {
+        let mut row = over_first(WORDS, ADDRESSES, Status::Fault, "");
+        row.faults = Faults {
+            files,
+            input,
+            output,
+        };
+        check(&rt, rt.alloc(), row)?;
     }
     Ok(())
 }
@@ -248,36 +200,14 @@ fn ends_where_a_call_fails(rt: HostRuntime) -> Result<(), Fail> {
 /// What a run doesn't come to can't fail: the words come before the input, and the input before the file.
 #[test]
 fn stops_before_the_next_call(rt: HostRuntime) -> Result<(), Fail> {
-    let faults = Faults {
-        files: 1,
-        input: 1,
-        output: 0,
-    };
-    check(
-        &rt,
-        rt.alloc(),
-        &["gsym", "/a.sym"],
-        FIRST.as_bytes(),
-        ADDRESSES.as_bytes(),
-        &faults,
-        Status::Usage,
-        "usage: symq [OPTION] KIND [ARG]...\n",
-    )?;
-    let faults = Faults {
-        files: 1,
-        input: 0,
-        output: 0,
-    };
-    check(
-        &rt,
-        rt.alloc(),
-        &["breakpad", "/a.sym"],
-        FIRST.as_bytes(),
-        b"10 \n",
-        &faults,
-        Status::Input,
-        "input: not built\n",
-    )
+    let words = ["gsym", "/a.sym"];
+    let mut row = over_first(&words, ADDRESSES, Status::Usage, USAGE);
+    row.faults.files = 1;
+    row.faults.input = 1;
+    check(&rt, rt.alloc(), row)?;
+    let mut row = over_first(WORDS, "10 \n", Status::Input, "input: not built\n");
+    row.faults.files = 1;
+    check(&rt, rt.alloc(), row)
 }
 
 /// The longest input is read whole, and one byte more is too long.
@@ -285,25 +215,11 @@ fn stops_before_the_next_call(rt: HostRuntime) -> Result<(), Fail> {
 fn reads_the_longest_input(rt: HostRuntime) -> Result<(), Fail> {
     let alloc = rt.alloc();
     let mut input = vec![in alloc; b'\n'; 16_777_216]?;
-    check(
-        &rt,
-        alloc,
-        &["breakpad", "/a.sym"],
-        FIRST.as_bytes(),
-        input.as_slice(),
-        &NO_FAULTS,
-        Status::Input,
-        "input: not built\n",
-    )?;
+    let mut row = over_first(WORDS, "", Status::Input, "input: not built\n");
+    row.input = input.as_slice();
+    check(&rt, alloc, row)?;
     input.push(b'\n')?;
-    check(
-        &rt,
-        alloc,
-        &["breakpad", "/a.sym"],
-        FIRST.as_bytes(),
-        input.as_slice(),
-        &NO_FAULTS,
-        Status::Input,
-        "input: too long\n",
-    )
+    let mut row = over_first(WORDS, "", Status::Input, "input: too long\n");
+    row.input = input.as_slice();
+    check(&rt, alloc, row)
 }
