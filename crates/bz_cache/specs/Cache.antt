@@ -44,29 +44,29 @@ pub record Cache : Type 0 where
 
 -- whether the stamp is among these
 abbrev pub is_among : List Stamp → Stamp → Bool
-is_among stamps s = list_any (λ t. stamp_eq t s) stamps
+is_among stamps stamp = list_any (λ other. stamp_eq other stamp) stamps
 
 -- a path names its current stamp and its earlier ones
 abbrev pub names : PathState → Stamp → Bool
-names e s = stamp_eq e.current s || is_among e.earlier s
+names state stamp = stamp_eq state.current stamp || is_among state.earlier stamp
 
 -- the current stamp of the path, if it is held
 abbrev pub current_of : Cache → List ℕ → Option Stamp
-current_of c p = option_map (λ e. e.current) (map.get c.paths p)
+current_of cache path = option_map (λ state. state.current) (map.get cache.paths path)
 
 -- the kept bytes of the path's current stamp
 abbrev pub kept_at : Cache → List ℕ → Option (List ℕ)
-kept_at c p = option_and_then (λ s. map.get c.kept s) (current_of c p)
+kept_at cache path = option_and_then (λ stamp. map.get cache.kept stamp) (current_of cache path)
 
 -- the path is held
 abbrev pub is_held : Cache → List ℕ → Bool
-is_held c p = is_some (map.get c.paths p)
+is_held cache path = is_some (map.get cache.paths path)
 
 -- the stamp is kept exactly while some path names it, and every kept version is in the format
-pub record Consistent (test : List ℕ → Option Error) (c : Cache) : Type 0 where
-  pub needed : (s : Stamp) → IsSome (map.get c.kept s) → (p : List ℕ) × (e : PathState) × (map.get c.paths p ≡ Some e) × (names e s ≡ true)
-  pub held : (p : List ℕ) (e : PathState) (s : Stamp) → map.get c.paths p ≡ Some e → names e s ≡ true → IsSome (map.get c.kept s)
-  pub formed : (s : Stamp) (b : List ℕ) → map.get c.kept s ≡ Some b → test b ≡ None
+pub record Consistent (test : List ℕ → Option Error) (cache : Cache) : Type 0 where
+  pub needed : (stamp : Stamp) → IsSome (map.get cache.kept stamp) → (path : List ℕ) × (state : PathState) × (map.get cache.paths path ≡ Some state) × (names state stamp ≡ true)
+  pub held : (path : List ℕ) (state : PathState) (stamp : Stamp) → map.get cache.paths path ≡ Some state → names state stamp ≡ true → IsSome (map.get cache.kept stamp)
+  pub formed : (stamp : Stamp) (bytes : List ℕ) → map.get cache.kept stamp ≡ Some bytes → test bytes ≡ None
 
 -- a cache that keeps nothing
 abbrev pub new_cache : Bool → Cache
@@ -74,23 +74,23 @@ new_cache reload = record { reload = reload; kept = map.empty; paths = map.empty
 
 -- the paths, where this one has the pin if it is held
 abbrev pub with_pinned : Bool → Paths → List ℕ → Paths
-with_pinned pinned paths p = option_map_or (λ e. map.insert paths p (record e { pinned = pinned })) (map.get paths p) paths
+with_pinned pinned paths path = option_map_or (λ state. map.insert paths path (record state { pinned = pinned })) (map.get paths path) paths
 
 -- the cache, where the path has the pin if it is held
 abbrev pub with_pin : Bool → Cache → List ℕ → Cache
-with_pin pinned c p = record c { paths = with_pinned pinned c.paths p }
+with_pin pinned cache path = record cache { paths = with_pinned pinned cache.paths path }
 
 -- caches can be kept in the model of a value
 abbrev pub coded_state : Coded PathState
 coded_state =
     code_by (Stamp × (Bool × List Stamp)) (coded× coded_stamp (coded× coded_bool (coded_list coded_stamp)))
-    (λ e. (e.current, (e.pinned, e.earlier)))
-    (λ p. record { current = p.0; pinned = p.1.0; earlier = p.1.1 })
+    (λ state. (state.current, (state.pinned, state.earlier)))
+    (λ parts. record { current = parts.0; pinned = parts.1.0; earlier = parts.1.1 })
     (λ _. refl)
 
 abbrev pub coded_cache : Coded Cache
 coded_cache =
     code_by (Bool × (Kept × Paths)) (coded× coded_bool (coded× (map.code coded_stamp (coded_list coded_ℕ)) (map.code (coded_list coded_ℕ) coded_state)))
-    (λ c. (c.reload, (c.kept, c.paths)))
-    (λ p. record { reload = p.0; kept = p.1.0; paths = p.1.1 })
+    (λ cache. (cache.reload, (cache.kept, cache.paths)))
+    (λ parts. record { reload = parts.0; kept = parts.1.0; paths = parts.1.1 })
     (λ _. refl)

@@ -7,8 +7,8 @@ use Rattle.bz_cache.specs.Cache.{Kept}
 
 -- every path of the world that is present with a kept stamp has the kept bytes
 abbrev pub Coherent : Kept → World → Type 0
-Coherent kept w = (p : List ℕ) (s : Stamp) (b k : List ℕ) → entry_at w p ≡ Some (Present s b) → map.get kept s ≡ Some k → b ≡ k
+Coherent kept world = (path : List ℕ) (stamp : Stamp) (bytes kept_bytes : List ℕ) → entry_at world path ≡ Some (Present stamp bytes) → map.get kept stamp ≡ Some kept_bytes → bytes ≡ kept_bytes
 
 -- the kept versions cohere with each of the worlds
 abbrev pub CoherentWithAll : Kept → List World → Type 0
-CoherentWithAll kept worlds = (w : World) → Contains worlds w → Coherent kept w
+CoherentWithAll kept worlds = (world : World) → Contains worlds world → Coherent kept world

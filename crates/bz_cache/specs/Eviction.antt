@@ -7,12 +7,12 @@ use Rattle.bz_cache.specs.Cache.{Cache, Paths, names}
 
 -- whether some path names the stamp
 abbrev pub is_named : Paths → Stamp → Bool
-is_named paths s = list_any (λ e. names e.1 s) (map.entries paths)
+is_named paths stamp = list_any (λ entry. names entry.1 stamp) (map.entries paths)
 
 -- the cache once the path is forgotten: only versions that another path names stay kept
 abbrev pub evicted : Cache → List ℕ → Cache
-evicted c p = record { reload = c.reload; kept = map.retain_keys c.kept (is_named (map.remove c.paths p)); paths = map.remove c.paths p }
+evicted cache path = record { reload = cache.reload; kept = map.retain_keys cache.kept (is_named (map.remove cache.paths path)); paths = map.remove cache.paths path }
 
 -- whether some kept version is named by no other path
 abbrev pub evicts : Cache → List ℕ → Bool
-evicts c p = list_any (λ e. not (is_named (map.remove c.paths p) e.0)) (map.entries c.kept)
+evicts cache path = list_any (λ entry. not (is_named (map.remove cache.paths path) entry.0)) (map.entries cache.kept)

@@ -11,74 +11,74 @@ use Rattle.bz_cache.specs.View.{fixed, bytes_at}
 
 -- the earlier stamps with one more, if it isn't there
 abbrev pub with_earlier : List Stamp → Stamp → List Stamp
-with_earlier earlier s = cond (is_among earlier s) earlier (earlier ++ s ∷ [])
+with_earlier earlier stamp = cond (is_among earlier stamp) earlier (earlier ++ stamp ∷ [])
 
 -- the path seen with the stamp: unpinned, the stamp current, and a former current stamp other than it among the earlier ones
 abbrev pub moved : Stamp → Option PathState → PathState
-moved s None = record { current = s; pinned = false; earlier = [] }
-moved s (Some e) = cond (stamp_eq e.current s) (record e { pinned = false }) (record { current = s; pinned = false; earlier = with_earlier e.earlier e.current })
+moved stamp None = record { current = stamp; pinned = false; earlier = [] }
+moved stamp (Some state) = cond (stamp_eq state.current stamp) (record state { pinned = false }) (record { current = stamp; pinned = false; earlier = with_earlier state.earlier state.current })
 
 -- the cache once the path is seen with the stamp of the version
 abbrev pub named : Cache → List ℕ → Stamp → List ℕ → Cache
-named c p s v = record { reload = c.reload; kept = map.insert c.kept s v; paths = map.insert c.paths p (moved s (map.get c.paths p)) }
+named cache path stamp version = record { reload = cache.reload; kept = map.insert cache.kept stamp version; paths = map.insert cache.paths path (moved stamp (map.get cache.paths path)) }
 
 -- a version in the format is answered and taken in, another is refused
 abbrev pub by_test : Cache → List ℕ → Stamp → List ℕ → Option Error → Result (List ℕ) Error × Cache
-by_test c p s v None = (Ok v, named c p s v)
-by_test c p s v (Some e) = (Err e, c)
+by_test cache path stamp version None = (Ok version, named cache path stamp version)
+by_test cache path stamp version (Some refusal) = (Err refusal, cache)
 
 -- a path that isn't fixed answers by what lies there; where its stamp is kept, by the kept version
 abbrev pub by_entry : (List ℕ → Option Error) → Cache → List ℕ → Option Entry → Result (List ℕ) Error × Cache
-by_entry test c p None = (Err errors.NotFound, c)
-by_entry test c p (Some Denied) = (Err errors.PermissionDenied, c)
-by_entry test c p (Some (Present s b)) = by_test c p s (unwrap_or (map.get c.kept s) b) (test (unwrap_or (map.get c.kept s) b))
+by_entry test cache path None = (Err errors.NotFound, cache)
+by_entry test cache path (Some Denied) = (Err errors.PermissionDenied, cache)
+by_entry test cache path (Some (Present stamp bytes)) = by_test cache path stamp (unwrap_or (map.get cache.kept stamp) bytes) (test (unwrap_or (map.get cache.kept stamp) bytes))
 
 -- a fixed path answers by the kept version of its current stamp
 abbrev pub by_fixed : (List ℕ → Option Error) → Cache → List ℕ → Option Entry → Option Stamp → Result (List ℕ) Error × Cache
-by_fixed test c p there (Some s) = (Ok (bytes_at c s), c)
-by_fixed test c p there None = by_entry test c p there
+by_fixed test cache path there (Some stamp) = (Ok (bytes_at cache stamp), cache)
+by_fixed test cache path there None = by_entry test cache path there
 
 -- the answer and the new cache of a look at the path, where the world has `there`
 abbrev pub look : (List ℕ → Option Error) → Cache → List ℕ → Option Entry → Result (List ℕ) Error × Cache
-look test c p there = by_fixed test c p there (fixed c p)
+look test cache path there = by_fixed test cache path there (fixed cache path)
 
 -- whether what lies there is a version whose stamp isn't kept
 abbrev pub is_new : Cache → Option Entry → Bool
-is_new c None = false
-is_new c (Some Denied) = false
-is_new c (Some (Present s b)) = not (is_some (map.get c.kept s))
+is_new cache None = false
+is_new cache (Some Denied) = false
+is_new cache (Some (Present stamp bytes)) = not (is_some (map.get cache.kept stamp))
 
 -- whether a look reads the file: the path isn't fixed, and what lies there isn't kept
 abbrev pub will_open : Cache → List ℕ → Option Entry → Bool
-will_open c p there = not (is_some (fixed c p)) && is_new c there
+will_open cache path there = not (is_some (fixed cache path)) && is_new cache there
 
 -- the path is held, and what lies there has its current stamp
-pub record IsUnmoved (c : Cache) (p : List ℕ) (there : Option Entry) : Type 0 where
+pub record IsUnmoved (cache : Cache) (path : List ℕ) (there : Option Entry) : Type 0 where
   pub state : PathState
   pub bytes : List ℕ
-  pub held : map.get c.paths p ≡ Some state
+  pub held : map.get cache.paths path ≡ Some state
   pub present : there ≡ Some (Present state.current bytes)
 
 -- the bytes are those kept for the path's current stamp, and they are in the format
 abbrev pub IsKeptAt : (List ℕ → Option Error) → Cache → List ℕ → List ℕ → Type 0
-IsKeptAt test c p bytes = (kept_at c p ≡ Some bytes) × (test bytes ≡ None)
+IsKeptAt test cache path bytes = (kept_at cache path ≡ Some bytes) × (test bytes ≡ None)
 
 -- something that may lie there gives a path that isn't fixed this answer, and leaves this cache
 abbrev pub IsSomeEntry : (List ℕ → Option Error) → Cache → Cache → List ℕ → List ℕ → Type 0
-IsSomeEntry test old new p bytes = (there : Option Entry) × (by_entry test old p there ≡ (Ok bytes, new))
+IsSomeEntry test old new path bytes = (there : Option Entry) × (by_entry test old path there ≡ (Ok bytes, new))
 
 -- some look at the path has this answer and leaves this cache
 abbrev pub IsSomeLook : (List ℕ → Option Error) → Cache → Cache → List ℕ → List ℕ → Type 0
-IsSomeLook test old new p bytes = (there : Option Entry) × (look test old p there ≡ (Ok bytes, new))
+IsSomeLook test old new path bytes = (there : Option Entry) × (look test old path there ≡ (Ok bytes, new))
 
 -- what an answered look lends and leaves: the kept bytes of the path's current stamp, and the cache after a look at what
 -- lies there where that is told; whatever is told, a consistent cache after some look, and for a fixed path the cache as it
 -- was
-pub record Lends (test : List ℕ → Option Error) (old new : Cache) (p bytes : List ℕ) (in_view : Option World) : Type 0 where
-  pub kept : IsKeptAt test new p bytes
-  pub state : Told in_view (λ w. new ≡ (look test old p (entry_at w p)).1)
-  pub some : IsSomeLook test old new p bytes
-  pub unchanged : IsSome (fixed old p) → new ≡ old
+pub record Lends (test : List ℕ → Option Error) (old new : Cache) (path bytes : List ℕ) (in_view : Option World) : Type 0 where
+  pub kept : IsKeptAt test new path bytes
+  pub state : Told in_view (λ world. new ≡ (look test old path (entry_at world path)).1)
+  pub some : IsSomeLook test old new path bytes
+  pub unchanged : IsSome (fixed old path) → new ≡ old
   pub consistent : Consistent test new
 
 -- the count of opens once a file was opened or not

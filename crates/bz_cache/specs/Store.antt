@@ -11,12 +11,12 @@ use Rattle.bz_cache.specs.Cache.{Kept, Paths, PathState}
 
 -- the bytes of each version, by its stamp
 abbrev pub kept_of : {T A : Type 0} → (T → List ℕ) → BTreeMap Stamp (Rc T A) → Kept
-kept_of bytes_of m = from_entries (map (λ e. (e.0, bytes_of e.1.value)) m.entries)
+kept_of bytes_of entries = from_entries (map (λ entry. (entry.0, bytes_of entry.1.value)) entries.entries)
 
 -- what a path's entry says
 abbrev pub path_state : PathEntry → PathState
-path_state e = record { current = e.current; pinned = e.pinned; earlier = e.earlier.items }
+path_state entry = record { current = entry.current; pinned = entry.pinned; earlier = entry.earlier.items }
 
 -- the state of each path, by its bytes
 abbrev pub paths_of : {A : Type 0} → BTreeMap (String A) PathEntry → Paths
-paths_of m = from_entries (map (λ e. (string_bytes e.0, path_state e.1)) m.entries)
+paths_of entries = from_entries (map (λ entry. (string_bytes entry.0, path_state entry.1)) entries.entries)

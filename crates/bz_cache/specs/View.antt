@@ -15,34 +15,34 @@ pub data View : Type 0 where
 
 -- the path's current stamp, if the path is fixed: held, and pinned or not looked at anew
 abbrev pub fixed : Cache → List ℕ → Option Stamp
-fixed c p = option_and_then (λ e. cond (e.pinned || not c.reload) (Some e.current) None) (map.get c.paths p)
+fixed cache path = option_and_then (λ state. cond (state.pinned || not cache.reload) (Some state.current) None) (map.get cache.paths path)
 
 -- the kept bytes of the stamp
 abbrev pub bytes_at : Cache → Stamp → List ℕ
-bytes_at c s = unwrap_or (map.get c.kept s) []
+bytes_at cache stamp = unwrap_or (map.get cache.kept stamp) []
 
 -- what the world shows at a path
 abbrev pub shown : Option Entry → View
 shown None = Absent
 shown (Some Denied) = Hidden
-shown (Some (Present s b)) = Shown b
+shown (Some (Present stamp bytes)) = Shown bytes
 
 -- a fixed path shows the kept bytes of its current stamp, any other path what the world holds there
 abbrev pub by_fixed_view : Cache → Option Entry → Option Stamp → View
-by_fixed_view c there (Some s) = Shown (bytes_at c s)
-by_fixed_view c there None = shown there
+by_fixed_view cache there (Some stamp) = Shown (bytes_at cache stamp)
+by_fixed_view cache there None = shown there
 
 -- the version in view at the path
 abbrev pub view : Cache → World → List ℕ → View
-view c w p = by_fixed_view c (entry_at w p) (fixed c p)
+view cache world path = by_fixed_view cache (entry_at world path) (fixed cache path)
 
 -- bytes in the format are answered, others refused as the test says
 abbrev pub by_format : List ℕ → Option Error → Result (List ℕ) Error
-by_format b None = Ok b
-by_format b (Some e) = Err e
+by_format bytes None = Ok bytes
+by_format bytes (Some refusal) = Err refusal
 
 -- the answer that a version in view gives
 abbrev pub bytes_of_view : (List ℕ → Option Error) → View → Result (List ℕ) Error
 bytes_of_view test Absent = Err errors.NotFound
 bytes_of_view test Hidden = Err errors.PermissionDenied
-bytes_of_view test (Shown b) = by_format b (test b)
+bytes_of_view test (Shown bytes) = by_format bytes (test bytes)

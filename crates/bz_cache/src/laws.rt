@@ -12,15 +12,15 @@ ghost use Rattle.bz_cache.specs.View.{Shown, view, bytes_of_view};
 
 /// Where the kept versions cohere with the world in view, a look answers by the version in view.
 pub fn look_answers_by_view()
-    ensures answer { (test : List ℕ → Option Error) (c : Cache) (w : World) (p : List ℕ) → Consistent test c → Coherent c.kept w → (look test c p (entry_at w p)).0 ≡ bytes_of_view test (view c w p) }
-    ensures shown { (test : List ℕ → Option Error) (c : Cache) (w : World) (p v : List ℕ) → Coherent c.kept w → (look test c p (entry_at w p)).0 ≡ Ok v → view c w p ≡ Shown v }
+    ensures answer { (test : List ℕ → Option Error) (cache : Cache) (world : World) (path : List ℕ) → Consistent test cache → Coherent cache.kept world → (look test cache path (entry_at world path)).0 ≡ bytes_of_view test (view cache world path) }
+    ensures shown { (test : List ℕ → Option Error) (cache : Cache) (world : World) (path version : List ℕ) → Coherent cache.kept world → (look test cache path (entry_at world path)).0 ≡ Ok version → view cache world path ≡ Shown version }
 {}
 
 /// Over worlds that agree, kept versions cohere with all of them from a new cache on: through looks at
 /// any of the worlds, evictions and pins.
 pub fn stays_coherent()
     ensures new { (reload : Bool) (worlds : List World) → CoherentWithAll (new_cache reload).kept worlds }
-    ensures look { (test : List ℕ → Option Error) (c : Cache) (worlds : List World) (w : World) (p : List ℕ) → Agree worlds → Contains worlds w → CoherentWithAll c.kept worlds → CoherentWithAll (look test c p (entry_at w p)).1.kept worlds }
-    ensures evicted { (c : Cache) (worlds : List World) (p : List ℕ) → CoherentWithAll c.kept worlds → CoherentWithAll (evicted c p).kept worlds }
-    ensures pinned { (pinned : Bool) (c : Cache) (worlds : List World) (p : List ℕ) → CoherentWithAll c.kept worlds → CoherentWithAll (with_pin pinned c p).kept worlds }
+    ensures look { (test : List ℕ → Option Error) (cache : Cache) (worlds : List World) (world : World) (path : List ℕ) → Agree worlds → Contains worlds world → CoherentWithAll cache.kept worlds → CoherentWithAll (look test cache path (entry_at world path)).1.kept worlds }
+    ensures evicted { (cache : Cache) (worlds : List World) (path : List ℕ) → CoherentWithAll cache.kept worlds → CoherentWithAll (evicted cache path).kept worlds }
+    ensures pinned { (pinned : Bool) (cache : Cache) (worlds : List World) (path : List ℕ) → CoherentWithAll cache.kept worlds → CoherentWithAll (with_pin pinned cache path).kept worlds }
 {}
