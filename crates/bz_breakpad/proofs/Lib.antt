@@ -1,6 +1,10 @@
-pub mod CarriageReturnLemmas
-pub mod FieldLemmas
-pub mod FormLemmas
-pub mod GrammarLemmas
-pub mod SortedLemmas
-pub mod RecordLemmas
+pub mod Apart
+pub mod Bytes
+pub mod ChoiceLaws
+pub mod FormLaws
+pub mod Kept
+pub mod Pieces
+pub mod Runs
+pub mod Turns
+pub mod WalkKept
+pub mod WalkLaws

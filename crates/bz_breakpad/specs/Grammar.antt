@@ -1,86 +1,76 @@
--- Which bytes are a Breakpad file, and of which table: each line is a record, its tag, separators and fields set side by
--- side. The records read so far are MODULE, on the first line alone, and FUNC.
-use Rattle.std.specs.Prelude.{◌≡◌, ℕ, ◌<◌, List, [], ◌∷◌, ◌++◌, length, drop, codes, Option, Some, None, filter_map}
-use Rattle.std.specs.List.{AllByRecursion, AllZip}
-use Rattle.bz_base.specs.Byte.{carriage_return, HasNo}
+-- Which bytes are a Breakpad file, and what it says: each line is blank, or a record by itself, or one under another.
+-- After Breakpad's documentation of its symbol files; where blank lines and white space may stand is this crate's choice.
+use Rattle.std.specs.Prelude.{◌≡◌, ℕ, ◌<◌, Bool, true, false, List, [], ◌∷◌, length, drop, Option, Some, None}
+use Rattle.std.specs.List.{AllByRecursion, filter_map}
 use Rattle.bz_base.specs.Line.{AreEnded}
-use Rattle.bz_base.specs.Number.{IsHex}
-use Rattle.bz_breakpad.specs.Field.{IsSeparator, IsName, IsWord}
-use Rattle.bz_breakpad.specs.Table.{Function, Table}
+use Rattle.bz_breakpad.specs.Byte.{is_white}
+use Rattle.bz_breakpad.specs.Choice.{One}
+use Rattle.bz_breakpad.specs.Form.{AllPass}
+use Rattle.bz_breakpad.specs.Records.{TOP}
+use Rattle.bz_breakpad.specs.Says.{module_of, table_of}
+use Rattle.bz_breakpad.specs.Table.{Table}
+use Rattle.bz_breakpad.specs.Walk.{Context, Record, context_of, IsText, IsRecord}
+use Rattle.bz_breakpad.specs.Walk.Context.{Outside}
+use Rattle.bz_breakpad.specs.Walk.Record.{Top, OfFunc, OfCfi}
 
--- a record of a file
-pub data Record : Type 0 where
-  Module : List ℕ → Record
-  Func : Function → Record
+-- what a line is
+pub data Role : Type 0 where
+  Blank : Role
+  Is : Record → Role
 
--- MODULE system processor id name
-pub record IsModule (line name : List ℕ) : Type 0 where
-  pub tag_end : List ℕ
-  pub system : List ℕ
-  pub system_end : List ℕ
-  pub processor : List ℕ
-  pub processor_end : List ℕ
-  pub id : List ℕ
-  pub id_end : List ℕ
-  pub whole : line ≡ codes "MODULE" ++ (tag_end ++ (system ++ (system_end ++ (processor ++ (processor_end ++ (id ++ (id_end ++ name)))))))
-  pub tag_end_is : IsSeparator tag_end
-  pub system_is : IsWord system
-  pub system_end_is : IsSeparator system_end
-  pub processor_is : IsWord processor
-  pub processor_end_is : IsSeparator processor_end
-  pub id_is : IsWord id
-  pub id_end_is : IsSeparator id_end
-  pub name_is : IsName name
+-- white space may stand before a line where the line before it is blank, or a record by itself; the roles of the lines
+-- before are listed with the last of them first
+abbrev pub is_free : List Role → Bool
+is_free [] = false
+is_free (Blank ∷ before) = true
+is_free (Is (Top one) ∷ before) = true
+is_free (Is (OfFunc one) ∷ before) = false
+is_free (Is OfCfi ∷ before) = false
 
--- FUNC address size parameter-size name
-pub record IsFunc (line : List ℕ) (f : Function) : Type 0 where
-  pub tag_end : List ℕ
-  pub start : List ℕ
-  pub start_end : List ℕ
-  pub size : List ℕ
-  pub size_end : List ℕ
-  pub parameter_size : List ℕ
-  pub parameter_size_end : List ℕ
-  pub whole : line ≡ codes "FUNC" ++ (tag_end ++ (start ++ (start_end ++ (size ++ (size_end ++ (parameter_size ++ (parameter_size_end ++ f.name)))))))
-  pub tag_end_is : IsSeparator tag_end
-  pub start_is : IsHex 16 start f.start
-  pub start_end_is : IsSeparator start_end
-  pub size_is : IsHex 8 size f.size
-  pub size_end_is : IsSeparator size_end
-  pub parameter_size_is : IsHex 8 parameter_size f.parameter_size
-  pub parameter_size_end_is : IsSeparator parameter_size_end
-  pub name_is : IsName f.name
+-- what may stand under the owner of a line, which is the last record by itself before it
+abbrev pub under_owner : List Role → Context
+under_owner [] = Outside
+under_owner (Is (Top one) ∷ before) = context_of one
+under_owner (Blank ∷ before) = under_owner before
+under_owner (Is (OfFunc one) ∷ before) = under_owner before
+under_owner (Is OfCfi ∷ before) = under_owner before
 
--- the line has the form of the record
-abbrev pub IsRecord : List ℕ → Record → Type 0
-IsRecord line (Module name) = IsModule line name
-IsRecord line (Func f) = IsFunc line f
+-- the line is a record: the text after white space, where that may stand, is one under the owner, or else one by itself
+pub record IsRecordLine (before : List Role) (line : List ℕ) (r : Record) : Type 0 where
+  pub text : List ℕ
+  pub text_is : IsText (is_free before) line text
+  pub record_is : IsRecord (under_owner before) text r
+
+-- the line has the role, after lines of these roles
+abbrev pub IsRole : List Role → List ℕ → Role → Type 0
+IsRole before line Blank = (is_free before ≡ true) × AllPass is_white line
+IsRole before line (Is r) = IsRecordLine before line r
+
+-- each line has its role, by the line and the roles of those before it
+abbrev pub AreRoles : List Role → List (List ℕ) → List Role → Type 0
+AreRoles before [] [] = Unit {0}
+AreRoles before (line ∷ lines) (role ∷ roles) = IsRole before line role × AreRoles (role ∷ before) lines roles
+AreRoles before _ _ = ⊥
+
+abbrev pub record_of : Role → Option Record
+record_of Blank = None
+record_of (Is r) = Some r
+
+-- the records among the roles
+abbrev pub records_of : List Role → List Record
+records_of roles = filter_map record_of roles
 
 abbrev pub IsNoModule : Record → Type 0
-IsNoModule (Module name) = ⊥
-IsNoModule (Func f) = Unit {0}
+IsNoModule r = module_of r ≡ None
 
--- the module is the one that the first record names
-abbrev pub module_of : List Record → Option (List ℕ)
-module_of [] = None
-module_of (Module name ∷ records) = Some name
-module_of (Func f ∷ records) = None
-
-abbrev pub function_of : Record → Option Function
-function_of (Module name) = None
-function_of (Func f) = Some f
-
--- the table that the records make
-abbrev pub table_of : List Record → Table
-table_of records = record { «module» = module_of records; functions = filter_map function_of records }
-
--- the bytes are a Breakpad file, of one line at least, and the table is what it says
-pub record Accepted (bytes : List ℕ) (table : Table) : Type 0 where
+-- the bytes are a Breakpad file of one line at least, with a MODULE record at its first line or nowhere; the table is
+-- what it says, and so many of its lines are records
+pub record Accepted (bytes : List ℕ) (table : Table) (count : ℕ) : Type 0 where
   pub lines : List (List ℕ)
-  pub records : List Record
+  pub roles : List Role
   pub some : 0 < length lines
   pub are_lines : AreEnded bytes lines
-  pub no_carriage_return : HasNo carriage_return bytes
-  pub are_records : AllZip IsRecord lines records
-  pub module_first : AllByRecursion IsNoModule (drop 1 records)
-  pub says : table ≡ table_of records
+  pub are_roles : AreRoles [] lines roles
+  pub module_first : AllByRecursion IsNoModule (drop 1 (records_of roles))
+  pub says : table ≡ table_of (records_of roles)
+  pub counts : count ≡ length (records_of roles)

@@ -1,98 +1,106 @@
--- The table of a Breakpad file, read from its front. That it is the table of the grammar is a law of this crate.
-use Rattle.std.specs.Prelude.{ℕ, Bool, true, false, not, ◌==◌, ◌&&◌, nat_lt, nat_eq, List, [], ◌∷◌, ◌++◌, length, drop, codes, Option, Some, None, option_map, if◌then◌else◌}
-use Rattle.std.specs.List.{list_any, prefix_len, starts_with}
-use Rattle.std.specs.Str.{is_utf8}
-use Rattle.bz_base.specs.Byte.{tab, carriage_return, space, is_blank, begins_with}
+-- The table of a Breakpad file, read from its front line by line. That it is the table of the grammar is a law of this
+-- crate.
+use Rattle.std.specs.Prelude.{ℕ, ◌+◌, Bool, false, ◌&&◌, nat_lt, List, [], ◌∷◌, ◌++◌, Option, Some, None, is_some, option_map, if◌then◌else◌}
 use Rattle.bz_base.specs.Line.{ended_lines}
-use Rattle.bz_base.specs.Number.{hex_at}
-use Rattle.bz_breakpad.specs.Field.{ends_word}
-use Rattle.bz_breakpad.specs.Grammar.{Record}
-use Rattle.bz_breakpad.specs.Grammar.Record.{Module, Func}
-use Rattle.bz_breakpad.specs.Table.{Function, Table}
+use Rattle.bz_breakpad.specs.Byte.{is_nothing}
+use Rattle.bz_breakpad.specs.Reads.{◌>>=◌}
+use Rattle.bz_breakpad.specs.Says.{Top, top_of, sub_of, module_of, file_of, origin_of, public_of, with_own}
+use Rattle.bz_breakpad.specs.Says.Top.{Func}
+use Rattle.bz_breakpad.specs.Names.{with_names}
+use Rattle.bz_breakpad.specs.Table.{Function, PublicSymbol, Table}
+use Rattle.bz_breakpad.specs.Walk as Walk
+use Rattle.bz_breakpad.specs.Walk.{Context, Record, context_after, free_after, record_at, text_at}
+use Rattle.bz_breakpad.specs.Walk.Context.{Outside}
+use Rattle.bz_breakpad.specs.Walk.Record.{OfFunc, OfCfi}
 
--- what is read next, where the first was there
-infixl 10 ◌>>=◌
-abbrev pub ◌>>=◌ : {A B : Type 0} → Option A → (A → Option B) → Option B
-None >>= f = None
-(Some x) >>= f = f x
+-- what has been read: the functions whose records are at their end, the one whose records are being read, the other
+-- records, and how many records there were
+pub record Reading : Type 0 where
+  pub «module» : Option (List ℕ)
+  pub closed : List Function
+  pub current : Option Function
+  pub files : List (ℕ × List ℕ)
+  pub origins : List (ℕ × List ℕ)
+  pub publics : List PublicSymbol
+  pub count : ℕ
 
--- the text after a tag
-unfoldable pub tag_at : List ℕ → List ℕ → Option (List ℕ)
-tag_at tag text = if starts_with nat_eq text tag then Some (drop (length tag) text) else None
+abbrev pub nothing_read : Reading
+nothing_read = record { «module» = None; closed = []; current = None; files = []; origins = []; publics = []; count = 0 }
 
--- the text after a separator
-unfoldable pub separator_at : List ℕ → Option (List ℕ)
-separator_at [] = None
-separator_at (b ∷ text) = if b == space then Some text else None
+abbrev pub listed : {A : Type 0} → Option A → List A
+listed None = []
+listed (Some x) = x ∷ []
 
--- how many bytes of a word stand in front
-abbrev pub word_len : List ℕ → ℕ
-word_len text = prefix_len (λ b. not (ends_word b)) text
+abbrev pub functions_read : Reading → List Function
+functions_read reading = reading.closed ++ listed reading.current
 
--- the text after a word
-unfoldable pub word_at : List ℕ → Option (List ℕ)
-word_at text =
-    if nat_lt 0 (word_len text) && not (begins_with (λ b. b == tab) text) then Some (drop (word_len text) text) else None
+-- the module, where the record names one
+abbrev pub module_with : Option (List ℕ) → Option (List ℕ) → Option (List ℕ)
+module_with «module» None = «module»
+module_with «module» (Some name) = Some name
 
--- the whole text as a name
-unfoldable pub name_at : List ℕ → Option (List ℕ)
-name_at text =
-    if not (begins_with is_blank text) && (not (list_any (λ b. b == carriage_return) text) && is_utf8 text)
-    then Some text
-    else None
+-- a record by itself ends the function before it
+abbrev pub closed_with : Reading → Record → List Function
+closed_with reading (Walk.Record.Top one) = functions_read reading
+closed_with reading (OfFunc one) = reading.closed
+closed_with reading OfCfi = reading.closed
 
--- the name in a MODULE record
-unfoldable pub module_at : List ℕ → Option (List ℕ)
-module_at line = do
-  tag_end ← tag_at (codes "MODULE") line
-  system ← separator_at tag_end
-  system_end ← word_at system
-  processor ← separator_at system_end
-  processor_end ← word_at processor
-  id ← separator_at processor_end
-  id_end ← word_at id
-  name ← separator_at id_end
-  name_at name
+abbrev pub begun : Top → Option Function
+begun (Func f) = Some f
+begun _ = None
 
--- the function of a FUNC record
-unfoldable pub func_at : List ℕ → Option Function
-func_at line = do
-  tag_end ← tag_at (codes "FUNC") line
-  start_text ← separator_at tag_end
-  start ← hex_at 16 start_text
-  size_text ← separator_at start.1
-  size ← hex_at 8 size_text
-  parameter_size_text ← separator_at size.1
-  parameter_size ← hex_at 8 parameter_size_text
-  name_text ← separator_at parameter_size.1
-  name ← name_at name_text
-  Some (record { start = start.0; size = size.0; parameter_size = parameter_size.0; name = name })
+abbrev pub current_with : Option Function → Record → Option Function
+current_with current (Walk.Record.Top one) = begun (top_of one)
+current_with current (OfFunc one) = option_map (λ f. with_own f (sub_of one ∷ [])) current
+current_with current OfCfi = current
 
--- the line's function, and else its module
-abbrev pub or_module : List ℕ → Option Function → Option Record
-or_module line (Some f) = Some (Func f)
-or_module line None = option_map Module (module_at line)
+abbrev pub publics_with : List PublicSymbol → Option PublicSymbol → List PublicSymbol
+publics_with publics None = publics
+publics_with publics (Some symbol) = publics ++ symbol ∷ []
 
--- the record of a line: only the first one may be a MODULE record
-unfoldable pub record_at : Bool → List ℕ → Option Record
-record_at true line = or_module line (func_at line)
-record_at false line = option_map Func (func_at line)
+-- one record more
+abbrev pub with_record : Reading → Record → Reading
+with_record reading r = record {
+  «module» = module_with reading.«module» (module_of r);
+  closed = closed_with reading r;
+  current = current_with reading.current r;
+  files = with_names reading.files (listed (file_of r));
+  origins = with_names reading.origins (listed (origin_of r));
+  publics = publics_with reading.publics (public_of r);
+  count = reading.count + 1;
+}
 
--- the table of no records
-abbrev pub empty_table : Table
-empty_table = record { «module» = None; functions = [] }
+-- one record more, unless it is a MODULE record and not the first
+abbrev pub next_read : Reading → Record → Option Reading
+next_read reading r = if is_some (module_of r) && nat_lt 0 reading.count then None else Some (with_record reading r)
 
--- the table with one record more
-abbrev pub with_record : Table → Record → Table
-with_record table (Module name) = record { «module» = Some name; functions = table.functions }
-with_record table (Func f) = record { «module» = table.«module»; functions = table.functions ++ f ∷ [] }
+-- what has been read, and then the lines
+abbrev pub lines_read : Context → Bool → Reading → List (List ℕ) → Option Reading
+lines_read c free reading [] = Some reading
+lines_read c free reading (line ∷ lines) =
+    if free && is_nothing (text_at free line)
+    then lines_read c free reading lines
+    else record_at c (text_at free line) >>= (λ r.
+      next_read reading r >>= (λ next. lines_read (context_after r) (free_after r) next lines))
 
--- the table with the records of further lines, of which the first may be the first of the file
-abbrev pub table_with : Bool → Table → List (List ℕ) → Option Table
-table_with first table [] = Some table
-table_with first table (line ∷ lines) = record_at first line >>= (λ r. table_with false (with_record table r) lines)
+-- the file that was read
+abbrev pub table_read : Reading → Table
+table_read reading = record {
+  «module» = reading.«module»;
+  functions = functions_read reading;
+  files = reading.files;
+  origins = reading.origins;
+  publics = reading.publics;
+}
 
--- the table of the bytes, if they are a Breakpad file
-unfoldable pub table_in : List ℕ → Option Table
-table_in [] = None
-table_in (b ∷ bytes) = ended_lines (b ∷ bytes) >>= table_with true empty_table
+-- what is read of the bytes, if they are a Breakpad file
+unfoldable pub reading_in : List ℕ → Option Reading
+reading_in [] = None
+reading_in (b ∷ bytes) = ended_lines (b ∷ bytes) >>= lines_read Outside false nothing_read
+
+abbrev pub table_in : List ℕ → Option Table
+table_in bytes = option_map table_read (reading_in bytes)
+
+-- the table, and how many records there are
+abbrev pub counted_in : List ℕ → Option (Table × ℕ)
+counted_in bytes = option_map (λ reading. (table_read reading, reading.count)) (reading_in bytes)

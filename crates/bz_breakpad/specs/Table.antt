@@ -1,13 +1,49 @@
--- What a Breakpad file says: its module and its functions, in the order of the file.
+-- What a Breakpad file says. Addresses are relative to the module's base, sizes are in bytes.
 use Rattle.std.specs.Prelude.{ℕ, List, Option}
 
--- a function: where it starts, relative to the module's base, its size in bytes, the size of its parameters in bytes, and its name
+-- a line record: where its code starts, the code's size, the line of the source, and the id of its file
+pub record SourceLine : Type 0 where
+  pub start : ℕ
+  pub size : ℕ
+  pub line : ℕ
+  pub file : ℕ
+
+-- a range of code where a call was inlined: how many calls it lies inside, where it starts, its size, the line and the
+-- file's id of the call, and the id of the name of what was called
+pub record Inlinee : Type 0 where
+  pub depth : ℕ
+  pub start : ℕ
+  pub size : ℕ
+  pub call_line : ℕ
+  pub call_file : ℕ
+  pub origin : ℕ
+
+-- a function: where it starts, its size, the size of its parameters, its name, and its lines and inlined calls in the
+-- order of the file
 pub record Function : Type 0 where
   pub start : ℕ
   pub size : ℕ
   pub parameter_size : ℕ
   pub name : List ℕ
+  pub lines : List SourceLine
+  pub inlinees : List Inlinee
 
+-- a FILE or INLINE_ORIGIN record: an id and its name
+pub record Named : Type 0 where
+  pub id : ℕ
+  pub name : List ℕ
+
+-- a PUBLIC record: where the symbol starts, the size of its parameters, and its name
+pub record PublicSymbol : Type 0 where
+  pub start : ℕ
+  pub parameter_size : ℕ
+  pub name : List ℕ
+
+-- the module's name, the functions in the order of the file, the names of files and of inlined functions by their ids,
+-- of which each has the last record's, and the PUBLIC records in the order of the file
 pub record Table : Type 0 where
   pub «module» : Option (List ℕ)
   pub functions : List Function
+  pub files : List (ℕ × List ℕ)
+  pub origins : List (ℕ × List ℕ)
+  pub publics : List PublicSymbol

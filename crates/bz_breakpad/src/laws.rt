@@ -1,21 +1,33 @@
 //! What holds of this crate's definitions.
 
-ghost use Rattle.std.specs.Prelude.{◌≡◌, ◌↔◌, ℕ, List, Option, Some};
-ghost use Rattle.bz_base.specs.Nearest.{IsNearestCovering};
-ghost use Rattle.bz_breakpad.specs.Grammar.{Accepted};
-ghost use Rattle.bz_breakpad.specs.Plain.{function_at};
-ghost use Rattle.bz_breakpad.specs.Reader.{table_in};
-ghost use Rattle.bz_breakpad.specs.Table.{Function, Table};
+ghost use Rattle.bz_breakpad.specs.Records.{MODULE, INFO, FILE, INLINE_ORIGIN, PUBLIC, FUNC, STACK_WIN, STACK_CFI_INIT, STACK_CFI, LINE, INLINE, INNER_ORIGIN, TOP, INNER};
+ghost use Rattle.bz_breakpad.specs.Choice.{AreReadExactly};
+ghost use Rattle.bz_breakpad.specs.Reads.{IsReadExactly};
+ghost use Rattle.bz_breakpad.specs.Walk.{IsWalkedExactly};
 
-/// The table that is read from the front of the bytes is the one of the grammar, wherever there is one.
-pub fn reading_accepts()
-    ensures { (bytes : List ℕ) (table : Table) → (table_in bytes ≡ Some table) ↔ Accepted bytes table }
+/// Each form is read from exactly the lines that have it.
+pub fn records_are_read()
+    ensures module { IsReadExactly MODULE }
+    ensures info { IsReadExactly INFO }
+    ensures file { IsReadExactly FILE }
+    ensures inline_origin { IsReadExactly INLINE_ORIGIN }
+    ensures public { IsReadExactly PUBLIC }
+    ensures func { IsReadExactly FUNC }
+    ensures stack_win { IsReadExactly STACK_WIN }
+    ensures stack_cfi_init { IsReadExactly STACK_CFI_INIT }
+    ensures stack_cfi { IsReadExactly STACK_CFI }
+    ensures line { IsReadExactly LINE }
+    ensures inline { IsReadExactly INLINE }
+    ensures inner_origin { IsReadExactly INNER_ORIGIN }
 {}
 
-/// The function that answers for an address is the nearest one, and no other is.
-pub fn nearest_function()
-    ensures is { (functions : List Function) (addr : ℕ) →
-        IsNearestCovering (λ f. f.start) (λ f. f.size) functions addr (function_at addr functions) }
-    ensures only { (functions : List Function) (addr : ℕ) (answer : Option Function) →
-        IsNearestCovering (λ f. f.start) (λ f. f.size) functions addr answer → answer ≡ function_at addr functions }
+/// A line is read as the one record whose form it has.
+pub fn lines_are_read()
+    ensures top { AreReadExactly TOP }
+    ensures inner { AreReadExactly INNER }
+{}
+
+/// The lines of a file are read as the records that they are.
+pub fn files_are_walked()
+    ensures { IsWalkedExactly }
 {}

@@ -1,13 +1,6 @@
 //! Breakpad symbol files: their grammar, the table that one holds, and its answers.
 #![tactic(auto)]
 
-mod file;
 pub mod laws;
 mod parser;
-mod search;
-#[cfg(test)]
-mod tests;
 mod types;
-mod version;
-
-pub use file::SymbolFile;

@@ -1,7 +1,19 @@
-//! What is kept of a Breakpad file.
+//! What is kept of a Breakpad file: numbers, and places in its bytes.
+
+use std::collections::BTreeMap;
+
+/// A part of the file's bytes or of a table: from the first of its places up to the last, which
+/// isn't in it.
+#[derive(Clone, Copy)]
+pub(crate) struct Part {
+    /// Where it begins.
+    pub from: usize,
+    /// Where it ends.
+    pub to: usize,
+}
 
 /// A FUNC record.
-#[derive(Drop)]
+#[derive(Clone, Copy)]
 pub(crate) struct KeptFunction {
     /// Where the function starts, relative to the module's base.
     pub start: u64,
@@ -9,15 +21,64 @@ pub(crate) struct KeptFunction {
     pub size: u32,
     /// The size of its parameters, in bytes.
     pub parameter_size: u32,
-    /// Its name.
-    pub name: String,
+    /// Its name, in the file's bytes.
+    pub name: Part,
+    /// Its line records, in the table of all of them.
+    pub lines: Part,
+    /// Its inlined calls, in the table of all of them.
+    pub inlinees: Part,
+}
+
+/// A range of an INLINE record.
+#[derive(Clone, Copy)]
+pub(crate) struct KeptInlinee {
+    /// How many calls it lies inside.
+    pub depth: u32,
+    /// Where its code starts, relative to the module's base.
+    pub start: u64,
+    /// The size of its code, in bytes.
+    pub size: u32,
+    /// The line of the call.
+    pub call_line: u32,
+    /// The id of the call's file.
+    pub call_file: u32,
+    /// The id of the name of what was called.
+    pub origin: u32,
+}
+
+/// A PUBLIC record.
+#[derive(Clone, Copy)]
+pub(crate) struct KeptPublic {
+    /// Where the symbol starts, relative to the module's base.
+    pub start: u64,
+    /// The size of its parameters, in bytes.
+    pub parameter_size: u32,
+    /// Its name, in the file's bytes.
+    pub name: Part,
+}
+
+/// The FUNC records of a file, with what stands under them.
+#[derive(Drop)]
+pub(crate) struct FunctionTable {
+    /// The functions: in the order of the file as they are read, and then by start and size.
+    pub functions: Vec<KeptFunction>,
+    /// Where each line record begins in the file's bytes, in the order of the file.
+    pub lines: Vec<usize>,
+    /// The ranges of the INLINE records, in the order of the file.
+    pub inlinees: Vec<KeptInlinee>,
 }
 
 /// The records of a file.
 #[derive(Drop)]
 pub(crate) struct KeptTable {
     /// The name in the MODULE record.
-    pub module: Option<String>,
-    /// The FUNC records: in the order of the file as they are read, and then by start and size.
-    pub functions: Vec<KeptFunction>,
+    pub module: Option<Part>,
+    /// The FUNC records.
+    pub code: FunctionTable,
+    /// The names of files, by id.
+    pub files: BTreeMap<u32, Part>,
+    /// The names of inlined functions, by id.
+    pub origins: BTreeMap<u32, Part>,
+    /// The PUBLIC records, in the order of the file.
+    pub publics: Vec<KeptPublic>,
 }

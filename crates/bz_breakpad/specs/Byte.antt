@@ -1,0 +1,36 @@
+-- The bytes of a Breakpad line, by kind.
+use Rattle.std.specs.Prelude.{ℕ, Bool, ◌==◌, ◌||◌, not, true, false, List, [], ◌∷◌}
+use Rattle.std.specs.Char.{is_digit}
+use Rattle.bz_base.specs.Byte.{tab, carriage_return, space, is_blank}
+
+abbrev pub is_space : ℕ → Bool
+is_space b = b == space
+
+abbrev pub is_tab : ℕ → Bool
+is_tab b = b == tab
+
+abbrev pub is_hex : ℕ → Bool
+is_hex b = is_digit b 16
+
+abbrev pub is_decimal : ℕ → Bool
+is_decimal b = is_digit b 10
+
+-- the bytes of a word
+abbrev pub is_word_byte : ℕ → Bool
+is_word_byte b = not (b == space)
+
+-- the bytes with which a field may begin
+abbrev pub is_solid : ℕ → Bool
+is_solid b = not (is_blank b)
+
+-- white space within a line
+abbrev pub is_white : ℕ → Bool
+is_white b = is_blank b || b == carriage_return
+
+-- the bytes that end a line
+abbrev pub ends_line : ℕ → Bool
+ends_line b = b == carriage_return
+
+abbrev pub is_nothing : List ℕ → Bool
+is_nothing [] = true
+is_nothing (b ∷ text) = false

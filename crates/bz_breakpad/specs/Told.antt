@@ -1,0 +1,90 @@
+-- What the records of lines tell.
+use Rattle.bz_breakpad.specs.Form.{Value}
+use Rattle.bz_breakpad.specs.Form.Form.{Many}
+use Rattle.std.specs.Prelude.{List, map}
+use Rattle.bz_breakpad.specs.Records.{CALL, FUNC, INLINE, INNER, LINE, PUBLIC, RANGE, TOP}
+use Rattle.bz_breakpad.specs.declared.parser.record.CodeLine.{CodeLine}
+use Rattle.bz_breakpad.specs.declared.parser.record.InlineCall.{InlineCall}
+use Rattle.bz_breakpad.specs.Choice.{One}
+use Rattle.bz_breakpad.specs.Says.{function_in}
+use Rattle.bz_breakpad.specs.Table.{Function, Inlinee, PublicSymbol}
+use mathlib.Core.Logic.{inl, inr}
+use Rattle.bz_breakpad.specs.declared.parser.record.PublicLine.{PublicLine}
+use Rattle.bz_breakpad.specs.declared.parser.record.InnerLine.{InnerLine}
+use Rattle.bz_breakpad.specs.declared.parser.record.InnerLine.TheVariants as inners
+use Rattle.bz_breakpad.specs.Walk as Walk
+use Rattle.bz_breakpad.specs.Walk.{Record}
+use Rattle.bz_breakpad.specs.Walk.Record.{Top, OfFunc, OfCfi}
+use Rattle.bz_breakpad.specs.declared.parser.record.Context.{Context}
+use Rattle.bz_breakpad.specs.declared.parser.record.Context.TheVariants as contexts
+use Rattle.bz_breakpad.specs.declared.parser.record.RecordLine.{RecordLine}
+use Rattle.bz_breakpad.specs.declared.parser.record.RecordLine.TheVariants as lines
+use Rattle.bz_breakpad.specs.declared.parser.record.TopLine.{TopLine}
+use Rattle.bz_breakpad.specs.declared.parser.record.TopLine.TheVariants as tops
+use Rattle.bz_breakpad.specs.declared.parser.record.Range.{Range}
+use Rattle.bz_breakpad.specs.declared.parser.record.FuncLine.{FuncLine}
+
+abbrev pub func_told : FuncLine → Value FUNC
+func_told f = (f.start, (f.size, (f.parameter_size, f.name.now)))
+
+abbrev pub line_told : CodeLine → Value LINE
+line_told l = (l.addr, (l.size, (l.line, (l.file, tt))))
+
+abbrev pub call_told : InlineCall → Value CALL
+call_told c = (c.depth, (c.line, (c.file, (c.origin, tt))))
+
+abbrev pub range_told : Range → Value RANGE
+range_told r = (r.addr, (r.size, tt))
+
+abbrev pub ranges_told : List Range → Value (Many RANGE)
+ranges_told ranges = map range_told ranges
+
+abbrev pub inline_told : InlineCall → List Range → Value INLINE
+inline_told call ranges = (call.depth, (call.line, (call.file, (call.origin, ranges_told ranges))))
+
+abbrev pub public_told : PublicLine → Value PUBLIC
+public_told p = (p.addr, (p.parameter_size, p.name.now))
+
+-- a FUNC record as the function that it begins
+abbrev pub function_told : FuncLine → Function
+function_told f = function_in (func_told f)
+
+-- the inlined calls of an INLINE record
+abbrev pub inlinees_told : InlineCall → List Range → List Inlinee
+inlinees_told call ranges = map (λ (r : Range). record {
+    depth = call.depth;
+    start = r.addr;
+    size = r.size;
+    call_line = call.line;
+    call_file = call.file;
+    origin = call.origin;
+  }) ranges
+
+abbrev pub public_symbol : PublicLine → PublicSymbol
+public_symbol p = record { start = p.addr; parameter_size = p.parameter_size; name = p.name.now }
+
+abbrev pub top_told : TopLine → One TOP
+top_told (tops.Module name) = inl name.now
+top_told tops.Info = inr (inl tt)
+top_told (tops.File id path) = inr (inr (inl (id, path.now)))
+top_told (tops.InlineOrigin id name) = inr (inr (inr (inl (id, name.now))))
+top_told (tops.Public p) = inr (inr (inr (inr (inl (public_told p)))))
+top_told (tops.Func f) = inr (inr (inr (inr (inr (inl (func_told f))))))
+top_told tops.StackWin = inr (inr (inr (inr (inr (inr (inl tt))))))
+top_told tops.StackCfiInit = inr (inr (inr (inr (inr (inr (inr (inl tt)))))))
+
+-- the ranges of an INLINE record stand beside it
+abbrev pub inner_told : InnerLine → List Range → One INNER
+inner_told (inners.Code l) ranges = inl (line_told l)
+inner_told (inners.Inline call) ranges = inr (inl (inline_told call ranges))
+inner_told (inners.Origin id name) ranges = inr (inr (inl (id, name.now)))
+
+abbrev pub context_told : Context → Walk.Context
+context_told contexts.Outside = Walk.Context.Outside
+context_told contexts.InFunc = Walk.Context.InFunc
+context_told contexts.InCfi = Walk.Context.InCfi
+
+abbrev pub record_told : RecordLine → List Range → Record
+record_told (lines.Top top) ranges = Top (top_told top)
+record_told (lines.OfFunc inner) ranges = OfFunc (inner_told inner ranges)
+record_told lines.OfCfi ranges = OfCfi

@@ -1,0 +1,115 @@
+//! The FUNC records that have been read, with what stands under them.
+
+ghost use Rattle.std.specs.Prelude.{◌≡◌, ◌∷◌, ◌++◌, [], ℕ, List, Option, None, Some, drop, map, option_map, OnOk};
+ghost use Rattle.bz_breakpad.specs.Kept.{FunctionsSoFar, IsNameAt, kept_inlinee};
+ghost use Rattle.bz_breakpad.specs.Line.{line_in};
+ghost use Rattle.bz_breakpad.specs.Reader.{listed};
+ghost use Rattle.bz_breakpad.specs.Says.{with_own};
+ghost use Rattle.bz_breakpad.specs.Says.Sub.{Inline, Line};
+ghost use Rattle.bz_breakpad.specs.Table.{Function, SourceLine};
+ghost use Rattle.bz_breakpad.specs.Told.{function_told, inlinees_told};
+
+use crate::parser::record::{FuncLine, InlineCall, Range};
+use crate::types::{FunctionTable, KeptFunction, KeptInlinee, Part};
+use std::alloc::{AllocError, Global};
+
+/// The functions that have been read, up to the end of a line.
+#[derive(Drop)]
+pub(crate) struct FunctionsReading {
+    /// Those whose records are at their end.
+    pub table: FunctionTable,
+    /// The one whose records are being read. Its parts end where the tables do.
+    pub current: Option<KeptFunction>,
+}
+
+impl FunctionsReading {
+    /// No functions.
+    pub(crate) fn new(alloc: Global) -> FunctionsReading
+        ensures { (bytes : List ℕ) → FunctionsSoFar bytes result [] None }
+    {
+        FunctionsReading {
+            table: FunctionTable {
+                functions: Vec::new(alloc),
+                lines: Vec::new(alloc),
+                inlinees: Vec::new(alloc),
+            },
+            current: None,
+        }
+    }
+
+    /// Ends the function whose records are being read.
+    pub(crate) fn close(&mut self) -> Result<(), AllocError>
+        ensures { OnOk result ((bytes : List ℕ) (closed : List Function) (current : Option Function) →
+            FunctionsSoFar bytes self.old closed current → FunctionsSoFar bytes self.new (closed ++ listed current) None) }
+    {
+        if let Some(mut function) = self.current {
+            function.lines.to = self.table.lines.len();
+            function.inlinees.to = self.table.inlinees.len();
+            self.table.functions.push(function)?;
+            self.current = None;
+        }
+        Ok(())
+    }
+
+    /// Begins a function, where the one before is at its end.
+    pub(crate) fn begin(&mut self, func: &FuncLine<'_>, name: Part)
+        ensures { (bytes : List ℕ) (closed : List Function) → IsNameAt bytes name func.now.name.now → FunctionsSoFar bytes self.old closed None →
+            FunctionsSoFar bytes self.new closed (Some (function_told func.now)) }
+    {
+        let lines = self.table.lines.len();
+        let inlinees = self.table.inlinees.len();
+        self.current = Some(KeptFunction {
+            start: func.start,
+            size: func.size,
+            parameter_size: func.parameter_size,
+            name,
+            lines: Part {
+                from: lines,
+                to: lines,
+            },
+            inlinees: Part {
+                from: inlinees,
+                to: inlinees,
+            },
+        });
+    }
+
+    /// Keeps the line record at a place in the bytes.
+    pub(crate) fn line(&mut self, place: usize) -> Result<(), AllocError>
+        ensures { OnOk result ((bytes : List ℕ) (closed : List Function) (current : Option Function) (line : SourceLine) →
+            line_in (drop place bytes) ≡ Some line → FunctionsSoFar bytes self.old closed current →
+            FunctionsSoFar bytes self.new closed (option_map (λ f. with_own f (Line line ∷ [])) current)) }
+    {
+        self.table.lines.push(place)?;
+        Ok(())
+    }
+
+    /// Keeps an inlined call for each of the ranges.
+    pub(crate) fn inline(&mut self, call: &InlineCall, ranges: &[Range]) -> Result<(), AllocError>
+        ensures { OnOk result ((bytes : List ℕ) (closed : List Function) (current : Option Function) → FunctionsSoFar bytes self.old closed current →
+            FunctionsSoFar bytes self.new closed (option_map (λ f. with_own f (Inline (inlinees_told call.now ranges.now) ∷ [])) current)) }
+    {
+        keep_inlinees(&mut self.table.inlinees, call, ranges)
+    }
+}
+
+/// Keeps an inlined call for each of the ranges.
+fn keep_inlinees(
+    inlinees: &mut Vec<KeptInlinee>,
+    call: &InlineCall,
+    ranges: &[Range],
+) -> Result<(), AllocError>
+    ensures { OnOk result (map kept_inlinee inlinees.new.items ≡ map kept_inlinee inlinees.old.items ++ inlinees_told call.now ranges.now) }
+{
+    for range in ranges {
+        inlinees.push(KeptInlinee {
+            depth: call.depth,
+            start: range.addr,
+            size: range.size,
+            call_line: call.line,
+            call_file: call.file,
+            origin: call.origin,
+        })?;
+    }
+    Ok(())
+}

@@ -1,0 +1,154 @@
+//! What has been read of a file so far, and one line more.
+
+ghost use Rattle.std.specs.Prelude.{◌≡◌, ◌<◌, ◌+◌, ◌^◌, ◌∷◌, ◌++◌, [], ℕ, List, length, Some, OnOk};
+ghost use Rattle.bz_breakpad.specs.Choice.{one_at};
+ghost use Rattle.bz_breakpad.specs.Kept.{EndsWith, IsNameAt, IsRecordAt, IsSoFar, NamesSoFar, PublicsSoFar};
+ghost use Rattle.bz_breakpad.specs.Names.{with_name};
+ghost use Rattle.bz_breakpad.specs.Reader.{Reading, nothing_read, with_record};
+ghost use Rattle.bz_breakpad.specs.Records.{INNER, TOP};
+ghost use Rattle.bz_breakpad.specs.Table.{PublicSymbol};
+ghost use Rattle.bz_breakpad.specs.Told.{inner_told, public_symbol, record_told, top_told};
+ghost use Rattle.bz_breakpad.specs.Walk.{Context, body_record};
+ghost use Rattle.bz_breakpad.specs.Walk.Record.{OfFunc, Top};
+
+use crate::parser::functions::FunctionsReading;
+use crate::parser::record::{InnerLine, PublicLine, Range, RecordLine, TopLine};
+use crate::types::{KeptPublic, Part};
+use std::alloc::{AllocError, Global};
+use std::collections::BTreeMap;
+
+/// What has been read of a file, up to the end of a line.
+#[derive(Drop)]
+pub(crate) struct KeptReading {
+    /// The name in the MODULE record.
+    pub module: Option<Part>,
+    /// The FUNC records, with what stands under them.
+    pub functions: FunctionsReading,
+    /// The names of files, by id.
+    pub files: BTreeMap<u32, Part>,
+    /// The names of inlined functions, by id.
+    pub origins: BTreeMap<u32, Part>,
+    /// The PUBLIC records, in the order of the file.
+    pub publics: Vec<KeptPublic>,
+    /// How many records there were.
+    pub count: usize,
+}
+
+impl KeptReading {
+    /// Nothing read.
+    pub(crate) fn new(alloc: Global) -> KeptReading
+        ensures { (bytes : List ℕ) → IsSoFar bytes result nothing_read }
+    {
+        KeptReading {
+            module: None,
+            functions: FunctionsReading::new(alloc),
+            files: BTreeMap::new(alloc),
+            origins: BTreeMap::new(alloc),
+            publics: Vec::new(alloc),
+            count: 0,
+        }
+    }
+
+    /// Keeps a record by itself, whose body ends at a place in the bytes.
+    fn top(&mut self, top: TopLine<'_>, end: usize) -> Result<(), AllocError>
+        ensures { OnOk result ((bytes body : List ℕ) (start : ℕ) (reading : Reading) → IsRecordAt bytes start body → end ≡ start + length body →
+            one_at TOP body ≡ Some (top_told top.entry) → IsSoFar bytes self.old reading →
+            IsSoFar bytes self.new (with_record reading (Top (top_told top.entry)))) }
+    {
+        self.functions.close()?;
+        match top {
+            TopLine::Module(name) => self.module = Some(name_part(name, end)),
+            TopLine::File(id, path) => keep_name(&mut self.files, id, name_part(path, end))?,
+            TopLine::InlineOrigin(id, name) => {
+                keep_name(&mut self.origins, id, name_part(name, end))?
+            }
+            TopLine::Public(public) => keep_public(&mut self.publics, &public, name_part(public.name, end))?,
+            TopLine::Func(func) => self.functions.begin(&func, name_part(func.name, end)),
+            TopLine::Info => {}
+            TopLine::StackWin => {}
+            TopLine::StackCfiInit => {}
+        }
+        Ok(())
+    }
+
+    /// Keeps a record under a FUNC record, whose body stands at a place in the bytes.
+    fn inner(
+        &mut self,
+        inner: InnerLine<'_>,
+        ranges: &[Range],
+        start: usize,
+        end: usize,
+    ) -> Result<(), AllocError>
+        ensures { OnOk result ((bytes body : List ℕ) (reading : Reading) → IsRecordAt bytes start body → end ≡ start + length body →
+            one_at INNER body ≡ Some (inner_told inner.entry ranges.now) → IsSoFar bytes self.old reading →
+            IsSoFar bytes self.new (with_record reading (OfFunc (inner_told inner.entry ranges.now)))) }
+    {
+        match inner {
+            InnerLine::Code(_) => self.functions.line(start),
+            InnerLine::Inline(call) => self.functions.inline(&call, ranges),
+            InnerLine::Origin(id, name) => {
+                keep_name(&mut self.origins, id, name_part(name, end))
+            }
+        }
+    }
+
+    /// Keeps a record whose body stands at a place in the bytes, with the ranges of an INLINE record.
+    pub(crate) fn record(
+        &mut self,
+        found: RecordLine<'_>,
+        ranges: &[Range],
+        start: usize,
+        end: usize,
+    ) -> Result<(), AllocError>
+        requires { self.old.count < 2 ^ 62 }
+        ensures ok { OnOk result ((bytes body : List ℕ) (context : Context) (reading : Reading) → IsRecordAt bytes start body →
+            end ≡ start + length body → body_record context body ≡ Some (record_told found.entry ranges.now) → IsSoFar bytes self.old reading →
+            IsSoFar bytes self.new (with_record reading (record_told found.entry ranges.now))) }
+        ensures count { OnOk result (self.new.count ≡ self.old.count + 1) }
+    {
+        match found {
+            RecordLine::Top(top) => self.top(top, end)?,
+            RecordLine::OfFunc(inner) => self.inner(inner, ranges, start, end)?,
+            RecordLine::OfCfi => {}
+        }
+        self.count += 1;
+        Ok(())
+    }
+}
+
+/// The part of the bytes that a name has that ends at a place.
+fn name_part(name: &str, end: usize) -> Part
+    ensures { (bytes body : List ℕ) (start : ℕ) → IsRecordAt bytes start body → end ≡ start + length body → EndsWith body name.now →
+        IsNameAt bytes result name.now }
+{
+    Part {
+        from: end.saturating_sub(name.len()),
+        to: end,
+    }
+}
+
+/// Keeps the name of an id, in place of one that was kept before.
+fn keep_name(names: &mut BTreeMap<u32, Part>, id: u32, part: Part) -> Result<(), AllocError>
+    ensures { OnOk result ((bytes name : List ℕ) (list : List (ℕ × List ℕ)) → IsNameAt bytes part name → NamesSoFar bytes names.old list →
+        NamesSoFar bytes names.new (with_name list (record { id = id; name = name }))) }
+{
+    names.insert(id, part)?;
+    Ok(())
+}
+
+/// Keeps a PUBLIC record.
+fn keep_public(
+    publics: &mut Vec<KeptPublic>,
+    public: &PublicLine<'_>,
+    name: Part,
+) -> Result<(), AllocError>
+    ensures { OnOk result ((bytes : List ℕ) (list : List PublicSymbol) → IsNameAt bytes name public.now.name.now → PublicsSoFar bytes publics.old.items list →
+        PublicsSoFar bytes publics.new.items (list ++ public_symbol public.now ∷ [])) }
+{
+    publics.push(KeptPublic {
+        start: public.addr,
+        parameter_size: public.parameter_size,
+        name,
+    })?;
+    Ok(())
+}
