@@ -2,9 +2,14 @@ pub mod Apart
 pub mod Bytes
 pub mod ChoiceLaws
 pub mod FormLaws
+pub mod FunctionLemmas
 pub mod Kept
+pub mod KeptLemmas
+pub mod NameEnds
 pub mod Pieces
+pub mod PlaceLemmas
 pub mod Runs
+pub mod StepLemmas
 pub mod Turns
 pub mod WalkKept
 pub mod WalkLaws

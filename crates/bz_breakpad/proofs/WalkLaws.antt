@@ -12,7 +12,7 @@ use Rattle.bz_breakpad.specs.Form.{AllPass}
 use Rattle.bz_breakpad.specs.Reads.{◌>>=◌, form_at, piece_at, run_at}
 use Rattle.bz_breakpad.specs.Choice.{One, one_at, body_at}
 use Rattle.bz_breakpad.specs.Records.{TOP, INNER, STACK_CFI}
-use Rattle.bz_breakpad.specs.Walk.{Context, Record, context_after, free_after, IsInner, IsBodyOf, IsRecord, inner_at, IsText, Walks, or_record, record_at, text_at, walk, IsWalkedExactly}
+use Rattle.bz_breakpad.specs.Walk.{Context, Record, context_after, free_after, IsInner, IsBodyOf, IsRecord, body_record, inner_at, IsText, Walks, or_record, record_at, text_at, walk, IsWalkedExactly}
 use Rattle.bz_breakpad.specs.Walk.Context.{Outside, InFunc, InCfi}
 use Rattle.bz_breakpad.specs.Walk.Record.{Top, OfFunc, OfCfi}
 use Rattle.bz_breakpad.proofs.ChoiceLaws.{one_found, one_again, body_found, body_again}
@@ -74,6 +74,10 @@ or_record_found c body None (Some one) r is_inner top is =
     subst (λ x. IsBodyOf c body x) (same_Some (Top one) r is)
     (λ other at. none-some other (sym is_inner ∙ inner_again c body other at), one_found TOP body one top)
 or_record_found c body None None r is_inner top is = absurd (none-some r is)
+
+-- what a body is read as, it is
+pub body_found_of : (c : Context) (body : List ℕ) (r : Record) → body_record c body ≡ Some r → IsBodyOf c body r
+body_found_of c body r is = or_record_found c body (inner_at c body) (one_at TOP body) r refl refl is
 
 or_record_top : (o : Option Record) (r : Record) → ((other : Record) → o ≡ Some other → ⊥) → or_record o (Some r) ≡ Some r
 or_record_top (Some other) r none = absurd (none other refl)

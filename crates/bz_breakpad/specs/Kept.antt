@@ -2,11 +2,14 @@
 use Rattle.std.specs.Prelude.{◌≡◌, ◌≤◌, ℕ, ◌-◌, ◌+◌, List, [], ◌∷◌, ◌++◌, length, drop, map, Option, Some, None, option_map, IsUtf8, slice_range, IfSome}
 use Rattle.std.specs.List.{AllByRecursion, filter_map}
 use Rattle.std.specs.BTreeMap.{BTreeMap}
+use Rattle.std.specs.Map.{values_of}
 use Rattle.bz_breakpad.specs.Choice.{body_at}
 use Rattle.bz_breakpad.specs.Line.{line_front, line_in}
 use Rattle.bz_breakpad.specs.Reader.{Reading}
 use Rattle.bz_breakpad.specs.Table.{SourceLine, Inlinee, Function, PublicSymbol, Table}
 use Rattle.bz_breakpad.specs.declared.parser.functions.FunctionsReading.{FunctionsReading}
+use Rattle.bz_breakpad.specs.declared.parser.record.InlineCall.{InlineCall}
+use Rattle.bz_breakpad.specs.declared.parser.record.Range.{Range}
 use Rattle.bz_breakpad.specs.declared.parser.reading.KeptReading.{KeptReading}
 use Rattle.bz_breakpad.specs.declared.types.FunctionTable.{FunctionTable}
 use Rattle.bz_breakpad.specs.declared.types.KeptFunction.{KeptFunction}
@@ -19,10 +22,6 @@ use Rattle.bz_breakpad.specs.declared.types.Part.{Part}
 pub record IsRecordAt (bytes : List ℕ) (start : ℕ) (body : List ℕ) : Type 0 where
   pub within : start ≤ length bytes
   pub body_is : body_at (line_front (drop start bytes)) ≡ Some body
-
--- the body ends with the name
-abbrev pub EndsWith : List ℕ → List ℕ → Type 0
-EndsWith body name = (front : List ℕ) × (body ≡ front ++ name)
 
 -- the text at a part of the bytes
 abbrev pub text_at : List ℕ → Part → List ℕ
@@ -42,6 +41,17 @@ kept_inlinee i = record {
   call_line = i.call_line;
   call_file = i.call_file;
   origin = i.origin;
+}
+
+-- an inlined call as it is kept
+abbrev pub inlinee_kept : InlineCall → Range → KeptInlinee
+inlinee_kept call r = record {
+  depth = call.depth;
+  start = r.addr;
+  size = r.size;
+  call_line = call.line;
+  call_file = call.file;
+  origin = call.origin;
 }
 
 -- the line records that begin at these places
@@ -108,7 +118,7 @@ abbrev pub FunctionsFit : List ℕ → FunctionTable → Type 0
 FunctionsFit bytes t = AllByRecursion (FunctionFits bytes (length t.lines.items) (length t.inlinees.items)) t.functions.items
 
 abbrev pub NamesFit : List ℕ → BTreeMap ℕ Part → Type 0
-NamesFit bytes names = AllByRecursion (λ entry. IsTextAt bytes entry.1) names.entries
+NamesFit bytes names = AllByRecursion (IsTextAt bytes) (values_of names.entries)
 
 abbrev pub PublicsFit : List ℕ → List KeptPublic → Type 0
 PublicsFit bytes publics = AllByRecursion (λ p. IsTextAt bytes p.name) publics
@@ -152,4 +162,3 @@ pub record IsSoFar (bytes : List ℕ) (kept : KeptReading) (reading : Reading) :
   pub files : NamesSoFar bytes kept.files reading.files
   pub origins : NamesSoFar bytes kept.origins reading.origins
   pub publics : PublicsSoFar bytes kept.publics.items reading.publics
-  pub count : kept.count ≡ reading.count

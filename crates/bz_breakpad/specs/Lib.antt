@@ -12,3 +12,4 @@ pub mod Says
 pub mod Table
 pub mod Told
 pub mod Walk
+pub mod Walked

@@ -1,5 +1,5 @@
 -- The line record that begins at a place in a text.
-use Rattle.std.specs.Prelude.{ℕ, not, ◌==◌, List, take, Option, option_map}
+use Rattle.std.specs.Prelude.{◌≡◌, ◌++◌, ℕ, not, ◌==◌, List, take, Option, option_map}
 use Rattle.std.specs.List.{prefix_len}
 use Rattle.bz_base.specs.Byte.{line_feed}
 use Rattle.bz_breakpad.specs.Choice.{body_at}
@@ -7,6 +7,10 @@ use Rattle.bz_breakpad.specs.Form.{Value}
 use Rattle.bz_breakpad.specs.Reads.{◌>>=◌, form_at}
 use Rattle.bz_breakpad.specs.Records.{LINE}
 use Rattle.bz_breakpad.specs.Table.{SourceLine}
+
+-- the body of a record ends with the name
+abbrev pub EndsWith : List ℕ → List ℕ → Type 0
+EndsWith body name = (front : List ℕ) × (body ≡ front ++ name)
 
 -- the text before the first line feed
 abbrev pub line_front : List ℕ → List ℕ

@@ -1,11 +1,12 @@
 -- What the records of lines tell.
 use Rattle.bz_breakpad.specs.Form.{Value}
 use Rattle.bz_breakpad.specs.Form.Form.{Many}
-use Rattle.std.specs.Prelude.{List, map}
+use Rattle.std.specs.Prelude.{◌≡◌, ℕ, List, drop, map, Option, Some, None}
 use Rattle.bz_breakpad.specs.Records.{CALL, FUNC, INLINE, INNER, LINE, PUBLIC, RANGE, TOP}
 use Rattle.bz_breakpad.specs.declared.parser.record.CodeLine.{CodeLine}
 use Rattle.bz_breakpad.specs.declared.parser.record.InlineCall.{InlineCall}
 use Rattle.bz_breakpad.specs.Choice.{One}
+use Rattle.bz_breakpad.specs.Line.{EndsWith, line_in, source_line}
 use Rattle.bz_breakpad.specs.Says.{function_in}
 use Rattle.bz_breakpad.specs.Table.{Function, Inlinee, PublicSymbol}
 use mathlib.Core.Logic.{inl, inr}
@@ -49,16 +50,34 @@ public_told p = (p.addr, (p.parameter_size, p.name.now))
 abbrev pub function_told : FuncLine → Function
 function_told f = function_in (func_told f)
 
+abbrev pub inlinee_told : InlineCall → Range → Inlinee
+inlinee_told call r = record {
+  depth = call.depth;
+  start = r.addr;
+  size = r.size;
+  call_line = call.line;
+  call_file = call.file;
+  origin = call.origin;
+}
+
 -- the inlined calls of an INLINE record
 abbrev pub inlinees_told : InlineCall → List Range → List Inlinee
-inlinees_told call ranges = map (λ (r : Range). record {
-    depth = call.depth;
-    start = r.addr;
-    size = r.size;
-    call_line = call.line;
-    call_file = call.file;
-    origin = call.origin;
-  }) ranges
+inlinees_told call ranges = map (inlinee_told call) ranges
+
+-- the name at the end of a record by itself
+abbrev pub top_name : TopLine → Option (List ℕ)
+top_name (tops.Module name) = Some name.now
+top_name (tops.File id path) = Some path.now
+top_name (tops.InlineOrigin id name) = Some name.now
+top_name (tops.Public p) = Some p.name.now
+top_name (tops.Func f) = Some f.name.now
+top_name _ = None
+
+-- what of a record under a FUNC record is kept as a place stands there in the bytes
+abbrev pub InnerStands : List ℕ → ℕ → List ℕ → InnerLine → Type 0
+InnerStands bytes start body (inners.Code l) = line_in (drop start bytes) ≡ Some (source_line (line_told l))
+InnerStands bytes start body (inners.Inline call) = Unit {0}
+InnerStands bytes start body (inners.Origin id name) = EndsWith body name.now
 
 abbrev pub public_symbol : PublicLine → PublicSymbol
 public_symbol p = record { start = p.addr; parameter_size = p.parameter_size; name = p.name.now }

@@ -4,3 +4,4 @@ pub(crate) mod field;
 pub(crate) mod functions;
 pub(crate) mod reading;
 pub(crate) mod record;
+pub(crate) mod walk;

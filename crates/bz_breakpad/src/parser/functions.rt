@@ -1,7 +1,7 @@
 //! The FUNC records that have been read, with what stands under them.
 
 ghost use Rattle.std.specs.Prelude.{◌≡◌, ◌∷◌, ◌++◌, [], ℕ, List, Option, None, Some, drop, map, option_map, OnOk};
-ghost use Rattle.bz_breakpad.specs.Kept.{FunctionsSoFar, IsNameAt, kept_inlinee};
+ghost use Rattle.bz_breakpad.specs.Kept.{FunctionsSoFar, IsNameAt, inlinee_kept};
 ghost use Rattle.bz_breakpad.specs.Line.{line_in};
 ghost use Rattle.bz_breakpad.specs.Reader.{listed};
 ghost use Rattle.bz_breakpad.specs.Says.{with_own};
@@ -89,7 +89,8 @@ impl FunctionsReading {
         ensures { OnOk result ((bytes : List ℕ) (closed : List Function) (current : Option Function) → FunctionsSoFar bytes self.old closed current →
             FunctionsSoFar bytes self.new closed (option_map (λ f. with_own f (Inline (inlinees_told call.now ranges.now) ∷ [])) current)) }
     {
-        keep_inlinees(&mut self.table.inlinees, call, ranges)
+        keep_inlinees(&mut self.table.inlinees, call, ranges)?;
+        Ok(())
     }
 }
 
@@ -99,7 +100,7 @@ fn keep_inlinees(
     call: &InlineCall,
     ranges: &[Range],
 ) -> Result<(), AllocError>
-    ensures { OnOk result (map kept_inlinee inlinees.new.items ≡ map kept_inlinee inlinees.old.items ++ inlinees_told call.now ranges.now) }
+    ensures { OnOk result (inlinees.new.items ≡ inlinees.old.items ++ map (inlinee_kept call.now) ranges.now) }
 {
     for range in ranges {
         inlinees.push(KeptInlinee {

@@ -1,13 +1,12 @@
 //! What has been read of a file so far, and one line more.
 
-ghost use Rattle.std.specs.Prelude.{◌≡◌, ◌<◌, ◌+◌, ◌^◌, ◌∷◌, ◌++◌, [], ℕ, List, length, Some, OnOk};
-ghost use Rattle.bz_breakpad.specs.Choice.{one_at};
-ghost use Rattle.bz_breakpad.specs.Kept.{EndsWith, IsNameAt, IsRecordAt, IsSoFar, NamesSoFar, PublicsSoFar};
+ghost use Rattle.std.specs.Prelude.{◌≡◌, ◌+◌, ◌∷◌, ◌++◌, [], ℕ, List, length, Some, IfSome, OnOk};
+ghost use Rattle.bz_breakpad.specs.Kept.{IsNameAt, IsRecordAt, IsSoFar, NamesSoFar, PublicsSoFar};
+ghost use Rattle.bz_breakpad.specs.Line.{EndsWith};
 ghost use Rattle.bz_breakpad.specs.Names.{with_name};
 ghost use Rattle.bz_breakpad.specs.Reader.{Reading, nothing_read, with_record};
-ghost use Rattle.bz_breakpad.specs.Records.{INNER, TOP};
 ghost use Rattle.bz_breakpad.specs.Table.{PublicSymbol};
-ghost use Rattle.bz_breakpad.specs.Told.{inner_told, public_symbol, record_told, top_told};
+ghost use Rattle.bz_breakpad.specs.Told.{InnerStands, inner_told, public_symbol, record_told, top_name, top_told};
 ghost use Rattle.bz_breakpad.specs.Walk.{Context, body_record};
 ghost use Rattle.bz_breakpad.specs.Walk.Record.{OfFunc, Top};
 
@@ -30,8 +29,6 @@ pub(crate) struct KeptReading {
     pub origins: BTreeMap<u32, Part>,
     /// The PUBLIC records, in the order of the file.
     pub publics: Vec<KeptPublic>,
-    /// How many records there were.
-    pub count: usize,
 }
 
 impl KeptReading {
@@ -45,14 +42,13 @@ impl KeptReading {
             files: BTreeMap::new(alloc),
             origins: BTreeMap::new(alloc),
             publics: Vec::new(alloc),
-            count: 0,
         }
     }
 
     /// Keeps a record by itself, whose body ends at a place in the bytes.
     fn top(&mut self, top: TopLine<'_>, end: usize) -> Result<(), AllocError>
         ensures { OnOk result ((bytes body : List ℕ) (start : ℕ) (reading : Reading) → IsRecordAt bytes start body → end ≡ start + length body →
-            one_at TOP body ≡ Some (top_told top.entry) → IsSoFar bytes self.old reading →
+            IfSome (top_name top.entry) (EndsWith body) → IsSoFar bytes self.old reading →
             IsSoFar bytes self.new (with_record reading (Top (top_told top.entry)))) }
     {
         self.functions.close()?;
@@ -80,16 +76,17 @@ impl KeptReading {
         end: usize,
     ) -> Result<(), AllocError>
         ensures { OnOk result ((bytes body : List ℕ) (reading : Reading) → IsRecordAt bytes start body → end ≡ start + length body →
-            one_at INNER body ≡ Some (inner_told inner.entry ranges.now) → IsSoFar bytes self.old reading →
+            InnerStands bytes start body inner.entry → IsSoFar bytes self.old reading →
             IsSoFar bytes self.new (with_record reading (OfFunc (inner_told inner.entry ranges.now)))) }
     {
         match inner {
-            InnerLine::Code(_) => self.functions.line(start),
-            InnerLine::Inline(call) => self.functions.inline(&call, ranges),
+            InnerLine::Code(_) => self.functions.line(start)?,
+            InnerLine::Inline(call) => self.functions.inline(&call, ranges)?,
             InnerLine::Origin(id, name) => {
-                keep_name(&mut self.origins, id, name_part(name, end))
+                keep_name(&mut self.origins, id, name_part(name, end))?
             }
         }
+        Ok(())
     }
 
     /// Keeps a record whose body stands at a place in the bytes, with the ranges of an INLINE record.
@@ -100,18 +97,15 @@ impl KeptReading {
         start: usize,
         end: usize,
     ) -> Result<(), AllocError>
-        requires { self.old.count < 2 ^ 62 }
-        ensures ok { OnOk result ((bytes body : List ℕ) (context : Context) (reading : Reading) → IsRecordAt bytes start body →
+        ensures { OnOk result ((bytes body : List ℕ) (context : Context) (reading : Reading) → IsRecordAt bytes start body →
             end ≡ start + length body → body_record context body ≡ Some (record_told found.entry ranges.now) → IsSoFar bytes self.old reading →
             IsSoFar bytes self.new (with_record reading (record_told found.entry ranges.now))) }
-        ensures count { OnOk result (self.new.count ≡ self.old.count + 1) }
     {
         match found {
             RecordLine::Top(top) => self.top(top, end)?,
             RecordLine::OfFunc(inner) => self.inner(inner, ranges, start, end)?,
             RecordLine::OfCfi => {}
         }
-        self.count += 1;
         Ok(())
     }
 }

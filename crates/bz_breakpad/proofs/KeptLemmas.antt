@@ -1,0 +1,62 @@
+-- What is kept of a file as it is read: one record more leaves what was kept before.
+use Rattle.std.proofs.Common.{◌≡◌, ℕ, ◌+◌, ◌-◌, ◌≤◌, List, [], ◌∷◌, ◌++◌, length, take, drop, map, Option, Some, None, refl, sym, ap, ap₂, ◌∙◌, arith, append-nil, length-append, length-drop}
+use Rattle.std.specs.BTreeMap.{BTreeMap, insert_entry}
+use Rattle.std.specs.List.{AllByRecursion, filter_map, slice_range}
+use Rattle.std.specs.Map.{values_of}
+use Rattle.std.specs.Ordering.{nat_cmp}
+use Rattle.std.specs.declared.cmp.Ordering.{Ordering}
+use Rattle.std.specs.declared.cmp.Ordering.TheVariants.{Less, Equal, Greater}
+use Rattle.std.proofs.lemmas.List.{take-append-le, drop-append-le, map-append}
+use Rattle.std.proofs.lemmas.List.Elements.{filter_map-append}
+use Rattle.bz_breakpad.specs.Kept.{IsTextAt, IsNameAt, NamesSoFar, kept_names, text_at}
+use Rattle.bz_breakpad.specs.Names.{with_name}
+use Rattle.bz_breakpad.specs.Table.{Named}
+use Rattle.bz_breakpad.specs.declared.types.Part.{Part}
+
+-- what holds of each, and of one more, holds of all
+pub all_and_one : {A : Type 0} (P : A → Type 0) (xs : List A) (x : A) → AllByRecursion P xs → P x → AllByRecursion P (xs ++ x ∷ [])
+all_and_one P [] x all one = (one, tt)
+all_and_one P (y ∷ xs) x all one = (all.0, all_and_one P xs x all.1 one)
+
+-- what holds of each still holds, where the one follows from the other
+pub all_weaker : {A : Type 0} (P Q : A → Type 0) → ((x : A) → P x → Q x) → (xs : List A) → AllByRecursion P xs → AllByRecursion Q xs
+all_weaker P Q then [] all = tt
+all_weaker P Q then (x ∷ xs) all = (then x all.0, all_weaker P Q then xs all.1)
+
+-- the names after one entry more are the names with one more
+pub names_with : (bytes : List ℕ) (entries : List (ℕ × Part)) (id : ℕ) (part : Part) (name : List ℕ) → text_at bytes part ≡ name →
+    map (λ (e : ℕ × Part). (e.0, text_at bytes e.1)) (insert_entry nat_cmp entries id part)
+    ≡ with_name (map (λ (e : ℕ × Part). (e.0, text_at bytes e.1)) entries) (record { id = id; name = name })
+names_with bytes [] id part name is = ap (λ n. (id, n) ∷ []) is
+names_with bytes (e ∷ entries) id part name is = by (nat_cmp id e.0) refl (names_with bytes entries id part name is) where
+  by : (order : Ordering) → nat_cmp id e.0 ≡ order →
+      map (λ (e : ℕ × Part). (e.0, text_at bytes e.1)) (insert_entry nat_cmp entries id part)
+      ≡ with_name (map (λ (e : ℕ × Part). (e.0, text_at bytes e.1)) entries) (record { id = id; name = name }) →
+      map (λ (e : ℕ × Part). (e.0, text_at bytes e.1)) (insert_entry nat_cmp (e ∷ entries) id part)
+      ≡ with_name (map (λ (e : ℕ × Part). (e.0, text_at bytes e.1)) (e ∷ entries)) (record { id = id; name = name })
+  by Less order rest = rw (order, is) refl
+  by Equal order rest = rw (order, is) refl
+  by Greater order rest = rw order (ap (λ names. (e.0, text_at bytes e.1) ∷ names) rest)
+
+-- and each value is one of before, or the one more
+pub values_with : (P : Part → Type 0) (entries : List (ℕ × Part)) (id : ℕ) (part : Part) → AllByRecursion P (values_of entries) → P part →
+    AllByRecursion P (values_of (insert_entry nat_cmp entries id part))
+values_with P [] id part all one = (one, tt)
+values_with P (e ∷ entries) id part all one = by (nat_cmp id e.0) refl (values_with P entries id part all.1 one) where
+  by : (order : Ordering) → nat_cmp id e.0 ≡ order → AllByRecursion P (values_of (insert_entry nat_cmp entries id part)) →
+      AllByRecursion P (values_of (insert_entry nat_cmp (e ∷ entries) id part))
+  by Less order rest = rw order (one, all)
+  by Equal order rest = rw order (one, all.1)
+  by Greater order rest = rw order (all.0, rest)
+
+-- the names with one more
+pub names_so_far : (bytes : List ℕ) (old new : BTreeMap ℕ Part) (id : ℕ) (part : Part) (name : List ℕ) (list : List (ℕ × List ℕ)) →
+    new.entries ≡ insert_entry nat_cmp old.entries id part → IsNameAt bytes part name → NamesSoFar bytes old list →
+    NamesSoFar bytes new (with_name list (record { id = id; name = name }))
+names_so_far bytes old new id part name list inserted named so_far = record {
+  are =
+      ap (map (λ (e : ℕ × Part). (e.0, text_at bytes e.1))) inserted
+      ∙ names_with bytes old.entries id part name named.is
+      ∙ ap (λ names. with_name names (record { id = id; name = name })) so_far.are;
+  fit = rw inserted (values_with (IsTextAt bytes) old.entries id part so_far.fit named.fits);
+}

@@ -1,0 +1,13 @@
+use Rattle.std.proofs.Common.{◌≡◌, [], ◌∷◌, refl, sym, append-nil}
+use Rattle.bz_breakpad.specs.Kept.{kept_lines}
+use Rattle.bz_breakpad.specs.Says.Sub.{Line}
+use Rattle.bz_breakpad.proofs.FunctionLemmas.{more_so_far}
+use Rattle.bz_breakpad.proofs.parser.functions.FunctionsReading.line.Goals as goal
+
+pub returns : goal.returns
+returns c bytes closed current line reads so_far =
+    let table = c.args.self.now.table in
+    let place = c.args.place in
+    more_so_far bytes table (record { functions = table.functions; lines = c.push.new.self; inlinees = table.inlinees })
+    (place ∷ []) [] (Line line ∷ []) c.in_ok-push.ensures.items (sym (append-nil table.inlinees.items)) (rw reads refl) refl
+    c.args.self.now.current closed current refl so_far

@@ -1,0 +1,11 @@
+use Rattle.std.proofs.Common.{refl, ap}
+use Rattle.bz_breakpad.proofs.parser.reading.KeptReading.new.Goals as goal
+
+pub returns : goal.returns
+returns c bytes = record {
+  module_is = record { is = refl; fits = tt };
+  functions = c.new.ensures bytes;
+  files = record { are = rw c.new-2.ensures.empty refl; fit = rw c.new-2.ensures.empty tt };
+  origins = record { are = rw c.new-3.ensures.empty refl; fit = rw c.new-3.ensures.empty tt };
+  publics = record { are = rw c.new-4.ensures.items refl; fit = rw c.new-4.ensures.items tt };
+}

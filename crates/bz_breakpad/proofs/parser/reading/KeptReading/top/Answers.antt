@@ -1,0 +1,89 @@
+use Rattle.std.proofs.Common.{[], ◌∷◌, ◌++◌, Some, ap}
+use Rattle.bz_breakpad.specs.Kept.{IsSoFar}
+use Rattle.bz_breakpad.proofs.parser.reading.KeptReading.top.Goals as goal
+
+pub returns-in-Module : goal.returns-in-Module
+returns-in-Module c bytes body start reading stands end ends is =
+    let named = c.name_part.ensures bytes body start stands end (rw c.in-Module.is at ends) in
+    rw c.in-Module.is (record {
+      module_is = record { is = ap Some named.is; fits = named.fits };
+      functions = c.in_ok-close.ensures bytes reading.closed reading.current is.functions;
+      files = is.files;
+      origins = is.origins;
+      publics = is.publics;
+    })
+
+pub returns-in_ok-keep_name-in-File : goal.returns-in_ok-keep_name-in-File
+returns-in_ok-keep_name-in-File c bytes body start reading stands end ends is =
+    let named = c.name_part-in-File.ensures bytes body start stands end (rw c.in-File.is at ends) in
+    rw c.in-File.is (record {
+      module_is = is.module_is;
+      functions = c.in_ok-close.ensures bytes reading.closed reading.current is.functions;
+      files = c.in_ok-keep_name-in-File.ensures bytes c.in-File.path.now reading.files named is.files;
+      origins = is.origins;
+      publics = is.publics;
+    })
+
+pub returns-in_ok-keep_name-in-InlineOrigin : goal.returns-in_ok-keep_name-in-InlineOrigin
+returns-in_ok-keep_name-in-InlineOrigin c bytes body start reading stands end ends is =
+    let named = c.name_part-in-InlineOrigin.ensures bytes body start stands end (rw c.in-InlineOrigin.is at ends) in
+    rw c.in-InlineOrigin.is (record {
+      module_is = is.module_is;
+      functions = c.in_ok-close.ensures bytes reading.closed reading.current is.functions;
+      files = is.files;
+      origins = c.in_ok-keep_name-in-InlineOrigin.ensures bytes c.in-InlineOrigin.name.now reading.origins named is.origins;
+      publics = is.publics;
+    })
+
+pub returns-in_ok-keep_public-in-Public : goal.returns-in_ok-keep_public-in-Public
+returns-in_ok-keep_public-in-Public c bytes body start reading stands end ends is =
+    let named = c.name_part-in-Public.ensures bytes body start stands end (rw c.in-Public.is at ends) in
+    rw c.in-Public.is (record {
+      module_is = is.module_is;
+      functions = c.in_ok-close.ensures bytes reading.closed reading.current is.functions;
+      files = is.files;
+      origins = is.origins;
+      publics = c.in_ok-keep_public-in-Public.ensures bytes reading.publics named is.publics;
+    })
+
+pub returns-in-Func : goal.returns-in-Func
+returns-in-Func c bytes body start reading stands end ends is =
+    let named = c.name_part-in-Func.ensures bytes body start stands end (rw c.in-Func.is at ends) in
+    let closed = c.in_ok-close.ensures bytes reading.closed reading.current is.functions in
+    rw c.in-Func.is (record {
+      module_is = is.module_is;
+      functions = c.begin.ensures bytes _ named closed;
+      files = is.files;
+      origins = is.origins;
+      publics = is.publics;
+    })
+
+pub returns-in-Info : goal.returns-in-Info
+returns-in-Info c bytes body start reading stands end ends is =
+    rw c.in-Info.is (record {
+      module_is = is.module_is;
+      functions = c.in_ok-close.ensures bytes reading.closed reading.current is.functions;
+      files = is.files;
+      origins = is.origins;
+      publics = is.publics;
+    })
+
+pub returns-in-StackWin : goal.returns-in-StackWin
+returns-in-StackWin c bytes body start reading stands end ends is =
+    rw c.in-StackWin.is (record {
+      module_is = is.module_is;
+      functions = c.in_ok-close.ensures bytes reading.closed reading.current is.functions;
+      files = is.files;
+      origins = is.origins;
+      publics = is.publics;
+    })
+
+pub returns-in-StackCfiInit : goal.returns-in-StackCfiInit
+returns-in-StackCfiInit c bytes body start reading stands end ends is =
+    rw c.in-StackCfiInit.is (record {
+      module_is = is.module_is;
+      functions = c.in_ok-close.ensures bytes reading.closed reading.current is.functions;
+      files = is.files;
+      origins = is.origins;
+      publics = is.publics;
+    })

@@ -1,0 +1,36 @@
+-- The code's walk, at the end of a line, and the step that it makes over one line.
+use Rattle.std.specs.Prelude.{◌≡◌, ◌≤◌, ℕ, Bool, List, ◌∷◌, length, drop, Option, None}
+use Rattle.bz_base.specs.declared.error.Error.{Error}
+use Rattle.bz_base.specs.declared.error.Error.TheVariants as errors
+use Rattle.bz_breakpad.specs.Kept.{IsSoFar}
+use Rattle.bz_breakpad.specs.Line.{line_front}
+use Rattle.bz_breakpad.specs.Reader.{Reading, lines_read}
+use Rattle.bz_breakpad.specs.Told.{context_told}
+use Rattle.bz_breakpad.specs.declared.parser.walk.Walk.{Walk}
+
+-- the line stands at a place in the bytes
+pub record IsLineAt (bytes : List ℕ) (start : ℕ) (line : List ℕ) : Type 0 where
+  pub within : start ≤ length bytes
+  pub line_is : line_front (drop start bytes) ≡ line
+
+-- the walk has read this
+pub record IsWalked (bytes : List ℕ) (walk : Walk) (reading : Reading) : Type 0 where
+  pub so_far : IsSoFar bytes walk.kept reading
+  pub count_is : walk.count ≡ reading.count
+
+-- what the walk gives of the further lines
+abbrev pub walked_on : Walk → Reading → List (List ℕ) → Option Reading
+walked_on walk reading lines = lines_read (context_told walk.context) walk.free reading lines
+
+-- after the line the walk gives of the further lines what it gave before it of the line and them
+pub record IsStep (bytes : List ℕ) (old new : Walk) (line : List ℕ) (reading : Reading) : Type 0 where
+  pub next : Reading
+  pub walked : IsWalked bytes new next
+  pub same : (lines : List (List ℕ)) → walked_on old reading (line ∷ lines) ≡ walked_on new next lines
+
+-- InvalidInput comes only where nothing is read of lines that begin with this one; no other refusal but want of memory comes
+abbrev pub IsRefused : Walk → List ℕ → Error → Type 0
+IsRefused walk line errors.InvalidInput =
+    (reading : Reading) → walk.count ≡ reading.count → (lines : List (List ℕ)) → walked_on walk reading (line ∷ lines) ≡ None
+IsRefused walk line errors.OutOfMemory = Unit {0}
+IsRefused walk line _ = ⊥

@@ -1,0 +1,148 @@
+//! The walk over a file's lines: what a line is depends on the record before it.
+
+ghost use Rattle.std.specs.Prelude.{◌≡◌, ◌<◌, ◌≤◌, ◌+◌, ◌^◌, ℕ, List, ◌&&◌, nat_lt, false, length, is_some, IfErr, OnOk};
+ghost use Rattle.std.specs.List.{prefix_len};
+ghost use Rattle.bz_base.specs.declared.error.Error.{Error};
+ghost use Rattle.bz_breakpad.specs.Byte.{is_nothing, is_white};
+ghost use Rattle.bz_breakpad.specs.Reader.{Reading, nothing_read};
+ghost use Rattle.bz_breakpad.specs.Says.{module_of};
+ghost use Rattle.bz_breakpad.specs.Told.{context_told, record_told};
+ghost use Rattle.bz_breakpad.specs.Walk.{Context, context_after, free_after, text_at};
+ghost use Rattle.bz_breakpad.specs.Walk.Context.{Outside};
+ghost use Rattle.bz_breakpad.specs.Walked.{IsLineAt, IsRefused, IsStep, IsWalked};
+
+use crate::parser::field::body;
+use crate::parser::reading::KeptReading;
+use crate::parser::record::{Context, Range, RecordLine, TopLine, read_record};
+use bz_base::{Error, Result};
+use std::alloc::Global;
+
+/// The walk, at the end of a line.
+#[derive(Drop)]
+pub(crate) struct Walk {
+    /// What has been read.
+    pub kept: KeptReading,
+    /// The ranges of the last INLINE record.
+    pub ranges: Vec<Range>,
+    /// The record under which the next line may stand.
+    pub context: Context,
+    /// Whether white space may stand before the next line.
+    pub free: bool,
+    /// How many records there were.
+    pub count: usize,
+}
+
+impl Walk {
+    /// The walk at the front of a file.
+    pub(crate) fn new(alloc: Global) -> Walk
+        ensures walked { (bytes : List ℕ) → IsWalked bytes result nothing_read }
+        ensures context { context_told result.context ≡ Outside }
+        ensures free { result.free ≡ false }
+    {
+        Walk {
+            kept: KeptReading::new(alloc),
+            ranges: Vec::new(alloc),
+            context: Context::Outside,
+            free: false,
+            count: 0,
+        }
+    }
+
+    /// Reads the line at a place in the bytes.
+    #[tactic(auto, unfolding(crate::specs::Walk::record_at))]
+    pub(crate) fn line(&mut self, start: usize, line: &[u8]) -> Result<()>
+        requires room { start + length line.now < 2 ^ 63 }
+        requires few { self.old.count ≤ start }
+        ensures ok { OnOk result ((bytes : List ℕ) (reading : Reading) → IsLineAt bytes start line.now → IsWalked bytes self.old reading →
+            IsStep bytes self.old self.new line.now reading) }
+        ensures refusal { IfErr result (IsRefused self.old line.now) }
+        ensures few { OnOk result (self.new.count ≤ self.old.count + 1) }
+    {
+        let text = text_of(self.free, line);
+        if is_blank(self.free, text) {
+            return Ok(());
+        }
+        let Some(body) = body(text) else {
+            return Err(Error::InvalidInput);
+        };
+        let Some(found) = read_record(&mut self.ranges, self.context, body)? else {
+            return Err(Error::InvalidInput);
+        };
+        if is_late_module(&found, self.count) {
+            return Err(Error::InvalidInput);
+        }
+        let place = start + (line.len() - text.len());
+        self.context = context_after(&found);
+        self.free = free_after(&found);
+        self.kept.record(found, self.ranges.as_slice(), place, place + body.len())?;
+        self.count += 1;
+        Ok(())
+    }
+}
+
+/// The context of the line after the record.
+fn context_after(found: &RecordLine<'_>) -> Context
+    ensures { (ranges : List Range) → context_told result ≡ context_after (record_told found.now ranges) }
+{
+    match found {
+        RecordLine::Top(TopLine::Func(_)) => Context::InFunc,
+        RecordLine::Top(TopLine::StackCfiInit) => Context::InCfi,
+        RecordLine::Top(_) => Context::Outside,
+        RecordLine::OfFunc(_) => Context::InFunc,
+        RecordLine::OfCfi => Context::InCfi,
+    }
+}
+
+/// Whether white space may stand after the record.
+fn free_after(found: &RecordLine<'_>) -> bool
+    ensures { (ranges : List Range) → result ≡ free_after (record_told found.now ranges) }
+{
+    match found {
+        RecordLine::Top(_) => true,
+        RecordLine::OfFunc(_) => false,
+        RecordLine::OfCfi => false,
+    }
+}
+
+/// Whether the record is a MODULE record.
+fn is_module(found: &RecordLine<'_>) -> bool
+    ensures { (ranges : List Range) → result ≡ is_some (module_of (record_told found.now ranges)) }
+{
+    matches!(found, RecordLine::Top(TopLine::Module(_)))
+}
+
+/// Whether the record is a MODULE record that isn't the first of so many.
+fn is_late_module(found: &RecordLine<'_>, count: usize) -> bool
+    ensures { (ranges : List Range) → result ≡ (is_some (module_of (record_told found.now ranges)) && nat_lt 0 count) }
+{
+    is_module(found) && count > 0
+}
+
+/// Whether the line is blank, of which this is left after white space.
+fn is_blank(free: bool, text: &[u8]) -> bool
+    ensures { result ≡ (free && is_nothing text.now) }
+{
+    free && text.is_empty()
+}
+
+fn is_white(byte: u8) -> bool
+    ensures { result ≡ is_white byte }
+{
+    byte == b' ' || byte == b'\t' || byte == b'\r'
+}
+
+fn white_len(text: &[u8]) -> usize
+    ensures value { result ≡ prefix_len is_white text.now }
+    ensures within { result ≤ length text.now }
+{
+    text.iter().take_while(|b| is_white(**b)).count()
+}
+
+/// The line without the white space at its front, where that may stand.
+#[tactic(auto, unfolding(crate::specs::Walk::text_at))]
+fn text_of(free: bool, line: &[u8]) -> &[u8]
+    ensures text { result.now ≡ text_at free line.now }
+    ensures within { length result.now ≤ length line.now }
+{
+    if free { &line[white_len(line)..] } else { line }
+}
