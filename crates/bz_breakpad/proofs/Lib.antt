@@ -1,10 +1,15 @@
 pub mod Apart
 pub mod Bytes
 pub mod ChoiceLaws
+pub mod FoldLaws
 pub mod FormLaws
+pub mod GrammarLaws
 pub mod Kept
+pub mod NameLemmas
 pub mod Pieces
+pub mod RoleLaws
 pub mod Runs
+pub mod TableLaws
 pub mod Turns
 pub mod WalkKept
 pub mod WalkLaws
