@@ -5,14 +5,14 @@ use Rattle.std.proofs.lemmas.Option.{none-some, some_pair_parts}
 use Rattle.bz_base.specs.Byte.{line_feed}
 use Rattle.bz_base.specs.Line.{ended, AreEnded, ended_lines}
 use Rattle.bz_base.proofs.LineLemmas.{ended_found, ended_again}
-use Rattle.bz_breakpad.specs.Grammar.{Accepted, records_of}
+use Rattle.bz_breakpad.specs.Grammar.{Role, AreRoles, Accepted, records_of}
 use Rattle.bz_breakpad.specs.Reads.{◌>>=◌}
 use Rattle.bz_breakpad.specs.Reader.{Reading, nothing_read, lines_read, table_read, reading_in, counted_in}
 use Rattle.bz_breakpad.specs.Says.{table_of}
 use Rattle.bz_breakpad.specs.Table.{Table}
 use Rattle.bz_breakpad.specs.Walk.{Record}
 use Rattle.bz_breakpad.specs.Walk.Context.{Outside}
-use Rattle.bz_breakpad.proofs.FoldLaws.{folded, Follow, fold_found, fold_again}
+use Rattle.bz_breakpad.proofs.FoldLaws.{folded, Follow, AreFolded, fold_found, fold_again}
 use Rattle.bz_breakpad.proofs.RoleLaws.{roles_exactly}
 use Rattle.bz_breakpad.proofs.TableLaws.{table_folded, folded_count}
 use Rattle.bz_breakpad.proofs.Turns.{bind_some, map_some}
@@ -33,6 +33,33 @@ some_lines : (b : ℕ) (bytes : List ℕ) (lines : List (List ℕ)) → AreEnded
 some_lines b bytes [] are = absurd (omega (arith, ap length are.whole))
 some_lines b bytes (line ∷ lines) are = omega arith
 
+-- lines that have roles are a Breakpad file, and it says what is read of its records
+lines_accepted : (bytes : List ℕ) (lines : List (List ℕ)) (roles : List Role) (reading : Reading) → 0 < length lines → AreEnded bytes lines →
+    AreRoles [] lines roles → Follow false (records_of roles) → folded nothing_read (records_of roles) ≡ reading →
+    Accepted bytes (table_read reading) reading.count
+lines_accepted bytes lines roles reading some are roles_are follow is_fold =
+    let told : counted reading ≡ (table_of (records_of roles), length (records_of roles))
+    = ap counted (sym is_fold) ∙ fold_counted (records_of roles) follow in
+    record {
+      lines = lines;
+      roles = roles;
+      some = some;
+      are_lines = are;
+      are_roles = roles_are;
+      module_first = follow;
+      says = ap (λ x. x.0) told;
+      counts = ap (λ x. x.1) told;
+    }
+
+-- lines that are read are a Breakpad file
+read_accepted : (bytes : List ℕ) (lines : List (List ℕ)) (reading : Reading) → 0 < length lines → AreEnded bytes lines →
+    AreFolded Outside false nothing_read lines reading → Accepted bytes (table_read reading) reading.count
+read_accepted bytes lines reading some are fold =
+    let roles = (roles_exactly [] lines fold.records).0 ((walked_exactly Outside false lines fold.records).0 fold.walked) in
+    let P : List Record → Type 0 = Follow false in
+    let same : folded nothing_read (records_of roles.0) ≡ reading = ap (folded nothing_read) (sym roles.2) ∙ fold.is_fold in
+    lines_accepted bytes lines roles.0 reading some are roles.1 (subst P roles.2 fold.follow) same
+
 -- bytes that are read are a Breakpad file
 pub accepted_found : (bytes : List ℕ) (table : Table) (count : ℕ) → counted_in bytes ≡ Some (table, count) → Accepted bytes table count
 unfolding reading_in
@@ -41,22 +68,9 @@ accepted_found (b ∷ bytes) table count is =
     let reading = map_some counted (reading_in (b ∷ bytes)) (table, count) is in
     let lines = bind_some (ended_lines (b ∷ bytes)) (lines_read Outside false nothing_read) reading.0 reading.1 in
     let are = ended_found (b ∷ bytes) lines.0 lines.1 in
-    let fold = fold_found Outside false nothing_read lines.0 reading.0 lines.2 in
-    let roles = (roles_exactly [] lines.0 fold.records).0 ((walked_exactly Outside false lines.0 fold.records).0 fold.walked) in
-    let P : List Record → Type 0 = Follow false in
-    let follow = subst P roles.2 fold.follow in
-    let told : (table, count) ≡ (table_of (records_of roles.0), length (records_of roles.0))
-    = sym reading.2 ∙ ap counted (sym fold.is_fold) ∙ ap (λ rs. counted (folded nothing_read rs)) roles.2 ∙ fold_counted (records_of roles.0) follow in
-    record {
-      lines = lines.0;
-      roles = roles.0;
-      some = some_lines b bytes lines.0 are;
-      are_lines = are;
-      are_roles = roles.1;
-      module_first = follow;
-      says = ap (λ x. x.0) told;
-      counts = ap (λ x. x.1) told;
-    }
+    let P : Table × ℕ → Type 0 = λ x. Accepted (b ∷ bytes) x.0 x.1 in
+    subst P reading.2
+    (read_accepted (b ∷ bytes) lines.0 reading.0 (some_lines b bytes lines.0 are) are (fold_found Outside false nothing_read lines.0 reading.0 lines.2))
 
 -- bytes that are there are read line by line
 reading_some : (bytes : List ℕ) → 0 < length bytes → reading_in bytes ≡ ended_lines bytes >>= lines_read Outside false nothing_read

@@ -1,7 +1,7 @@
 -- The names of records by id are those of the last records, and there are as many as ids.
-use Rattle.std.proofs.Common.{◌≡◌, ℕ, ◌+◌, ◌<◌, Bool, true, false, cond, nat_eq, List, [], ◌∷◌, length, Option, Some, None, refl, sym, ap, subst, ◌∙◌, arith}
+use Rattle.std.proofs.Common.{◌≡◌, ℕ, ◌+◌, ◌<◌, Bool, true, false, cond, nat_eq, Ordering, Less, Equal, Greater, List, [], ◌∷◌, length, Option, Some, None, refl, sym, ap, subst, ◌∙◌, arith}
 use Rattle.std.specs.BTreeMap.{insert_entry}
-use Rattle.std.specs.Ordering.{Ordering, Less, Equal, Greater, MatchOrdering, is_eq, match_ordering, nat_cmp}
+use Rattle.std.specs.Ordering.{is_eq, match_ordering, nat_cmp}
 use Rattle.std.proofs.lemmas.Bool.{eqb-true, eq-eqb, ne_eqb, false≢true}
 use Rattle.std.proofs.lemmas.Cmp.{ranked}
 use Rattle.bz_breakpad.specs.Names.{with_name, with_names, names_in, name_for, or_earlier, last_name, is_named, id_count, AreLastNames}
