@@ -1,7 +1,7 @@
 -- The lines are read as the records that they are walked as: what is read is the fold of the records.
 use Rattle.std.proofs.Common.{◌≡◌, ℕ, ◌+◌, Bool, true, false, cond, ◌&&◌, nat_lt, is_some, List, [], ◌∷◌, drop, Option, Some, None, option_map, refl, sym, ap, subst, ◌∙◌, arith}
 use Rattle.std.specs.List.{AllByRecursion}
-use Rattle.std.proofs.lemmas.Bool.{and_parts, and_right, lt-ltb, false≢true, true≢false}
+use Rattle.std.proofs.lemmas.Bool.{and_right, lt-ltb, true≢false}
 use Rattle.std.proofs.lemmas.Option.{same_Some, none-some}
 use Rattle.bz_breakpad.specs.Byte.{is_nothing}
 use Rattle.bz_breakpad.specs.Reads.{◌>>=◌}
@@ -21,6 +21,11 @@ abbrev pub Follow : Bool → List Record → Type 0
 Follow true records = AllByRecursion IsNoModule records
 Follow false records = AllByRecursion IsNoModule (drop 1 records)
 
+-- where no record follows, none is a MODULE record
+follow_none : (later : Bool) → Follow later []
+follow_none true = tt
+follow_none false = tt
+
 -- a record and others follow, where the record may follow and no other is a MODULE record
 follow_more : (later : Bool) (r : Record) (records : List Record) (name : Option (List ℕ)) → module_of r ≡ name →
     (is_some name && later) ≡ false → AllByRecursion IsNoModule records → Follow later (r ∷ records)
@@ -29,7 +34,8 @@ follow_more true r records (Some name) is test none = absurd (true≢false test)
 follow_more false r records name is test none = none
 
 -- the record may follow
-follow_first : (later : Bool) (r : Record) (records : List Record) → Follow later (r ∷ records) → (is_some (module_of r) && later) ≡ false
+follow_first : (later : Bool) (r : Record) (records : List Record) → Follow later (r ∷ records) →
+    (is_some (module_of r) && later) ≡ false
 follow_first true r records follow = ap (λ name. is_some name && true) follow.0
 follow_first false r records follow = and_right (is_some (module_of r)) false refl
 
@@ -81,10 +87,8 @@ module _ (c : Context) (free : Bool) (line : List ℕ) (lines : List (List ℕ))
 -- lines that are read are walked, and what is read is the fold
 pub fold_found : (c : Context) (free : Bool) (reading : Reading) (lines : List (List ℕ)) (found : Reading) →
     lines_read c free reading lines ≡ Some found → AreFolded c free reading lines found
-fold_found c free reading [] found is = record { records = []; walked = refl; follow = by (nat_lt 0 reading.count); is_fold = same_Some reading found is } where
-  by : (later : Bool) → Follow later []
-  by true = tt
-  by false = tt
+fold_found c free reading [] found is =
+    record { records = []; walked = refl; follow = follow_none (nat_lt 0 reading.count); is_fold = same_Some reading found is }
 fold_found c free reading (line ∷ lines) found is =
     line_found (free && is_nothing (text_at free line)) refl is (fold_found c free reading lines found) (λ d f next. fold_found d f next lines found) where
       line_found : (test : Bool) → (free && is_nothing (text_at free line)) ≡ test →
@@ -107,13 +111,15 @@ fold_found c free reading (line ∷ lines) found is =
           record {
             records = r ∷ rest.records;
             walked = walk_more c free line lines r test first.1 rest.records rest.walked;
-            follow = follow_more (nat_lt 0 reading.count) r rest.records (module_of r) refl may.0 (subst P (some_read reading r) rest.follow);
+            follow = follow_more (nat_lt 0 reading.count) r rest.records (module_of r) refl may.0
+                (subst P (some_read reading r) rest.follow);
             is_fold = rest.is_fold;
           }
 
 -- lines that are walked are read, and what is read is the fold
 pub fold_again : (c : Context) (free : Bool) (reading : Reading) (lines : List (List ℕ)) (records : List Record) →
-    walk c free lines ≡ Some records → Follow (nat_lt 0 reading.count) records → lines_read c free reading lines ≡ Some (folded reading records)
+    walk c free lines ≡ Some records → Follow (nat_lt 0 reading.count) records →
+    lines_read c free reading lines ≡ Some (folded reading records)
 fold_again c free reading [] records is follow = ap (λ rs. Some (folded reading rs)) (same_Some [] records is)
 fold_again c free reading (line ∷ lines) records is follow =
     line_again (free && is_nothing (text_at free line)) refl is (λ is. fold_again c free reading lines records is follow)
@@ -122,7 +128,7 @@ fold_again c free reading (line ∷ lines) records is follow =
           cond test (walk c free lines) (record_at c (text_at free line) >>= walk_after lines) ≡ Some records →
           (walk c free lines ≡ Some records → lines_read c free reading lines ≡ Some (folded reading records)) →
           ((d : Context) (f : Bool) (next : Reading) (rest : List Record) → walk d f lines ≡ Some rest → Follow (nat_lt 0 next.count) rest →
-              lines_read d f next lines ≡ Some (folded next rest)) →
+          lines_read d f next lines ≡ Some (folded next rest)) →
           lines_read c free reading (line ∷ lines) ≡ Some (folded reading records)
       line_again true test is passed later = rw test (passed is)
       line_again false test is passed later =

@@ -1,7 +1,7 @@
 -- What is read of the bytes is what the grammar says of them.
-use Rattle.std.proofs.Common.{◌≡◌, ℕ, ◌<◌, false, List, [], ◌∷◌, ◌++◌, length, Some, option_map, refl, sym, ap, subst, ◌∙◌, arith, length-append}
+use Rattle.std.proofs.Common.{◌≡◌, ℕ, ◌<◌, false, List, [], ◌∷◌, length, Some, option_map, refl, sym, ap, subst, ◌∙◌, arith, length-append}
 use Rattle.std.specs.List.{flat_map}
-use Rattle.std.proofs.lemmas.Option.{none-some, some_pair_parts}
+use Rattle.std.proofs.lemmas.Option.{none-some}
 use Rattle.bz_base.specs.Byte.{line_feed}
 use Rattle.bz_base.specs.Line.{ended, AreEnded, ended_lines}
 use Rattle.bz_base.proofs.LineLemmas.{ended_found, ended_again}
@@ -93,8 +93,8 @@ accepted_again bytes table count is =
     let some = subst P (sym is.are_lines.whole) (text_some is.lines is.some) in
     let read : reading_in bytes ≡ Some (folded nothing_read records)
     = reading_some bytes some
-        ∙ ap (λ lines. lines >>= lines_read Outside false nothing_read) (ended_again bytes is.lines is.are_lines)
-        ∙ fold_again Outside false nothing_read is.lines records walked is.module_first in
+    ∙ ap (λ lines. lines >>= lines_read Outside false nothing_read) (ended_again bytes is.lines is.are_lines)
+    ∙ fold_again Outside false nothing_read is.lines records walked is.module_first in
     ap (option_map counted) read
     ∙ ap (λ told. Some told) (fold_counted records is.module_first)
     ∙ ap (λ t. Some (t, length records)) (sym is.says)

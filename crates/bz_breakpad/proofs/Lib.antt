@@ -8,6 +8,7 @@ pub mod Kept
 pub mod NameLemmas
 pub mod Pieces
 pub mod RoleLaws
+pub mod Rows
 pub mod Runs
 pub mod TableLaws
 pub mod Turns

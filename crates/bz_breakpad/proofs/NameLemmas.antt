@@ -46,8 +46,12 @@ name_with id k v (e ∷ names) = by (nat_cmp k e.0) refl (name_with id k v names
   by Greater is later =
       ap (cond (is_eq (nat_cmp id e.0)) (Some e.1)) later
       ∙ cond_swap (is_eq (nat_cmp id e.0)) (is_eq (nat_cmp id k)) (Some e.1) (Some v) (name_for id names) (λ at_e at_k.
-        omega (arith, ranked k e.0 Greater is,
-          eqb-true id e.0 (sym (tied id e.0 (nat_cmp id e.0) refl) ∙ at_e), eqb-true id k (sym (tied id k (nat_cmp id k) refl) ∙ at_k)))
+      omega (
+        arith,
+        ranked k e.0 Greater is,
+        eqb-true id e.0 (sym (tied id e.0 (nat_cmp id e.0) refl) ∙ at_e),
+        eqb-true id k (sym (tied id k (nat_cmp id k) refl) ∙ at_k),
+      ))
 
 -- a name between later ones and earlier ones counts where no later one is there
 later_first : (later : Option (List ℕ)) (b : Bool) (name : List ℕ) (earlier : Option (List ℕ)) →
@@ -67,6 +71,7 @@ name_last id (n ∷ records) names =
     ∙ ap (or_earlier (last_name id records)) (name_with id n.id n.name names ∙ ap (λ b. cond b (Some n.name) (name_for id names)) test)
     ∙ later_first (last_name id records) (nat_eq n.id id) n.name (name_for id names)
 
+-- a name counts where no earlier one is there
 or_none : (o : Option (List ℕ)) → or_earlier o None ≡ o
 or_none None = refl
 or_none (Some name) = refl
@@ -87,7 +92,8 @@ above_less j k [] less above = tt
 above_less j k (e ∷ names) less above = (omega arith, above_less j k names less above.1)
 
 -- with one more above an id, all are
-above_with : (j k : ℕ) (v : List ℕ) (names : List (ℕ × List ℕ)) → j < k → AllAbove j names → AllAbove j (insert_entry nat_cmp names k v)
+above_with : (j k : ℕ) (v : List ℕ) (names : List (ℕ × List ℕ)) → j < k → AllAbove j names →
+    AllAbove j (insert_entry nat_cmp names k v)
 above_with j k v [] less above = (less, tt)
 above_with j k v (e ∷ names) less above = by (nat_cmp k e.0) (above_with j k v names less above.1) where
   by : (r : Ordering) → AllAbove j (insert_entry nat_cmp names k v) →
@@ -115,6 +121,7 @@ abbrev unnamed : List Named → List (ℕ × List ℕ) → ℕ
 unnamed records [] = 0
 unnamed records (e ∷ names) = unless_named e.0 records + unnamed records names
 
+-- no records have none of the ids
 unnamed_all : (names : List (ℕ × List ℕ)) → unnamed [] names ≡ length names
 unnamed_all [] = refl
 unnamed_all (e ∷ names) = omega (arith, unnamed_all names)
@@ -123,11 +130,13 @@ unnamed_all (e ∷ names) = omega (arith, unnamed_all names)
 other_id : (n : Named) (records : List Named) (id : ℕ) → (n.id ≡ id → ⊥) → unless_named id (n ∷ records) ≡ unless_named id records
 other_id n records id other = rw (ne_eqb n.id id other) refl
 
+-- a record has its own id
 own_id : (n : Named) (records : List Named) (id : ℕ) → n.id ≡ id → unless_named id (n ∷ records) ≡ 0
 own_id n records id own = rw (eq-eqb n.id id own) refl
 
 -- a record whose id is below all of the names has none of theirs
-unnamed_above : (n : Named) (records : List Named) (names : List (ℕ × List ℕ)) → AllAbove n.id names → unnamed (n ∷ records) names ≡ unnamed records names
+unnamed_above : (n : Named) (records : List Named) (names : List (ℕ × List ℕ)) → AllAbove n.id names →
+    unnamed (n ∷ records) names ≡ unnamed records names
 unnamed_above n records [] above = refl
 unnamed_above n records (e ∷ names) above =
     omega (arith, other_id n records e.0 (λ same. omega (arith, above.0, same)), unnamed_above n records names above.1)

@@ -1,5 +1,5 @@
 -- The lines have roles exactly where they are walked: the records are those among the roles.
-use Rattle.std.proofs.Common.{◌≡◌, ◌↔◌, ℕ, Bool, true, inl, inr, List, [], ◌∷◌, refl, sym, ap, subst, ◌∙◌}
+use Rattle.std.proofs.Common.{◌≡◌, ◌↔◌, ℕ, Bool, inl, inr, List, [], ◌∷◌, refl, sym, ap, subst, ◌∙◌}
 use Rattle.bz_breakpad.specs.Grammar.{Role, is_free, under_owner, AreRoles, records_of}
 use Rattle.bz_breakpad.specs.Grammar.Role.{Blank, Is}
 use Rattle.bz_breakpad.specs.Choice.{One}

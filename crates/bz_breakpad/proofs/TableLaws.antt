@@ -9,7 +9,7 @@ use Rattle.bz_breakpad.specs.Reader.{Reading, nothing_read, listed, functions_re
 use Rattle.bz_breakpad.specs.Records.{TOP, INNER}
 use Rattle.bz_breakpad.specs.Says.{Top, Sub, top_of, sub_of, module_of, file_of, origin_of, public_of, line_of, inlinees_of, own, with_own, function_with, functions_of, module_first, table_of}
 use Rattle.bz_breakpad.specs.Says.Top.{Module, Info, File, Origin, Public, Func, StackWin, StackCfiInit}
-use Rattle.bz_breakpad.specs.Table.{SourceLine, Inlinee, Function, Named, PublicSymbol, Table}
+use Rattle.bz_breakpad.specs.Table.{SourceLine, Inlinee, Function, Named, PublicSymbol}
 use Rattle.bz_breakpad.specs.Walk as Walk
 use Rattle.bz_breakpad.specs.Walk.{Record}
 use Rattle.bz_breakpad.specs.Walk.Record.{OfFunc, OfCfi}
@@ -37,7 +37,7 @@ own_more f subs more =
     = append_assoc f.lines (flat_map line_of subs) (flat_map line_of more) ∙ ap (λ ls. f.lines ++ ls) (sym (flat_map-append line_of subs more)) in
     let inlinees : (f.inlinees ++ flat_map inlinees_of subs) ++ flat_map inlinees_of more ≡ f.inlinees ++ flat_map inlinees_of (subs ++ more)
     = append_assoc f.inlinees (flat_map inlinees_of subs) (flat_map inlinees_of more)
-        ∙ ap (λ ls. f.inlinees ++ ls) (sym (flat_map-append inlinees_of subs more)) in
+    ∙ ap (λ ls. f.inlinees ++ ls) (sym (flat_map-append inlinees_of subs more)) in
     ap (λ ls. listing f ls ((f.inlinees ++ flat_map inlinees_of subs) ++ flat_map inlinees_of more)) lines
     ∙ ap (listing f (f.lines ++ flat_map line_of (subs ++ more))) inlinees
 
@@ -46,6 +46,7 @@ abbrev functions_after : Option Function → List Record → List Function
 functions_after None records = functions_of records
 functions_after (Some f) records = with_own f (own records) ∷ functions_of records
 
+-- with no more records, the function that was begun is all
 after_none : (current : Option Function) → functions_after current [] ≡ listed current
 after_none None = refl
 after_none (Some f) = ap (λ g. g ∷ []) (own_none f)
@@ -76,6 +77,7 @@ func_more : (one : One INNER) (records : List Record) (current : Option Function
 func_more one records None = refl
 func_more one records (Some f) = ap (λ g. g ∷ functions_of records) (own_more f (sub_of one ∷ []) (own records))
 
+-- a STACK CFI record goes into no function
 cfi_more : (records : List Record) (current : Option Function) → functions_after current records ≡ functions_after current (OfCfi ∷ records)
 cfi_more records None = refl
 cfi_more records (Some f) = refl
@@ -94,26 +96,34 @@ folded_functions (OfCfi ∷ records) reading =
     folded_functions records (with_record reading OfCfi) ∙ ap (λ fs. reading.closed ++ fs) (cfi_more records reading.current)
 
 -- one name more, where there is one
-names_more : (names : List (ℕ × List ℕ)) (o : Option Named) (more : List Named) → with_names (with_names names (listed o)) more ≡ with_names names (cons_option o more)
+names_more : (names : List (ℕ × List ℕ)) (o : Option Named) (more : List Named) →
+    with_names (with_names names (listed o)) more ≡ with_names names (cons_option o more)
 names_more names None more = refl
 names_more names (Some named) more = refl
 
-folded_files : (records : List Record) (reading : Reading) → (folded reading records).files ≡ with_names reading.files (filter_map file_of records)
+-- the names of files are those before, with those of the records
+folded_files : (records : List Record) (reading : Reading) →
+    (folded reading records).files ≡ with_names reading.files (filter_map file_of records)
 folded_files [] reading = refl
 folded_files (r ∷ records) reading =
     folded_files records (with_record reading r) ∙ names_more reading.files (file_of r) (filter_map file_of records)
 
-folded_origins : (records : List Record) (reading : Reading) → (folded reading records).origins ≡ with_names reading.origins (filter_map origin_of records)
+-- the names of inlined functions are those before, with those of the records
+folded_origins : (records : List Record) (reading : Reading) →
+    (folded reading records).origins ≡ with_names reading.origins (filter_map origin_of records)
 folded_origins [] reading = refl
 folded_origins (r ∷ records) reading =
     folded_origins records (with_record reading r) ∙ names_more reading.origins (origin_of r) (filter_map origin_of records)
 
 -- one PUBLIC record more, where the record is one
-publics_more : (publics : List PublicSymbol) (o : Option PublicSymbol) (more : List PublicSymbol) → publics_with publics o ++ more ≡ publics ++ cons_option o more
+publics_more : (publics : List PublicSymbol) (o : Option PublicSymbol) (more : List PublicSymbol) →
+    publics_with publics o ++ more ≡ publics ++ cons_option o more
 publics_more publics None more = refl
 publics_more publics (Some symbol) more = append_assoc publics (symbol ∷ []) more
 
-folded_publics : (records : List Record) (reading : Reading) → (folded reading records).publics ≡ reading.publics ++ filter_map public_of records
+-- the PUBLIC records are those before, and then those among the records
+folded_publics : (records : List Record) (reading : Reading) →
+    (folded reading records).publics ≡ reading.publics ++ filter_map public_of records
 folded_publics [] reading = sym (append-nil reading.publics)
 folded_publics (r ∷ records) reading =
     folded_publics records (with_record reading r) ∙ publics_more reading.publics (public_of r) (filter_map public_of records)
@@ -124,10 +134,13 @@ folded_count [] reading = omega arith
 folded_count (r ∷ records) reading = omega (arith, folded_count records (with_record reading r))
 
 -- where no record is a MODULE record, the module stays
-folded_module : (records : List Record) (reading : Reading) → AllByRecursion IsNoModule records → (folded reading records).«module» ≡ reading.«module»
+folded_module : (records : List Record) (reading : Reading) → AllByRecursion IsNoModule records →
+    (folded reading records).«module» ≡ reading.«module»
 folded_module [] reading none = refl
-folded_module (r ∷ records) reading none = folded_module records (with_record reading r) none.1 ∙ ap (module_with reading.«module») none.0
+folded_module (r ∷ records) reading none =
+    folded_module records (with_record reading r) none.1 ∙ ap (module_with reading.«module») none.0
 
+-- a first module is the one that is named
 module_alone : (name : Option (List ℕ)) → module_with None name ≡ name
 module_alone None = refl
 module_alone (Some name) = refl
@@ -135,7 +148,8 @@ module_alone (Some name) = refl
 -- the module is the one of the first record
 module_read : (records : List Record) → Follow false records → (folded nothing_read records).«module» ≡ module_first records
 module_read [] follow = refl
-module_read (r ∷ records) follow = folded_module records (with_record nothing_read r) follow ∙ module_alone (module_of r)
+module_read (r ∷ records) follow =
+    folded_module records (with_record nothing_read r) follow ∙ module_alone (module_of r)
 
 -- the table that is read of the records is the one that they make
 pub table_folded : (records : List Record) → Follow false records → table_read (folded nothing_read records) ≡ table_of records
