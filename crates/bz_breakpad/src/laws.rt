@@ -1,8 +1,13 @@
 //! What holds of this crate's definitions.
 
+ghost use Rattle.std.specs.Prelude.{◌≡◌, ◌↔◌, ℕ, List, Option, Some};
+ghost use Rattle.bz_breakpad.specs.Grammar.{Accepted};
+ghost use Rattle.bz_breakpad.specs.Names.{AreLastNames, names_in};
+ghost use Rattle.bz_breakpad.specs.Reader.{counted_in};
 ghost use Rattle.bz_breakpad.specs.Records.{MODULE, INFO, FILE, INLINE_ORIGIN, PUBLIC, FUNC, STACK_WIN, STACK_CFI_INIT, STACK_CFI, LINE, INLINE, INNER_ORIGIN, TOP, INNER};
 ghost use Rattle.bz_breakpad.specs.Choice.{AreReadExactly};
 ghost use Rattle.bz_breakpad.specs.Reads.{IsReadExactly};
+ghost use Rattle.bz_breakpad.specs.Table.{Named, Table};
 ghost use Rattle.bz_breakpad.specs.Walk.{IsWalkedExactly};
 
 /// Each form is read from exactly the lines that have it.
@@ -30,4 +35,14 @@ pub fn lines_are_read()
 /// The lines of a file are read as the records that they are.
 pub fn files_are_walked()
     ensures { IsWalkedExactly }
+{}
+
+/// What is read of the bytes is what the grammar says of them, wherever they are a Breakpad file.
+pub fn reading_accepts()
+    ensures { (bytes : List ℕ) (table : Table) (count : ℕ) → (counted_in bytes ≡ Some (table, count)) ↔ Accepted bytes table count }
+{}
+
+/// The names of ids are those of the last records, and there are as many as ids.
+pub fn last_names_count()
+    ensures { (records : List Named) → AreLastNames records (names_in records) }
 {}
