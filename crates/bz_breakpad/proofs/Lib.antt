@@ -7,6 +7,7 @@ pub mod FunctionLemmas
 pub mod GrammarLaws
 pub mod Kept
 pub mod KeptLemmas
+pub mod MidwayLemmas
 pub mod NameEnds
 pub mod NameLemmas
 pub mod Pieces

@@ -8,6 +8,7 @@ pub mod Names
 pub mod Reader
 pub mod Reads
 pub mod Records
+pub mod Refusal
 pub mod Says
 pub mod Table
 pub mod Told

@@ -1,10 +1,12 @@
 -- The code's walk, at the end of a line, and the step that it makes over one line.
-use Rattle.std.specs.Prelude.{◌≡◌, ◌≤◌, ℕ, Bool, List, ◌∷◌, length, drop, Option, None}
+use Rattle.std.specs.Prelude.{◌≡◌, ◌≤◌, ◌-◌, ℕ, List, ◌∷◌, length, drop, Option, Some, None}
+use Rattle.bz_base.specs.Line.{ended_lines}
 use Rattle.bz_base.specs.declared.error.Error.{Error}
 use Rattle.bz_base.specs.declared.error.Error.TheVariants as errors
 use Rattle.bz_breakpad.specs.Kept.{IsSoFar}
 use Rattle.bz_breakpad.specs.Line.{line_front}
-use Rattle.bz_breakpad.specs.Reader.{Reading, lines_read}
+use Rattle.bz_breakpad.specs.Reader.{Reading, lines_read, reading_in}
+use Rattle.bz_breakpad.specs.Reads.{◌>>=◌}
 use Rattle.bz_breakpad.specs.Told.{context_told}
 use Rattle.bz_breakpad.specs.declared.parser.walk.Walk.{Walk}
 
@@ -34,3 +36,22 @@ IsRefused walk line errors.InvalidInput =
     (reading : Reading) → walk.count ≡ reading.count → (lines : List (List ℕ)) → walked_on walk reading (line ∷ lines) ≡ None
 IsRefused walk line errors.OutOfMemory = Unit {0}
 IsRefused walk line _ = ⊥
+
+-- what is read of the lines, if there are any
+abbrev pub lines_on : Walk → Reading → Option (List (List ℕ)) → Option Reading
+lines_on walk reading lines = lines >>= walked_on walk reading
+
+-- the walk has read the bytes up to the rest, and reads of the rest what is read of the bytes
+pub record IsMidway (bytes rest : List ℕ) (walk : Walk) : Type 0 where
+  pub reading : Reading
+  pub walked : IsWalked bytes walk reading
+  pub within : length rest ≤ length bytes
+  pub rest_is : drop (length bytes - length rest) bytes ≡ rest
+  pub left : lines_on walk reading (ended_lines rest) ≡ reading_in bytes
+  pub few : walk.count ≤ length bytes - length rest
+
+-- the walk has read the bytes
+pub record HasRead (bytes : List ℕ) (walk : Walk) : Type 0 where
+  pub reading : Reading
+  pub walked : IsWalked bytes walk reading
+  pub is : reading_in bytes ≡ Some reading

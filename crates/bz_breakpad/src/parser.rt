@@ -5,3 +5,28 @@ pub(crate) mod functions;
 pub(crate) mod reading;
 pub(crate) mod record;
 pub(crate) mod walk;
+
+ghost use Rattle.std.specs.Prelude.{◌≡◌, ℕ, List, IfOk, IfErr};
+ghost use Rattle.bz_breakpad.specs.Reader.{reading_in};
+ghost use Rattle.bz_breakpad.specs.Refusal.{Refuses};
+ghost use Rattle.bz_breakpad.specs.Walked.{HasRead};
+
+use crate::parser::walk::Walk;
+use bz_base::{Error, Result};
+use std::alloc::Global;
+
+/// Reads a Breakpad text.
+pub(crate) fn read(alloc: Global, text: &[u8]) -> Result<Walk>
+    ensures ok { IfOk result (HasRead text.now) }
+    ensures refusal { IfErr result (Refuses (reading_in text.now)) }
+{
+    if text.is_empty() {
+        return Err(Error::InvalidInput);
+    }
+    let mut walk = Walk::new(alloc);
+    let mut rest = text;
+    while !rest.is_empty() {
+        rest = walk.next(text, rest)?;
+    }
+    Ok(walk)
+}

@@ -1,20 +1,21 @@
 //! The walk over a file's lines: what a line is depends on the record before it.
 
-ghost use Rattle.std.specs.Prelude.{◌≡◌, ◌<◌, ◌≤◌, ◌+◌, ◌^◌, ℕ, List, ◌&&◌, nat_lt, false, length, is_some, IfErr, OnOk};
+ghost use Rattle.std.specs.Prelude.{◌≡◌, ◌<◌, ◌≤◌, ◌+◌, ◌^◌, ℕ, List, ◌&&◌, nat_lt, false, length, is_some, IfOk, IfErr, OnOk};
 ghost use Rattle.std.specs.List.{prefix_len};
 ghost use Rattle.bz_base.specs.declared.error.Error.{Error};
 ghost use Rattle.bz_breakpad.specs.Byte.{is_nothing, is_white};
-ghost use Rattle.bz_breakpad.specs.Reader.{Reading, nothing_read};
+ghost use Rattle.bz_breakpad.specs.Reader.{Reading, nothing_read, reading_in};
+ghost use Rattle.bz_breakpad.specs.Refusal.{Refuses};
 ghost use Rattle.bz_breakpad.specs.Says.{module_of};
 ghost use Rattle.bz_breakpad.specs.Told.{context_told, record_told};
 ghost use Rattle.bz_breakpad.specs.Walk.{Context, context_after, free_after, text_at};
 ghost use Rattle.bz_breakpad.specs.Walk.Context.{Outside};
-ghost use Rattle.bz_breakpad.specs.Walked.{IsLineAt, IsRefused, IsStep, IsWalked};
+ghost use Rattle.bz_breakpad.specs.Walked.{IsLineAt, IsMidway, IsRefused, IsStep, IsWalked};
 
 use crate::parser::field::body;
 use crate::parser::reading::KeptReading;
 use crate::parser::record::{Context, Range, RecordLine, TopLine, read_record};
-use bz_base::{Error, Result};
+use bz_base::{Error, Result, next_line};
 use std::alloc::Global;
 
 /// The walk, at the end of a line.
@@ -48,9 +49,24 @@ impl Walk {
         }
     }
 
+    /// Reads the first line of the rest of a text, and returns the rest after it.
+    pub(crate) fn next<'a>(&mut self, text: &[u8], rest: &'a [u8]) -> Result<&'a [u8]>
+        requires midway { IsMidway text.now rest.now self.old }
+        requires some { 0 < length rest.now }
+        ensures ok { IfOk result (λ after. IsMidway text.now after.now self.new) }
+        ensures shorter { IfOk result (λ after. length after.now < length rest.now) }
+        ensures refusal { IfErr result (Refuses (reading_in text.now)) }
+    {
+        let Some((line, after)) = next_line(rest) else {
+            return Err(Error::InvalidInput);
+        };
+        self.line(text.len() - rest.len(), line)?;
+        Ok(after)
+    }
+
     /// Reads the line at a place in the bytes.
     #[tactic(auto, unfolding(crate::specs::Walk::record_at))]
-    pub(crate) fn line(&mut self, start: usize, line: &[u8]) -> Result<()>
+    fn line(&mut self, start: usize, line: &[u8]) -> Result<()>
         requires room { start + length line.now < 2 ^ 63 }
         requires few { self.old.count ≤ start }
         ensures ok { OnOk result ((bytes : List ℕ) (reading : Reading) → IsLineAt bytes start line.now → IsWalked bytes self.old reading →
