@@ -3,7 +3,9 @@ pub mod Bytes
 pub mod ChoiceLaws
 pub mod FormLaws
 pub mod Kept
+pub mod LaneLemmas
 pub mod Pieces
+pub mod PlainLemmas
 pub mod Runs
 pub mod Turns
 pub mod WalkKept

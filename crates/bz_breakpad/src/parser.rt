@@ -2,5 +2,7 @@
 
 pub(crate) mod field;
 pub(crate) mod functions;
+pub(crate) mod lanes;
+pub(crate) mod plain;
 pub(crate) mod reading;
 pub(crate) mod record;
