@@ -7,11 +7,13 @@ pub mod FunctionLemmas
 pub mod GrammarLaws
 pub mod Kept
 pub mod KeptLemmas
+pub mod LaneLemmas
 pub mod MidwayLemmas
 pub mod NameEnds
 pub mod NameLemmas
 pub mod Pieces
 pub mod PlaceLemmas
+pub mod PlainLemmas
 pub mod RoleLaws
 pub mod Rows
 pub mod Runs

@@ -5,6 +5,7 @@ pub mod Grammar
 pub mod Kept
 pub mod Line
 pub mod Names
+pub mod PlainLine
 pub mod Reader
 pub mod Reads
 pub mod Records

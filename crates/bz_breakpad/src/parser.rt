@@ -2,6 +2,8 @@
 
 pub(crate) mod field;
 pub(crate) mod functions;
+pub(crate) mod lanes;
+pub(crate) mod plain;
 pub(crate) mod reading;
 pub(crate) mod record;
 pub(crate) mod walk;

@@ -1,0 +1,82 @@
+-- From the bits of one load to where the digits of a field end.
+use Rattle.std.proofs.Common.{◌≡◌, ℕ, zero, suc, ◌+◌, ◌-◌, ◌*◌, ◌/◌, ◌%◌, ◌^◌, ◌<◌, ◌≤◌, Bool, true, false, cond, not, List, [], ◌∷◌, map, length, take, drop, get_or, Fits, w8, refl, sym, ap, ap₂, ◌∙◌, arith, inl, inr}
+use Rattle.std.specs.List.{prefix_len}
+use Rattle.std.proofs.lemmas.Bool.{agree_below, agree_below_at, cases_eq, cond-false, ne_eqb}
+use Rattle.std.proofs.lemmas.List.{length-map, length-drop, length-take-le, take-append-drop, drop-take}
+use Rattle.std.proofs.lemmas.List.Folds.{prefix_len-append}
+use Rattle.std.proofs.lemmas.Nat.{shr-shr}
+use Rattle.std.proofs.lemmas.Simd.{map-map, mask_l-mod, trailing_mask_l}
+use Rattle.std.proofs.Math.Nat.{div-one, div-le_self}
+use lib.Count.{count_trailing_zeros}
+use lib.Lanes.{mask_l, top}
+
+-- two tests that agree on each byte give the same bits
+same_bits : (g h : ℕ → Bool) → agree_below g h 256 ≡ true → (n : ℕ) (text : List ℕ) → ((k : ℕ) → get_or text k 0 < 256) →
+    map g (take n text) ≡ map h (take n text)
+same_bits g h agree zero [] bytes = refl
+same_bits g h agree (suc n) [] bytes = refl
+same_bits g h agree zero (b ∷ text) bytes = refl
+same_bits g h agree (suc n) (b ∷ text) bytes =
+    ap₂ (λ bit bits. bit ∷ bits) (agree_below_at g h 256 b agree (bytes 0)) (same_bits g h agree n text (λ k. bytes (suc k)))
+
+-- the top bits of lanes that are computed from the bytes are those of a test that agrees with them on each byte
+pub bits_are : (test : ℕ → Bool) (text lanes : List ℕ) → 32 ≤ length text → ((k : ℕ) → Fits w8 (get_or text k 0)) →
+    (lane : ℕ → ℕ) → lanes ≡ map lane (take 32 text) → agree_below (λ b. top 7 (lane b)) test 256 ≡ true →
+    mask_l (map (top 7) lanes) % 2 ^ 64 ≡ mask_l (map test (take 32 text))
+bits_are test text lanes room fits lane lanes_are agree =
+    let load = take 32 text in
+    ap (λ l. mask_l (map (top 7) l) % 2 ^ 64) lanes_are
+    ∙ ap (λ l. mask_l l % 2 ^ 64) (map-map (top 7) lane load ∙ same_bits (λ b. top 7 (lane b)) test agree 32 text (λ k. (fits k).fits))
+    ∙ mask_l-mod (map test load) 64 (omega (arith, length-map load test, length-take-le 32 text room))
+
+-- without its lowest bit
+half_of : (bit : Bool) (m : ℕ) → (cond bit 1 0 + 2 * m) / 2 ≡ m
+half_of true m = omega arith
+half_of false m = omega arith
+
+-- the bits from a place on
+bits_from : (test : ℕ → Bool) (k : ℕ) (text : List ℕ) → mask_l (map test text) / 2 ^ k ≡ mask_l (map test (drop k text))
+bits_from test zero text = div-one (mask_l (map test text))
+bits_from test (suc k) [] = omega (arith, div-le_self 0 (2 ^ suc k))
+bits_from test (suc k) (b ∷ text) =
+    let m = mask_l (map test text) in
+    let n : ℕ = cond (test b) 1 0 + 2 * m in
+    let more : suc k ≡ 1 + k = omega arith in
+    ap (λ e. n / 2 ^ e) more ∙ sym (shr-shr n 1 k) ∙ ap (λ h. h / 2 ^ k) (half_of (test b) m) ∙ bits_from test k text
+
+-- a run of the bytes that don't fail is one of those that pass
+double_not : (p : ℕ → Bool) (text : List ℕ) → prefix_len (λ b. not (not (p b))) text ≡ prefix_len p text
+double_not p [] = refl
+double_not p (b ∷ text) = step (p b) (prefix_len (λ c. not (not (p c))) text) (prefix_len p text) (double_not p text) where
+  step : (test : Bool) (m n : ℕ) → m ≡ n → cond (not (not test)) (1 + m) 0 ≡ cond test (1 + n) 0
+  step true m n same = ap (λ k. 1 + k) same
+  step false m n same = refl
+
+-- a run that ends within the front ends there in the whole
+run_in_front : (p : ℕ → Bool) (n : ℕ) (text : List ℕ) → n ≤ length text → prefix_len p (take n text) < n →
+    prefix_len p text ≡ prefix_len p (take n text)
+run_in_front p n text within ends =
+    let front = take n text in
+    let long : length front ≡ n = length-take-le n text within in
+    sym (ap (prefix_len p) (take-append-drop n text)) ∙ prefix_len-append p front (drop n text)
+    ∙ cond-false _ _ _ (ne_eqb (prefix_len p front) (length front) (λ same. omega (arith, long)))
+
+-- the bytes before the next bit are the run from a place on, if it ends within the load
+pub run_by_bits : (p : ℕ → Bool) (bits from : ℕ) (text : List ℕ) → 32 ≤ length text → bits ≡ mask_l (map (λ b. not (p b)) (take 32 text)) →
+    from + count_trailing_zeros 64 (bits / 2 ^ from) < 32 → prefix_len p (drop from text) ≡ count_trailing_zeros 64 (bits / 2 ^ from)
+unfolding count_trailing_zeros
+run_by_bits p bits from text room load ends =
+    let fails : ℕ → Bool = λ b. not (p b) in
+    let n = 32 - from in
+    let tail = drop from text in
+    let long : length (take n tail) ≡ n = length-take-le n tail (omega (arith, length-drop from text)) in
+    let split : from + n ≡ 32 = omega arith in
+    let here : drop from (take 32 text) ≡ take n tail = ap (λ k. drop from (take k text)) (sym split) ∙ drop-take from n text in
+    let shifted = ap (λ m. m / 2 ^ from) load ∙ bits_from fails from (take 32 text) ∙ ap (λ l. mask_l (map fails l)) here in
+    let counted = ap (count_trailing_zeros 64) shifted in
+    elim (cases_eq (mask_l (map fails (take n tail))) 0) [
+      | inl none ↦ absurd (let all : count_trailing_zeros 64 (bits / 2 ^ from) ≡ 64 = counted ∙ ap (count_trailing_zeros 64) none in omega arith)
+      | inr some ↦
+          let run = counted ∙ trailing_mask_l fails 64 (take n tail) (omega (arith, long)) (omega arith) ∙ double_not p (take n tail) in
+          run_in_front p n tail (omega (arith, length-drop from text)) (omega (arith, run)) ∙ sym run
+    ]
