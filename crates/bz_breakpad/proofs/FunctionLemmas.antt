@@ -1,16 +1,13 @@
 -- The functions that are kept: a line record or inlined calls more belong to the one whose records are being read.
-use Rattle.std.proofs.Common.{◌≡◌, ℕ, ◌-◌, ◌≤◌, List, [], ◌∷◌, ◌++◌, length, take, drop, map, Option, Some, None, option_map, IfSome, refl, sym, ap, ap₂, ◌∙◌, arith, append-nil, length-append, length-drop}
-use Rattle.std.specs.List.{AllByRecursion, filter_map, flat_map, slice_range}
-use Rattle.std.proofs.Math.Seq.{drop-length, take-length}
+use Rattle.std.proofs.Common.{◌≡◌, ℕ, ◌-◌, ◌≤◌, List, [], ◌∷◌, ◌++◌, length, take, drop, map, Option, Some, None, option_map, IfSome, refl, ap, ◌∙◌, arith, append-nil, length-append, length-drop}
+use Rattle.std.specs.List.{AllByRecursion, flat_map, slice_range}
 use Rattle.std.proofs.lemmas.List.{take-append-le, drop-append-le, map-append, take_rest}
 use Rattle.std.proofs.lemmas.List.Elements.{filter_map-append}
-use Rattle.bz_breakpad.specs.Kept.{IsPart, IsNameAt, FunctionFits, CurrentFits, FunctionsFit, FunctionsSoFar, inlinee_kept, kept_inlinee, kept_lines, kept_function, kept_functions, current_function, text_at}
+use Rattle.bz_breakpad.specs.Kept.{IsPart, FunctionFits, CurrentFits, FunctionsSoFar, inlinee_kept, kept_inlinee, kept_lines, kept_function, current_function}
 use Rattle.bz_breakpad.specs.Line.{line_in}
-use Rattle.bz_breakpad.specs.Reader.{listed}
 use Rattle.bz_breakpad.specs.Says.{Sub, with_own, line_of, inlinees_in, inlinees_of}
-use Rattle.bz_breakpad.specs.Says.Sub.{Line, Inline}
-use Rattle.bz_breakpad.specs.Table.{Function, SourceLine}
-use Rattle.bz_breakpad.specs.declared.parser.functions.FunctionsReading.{FunctionsReading}
+use Rattle.bz_breakpad.specs.Says.Sub.{Inline}
+use Rattle.bz_breakpad.specs.Table.{Function}
 use Rattle.bz_breakpad.specs.Told.{inline_told, inlinee_told, inlinees_told}
 use Rattle.bz_breakpad.specs.declared.parser.record.InlineCall.{InlineCall}
 use Rattle.bz_breakpad.specs.declared.parser.record.Range.{Range}
@@ -18,7 +15,7 @@ use Rattle.bz_breakpad.specs.declared.types.FunctionTable.{FunctionTable}
 use Rattle.bz_breakpad.specs.declared.types.KeptFunction.{KeptFunction}
 use Rattle.bz_breakpad.specs.declared.types.KeptInlinee.{KeptInlinee}
 use Rattle.bz_breakpad.specs.declared.types.Part.{Part}
-use Rattle.bz_breakpad.proofs.KeptLemmas.{all_and_one, all_weaker}
+use Rattle.bz_breakpad.proofs.KeptLemmas.{all_weaker}
 
 -- a part of a table is the same where more follows
 part_more : {A : Type 0} (xs more : List A) (part : Part) → IsPart (length xs) part →

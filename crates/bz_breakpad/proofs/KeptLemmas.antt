@@ -1,16 +1,13 @@
 -- What is kept of a file as it is read: one record more leaves what was kept before.
-use Rattle.std.proofs.Common.{◌≡◌, ℕ, ◌+◌, ◌-◌, ◌≤◌, List, [], ◌∷◌, ◌++◌, length, take, drop, map, Option, Some, None, refl, sym, ap, ap₂, ◌∙◌, arith, append-nil, length-append, length-drop}
+use Rattle.std.proofs.Common.{◌≡◌, ℕ, List, [], ◌∷◌, ◌++◌, map, refl, ap, ◌∙◌}
 use Rattle.std.specs.BTreeMap.{BTreeMap, insert_entry}
-use Rattle.std.specs.List.{AllByRecursion, filter_map, slice_range}
+use Rattle.std.specs.List.{AllByRecursion}
 use Rattle.std.specs.Map.{values_of}
 use Rattle.std.specs.Ordering.{nat_cmp}
 use Rattle.std.specs.declared.cmp.Ordering.{Ordering}
 use Rattle.std.specs.declared.cmp.Ordering.TheVariants.{Less, Equal, Greater}
-use Rattle.std.proofs.lemmas.List.{take-append-le, drop-append-le, map-append}
-use Rattle.std.proofs.lemmas.List.Elements.{filter_map-append}
-use Rattle.bz_breakpad.specs.Kept.{IsTextAt, IsNameAt, NamesSoFar, kept_names, text_at}
+use Rattle.bz_breakpad.specs.Kept.{IsTextAt, IsNameAt, NamesSoFar, text_at}
 use Rattle.bz_breakpad.specs.Names.{with_name}
-use Rattle.bz_breakpad.specs.Table.{Named}
 use Rattle.bz_breakpad.specs.declared.types.Part.{Part}
 
 -- what holds of each, and of one more, holds of all

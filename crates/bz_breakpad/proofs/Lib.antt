@@ -1,6 +1,7 @@
 pub mod Apart
 pub mod Bytes
 pub mod ChoiceLaws
+pub mod FinishLemmas
 pub mod FoldLaws
 pub mod FormLaws
 pub mod FunctionLemmas
@@ -17,6 +18,7 @@ pub mod PlainLemmas
 pub mod RoleLaws
 pub mod Rows
 pub mod Runs
+pub mod SortedLemmas
 pub mod StepLemmas
 pub mod TableLaws
 pub mod Turns

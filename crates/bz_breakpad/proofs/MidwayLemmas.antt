@@ -1,5 +1,5 @@
 -- The walk over all lines: what is read of the rest is what is read of the bytes.
-use Rattle.std.proofs.Common.{◌≡◌, ℕ, suc, ◌+◌, ◌-◌, ◌<◌, ◌≤◌, Bool, true, false, not, List, [], ◌∷◌, ◌++◌, length, take, drop, Option, Some, None, option_map, nat_eq, refl, sym, ap, ◌∙◌, arith, append_assoc, length-append}
+use Rattle.std.proofs.Common.{◌≡◌, ℕ, suc, ◌+◌, ◌-◌, ◌<◌, ◌≤◌, false, not, List, [], ◌∷◌, ◌++◌, length, drop, Option, Some, None, option_map, nat_eq, refl, sym, ap, ◌∙◌, arith, length-append}
 use Rattle.std.specs.List.{list_any, prefix_len}
 use Rattle.std.proofs.lemmas.Bool.{or_parts}
 use Rattle.std.proofs.Math.Seq.{drop-drop, drop-append_seam}
@@ -10,7 +10,7 @@ use Rattle.bz_breakpad.specs.Reader.{Reading, lines_read, nothing_read, reading_
 use Rattle.bz_breakpad.specs.Reads.{◌>>=◌}
 use Rattle.bz_breakpad.specs.Told.{context_told}
 use Rattle.bz_breakpad.specs.Walk.Context.{Outside}
-use Rattle.bz_breakpad.specs.Walked.{HasRead, IsLineAt, IsMidway, IsStep, IsWalked, lines_on, walked_on}
+use Rattle.bz_breakpad.specs.Walked.{HasRead, IsLineAt, IsMidway, IsStep, IsWalked, lines_on}
 use Rattle.bz_breakpad.specs.declared.parser.walk.Walk.{Walk}
 
 -- a line without line feed is the front of a text that begins with it and its end

@@ -1,12 +1,12 @@
 -- The name of a record stands at the end of its body.
-use Rattle.std.proofs.Common.{◌≡◌, ℕ, inl, inr, List, [], ◌∷◌, ◌++◌, drop, Option, Some, None, option_map, IfSome, refl, sym, ap, subst, ◌∙◌, append_assoc}
+use Rattle.std.proofs.Common.{◌≡◌, ℕ, List, [], ◌++◌, Option, Some, None, option_map, IfSome, refl, sym, ap, ◌∙◌, append_assoc}
 use Rattle.std.proofs.lemmas.Option.{none-some, same_Some}
-use Rattle.bz_breakpad.specs.Choice.{SpellsOne, body_at}
+use Rattle.bz_breakpad.specs.Choice.{SpellsOne}
 use Rattle.bz_breakpad.specs.Form.{Piece, Form, Tell, With, Value, told, Spells}
 use Rattle.bz_breakpad.specs.Form.Piece.{Tag, Opt, Sep, MSep, Gap, Word, Hex, Dec}
 use Rattle.bz_breakpad.specs.Form.Form.{End, Name, SepText, Many, ◌·◌}
 use Rattle.bz_breakpad.specs.Kept.{IsRecordAt}
-use Rattle.bz_breakpad.specs.Line.{EndsWith, line_front, line_in, source_line}
+use Rattle.bz_breakpad.specs.Line.{EndsWith, source_line}
 use Rattle.bz_breakpad.specs.Reads.{◌>>=◌, form_at}
 use Rattle.bz_breakpad.specs.Records.{TOP, INNER, MODULE, FILE, INLINE_ORIGIN, PUBLIC, FUNC, LINE, INNER_ORIGIN}
 use Rattle.bz_breakpad.specs.Told.{InnerStands, inner_told, line_told, public_told, func_told, top_name, top_told}

@@ -5,8 +5,7 @@ use Rattle.std.specs.Str.{IsUtf8}
 use Rattle.std.proofs.lemmas.List.{take-append-drop}
 use Rattle.std.proofs.Math.Seq.{drop-drop, take-append_seam, drop-append_seam}
 use Rattle.bz_base.specs.Byte.{line_feed}
-use Rattle.bz_breakpad.specs.Choice.{IsBody}
-use Rattle.bz_breakpad.specs.Kept.{IsRecordAt, IsTextAt, IsNameAt, text_at}
+use Rattle.bz_breakpad.specs.Kept.{IsRecordAt, IsNameAt, text_at}
 use Rattle.bz_breakpad.specs.Line.{EndsWith, line_front}
 use Rattle.bz_breakpad.specs.declared.types.Part.{Part}
 use Rattle.bz_breakpad.proofs.ChoiceLaws.{body_found}

@@ -1,5 +1,5 @@
 -- One line of the walk: where its text stands, and what is read of it and the lines after it.
-use Rattle.std.proofs.Common.{◌≡◌, ℕ, zero, suc, ◌+◌, ◌-◌, ◌≤◌, Bool, true, false, not, ◌&&◌, List, [], ◌∷◌, ◌++◌, length, take, drop, Option, Some, None, nat_eq, nat_lt, is_some, refl, sym, ap, ◌∙◌, arith, length-drop}
+use Rattle.std.proofs.Common.{◌≡◌, ℕ, zero, suc, ◌+◌, ◌-◌, ◌≤◌, Bool, true, false, not, ◌&&◌, List, [], ◌∷◌, length, take, drop, Some, None, nat_eq, nat_lt, is_some, refl, sym, ap, ◌∙◌, arith, length-drop}
 use Rattle.std.specs.List.{prefix_len}
 use Rattle.std.proofs.lemmas.Bool.{cond_both}
 use Rattle.std.proofs.lemmas.List.{length-take-le}
@@ -10,8 +10,7 @@ use Rattle.bz_breakpad.specs.Byte.{is_nothing, is_white}
 use Rattle.bz_breakpad.specs.Choice.{body_at}
 use Rattle.bz_breakpad.specs.Kept.{IsRecordAt}
 use Rattle.bz_breakpad.specs.Line.{line_front}
-use Rattle.bz_breakpad.specs.Reader.{Reading, lines_read, next_read, with_record}
-use Rattle.bz_breakpad.specs.Reads.{◌>>=◌}
+use Rattle.bz_breakpad.specs.Reader.{Reading, lines_read, with_record}
 use Rattle.bz_breakpad.specs.Says.{module_of}
 use Rattle.bz_breakpad.specs.Walk.{Context, Record, body_record, context_after, free_after, record_at, text_at}
 use Rattle.bz_breakpad.specs.Walked.{IsLineAt}

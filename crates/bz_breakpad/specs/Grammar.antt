@@ -4,9 +4,7 @@ use Rattle.std.specs.Prelude.{◌≡◌, ℕ, ◌<◌, Bool, true, false, List, 
 use Rattle.std.specs.List.{AllByRecursion, filter_map}
 use Rattle.bz_base.specs.Line.{AreEnded}
 use Rattle.bz_breakpad.specs.Byte.{is_white}
-use Rattle.bz_breakpad.specs.Choice.{One}
 use Rattle.bz_breakpad.specs.Form.{AllPass}
-use Rattle.bz_breakpad.specs.Records.{TOP}
 use Rattle.bz_breakpad.specs.Says.{module_of, table_of}
 use Rattle.bz_breakpad.specs.Table.{Table}
 use Rattle.bz_breakpad.specs.Walk.{Context, Record, context_of, IsText, IsRecord}

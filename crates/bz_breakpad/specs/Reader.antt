@@ -81,7 +81,7 @@ lines_read c free reading (line ∷ lines) =
     if free && is_nothing (text_at free line)
     then lines_read c free reading lines
     else record_at c (text_at free line) >>= (λ r.
-      next_read reading r >>= (λ next. lines_read (context_after r) (free_after r) next lines))
+    next_read reading r >>= (λ next. lines_read (context_after r) (free_after r) next lines))
 
 -- the file that was read
 abbrev pub table_read : Reading → Table

@@ -1,5 +1,5 @@
 -- What each record says, and what the records of a file say together.
-use Rattle.std.specs.Prelude.{ℕ, Bool, true, false, List, [], ◌∷◌, ◌++◌, map, flat_map, Option, Some, None}
+use Rattle.std.specs.Prelude.{ℕ, List, [], ◌∷◌, ◌++◌, map, flat_map, Option, Some, None}
 use mathlib.Core.Logic.{inl, inr}
 use Rattle.std.specs.List.{filter_map}
 use Rattle.bz_breakpad.specs.Form.{Value}

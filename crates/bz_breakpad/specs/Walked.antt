@@ -3,12 +3,13 @@ use Rattle.std.specs.Prelude.{◌≡◌, ◌≤◌, ◌-◌, ℕ, List, ◌∷�
 use Rattle.bz_base.specs.Line.{ended_lines}
 use Rattle.bz_base.specs.declared.error.Error.{Error}
 use Rattle.bz_base.specs.declared.error.Error.TheVariants as errors
-use Rattle.bz_breakpad.specs.Kept.{IsSoFar}
+use Rattle.bz_breakpad.specs.Kept.{IsSoFar, TableFits, kept_table}
 use Rattle.bz_breakpad.specs.Line.{line_front}
-use Rattle.bz_breakpad.specs.Reader.{Reading, lines_read, reading_in}
+use Rattle.bz_breakpad.specs.Reader.{Reading, lines_read, reading_in, table_read}
 use Rattle.bz_breakpad.specs.Reads.{◌>>=◌}
 use Rattle.bz_breakpad.specs.Told.{context_told}
 use Rattle.bz_breakpad.specs.declared.parser.walk.Walk.{Walk}
+use Rattle.bz_breakpad.specs.declared.types.KeptTable.{KeptTable}
 
 -- the line stands at a place in the bytes
 pub record IsLineAt (bytes : List ℕ) (start : ℕ) (line : List ℕ) : Type 0 where
@@ -55,3 +56,11 @@ pub record HasRead (bytes : List ℕ) (walk : Walk) : Type 0 where
   pub reading : Reading
   pub walked : IsWalked bytes walk reading
   pub is : reading_in bytes ≡ Some reading
+
+-- the table has what the walk has read, and every part is one of the bytes
+pub record IsFinishedAs (bytes : List ℕ) (table : KeptTable) (reading : Reading) : Type 0 where
+  pub is : kept_table bytes table ≡ table_read reading
+  pub fits : TableFits bytes table
+
+abbrev pub IsFinished : List ℕ → Walk → KeptTable → Type 0
+IsFinished bytes walk table = (reading : Reading) → IsWalked bytes walk reading → IsFinishedAs bytes table reading

@@ -1,14 +1,15 @@
 //! What holds of this crate's definitions.
 
 ghost use Rattle.std.specs.Prelude.{◌≡◌, ◌↔◌, ℕ, List, Option, Some};
+ghost use Rattle.bz_base.specs.Nearest.{IsNearestCovering};
 ghost use Rattle.bz_breakpad.specs.Grammar.{Accepted};
 ghost use Rattle.bz_breakpad.specs.Names.{AreLastNames, names_in};
+ghost use Rattle.bz_breakpad.specs.Plain.{function_at};
 ghost use Rattle.bz_breakpad.specs.Reader.{counted_in};
 ghost use Rattle.bz_breakpad.specs.Records.{MODULE, INFO, FILE, INLINE_ORIGIN, PUBLIC, FUNC, STACK_WIN, STACK_CFI_INIT, STACK_CFI, LINE, INLINE, INNER_ORIGIN, TOP, INNER};
 ghost use Rattle.bz_breakpad.specs.Choice.{AreReadExactly};
 ghost use Rattle.bz_breakpad.specs.Reads.{IsReadExactly};
-ghost use Rattle.bz_breakpad.specs.Table.{Named, Table};
-ghost use Rattle.bz_breakpad.specs.Walk.{IsWalkedExactly};
+ghost use Rattle.bz_breakpad.specs.Table.{Function, Named, Table};
 
 /// Each form is read from exactly the lines that have it.
 pub fn records_are_read()
@@ -32,11 +33,6 @@ pub fn lines_are_read()
     ensures inner { AreReadExactly INNER }
 {}
 
-/// The lines of a file are read as the records that they are.
-pub fn files_are_walked()
-    ensures { IsWalkedExactly }
-{}
-
 /// What is read of the bytes is what the grammar says of them, wherever they are a Breakpad file.
 pub fn reading_accepts()
     ensures { (bytes : List ℕ) (table : Table) (count : ℕ) → (counted_in bytes ≡ Some (table, count)) ↔ Accepted bytes table count }
@@ -45,4 +41,12 @@ pub fn reading_accepts()
 /// The names of ids are those of the last records, and there are as many as ids.
 pub fn last_names_count()
     ensures { (records : List Named) → AreLastNames records (names_in records) }
+{}
+
+/// The function that answers for an address is the nearest one, and no other is.
+pub fn nearest_function()
+    ensures is { (functions : List Function) (addr : ℕ) →
+        IsNearestCovering (λ f. f.start) (λ f. f.size) functions addr (function_at addr functions) }
+    ensures only { (functions : List Function) (addr : ℕ) (answer : Option Function) →
+        IsNearestCovering (λ f. f.start) (λ f. f.size) functions addr answer → answer ≡ function_at addr functions }
 {}

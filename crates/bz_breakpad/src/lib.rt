@@ -1,6 +1,14 @@
 //! Breakpad symbol files: their grammar, the table that one holds, and its answers.
 #![tactic(auto)]
 
+mod file;
+mod function;
 pub mod laws;
 mod parser;
+mod search;
 mod types;
+mod version;
+
+pub use file::{SymbolFile, SymbolParser};
+pub use function::Function;
+pub use types::PublicSymbol;

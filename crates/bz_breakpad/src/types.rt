@@ -82,3 +82,14 @@ pub(crate) struct KeptTable {
     /// The PUBLIC records, in the order of the file.
     pub publics: Vec<KeptPublic>,
 }
+
+/// A symbol of a PUBLIC record.
+#[derive(Debug, Clone, Copy, PartialEq, Eq)]
+pub struct PublicSymbol<'a> {
+    /// Where it starts, relative to the module's base.
+    pub addr: u64,
+    /// The size of its parameters, in bytes.
+    pub parameter_size: u32,
+    /// Its name.
+    pub name: &'a str,
+}

@@ -58,7 +58,11 @@ impl KeptReading {
             TopLine::InlineOrigin(id, name) => {
                 keep_name(&mut self.origins, id, name_part(name, end))?
             }
-            TopLine::Public(public) => keep_public(&mut self.publics, &public, name_part(public.name, end))?,
+            TopLine::Public(public) => keep_public(
+                &mut self.publics,
+                &public,
+                name_part(public.name, end),
+            )?,
             TopLine::Func(func) => self.functions.begin(&func, name_part(func.name, end)),
             TopLine::Info => {}
             TopLine::StackWin => {}

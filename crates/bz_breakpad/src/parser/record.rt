@@ -295,10 +295,7 @@ pub(crate) enum InnerLine<'a> {
 }
 
 /// The record under a FUNC record that the body is.
-fn inner<'a>(
-    ranges: &mut Vec<Range>,
-    body: &'a [u8],
-) -> Result<Option<InnerLine<'a>>, AllocError>
+fn inner<'a>(ranges: &mut Vec<Range>, body: &'a [u8]) -> Result<Option<InnerLine<'a>>, AllocError>
     ensures { IfOk result (λ found. option_map (λ inner. inner_told inner ranges.new.items) found ≡ one_at INNER body.now) }
 {
     if let Some(code) = code_line(body) {

@@ -1,4 +1,3 @@
-use Rattle.std.proofs.Common.{refl}
 use Rattle.bz_breakpad.proofs.PlaceLemmas.{name_at_end}
 use Rattle.bz_breakpad.proofs.parser.reading.name_part.Goals as goal
 

@@ -1,5 +1,4 @@
-use Rattle.std.proofs.Common.{◌≡◌, [], ◌∷◌, refl, sym, append-nil}
-use Rattle.bz_breakpad.specs.Kept.{kept_lines}
+use Rattle.std.proofs.Common.{[], ◌∷◌, refl, sym, append-nil}
 use Rattle.bz_breakpad.specs.Says.Sub.{Line}
 use Rattle.bz_breakpad.proofs.FunctionLemmas.{more_so_far}
 use Rattle.bz_breakpad.proofs.parser.functions.FunctionsReading.line.Goals as goal

@@ -1,4 +1,4 @@
-use Rattle.std.proofs.Common.{refl, ap}
+use Rattle.std.proofs.Common.{refl}
 use Rattle.bz_breakpad.proofs.parser.reading.KeptReading.new.Goals as goal
 
 pub returns : goal.returns

@@ -1,5 +1,4 @@
-use Rattle.std.proofs.Common.{[], ◌∷◌, ◌++◌, Some, ap}
-use Rattle.bz_breakpad.specs.Kept.{IsSoFar}
+use Rattle.std.proofs.Common.{Some, ap}
 use Rattle.bz_breakpad.proofs.parser.reading.KeptReading.top.Goals as goal
 
 pub returns-in-Module : goal.returns-in-Module

@@ -1,0 +1,35 @@
+use Rattle.std.proofs.Common.{length, refl, map, ap, sym, ◌∙◌}
+use Rattle.std.proofs.lemmas.List.{length-map}
+use Rattle.bz_base.proofs.ViewLemmas.{table_seen}
+use Rattle.bz_breakpad.specs.Kept.{FunctionFits}
+use Rattle.bz_breakpad.specs.Lent.{function_seen}
+use Rattle.bz_breakpad.specs.Table.{Function}
+use Rattle.bz_breakpad.specs.declared.types.KeptFunction.{KeptFunction}
+use Rattle.bz_breakpad.proofs.SortedLemmas.{all_in_table}
+use Rattle.bz_breakpad.proofs.file.sorted.Goals as goal
+
+pub returns-clause-ok : goal.returns-clause-ok
+returns-clause-ok c =
+    let code = c.args.kept.now.code in
+    let old = code.functions.items in
+    let new = c.sort_table.new.records.items in (
+      λ bytes fits. record {
+        module_is = refl;
+        count = length-map old (function_seen bytes code) ∙ sym c.sort_table.ensures.count;
+        functions =
+            table_seen (λ (f : Function). f.start) (λ f. f.size) (function_seen bytes code) old new c.in_ok-sort_table.ensures.table;
+        files = refl;
+        origins = refl;
+        publics = refl;
+        fits = record {
+          module_fits = fits.module_fits;
+          functions =
+              all_in_table (FunctionFits bytes (length code.lines.items) (length code.inlinees.items)) (λ (f : KeptFunction). f.start)
+              (λ f. f.size) old new c.in_ok-sort_table.ensures.table fits.functions;
+          files = fits.files;
+          origins = fits.origins;
+          publics = fits.publics;
+        };
+      },
+      c.in_ok-starts.ensures ∙ ap (map (λ (f : KeptFunction). f.start)) c.deref.ensures.value,
+    )

@@ -1,0 +1,21 @@
+-- What answers lend of a file.
+use Rattle.std.specs.Prelude.{ℕ, List, Option, option_map}
+use Rattle.std.specs.Borrow.{Bor}
+use Rattle.bz_breakpad.specs.Kept.{kept_function}
+use Rattle.bz_breakpad.specs.Table.{Function}
+use Rattle.bz_breakpad.specs.Table as tables
+use Rattle.bz_breakpad.specs.declared.types.FunctionTable.{FunctionTable}
+use Rattle.bz_breakpad.specs.declared.types.KeptFunction.{KeptFunction}
+use Rattle.bz_breakpad.specs.declared.types.PublicSymbol.{PublicSymbol}
+
+-- a function of the table
+abbrev pub function_seen : List ℕ → FunctionTable → KeptFunction → Function
+function_seen bytes code f = kept_function bytes code.lines.items code.inlinees.items f
+
+-- a function of the table that is lent, if there is one
+abbrev pub lent_function : List ℕ → FunctionTable → Option (Bor KeptFunction) → Option Function
+lent_function bytes code o = option_map (λ f. function_seen bytes code f.now) o
+
+-- a PUBLIC record that is lent
+abbrev pub lent_public : PublicSymbol → tables.PublicSymbol
+lent_public p = record { start = p.addr; parameter_size = p.parameter_size; name = p.name.now }

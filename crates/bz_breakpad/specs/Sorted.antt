@@ -1,0 +1,38 @@
+-- What is kept of a file stands for its table: the functions in the order of start, size and file, and their starts.
+use Rattle.std.specs.Prelude.{◌≡◌, ℕ, List, [], length, map, Option, Some, None, option_map}
+use Rattle.bz_base.specs.Nearest.{IsTable}
+use Rattle.bz_breakpad.specs.Kept.{TableFits, kept_functions, kept_names, kept_public, text_at}
+use Rattle.bz_breakpad.specs.Reader.{table_in}
+use Rattle.bz_breakpad.specs.Table.{PublicSymbol, Table}
+use Rattle.bz_breakpad.specs.declared.types.FunctionTable.{FunctionTable}
+use Rattle.bz_breakpad.specs.declared.types.KeptFunction.{KeptFunction}
+use Rattle.bz_breakpad.specs.declared.types.KeptTable.{KeptTable}
+
+-- the names and PUBLIC records are the table's, the functions are its functions in order, and every part is one of the bytes
+pub record StandsFor (bytes : List ℕ) (table : Table) (kept : KeptTable) : Type 0 where
+  pub module_is : option_map (text_at bytes) kept.«module» ≡ table.«module»
+  pub count : length table.functions ≡ length kept.code.functions.items
+  pub functions : IsTable (λ f. f.start) (λ f. f.size) table.functions (kept_functions bytes kept.code)
+  pub files : kept_names bytes kept.files ≡ table.files
+  pub origins : kept_names bytes kept.origins ≡ table.origins
+  pub publics : map (kept_public bytes) kept.publics.items ≡ table.publics
+  pub fits : TableFits bytes kept
+
+-- the starts of the functions, in their order
+abbrev pub starts_of : FunctionTable → List ℕ
+starts_of code = map (λ (f : KeptFunction). f.start) code.functions.items
+
+-- the bytes have a table, what is kept stands for it, and the starts are those of its functions
+pub record IsKept (bytes : List ℕ) (kept : KeptTable) (starts : List ℕ) : Type 0 where
+  pub table : Table
+  pub read : table_in bytes ≡ Some table
+  pub stands : StandsFor bytes table kept
+  pub starts_are : starts ≡ starts_of kept.code
+
+abbrev pub publics_of : Option Table → List PublicSymbol
+publics_of None = []
+publics_of (Some table) = table.publics
+
+-- the PUBLIC records of a file, in its order
+abbrev pub publics_in : List ℕ → List PublicSymbol
+publics_in bytes = publics_of (table_in bytes)

@@ -1,0 +1,44 @@
+//! Which function answers for an address.
+
+ghost use Rattle.std.specs.Prelude.{◌≡◌, ◌≤◌, ℕ, List, length, map, IfSome};
+ghost use Rattle.bz_base.specs.Nearest.{IsTable};
+ghost use Rattle.bz_base.specs.Starts.{IsFound};
+ghost use Rattle.bz_breakpad.specs.Kept.{FunctionFits, FunctionsFit, kept_functions};
+ghost use Rattle.bz_breakpad.specs.Lent.{lent_function};
+ghost use Rattle.bz_breakpad.specs.Plain.{function_at};
+ghost use Rattle.bz_breakpad.specs.Sorted.{starts_of};
+ghost use Rattle.bz_breakpad.specs.Table.{Function};
+
+use crate::types::{FunctionTable, KeptFunction};
+use bz_base::{Spanned, covering_at};
+
+impl Spanned for KeptFunction {
+    ghost start = { λ f. f.start };
+
+    ghost size = { λ f. f.size };
+
+    fn start(&self) -> u64 {
+        self.start
+    }
+
+    fn size(&self) -> u64 {
+        u64::from(self.size)
+    }
+}
+
+/// The function that answers for the address, of functions in order and the place that a search
+/// among their starts found.
+pub(crate) fn function_at(
+    code: &FunctionTable,
+    place: Option<(usize, u64)>,
+    addr: u64,
+) -> Option<&KeptFunction>
+    requires { IsFound (starts_of code.now) addr place }
+    ensures answers { (bytes : List ℕ) (list : List Function) → IsTable (λ f. f.start) (λ f. f.size) list (kept_functions bytes code.now) →
+        lent_function bytes code.now result ≡ function_at addr list }
+    ensures below { IfSome result (λ f. f.now.start ≤ addr) }
+    ensures fits { (bytes : List ℕ) (list : List Function) → IsTable (λ f. f.start) (λ f. f.size) list (kept_functions bytes code.now) →
+        FunctionsFit bytes code.now → IfSome result (λ f. FunctionFits bytes (length code.now.lines.items) (length code.now.inlinees.items) f.now) }
+{
+    covering_at(&code.functions, place, addr)
+}
