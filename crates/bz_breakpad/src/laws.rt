@@ -1,8 +1,9 @@
 //! What holds of this crate's definitions.
 
-ghost use Rattle.std.specs.Prelude.{◌≡◌, ◌↔◌, ℕ, List, Option, Some};
+ghost use Rattle.std.specs.Prelude.{◌≡◌, ◌↔◌, ℕ, List, Option, Some, IsTrue};
 ghost use Rattle.bz_base.specs.Nearest.{IsNearestCovering};
 ghost use Rattle.bz_breakpad.specs.Grammar.{Accepted};
+ghost use Rattle.bz_breakpad.specs.Lent.{lent_public};
 ghost use Rattle.bz_breakpad.specs.Names.{AreLastNames, names_in};
 ghost use Rattle.bz_breakpad.specs.Plain.{function_at};
 ghost use Rattle.bz_breakpad.specs.Reader.{counted_in};
@@ -10,6 +11,9 @@ ghost use Rattle.bz_breakpad.specs.Records.{MODULE, INFO, FILE, INLINE_ORIGIN, P
 ghost use Rattle.bz_breakpad.specs.Choice.{AreReadExactly};
 ghost use Rattle.bz_breakpad.specs.Reads.{IsReadExactly};
 ghost use Rattle.bz_breakpad.specs.Table.{Function, Named, Table};
+ghost use Rattle.bz_breakpad.specs.declared.types.PublicSymbol.{PublicSymbol};
+
+use crate::types::PublicSymbol;
 
 /// Each form is read from exactly the lines that have it.
 pub fn records_are_read()
@@ -41,6 +45,11 @@ pub fn reading_accepts()
 /// The names of ids are those of the last records, and there are as many as ids.
 pub fn last_names_count()
     ensures { (records : List Named) → AreLastNames records (names_in records) }
+{}
+
+/// PUBLIC records are equal exactly where every field is.
+pub fn public_symbols_are_equal_by_field()
+    ensures { (a b : PublicSymbol) → IsTrue (⟦<PublicSymbol<'static> as PartialEq>⟧.eq a b) ↔ (lent_public a ≡ lent_public b) }
 {}
 
 /// The function that answers for an address is the nearest one, and no other is.
