@@ -103,14 +103,26 @@ fn keep_inlinees(
     ensures { OnOk result (inlinees.new.items ≡ inlinees.old.items ++ map (inlinee_kept call.now) ranges.now) }
 {
     for range in ranges {
-        inlinees.push(KeptInlinee {
-            depth: call.depth,
-            start: range.addr,
-            size: range.size,
-            call_line: call.line,
-            call_file: call.file,
-            origin: call.origin,
-        })?;
+        keep_inlinee(inlinees, call, range)?;
     }
+    Ok(())
+}
+
+/// Keeps the inlined call of a range.
+fn keep_inlinee(
+    inlinees: &mut Vec<KeptInlinee>,
+    call: &InlineCall,
+    range: &Range,
+) -> Result<(), AllocError>
+    ensures { OnOk result (inlinees.new.items ≡ inlinees.old.items ++ inlinee_kept call.now range.now ∷ []) }
+{
+    inlinees.push(KeptInlinee {
+        depth: call.depth,
+        start: range.addr,
+        size: range.size,
+        call_line: call.line,
+        call_file: call.file,
+        origin: call.origin,
+    })?;
     Ok(())
 }

@@ -1,9 +1,10 @@
 //! What has been read of a file so far, and one line more.
 
 ghost use Rattle.std.specs.Prelude.{◌≡◌, ◌+◌, ◌∷◌, ◌++◌, [], ℕ, List, length, Some, IfSome, OnOk};
-ghost use Rattle.bz_breakpad.specs.Kept.{IsNameAt, IsRecordAt, IsSoFar, NamesSoFar, PublicsSoFar};
+ghost use Rattle.std.specs.BTreeMap.{insert_entry};
+ghost use Rattle.std.specs.Ordering.{nat_cmp};
+ghost use Rattle.bz_breakpad.specs.Kept.{IsNameAt, IsRecordAt, IsSoFar, PublicsSoFar};
 ghost use Rattle.bz_breakpad.specs.Line.{EndsWith};
-ghost use Rattle.bz_breakpad.specs.Names.{with_name};
 ghost use Rattle.bz_breakpad.specs.Reader.{Reading, nothing_read, with_record};
 ghost use Rattle.bz_breakpad.specs.Table.{PublicSymbol};
 ghost use Rattle.bz_breakpad.specs.Told.{InnerStands, inner_told, public_symbol, record_told, top_name, top_told};
@@ -127,8 +128,7 @@ fn name_part(name: &str, end: usize) -> Part
 
 /// Keeps the name of an id, in place of one that was kept before.
 fn keep_name(names: &mut BTreeMap<u32, Part>, id: u32, part: Part) -> Result<(), AllocError>
-    ensures { OnOk result ((bytes name : List ℕ) (list : List (ℕ × List ℕ)) → IsNameAt bytes part name → NamesSoFar bytes names.old list →
-        NamesSoFar bytes names.new (with_name list (record { id = id; name = name }))) }
+    ensures { OnOk result (names.new.entries ≡ insert_entry nat_cmp names.old.entries id part) }
 {
     names.insert(id, part)?;
     Ok(())

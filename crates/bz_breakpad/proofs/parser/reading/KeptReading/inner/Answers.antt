@@ -3,6 +3,7 @@ use Rattle.bz_breakpad.specs.Line.{source_line}
 use Rattle.bz_breakpad.specs.Says.Sub.{SubOrigin}
 use Rattle.bz_breakpad.specs.Told.{line_told}
 use Rattle.bz_breakpad.proofs.FunctionLemmas.{told_said, more_so_far}
+use Rattle.bz_breakpad.proofs.KeptLemmas.{names_so_far}
 use Rattle.bz_breakpad.proofs.parser.reading.KeptReading.inner.Goals as goal
 
 pub returns-in_ok-line-in-Code : goal.returns-in_ok-line-in-Code
@@ -38,6 +39,8 @@ returns-in_ok-keep_name-in-Origin c bytes body reading stands end inner is =
           more_so_far bytes functions.table functions.table [] [] (sub ∷ []) (sym (append-nil functions.table.lines.items))
           (sym (append-nil functions.table.inlinees.items)) refl refl functions.current reading.closed reading.current refl is.functions;
       files = is.files;
-      origins = c.in_ok-keep_name-in-Origin.ensures bytes c.in-Origin.name.now reading.origins named is.origins;
+      origins =
+          names_so_far bytes c.args.self.now.origins c.keep_name.new.names c.in-Origin.id c.name_part.result c.in-Origin.name.now reading.origins
+          c.in_ok-keep_name-in-Origin.ensures named is.origins;
       publics = is.publics;
     })

@@ -1,4 +1,5 @@
 use Rattle.std.proofs.Common.{Some, ap}
+use Rattle.bz_breakpad.proofs.KeptLemmas.{names_so_far}
 use Rattle.bz_breakpad.proofs.parser.reading.KeptReading.top.Goals as goal
 
 pub returns-in-Module : goal.returns-in-Module
@@ -18,7 +19,9 @@ returns-in_ok-keep_name-in-File c bytes body start reading stands end ends is =
     rw c.in-File.is (record {
       module_is = is.module_is;
       functions = c.in_ok-close.ensures bytes reading.closed reading.current is.functions;
-      files = c.in_ok-keep_name-in-File.ensures bytes c.in-File.path.now reading.files named is.files;
+      files =
+          names_so_far bytes c.args.self.now.files c.keep_name.new.names c.in-File.id c.name_part-in-File.result c.in-File.path.now reading.files
+          c.in_ok-keep_name-in-File.ensures named is.files;
       origins = is.origins;
       publics = is.publics;
     })
@@ -30,7 +33,9 @@ returns-in_ok-keep_name-in-InlineOrigin c bytes body start reading stands end en
       module_is = is.module_is;
       functions = c.in_ok-close.ensures bytes reading.closed reading.current is.functions;
       files = is.files;
-      origins = c.in_ok-keep_name-in-InlineOrigin.ensures bytes c.in-InlineOrigin.name.now reading.origins named is.origins;
+      origins =
+          names_so_far bytes c.args.self.now.origins c.keep_name-in-InlineOrigin.new.names c.in-InlineOrigin.id c.name_part-in-InlineOrigin.result
+          c.in-InlineOrigin.name.now reading.origins c.in_ok-keep_name-in-InlineOrigin.ensures named is.origins;
       publics = is.publics;
     })
 
