@@ -15,6 +15,7 @@ pub mod NameLemmas
 pub mod Pieces
 pub mod PlaceLemmas
 pub mod PlainLemmas
+pub mod PlainStep
 pub mod RoleLaws
 pub mod Rows
 pub mod Runs

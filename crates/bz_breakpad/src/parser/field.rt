@@ -10,6 +10,7 @@ ghost use Rattle.bz_breakpad.specs.Form.Piece.{Tag, Opt, Sep, MSep, Gap, Word, H
 ghost use Rattle.bz_breakpad.specs.Reads.{piece_at, name_at, end_at, reads};
 
 use bz_base::decimal;
+use memchr::memchr;
 
 /// The text after the tag, if the text begins with it.
 #[tactic(auto, unfolding(crate::specs::Reads::piece_at))]
@@ -168,7 +169,10 @@ fn body_len(line: &[u8]) -> usize
     ensures value { result ≡ prefix_len (λ b. not (ends_line b)) line.now }
     ensures within { result ≤ length line.now }
 {
-    line.iter().take_while(|b| **b != b'\r').count()
+    match memchr(b'\r', line) {
+        Some(len) => len,
+        None => line.len(),
+    }
 }
 
 fn are_ends(text: &[u8]) -> bool

@@ -1,6 +1,6 @@
 //! The walk over a file's lines: what a line is depends on the record before it.
 
-ghost use Rattle.std.specs.Prelude.{◌≡◌, ◌<◌, ◌≤◌, ◌+◌, ◌^◌, ℕ, List, ◌&&◌, nat_lt, false, length, is_some, IfOk, IfErr, OnOk};
+ghost use Rattle.std.specs.Prelude.{◌≡◌, ◌<◌, ◌≤◌, ◌+◌, ◌^◌, ℕ, List, ◌&&◌, nat_lt, false, length, is_some, IfSome, IfNone, IfOk, IfErr, OnOk};
 ghost use Rattle.std.specs.List.{prefix_len};
 ghost use Rattle.bz_base.specs.declared.error.Error.{Error};
 ghost use Rattle.bz_breakpad.specs.Byte.{is_nothing, is_white};
@@ -13,6 +13,7 @@ ghost use Rattle.bz_breakpad.specs.Walk.Context.{Outside};
 ghost use Rattle.bz_breakpad.specs.Walked.{IsLineAt, IsMidway, IsRefused, IsStep, IsWalked};
 
 use crate::parser::field::body;
+use crate::parser::plain::plain_line;
 use crate::parser::reading::KeptReading;
 use crate::parser::record::{Context, Range, RecordLine, TopLine, read_record};
 use bz_base::{Error, Result, next_line};
@@ -50,7 +51,45 @@ impl Walk {
     }
 
     /// Reads the first line of the rest of a text, and returns the rest after it.
+    #[inline(always)]
     pub(crate) fn next<'a>(&mut self, text: &[u8], rest: &'a [u8]) -> Result<&'a [u8]>
+        requires midway { IsMidway text.now rest.now self.old }
+        requires some { 0 < length rest.now }
+        ensures ok { IfOk result (λ after. IsMidway text.now after.now self.new) }
+        ensures shorter { IfOk result (λ after. length after.now < length rest.now) }
+        ensures refusal { IfErr result (Refuses (reading_in text.now)) }
+    {
+        if let Some(after) = self.plain(text, rest)? {
+            return Ok(after);
+        }
+        self.general(text, rest)
+    }
+
+    /// Reads the first line of the rest of a text, if it is a line record in its common form, and
+    /// returns the rest after it. None tells nothing.
+    #[inline(always)]
+    fn plain<'a>(&mut self, text: &[u8], rest: &'a [u8]) -> Result<Option<&'a [u8]>>
+        requires midway { IsMidway text.now rest.now self.old }
+        ensures ok { IfOk result (λ found. IfSome found (λ after. IsMidway text.now after.now self.new)) }
+        ensures shorter { IfOk result (λ found. IfSome found (λ after. length after.now < length rest.now)) }
+        ensures none { IfOk result (λ found. IfNone found (IsMidway text.now rest.now self.new)) }
+        ensures refusal { IfErr result (Refuses (reading_in text.now)) }
+    {
+        if rest.len() < 32 || !matches!(self.context, Context::InFunc) {
+            return Ok(None);
+        }
+        let Some(len) = plain_line(rest) else {
+            return Ok(None);
+        };
+        self.kept.functions.line(text.len() - rest.len())?;
+        self.free = false;
+        self.count += 1;
+        Ok(Some(&rest[len..]))
+    }
+
+    /// Reads the first line of the rest of a text, in any form, and returns the rest after it.
+    #[inline(never)]
+    fn general<'a>(&mut self, text: &[u8], rest: &'a [u8]) -> Result<&'a [u8]>
         requires midway { IsMidway text.now rest.now self.old }
         requires some { 0 < length rest.now }
         ensures ok { IfOk result (λ after. IsMidway text.now after.now self.new) }

@@ -1,5 +1,5 @@
 use Rattle.bz_breakpad.proofs.MidwayLemmas.{line_stands, midway_on}
-use Rattle.bz_breakpad.proofs.parser.walk.Walk.next.Goals as goal
+use Rattle.bz_breakpad.proofs.parser.walk.Walk.general.Goals as goal
 
 pub returns-clause-ok : goal.returns-clause-ok
 returns-clause-ok c =
