@@ -14,7 +14,7 @@ fn reasons_and_errors_print(rt: HostRuntime) -> Result<(), Fail> {
     assert!(rt;
         Reason::MissingComponent.as_bytes() == b"proc maps entry has no component\0".as_slice()
     );
-    assert!(rt; Error::NotBuilt.kind() == ErrorKind::NotBuilt);
+    assert!(rt; Error::InvalidInput.kind() == ErrorKind::InvalidInput);
     Ok(())
 }
 

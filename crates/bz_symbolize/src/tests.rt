@@ -155,12 +155,12 @@ fn names_the_refusal(rt: HostRuntime) -> std::result::Result<(), Fail> {
         (
             "/other",
             Input::FileOffset(ADDRESSES),
-            Some(Error::NotBuilt),
+            Some(Error::InvalidInput),
         ),
     ];
     let mut files = first_files(alloc)?;
     files.deny(alloc, "/denied")?;
-    files.put(alloc, "/other", Vec::from_slice(alloc, b"FILE 1 a\n")?)?;
+    files.put(alloc, "/other", Vec::from_slice(alloc, b"FILE x a\n")?)?;
     let mut symbolizer = Symbolizer::new(alloc);
     for (path, input, refusal) in rows {
         match answers_at(alloc, &mut symbolizer, &mut files, path, input) {

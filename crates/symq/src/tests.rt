@@ -19,9 +19,22 @@ const ADDRESSES: &str = "1010\n1030\n";
 const ANSWERS: &str =
     "0x1010: another func+0x10 start 0x1000 size 0x30 module bar at -\n0x1030: ? address not found in symbolization source\n";
 
-/// A file with records that aren't read yet.
-const NOT_BUILT: &str =
+/// A file of several records, and the same with carriage returns before its line feeds.
+const RECORDS: &str =
     "MODULE Linux x86 ffff0000 bar\nFILE 53 bar.c\nPUBLIC 1234 10 some public\nFUNC 1000 30 10 another func\n1000 30 7 53\n";
+
+const ONE_RETURN: &str =
+    "MODULE Linux x86 ffff0000 bar\r\nFILE 53 bar.c\r\nPUBLIC 1234 10 some public\r\nFUNC 1000 30 10 another func\r\n1000 30 7 53\r\n";
+
+const TWO_RETURNS: &str =
+    "MODULE Linux x86 ffff0000 bar\r\r\nFILE 53 bar.c\r\r\nPUBLIC 1234 10 some public\r\r\nFUNC 1000 30 10 another func\r\r\n1000 30 7 53\r\r\n";
+
+/// A file of every kind of record, with a blank line.
+const EVERY_KIND: &str =
+    "MODULE Linux x86 ffff0000 bar\nINFO CODE_ID 0\n\nFILE 53 bar.c\nINLINE_ORIGIN 1 a\nFUNC m 1000 30 10 another func\nINLINE 0 5 53 1 1000 8 1010 8\nINLINE_ORIGIN 2 b\n1000 30 7 53\nPUBLIC m 1234 10 some public\nSTACK WIN 4 1000 30\nSTACK CFI INIT 1000 30 .cfa: $rsp 8 +\nSTACK CFI 1001 .cfa: $rsp 16 +\n";
+
+/// A blank line after a line record.
+const BLANK_LINE: &str = "FUNC 1000 10 0 f\n1000 10 5 1\n\nFILE 1 a.c\n";
 
 /// The calls of files, input and output that fail, counted from 1; 0 where none does.
 #[derive(Clone, Copy)]
@@ -99,6 +112,15 @@ fn check(rt: &impl Abort, alloc: Global, row: Row<'_>) -> Result<(), Fail> {
 fn answers_addresses_in_their_order(rt: HostRuntime) -> Result<(), Fail> {
     let rows = [
         (FIRST, ADDRESSES, ANSWERS),
+        (RECORDS, ADDRESSES, ANSWERS),
+        (ONE_RETURN, ADDRESSES, ANSWERS),
+        (TWO_RETURNS, ADDRESSES, ANSWERS),
+        (EVERY_KIND, ADDRESSES, ANSWERS),
+        (
+            "PUBLIC 10 0 p\n",
+            "10\n",
+            "0x10: ? symbolization source has no or no relevant symbols\n",
+        ),
         (
             "FUNC 1 2 3 x\nFUNC 1 3 3 y\n",
             "1\n2\n4\n",
@@ -128,8 +150,8 @@ fn answers_addresses_in_their_order(rt: HostRuntime) -> Result<(), Fail> {
 #[test]
 fn names_the_refusal(rt: HostRuntime) -> Result<(), Fail> {
     let rows = [
-        ("/a.sym", NOT_BUILT, "1010\n", "refused: NotBuilt\n"),
-        ("/a.sym", "", ADDRESSES, "refused: NotBuilt\n"),
+        ("/a.sym", BLANK_LINE, ADDRESSES, "refused: InvalidInput\n"),
+        ("/a.sym", "", ADDRESSES, "refused: InvalidInput\n"),
         ("/absent", FIRST, ADDRESSES, "refused: NotFound\n"),
         ("/absent", FIRST, "", "refused: NotFound\n"),
         ("", FIRST, ADDRESSES, "refused: NotFound\n"),
