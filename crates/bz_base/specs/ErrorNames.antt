@@ -16,7 +16,6 @@ kind_of errors.UnexpectedEof = kinds.UnexpectedEof
 kind_of errors.AlreadyExists = kinds.AlreadyExists
 kind_of errors.ReadFault = kinds.ReadFault
 kind_of errors.OutOfMemory = kinds.OutOfMemory
-kind_of errors.NotBuilt = kinds.NotBuilt
 
 -- a refusal prints as the name of its variant
 abbrev pub name_of : Error → List ℕ
@@ -29,4 +28,3 @@ name_of errors.UnexpectedEof = codes "UnexpectedEof"
 name_of errors.AlreadyExists = codes "AlreadyExists"
 name_of errors.ReadFault = codes "ReadFault"
 name_of errors.OutOfMemory = codes "OutOfMemory"
-name_of errors.NotBuilt = codes "NotBuilt"

@@ -7,7 +7,6 @@ abbrev pub IsFormatRefusal : Error → Type 0
 IsFormatRefusal errors.Unsupported = Unit {0}
 IsFormatRefusal errors.InvalidInput = Unit {0}
 IsFormatRefusal errors.InvalidData = Unit {0}
-IsFormatRefusal errors.NotBuilt = Unit {0}
 IsFormatRefusal _ = ⊥
 
 -- what reads or answers from bytes is refused by one of these; want of memory may come anywhere

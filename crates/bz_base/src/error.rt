@@ -19,7 +19,7 @@ pub enum ErrorKind {
     NotFound,
     /// A file that is needed may not be read.
     PermissionDenied,
-    /// Text outside its format. No format here gives it yet.
+    /// Text outside its format.
     InvalidInput,
     /// Binary tables outside their format. No format here gives it yet.
     InvalidData,
@@ -31,8 +31,6 @@ pub enum ErrorKind {
     ReadFault,
     /// Memory ran out.
     OutOfMemory,
-    /// Text that isn't of a form that is read so far.
-    NotBuilt,
 }
 
 /// A refusal.
@@ -44,7 +42,7 @@ pub enum Error {
     NotFound,
     /// A file that is needed may not be read.
     PermissionDenied,
-    /// Text outside its format. No format here gives it yet.
+    /// Text outside its format.
     InvalidInput,
     /// Binary tables outside their format. No format here gives it yet.
     InvalidData,
@@ -56,8 +54,6 @@ pub enum Error {
     ReadFault,
     /// Memory ran out.
     OutOfMemory,
-    /// Text that isn't of a form that is read so far.
-    NotBuilt,
 }
 
 impl Error {
@@ -75,7 +71,6 @@ impl Error {
             Error::AlreadyExists => ErrorKind::AlreadyExists,
             Error::ReadFault => ErrorKind::ReadFault,
             Error::OutOfMemory => ErrorKind::OutOfMemory,
-            Error::NotBuilt => ErrorKind::NotBuilt,
         }
     }
 }
@@ -95,7 +90,6 @@ impl fmt::Display for Error {
             Error::AlreadyExists => f.write_str("AlreadyExists"),
             Error::ReadFault => f.write_str("ReadFault"),
             Error::OutOfMemory => f.write_str("OutOfMemory"),
-            Error::NotBuilt => f.write_str("NotBuilt"),
         }
     }
 }

@@ -72,3 +72,7 @@ pub record Accepted (bytes : List ℕ) (table : Table) (count : ℕ) : Type 0 wh
   pub module_first : AllByRecursion IsNoModule (drop 1 (records_of roles))
   pub says : table ≡ table_of (records_of roles)
   pub counts : count ≡ length (records_of roles)
+
+-- the bytes are a Breakpad file that says this table
+abbrev pub IsFile : List ℕ → Table → Type 0
+IsFile bytes table = (count : ℕ) × Accepted bytes table count

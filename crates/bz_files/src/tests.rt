@@ -1,8 +1,8 @@
-//! What no clause says: that the calls succeed, and how they look together.
+//! What no clause says: that the calls succeed, and what real files, readers and writers give.
 use crate::{
-    FileError, Files, IoFault, MemFiles, MemIn, MemOut, RealFiles, RealIn, RealOut, Stamp, TextIn,
-    TextOut,
+    FileError, Files, IoFault, MemFiles, MemIn, MemOut, RealFiles, RealIn, RealOut, TextIn, TextOut,
 };
+use std::alloc::Global;
 use std::cell::Cell;
 use std::fs;
 use std::fs::OpenFile;
@@ -11,84 +11,24 @@ use std::os::unix::fs::symlink;
 use std::test::Fail;
 use std::time::{Duration, SystemTime};
 
-/// The fresh stamp with this number, for a file of this size.
-fn fresh(number: u32, size: u64) -> Stamp {
-    Stamp {
-        dev: 1,
-        inode: u64::from(number),
-        size,
-        mtime_sec: i64::from(number),
-        mtime_nsec: 0,
-    }
-}
-
-/// A stamp that no call gives by itself.
-const HOSTILE: Stamp = Stamp {
-    dev: 9,
-    inode: 8,
-    size: 7,
-    mtime_sec: -6,
-    mtime_nsec: 5,
-};
-
 #[test]
-fn memory_files_are_put(rt: HostRuntime) -> Result<(), Fail> {
+fn memory_files_hold_what_is_put(rt: HostRuntime) -> Result<(), Fail> {
     let alloc = rt.alloc();
     let mut files = MemFiles::new(alloc, 7);
-    assert_eq!(rt; files.own_pid(), 7);
-    assert_eq!(rt; files.stat("/a"), Err(FileError::NotFound));
-    assert_eq!(rt;
-        files.put(alloc, "/a", b"one".to_vec(alloc)?)?,
-        Some(fresh(1, 3))
-    );
-    assert_eq!(rt;
-        files.put(alloc, "/a", b"two!".to_vec(alloc)?)?,
-        Some(fresh(2, 4))
-    );
     files.begin();
-    assert_eq!(rt; files.stat("/a"), Ok(fresh(2, 4)));
-    files.put_as(alloc, "/a", HOSTILE, b"three".to_vec(alloc)?)?;
-    assert_eq!(rt; files.stat("/a"), Ok(HOSTILE));
-    assert_eq!(rt; files.read(alloc, "/a")?.as_slice(), b"three".as_slice());
-    assert_eq!(rt; files.faults(), 0);
-    assert_eq!(rt; files.opens(), 1);
-    Ok(())
-}
-
-#[test]
-fn memory_files_are_linked_denied_and_removed(rt: HostRuntime) -> Result<(), Fail> {
-    let alloc = rt.alloc();
-    let mut files = MemFiles::new(alloc, 0);
-    files.put_as(alloc, "/a", HOSTILE, b"one".to_vec(alloc)?)?;
+    let stamp = files
+        .put(alloc, "/a", b"one".to_vec(alloc)?)?
+        .ok_or("no stamp")?;
     assert!(rt; files.link(alloc, "/b", "/a")?);
-    assert!(rt; files.remove("/a"));
-    assert!(rt; !files.remove("/a"));
-    assert_eq!(rt; files.stat("/b"), Ok(HOSTILE));
-    files.deny(alloc, "/b")?;
-    for old in ["/a", "/b"] {
-        assert!(rt; !files.link(alloc, "/c", old)?, "from {old}");
-    }
-    assert_eq!(rt; files.read(alloc, "/b").err(), Some(FileError::Denied));
-    assert_eq!(rt; files.read(alloc, "/c").err(), Some(FileError::NotFound));
-    assert!(rt; files.remove("/b"));
-    Ok(())
-}
-
-#[test]
-fn memory_files_fail_at_the_numbered_looks(rt: HostRuntime) -> Result<(), Fail> {
-    let alloc = rt.alloc();
-    let mut files = MemFiles::new(alloc, 0);
-    files.put(alloc, "/a", b"one".to_vec(alloc)?)?;
-    files.fail_call(alloc, 2)?;
-    files.fail_call(alloc, 3)?;
-    assert_eq!(rt; files.stat("/a"), Ok(fresh(1, 3)));
-    assert_eq!(rt; files.read(alloc, "/a").err(), Some(FileError::Fault));
-    assert_eq!(rt; files.opens(), 0);
-    assert_eq!(rt; files.stat("/b"), Err(FileError::Fault));
-    assert_eq!(rt; files.faults(), 2);
-    assert_eq!(rt; files.read(alloc, "/a")?.as_slice(), b"one".as_slice());
-    assert_eq!(rt; files.faults(), 2);
-    assert_eq!(rt; files.opens(), 1);
+    files.put_as(alloc, "/a", stamp, b"two".to_vec(alloc)?)?;
+    files.deny(alloc, "/c")?;
+    files.fail_call(alloc, 4)?;
+    assert!(rt; files.stat("/b") == Ok(stamp));
+    assert!(rt; files.read(alloc, "/a")?.as_slice() == b"two".as_slice());
+    assert!(rt; files.stat("/c") == Err(FileError::Denied));
+    assert!(rt; files.stat("/b") == Err(FileError::Fault));
+    assert!(rt; files.remove("/b") && !files.remove("/b"));
+    assert!(rt; files.faults() == 1 && files.opens() == 1 && files.own_pid() == 7);
     Ok(())
 }
 
@@ -97,21 +37,16 @@ fn memory_texts_go_in_pieces(rt: HostRuntime) -> Result<(), Fail> {
     let alloc = rt.alloc();
     let mut input = MemIn::new(b"abcde".to_vec(alloc)?);
     let mut output = MemOut::new(alloc);
-    input.fail_call(1);
     input.fail_call(2);
     output.fail_call(2);
     let mut piece = [0u8; 3];
-    assert_eq!(rt; input.take(&mut piece), Ok(3));
-    assert_eq!(rt; output.put(&piece), Ok(3));
-    assert_eq!(rt; input.take(&mut piece), Err(IoFault::Fault));
-    assert_eq!(rt; output.put(&piece), Err(IoFault::Fault));
-    assert_eq!(rt; input.take(&mut []), Ok(0));
-    assert_eq!(rt; input.take(&mut piece), Ok(2));
-    assert_eq!(rt; output.put(&piece), Ok(3));
-    assert_eq!(rt; input.take(&mut piece), Ok(0));
-    assert_eq!(rt; output.written(), b"abcdec".as_slice());
-    assert_eq!(rt; input.faults(), 1);
-    assert_eq!(rt; output.faults(), 1);
+    assert!(rt; input.take(&mut piece) == Ok(3));
+    assert!(rt; output.put(&piece) == Ok(3));
+    assert!(rt; input.take(&mut piece) == Err(IoFault::Fault));
+    assert!(rt; output.put(&piece) == Err(IoFault::Fault));
+    assert!(rt; input.take(&mut piece) == Ok(2));
+    assert!(rt; output.written() == b"abc".as_slice());
+    assert!(rt; input.faults() == 1 && output.faults() == 1);
     Ok(())
 }
 
@@ -120,19 +55,11 @@ fn real_files_are_looked_at(rt: HostRuntime) -> Result<(), Fail> {
     let alloc = rt.alloc();
     let mut files = RealFiles::new(rt.clone()?, 7);
     files.begin();
-    assert_eq!(rt; files.own_pid(), 7);
     fs::write(&rt, "bz_files_real", b"one two".as_slice())?;
     let stamp = files.stat("bz_files_real")?;
-    assert_eq!(rt; stamp.size, 7);
-    assert!(rt; stamp.inode > 0);
-    assert!(rt; stamp.mtime_sec > 1_600_000_000);
-    assert!(rt; stamp.mtime_nsec >= 0);
-    assert_eq!(rt; files.stat("./bz_files_real")?, stamp);
-    assert_eq!(rt;
-        files.read(alloc, "bz_files_real")?.as_slice(),
-        b"one two".as_slice()
-    );
-    assert_eq!(rt; files.opens(), 1);
+    assert!(rt; stamp.size == 7 && stamp.inode > 0 && stamp.mtime_sec > 1_600_000_000);
+    assert!(rt; files.stat("./bz_files_real") == Ok(stamp));
+    assert!(rt; files.read(alloc, "bz_files_real")?.as_slice() == b"one two".as_slice());
     let long = "x".repeat(alloc, 300)?;
     // No file can be at any of these.
     for path in [
@@ -142,26 +69,22 @@ fn real_files_are_looked_at(rt: HostRuntime) -> Result<(), Fail> {
         "bz_files\0real",
         long.as_str(),
     ] {
-        assert_eq!(rt; files.stat(path), Err(FileError::NotFound), "at {path}");
-        assert_eq!(rt;
-            files.read(alloc, path).err(),
-            Some(FileError::NotFound),
+        assert!(rt; files.stat(path) == Err(FileError::NotFound), "at {path}");
+        assert!(rt;
+            files.read(alloc, path).err() == Some(FileError::NotFound),
             "at {path}"
         );
     }
-    assert_eq!(rt; files.faults(), 0);
-    assert_eq!(rt; files.opens(), 1);
     fs::remove_file(&rt, "bz_files_real")?;
-    Ok(())
-}
-
-#[test]
-fn real_files_that_tell_no_length_are_read(rt: HostRuntime) -> Result<(), Fail> {
-    let alloc = rt.alloc();
-    let mut files = RealFiles::new(rt.clone()?, 0);
-    let path = "/proc/version";
-    assert_eq!(rt; files.stat(path)?.size, 0);
-    assert!(rt; files.read(alloc, path)?.starts_with(b"Linux version "));
+    assert!(rt; files.opens() == 1);
+    // A file that tells no length is read too.
+    assert!(rt; files.stat("/proc/version")?.size == 0);
+    assert!(rt;
+        files
+            .read(alloc, "/proc/version")?
+            .starts_with(b"Linux version ")
+    );
+    assert!(rt; files.faults() == 0 && files.opens() == 2 && files.own_pid() == 7);
     Ok(())
 }
 
@@ -171,16 +94,12 @@ fn real_stamps_tell_files_apart(rt: HostRuntime) -> Result<(), Fail> {
     let changed = SystemTime::UNIX_EPOCH
         .checked_add(Duration::new(1_234_567_890, 987_654_321))
         .ok_or("no such time")?;
-    for path in ["bz_files_one", "bz_files_two"] {
-        fs::create(&rt, path)?.set_modified(changed)?;
-    }
+    fs::create(&rt, "bz_files_one")?.set_modified(changed)?;
+    fs::create(&rt, "bz_files_two")?;
     let one = files.stat("bz_files_one")?;
     let two = files.stat("bz_files_two")?;
-    assert_eq!(rt; one.mtime_sec, 1_234_567_890);
-    assert_eq!(rt; one.mtime_nsec, 987_654_321);
-    assert_eq!(rt; one.dev, two.dev);
-    assert!(rt; one.dev > 0);
-    assert!(rt; one.inode != two.inode);
+    assert!(rt; one.mtime_sec == 1_234_567_890 && one.mtime_nsec == 987_654_321);
+    assert!(rt; one.dev == two.dev && one.dev > 0 && one.inode != two.inode);
     fs::remove_file(&rt, "bz_files_one")?;
     fs::remove_file(&rt, "bz_files_two")?;
     Ok(())
@@ -190,21 +109,17 @@ fn real_stamps_tell_files_apart(rt: HostRuntime) -> Result<(), Fail> {
 fn real_files_fail(rt: HostRuntime) -> Result<(), Fail> {
     let alloc = rt.alloc();
     let mut files = RealFiles::new(rt.clone()?, 0);
-    assert_eq!(rt; files.read(alloc, ".").err(), Some(FileError::Fault));
-    assert_eq!(rt; files.faults(), 1);
+    assert!(rt; files.read(alloc, ".").err() == Some(FileError::Fault));
+    assert!(rt; files.faults() == 1);
     symlink(&rt, "bz_files_loop", "bz_files_loop")?;
-    assert_eq!(rt; files.stat("bz_files_loop"), Err(FileError::Fault));
+    assert!(rt; files.stat("bz_files_loop") == Err(FileError::Fault));
+    assert!(rt; files.faults() == 2);
     fs::remove_file(&rt, "bz_files_loop")?;
-    assert_eq!(rt; files.faults(), 2);
     // A file with a hole: one byte too long, and no byte is stored.
     fs::create(&rt, "bz_files_long")?.set_len(1_073_741_825)?;
-    assert_eq!(rt;
-        files.read(alloc, "bz_files_long").err(),
-        Some(FileError::Fault)
-    );
+    assert!(rt; files.read(alloc, "bz_files_long").err() == Some(FileError::Fault));
+    assert!(rt; files.faults() == 3 && files.opens() == 0);
     fs::remove_file(&rt, "bz_files_long")?;
-    assert_eq!(rt; files.faults(), 3);
-    assert_eq!(rt; files.opens(), 0);
     Ok(())
 }
 
@@ -246,22 +161,16 @@ impl Write for FailsOnce {
 
 #[test]
 fn real_texts_go_in_pieces(rt: HostRuntime) -> Result<(), Fail> {
-    let alloc = rt.alloc();
     let mut piece = [0u8; 3];
     let mut input = RealIn::new(b"abcd".as_slice());
-    assert_eq!(rt; input.take(&mut piece), Ok(3));
-    assert_eq!(rt; piece, *b"abc");
-    assert_eq!(rt; input.take(&mut piece), Ok(1));
-    assert_eq!(rt; piece, *b"dbc");
-    assert_eq!(rt; input.take(&mut piece), Ok(0));
-    assert_eq!(rt; input.faults(), 0);
-    let mut written = Vec::new(alloc);
+    assert!(rt; input.take(&mut piece) == Ok(3) && piece == *b"abc");
+    assert!(rt; input.take(&mut piece) == Ok(1) && piece == *b"dbc");
+    assert!(rt; input.take(&mut piece) == Ok(0) && input.faults() == 0);
+    let mut written = Vec::new(rt.alloc());
     let mut output = RealOut::new(&mut written);
-    assert_eq!(rt; output.put(b"abc"), Ok(3));
-    assert_eq!(rt; output.put(b""), Ok(0));
-    assert_eq!(rt; output.put(b"de"), Ok(2));
-    assert_eq!(rt; output.faults(), 0);
-    assert_eq!(rt; written.as_slice(), b"abcde".as_slice());
+    assert!(rt; output.put(b"abc") == Ok(3));
+    assert!(rt; output.put(b"de") == Ok(2) && output.faults() == 0);
+    assert!(rt; written.as_slice() == b"abcde".as_slice());
     Ok(())
 }
 
@@ -269,21 +178,18 @@ fn real_texts_go_in_pieces(rt: HostRuntime) -> Result<(), Fail> {
 fn real_texts_fail(rt: HostRuntime) -> Result<(), Fail> {
     let mut piece = [0u8; 3];
     let mut input = RealIn::new(FailsOnce { failed: false });
-    assert_eq!(rt; input.take(&mut piece), Err(IoFault::Fault));
-    assert_eq!(rt; input.take(&mut piece), Ok(1));
-    assert_eq!(rt; piece, *b"a\0\0");
-    assert_eq!(rt; input.faults(), 1);
+    assert!(rt; input.take(&mut piece) == Err(IoFault::Fault));
+    assert!(rt; input.take(&mut piece) == Ok(1) && piece == *b"a\0\0");
+    assert!(rt; input.faults() == 1);
     let mut output = RealOut::new(FailsOnce { failed: false });
-    assert_eq!(rt; output.put(b"abc"), Err(IoFault::Fault));
-    assert_eq!(rt; output.put(b"abc"), Ok(3));
-    assert_eq!(rt; output.faults(), 1);
+    assert!(rt; output.put(b"abc") == Err(IoFault::Fault));
+    assert!(rt; output.put(b"abc") == Ok(3) && output.faults() == 1);
     // A writer over an array takes nothing once it is full.
     let mut room = [0u8; 2];
     let mut full = RealOut::new(room.as_mut_slice());
-    assert_eq!(rt; full.put(b"abc"), Ok(2));
-    assert_eq!(rt; full.put(b"c"), Err(IoFault::Fault));
-    assert_eq!(rt; full.put(b""), Ok(0));
-    assert_eq!(rt; full.faults(), 1);
+    assert!(rt; full.put(b"abc") == Ok(2));
+    assert!(rt; full.put(b"c") == Err(IoFault::Fault));
+    assert!(rt; full.put(b"") == Ok(0) && full.faults() == 1);
     Ok(())
 }
 
@@ -357,33 +263,22 @@ fn first_fails(kind: ErrorKind) -> RealFiles<Failing> {
     RealFiles::new(Failing { kind }, 0)
 }
 
+/// Whether a failure has these answers at a look and at a read, and only faults are counted.
+fn fails_as(alloc: Global, kind: ErrorKind, stat: FileError, read: FileError) -> bool {
+    let mut looked = first_fails(kind);
+    let mut opened = first_fails(kind);
+    looked.stat("/a") == Err(stat)
+        && looked.faults() == u64::from(stat == FileError::Fault)
+        && opened.read(alloc, "/a").err() == Some(read)
+        && opened.faults() == u64::from(read == FileError::Fault)
+}
+
 #[test]
-fn each_failure_of_the_system_has_its_answer(rt: HostRuntime) -> Result<(), Fail> {
+fn each_failure_of_the_system_has_its_answer(rt: HostRuntime) {
     let alloc = rt.alloc();
-    for (kind, stat, read) in [
-        (
-            ErrorKind::NotFound,
-            FileError::NotFound,
-            FileError::NotFound,
-        ),
-        (
-            ErrorKind::PermissionDenied,
-            FileError::Denied,
-            FileError::Denied,
-        ),
-        (
-            ErrorKind::OutOfMemory,
-            FileError::Fault,
-            FileError::OutOfMemory,
-        ),
-        (ErrorKind::Other, FileError::Fault, FileError::Fault),
-    ] {
-        let mut files = first_fails(kind);
-        assert_eq!(rt; files.stat("/a"), Err(stat));
-        assert_eq!(rt; files.faults(), u64::from(stat == FileError::Fault));
-        let mut files = first_fails(kind);
-        assert_eq!(rt; files.read(alloc, "/a").err(), Some(read));
-        assert_eq!(rt; files.faults(), u64::from(read == FileError::Fault));
-    }
-    Ok(())
+    let (absent, denied, fault) = (FileError::NotFound, FileError::Denied, FileError::Fault);
+    assert!(rt; fails_as(alloc, ErrorKind::NotFound, absent, absent));
+    assert!(rt; fails_as(alloc, ErrorKind::PermissionDenied, denied, denied));
+    assert!(rt; fails_as(alloc, ErrorKind::OutOfMemory, fault, FileError::OutOfMemory));
+    assert!(rt; fails_as(alloc, ErrorKind::Other, fault, fault));
 }

@@ -5,12 +5,12 @@ use Rattle.bz_base.specs.declared.error.Error.{Error}
 use Rattle.bz_base.specs.declared.input.Input.{Input}
 use Rattle.bz_base.specs.declared.types.FindSymOpts.{FindSymOpts}
 use Rattle.bz_files.specs.World.{World}
-use Rattle.bz_breakpad.proofs.GrammarLemmas.{accepted_found, accepted_again}
-use Rattle.bz_breakpad.specs.Grammar.{Accepted}
+use Rattle.bz_breakpad.specs.Grammar.{IsFile}
 use Rattle.bz_breakpad.specs.Reader.{table_in}
 use Rattle.bz_breakpad.specs.Table.{Table}
 use Rattle.bz_breakpad.specs.Version.{format_test, refusal_of}
 use Rattle.bz_symbolize.proofs.PromiseLemmas.{IsFormatOf}
+use Rattle.bz_symbolize.proofs.Tables.{table_found, table_again}
 use Rattle.bz_symbolize.specs.Promise.{CallTold, IsBreakpadBatch}
 use Rattle.bz_symbolize.specs.Sources.{FileSource, SourceForm, OneFile, form_of, OnFileForm, OnFile, breakpad_batch}
 use Rattle.bz_symbolize.specs.State.{State}
@@ -24,10 +24,10 @@ breakpad_meant opts bytes addrs = by_read (table_in bytes) refl
   where
     by_read : (read : Option Table) → table_in bytes ≡ read → refusal_of read ≡ None → IsBreakpadBatch opts bytes addrs (breakpad_batch opts bytes addrs)
     by_read None is formed = cc
-    by_read (Some table) is formed = record { table = table; accepted = accepted_found bytes table is; plain = rw is refl }
+    by_read (Some table) is formed = record { table = table; accepted = table_found bytes table is; plain = rw is refl }
 
-breakpad_formed : (bytes : List ℕ) (table : Table) → Accepted bytes table → format_test bytes ≡ None
-breakpad_formed bytes table accepted = rw (accepted_again bytes table accepted) refl
+breakpad_formed : (bytes : List ℕ) (table : Table) → IsFile bytes table → format_test bytes ≡ None
+breakpad_formed bytes table is = rw (table_again bytes table is) refl
 
 -- each source that is one file keeps the laws of its format
 is_format : (source : Source) → OnFile source (IsFormatOf source)

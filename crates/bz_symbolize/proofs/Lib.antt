@@ -3,3 +3,4 @@ pub mod Formats
 pub mod HistoryLemmas
 pub mod NewLemmas
 pub mod PromiseLemmas
+pub mod Tables

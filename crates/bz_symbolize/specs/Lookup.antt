@@ -41,7 +41,7 @@ view_answer asked cache world path = cond asked.taken (by_view asked (view cache
 
 -- the batch of the table, or the refusal of bytes that have none
 abbrev pub by_table : FindSymOpts → List ℕ → Option Table → Result (List Answer) Error
-by_table opts addrs None = Err errors.NotBuilt
+by_table opts addrs None = Err errors.InvalidInput
 by_table opts addrs (Some table) = Ok (batch table opts addrs)
 
 -- what a symbolizer that keeps nothing answers of a Breakpad file, by what lies at its path

@@ -15,7 +15,7 @@ use Rattle.bz_cache.specs.Cache.{kept_at}
 use Rattle.bz_cache.specs.Format.{Comes}
 use Rattle.bz_cache.specs.Look.{look, opens_after}
 use Rattle.bz_cache.specs.View.{Shown, fixed, view}
-use Rattle.bz_breakpad.specs.Grammar.{Accepted}
+use Rattle.bz_breakpad.specs.Grammar.{IsFile}
 use Rattle.bz_breakpad.specs.Plain.{batch}
 use Rattle.bz_breakpad.specs.Table.{Table}
 use Rattle.bz_symbolize.specs.FileCall.{Leaves, MayBeRefused}
@@ -29,7 +29,7 @@ use Rattle.bz_symbolize.specs.declared.source.Source.TheVariants as sources
 -- the bytes are a Breakpad file, and the answers are the plain answers of its table, each at its own address, in order
 pub record IsBreakpadBatch (opts : FindSymOpts) (bytes addrs : List ℕ) (answers : List Answer) : Type 0 where
   pub table : Table
-  pub accepted : Accepted bytes table
+  pub accepted : IsFile bytes table
   pub plain : answers ≡ batch table opts addrs
 
 -- the bytes are a version of the source, and the answers are its plain ones, in the words of the source's format
@@ -38,7 +38,7 @@ IsBatchOf (sources.Breakpad source) opts bytes input answers = IsBreakpadBatch o
 
 -- the bytes are a version of the source, in the words of the source's format
 abbrev pub IsVersionOf : Source → List ℕ → Type 0
-IsVersionOf (sources.Breakpad source) bytes = (table : Table) × Accepted bytes table
+IsVersionOf (sources.Breakpad source) bytes = (table : Table) × IsFile bytes table
 
 -- the version in view at the path is answered
 pub record AnswersView (opts : FindSymOpts) (source : Source) (file : FileSource) (state : State) (world : World) (input : Input (Bor (List ℕ))) (answers : List Answer) : Type 0 where

@@ -12,7 +12,6 @@ use Rattle.bz_cache.specs.Look.{opens_after}
 use Rattle.bz_breakpad.specs.Plain.{batch}
 use Rattle.bz_breakpad.specs.Reader.{table_in}
 use Rattle.bz_breakpad.specs.Table.{Table}
-use Rattle.bz_breakpad.proofs.GrammarLemmas.{accepted_found, accepted_again}
 use Rattle.bz_symbolize.specs.Lookup.{answer_of, opens_of, by_table, fresh_answer}
 use Rattle.bz_symbolize.specs.Promise.{AnswersKept, IsBreakpadBatch}
 use Rattle.bz_symbolize.specs.Sources.{OnFile, form_of}
@@ -20,6 +19,7 @@ use Rattle.bz_symbolize.specs.State.{State, default_settings, new_state}
 use Rattle.bz_symbolize.specs.declared.source.Source.{Source}
 use Rattle.bz_symbolize.specs.declared.source.Source.TheVariants as sources
 use Rattle.bz_symbolize.proofs.NewLemmas.{new_answer}
+use Rattle.bz_symbolize.proofs.Tables.{table_found, table_again}
 use Rattle.symq.specs.Commands.{run_opts, IsSourceOf, input_of, answer_to, HasFile, HasAnswers, AnswersIn, AnswersSome, IsFileCause, IsRefusalOf, IsCause}
 use Rattle.symq.specs.Words.{Command, Breakpad}
 use Rattle.symq.proofs.OpenLemmas.{opened_new}
@@ -58,7 +58,7 @@ module _ (addrs : List ℕ) where
     stamp = stamp;
     bytes = bytes;
     present = refl;
-    such = record { table = table; accepted = accepted_found bytes table is; plain = cc };
+    such = record { table = table; accepted = table_found bytes table is; plain = cc };
   }
 
   batch_from_file : (answers : List Answer) (there : Option Entry) → fresh_answer run_opts addrs there ≡ Ok answers →
@@ -69,7 +69,7 @@ module _ (addrs : List ℕ) where
 
   -- a refusal has its cause in the file
   cause_from_table : (path : List ℕ) (e : Error) (bytes : List ℕ) (read : Option Table) → table_in bytes ≡ read → by_table run_opts addrs read ≡ Err e → IsRefusalOf (Breakpad path) bytes e
-  cause_from_table path e bytes None is given = (cc, λ table accepted. let read = accepted_again bytes table accepted in cc)
+  cause_from_table path e bytes None is given = (cc, λ table file. let read = table_again bytes table file in cc)
   cause_from_table path e bytes (Some table) is given = cc
 
   cause_from_file : (path : List ℕ) (e : Error) (there : Option Entry) → fresh_answer run_opts addrs there ≡ Err e → IsFileCause (IsRefusalOf (Breakpad path)) there e
@@ -85,7 +85,7 @@ module _ (addrs : List ℕ) where
     where
       by_read : (read : Option Table) → table_in bytes ≡ read → by_table run_opts addrs read ≡ Err e
       by_read None is = ap Err (sym cause.0)
-      by_read (Some table) is = absurd (cause.1 table (accepted_found bytes table is))
+      by_read (Some table) is = absurd (cause.1 table (table_found bytes table is))
 
 -- answers that are given are those of the command's file
 pub answers_found : (command : Command) (world : World) (addrs : List ℕ) (answers : List Answer) → answer_to command addrs world ≡ Ok answers → AnswersIn command world addrs answers
@@ -94,7 +94,7 @@ answers_found (Breakpad path) world addrs answers given = batch_from_file addrs 
 -- and a command that has answers is given some
 pub answers_given : (command : Command) (world : World) (addrs : List ℕ) → HasAnswers command world → (answers : List Answer) × (answer_to command addrs world ≡ Ok answers)
 answers_given (Breakpad path) world addrs has =
-    (batch has.such.0 run_opts addrs, rw (has.present, accepted_again has.bytes has.such.0 has.such.1) refl)
+    (batch has.such.0 run_opts addrs, rw (has.present, table_again has.bytes has.such.0 has.such.1) refl)
 
 -- where the command's file is answered, it has answers
 pub has_answers : (command : Command) (world : World) (addrs : List ℕ) (answers : List Answer) → AnswersIn command world addrs answers → HasAnswers command world

@@ -11,7 +11,7 @@ use Rattle.bz_files.specs.World.{World, Entry, entry_at}
 use Rattle.bz_files.specs.World.Entry.{Denied, Present}
 use Rattle.bz_files.specs.declared.stamp.Stamp.{Stamp}
 use Rattle.bz_breakpad.specs.Table.{Table}
-use Rattle.bz_breakpad.specs.Grammar.{Accepted}
+use Rattle.bz_breakpad.specs.Grammar.{IsFile}
 use Rattle.bz_symbolize.specs.Lookup.{fresh_answer}
 use Rattle.bz_symbolize.specs.Promise.{IsBreakpadBatch}
 use Rattle.bz_symbolize.specs.State.{default_settings, opts_of}
@@ -41,7 +41,7 @@ file_of (Breakpad path) world = entry_at world path
 
 -- the bytes are in the source's format
 abbrev pub IsVersion : Command → List ℕ → Type 0
-IsVersion (Breakpad path) bytes = (table : Table) × Accepted bytes table
+IsVersion (Breakpad path) bytes = (table : Table) × IsFile bytes table
 
 -- the bytes are in the source's format, and the answers are their plain ones, each at its own address, in order
 abbrev pub IsBatch : Command → List ℕ → List ℕ → List Answer → Type 0
@@ -49,7 +49,7 @@ IsBatch (Breakpad path) bytes addrs answers = IsBreakpadBatch run_opts bytes add
 
 -- the bytes aren't in the source's format, and this is the refusal of such bytes
 abbrev pub IsRefusalOf : Command → List ℕ → Error → Type 0
-IsRefusalOf (Breakpad path) bytes e = (e ≡ errors.NotBuilt) × ((table : Table) → Accepted bytes table → ⊥)
+IsRefusalOf (Breakpad path) bytes e = (e ≡ errors.InvalidInput) × ((table : Table) → IsFile bytes table → ⊥)
 
 -- a file is there whose bytes are such
 pub record HasFile (P : List ℕ → Type 0) (there : Option Entry) : Type 0 where

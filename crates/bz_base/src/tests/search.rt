@@ -3,8 +3,8 @@
 ghost use Rattle.std.specs.Prelude.{◌≡◌, ◌<◌};
 
 use crate::{
-    Nested, Spanned, Steps, chain_in, covering_at, nearest, nearest_by_scan, nearest_covering,
-    nearest_each, sort_nested, sort_table, starts_of,
+    Nested, Spanned, Steps, chain_in, covering_at, inner_in, nearest, nearest_by_scan,
+    nearest_covering, nearest_each, sort_nested, sort_table, starts_of,
 };
 use std::alloc::{AllocError, Global};
 use std::marker::Brand;
@@ -57,157 +57,76 @@ fn entries(alloc: Global, spans: &[(u64, u64, u32)]) -> Result<Vec<Entry>, Alloc
     Ok(entries)
 }
 
-fn place_of<L: Ledger>(
-    blank: Blank,
-    alloc: Global,
-    spans: &[(u64, u64, u32)],
-    addr: u64,
-) -> Result<Option<(usize, u64)>, AllocError>
+/// The number of the record, or 99 where there is none.
+fn id_of(entry: Option<&Entry>) -> u8 {
+    match entry {
+        Some(entry) => entry.id,
+        None => 99,
+    }
+}
+
+/// Starts and sizes in the order of a file, of which several are equal.
+const SPANS: [(u64, u64, u32); 6] = [
+    (16, 8, 0),
+    (16, 4, 0),
+    (32, 0, 0),
+    (16, 4, 0),
+    (16, 8, 0),
+    (8, 100, 0),
+];
+
+/// Addresses, and the number of the record that answers for each.
+const ANSWERS: [(u64, u8); 9] = [
+    (17, 4),
+    (16, 1),
+    (40, 99),
+    (7, 99),
+    (32, 2),
+    (8, 5),
+    (15, 5),
+    (23, 4),
+    (24, 99),
+];
+
+fn search<L: Ledger>(rt: &impl Abort, blank: Blank, alloc: Global) -> Result<(), AllocError>
     requires name { blank.name ≡ L.name }
     requires parts { blank.parts ≡ L.parts }
     requires some { 0 < L.parts }
 {
     let mut steps = Steps::<L>::new(blank);
-    let mut table = entries(alloc, spans)?;
+    let list = entries(alloc, &SPANS)?;
+    let mut table = entries(alloc, &SPANS)?;
     sort_table(&mut table)?;
     let starts = starts_of(alloc, &table)?;
-    Ok(nearest(&starts, addr, &mut steps))
-}
-
-#[test]
-fn finds_places(rt: HostRuntime) -> Result<(), Fail> {
-    let spans = [(10, 0, 0), (10, 0, 0), (20, 0, 0), (20, 0, 0)];
-    for (addr, want) in [
-        (10, Some((0, 10))),
-        (15, Some((1, 10))),
-        (20, Some((2, 20))),
-        (99, Some((3, 20))),
-        (9, None),
-    ] {
-        let place = place_of::<Brand>(Blank::new(1), rt.alloc(), &spans, addr)?;
-        assert_eq!(rt; place, want, "at {addr}");
+    for (addr, want) in ANSWERS {
+        let by_scan = id_of(nearest_by_scan(&list, addr));
+        let found = id_of(nearest_covering(&table, &starts, addr, &mut steps));
+        assert!(rt; by_scan == want && found == want, "at {addr}");
     }
-    let place = place_of::<Brand>(Blank::new(1), rt.alloc(), &[], 10)?;
-    assert_eq!(rt; place, None);
+    // Many addresses are found in one sweep, and one by a search.
+    let addrs = [17, 16, 40, 7, 32, 8, 15, 23, 24];
+    let swept = nearest_each(alloc, &starts, &addrs, &mut steps)?;
+    let searched = nearest_each(alloc, &starts, &addrs[..1], &mut steps)?;
+    let place = nearest(&starts, 17, &mut steps);
+    assert!(rt; place == Some((4, 16)) && swept[0] == place && searched[0] == place);
+    assert!(rt; id_of(covering_at(&table, place, 17)) == 4);
     Ok(())
-}
-
-fn found_of<L: Ledger>(
-    blank: Blank,
-    alloc: Global,
-    spans: &[(u64, u64, u32)],
-    addrs: &[u64],
-) -> Result<Vec<Option<u8>>, AllocError>
-    requires name { blank.name ≡ L.name }
-    requires parts { blank.parts ≡ L.parts }
-    requires some { 0 < L.parts }
-{
-    let mut steps = Steps::<L>::new(blank);
-    let mut table = entries(alloc, spans)?;
-    sort_table(&mut table)?;
-    let starts = starts_of(alloc, &table)?;
-    let places = nearest_each(alloc, &starts, addrs, &mut steps)?;
-    let mut found = Vec::new(alloc);
-    for (k, addr) in addrs.iter().enumerate() {
-        found.push(covering_at(&table, places[k], *addr).map(|entry| entry.id))?;
-    }
-    Ok(found)
 }
 
 #[test]
 fn finds_nearest(rt: HostRuntime) -> Result<(), Fail> {
-    let all = [
-        (16, 8, 0),
-        (16, 4, 0),
-        (32, 0, 0),
-        (16, 4, 0),
-        (16, 8, 0),
-        (8, 100, 0),
-    ];
-    let addrs = [17, 16, 40, 7, 32, 8, 15, 23, 24];
-    let found = found_of::<Brand>(Blank::new(1), rt.alloc(), &all, &addrs)?;
-    let want = [
-        Some(4),
-        Some(1),
-        None,
-        None,
-        Some(2),
-        Some(5),
-        Some(5),
-        Some(4),
-        None,
-    ];
-    assert_eq!(rt; found.as_slice(), want.as_slice());
-    let one = found_of::<Brand>(Blank::new(1), rt.alloc(), &all, &addrs[..1])?;
-    assert_eq!(rt; one.as_slice(), &want[..1]);
-    Ok(())
-}
-
-/// Starts and sizes of which two records of a generated table are often equal.
-const SPANS: [(u64, u64, u32); 8] = [
-    (16, 0, 0),
-    (16, 4, 0),
-    (16, 8, 0),
-    (20, 0, 0),
-    (20, 8, 0),
-    (u64::MAX - 3, 3, 0),
-    (u64::MAX - 3, 4, 0),
-    (u64::MAX, 0, 0),
-];
-
-/// A table of five records, of which the seed tells the spans.
-fn generated(alloc: Global, seed: u16) -> Result<Vec<Entry>, AllocError> {
-    let mut spans = Vec::new(alloc);
-    let mut left = seed;
-    for _ in 0..5 {
-        spans.push(SPANS[(left % 8) as usize])?;
-        left /= 8;
-    }
-    entries(alloc, &spans)
-}
-
-fn compare<L: Ledger>(
-    rt: &impl Abort,
-    blank: Blank,
-    alloc: Global,
-    seed: u16,
-) -> Result<(), AllocError>
-    requires name { blank.name ≡ L.name }
-    requires parts { blank.parts ≡ L.parts }
-    requires some { 0 < L.parts }
-{
-    let mut steps = Steps::<L>::new(blank);
-    let list = generated(alloc, seed)?;
-    let mut table = generated(alloc, seed)?;
-    sort_table(&mut table)?;
-    let starts = starts_of(alloc, &table)?;
-    for addr in [15, 16, 17, 20, 24, u64::MAX - 3, u64::MAX - 1, u64::MAX] {
-        let want = nearest_by_scan(&list, addr).map(|entry| entry.id);
-        let found = nearest_covering(&table, &starts, addr, &mut steps).map(|entry| entry.id);
-        assert_eq!(rt; found, want);
-    }
-    Ok(())
-}
-
-#[test]
-fn finds_what_a_scan_finds(rt: HostRuntime) -> Result<(), Fail> {
-    let mut seed: u16 = 0;
-    for _ in 0..200 {
-        seed = seed.wrapping_mul(25173).wrapping_add(13849);
-        compare::<Brand>(&rt, Blank::new(1), rt.alloc(), seed)?;
-    }
+    assert!(rt; size_of::<Steps<Brand>>() == 0);
+    search::<Brand>(&rt, Blank::new(1), rt.alloc())?;
     Ok(())
 }
 
 #[test]
 fn finds_chain(rt: HostRuntime) -> Result<(), Fail> {
-    let all = [(4, 9, 1), (0, 20, 0), (4, 9, 1), (5, 2, 2), (6, 0, 3)];
-    let mut table = entries(rt.alloc(), &all)?;
+    let spans = [(4, 9, 1), (0, 20, 0), (4, 9, 1), (5, 2, 2), (6, 0, 3)];
+    let mut table = entries(rt.alloc(), &spans)?;
     sort_nested(&mut table)?;
-    let mut ids = Vec::new(rt.alloc());
-    for entry in &chain_in(rt.alloc(), &table, 6)? {
-        ids.push(entry.id)?;
-    }
-    assert_eq!(rt; ids.as_slice(), [1, 2, 3].as_slice());
+    let chain = chain_in(rt.alloc(), &table, 6)?;
+    assert!(rt; chain.len() == 3 && chain[0].id == 1 && chain[1].id == 2 && chain[2].id == 3);
+    assert!(rt; id_of(inner_in(&table, 1, 6)) == 2);
     Ok(())
 }
