@@ -6,6 +6,8 @@ mod function;
 pub mod laws;
 mod parser;
 mod search;
+#[cfg(test)]
+mod tests;
 mod types;
 mod version;
 
