@@ -61,11 +61,20 @@ run_in_front p n text within ends =
     sym (ap (prefix_len p) (take-append-drop n text)) ∙ prefix_len-append p front (drop n text)
     ∙ cond-false _ _ _ (ne_eqb (prefix_len p front) (length front) (λ same. omega (arith, long)))
 
--- the bytes before the next bit are the run from a place on, if it ends within the load
-pub run_by_bits : (p : ℕ → Bool) (bits from : ℕ) (text : List ℕ) → 32 ≤ length text → bits ≡ mask_l (map (λ b. not (p b)) (take 32 text)) →
-    from + count_trailing_zeros 64 (bits / 2 ^ from) < 32 → prefix_len p (drop from text) ≡ count_trailing_zeros 64 (bits / 2 ^ from)
+-- where a byte fails, the run ends before the text does
+run_ends : (p : ℕ → Bool) (text : List ℕ) → 0 < mask_l (map (λ b. not (p b)) text) → prefix_len p text < length text
+run_ends p [] some = absurd (omega arith)
+run_ends p (b ∷ text) some = step (p b) (mask_l (map (λ c. not (p c)) text)) (prefix_len p text) (length text) (run_ends p text) some where
+  step : (test : Bool) (m n l : ℕ) → (0 < m → n < l) → 0 < cond (not test) 1 0 + 2 * m → cond test (1 + n) 0 < suc l
+  step true m n l ends some = let below = ends (omega arith) in omega arith
+  step false m n l ends some = omega arith
+
+-- the bytes before the next bit are the run from a place on, and it ends within the load
+pub run_by_bits : (p : ℕ → Bool) (bits from : ℕ) (text : List ℕ) → 32 ≤ length text → from ≤ 32 → bits ≡ mask_l (map (λ b. not (p b)) (take 32 text)) →
+    count_trailing_zeros 64 (bits / 2 ^ from) < 64 →
+    (from + count_trailing_zeros 64 (bits / 2 ^ from) < 32) × (prefix_len p (drop from text) ≡ count_trailing_zeros 64 (bits / 2 ^ from))
 unfolding count_trailing_zeros
-run_by_bits p bits from text room load ends =
+run_by_bits p bits from text room within load ends =
     let fails : ℕ → Bool = λ b. not (p b) in
     let n = 32 - from in
     let tail = drop from text in
@@ -78,5 +87,8 @@ run_by_bits p bits from text room load ends =
       | inl none ↦ absurd (let all : count_trailing_zeros 64 (bits / 2 ^ from) ≡ 64 = counted ∙ ap (count_trailing_zeros 64) none in omega arith)
       | inr some ↦
           let run = counted ∙ trailing_mask_l fails 64 (take n tail) (omega (arith, long)) (omega arith) ∙ double_not p (take n tail) in
-          run_in_front p n tail (omega (arith, length-drop from text)) (omega (arith, run)) ∙ sym run
+          let below = run_ends p (take n tail) (omega arith) in (
+            omega (arith, run, below, long),
+            run_in_front p n tail (omega (arith, length-drop from text)) (omega (arith, run, below, long)) ∙ sym run,
+          )
     ]

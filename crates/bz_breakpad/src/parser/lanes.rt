@@ -31,34 +31,38 @@ pub(crate) fn dec_stops(text: &[u8]) -> u64
         .to_bitmask()
 }
 
-/// Where the hexadecimal digits from a place on end, if there are some and that is within the load.
+/// Where the one to `most` hexadecimal digits from a place on end, if they end within the load.
 #[inline(always)]
-pub(crate) fn hex_end(text: &[u8], stops: u64, from: u32) -> Option<u32>
+pub(crate) fn hex_end(text: &[u8], stops: u64, from: u32, most: u32) -> Option<u32>
     requires room { 32 ≤ length text.now }
     requires load { stops ≡ mask_l (map (λ b. not (is_hex b)) (take 32 text.now)) }
-    requires within { from < 32 }
+    requires within { from ≤ 32 }
+    requires few { most < 64 }
     ensures digits { IfSome result (λ end. (from < end) × (end < 32) × (digits_len 16 (drop from text.now) + from ≡ end)) }
+    ensures few { IfSome result (λ end. end ≤ from + most) }
 {
-    let end = from + (stops >> from).trailing_zeros();
-    if end == from || end >= 32 {
+    let count = (stops >> from).trailing_zeros();
+    if count == 0 || count > most {
         None
     } else {
-        Some(end)
+        Some(from + count)
     }
 }
 
-/// Where the decimal digits from a place on end, if there are some and that is within the load.
+/// Where the one to `most` decimal digits from a place on end, if they end within the load.
 #[inline(always)]
-pub(crate) fn dec_end(text: &[u8], stops: u64, from: u32) -> Option<u32>
+pub(crate) fn dec_end(text: &[u8], stops: u64, from: u32, most: u32) -> Option<u32>
     requires room { 32 ≤ length text.now }
     requires load { stops ≡ mask_l (map (λ b. not (is_decimal b)) (take 32 text.now)) }
-    requires within { from < 32 }
+    requires within { from ≤ 32 }
+    requires few { most < 64 }
     ensures digits { IfSome result (λ end. (from < end) × (end < 32) × (digits_len 10 (drop from text.now) + from ≡ end)) }
+    ensures few { IfSome result (λ end. end ≤ from + most) }
 {
-    let end = from + (stops >> from).trailing_zeros();
-    if end == from || end >= 32 {
+    let count = (stops >> from).trailing_zeros();
+    if count == 0 || count > most {
         None
     } else {
-        Some(end)
+        Some(from + count)
     }
 }

@@ -1,9 +1,23 @@
 //! Line records in their common form, by one load.
 
-ghost use Rattle.std.specs.Prelude.{◌<◌, ◌≤◌, length, IfSome};
+ghost use Rattle.std.specs.Prelude.{◌≡◌, ◌<◌, ◌≤◌, ◌==◌, length, map, take, IfSome};
+ghost use Rattle.bz_base.specs.Byte.{line_feed};
 ghost use Rattle.bz_breakpad.specs.PlainLine.{IsPlainLine};
+ghost use lib.Lanes.{mask_l};
 
 use crate::parser::lanes::{dec_end, dec_stops, hex_end, hex_stops};
+use std::simd::prelude::*;
+
+/// A bit for each of the first 32 bytes that is a line feed.
+#[inline(always)]
+fn line_feeds(text: &[u8]) -> u64
+    requires { 32 ≤ length text.now }
+    ensures { result ≡ mask_l (map (λ b. b == line_feed) (take 32 text.now)) }
+{
+    u8x32::from_slice(text)
+        .simd_eq(u8x32::splat(b'\n'))
+        .to_bitmask()
+}
 
 /// The length of a line record of single spaces and few digits at the front, with its line feed.
 /// None tells nothing.
@@ -13,23 +27,25 @@ pub(crate) fn plain_line(text: &[u8]) -> Option<usize>
     ensures plain { IfSome result (IsPlainLine text.now) }
     ensures within { IfSome result (λ len. (0 < len) × (len ≤ 32)) }
 {
+    // The next line's place hangs on this alone, and not on the fields one after another.
+    let end = line_feeds(text).trailing_zeros();
     let hex = hex_stops(text);
     let dec = dec_stops(text);
-    let first = hex_end(text, hex, 0)?;
-    if first > 16 || text[first as usize] != b' ' || first >= 31 {
+    let first = hex_end(text, hex, 0, 16)?;
+    if text[first as usize] != b' ' {
         return None;
     }
-    let second = hex_end(text, hex, first + 1)?;
-    if second - first > 9 || text[second as usize] != b' ' || second >= 31 {
+    let second = hex_end(text, hex, first + 1, 8)?;
+    if text[second as usize] != b' ' {
         return None;
     }
-    let third = dec_end(text, dec, second + 1)?;
-    if third - second > 10 || text[third as usize] != b' ' || third >= 31 {
+    let third = dec_end(text, dec, second + 1, 9)?;
+    if text[third as usize] != b' ' {
         return None;
     }
-    let fourth = dec_end(text, dec, third + 1)?;
-    if fourth - third > 10 || text[fourth as usize] != b'\n' {
+    let fourth = dec_end(text, dec, third + 1, 9)?;
+    if text[fourth as usize] != b'\n' || fourth != end {
         return None;
     }
-    Some(fourth as usize + 1)
+    Some(end as usize + 1)
 }

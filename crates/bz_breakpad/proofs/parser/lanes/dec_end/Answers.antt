@@ -3,7 +3,7 @@ use Rattle.bz_breakpad.specs.Byte.{is_decimal}
 use Rattle.bz_breakpad.proofs.LaneLemmas.{run_by_bits}
 use Rattle.bz_breakpad.proofs.parser.lanes.dec_end.Goals as goal
 
-pub returns-else-end-ge32 : goal.returns-else-end-ge32
-returns-else-end-ge32 c =
-    let run = run_by_bits is_decimal c.args.stops c.args.from c.args.text.now c.requires.room c.requires.load (omega arith) in
-    record { digits = (omega arith, omega arith, omega (arith, run)) }
+pub returns-else-count-most-clause-digits : goal.returns-else-count-most-clause-digits
+returns-else-count-most-clause-digits c =
+    let run = run_by_bits is_decimal c.args.stops c.args.from c.args.text.now c.requires.room c.requires.within c.requires.load (omega arith) in
+    (omega arith, omega (arith, run.0), omega (arith, run.1))

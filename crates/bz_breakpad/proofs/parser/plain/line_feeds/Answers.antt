@@ -1,0 +1,12 @@
+use Rattle.std.proofs.Common.{ℕ, nat_eq, cond, take, refl}
+use Rattle.std.proofs.lemmas.List.{length-take-le}
+use Rattle.std.proofs.lemmas.Simd.{zip2_splat, zip2_of_maps, splat_is_map}
+use Rattle.bz_base.specs.Byte.{line_feed}
+use Rattle.bz_breakpad.proofs.LaneLemmas.{bits_are}
+use Rattle.bz_breakpad.proofs.parser.plain.line_feeds.Goals as goal
+
+pub returns : goal.returns
+returns c =
+    let load = take 32 c.args.text.now in
+    let long = length-take-le 32 c.args.text.now c.requires in
+    bits_are (λ b. nat_eq b line_feed) c.args.text.now _ c.requires c.type_inv.text _ (zip2_splat {Y = ℕ} _ load 32 10 long) refl
