@@ -23,5 +23,4 @@ pub mod SortedLemmas
 pub mod StepLemmas
 pub mod TableLaws
 pub mod Turns
-pub mod WalkKept
 pub mod WalkLaws

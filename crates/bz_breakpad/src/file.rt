@@ -6,7 +6,7 @@ ghost use Rattle.bz_base.specs.Answer.{reading, symbol_of};
 ghost use Rattle.bz_base.specs.Starts.{AreFew, IsFound};
 ghost use Rattle.bz_base.specs.declared.error.Error.{Error};
 ghost use Rattle.bz_base.specs.declared.types.FindSymOpts.{FindSymOpts};
-ghost use Rattle.bz_breakpad.specs.Grammar.{Accepted};
+ghost use Rattle.bz_breakpad.specs.Grammar.{Accepted, IsFile};
 ghost use Rattle.bz_breakpad.specs.Kept.{FunctionFits, IsTextAt, NamesFit, TableFits, kept_names, kept_table, text_at};
 ghost use Rattle.bz_breakpad.specs.Lent.{function_seen, lent_public};
 ghost use Rattle.bz_breakpad.specs.Names.{name_for};
@@ -78,7 +78,7 @@ impl SymbolFile {
     /// Reads a Breakpad file.
     pub fn from_bytes(alloc: Global, bytes: Vec<u8>) -> Result<SymbolFile>
         ensures ok { IfOk result (λ file. file ≡ bytes.items) }
-        ensures accepted { IfOk result (λ file. (table : Table) × (table_in bytes.items ≡ Some table) × ((count : ℕ) × Accepted bytes.items table count)) }
+        ensures accepted { IfOk result (λ file. (table : Table) × (table_in bytes.items ≡ Some table) × IsFile bytes.items table) }
         ensures refusal { IfErr result (Refuses (table_in bytes.items)) }
     {
         let (file, _count) = SymbolParser::run(alloc, bytes)?;
