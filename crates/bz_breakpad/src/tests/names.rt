@@ -7,16 +7,17 @@ use crate::tests::file_of;
 use std::test::Fail;
 
 const NAMED: &[u8] =
-    b"MODULE a b c d e\nFILE 1 a\nINLINE_ORIGIN 1 f\nFUNC m 1000 30 10 g h\nINLINE_ORIGIN 2 i\nINLINE_ORIGIN 3 k\nFILE 1 b \nFILE 4294967295 \nINLINE_ORIGIN\t1 j\nFILE 7 \xc3\xa9\r\nINLINE_ORIGIN 3 \nPUBLIC 1234 10 some public\nPUBLIC m ff ffffffff \n";
+    b"MODULE a b c d e\nFILE 1 a\n \t\n  FILE 1 b\r\nINLINE_ORIGIN 1 f\nFUNC m 1000 30 10 g h\nINLINE_ORIGIN 2 i\nINLINE_ORIGIN 3 k\nFILE 4 c \nFILE 4294967295 \nINLINE_ORIGIN\t1 j\nFILE 7 \xc3\xa9\r\nINLINE_ORIGIN 3 \nPUBLIC 1234 10 some public\nPUBLIC m ff ffffffff \n";
 
 /// The names of the file and of the inlined function that have an id.
 type Names = (Option<&'static str>, Option<&'static str>);
 
-const NAMES: [(u32, Names); 7] = [
+const NAMES: [(u32, Names); 8] = [
     (0, (None, None)),
-    (1, (Some("b "), Some("j"))),
+    (1, (Some("b"), Some("j"))),
     (2, (None, Some("i"))),
     (3, (None, Some(""))),
+    (4, (Some("c "), None)),
     (7, (Some("é"), None)),
     (8, (None, None)),
     (4294967295, (Some(""), None)),
