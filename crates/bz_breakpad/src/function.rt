@@ -8,6 +8,7 @@ use std::marker::Model;
 
 /// A function of a file, which lends its name. Contracts see the function with its lines and
 /// inlined calls.
+#[derive(Drop)]
 pub struct Function<'a> {
     pub(crate) bytes: &'a [u8],
     pub(crate) code: &'a FunctionTable,

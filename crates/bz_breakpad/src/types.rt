@@ -84,7 +84,7 @@ pub(crate) struct KeptTable {
 }
 
 /// A symbol of a PUBLIC record.
-#[derive(Debug, PartialEq, Eq)]
+#[derive(Debug, PartialEq, Eq, Drop)]
 pub struct PublicSymbol<'a> {
     /// Where it starts, relative to the module's base.
     pub addr: u64,

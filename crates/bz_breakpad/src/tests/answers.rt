@@ -121,18 +121,12 @@ fn function_of<'a>(file: &'a SymbolFile, addr: u64) -> Option<Function<'a>> {
 /// What a function tells.
 fn told(found: Option<Function<'_>>) -> Option<Told<'_>> {
     let function = found?;
-    let told = (
+    Some((
         function.name(),
         function.addr(),
         function.size(),
         function.parameter_size(),
-    );
-    let Function {
-        bytes: _bytes,
-        code: _code,
-        kept: _kept,
-    } = function;
-    Some(told)
+    ))
 }
 
 #[test]

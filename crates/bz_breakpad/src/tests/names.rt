@@ -2,7 +2,6 @@
 
 ghost use Rattle.std.specs.Prelude.{◌<◌, length};
 
-use crate::PublicSymbol;
 use crate::tests::file_of;
 use std::test::Fail;
 
@@ -40,12 +39,9 @@ fn lends_publics(rt: HostRuntime) -> Result<(), Fail> {
     let file = file_of(rt.alloc(), NAMED)?;
     assert_eq!(rt; file.public_count(), PUBLICS.len());
     for i in 0..file.public_count() {
-        let PublicSymbol {
-            addr,
-            parameter_size,
-            name,
-        } = file.public(i);
-        assert_eq!(rt; Some(&(addr, parameter_size, name)), PUBLICS.get(i));
+        let public = file.public(i);
+        let told = (public.addr, public.parameter_size, public.name);
+        assert_eq!(rt; Some(&told), PUBLICS.get(i));
     }
     Ok(())
 }
