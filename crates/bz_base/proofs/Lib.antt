@@ -9,6 +9,7 @@ pub mod InnerTableLemmas
 pub mod LineLemmas
 pub mod NearestLemmas
 pub mod NumberLemmas
+pub mod ReadLemmas
 pub mod SortLemmas
 pub mod StartsLemmas
 pub mod SweepLemmas

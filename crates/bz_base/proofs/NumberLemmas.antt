@@ -1,11 +1,11 @@
 -- Numbers are read exactly from the texts that spell them.
-use Rattle.std.proofs.Common.{◌≡◌, ℕ, zero, suc, ◌+◌, ◌*◌, ◌^◌, ◌<◌, ◌≤◌, false, ◌&&◌, List, [], ◌∷◌, ◌++◌, length, take, drop, get_or, Option, Some, None, nat_lt, nat_le, refl, sym, ap, subst, ◌∙◌, arith, append-nil}
+use Rattle.std.proofs.Common.{◌≡◌, ℕ, suc, ◌+◌, ◌^◌, ◌<◌, ◌≤◌, false, ◌&&◌, List, [], ◌∷◌, ◌++◌, length, take, drop, Option, Some, None, nat_lt, nat_le, refl, sym, ap, subst, ◌∙◌, arith, append-nil}
 use Rattle.std.specs.Char.{is_digit, digit_value}
 use Rattle.std.specs.Option.{option_and_then}
 use Rattle.std.specs.Str.Parse.{AllDigits, digits_value}
 use Rattle.std.proofs.lemmas.Bool.{and_parts, ltb-true, leb-true, lt-ltb, le-leb, cond_both}
-use Rattle.std.proofs.lemmas.Int.Digits.{digits_value-lt, digits_value_more}
-use Rattle.std.proofs.lemmas.List.{take-append-drop, length-take, length-take-le}
+use Rattle.std.proofs.lemmas.Int.Digits.{digits_value-lt}
+use Rattle.std.proofs.lemmas.List.{take-append-drop, length-take-le}
 use Rattle.std.proofs.lemmas.List.Sums.{prefix_len-le-length}
 use Rattle.std.proofs.lemmas.Option.{cond_some, none-some, same_Some}
 use Rattle.std.proofs.Math.Nat.{pow-le-pow_right}
@@ -45,34 +45,6 @@ module _ (base : ℕ) where
       let below = digits_value-lt base text digits in
       let wide = pow-le-pow_right {n = base} some few in
       omega arith
-
-  -- the first of digits are digits
-  digits_front : (text : List ℕ) (n : ℕ) → AllDigits base text → AllDigits base (take n text)
-  digits_front [] zero all = tt
-  digits_front [] (suc n) all = tt
-  digits_front (b ∷ text) zero all = tt
-  digits_front (b ∷ text) (suc n) all = (all.0, digits_front text n all.1)
-
-  -- one digit more of digits that fit 64 bits fits too
-  pub one_more_fits : (text : List ℕ) (i : ℕ) → 0 < base → AllDigits base text → base ^ length text ≤ 2 ^ 64 → i < length text →
-      digits_value base (take i text) * base + digit_value (get_or text i 0) < 2 ^ 64
-  one_more_fits text i some all fits within =
-      let below = digits_below (take (i + 1) text) (length text) some (omega (arith, length-take {A = ℕ})) (digits_front text (i + 1) all) in
-      omega (arith, digits_value_more base text i within, below, fits)
-
-  -- fewer digits than fit 64 bits fit too
-  pub fewer_fit : (text : List ℕ) (n most : ℕ) → 0 < base → base ^ most ≤ 2 ^ 64 → n ≤ most →
-      base ^ length (take n text) ≤ 2 ^ 64
-  fewer_fit text n most some fits few =
-      let within : length (take n text) ≤ most = omega (arith, length-take {A = ℕ}) in
-      let wide = pow-le-pow_right {n = base} some within in
-      omega (arith, wide, fits)
-
-  -- the digits in front spell less than the power of the most that there may be
-  pub front_below : (text : List ℕ) (most : ℕ) → 0 < base → digits_len base text ≤ most →
-      digits_value base (take (digits_len base text) text) < base ^ most
-  front_below text most some few =
-      digits_below (take (digits_len base text) text) most some (omega (arith, length-take {A = ℕ})) (front_digits text)
 
   module _ (most : ℕ) where
     -- a number that is read stands at the front

@@ -1,9 +1,8 @@
 //! Numbers in a text, read from its front or from the whole of it.
 
 ghost use Rattle.std.specs.Prelude.{◌≡◌, ◌<◌, ◌≤◌, ◌^◌, length, option_map, IfSome};
-ghost use Rattle.std.specs.Char.{digit_value, is_digit};
-ghost use Rattle.std.specs.Str.Parse.{AllDigits, digits_value};
-ghost use Rattle.bz_base.specs.Number.{alone, decimal_at, digits_len, hex_at, number_at, whole};
+ghost use Rattle.std.specs.Char.{digit_value};
+ghost use Rattle.bz_base.specs.Number.{alone, decimal_at, hex_at, number_at, whole};
 
 /// The number of the one to `most` hexadecimal digits at the front, in either case, and the text
 /// after them.
@@ -62,48 +61,31 @@ fn alone(value: u64, rest: &[u8]) -> Option<u64>
 }
 
 /// The number of the one to `most` digits of the base at the front, and the text after them.
-#[tactic(auto, using(crate::proofs::NumberLemmas::front_digits), unfolding(crate::specs::Number::number_at))]
+#[inline(always)]
+#[tactic(auto, unfolding(crate::specs::Number::number_at))]
 fn number_at(text: &[u8], base: u64, most: usize) -> Option<(u64, &[u8])>
     requires some { 0 < base }
     requires fits { base ^ most ≤ 2 ^ 64 }
     ensures reads { option_map (λ read. (read.0, read.1.now)) result ≡ number_at base most text.now }
     ensures small { IfSome result (λ read. read.0 < base ^ most) }
 {
-    let len = digits_len(text, base);
-    if len == 0 || len > most {
+    let mut value = 0;
+    let mut len = 0;
+    for byte in text {
+        let digit = u64::from(digit(*byte));
+        if digit >= base {
+            break;
+        }
+        if len == most {
+            return None;
+        }
+        value = value * base + digit;
+        len += 1;
+    }
+    if len == 0 {
         return None;
     }
-    let digits = &text[..len];
-    Some((digits_value(digits, base), &text[len..]))
-}
-
-/// How many digits of the base stand in front.
-fn digits_len(text: &[u8], base: u64) -> usize
-    ensures value { result ≡ digits_len base text.now }
-    ensures within { result ≤ length text.now }
-{
-    text.iter().take_while(|b| is_digit(**b, base)).count()
-}
-
-/// The number that digits spell.
-fn digits_value(digits: &[u8], base: u64) -> u64
-    requires digits { AllDigits base digits.now }
-    requires some { 0 < base }
-    requires fits { base ^ length digits.now ≤ 2 ^ 64 }
-    ensures { result ≡ digits_value base digits.now }
-{
-    let mut value = 0;
-    for byte in digits {
-        value = value * base + u64::from(digit(*byte));
-    }
-    value
-}
-
-/// Whether the byte is a digit of the base.
-fn is_digit(byte: u8, base: u64) -> bool
-    ensures { result ≡ is_digit byte base }
-{
-    u64::from(digit(byte)) < base
+    Some((value, &text[len..]))
 }
 
 /// The value of each byte as a digit, or 36 where it is no digit of any base.
