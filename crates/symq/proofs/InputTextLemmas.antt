@@ -1,53 +1,14 @@
--- The addresses of an input line by line, and the input piece by piece.
-use Rattle.std.proofs.Common.{◌≡◌, ℕ, zero, suc, ◌+◌, ◌<◌, ◌≤◌, true, false, List, [], ◌∷◌, ◌++◌, length, drop, Option, Some, None, option_map, refl, sym, ap, ◌∙◌, append_assoc, arith, eqb}
-use Rattle.std.specs.Option.{option_and_then}
-use Rattle.std.proofs.lemmas.Bool.{eqb-true}
+-- The input, piece by piece.
+use Rattle.std.proofs.Common.{◌≡◌, ℕ, ◌+◌, ◌≤◌, List, [], ◌∷◌, ◌++◌, length, drop, Option, Some, Result, Ok, Err, refl, sym, ap, ◌∙◌, arith}
 use Rattle.std.proofs.lemmas.List.{length-drop, nil_from_length}
 use Rattle.std.proofs.Math.Seq.{drop-append_seam, drop-append-add}
-use Rattle.bz_base.specs.Line.{ended_lines}
-use Rattle.bz_base.specs.Number.{hex_at, whole}
 use Rattle.bz_files.specs.World.{Told}
-use Rattle.symq.specs.InputText.{Moves, MovesAtMost, greatest_input, room_after, left_over, with_address, addresses_of, addresses_in}
-
--- addresses in front of others
-abbrev pub prepended : List ℕ → Option (List ℕ) → Option (List ℕ)
-prepended front addrs = option_map (λ rest. front ++ rest) addrs
+use Rattle.symq.specs.InputText.{Moves, MovesAtMost, greatest_input, room_after, left_over, in_front}
 
 -- an empty front changes nothing
-pub prepended_none : (addrs : Option (List ℕ)) → prepended [] addrs ≡ addrs
-prepended_none None = refl
-prepended_none (Some addrs) = refl
-
--- an address in front of none is none
-with_none : (addr : Option ℕ) → with_address addr None ≡ None
-with_none None = refl
-with_none (Some addr) = refl
-
--- the address of the first line stands in front of those of the others
-pub first_address : (rest line after : List ℕ) → ended_lines rest ≡ option_map (λ lines. line ∷ lines) (ended_lines after) →
-    addresses_in rest ≡ with_address (whole (hex_at 16 line)) (addresses_in after)
-first_address rest line after cut = ap (option_and_then addresses_of) cut ∙ by_lines (ended_lines after)
-  where
-    by_lines : (lines : Option (List (List ℕ))) →
-        option_and_then addresses_of (option_map (λ more. line ∷ more) lines) ≡ with_address (whole (hex_at 16 line)) (option_and_then addresses_of lines)
-    by_lines None = sym (with_none (whole (hex_at 16 line)))
-    by_lines (Some lines) = refl
-
--- the address joins the front
-pub prepended_more : (front : List ℕ) (addr : ℕ) (addrs : Option (List ℕ)) →
-    prepended (front ++ addr ∷ []) addrs ≡ prepended front (option_map (λ more. addr ∷ more) addrs)
-prepended_more front addr None = refl
-prepended_more front addr (Some addrs) = ap Some (append_assoc front (addr ∷ []) addrs)
-
--- a length that isn't 0
-pub some_from_test : (n : ℕ) → false ≡ eqb n 0 → 0 < n
-some_from_test zero test = cc
-some_from_test (suc n) test = omega arith
-
--- a text of length 0
-pub none_from_test : (text : List ℕ) → true ≡ eqb (length text) 0 → text ≡ []
-none_from_test [] test = refl
-none_from_test (b ∷ bs) test = absurd (omega (arith, eqb-true (length (b ∷ bs)) 0 (sym test)))
+pub front_none : (read : Result (List ℕ) ℕ) → in_front [] read ≡ read
+front_none (Ok addrs) = refl
+front_none (Err n) = refl
 
 -- what lies past a front is what follows it
 drop_front : (front rest text : List ℕ) (n : ℕ) → text ≡ front ++ rest → length front ≡ n → rest ≡ drop n text

@@ -1,11 +1,11 @@
 -- What the outcome of a run says of its words, its input and its source.
-use Rattle.std.proofs.Common.{◌≡◌, ℕ, ◌≤◌, Bool, true, false, List, ◌++◌, length, Option, Some, None, Ok, Err, Result, IfOk, refl, sym, ap, ◌∙◌, inl, inr, arith, ltb}
+use Rattle.std.proofs.Common.{◌≡◌, ℕ, ◌≤◌, Bool, true, false, List, ◌++◌, length, Option, Some, None, Ok, Err, Result, IfOk, IsErr, refl, sym, ap, ◌∙◌, inl, inr, arith, ltb}
 use Rattle.std.proofs.lemmas.Bool.{false≢true, le-ltb, lt-ltb, ltb-false, ltb-true}
 use Rattle.bz_base.specs.Answer.{Answer}
 use Rattle.bz_base.specs.declared.error.Error.{Error}
 use Rattle.bz_files.specs.World.{World}
 use Rattle.symq.specs.Commands.{answer_to}
-use Rattle.symq.specs.InputText.{AreAddresses, addresses_in, greatest_input}
+use Rattle.symq.specs.InputText.{HasBadLine, addresses_in, greatest_input}
 use Rattle.symq.specs.Outcome.{Outcome, run_outcome, by_command, by_length, by_addresses, by_answer}
 use Rattle.symq.specs.Reply.{IsInputReply, IsRunReply}
 use Rattle.symq.specs.Run.{Asks, Ends, IsAnswerable, IsBadInput, IsDone, IsRefusable, IsRefused}
@@ -14,27 +14,24 @@ use Rattle.symq.specs.declared.program.Reply.{Reply}
 use Rattle.symq.specs.declared.status.Status.{Status}
 use Rattle.symq.specs.declared.status.Status.TheVariants as statuses
 use Rattle.symq.proofs.CommandLemmas.{answers_found, answers_given, cause_found, has_answers, refusal_given}
-use Rattle.symq.proofs.InputGrammarLemmas.{addresses_found, addresses_again}
+use Rattle.symq.proofs.InputGrammarLemmas.{addresses_found, addresses_again, first_bad_found, first_bad_again}
 
 module _ (words : List (List ℕ)) (command : Command) (input : List ℕ) (command_is : command_in words ≡ Some command) (short : length input ≤ greatest_input) where
   -- an input that isn't read as addresses is a bad one
-  pub bad_from_none : addresses_in input ≡ None → IsBadInput words input
-  bad_from_none none = (command, command_is, inr (λ addrs are. let read = addresses_again input addrs are in cc))
+  pub bad_from_read : (read : Result (List ℕ) ℕ) → addresses_in input ≡ read → IsErr read → IsBadInput words input
+  bad_from_read (Ok addrs) is bad = cc
+  bad_from_read (Err n) is bad = (command, command_is, inr (n, first_bad_found input n is))
 
   -- and only such an input
-  pub none_from_bad : IsBadInput words input → addresses_in input ≡ None
-  none_from_bad (named, same, inl long) = absurd (omega arith)
-  none_from_bad (named, same, inr never) = by_read (addresses_in input) refl
-    where
-      by_read : (read : Option (List ℕ)) → addresses_in input ≡ read → addresses_in input ≡ None
-      by_read None is = is
-      by_read (Some addrs) is = absurd (never addrs (addresses_found input addrs is))
+  pub err_from_bad : IsBadInput words input → IsErr (addresses_in input)
+  err_from_bad (named, same, inl long) = absurd (omega arith)
+  err_from_bad (named, same, inr (n, bad)) = rw (first_bad_again input n bad) refl
 
   -- so it decides on the reply's status
   pub input_from_read : (result : Result Reply Error) →
-      IfOk result (λ given. (given.status ≡ statuses.Input → addresses_in input ≡ None) × (addresses_in input ≡ None → given.status ≡ statuses.Input)) →
+      IfOk result (λ given. (given.status ≡ statuses.Input → IsErr (addresses_in input)) × (IsErr (addresses_in input) → given.status ≡ statuses.Input)) →
       IfOk result (λ given. (given.status ≡ statuses.Input → IsBadInput words input) × (IsBadInput words input → given.status ≡ statuses.Input))
-  input_from_read (Ok reply) read = (λ is. bad_from_none (read.0 is), λ bad. read.1 (none_from_bad bad))
+  input_from_read (Ok reply) read = (λ is. bad_from_read (addresses_in input) refl (read.0 is), λ bad. read.1 (err_from_bad bad))
   input_from_read (Err e) read = tt
 
   -- the addresses that a reply answers are those that the run is asked for
@@ -66,9 +63,9 @@ record IsAsking (words : List (List ℕ)) (input : List ℕ) (world : World) : T
 
 module _ (words : List (List ℕ)) (input : List ℕ) (world : World) where
   asking_read : (command : Command) → command_in words ≡ Some command → ltb greatest_input (length input) ≡ false →
-      (read : Option (List ℕ)) → addresses_in input ≡ read → is_asking (by_addresses command world read).status ≡ true → IsAsking words input world
-  asking_read command command_is fits None is asking = cc
-  asking_read command command_is fits (Some addrs) is asking = record {
+      (read : Result (List ℕ) ℕ) → addresses_in input ≡ read → is_asking (by_addresses command world read).status ≡ true → IsAsking words input world
+  asking_read command command_is fits (Err n) is asking = cc
+  asking_read command command_is fits (Ok addrs) is asking = record {
     command = command;
     addrs = addrs;
     asks = record { command_is = command_is; short = ltb-false _ _ fits; input_is = addresses_found input addrs is };
@@ -166,9 +163,9 @@ module _ (words : List (List ℕ)) (input : List ℕ) (world : World) where
   answer_never addrs (Ok answers) = refl
   answer_never addrs (Err e) = refl
 
-  usage_never_read : (command : Command) (read : Option (List ℕ)) → (by_addresses command world read).status ≡ statuses.Usage → ⊥
-  usage_never_read command None usage = cc
-  usage_never_read command (Some addrs) usage = let asks = answer_never addrs (answer_to command addrs world) in absurd (false≢true (sym (ap is_asking usage) ∙ asks))
+  usage_never_read : (command : Command) (read : Result (List ℕ) ℕ) → (by_addresses command world read).status ≡ statuses.Usage → ⊥
+  usage_never_read command (Err n) usage = cc
+  usage_never_read command (Ok addrs) usage = let asks = answer_never addrs (answer_to command addrs world) in absurd (false≢true (sym (ap is_asking usage) ∙ asks))
 
   usage_never : (command : Command) (long : Bool) → (by_length command input world long).status ≡ statuses.Usage → ⊥
   usage_never command true usage = cc
@@ -185,10 +182,10 @@ module _ (words : List (List ℕ)) (input : List ℕ) (world : World) where
   cause_is_usage none = rw none refl
 
   -- a bad input is named, and no other
-  input_by_read : (command : Command) → command_in words ≡ Some command → length input ≤ greatest_input → (read : Option (List ℕ)) → addresses_in input ≡ read →
+  input_by_read : (command : Command) → command_in words ≡ Some command → length input ≤ greatest_input → (read : Result (List ℕ) ℕ) → addresses_in input ≡ read →
       (by_addresses command world read).status ≡ statuses.Input → IsBadInput words input
-  input_by_read command command_is short None is bad = bad_from_none words command input command_is short is
-  input_by_read command command_is short (Some addrs) is bad =
+  input_by_read command command_is short (Err n) is bad = bad_from_read words command input command_is short (Err n) is refl
+  input_by_read command command_is short (Ok addrs) is bad =
       let asks = answer_never addrs (answer_to command addrs world) in absurd (false≢true (sym (ap is_asking bad) ∙ asks))
 
   input_by_length : (command : Command) → command_in words ≡ Some command → (long : Bool) → ltb greatest_input (length input) ≡ long →
@@ -203,14 +200,10 @@ module _ (words : List (List ℕ)) (input : List ℕ) (world : World) where
   pub input_is_bad : (run_outcome words input world).status ≡ statuses.Input → IsBadInput words input
   input_is_bad bad = input_by_command (command_in words) refl bad
 
-  unread_is_input : (command : Command) → ((addrs : List ℕ) → AreAddresses input addrs → ⊥) → (read : Option (List ℕ)) → addresses_in input ≡ read → (by_addresses command world read).status ≡ statuses.Input
-  unread_is_input command never None is = refl
-  unread_is_input command never (Some addrs) is = absurd (never addrs (addresses_found input addrs is))
-
-  bad_by_length : (command : Command) → ((addrs : List ℕ) → AreAddresses input addrs → ⊥) → (long : Bool) → (by_length command input world long).status ≡ statuses.Input
-  bad_by_length command never true = refl
-  bad_by_length command never false = unread_is_input command never (addresses_in input) refl
+  bad_by_length : (command : Command) → HasBadLine input → (long : Bool) → (by_length command input world long).status ≡ statuses.Input
+  bad_by_length command (n, bad) true = refl
+  bad_by_length command (n, bad) false = rw (first_bad_again input n bad) refl
 
   pub bad_is_input : IsBadInput words input → (run_outcome words input world).status ≡ statuses.Input
   bad_is_input (command, command_is, inl long) = rw (command_is, lt-ltb _ _ long) refl
-  bad_is_input (command, command_is, inr never) = rw command_is (bad_by_length command never (ltb greatest_input (length input)))
+  bad_is_input (command, command_is, inr bad) = rw command_is (bad_by_length command bad (ltb greatest_input (length input)))

@@ -1,5 +1,5 @@
 -- What a run writes and ends with where nothing fails: a function of words, input and world.
-use Rattle.std.specs.Prelude.{ℕ, Bool, true, false, nat_lt, List, ◌++◌, length, codes, Option, Some, None, Result, Ok, Err}
+use Rattle.std.specs.Prelude.{ℕ, Bool, true, false, nat_lt, List, ◌++◌, length, codes, decimal, Option, Some, None, Result, Ok, Err}
 use Rattle.bz_base.specs.Answer.{Answer}
 use Rattle.bz_base.specs.ErrorNames.{name_of}
 use Rattle.bz_base.specs.declared.error.Error.{Error}
@@ -38,10 +38,14 @@ abbrev pub by_answer : List ℕ → Result (List Answer) Error → Outcome
 by_answer addrs (Ok answers) = record { status = statuses.Done; text = answer_texts addrs answers }
 by_answer addrs (Err e) = refused e
 
--- an input that isn't a list of addresses is named, else the command's source answers
-abbrev pub by_addresses : Command → World → Option (List ℕ) → Outcome
-by_addresses command world None = record { status = statuses.Input; text = codes "input: not built\n" }
-by_addresses command world (Some addrs) = by_answer addrs (answer_to command addrs world)
+-- an input with a line that isn't well formed is named by the number of the first such line, in decimal
+abbrev pub bad_line : ℕ → Outcome
+bad_line n = record { status = statuses.Input; text = codes "input: line " ++ (decimal n ++ codes "\n") }
+
+-- a bad line is named, and addresses are answered by the command's source
+abbrev pub by_addresses : Command → World → Result (List ℕ) ℕ → Outcome
+by_addresses command world (Err n) = bad_line n
+by_addresses command world (Ok addrs) = by_answer addrs (answer_to command addrs world)
 
 -- an input that is too long is named before its lines are read
 abbrev pub by_length : Command → List ℕ → World → Bool → Outcome

@@ -43,7 +43,7 @@ IsBatchReply command addrs reply = reply.status ≡ statuses.Done → IsBatchTex
 
 -- and its addresses are those of the input
 abbrev pub IsInputReply : Command → List ℕ → Reply → Type 0
-IsInputReply command input reply = reply.status ≡ statuses.Done → (addrs : List ℕ) × (addresses_in input ≡ Some addrs) × IsBatchText command addrs (cow_str_bytes reply.text)
+IsInputReply command input reply = reply.status ≡ statuses.Done → (addrs : List ℕ) × (addresses_in input ≡ Ok addrs) × IsBatchText command addrs (cow_str_bytes reply.text)
 
 -- and once it is written, the run has answered
 abbrev pub IsRunReply : List (List ℕ) → List ℕ → Reply → Type 0

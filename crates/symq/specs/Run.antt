@@ -10,7 +10,7 @@ use Rattle.bz_files.specs.declared.text.TextIn as input_trait
 use Rattle.bz_files.specs.declared.text.TextOut as output_trait
 use Rattle.symq.specs.AnswerText.{answer_texts}
 use Rattle.symq.specs.Commands.{HasAnswers, AnswersIn, AnswersSome, IsCause}
-use Rattle.symq.specs.InputText.{AreAddresses, greatest_input, left_over, MovesAtMost}
+use Rattle.symq.specs.InputText.{AreAddresses, HasBadLine, greatest_input, left_over, MovesAtMost}
 use Rattle.symq.specs.Outcome.{Outcome, refused, run_outcome}
 use Rattle.symq.specs.Words.{Command, command_in}
 use Rattle.symq.specs.declared.status.Status.{Status}
@@ -80,11 +80,11 @@ pub record IsRefused (words : List (List ℕ)) (input : List ℕ) (world : World
   pub refusable : IsRefusable words input world
   pub written : new ≡ Some (old ++ (refused refusable.refusal).text)
 
--- the words are a command, and the input is too long for it, or isn't the lines of any addresses
+-- the words are a command, and the input is too long for it, or has a line that isn't well formed
 abbrev pub IsBadInput : List (List ℕ) → List ℕ → Type 0
 IsBadInput words input =
     (command : Command) × (command_in words ≡ Some command)
-    × ((greatest_input < length input) ⊎ ((addrs : List ℕ) → AreAddresses input addrs → ⊥))
+    × ((greatest_input < length input) ⊎ HasBadLine input)
 
 -- the input that a command asks for was read: to its end, or to the byte that makes it too long
 abbrev pub IsReadWhole : List (List ℕ) → Option (List ℕ) → Option (List ℕ) → Type 0

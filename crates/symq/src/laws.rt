@@ -1,16 +1,18 @@
 //! What holds of this crate's definitions.
 
-ghost use Rattle.std.specs.Prelude.{◌≡◌, ◌↔◌, ℕ, List, Option, None, Some};
+ghost use Rattle.std.specs.Prelude.{◌≡◌, ◌↔◌, ℕ, List, Option, None, Ok, Err};
 ghost use Rattle.bz_files.specs.World.{World};
-ghost use Rattle.symq.specs.InputText.{AreAddresses, addresses_in};
+ghost use Rattle.symq.specs.InputText.{AreAddresses, IsFirstBad, addresses_in};
 ghost use Rattle.symq.specs.Outcome.{run_outcome};
 ghost use Rattle.symq.specs.Run.{Ends, IsAnswerable, IsBadInput, IsDone, IsRefusable, IsRefused};
 ghost use Rattle.symq.specs.Words.{command_in};
 ghost use Rattle.symq.specs.declared.status.Status.TheVariants as statuses;
 
-/// The addresses that are read of an input are those that its lines spell, wherever they do.
+/// The addresses that are read of an input are those that its lines say, and the number that is read
+/// of another one is that of its first line that isn't well formed.
 pub fn input_is_read()
-    ensures { (text addrs : List ℕ) → (addresses_in text ≡ Some addrs) ↔ AreAddresses text addrs }
+    ensures addresses { (text addrs : List ℕ) → (addresses_in text ≡ Ok addrs) ↔ AreAddresses text addrs }
+    ensures line { (text : List ℕ) (n : ℕ) → (addresses_in text ≡ Err n) ↔ IsFirstBad text n }
 {}
 
 /// The outcome of a run is each status exactly where the status has its cause.

@@ -1,6 +1,6 @@
 //! One run of the program.
 
-ghost use Rattle.std.specs.Prelude.{◌≡◌, ◌≢◌, ◌⊎◌, ◌↔◌, ◌+◌, ◌≤◌, [], Some, None, map, string_bytes, IfOk, OnOk, IsOkUnless};
+ghost use Rattle.std.specs.Prelude.{◌≡◌, ◌≢◌, ◌⊎◌, ◌↔◌, ◌+◌, ◌≤◌, [], Some, None, map, string_bytes, IfOk, OnOk, IsErr, IsOkUnless};
 ghost use Rattle.bz_base.specs.Answer.{reading};
 ghost use Rattle.bz_files.specs.Count.{HasRisen, counted};
 ghost use Rattle.bz_files.specs.Looked.{Faulted, Looked, ReadsOne};
@@ -8,12 +8,12 @@ ghost use Rattle.bz_files.specs.World.{Told, in_view};
 ghost use Rattle.bz_cache.specs.Format.{Comes};
 ghost use Rattle.symq.specs.Commands.{answer_to, input_of, AnswersSome, IsSourceOf};
 ghost use Rattle.symq.specs.InputText.{addresses_in, greatest_input, MovesAtMost};
-ghost use Rattle.symq.specs.Outcome.{by_answer, by_addresses, run_outcome};
+ghost use Rattle.symq.specs.Outcome.{bad_line, by_answer, by_addresses, run_outcome};
 ghost use Rattle.symq.specs.Reply.{outcome_of, IsBatchReply, IsInputReply, IsRunReply, Replies, RepliesTo};
 ghost use Rattle.symq.specs.Run.{Ends, IsBadInput, IsNoFailure, IsOrFails, IsReadWhole, IsSomeDone, Runs};
 ghost use Rattle.symq.specs.Words.{command_in, command_of};
 
-use crate::input::{self, ReadStop};
+use crate::input::{self, BadInput, ReadStop};
 use crate::output::finish;
 use crate::status::Status;
 use crate::words::Command;
@@ -133,18 +133,29 @@ fn reply_to_input<F: Files>(
     ensures answered { IfOk result (λ given. IsInputReply (command_of command.now) text.now given) }
     ensures no_failure { IfOk result (λ given. IsNoFailure given.status) }
     ensures usage { IfOk result (λ given. given.status ≢ Status.Usage) }
-    ensures input { IfOk result (λ given. (given.status ≡ Status.Input → addresses_in text.now ≡ None) × (addresses_in text.now ≡ None → given.status ≡ Status.Input)) }
-    ensures unlooked { addresses_in text.now ≡ None → files.new ≡ files.old }
+    ensures input { IfOk result (λ given. (given.status ≡ Status.Input → IsErr (addresses_in text.now)) × (IsErr (addresses_in text.now) → given.status ≡ Status.Input)) }
+    ensures unlooked { IsErr (addresses_in text.now) → files.new ≡ files.old }
     ensures most { ReadsOne F.Files files.old files.new }
     ensures opened { Told (in_view (F.worlds files.old)) (λ world. IfOk result (λ given. given.status ≡ Status.Done → F.opens files.new ≡ counted (F.opens files.old))) }
     ensures files { Looked F.Files files.old files.new (Faulted result) }
 {
-    match input::addresses(alloc, text) {
-        Ok(Some(addrs)) => reply_to_batch(alloc, command, addrs.as_slice(), files),
-        Ok(None) => Ok(said(Status::Input, "input: not built\n")),
-        // Reading addresses wants memory alone.
-        Err(_) => Err(Error::OutOfMemory),
+    match input::read_addrs(alloc, text) {
+        Ok(addrs) => reply_to_batch(alloc, command, addrs.as_slice(), files),
+        Err(BadInput::Line(number)) => bad_line(alloc, number),
+        Err(BadInput::OutOfMemory) => Err(Error::OutOfMemory),
     }
+}
+
+// The reply to an input whose first line that isn't well formed has this number.
+fn bad_line(alloc: Global, number: u64) -> Result<Reply>
+    ensures reply { IfOk result (λ given. outcome_of given ≡ bad_line number) }
+    ensures memory { IsOkUnless result Error.OutOfMemory }
+{
+    let text = format!(in alloc; "input: line {number}\n")?;
+    Ok(Reply {
+        status: Status::Input,
+        text: CowStr::Owned(text),
+    })
 }
 
 fn reply_to_batch<F: Files>(

@@ -12,7 +12,7 @@ pub enum Status {
     Refused,
     /// 2: the words are no command.
     Usage,
-    /// 3: the input is too long or out of form.
+    /// 3: the input is too long, or a line of it isn't well formed.
     Input,
     /// 4: reading or writing failed.
     Fault,

@@ -87,6 +87,7 @@ fn answers_addresses_in_their_order(rt: HostRuntime) -> Result<(), Fail> {
         (ONE_RETURN, ADDRESSES, ANSWERS),
         (TWO_RETURNS, ADDRESSES, ANSWERS),
         (EVERY_KIND, ADDRESSES, ANSWERS),
+        (FIRST, "0x1010\r\n\r\n1030", ANSWERS),
         (
             "PUBLIC 10 0 p\n",
             "10\n",
@@ -123,7 +124,6 @@ fn ends_by_its_cause(rt: HostRuntime) -> Result<(), Fail> {
     for row in [
         over_first("/absent", ADDRESSES, Status::Refused, "refused: NotFound\n"),
         over_first("-", ADDRESSES, Status::Usage, usage),
-        over_first("/a.sym", "10\r\n", Status::Input, "input: not built\n"),
     ] {
         check(&rt, rt.alloc(), row)?;
     }
@@ -143,12 +143,31 @@ fn ends_by_its_cause(rt: HostRuntime) -> Result<(), Fail> {
     Ok(())
 }
 
+/// The first line that is neither empty nor an address is named by its number.
+#[test]
+fn names_the_first_bad_line(rt: HostRuntime) -> Result<(), Fail> {
+    let rows = [
+        ("10\nxyz\n", "input: line 2\n"),
+        ("\n\n 10\n", "input: line 3\n"),
+        ("0x\n", "input: line 1\n"),
+        ("10\r\r\n", "input: line 1\n"),
+        ("0X10\n", "input: line 1\n"),
+        ("00000000000000010\n", "input: line 1\n"),
+    ];
+    for (input, written) in rows {
+        let row = over_first("/a.sym", input, Status::Input, written);
+        check(&rt, rt.alloc(), row)?;
+    }
+    Ok(())
+}
+
 /// The longest input is read whole, and one byte more is too long.
 #[test]
 fn reads_the_longest_input(rt: HostRuntime) -> Result<(), Fail> {
     let alloc = rt.alloc();
-    let mut input = vec![in alloc; b'\n'; 16_777_216]?;
-    let mut row = over_first("/a.sym", "", Status::Input, "input: not built\n");
+    let mut input = vec![in alloc; b'\n'; 16_777_215]?;
+    input.push(b'x')?;
+    let mut row = over_first("/a.sym", "", Status::Input, "input: line 16777216\n");
     row.input = input.as_slice();
     check(&rt, alloc, row)?;
     input.push(b'\n')?;

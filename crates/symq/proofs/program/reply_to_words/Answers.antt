@@ -4,7 +4,7 @@ use Rattle.symq.specs.Outcome.{Outcome}
 use Rattle.symq.specs.Words.{command_of}
 use Rattle.symq.proofs.InputTextLemmas.{over_at_end}
 use Rattle.symq.proofs.ReplyLemmas.{given_always}
-use Rattle.symq.proofs.RunLemmas.{input_from_read, none_from_bad, some_from_reply}
+use Rattle.symq.proofs.RunLemmas.{err_from_bad, input_from_read, some_from_reply}
 use Rattle.symq.proofs.program.reply_to_words.Goals as goal
 
 -- the input was read whole, and whether it is addresses decides
@@ -31,7 +31,7 @@ returns-in-Ok-clause-unlooked g c text left bad =
     let whole : c.as_slice.result.now ≡ text = c.as_slice.ensures.value ∙ c.in-Ok.ensures.whole text left in
     let few : length c.as_slice.result.now ≤ greatest_input = omega (arith, c.as_slice.ensures.len, c.in-Ok.ensures.short) in
     let short = rw whole at few in
-    let none = none_from_bad (map string_bytes c.args.words.now) (command_of c.in-Some.command) text (sym c.in-Some.ensures) short bad in
+    let none = err_from_bad (map string_bytes c.args.words.now) (command_of c.in-Some.command) text (sym c.in-Some.ensures) short bad in
     c.reply_to_input.ensures.unlooked (rw whole none)
 
 -- an input that is too long is a bad one
