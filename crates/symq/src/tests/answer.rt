@@ -21,7 +21,7 @@ fn check(
 
 fn place(dir: Option<&'static str>, file: &'static str, line: Option<u32>) -> CodeInfo<'static> {
     CodeInfo {
-        dir: dir.map(CowStr::Borrowed),
+        dir: dir.map(|dir| CowStr::Borrowed(dir)),
         file: CowStr::Borrowed(file),
         line,
         column: None,
