@@ -1,9 +1,30 @@
--- The text of an answer: one line. The tables read so far tell no place in the source code, so a dash stands for it.
-use Rattle.std.specs.Prelude.{ℕ, false, List, [], ◌∷◌, ◌++◌, codes, Option, Some, None}
+-- The text of an answer: a line for the symbol, or for the reason why there is none, and a line for each inlined call.
+use Rattle.std.specs.Prelude.{ℕ, Bool, false, ◌-◌, ◌==◌, List, [], ◌∷◌, ◌++◌, length, slice_get, flat_map, codes, decimal, Option, Some, None, if◌then◌else◌}
 use Rattle.std.specs.Fmt.{digits}
-use Rattle.bz_base.specs.Answer.{Symbol, Answer}
+use Rattle.bz_base.specs.Answer.{Site, Call, Symbol, Answer}
 use Rattle.bz_base.specs.Answer.Answer.{Known, Unknown}
+use Rattle.bz_base.specs.Byte.{begins_with}
 use Rattle.bz_base.specs.ReasonText as reason
+
+-- the byte between the parts of a path
+abbrev pub slash : ℕ
+slash = 47
+
+abbrev pub begins_with_slash : List ℕ → Bool
+begins_with_slash path = begins_with (λ b. b == slash) path
+
+abbrev pub last_byte : List ℕ → Option ℕ
+last_byte text = slice_get text (length text - 1)
+
+-- the slash between a directory and a file, by the directory's last byte: none if it is empty or ends in a slash
+abbrev pub slash_after : Option ℕ → List ℕ
+slash_after None = []
+slash_after (Some last) = if last == slash then [] else codes "/"
+
+-- the joined path of a file, which stands alone if it has no directory or begins with a slash
+abbrev pub path_text : Option (List ℕ) → List ℕ → List ℕ
+path_text None file = file
+path_text (Some dir) file = if begins_with_slash file then file else dir ++ (slash_after (last_byte dir) ++ file)
 
 -- a number as `0x` and lower-case hexadecimal digits, without leading zeros
 abbrev pub hex : ℕ → List ℕ
@@ -17,16 +38,38 @@ abbrev pub module_text : Option (List ℕ) → List ℕ
 module_text None = codes "-"
 module_text (Some name) = name
 
--- NAME+0xOFFSET start 0xSTART
-abbrev pub place_text : Symbol → List ℕ
-place_text s = s.name ++ (codes "+" ++ (hex s.offset ++ (codes " start " ++ hex s.addr)))
+-- :LINE, if there is one
+abbrev pub line_text : Option ℕ → List ℕ
+line_text None = []
+line_text (Some line) = codes ":" ++ decimal line
 
--- size 0xSIZE module MODULE at -, with a dash for what isn't known
+-- WHERE: the joined path and the line
+abbrev pub place_text : Option Site → List ℕ
+place_text None = codes "-"
+place_text (Some site) = path_text site.dir site.file ++ line_text site.line
+
+-- at WHERE, and the line's end
+abbrev pub end_text : Option Site → List ℕ
+end_text site = codes " at " ++ (place_text site ++ codes "\n")
+
+-- NAME+0xOFFSET start 0xSTART
+abbrev pub start_text : Symbol → List ℕ
+start_text s = s.name ++ (codes "+" ++ (hex s.offset ++ (codes " start " ++ hex s.addr)))
+
+-- size 0xSIZE module MODULE, with a dash for what isn't known
 abbrev pub extent_text : Symbol → List ℕ
-extent_text s = codes " size " ++ (size_text s.size ++ (codes " module " ++ (module_text s.«module» ++ codes " at -\n")))
+extent_text s = codes " size " ++ (size_text s.size ++ (codes " module " ++ module_text s.«module»))
+
+-- NAME at WHERE, after two spaces
+abbrev pub call_text : Call → List ℕ
+call_text call = codes "  " ++ (call.name ++ end_text call.site)
+
+-- the lines of the inlined calls, in their order
+abbrev pub calls_text : List Call → List ℕ
+calls_text calls = flat_map call_text calls
 
 abbrev pub symbol_text : Symbol → List ℕ
-symbol_text s = place_text s ++ extent_text s
+symbol_text s = start_text s ++ (extent_text s ++ (end_text s.site ++ calls_text s.calls))
 
 abbrev pub result_text : Answer → List ℕ
 result_text (Known s) = symbol_text s

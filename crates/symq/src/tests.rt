@@ -1,5 +1,7 @@
 //! The program on files, inputs and outputs in memory.
 
+mod answer;
+
 use crate::program::run;
 use crate::status::Status;
 use bz_files::{MemFiles, MemIn, MemOut};
