@@ -13,6 +13,7 @@ use bz_base::decimal;
 use memchr::memchr;
 
 /// The text after the tag, if the text begins with it.
+#[inline(always)]
 #[tactic(auto, unfolding(crate::specs::Reads::piece_at))]
 pub(crate) fn tag<'a>(text: &'a [u8], tag: &[u8]) -> Option<&'a [u8]>
     ensures { option_map (λ rest. (tt, rest.now)) result ≡ piece_at (Tag tag.now) text.now }
@@ -48,6 +49,7 @@ fn begins_blank(text: &[u8]) -> bool
 }
 
 /// The text after a separator, if the text begins with one.
+#[inline(always)]
 #[tactic(auto, unfolding(crate::specs::Reads::piece_at, crate::specs::Reads::run_at))]
 pub(crate) fn separator(text: &[u8]) -> Option<&[u8]>
     ensures { option_map (λ rest. (tt, rest.now)) result ≡ piece_at Sep text.now }
@@ -116,6 +118,7 @@ pub(crate) fn word(text: &[u8]) -> Option<&[u8]>
 }
 
 /// The number of the one to `most` hexadecimal digits at the front, and the text after them.
+#[inline(always)]
 #[tactic(auto, unfolding(crate::specs::Reads::piece_at))]
 pub(crate) fn hex(text: &[u8], most: usize) -> Option<(u64, &[u8])>
     requires { most ≤ 16 }
@@ -126,6 +129,7 @@ pub(crate) fn hex(text: &[u8], most: usize) -> Option<(u64, &[u8])>
 }
 
 /// The number of the decimal digits at the front, and the text after them.
+#[inline(always)]
 #[tactic(auto, unfolding(crate::specs::Reads::piece_at))]
 pub(crate) fn dec(text: &[u8]) -> Option<(u32, &[u8])>
     ensures { option_map (λ read. (read.0, read.1.now)) result ≡ piece_at Dec text.now }
