@@ -1,12 +1,15 @@
 -- What an answer is as plain data: a text by its bytes, a list by its items, whether borrowed or owned.
-use Rattle.std.specs.Prelude.{ℕ, List, Option, Some, None, option_map, map}
+use Rattle.std.specs.Prelude.{◌≡◌, ℕ, List, Option, Some, None, option_map, map, Result, Ok, Err}
 use Rattle.std.specs.Cow.{cow_str_bytes}
+use Rattle.bz_base.specs.declared.error.Error.{Error}
+use Rattle.bz_base.specs.declared.error.Error.TheVariants as errors
 use Rattle.bz_base.specs.declared.types.CodeInfo.{CodeInfo}
 use Rattle.bz_base.specs.declared.types.InlinedFn.{InlinedFn}
 use Rattle.bz_base.specs.declared.types.Sym.{Sym}
 use Rattle.bz_base.specs.declared.types.ResolvedSym.{ResolvedSym}
 use Rattle.bz_base.specs.declared.types.SrcLang.{SrcLang}
 use Rattle.bz_base.specs.declared.types.Reason.{Reason}
+use Rattle.bz_base.specs.declared.types.Reason.TheVariants as reasons
 use Rattle.bz_base.specs.declared.types.Symbolized.{Symbolized}
 use Rattle.bz_base.specs.declared.types.Symbolized.TheVariants as symbolized
 
@@ -80,6 +83,17 @@ resolved_of s = record {
 abbrev pub reading : Symbolized → Answer
 reading (symbolized.Sym s) = Known (symbol_of s)
 reading (symbolized.Unknown r) = Unknown r
+
+-- in a batch an address that is refused is an ignored error
+abbrev pub in_batch : Result Answer Error → Answer
+in_batch (Ok answer) = answer
+in_batch (Err e) = Unknown reasons.IgnoredError
+
+-- the answer reads as the expected one; but for want of memory, which may come anywhere
+abbrev pub Gives : {A B : Type 0} → (A → B) → Result B Error → Result A Error → Type 0
+Gives reading expected (Ok given) = expected ≡ Ok (reading given)
+Gives reading expected (Err errors.OutOfMemory) = Unit {0}
+Gives reading expected (Err e) = expected ≡ Err e
 
 -- the symbol of an answer, if it has one
 abbrev pub sym_in : Symbolized → Option Sym

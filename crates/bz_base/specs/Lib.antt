@@ -3,6 +3,7 @@ pub mod Byte
 pub mod Chain
 pub mod ErrorNames
 pub mod InputKind
+pub mod Lent
 pub mod Line
 pub mod Nearest
 pub mod Number

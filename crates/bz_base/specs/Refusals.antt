@@ -13,3 +13,9 @@ IsFormatRefusal _ = ⊥
 abbrev pub MayRefuse : Error → Type 0
 MayRefuse errors.OutOfMemory = Unit {0}
 MayRefuse e = IsFormatRefusal e
+
+-- these say that something failed, and nothing of what was asked
+abbrev pub IsFailure : Error → Type 0
+IsFailure errors.ReadFault = Unit {0}
+IsFailure errors.OutOfMemory = Unit {0}
+IsFailure _ = ⊥

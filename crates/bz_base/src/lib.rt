@@ -2,6 +2,7 @@
 //! which record of a table answers for an address.
 #![tactic(auto)]
 
+mod batch;
 mod chain;
 mod error;
 mod input;
@@ -16,6 +17,7 @@ mod table;
 mod text;
 mod types;
 
+pub use batch::in_batch;
 pub use chain::{Nested, chain_in, inner_in, sort_nested};
 pub use error::{Error, ErrorKind, Result};
 pub use input::Input;

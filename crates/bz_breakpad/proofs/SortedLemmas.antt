@@ -1,5 +1,5 @@
 -- The functions in order: each is still one of the file, and what answers is one of them.
-use Rattle.std.proofs.Common.{◌≡◌, ℕ, zero, suc, ◌<◌, Bool, true, false, cond, List, [], ◌∷◌, length, take, Option, Some, None, option_and_then, IfSome, nat_le, refl, ap, subst, ◌∙◌, arith}
+use Rattle.std.proofs.Common.{◌≡◌, ℕ, zero, suc, ◌<◌, Bool, true, false, cond, List, [], ◌∷◌, length, take, Option, Some, None, option_and_then, IfSome, nat_le, Result, Ok, refl, sym, ap, subst, ◌∙◌, arith}
 use Rattle.std.specs.List.{AllByRecursion, filter, slice_get}
 use Rattle.std.proofs.Math.Seq.{take-length}
 use Rattle.std.proofs.lemmas.Bool.{eq-eqb}
@@ -67,19 +67,19 @@ module _ {X : Type 0} (P : X → Type 0) where
     nearest_one xs all = covering_one (candidate start size addr xs) (candidate_one xs all)
 
 -- no function in the table
-pub plain-none : (table : Table) (opts : FindSymOpts) (addr : ℕ) → length table.functions ≡ 0 → Unknown reasons.MissingSyms ≡ plain table opts addr
+pub plain-none : (table : Table) (opts : FindSymOpts) (addr : ℕ) → length table.functions ≡ 0 → plain table opts addr ≡ Ok (Unknown reasons.MissingSyms)
 plain-none table opts addr none = by_list table.functions none where
-  by_list : (fs : List Function) → length fs ≡ 0 → Unknown reasons.MissingSyms ≡ by_functions table opts addr fs
+  by_list : (fs : List Function) → length fs ≡ 0 → by_functions table opts addr fs ≡ Ok (Unknown reasons.MissingSyms)
   by_list [] none = refl
   by_list (f ∷ fs) none = absurd (omega arith)
 
 -- functions, of which one answers or none does
 pub plain-some : (table : Table) (opts : FindSymOpts) (addr : ℕ) (o : Option Function) → 0 < length table.functions → o ≡ function_at addr table.functions →
-    by_function table opts addr o ≡ plain table opts addr
+    plain table opts addr ≡ by_function table opts addr o
 plain-some table opts addr o some is = by_list table.functions some is where
-  by_list : (fs : List Function) → 0 < length fs → o ≡ function_at addr fs → by_function table opts addr o ≡ by_functions table opts addr fs
+  by_list : (fs : List Function) → 0 < length fs → o ≡ function_at addr fs → by_functions table opts addr fs ≡ by_function table opts addr o
   by_list [] some is = absurd (omega arith)
-  by_list (f ∷ fs) some is = ap (by_function table opts addr) is
+  by_list (f ∷ fs) some is = sym (ap (by_function table opts addr) is)
 
 -- a list is what is taken of it where all is
 pub all_taken : (n : ℕ) (xs : List ℕ) → n ≡ length xs → take n xs ≡ xs

@@ -8,3 +8,9 @@ abbrev pub Refuses : {A : Type 0} → Option A → Error → Type 0
 Refuses read errors.InvalidInput = read ≡ None
 Refuses read errors.OutOfMemory = Unit {0}
 Refuses read _ = ⊥
+
+-- an answer is refused by these alone
+abbrev pub IsAnswerRefusal : Error → Type 0
+IsAnswerRefusal errors.InvalidInput = Unit {0}
+IsAnswerRefusal errors.OutOfMemory = Unit {0}
+IsAnswerRefusal _ = ⊥

@@ -1,6 +1,7 @@
 -- What is kept of a file stands for its table: the functions in the order of start, size and file, and their starts.
 use Rattle.std.specs.Prelude.{◌≡◌, ℕ, List, [], length, map, Option, Some, None, option_map}
 use Rattle.bz_base.specs.Nearest.{IsTable}
+use Rattle.bz_base.specs.Starts.{AreFound}
 use Rattle.bz_breakpad.specs.Kept.{TableFits, kept_functions, kept_names, kept_public, text_at}
 use Rattle.bz_breakpad.specs.Reader.{table_in}
 use Rattle.bz_breakpad.specs.Table.{PublicSymbol, Table}
@@ -28,6 +29,17 @@ pub record IsKept (bytes : List ℕ) (kept : KeptTable) (starts : List ℕ) : Ty
   pub read : table_in bytes ≡ Some table
   pub stands : StandsFor bytes table kept
   pub starts_are : starts ≡ starts_of kept.code
+
+-- the addresses that are looked up in a file's bytes
+pub record LookedUp : Type 0 where
+  pub bytes : List ℕ
+  pub addrs : List ℕ
+
+-- what is kept is of the bytes, and the places are those that a search among the functions' starts finds for the addresses
+pub record AreLookups (bytes : List ℕ) (kept : KeptTable) (addrs : List ℕ) (places : List (Option (ℕ × ℕ))) : Type 0 where
+  pub kept_is : IsKept bytes kept (starts_of kept.code)
+  pub found : AreFound (starts_of kept.code) addrs places
+  pub count : length places ≡ length addrs
 
 abbrev pub publics_of : Option Table → List PublicSymbol
 publics_of None = []

@@ -1,33 +1,33 @@
 //! A parsed Breakpad file.
 
-ghost use Rattle.std.specs.Prelude.{◌≡◌, ◌≤◌, ◌<◌, ◌+◌, ◌-◌, ◌*◌, ◌^◌, ℕ, List, map, length, option_map, Option, Some, slice_get, IfOk, IfErr, IfSome, IsOkUnless, IsSome};
-ghost use Rattle.std.specs.Cow.{cow_str_bytes};
-ghost use Rattle.bz_base.specs.Answer.{reading, symbol_of};
-ghost use Rattle.bz_base.specs.Starts.{AreFew, IsFound};
+ghost use Rattle.std.specs.Prelude.{◌≡◌, ◌≤◌, ◌<◌, ◌+◌, ◌-◌, ◌*◌, ◌^◌, ℕ, List, map, length, option_map, Option, Some, slice_get, IfOk, IfErr, IsOkUnless};
+ghost use Rattle.std.specs.List.{AllByRecursion};
+ghost use Rattle.bz_base.specs.Answer.{Gives, reading};
+ghost use Rattle.bz_base.specs.Lent.{IsLent};
+ghost use Rattle.bz_base.specs.Starts.{AreFew};
 ghost use Rattle.bz_base.specs.declared.error.Error.{Error};
 ghost use Rattle.bz_base.specs.declared.types.FindSymOpts.{FindSymOpts};
 ghost use Rattle.bz_breakpad.specs.Grammar.{Accepted, IsFile};
-ghost use Rattle.bz_breakpad.specs.Kept.{FunctionFits, IsTextAt, NamesFit, TableFits, kept_names, kept_table, text_at};
-ghost use Rattle.bz_breakpad.specs.Lent.{function_seen, lent_public};
+ghost use Rattle.bz_breakpad.specs.Kept.{NamesFit, TableFits, kept_names, kept_table};
+ghost use Rattle.bz_breakpad.specs.Lent.{lent_public};
 ghost use Rattle.bz_breakpad.specs.Names.{name_for};
-ghost use Rattle.bz_breakpad.specs.Plain.{batch, function_at, plain, symbol_at};
+ghost use Rattle.bz_breakpad.specs.Plain.{batch, function_at, plain};
 ghost use Rattle.bz_breakpad.specs.Reader.{counted_in, table_in, table_read};
-ghost use Rattle.bz_breakpad.specs.Refusal.{Refuses};
+ghost use Rattle.bz_breakpad.specs.Refusal.{IsAnswerRefusal, Refuses};
 ghost use Rattle.bz_breakpad.specs.Sorted.{IsKept, StandsFor, publics_in, starts_of};
 ghost use Rattle.bz_breakpad.specs.Table.{Table};
 ghost use Rattle.bz_breakpad.specs.Walked.{IsFinished, IsWalked};
 
 use crate::function::{Function, text_of};
+use crate::lookups::{Lookups, answer_from};
 use crate::parser;
 use crate::parser::walk::Walk;
 use crate::search::function_at;
-use crate::types::{KeptFunction, KeptTable, Part, PublicSymbol};
+use crate::types::{KeptTable, Part, PublicSymbol};
 use bz_base::{
-    Addr, Error, FindSymOpts, Reason, Result, Starts, Steps, Sym, Symbolized, nearest,
-    nearest_each, sort_table,
+    Addr, Error, FindSymOpts, Result, Starts, Steps, Symbolized, nearest, nearest_each, sort_table,
 };
 use std::alloc::Global;
-use std::borrow::CowStr;
 use std::collections::BTreeMap;
 use std::marker::Model;
 use std::sync::ledger::Ledger;
@@ -158,8 +158,31 @@ impl SymbolFile {
         })
     }
 
-    /// The answers to the addresses, in their order, each the file's answer at that address alone.
-    /// Addresses are relative to the module's base.
+    /// Looks the functions of the addresses up, for answers that are made one by one. Addresses are
+    /// relative to the module's base.
+    pub fn look_up<'f, 'b, L: Ledger>(
+        &'f self,
+        alloc: Global,
+        addrs: &'b [u64],
+        steps: &mut Steps<L>,
+    ) -> Result<Lookups<'f, 'b>>
+        ensures ok { IfOk result (λ lookups. lookups ≡ record { bytes = self.now; addrs = addrs.now }) }
+        ensures more { steps.old ≤ steps.new }
+        ensures swept { (table : Table) → table_in self.now ≡ Some table → steps.new - steps.old ≤ length addrs.now + length table.functions }
+        ensures searched { (table : Table) (p : ℕ) → table_in self.now ≡ Some table → 2 * (2 * length table.functions + 1) < 2 ^ (p + 1) → steps.new - steps.old ≤ length addrs.now * p }
+        ensures memory { IsOkUnless result Error.OutOfMemory }
+    {
+        let places = nearest_each(alloc, &self.starts, addrs, steps)?;
+        Ok(Lookups {
+            bytes: self.bytes.as_slice(),
+            kept: &self.table,
+            addrs,
+            places,
+        })
+    }
+
+    /// The answers to the addresses, in their order, each the file's answer at that address alone;
+    /// an address that is refused is an ignored error. Addresses are relative to the module's base.
     pub fn answer_batch<L: Ledger>(
         &self,
         alloc: Global,
@@ -168,25 +191,33 @@ impl SymbolFile {
         steps: &mut Steps<L>,
     ) -> Result<Vec<Symbolized<'_>>>
         ensures answers { IfOk result (λ answers. (table : Table) × (table_in self.now ≡ Some table) × (map reading answers.items ≡ batch table opts.now addrs.now)) }
+        ensures lent { IfOk result (λ answers. AllByRecursion IsLent answers.items) }
         ensures count { IfOk result (λ answers. length answers.items ≡ length addrs.now) }
         ensures more { steps.old ≤ steps.new }
         ensures swept { (table : Table) → table_in self.now ≡ Some table → steps.new - steps.old ≤ length addrs.now + length table.functions }
         ensures searched { (table : Table) (p : ℕ) → table_in self.now ≡ Some table → 2 * (2 * length table.functions + 1) < 2 ^ (p + 1) → steps.new - steps.old ≤ length addrs.now * p }
         ensures memory { IsOkUnless result Error.OutOfMemory }
     {
-        let places = nearest_each(alloc, &self.starts, addrs, steps)?;
-        let mut answers = Vec::new(alloc);
-        for (k, addr) in addrs.iter().enumerate() {
-            answers.push(answer(
-                alloc,
-                self.bytes.as_slice(),
-                &self.table,
-                opts,
-                places[k],
-                *addr,
-            ))?;
-        }
-        Ok(answers)
+        let lookups = self.look_up(alloc, addrs, steps)?;
+        lookups.answers(alloc, opts)
+    }
+
+    /// The answer at an address alone, which is relative to the module's base.
+    pub fn answer<L: Ledger>(
+        &self,
+        alloc: Global,
+        addr: Addr,
+        opts: &FindSymOpts,
+        steps: &mut Steps<L>,
+    ) -> Result<Symbolized<'_>>
+        ensures answer { (table : Table) × (table_in self.now ≡ Some table) × Gives reading (plain table opts.now addr) result }
+        ensures lent { IfOk result IsLent }
+        ensures refusal { IfErr result IsAnswerRefusal }
+        ensures more { steps.old ≤ steps.new }
+        ensures few { (table : Table) → table_in self.now ≡ Some table → AreFew (steps.new - steps.old) (length table.functions) }
+    {
+        let place = nearest(&self.starts, addr, steps);
+        answer_from(alloc, self.bytes.as_slice(), &self.table, opts, place, addr)
     }
 }
 
@@ -224,66 +255,6 @@ fn name_of<'a>(bytes: &'a [u8], names: &BTreeMap<u32, Part>, id: u32) -> Option<
 {
     match names.get(&id) {
         Some(part) => Some(text_of(bytes, part)),
-        None => None,
-    }
-}
-
-/// The answer at an address, from the place that a search found.
-fn answer<'a>(
-    alloc: Global,
-    bytes: &'a [u8],
-    kept: &'a KeptTable,
-    opts: &FindSymOpts,
-    place: Option<(usize, u64)>,
-    addr: u64,
-) -> Symbolized<'a>
-    requires found { IsFound (starts_of kept.now.code) addr place }
-    requires stands { (table : Table) × StandsFor bytes.now table kept.now }
-    ensures { (table : Table) → StandsFor bytes.now table kept.now → reading result ≡ plain table opts.now addr }
-{
-    // No record that is looked at tells a place in the source code, so the options change nothing.
-    let _opts = opts;
-    if kept.code.functions.is_empty() {
-        return Symbolized::Unknown(Reason::MissingSyms);
-    }
-    match function_at(&kept.code, place, addr) {
-        Some(function) => Symbolized::Sym(symbol(alloc, bytes, kept, function, addr)),
-        None => Symbolized::Unknown(Reason::UnknownAddr),
-    }
-}
-
-/// The function as the symbol at the address.
-fn symbol<'a>(
-    alloc: Global,
-    bytes: &'a [u8],
-    kept: &'a KeptTable,
-    function: &'a KeptFunction,
-    addr: u64,
-) -> Sym<'a>
-    requires below { function.now.start ≤ addr }
-    requires module_fits { IfSome kept.now.«module» (IsTextAt bytes.now) }
-    requires name_fits { IsTextAt bytes.now function.now.name }
-    ensures { (read : Table) (opts : FindSymOpts) → read.«module» ≡ option_map (text_at bytes.now) kept.now.«module» →
-        symbol_of result ≡ symbol_at read opts (function_seen bytes.now kept.now.code function.now) addr }
-{
-    Sym {
-        name: CowStr::Borrowed(text_of(bytes, &function.name)),
-        module: module_name(bytes, kept),
-        addr: function.start,
-        offset: (addr - function.start) as usize,
-        size: Some(function.size as usize),
-        code_info: None,
-        inlined: Vec::new(alloc),
-    }
-}
-
-/// The module, lent.
-fn module_name<'a>(bytes: &'a [u8], kept: &KeptTable) -> Option<CowStr<'a>>
-    requires { IfSome kept.now.«module» (IsTextAt bytes.now) }
-    ensures { option_map cow_str_bytes result ≡ option_map (text_at bytes.now) kept.now.«module» }
-{
-    match &kept.module {
-        Some(part) => Some(CowStr::Borrowed(text_of(bytes, part))),
         None => None,
     }
 }

@@ -4,6 +4,7 @@
 mod file;
 mod function;
 pub mod laws;
+mod lookups;
 mod parser;
 mod search;
 #[cfg(test)]
@@ -13,4 +14,5 @@ mod version;
 
 pub use file::{SymbolFile, SymbolParser};
 pub use function::Function;
+pub use lookups::Lookups;
 pub use types::PublicSymbol;

@@ -1,15 +1,15 @@
-use Rattle.std.proofs.Common.{Some, sym, ap, ◌∙◌, arith}
+use Rattle.std.proofs.Common.{Some, Ok, sym, ap, ◌∙◌, arith}
 use Rattle.std.proofs.lemmas.Bool.{eqb-false}
 use Rattle.bz_base.specs.Answer.Answer.{Known}
 use Rattle.bz_breakpad.specs.Lent.{function_seen}
 use Rattle.bz_breakpad.proofs.SortedLemmas.{plain-some}
-use Rattle.bz_breakpad.proofs.file.answer.Goals as goal
+use Rattle.bz_breakpad.proofs.lookups.answer_from.Goals as goal
 
-pub returns-in-Some : goal.returns-in-Some
-returns-in-Some c table stands =
+pub returns-in-Some-clause-answer : goal.returns-in-Some-clause-answer
+returns-in-Some-clause-answer c table stands =
     let bytes = c.args.bytes.now in
     let code = c.args.kept.now.code in
-    ap Known (c.symbol.ensures table c.args.opts.now (sym stands.module_is))
-    ∙ plain-some table c.args.opts.now c.args.addr (Some (function_seen bytes code c.in-Some.function.now))
+    plain-some table c.args.opts.now c.args.addr (Some (function_seen bytes code c.in-Some.function.now))
     (omega (arith, stands.count, code.functions.ok.0, eqb-false _ 0 (sym c.is_empty.ensures ∙ c.if-is_empty.false)))
     (c.in-Some.ensures.answers bytes table.functions stands.functions)
+    ∙ ap (λ s. Ok (Known s)) (sym (c.symbol.ensures.symbol table (sym stands.module_is)))

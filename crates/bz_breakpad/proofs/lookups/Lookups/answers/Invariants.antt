@@ -1,0 +1,15 @@
+use Rattle.std.proofs.Common.{◌≡◌, Some, map, take, length}
+use Rattle.std.specs.List.{AllByRecursion}
+use Rattle.bz_base.specs.Answer.{in_batch, reading}
+use Rattle.bz_base.specs.Lent.{IsLent}
+use Rattle.bz_breakpad.specs.Plain.{batch}
+use Rattle.bz_breakpad.specs.Reader.{table_in}
+use Rattle.bz_breakpad.specs.Table.{Table}
+use Rattle.bz_breakpad.proofs.lookups.Lookups.answers.Given as goal
+
+-- the answers so far are those of the first addresses
+abbrev pub invariant-loop-index : goal.invariant-loop-index
+invariant-loop-index l = record {
+  answers : (t : Table) → table_in l.self.bytes ≡ Some t → map reading l.answers.items ≡ batch t l.opts (take l.index l.self.addrs);
+  lent : AllByRecursion IsLent l.answers.items;
+}

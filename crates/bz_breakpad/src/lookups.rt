@@ -1,0 +1,149 @@
+//! The answers to addresses whose functions were looked up.
+
+ghost use Rattle.std.specs.Prelude.{◌≡◌, ◌<◌, ◌≤◌, map, length, slice_index, option_map, Some, IfOk, IfErr, IfSome, IsOkUnless};
+ghost use Rattle.std.specs.Cow.{cow_str_bytes};
+ghost use Rattle.std.specs.List.{AllByRecursion};
+ghost use Rattle.bz_base.specs.Answer.{Gives, in_batch, reading, symbol_of};
+ghost use Rattle.bz_base.specs.Lent.{IsLent, IsLentSymbol, IsLentText};
+ghost use Rattle.bz_base.specs.Starts.{IsFound};
+ghost use Rattle.bz_base.specs.declared.error.Error.{Error};
+ghost use Rattle.bz_base.specs.declared.types.FindSymOpts.{FindSymOpts};
+ghost use Rattle.bz_breakpad.specs.Kept.{IsTextAt, text_at};
+ghost use Rattle.bz_breakpad.specs.Lent.{function_seen};
+ghost use Rattle.bz_breakpad.specs.Plain.{batch, nowhere, plain, symbol_at};
+ghost use Rattle.bz_breakpad.specs.Reader.{table_in};
+ghost use Rattle.bz_breakpad.specs.Refusal.{IsAnswerRefusal};
+ghost use Rattle.bz_breakpad.specs.Sorted.{StandsFor, starts_of};
+ghost use Rattle.bz_breakpad.specs.Table.{Table};
+
+use crate::function::text_of;
+use crate::search::function_at;
+use crate::types::{KeptFunction, KeptTable};
+use bz_base::{Error, FindSymOpts, Reason, Result, Sym, Symbolized, in_batch};
+use std::alloc::Global;
+use std::borrow::CowStr;
+use std::marker::Model;
+
+/// Addresses whose functions were looked up in a file. Contracts see the file's bytes and the
+/// addresses.
+#[derive(Drop)]
+pub struct Lookups<'f, 'b> {
+    pub(crate) bytes: &'f [u8],
+    pub(crate) kept: &'f KeptTable,
+    pub(crate) addrs: &'b [u64],
+    pub(crate) places: Vec<Option<(usize, u64)>>,
+}
+
+impl<'f, 'b> Model for Lookups<'f, 'b> {
+    ghost use Rattle.bz_breakpad.specs.Sorted.{AreLookups, LookedUp};
+
+    ghost Value = { LookedUp };
+
+    ghost view = { λ l. record { bytes = l.bytes.now; addrs = l.addrs.now } };
+
+    ghost invariant = { λ l. AreLookups l.bytes.now l.kept.now l.addrs.now l.places.items };
+}
+
+impl<'f, 'b> Lookups<'f, 'b> {
+    /// How many addresses there are.
+    pub fn len(&self) -> usize
+        ensures { result ≡ length self.now.addrs }
+    {
+        self.addrs.len()
+    }
+
+    /// The answer at the address of an index, as at that address alone.
+    pub fn answer(&self, alloc: Global, index: usize, opts: &FindSymOpts) -> Result<Symbolized<'f>>
+        requires { index < length self.now.addrs }
+        ensures answer { (table : Table) × (table_in self.now.bytes ≡ Some table) × Gives reading (plain table opts.now (slice_index self.now.addrs index)) result }
+        ensures lent { IfOk result IsLent }
+        ensures refusal { IfErr result IsAnswerRefusal }
+    {
+        answer_from(
+            alloc,
+            self.bytes,
+            self.kept,
+            opts,
+            self.places[index],
+            self.addrs[index],
+        )
+    }
+
+    /// The answers to all addresses, in their order; an address that is refused is an ignored error.
+    pub fn answers(&self, alloc: Global, opts: &FindSymOpts) -> Result<Vec<Symbolized<'f>>>
+        ensures answers { IfOk result (λ answers. (table : Table) × (table_in self.now.bytes ≡ Some table) × (map reading answers.items ≡ batch table opts.now self.now.addrs)) }
+        ensures lent { IfOk result (λ answers. AllByRecursion IsLent answers.items) }
+        ensures memory { IsOkUnless result Error.OutOfMemory }
+    {
+        let mut answers = Vec::with_capacity(alloc, self.addrs.len())?;
+        for index in 0..self.addrs.len() {
+            let answer = in_batch(self.answer(alloc, index, opts))?;
+            answers.push(answer)?;
+        }
+        Ok(answers)
+    }
+}
+
+/// The answer at an address, from the place that a search found.
+pub(crate) fn answer_from<'a>(
+    alloc: Global,
+    bytes: &'a [u8],
+    kept: &'a KeptTable,
+    opts: &FindSymOpts,
+    place: Option<(usize, u64)>,
+    addr: u64,
+) -> Result<Symbolized<'a>>
+    requires found { IsFound (starts_of kept.now.code) addr place }
+    requires stands { (table : Table) × StandsFor bytes.now table kept.now }
+    ensures answer { (table : Table) → StandsFor bytes.now table kept.now → Gives reading (plain table opts.now addr) result }
+    ensures lent { IfOk result IsLent }
+    ensures refusal { IfErr result IsAnswerRefusal }
+{
+    // No record that is looked at tells a place in the source code, so the options change nothing.
+    let _opts = opts;
+    if kept.code.functions.is_empty() {
+        return Ok(Symbolized::Unknown(Reason::MissingSyms));
+    }
+    match function_at(&kept.code, place, addr) {
+        Some(function) => Ok(Symbolized::Sym(symbol(alloc, bytes, kept, function, addr))),
+        None => Ok(Symbolized::Unknown(Reason::UnknownAddr)),
+    }
+}
+
+/// The function as the symbol at the address.
+fn symbol<'a>(
+    alloc: Global,
+    bytes: &'a [u8],
+    kept: &'a KeptTable,
+    function: &'a KeptFunction,
+    addr: u64,
+) -> Sym<'a>
+    requires below { function.now.start ≤ addr }
+    requires module_fits { IfSome kept.now.«module» (IsTextAt bytes.now) }
+    requires name_fits { IsTextAt bytes.now function.now.name }
+    ensures symbol { (read : Table) → read.«module» ≡ option_map (text_at bytes.now) kept.now.«module» →
+        symbol_of result ≡ symbol_at read (function_seen bytes.now kept.now.code function.now) addr nowhere }
+    ensures lent { IsLentSymbol result }
+{
+    Sym {
+        name: CowStr::Borrowed(text_of(bytes, &function.name)),
+        module: module_name(bytes, kept),
+        addr: function.start,
+        offset: (addr - function.start) as usize,
+        size: Some(function.size as usize),
+        code_info: None,
+        inlined: Vec::new(alloc),
+    }
+}
+
+/// The module, lent.
+fn module_name<'a>(bytes: &'a [u8], kept: &KeptTable) -> Option<CowStr<'a>>
+    requires { IfSome kept.now.«module» (IsTextAt bytes.now) }
+    ensures module { option_map cow_str_bytes result ≡ option_map (text_at bytes.now) kept.now.«module» }
+    ensures lent { IfSome result IsLentText }
+{
+    match &kept.module {
+        Some(part) => Some(CowStr::Borrowed(text_of(bytes, part))),
+        None => None,
+    }
+}
