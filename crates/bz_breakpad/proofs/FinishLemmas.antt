@@ -30,6 +30,7 @@ finished_as bytes walk ended reading closes walked =
       fits = record {
         module_fits = kept.module_is.fits;
         functions = functions.closed_fit;
+        lines_read = functions.lines_read;
         files = kept.files.fit;
         origins = kept.origins.fit;
         publics = kept.publics.fit;

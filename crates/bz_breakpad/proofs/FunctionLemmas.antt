@@ -3,7 +3,7 @@ use Rattle.std.proofs.Common.{◌≡◌, ℕ, ◌-◌, ◌≤◌, List, [], ◌�
 use Rattle.std.specs.List.{AllByRecursion, flat_map, slice_range}
 use Rattle.std.proofs.lemmas.List.{take-append-le, drop-append-le, map-append, take_rest}
 use Rattle.std.proofs.lemmas.List.Elements.{filter_map-append}
-use Rattle.bz_breakpad.specs.Kept.{IsPart, FunctionFits, CurrentFits, FunctionsSoFar, inlinee_kept, kept_inlinee, kept_lines, kept_function, current_function}
+use Rattle.bz_breakpad.specs.Kept.{IsPart, ReadsLine, FunctionFits, CurrentFits, FunctionsSoFar, inlinee_kept, kept_inlinee, kept_lines, kept_function, current_function}
 use Rattle.bz_breakpad.specs.Line.{line_in}
 use Rattle.bz_breakpad.specs.Says.{Sub, with_own, line_of, inlinees_in, inlinees_of}
 use Rattle.bz_breakpad.specs.Says.Sub.{Inline}
@@ -13,9 +13,9 @@ use Rattle.bz_breakpad.specs.declared.parser.record.InlineCall.{InlineCall}
 use Rattle.bz_breakpad.specs.declared.parser.record.Range.{Range}
 use Rattle.bz_breakpad.specs.declared.types.FunctionTable.{FunctionTable}
 use Rattle.bz_breakpad.specs.declared.types.KeptFunction.{KeptFunction}
-use Rattle.bz_breakpad.specs.declared.types.KeptInlinee.{KeptInlinee}
+use Rattle.bz_breakpad.specs.declared.types.Inlinee.{Inlinee as KeptInlinee}
 use Rattle.bz_breakpad.specs.declared.types.Part.{Part}
-use Rattle.bz_breakpad.proofs.KeptLemmas.{all_weaker}
+use Rattle.bz_breakpad.proofs.KeptLemmas.{all_beside, all_weaker}
 
 -- a part of a table is the same where more follows
 part_more : {A : Type 0} (xs more : List A) (part : Part) → IsPart (length xs) part →
@@ -71,7 +71,7 @@ inlinees_more inlinees more from within =
 -- the function whose records are being read, with more lines and inlined calls under it
 module _ (bytes : List ℕ) (table more_table : FunctionTable) (more : List ℕ) (more_inlinees : List KeptInlinee) (subs : List Sub)
     (lines_are : more_table.lines.items ≡ table.lines.items ++ more) (inlinees_are : more_table.inlinees.items ≡ table.inlinees.items ++ more_inlinees)
-    (says_lines : flat_map line_of subs ≡ kept_lines bytes more) (says_inlinees : flat_map inlinees_of subs ≡ map kept_inlinee more_inlinees) where
+    (reads : AllByRecursion (ReadsLine bytes) more) (says_lines : flat_map line_of subs ≡ kept_lines bytes more) (says_inlinees : flat_map inlinees_of subs ≡ map kept_inlinee more_inlinees) where
   current_more : (f : KeptFunction) → CurrentFits bytes (length table.lines.items) (length table.inlinees.items) f →
       current_function bytes more_table f ≡ with_own (current_function bytes table f) subs
   current_more f fits =
@@ -107,6 +107,7 @@ module _ (bytes : List ℕ) (table more_table : FunctionTable) (more : List ℕ)
     closed_fit =
         rw (same, lines_are, inlinees_are)
         (fit_still bytes table.lines.items more table.inlinees.items more_inlinees table.functions.items so_far.closed_fit);
+    lines_read = rw lines_are (all_beside (ReadsLine bytes) table.lines.items more so_far.lines_read reads);
     current_fits = currents_fit current so_far.current_fits;
   }
 

@@ -15,6 +15,11 @@ pub all_and_one : {A : Type 0} (P : A → Type 0) (xs : List A) (x : A) → AllB
 all_and_one P [] x all one = (one, tt)
 all_and_one P (y ∷ xs) x all one = (all.0, all_and_one P xs x all.1 one)
 
+-- what holds of each of two lists holds of each of both side by side
+pub all_beside : {A : Type 0} (P : A → Type 0) (xs ys : List A) → AllByRecursion P xs → AllByRecursion P ys → AllByRecursion P (xs ++ ys)
+all_beside P [] ys all others = others
+all_beside P (x ∷ xs) ys all others = (all.0, all_beside P xs ys all.1 others)
+
 -- what holds of each still holds, where the one follows from the other
 pub all_weaker : {A : Type 0} (P Q : A → Type 0) → ((x : A) → P x → Q x) → (xs : List A) → AllByRecursion P xs → AllByRecursion Q xs
 all_weaker P Q then [] all = tt

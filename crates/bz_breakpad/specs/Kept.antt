@@ -1,5 +1,5 @@
 -- What is kept of a file, as its bytes say it.
-use Rattle.std.specs.Prelude.{◌≡◌, ◌≤◌, ℕ, List, length, drop, map, Option, Some, option_map, IsUtf8, slice_range, IfSome}
+use Rattle.std.specs.Prelude.{◌≡◌, ◌≤◌, ℕ, List, length, drop, map, Option, Some, option_map, IsUtf8, slice_range, IfSome, IsSome}
 use Rattle.std.specs.List.{AllByRecursion, filter_map}
 use Rattle.std.specs.BTreeMap.{BTreeMap}
 use Rattle.std.specs.Map.{values_of}
@@ -13,7 +13,7 @@ use Rattle.bz_breakpad.specs.declared.parser.record.Range.{Range}
 use Rattle.bz_breakpad.specs.declared.parser.reading.KeptReading.{KeptReading}
 use Rattle.bz_breakpad.specs.declared.types.FunctionTable.{FunctionTable}
 use Rattle.bz_breakpad.specs.declared.types.KeptFunction.{KeptFunction}
-use Rattle.bz_breakpad.specs.declared.types.KeptInlinee.{KeptInlinee}
+use Rattle.bz_breakpad.specs.declared.types.Inlinee.{Inlinee as KeptInlinee}
 use Rattle.bz_breakpad.specs.declared.types.KeptPublic.{KeptPublic}
 use Rattle.bz_breakpad.specs.declared.types.KeptTable.{KeptTable}
 use Rattle.bz_breakpad.specs.declared.types.Part.{Part}
@@ -36,27 +36,31 @@ pub record IsTextAt (bytes : List ℕ) (part : Part) : Type 0 where
 abbrev pub kept_inlinee : KeptInlinee → Inlinee
 kept_inlinee i = record {
   depth = i.depth;
-  start = i.start;
+  start = i.addr;
   size = i.size;
   call_line = i.call_line;
   call_file = i.call_file;
-  origin = i.origin;
+  origin = i.origin_id;
 }
 
 -- an inlined call as it is kept
 abbrev pub inlinee_kept : InlineCall → Range → KeptInlinee
 inlinee_kept call r = record {
   depth = call.depth;
-  start = r.addr;
+  addr = r.addr;
   size = r.size;
-  call_line = call.line;
   call_file = call.file;
-  origin = call.origin;
+  call_line = call.line;
+  origin_id = call.origin;
 }
 
 -- the line records that begin at these places
 abbrev pub kept_lines : List ℕ → List ℕ → List SourceLine
 kept_lines bytes places = filter_map (λ place. line_in (drop place bytes)) places
+
+-- a line record is read at the place
+abbrev pub ReadsLine : List ℕ → ℕ → Type 0
+ReadsLine bytes place = IsSome (line_in (drop place bytes))
 
 -- a function with its line records and inlined calls
 abbrev pub function_of : List ℕ → KeptFunction → List ℕ → List KeptInlinee → Function
@@ -127,6 +131,7 @@ PublicsFit bytes publics = AllByRecursion (λ p. IsTextAt bytes p.name) publics
 pub record TableFits (bytes : List ℕ) (t : KeptTable) : Type 0 where
   pub module_fits : IfSome t.«module» (IsTextAt bytes)
   pub functions : FunctionsFit bytes t.code
+  pub lines_read : AllByRecursion (ReadsLine bytes) t.code.lines.items
   pub files : NamesFit bytes t.files
   pub origins : NamesFit bytes t.origins
   pub publics : PublicsFit bytes t.publics.items
@@ -136,6 +141,7 @@ pub record FunctionsSoFar (bytes : List ℕ) (f : FunctionsReading) (closed : Li
   pub closed_are : kept_functions bytes f.table ≡ closed
   pub current_is : option_map (current_function bytes f.table) f.current ≡ current
   pub closed_fit : FunctionsFit bytes f.table
+  pub lines_read : AllByRecursion (ReadsLine bytes) f.table.lines.items
   pub current_fits : IfSome f.current (CurrentFits bytes (length f.table.lines.items) (length f.table.inlinees.items))
 
 -- the part holds the name

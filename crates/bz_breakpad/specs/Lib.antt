@@ -13,6 +13,7 @@ pub mod Reads
 pub mod Records
 pub mod Refusal
 pub mod Says
+pub mod Search
 pub mod Sorted
 pub mod Table
 pub mod Told

@@ -3,7 +3,6 @@ use Rattle.bz_breakpad.specs.Form.{Value}
 use Rattle.bz_breakpad.specs.Form.Form.{Many}
 use Rattle.std.specs.Prelude.{◌≡◌, ℕ, List, drop, map, Option, Some, None}
 use Rattle.bz_breakpad.specs.Records.{CALL, FUNC, INLINE, INNER, LINE, PUBLIC, RANGE, TOP}
-use Rattle.bz_breakpad.specs.declared.parser.record.CodeLine.{CodeLine}
 use Rattle.bz_breakpad.specs.declared.parser.record.InlineCall.{InlineCall}
 use Rattle.bz_breakpad.specs.Choice.{One}
 use Rattle.bz_breakpad.specs.Line.{EndsWith, line_in, source_line}
@@ -24,11 +23,12 @@ use Rattle.bz_breakpad.specs.declared.parser.record.TopLine.{TopLine}
 use Rattle.bz_breakpad.specs.declared.parser.record.TopLine.TheVariants as tops
 use Rattle.bz_breakpad.specs.declared.parser.record.Range.{Range}
 use Rattle.bz_breakpad.specs.declared.parser.record.FuncLine.{FuncLine}
+use Rattle.bz_breakpad.specs.declared.types.SourceLine.{SourceLine}
 
 abbrev pub func_told : FuncLine → Value FUNC
 func_told f = (f.start, (f.size, (f.parameter_size, f.name.now)))
 
-abbrev pub line_told : CodeLine → Value LINE
+abbrev pub line_told : SourceLine → Value LINE
 line_told l = (l.addr, (l.size, (l.line, (l.file, tt))))
 
 abbrev pub call_told : InlineCall → Value CALL

@@ -27,23 +27,10 @@ pub(crate) struct KeptFunction {
     pub lines: Part,
     /// Its inlined calls, in the table of all of them.
     pub inlinees: Part,
-}
-
-/// A range of an INLINE record.
-#[derive(Clone, Copy)]
-pub(crate) struct KeptInlinee {
-    /// How many calls it lies inside.
-    pub depth: u32,
-    /// Where its code starts, relative to the module's base.
-    pub start: u64,
-    /// The size of its code, in bytes.
-    pub size: u32,
-    /// The line of the call.
-    pub call_line: u32,
-    /// The id of the call's file.
-    pub call_file: u32,
-    /// The id of the name of what was called.
-    pub origin: u32,
+    /// Its line records in order, in the table of copies, if they don't stand in order in the file.
+    pub line_order: Option<Part>,
+    /// Its inlined calls in order, in the table of copies, if they don't stand in order in the file.
+    pub inlinee_order: Option<Part>,
 }
 
 /// A PUBLIC record.
@@ -65,7 +52,11 @@ pub(crate) struct FunctionTable {
     /// Where each line record begins in the file's bytes, in the order of the file.
     pub lines: Vec<usize>,
     /// The ranges of the INLINE records, in the order of the file.
-    pub inlinees: Vec<KeptInlinee>,
+    pub inlinees: Vec<Inlinee>,
+    /// Line records by start and size, of the functions whose own don't stand so.
+    pub line_copies: Vec<usize>,
+    /// Ranges by depth and start, of the functions whose own don't stand so.
+    pub inlinee_copies: Vec<Inlinee>,
 }
 
 /// The records of a file.
@@ -81,6 +72,36 @@ pub(crate) struct KeptTable {
     pub origins: BTreeMap<u32, Part>,
     /// The PUBLIC records, in the order of the file.
     pub publics: Vec<KeptPublic>,
+}
+
+/// A line record.
+#[derive(Clone, Copy, Debug, PartialEq, Eq)]
+pub struct SourceLine {
+    /// Where its code starts, relative to the module's base.
+    pub addr: u64,
+    /// The size of its code, in bytes.
+    pub size: u32,
+    /// The id of the source file.
+    pub file: u32,
+    /// The line in it.
+    pub line: u32,
+}
+
+/// A range of code where a call was inlined, of an INLINE record.
+#[derive(Clone, Copy, Debug, PartialEq, Eq)]
+pub struct Inlinee {
+    /// How many inlined calls it lies inside.
+    pub depth: u32,
+    /// Where its code starts, relative to the module's base.
+    pub addr: u64,
+    /// The size of its code, in bytes.
+    pub size: u32,
+    /// The id of the call's file.
+    pub call_file: u32,
+    /// The line of the call.
+    pub call_line: u32,
+    /// The id of the name of what was called.
+    pub origin_id: u32,
 }
 
 /// A symbol of a PUBLIC record.

@@ -10,7 +10,7 @@ ghost use Rattle.bz_breakpad.specs.Table.{Function, SourceLine};
 ghost use Rattle.bz_breakpad.specs.Told.{function_told, inlinees_told};
 
 use crate::parser::record::{FuncLine, InlineCall, Range};
-use crate::types::{FunctionTable, KeptFunction, KeptInlinee, Part};
+use crate::types::{FunctionTable, Inlinee, KeptFunction, Part};
 use std::alloc::{AllocError, Global};
 
 /// The functions that have been read, up to the end of a line.
@@ -32,6 +32,8 @@ impl FunctionsReading {
                 functions: Vec::new(alloc),
                 lines: Vec::new(alloc),
                 inlinees: Vec::new(alloc),
+                line_copies: Vec::new(alloc),
+                inlinee_copies: Vec::new(alloc),
             },
             current: None,
         }
@@ -71,6 +73,8 @@ impl FunctionsReading {
                 from: inlinees,
                 to: inlinees,
             },
+            line_order: None,
+            inlinee_order: None,
         });
     }
 
@@ -96,7 +100,7 @@ impl FunctionsReading {
 
 /// Keeps an inlined call for each of the ranges.
 fn keep_inlinees(
-    inlinees: &mut Vec<KeptInlinee>,
+    inlinees: &mut Vec<Inlinee>,
     call: &InlineCall,
     ranges: &[Range],
 ) -> Result<(), AllocError>
@@ -110,19 +114,19 @@ fn keep_inlinees(
 
 /// Keeps the inlined call of a range.
 fn keep_inlinee(
-    inlinees: &mut Vec<KeptInlinee>,
+    inlinees: &mut Vec<Inlinee>,
     call: &InlineCall,
     range: &Range,
 ) -> Result<(), AllocError>
     ensures { OnOk result (inlinees.new.items ≡ inlinees.old.items ++ inlinee_kept call.now range.now ∷ []) }
 {
-    inlinees.push(KeptInlinee {
+    inlinees.push(Inlinee {
         depth: call.depth,
-        start: range.addr,
+        addr: range.addr,
         size: range.size,
-        call_line: call.line,
         call_file: call.file,
-        origin: call.origin,
+        call_line: call.line,
+        origin_id: call.origin,
     })?;
     Ok(())
 }

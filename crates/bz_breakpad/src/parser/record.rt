@@ -10,6 +10,7 @@ ghost use Rattle.bz_breakpad.specs.Told.{call_told, context_told, func_told, inl
 use crate::parser::field::{
     dec, end, gap, hex, marked, module_separator, name, separator, separator_text, tag, word,
 };
+use crate::types::SourceLine;
 use std::alloc::AllocError;
 
 /// A FUNC record in the text.
@@ -42,21 +43,8 @@ fn func(line: &[u8]) -> Option<FuncLine<'_>>
     })
 }
 
-/// A line of a function's code.
-#[derive(Drop)]
-pub(crate) struct CodeLine {
-    /// Where the code starts.
-    pub addr: u64,
-    /// Its size, in bytes.
-    pub size: u32,
-    /// The line of the source.
-    pub line: u32,
-    /// The id of the file.
-    pub file: u32,
-}
-
 /// A line record.
-fn code_line(line: &[u8]) -> Option<CodeLine>
+pub(crate) fn code_line(line: &[u8]) -> Option<SourceLine>
     ensures { option_map line_told result ≡ form_at LINE line.now }
 {
     let (addr, rest) = hex(line, 16)?;
@@ -64,7 +52,7 @@ fn code_line(line: &[u8]) -> Option<CodeLine>
     let (line, rest) = dec(separator(rest)?)?;
     let (file, rest) = dec(separator(rest)?)?;
     end(rest)?;
-    Some(CodeLine {
+    Some(SourceLine {
         addr,
         size: size as u32,
         line,
@@ -287,7 +275,7 @@ fn inner_origin(line: &[u8]) -> Option<(u32, &str)>
 #[derive(Drop)]
 pub(crate) enum InnerLine<'a> {
     /// A line record.
-    Code(CodeLine),
+    Code(SourceLine),
     /// The call of an INLINE record, whose ranges stand beside it.
     Inline(InlineCall),
     /// The id and the name of an INLINE_ORIGIN record.

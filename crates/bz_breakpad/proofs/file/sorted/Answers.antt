@@ -26,6 +26,7 @@ returns-clause-ok c =
           functions =
               all_in_table (FunctionFits bytes (length code.lines.items) (length code.inlinees.items)) (λ (f : KeptFunction). f.start)
               (λ f. f.size) old new c.in_ok-sort_table.ensures.table fits.functions;
+          lines_read = fits.lines_read;
           files = fits.files;
           origins = fits.origins;
           publics = fits.publics;

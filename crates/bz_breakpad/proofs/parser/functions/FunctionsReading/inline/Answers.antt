@@ -10,6 +10,6 @@ returns c bytes closed current so_far =
     let table = c.args.self.now.table in
     let call = c.args.call.now in
     let ranges = c.args.ranges.now in
-    more_so_far bytes table (record { functions = table.functions; lines = table.lines; inlinees = c.keep_inlinees.new.inlinees })
+    more_so_far bytes table (record { functions = table.functions; lines = table.lines; inlinees = c.keep_inlinees.new.inlinees; line_copies = table.line_copies; inlinee_copies = table.inlinee_copies })
     [] (map (inlinee_kept call) ranges) (Inline (inlinees_told call ranges) ∷ []) (sym (append-nil table.lines.items)) c.in_ok-keep_inlinees.ensures
-    refl (inlinees_say call ranges) c.args.self.now.current closed current refl so_far
+    tt refl (inlinees_say call ranges) c.args.self.now.current closed current refl so_far

@@ -7,6 +7,6 @@ pub returns : goal.returns
 returns c bytes closed current line reads so_far =
     let table = c.args.self.now.table in
     let place = c.args.place in
-    more_so_far bytes table (record { functions = table.functions; lines = c.push.new.self; inlinees = table.inlinees })
-    (place ∷ []) [] (Line line ∷ []) c.in_ok-push.ensures.items (sym (append-nil table.inlinees.items)) (rw reads refl) refl
+    more_so_far bytes table (record { functions = table.functions; lines = c.push.new.self; inlinees = table.inlinees; line_copies = table.line_copies; inlinee_copies = table.inlinee_copies })
+    (place ∷ []) [] (Line line ∷ []) c.in_ok-push.ensures.items (sym (append-nil table.inlinees.items)) (rw reads refl, tt) (rw reads refl) refl
     c.args.self.now.current closed current refl so_far
