@@ -22,7 +22,7 @@ pub use input::Input;
 pub use number::{decimal, hex, whole_decimal, whole_hex};
 pub use scan::nearest_by_scan;
 pub use search::{covers, inside};
-pub use starts::{Starts, nearest};
+pub use starts::{Probe, Starts, nearest};
 pub use steps::Steps;
 pub use sweep::nearest_each;
 pub use table::{Spanned, covering_at, nearest_covering, sort_table, starts_of};
