@@ -9,6 +9,8 @@ pub mod InnerTableLemmas
 pub mod LineLemmas
 pub mod NearestLemmas
 pub mod NumberLemmas
+pub mod PathLemmas
+pub mod PieceLemmas
 pub mod ReadLemmas
 pub mod SortLemmas
 pub mod StartsLemmas

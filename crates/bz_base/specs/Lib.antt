@@ -7,6 +7,7 @@ pub mod Lent
 pub mod Line
 pub mod Nearest
 pub mod Number
+pub mod Path
 pub mod ReasonText
 pub mod Refusals
 pub mod Span

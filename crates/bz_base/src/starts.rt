@@ -1,12 +1,29 @@
 //! Starts that never descend, and the search among them.
 
-ghost use Rattle.std.specs.Prelude.{◌≡◌, ℕ, ◌+◌, ◌-◌, ◌*◌, ◌^◌, ◌<◌, ◌≤◌, length, slice_index};
+ghost use Rattle.std.specs.Prelude.{◌≡◌, ℕ, ◌+◌, ◌-◌, ◌*◌, ◌^◌, ◌<◌, ◌≤◌, List, length, slice_index};
 ghost use Rattle.bz_base.specs.Starts.{NeverDescends, IsFound, AreFew};
 
 use crate::steps::Steps;
 use crate::types::Addr;
 use std::marker::Model;
 use std::sync::ledger::Ledger;
+
+/// Starts that never descend, of which one is told at a time, by one step.
+pub trait Probe {
+    /// The starts.
+    ghost starts: { Self → List ℕ };
+
+    /// How many starts there are.
+    fn len(&self) -> usize
+        ensures value { result ≡ length (starts self.now) }
+        ensures never_descends { NeverDescends (starts self.now) };
+
+    /// The start at a place, by one step.
+    fn probe<L: Ledger>(&self, i: usize, steps: &mut Steps<L>) -> u64
+        requires { i < length (starts self.now) }
+        ensures value { result ≡ slice_index (starts self.now) i }
+        ensures step { steps.new ≡ steps.old + 1 };
+}
 
 /// A list of starts that never descends. Only `probe` gives one of them.
 #[derive(Drop)]
@@ -33,32 +50,31 @@ impl Starts {
     {
         Starts { starts }
     }
+}
 
-    /// How many starts there are.
-    pub fn len(&self) -> usize
-        ensures value { result ≡ length self.now }
-        ensures never_descends { NeverDescends self.now }
-    {
+impl Probe for Starts {
+    ghost starts = { λ s. s };
+
+    fn len(&self) -> usize {
         self.starts.len()
     }
 
-    /// The start at a place, by one step.
-    pub fn probe<L: Ledger>(&self, i: usize, steps: &mut Steps<L>) -> u64
-        requires { i < length self.now }
-        ensures value { result ≡ slice_index self.now i }
-        ensures step { steps.new ≡ steps.old + 1 }
-    {
+    fn probe<L: Ledger>(&self, i: usize, steps: &mut Steps<L>) -> u64 {
         steps.tick();
         self.starts[i]
     }
 }
 
 /// Place and start of the first start that equals the address, else of the last one below it.
-pub fn nearest<L: Ledger>(table: &Starts, addr: Addr, steps: &mut Steps<L>) -> Option<(usize, Addr)>
-    ensures found { IsFound table.now addr result }
+pub fn nearest<T: Probe, L: Ledger>(
+    table: &T,
+    addr: Addr,
+    steps: &mut Steps<L>,
+) -> Option<(usize, Addr)>
+    ensures found { IsFound (T.starts table.now) addr result }
     ensures more { steps.old ≤ steps.new }
-    ensures few { AreFew (steps.new - steps.old) (length table.now) }
-    ensures fewer { 2 ^ (steps.new - steps.old) ≤ 2 * length table.now + 1 }
+    ensures few { AreFew (steps.new - steps.old) (length (T.starts table.now)) }
+    ensures fewer { 2 ^ (steps.new - steps.old) ≤ 2 * length (T.starts table.now) + 1 }
 {
     let mut low = 0;
     let mut high = table.len();

@@ -5,7 +5,7 @@ ghost use Rattle.std.specs.List.Sorted.{IsNonDecreasingBy};
 ghost use Rattle.bz_base.specs.Starts.{IsFound, AreFound};
 ghost use Rattle.bz_base.specs.Sweep.{IsGap, IsEntry};
 
-use crate::starts::{Starts, nearest};
+use crate::starts::{Probe, Starts, nearest};
 use crate::steps::Steps;
 use crate::types::Addr;
 use std::alloc::{AllocError, Global};

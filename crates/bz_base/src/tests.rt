@@ -1,5 +1,6 @@
 //! What no clause says: that the calls succeed, and a few answers that were worked out by hand.
 
+mod path;
 mod search;
 mod text;
 

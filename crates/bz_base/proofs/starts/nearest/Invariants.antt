@@ -7,15 +7,15 @@ use Rattle.bz_base.proofs.starts.nearest.Given as goal
 abbrev pub invariant-loop-low : goal.invariant-loop-low
 invariant-loop-low g l = record {
   ordered : l.low ≤ l.high;
-  within : l.high ≤ length l.table;
-  sorted : NeverDescends l.table;
-  lower : (k : ℕ) → k < l.low → slice_index l.table k < l.addr;
-  upper : (k : ℕ) → l.high ≤ k → k < length l.table → l.addr ≤ slice_index l.table k;
-  below : 0 < l.low → l.below ≡ slice_index l.table (l.low - 1);
-  above : l.high < length l.table → l.above ≡ slice_index l.table l.high;
+  within : l.high ≤ length (g.T.Probe.starts l.table);
+  sorted : NeverDescends (g.T.Probe.starts l.table);
+  lower : (k : ℕ) → k < l.low → slice_index (g.T.Probe.starts l.table) k < l.addr;
+  upper : (k : ℕ) → l.high ≤ k → k < length (g.T.Probe.starts l.table) → l.addr ≤ slice_index (g.T.Probe.starts l.table) k;
+  below : 0 < l.low → l.below ≡ slice_index (g.T.Probe.starts l.table) (l.low - 1);
+  above : l.high < length (g.T.Probe.starts l.table) → l.above ≡ slice_index (g.T.Probe.starts l.table) l.high;
   more : l.fn.steps ≤ l.steps;
-  halved : 2 ^ (l.steps - l.fn.steps) * (l.high - l.low) ≤ length l.table;
-  few : 2 ^ (l.steps - l.fn.steps) ≤ 2 * length l.table + 1;
+  halved : 2 ^ (l.steps - l.fn.steps) * (l.high - l.low) ≤ length (g.T.Probe.starts l.table);
+  few : 2 ^ (l.steps - l.fn.steps) ≤ 2 * length (g.T.Probe.starts l.table) + 1;
 }
 
 -- what is left to search
