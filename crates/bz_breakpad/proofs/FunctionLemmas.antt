@@ -18,7 +18,7 @@ use Rattle.bz_breakpad.specs.declared.types.Part.{Part}
 use Rattle.bz_breakpad.proofs.KeptLemmas.{all_beside, all_weaker}
 
 -- a part of a table is the same where more follows
-part_more : {A : Type 0} (xs more : List A) (part : Part) → IsPart (length xs) part →
+pub part_more : {A : Type 0} (xs more : List A) (part : Part) → IsPart (length xs) part →
     slice_range (xs ++ more) part.from part.to ≡ slice_range xs part.from part.to
 part_more xs more part is =
     let begins : part.from ≤ length xs = omega (arith, is.ordered, is.within) in

@@ -9,10 +9,12 @@ pub mod GrammarLaws
 pub mod Kept
 pub mod KeptLemmas
 pub mod LaneLemmas
+pub mod LineSearchLemmas
 pub mod MidwayLemmas
 pub mod NameEnds
 pub mod NameLemmas
 pub mod Pieces
+pub mod OrderLemmas
 pub mod PlaceLemmas
 pub mod PlainLemmas
 pub mod PlainStep

@@ -7,6 +7,7 @@ use Rattle.bz_breakpad.specs.Table as tables
 use Rattle.bz_breakpad.specs.declared.types.FunctionTable.{FunctionTable}
 use Rattle.bz_breakpad.specs.declared.types.KeptFunction.{KeptFunction}
 use Rattle.bz_breakpad.specs.declared.types.PublicSymbol.{PublicSymbol}
+use Rattle.bz_breakpad.specs.declared.types.SourceLine.{SourceLine}
 
 -- a function of the table
 abbrev pub function_seen : List ℕ → FunctionTable → KeptFunction → Function
@@ -15,6 +16,10 @@ function_seen bytes code f = kept_function bytes code.lines.items code.inlinees.
 -- a function of the table that is lent, if there is one
 abbrev pub lent_function : List ℕ → FunctionTable → Option (Bor KeptFunction) → Option Function
 lent_function bytes code o = option_map (λ f. function_seen bytes code f.now) o
+
+-- a line record as the table has it
+abbrev pub line_seen : SourceLine → tables.SourceLine
+line_seen l = record { start = l.addr; size = l.size; line = l.line; file = l.file }
 
 -- a PUBLIC record that is lent
 abbrev pub lent_public : PublicSymbol → tables.PublicSymbol

@@ -1,12 +1,18 @@
 -- The plain answer of a table at an address, field by field, and the answers to a batch of addresses.
-use Rattle.std.specs.Prelude.{ℕ, ◌-◌, List, [], ◌∷◌, map, Option, Some, None, Result, Ok, Err}
+use Rattle.std.specs.Prelude.{ℕ, ◌-◌, List, [], ◌∷◌, map, Option, Some, None, option_map, Result, Ok, Err}
 use Rattle.bz_base.specs.Answer.{Site, Call, Symbol, Answer, in_batch}
 use Rattle.bz_base.specs.Answer.Answer.{Known, Unknown}
+use Rattle.bz_base.specs.Chain.{chain}
 use Rattle.bz_base.specs.Nearest.{nearest_covering}
+use Rattle.bz_base.specs.Path.{split}
 use Rattle.bz_base.specs.declared.error.Error.{Error}
+use Rattle.bz_base.specs.declared.error.Error.TheVariants as errors
 use Rattle.bz_base.specs.declared.types.FindSymOpts.{FindSymOpts}
+use Rattle.bz_base.specs.declared.types.FindSymOpts.TheVariants as asked
 use Rattle.bz_base.specs.declared.types.Reason.TheVariants as reasons
-use Rattle.bz_breakpad.specs.Table.{Function, Table}
+use Rattle.bz_breakpad.specs.Names.{name_for}
+use Rattle.bz_breakpad.specs.Reads.{◌>>=◌}
+use Rattle.bz_breakpad.specs.Table.{SourceLine, Inlinee, Function, Table}
 
 -- the function that answers for the address
 abbrev pub function_at : ℕ → List Function → Option Function
@@ -21,9 +27,50 @@ pub record Placed : Type 0 where
 abbrev pub nowhere : Placed
 nowhere = record { site = None; calls = [] }
 
--- where the address lies: the records read so far tell none
+-- the line record that answers for the address
+abbrev pub line_at : ℕ → List SourceLine → Option SourceLine
+line_at addr lines = nearest_covering (λ l. l.start) (λ l. l.size) addr lines
+
+-- the calls that were inlined around the address, the outermost first
+abbrev pub calls_around : ℕ → List Inlinee → List Inlinee
+calls_around addr inlinees = chain (λ i. i.depth) (λ i. i.start) (λ i. i.size) inlinees addr
+
+-- those of them that are asked for
+abbrev pub calls_asked : FindSymOpts → ℕ → List Inlinee → List Inlinee
+calls_asked asked.CodeInfoAndInlined addr inlinees = calls_around addr inlinees
+calls_asked _ addr inlinees = []
+
+-- a line of the file of an id, whose name is cut into directory and file; none if no record has the id, or its name has no
+-- component
+abbrev pub site_in : Table → ℕ → ℕ → Option Site
+site_in table file line = option_map (λ cut. record { dir = cut.0; file = cut.1; line = Some line; column = None }) (name_for file table.files >>= split)
+
+-- code that lies at a place, inside calls, seen from outside a further call: it lies at that call, and inside the call at the
+-- place
+abbrev pub seen_outside : Table → Inlinee → Site × List Call → Option (Site × List Call)
+seen_outside table call inner =
+    name_for call.origin table.origins >>= (λ name.
+    option_map (λ site. (site, record { name = name; site = Some inner.0 } ∷ inner.1)) (site_in table call.call_file call.call_line))
+
+-- where the code of a line record lies, seen from outside the calls around it; none if something isn't known
+abbrev pub seen_from : Table → List Inlinee → SourceLine → Option (Site × List Call)
+seen_from table [] line = option_map (λ site. (site, [])) (site_in table line.file line.line)
+seen_from table (call ∷ calls) line = seen_from table calls line >>= seen_outside table call
+
+-- what isn't known refuses the address
+abbrev pub by_seen : Option (Site × List Call) → Result Placed Error
+by_seen None = Err errors.InvalidInput
+by_seen (Some seen) = Ok (record { site = Some seen.0; calls = seen.1 })
+
+-- where no line record answers, no place is known, and no call
+abbrev pub by_line : Table → FindSymOpts → Function → ℕ → Option SourceLine → Result Placed Error
+by_line table opts f addr None = Ok nowhere
+by_line table opts f addr (Some line) = by_seen (seen_from table (calls_asked opts addr f.inlinees) line)
+
+-- where the address lies, as far as it is asked for, or its refusal
 abbrev pub placed_at : Table → FindSymOpts → Function → ℕ → Result Placed Error
-placed_at table opts f addr = Ok nowhere
+placed_at table asked.Basic f addr = Ok nowhere
+placed_at table opts f addr = by_line table opts f addr (line_at addr f.lines)
 
 -- the function as the symbol at the address, which lies there in the source code
 abbrev pub symbol_at : Table → Function → ℕ → Placed → Symbol

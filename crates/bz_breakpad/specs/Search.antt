@@ -1,10 +1,10 @@
 -- Where a function's line records and inlined calls are searched: as they stand in the file where they stand in order there,
 -- and else in a copy in order.
-use Rattle.std.specs.Prelude.{◌≡◌, ◌<◌, ◌≤◌, ℕ, List, [], ◌∷◌, ◌++◌, length, drop, map, Option, Some, None, slice_range, IfSome, unwrap_or}
+use Rattle.std.specs.Prelude.{◌≡◌, ◌<◌, ◌≤◌, ℕ, List, [], ◌∷◌, ◌++◌, length, drop, map, Option, Some, None, slice_index, slice_range, IfSome, unwrap_or}
 use Rattle.std.specs.List.{AllByRecursion}
 use Rattle.bz_base.specs.Nearest.{IsTable}
 use Rattle.bz_base.specs.Starts.{NeverDescends}
-use Rattle.bz_breakpad.specs.Kept.{IsPart, ReadsLine, kept_lines}
+use Rattle.bz_breakpad.specs.Kept.{FunctionFits, FunctionsFit, IsPart, ReadsLine, kept_functions, kept_lines}
 use Rattle.bz_breakpad.specs.Line.{line_in}
 use Rattle.bz_breakpad.specs.Table.{SourceLine}
 use Rattle.bz_breakpad.specs.declared.types.FunctionTable.{FunctionTable}
@@ -35,6 +35,10 @@ pub record AreSearchable (bytes places : List ℕ) : Type 0 where
   pub read : AllByRecursion (ReadsLine bytes) places
   pub ascend : NeverDescends (line_starts bytes places)
 
+-- each start is above the one before it
+abbrev pub Ascends : List ℕ → Type 0
+Ascends starts = (i j : ℕ) → i < j → j < length starts → slice_index starts i < slice_index starts j
+
 -- a part of a table as it stands, or else a copy in order
 abbrev pub searched : {A : Type 0} → List A → Part → List A → Option Part → List A
 searched standing part copies None = slice_range standing part.from part.to
@@ -55,3 +59,24 @@ pub record AreInlineesSearched (inlinees copies : List KeptInlinee) (part : Part
 pub record IsSearched (bytes : List ℕ) (t : FunctionTable) (f : KeptFunction) : Type 0 where
   pub lines : AreLinesSearched bytes t.lines.items t.line_copies.items f.lines f.line_order
   pub inlinees : AreInlineesSearched t.inlinees.items t.inlinee_copies.items f.inlinees f.inlinee_order
+
+-- a function of the file: its parts lie in the tables, and its records are searched in order
+pub record IsFunction (bytes : List ℕ) (t : FunctionTable) (f : KeptFunction) : Type 0 where
+  pub fits : FunctionFits bytes (length t.lines.items) (length t.inlinees.items) f
+  pub searched : IsSearched bytes t f
+
+-- a function whose records are the same
+pub record HasRecords (old new : KeptFunction) : Type 0 where
+  pub start : new.start ≡ old.start
+  pub size : new.size ≡ old.size
+  pub parameter_size : new.parameter_size ≡ old.parameter_size
+  pub name : new.name ≡ old.name
+  pub lines : new.lines ≡ old.lines
+  pub inlinees : new.inlinees ≡ old.inlinees
+
+-- the same functions, each with its records searched in order
+pub record IsInOrder (bytes : List ℕ) (old new : FunctionTable) : Type 0 where
+  pub lines : new.lines.items ≡ old.lines.items
+  pub functions : kept_functions bytes new ≡ kept_functions bytes old
+  pub fits : FunctionsFit bytes new
+  pub searched : AllByRecursion (IsSearched bytes new) new.functions.items

@@ -1,8 +1,10 @@
 -- What is kept of a file stands for its table: the functions in the order of start, size and file, and their starts.
 use Rattle.std.specs.Prelude.{◌≡◌, ℕ, List, [], length, map, Option, Some, None, option_map}
+use Rattle.std.specs.List.{AllByRecursion}
 use Rattle.bz_base.specs.Nearest.{IsTable}
 use Rattle.bz_base.specs.Starts.{AreFound}
-use Rattle.bz_breakpad.specs.Kept.{TableFits, kept_functions, kept_names, kept_public, text_at}
+use Rattle.bz_breakpad.specs.Kept.{TableFits, kept_functions, kept_names, kept_public, kept_table, text_at}
+use Rattle.bz_breakpad.specs.Search.{IsFunction}
 use Rattle.bz_breakpad.specs.Reader.{table_in}
 use Rattle.bz_breakpad.specs.Table.{PublicSymbol, Table}
 use Rattle.bz_breakpad.specs.declared.types.FunctionTable.{FunctionTable}
@@ -18,6 +20,13 @@ pub record StandsFor (bytes : List ℕ) (table : Table) (kept : KeptTable) : Typ
   pub origins : kept_names bytes kept.origins ≡ table.origins
   pub publics : map (kept_public bytes) kept.publics.items ≡ table.publics
   pub fits : TableFits bytes kept
+  pub functions_are : AllByRecursion (IsFunction bytes kept.code) kept.code.functions.items
+
+-- the same records, and those of each function are searched in order
+pub record IsOrdered (bytes : List ℕ) (old new : KeptTable) : Type 0 where
+  pub is : kept_table bytes new ≡ kept_table bytes old
+  pub fits : TableFits bytes new
+  pub functions_are : AllByRecursion (IsFunction bytes new.code) new.code.functions.items
 
 -- the starts of the functions, in their order
 abbrev pub starts_of : FunctionTable → List ℕ

@@ -8,27 +8,29 @@ ghost use Rattle.bz_base.specs.Starts.{AreFew};
 ghost use Rattle.bz_base.specs.declared.error.Error.{Error};
 ghost use Rattle.bz_base.specs.declared.types.FindSymOpts.{FindSymOpts};
 ghost use Rattle.bz_breakpad.specs.Grammar.{Accepted, IsFile};
-ghost use Rattle.bz_breakpad.specs.Kept.{NamesFit, TableFits, kept_names, kept_table};
+ghost use Rattle.bz_breakpad.specs.Kept.{TableFits, kept_table};
 ghost use Rattle.bz_breakpad.specs.Lent.{lent_public};
 ghost use Rattle.bz_breakpad.specs.Names.{name_for};
 ghost use Rattle.bz_breakpad.specs.Plain.{batch, function_at, plain};
 ghost use Rattle.bz_breakpad.specs.Reader.{counted_in, table_in, table_read};
 ghost use Rattle.bz_breakpad.specs.Refusal.{IsAnswerRefusal, Refuses};
-ghost use Rattle.bz_breakpad.specs.Sorted.{IsKept, StandsFor, publics_in, starts_of};
+ghost use Rattle.bz_breakpad.specs.Search.{IsFunction};
+ghost use Rattle.bz_breakpad.specs.Sorted.{IsKept, IsOrdered, StandsFor, publics_in, starts_of};
 ghost use Rattle.bz_breakpad.specs.Table.{Table};
 ghost use Rattle.bz_breakpad.specs.Walked.{IsFinished, IsWalked};
 
 use crate::function::{Function, text_of};
 use crate::lookups::{Lookups, answer_from};
+use crate::names::name_of;
+use crate::order::in_order;
 use crate::parser;
 use crate::parser::walk::Walk;
 use crate::search::function_at;
-use crate::types::{KeptTable, Part, PublicSymbol};
+use crate::types::{KeptTable, PublicSymbol};
 use bz_base::{
     Addr, Error, FindSymOpts, Result, Starts, Steps, Symbolized, nearest, nearest_each, sort_table,
 };
 use std::alloc::Global;
-use std::collections::BTreeMap;
 use std::marker::Model;
 use std::sync::ledger::Ledger;
 
@@ -63,7 +65,7 @@ impl SymbolParser {
     {
         let walk = parser::read(alloc, bytes.as_slice())?;
         let count = walk.count as u64;
-        let mut table = finished(walk)?;
+        let mut table = ordered(alloc, bytes.as_slice(), finished(walk)?)?;
         let starts = sorted(alloc, &mut table)?;
         let file = SymbolFile {
             bytes,
@@ -237,24 +239,29 @@ fn finished(walk: Walk) -> Result<KeptTable>
     })
 }
 
+/// The records of a file, with those of each function in order.
+fn ordered(alloc: Global, bytes: &[u8], kept: KeptTable) -> Result<KeptTable>
+    requires { TableFits bytes.now kept }
+    ensures ok { IfOk result (IsOrdered bytes.now kept) }
+    ensures memory { IsOkUnless result Error.OutOfMemory }
+{
+    let code = in_order(alloc, bytes, kept.code)?;
+    Ok(KeptTable {
+        module: kept.module,
+        code,
+        files: kept.files,
+        origins: kept.origins,
+        publics: kept.publics,
+    })
+}
+
 /// Puts the functions in order, and gives their starts.
 fn sorted(alloc: Global, kept: &mut KeptTable) -> Result<Starts>
-    ensures ok { IfOk result (λ starts. ((bytes : List ℕ) → TableFits bytes kept.old → StandsFor bytes (kept_table bytes kept.old) kept.new)
+    ensures ok { IfOk result (λ starts. ((bytes : List ℕ) → TableFits bytes kept.old → AllByRecursion (IsFunction bytes kept.old.code) kept.old.code.functions.items → StandsFor bytes (kept_table bytes kept.old) kept.new)
         × (starts ≡ starts_of kept.new.code)) }
     ensures memory { IsOkUnless result Error.OutOfMemory }
 {
     sort_table(&mut kept.code.functions)?;
     let starts = bz_base::starts_of(alloc, &kept.code.functions)?;
     Ok(starts)
-}
-
-/// The name of an id.
-fn name_of<'a>(bytes: &'a [u8], names: &BTreeMap<u32, Part>, id: u32) -> Option<&'a str>
-    requires { NamesFit bytes.now names.now }
-    ensures { option_map (λ name. name.now) result ≡ name_for id (kept_names bytes.now names.now) }
-{
-    match names.get(&id) {
-        Some(part) => Some(text_of(bytes, part)),
-        None => None,
-    }
 }

@@ -16,16 +16,15 @@ pub struct Function<'a> {
 }
 
 impl<'a> Model for Function<'a> {
-    ghost use Rattle.std.specs.Prelude.{length};
-    ghost use Rattle.bz_breakpad.specs.Kept.{FunctionFits};
     ghost use Rattle.bz_breakpad.specs.Lent.{function_seen};
+    ghost use Rattle.bz_breakpad.specs.Search.{IsFunction};
     ghost use Rattle.bz_breakpad.specs.Table as tables;
 
     ghost Value = { tables.Function };
 
     ghost view = { λ f. function_seen f.bytes.now f.code.now f.kept.now };
 
-    ghost invariant = { λ f. FunctionFits f.bytes.now (length f.code.now.lines.items) (length f.code.now.inlinees.items) f.kept.now };
+    ghost invariant = { λ f. IsFunction f.bytes.now f.code.now f.kept.now };
 }
 
 impl<'a> Function<'a> {

@@ -4,7 +4,10 @@
 mod file;
 mod function;
 pub mod laws;
+mod lines;
 mod lookups;
+mod names;
+mod order;
 mod parser;
 mod search;
 #[cfg(test)]

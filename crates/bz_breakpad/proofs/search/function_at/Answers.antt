@@ -1,8 +1,8 @@
-use Rattle.std.proofs.Common.{◌≡◌, length, Option, Some, None, option_map, IfSome, refl, sym, subst, ap, ◌∙◌}
+use Rattle.std.proofs.Common.{◌≡◌, Option, Some, None, option_map, IfSome, refl, sym, subst, ap, ◌∙◌}
 use Rattle.std.specs.Borrow.{Bor}
 use Rattle.bz_base.specs.Nearest.{IsTable, nearest_covering}
 use Rattle.bz_base.proofs.ViewLemmas.{covering_through, table_itself}
-use Rattle.bz_breakpad.specs.Kept.{FunctionFits}
+use Rattle.bz_breakpad.specs.Search.{IsFunction}
 use Rattle.bz_breakpad.specs.Lent.{function_seen}
 use Rattle.bz_breakpad.specs.Table.{Function}
 use Rattle.bz_breakpad.specs.declared.types.KeptFunction.{KeptFunction}
@@ -31,12 +31,12 @@ returns-clause-answers c bytes list is =
     ∙ ap (λ fs. option_map view (nearest_covering (λ (f : KeptFunction). f.start) (λ f. f.size) c.args.addr fs)) c.deref.ensures.value
     ∙ covering_through (λ (f : Function). f.start) (λ f. f.size) view list kept is c.args.addr
 
-pub returns-clause-fits : goal.returns-clause-fits
-returns-clause-fits c bytes list is fits =
+pub returns-clause-function : goal.returns-clause-function
+returns-clause-function c bytes list is fits =
     let code = c.args.code.now in
     let view = function_seen bytes code in
     let kept = code.functions.items in
-    let P = FunctionFits bytes (length code.lines.items) (length code.inlinees.items) in
+    let P = IsFunction bytes code in
     let lent_items = c.deref.result.now in
     let here = subst (λ fs. IsTable (λ (f : KeptFunction). f.start) (λ f. f.size) fs fs) (sym c.deref.ensures.value) (table_itself (λ (f : Function). f.start) (λ f. f.size) view list kept is) in
     let found = c.covering_at.ensures.covering lent_items here ∙ ap (λ fs. nearest_covering (λ (f : KeptFunction). f.start) (λ f. f.size) c.args.addr fs) c.deref.ensures.value in

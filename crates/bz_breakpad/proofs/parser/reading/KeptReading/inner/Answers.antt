@@ -37,7 +37,7 @@ returns-in_ok-keep_name-in-Origin c bytes body reading stands end inner is =
       module_is = is.module_is;
       functions =
           more_so_far bytes functions.table functions.table [] [] (sub ∷ []) (sym (append-nil functions.table.lines.items))
-          (sym (append-nil functions.table.inlinees.items)) refl refl functions.current reading.closed reading.current refl is.functions;
+          (sym (append-nil functions.table.inlinees.items)) tt refl refl functions.current reading.closed reading.current refl is.functions;
       files = is.files;
       origins =
           names_so_far bytes c.args.self.now.origins c.keep_name.new.names c.in-Origin.id c.name_part.result c.in-Origin.name.now reading.origins

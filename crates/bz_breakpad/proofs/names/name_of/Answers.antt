@@ -3,7 +3,7 @@ use Rattle.std.specs.BTreeMap.{is_at}
 use Rattle.std.specs.Ordering.{nat_cmp}
 use Rattle.std.proofs.lemmas.Map.Made.{lookup-map_values}
 use Rattle.bz_breakpad.specs.Kept.{text_at}
-use Rattle.bz_breakpad.proofs.file.name_of.Goals as goal
+use Rattle.bz_breakpad.proofs.names.name_of.Goals as goal
 
 pub returns-in-Some : goal.returns-in-Some
 returns-in-Some c =

@@ -1,0 +1,163 @@
+//! The line records at places in a file's bytes, and the search among them.
+
+ghost use Rattle.std.specs.Prelude.{◌≡◌, ◌<◌, ◌≤◌, ◌==◌, not, true, ℕ, Some, List, drop, length, option_map};
+ghost use Rattle.std.specs.List.{AllByRecursion, prefix_len};
+ghost use Rattle.bz_base.specs.Byte.{line_feed};
+ghost use Rattle.bz_base.specs.Nearest.{IsTable, if_covers, nearest_covering};
+ghost use Rattle.bz_breakpad.specs.Kept.{ReadsLine, kept_lines};
+ghost use Rattle.bz_breakpad.specs.Lent.{line_seen};
+ghost use Rattle.bz_breakpad.specs.Line.{line_in};
+ghost use Rattle.bz_breakpad.specs.Search.{AreSearchable, Ascends, line_read, line_size, line_start, line_starts};
+ghost use Rattle.bz_breakpad.specs.Table as tables;
+
+use crate::parser::field::{body, hex};
+use crate::parser::record::code_line;
+use crate::types::SourceLine;
+use bz_base::{Addr, Probe, Steps, covers, nearest};
+use std::marker::{Brand, Model};
+use std::sync::ledger::{Blank, Ledger};
+
+/// How many bytes stand before the line's end.
+fn line_len(text: &[u8]) -> usize
+    ensures value { result ≡ prefix_len (λ b. not (b == line_feed)) text.now }
+    ensures within { result ≤ length text.now }
+{
+    text.iter().take_while(|b| **b != b'\n').count()
+}
+
+/// The line record at a place in the bytes, if one begins there.
+pub(crate) fn line_at(bytes: &[u8], place: usize) -> Option<SourceLine>
+    ensures { option_map line_seen result ≡ line_in (drop place bytes.now) }
+{
+    if place > bytes.len() {
+        return None;
+    }
+    let text = &bytes[place..];
+    code_line(body(&text[..line_len(text)])?)
+}
+
+/// Where the code of the line record at a place starts.
+#[inline(always)]
+fn start_at(bytes: &[u8], place: usize) -> u64
+    requires { ReadsLine bytes.now place }
+    ensures { result ≡ line_start bytes.now place }
+{
+    if place > bytes.len() {
+        return 0;
+    }
+    match hex(&bytes[place..], 16) {
+        Some((start, _)) => start,
+        None => 0,
+    }
+}
+
+/// Start and size of the line record at a place; zeros where none is.
+pub(crate) fn span_at(bytes: &[u8], place: usize) -> (u64, u32)
+    ensures { result ≡ (line_start bytes.now place, line_size bytes.now place) }
+{
+    match line_at(bytes, place) {
+        Some(line) => (line.addr, line.size),
+        None => (0, 0),
+    }
+}
+
+/// Whether each of the line records at these places starts after the one before it.
+pub(crate) fn starts_ascend(bytes: &[u8], places: &[usize]) -> bool
+    requires { AllByRecursion (ReadsLine bytes.now) places.now }
+    ensures { result ≡ true → Ascends (line_starts bytes.now places.now) }
+{
+    let mut last = None;
+    for place in places {
+        let start = start_at(bytes, *place);
+        if !comes_after(start, last) {
+            return false;
+        }
+        last = Some(start);
+    }
+    true
+}
+
+/// Whether a start lies after the one before it, if there is one.
+fn comes_after(start: u64, last: Option<u64>) -> bool
+    ensures { result ≡ true → (before : ℕ) → last ≡ Some before → before < start }
+{
+    match last {
+        Some(last) => last < start,
+        None => true,
+    }
+}
+
+/// The starts of the line records at places in the bytes.
+#[derive(Drop)]
+struct LineStarts<'a> {
+    bytes: &'a [u8],
+    places: &'a [usize],
+}
+
+impl<'a> Model for LineStarts<'a> {
+    ghost use Rattle.std.specs.Prelude.{ℕ, List};
+    ghost use Rattle.bz_breakpad.specs.Search.{AreSearchable, line_starts};
+
+    ghost Value = { List ℕ };
+
+    ghost view = { λ s. line_starts s.bytes.now s.places.now };
+
+    ghost invariant = { λ s. AreSearchable s.bytes.now s.places.now };
+}
+
+impl<'a> Probe for LineStarts<'a> {
+    ghost starts = { λ s. s };
+
+    fn len(&self) -> usize {
+        self.places.len()
+    }
+
+    fn probe<L: Ledger>(&self, i: usize, steps: &mut Steps<L>) -> u64 {
+        steps.tick();
+        start_at(self.bytes, self.places[i])
+    }
+}
+
+/// The line record that answers for the address, of those at places in order.
+pub(crate) fn line_covering(bytes: &[u8], places: &[usize], addr: Addr) -> Option<SourceLine>
+    requires { AreSearchable bytes.now places.now }
+    ensures { (lines : List tables.SourceLine) → IsTable (λ l. l.start) (λ l. l.size) lines (kept_lines bytes.now places.now) →
+        option_map line_seen result ≡ nearest_covering (λ l. l.start) (λ l. l.size) addr lines }
+{
+    covering_blank::<Brand>(bytes, places, addr, Blank::new(1))
+}
+
+// The same, with a count that nobody reads.
+fn covering_blank<L: Ledger>(
+    bytes: &[u8],
+    places: &[usize],
+    addr: Addr,
+    blank: Blank,
+) -> Option<SourceLine>
+    requires name { blank.name ≡ L.name }
+    requires parts { blank.parts ≡ L.parts }
+    requires some { 0 < L.parts }
+    requires searchable { AreSearchable bytes.now places.now }
+    ensures { (lines : List tables.SourceLine) → IsTable (λ l. l.start) (λ l. l.size) lines (kept_lines bytes.now places.now) →
+        option_map line_seen result ≡ nearest_covering (λ l. l.start) (λ l. l.size) addr lines }
+{
+    let mut steps = Steps::<L>::new(blank);
+    let starts = LineStarts { bytes, places };
+    match nearest(&starts, addr, &mut steps) {
+        Some((index, _)) => line_if_covers(bytes, places[index], addr),
+        None => None,
+    }
+}
+
+/// The line record at a place, if it covers the address.
+fn line_if_covers(bytes: &[u8], place: usize, addr: Addr) -> Option<SourceLine>
+    requires { ReadsLine bytes.now place }
+    ensures { option_map line_seen result ≡ if_covers (λ l. l.start) (λ l. l.size) addr (line_read bytes.now place) }
+{
+    let line = line_at(bytes, place)?;
+    if covers(line.addr, u64::from(line.size), addr) {
+        Some(line)
+    } else {
+        None
+    }
+}

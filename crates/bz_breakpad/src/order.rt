@@ -1,0 +1,138 @@
+//! Puts the line records and inlined calls of each function in the order in which they are searched.
+
+ghost use Rattle.std.specs.Prelude.{◌≡◌, ◌++◌, ℕ, List, length, slice_range, IfOk, OnOk};
+ghost use Rattle.std.specs.List.{AllByRecursion};
+ghost use Rattle.bz_base.specs.Nearest.{IsTable};
+ghost use Rattle.bz_breakpad.specs.Kept.{FunctionFits, FunctionsFit, IsPart, ReadsLine};
+ghost use Rattle.bz_breakpad.specs.Search.{AreInlineesSearched, AreLinesSearched, Ascends, HasRecords, IsInOrder, line_size, line_start};
+ghost use Rattle.bz_breakpad.specs.declared.types.Inlinee.{Inlinee as KeptInlinee};
+
+use crate::lines::{span_at, starts_ascend};
+use crate::types::{FunctionTable, Inlinee, KeptFunction, Part};
+use bz_base::sort_nested;
+use std::alloc::{AllocError, Global};
+
+/// Records in order, of functions whose own don't stand so.
+#[derive(Drop)]
+struct Copies {
+    lines: Vec<usize>,
+    inlinees: Vec<Inlinee>,
+}
+
+/// The functions, each with its line records and inlined calls in order.
+pub(crate) fn in_order(
+    alloc: Global,
+    bytes: &[u8],
+    code: FunctionTable,
+) -> Result<FunctionTable, AllocError>
+    requires fits { FunctionsFit bytes.now code }
+    requires read { AllByRecursion (ReadsLine bytes.now) code.lines.items }
+    ensures { IfOk result (IsInOrder bytes.now code) }
+{
+    let mut copies = Copies {
+        lines: Vec::new(alloc),
+        inlinees: Vec::new(alloc),
+    };
+    let mut functions = Vec::with_capacity(alloc, code.functions.len())?;
+    for function in &code.functions {
+        functions.push(function_in_order(alloc, bytes, &code, function, &mut copies)?)?;
+    }
+    Ok(FunctionTable {
+        functions,
+        lines: code.lines,
+        inlinees: code.inlinees,
+        line_copies: copies.lines,
+        inlinee_copies: copies.inlinees,
+    })
+}
+
+/// The function with its records in order.
+fn function_in_order(
+    alloc: Global,
+    bytes: &[u8],
+    code: &FunctionTable,
+    function: &KeptFunction,
+    copies: &mut Copies,
+) -> Result<KeptFunction, AllocError>
+    requires fits { FunctionFits bytes.now (length code.now.lines.items) (length code.now.inlinees.items) function.now }
+    requires read { AllByRecursion (ReadsLine bytes.now) code.now.lines.items }
+    ensures lines { OnOk result ((more : List ℕ) × (copies.new.lines.items ≡ copies.old.lines.items ++ more)) }
+    ensures inlinees { OnOk result ((more : List KeptInlinee) × (copies.new.inlinees.items ≡ copies.old.inlinees.items ++ more)) }
+    ensures same { IfOk result (HasRecords function.now) }
+    ensures searched { IfOk result (λ f. AreLinesSearched bytes.now code.now.lines.items copies.new.lines.items f.lines f.line_order
+        × AreInlineesSearched code.now.inlinees.items copies.new.inlinees.items f.inlinees f.inlinee_order) }
+{
+    let line_order = order_lines(alloc, bytes, &code.lines, function.lines, &mut copies.lines)?;
+    let inlinee_order =
+        order_inlinees(alloc, &code.inlinees, function.inlinees, &mut copies.inlinees)?;
+    Ok(KeptFunction {
+        line_order,
+        inlinee_order,
+        ..*function
+    })
+}
+
+/// Where a part of the line records is in order, if not as it stands.
+fn order_lines(
+    alloc: Global,
+    bytes: &[u8],
+    lines: &[usize],
+    part: Part,
+    copies: &mut Vec<usize>,
+) -> Result<Option<Part>, AllocError>
+    requires part { IsPart (length lines.now) part }
+    requires read { AllByRecursion (ReadsLine bytes.now) lines.now }
+    ensures more { OnOk result ((more : List ℕ) × (copies.new.items ≡ copies.old.items ++ more)) }
+    ensures searched { IfOk result (AreLinesSearched bytes.now lines.now copies.new.items part) }
+{
+    let places = &lines[part.from..part.to];
+    if starts_ascend(bytes, places) {
+        return Ok(None);
+    }
+    let sorted = sorted_lines(alloc, bytes, places)?;
+    Ok(Some(copied(&sorted, copies)?))
+}
+
+/// The line records at these places by start and size.
+fn sorted_lines(alloc: Global, bytes: &[u8], places: &[usize]) -> Result<Vec<usize>, AllocError>
+    ensures { IfOk result (λ sorted. IsTable (line_start bytes.now) (line_size bytes.now) places.now sorted.items) }
+{
+    let mut sorted = Vec::new(alloc);
+    sorted.extend_from_slice(places)?;
+    sorted.sort_by_key(|place| span_at(bytes, *place))?;
+    Ok(sorted)
+}
+
+/// Where a part of the inlined calls is in order, if not as it stands.
+fn order_inlinees(
+    alloc: Global,
+    inlinees: &[Inlinee],
+    part: Part,
+    copies: &mut Vec<Inlinee>,
+) -> Result<Option<Part>, AllocError>
+    requires part { IsPart (length inlinees.now) part }
+    ensures more { OnOk result ((more : List KeptInlinee) × (copies.new.items ≡ copies.old.items ++ more)) }
+    ensures searched { IfOk result (AreInlineesSearched inlinees.now copies.new.items part) }
+{
+    let standing = &inlinees[part.from..part.to];
+    if standing.len() < 2 {
+        return Ok(None);
+    }
+    let mut sorted = Vec::new(alloc);
+    sorted.extend_from_slice(standing)?;
+    sort_nested(&mut sorted)?;
+    Ok(Some(copied(&sorted, copies)?))
+}
+
+/// Adds records to the copies, and tells which part of them they are.
+fn copied<T: Copy>(records: &[T], copies: &mut Vec<T>) -> Result<Part, AllocError>
+    ensures more { OnOk result (copies.new.items ≡ copies.old.items ++ records.now) }
+    ensures part { IfOk result (λ part. IsPart (length copies.new.items) part × (slice_range copies.new.items part.from part.to ≡ records.now)) }
+{
+    let from = copies.len();
+    copies.extend_from_slice(records)?;
+    Ok(Part {
+        from,
+        to: copies.len(),
+    })
+}
