@@ -13,6 +13,7 @@ pub mod PathLemmas
 pub mod PieceLemmas
 pub mod ReadLemmas
 pub mod SortLemmas
+pub mod SplitLemmas
 pub mod StartsLemmas
 pub mod SweepLemmas
 pub mod TableLemmas

@@ -1,5 +1,5 @@
 -- A path that is split from its end: what is cut off is dead, and what is left ends in a live piece.
-use Rattle.std.proofs.Common.{◌≡◌, ◌≢◌, ◌⊎◌, inl, inr, ℕ, ◌<◌, Bool, true, false, cond, List, [], ◌∷◌, ◌++◌, length, take, drop, Option, Some, None, nat_eq, Bor, MatchOption, IfSome, IfNone, refl, sym, ap, subst, ◌∙◌, arith, ap₂, append_assoc, length-append, take-append-drop, ◌+◌, ◌≤◌, ◌&&◌}
+use Rattle.std.proofs.Common.{◌≡◌, ◌≢◌, inl, inr, ℕ, ◌<◌, Bool, true, false, cond, List, [], ◌∷◌, ◌++◌, length, take, drop, Option, Some, None, nat_eq, Bor, MatchOption, IfSome, IfNone, refl, sym, ap, subst, ◌∙◌, arith, ap₂, append_assoc, length-append, take-append-drop, ◌+◌, ◌≤◌, ◌&&◌}
 use Rattle.std.specs.List.{list_any, onto_first, join_with_byte}
 use Rattle.std.specs.Str.Pattern.{RFindsChar}
 use Rattle.std.proofs.lemmas.Bool.{or_parts, eqb-true}
@@ -8,7 +8,7 @@ use Rattle.std.proofs.lemmas.List.Splits.{join_with_byte-slice_split, slice_spli
 use Rattle.std.proofs.lemmas.Option.{none-some}
 use Rattle.std.proofs.lemmas.Str.Pattern.{NoCharPasses-char, drop_at_char}
 use Rattle.bz_base.specs.Byte.{HasNo}
-use Rattle.bz_base.specs.Path.{slash, dot, root, begins_with_slash, is_dead, pieces, live_of, last_live, text_to, directory_of, split_at, split, CutsDead, EndsLive}
+use Rattle.bz_base.specs.Path.{slash, dot, root, begins_with_slash, is_dead, pieces, live_of, last_live, text_to, split_by, split, CutsDead, EndsLive}
 use Rattle.bz_base.proofs.ByteLemmas.{HasNo-nowhere}
 use Rattle.bz_base.proofs.PieceLemmas.{pieces_some, pieces_alone, pieces_last, last_slash, last_live-dead, last_live-live}
 
@@ -130,8 +130,8 @@ alone : (kept : List ℕ) → 0 < length kept → HasNo slash kept → split kep
 alone [] some none = absurd (omega arith)
 alone (b ∷ kept) some none =
     let first : nat_eq b slash ≡ false = (or_parts (nat_eq b slash) (list_any (λ c. nat_eq c slash) kept) none).0 in
-    ap₂ split_at first (ap (last_live true) (pieces_alone (b ∷ kept) none))
-    ∙ ap (λ test. split_at false (cond test None (Some ([], b ∷ kept)))) (first_live b kept)
+    ap₂ split_by first (ap (last_live true) (pieces_alone (b ∷ kept) none))
+    ∙ ap (λ test. split_by false (cond test None (Some ([], b ∷ kept)))) (first_live b kept)
 
 -- a slash after no live piece has one at the front of the text
 rooted_before : (before file : List ℕ) → last_live true (pieces before) ≡ None → begins_with_slash (before ++ slash ∷ file) ≡ true
@@ -149,7 +149,7 @@ module _ (text kept : List ℕ) (live : last_live true (pieces kept) ≡ last_li
   module _ (rooted : 0 < length kept → begins_with_slash kept ≡ begins_with_slash text) where
     -- one piece is left: it is the file, and there is no directory
     pub split_alone : 0 < length kept → HasNo slash kept → Some (None, kept) ≡ split text
-    split_alone some none = sym (ap₂ split_at (sym (rooted some)) (sym live) ∙ alone kept some none)
+    split_alone some none = sym (ap₂ split_by (sym (rooted some)) (sym live) ∙ alone kept some none)
 
     module _ (ends : EndsLive kept) (before file : List ℕ) (cut : kept ≡ before ++ slash ∷ file) (none : HasNo slash file) where
       -- the file is the piece after the last slash

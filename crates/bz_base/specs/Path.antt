@@ -101,13 +101,13 @@ directory_of rooted None = if rooted then Some root else None
 directory_of rooted (Some found) = Some (text_to found.0 found.1)
 
 -- directory and file, by whether the text begins with a slash and by its last live piece
-abbrev pub split_at : Bool → Option (List (List ℕ) × List ℕ) → Option (Option (List ℕ) × List ℕ)
-split_at rooted None = if rooted then Some (None, root) else None
-split_at rooted (Some found) = Some (directory_of rooted (last_live true found.0), found.1)
+abbrev pub split_by : Bool → Option (List (List ℕ) × List ℕ) → Option (Option (List ℕ) × List ℕ)
+split_by rooted None = if rooted then Some (None, root) else None
+split_by rooted (Some found) = Some (directory_of rooted (last_live true found.0), found.1)
 
 -- directory and file of a path
 abbrev pub split : List ℕ → Option (Option (List ℕ) × List ℕ)
-split text = split_at (begins_with_slash text) (last_live true (pieces text))
+split text = split_by (begins_with_slash text) (last_live true (pieces text))
 
 -- a text without its last piece and the slash before it, where that piece is dead
 abbrev pub CutsDead : List ℕ → List ℕ → Type 0

@@ -1,12 +1,13 @@
 //! What holds of the definitions that the contracts cite.
 
-ghost use Rattle.std.specs.Prelude.{◌≡◌, ◌↔◌, ◌≤◌, ℕ, true, List, Option, Some, IsTrue, map, option_and_then, slice_get};
+ghost use Rattle.std.specs.Prelude.{◌≡◌, ◌↔◌, ◌≤◌, ℕ, true, [], List, Option, None, Some, IsTrue, map, option_and_then, slice_get};
 ghost use Rattle.bz_base.specs.Answer.{site_of, call_of, symbol_of, resolved_of, reading};
 ghost use Rattle.bz_base.specs.Chain.{IsInner, IsChainTo, inner, chain, last_depth};
 ghost use Rattle.bz_base.specs.InputKind.{payload, MapsTo};
 ghost use Rattle.bz_base.specs.Line.{AreEnded, AreLines, all_lines, ended_lines};
 ghost use Rattle.bz_base.specs.Nearest.{IsCandidate, IsNearestCovering, IsTable, candidate, nearest_covering};
 ghost use Rattle.bz_base.specs.Number.{IsAtFront, IsDecimal, IsHex, decimal_at, hex_at, number_at, whole};
+ghost use Rattle.bz_base.specs.Path.{split, IsSplit};
 ghost use Rattle.bz_base.specs.Span.{covers, Covers};
 ghost use Rattle.bz_base.specs.Starts.{IsFound};
 ghost use Rattle.bz_base.specs.declared.error.Error.{Error};
@@ -53,6 +54,13 @@ pub fn numbers_are_exact()
     ensures decimal_front { (most greatest : ℕ) (text : List ℕ) (value : ℕ) (rest : List ℕ) → (decimal_at most greatest text ≡ Some (value, rest)) ↔ (IsAtFront 10 most text value rest × (value ≤ greatest)) }
     ensures whole_hex { (most : ℕ) (text : List ℕ) (value : ℕ) → (whole (hex_at most text) ≡ Some value) ↔ IsHex most text value }
     ensures whole_decimal { (most greatest : ℕ) (text : List ℕ) (value : ℕ) → (whole (decimal_at most greatest text) ≡ Some value) ↔ IsDecimal most greatest text value }
+{}
+
+/// A path is split into the directory and the file that its pieces say, and only the empty text into
+/// none.
+pub fn paths_are_exact()
+    ensures parts { (text : List ℕ) (directory : Option (List ℕ)) (file : List ℕ) → (split text ≡ Some (directory, file)) ↔ IsSplit text directory file }
+    ensures none { (text : List ℕ) → (split text ≡ None) ↔ (text ≡ []) }
 {}
 
 /// In a table of a list's records by start and size, the record at the place that a search among

@@ -10,8 +10,11 @@ use crate::types::CodeInfo;
 use std::alloc::Global;
 use std::borrow::CowStr;
 
-/// Directory and file of the path of a source file. Pieces that are empty don't count, nor do those
-/// that are a dot and stand after the first. There is none of the empty text.
+/// Directory and file of the path of a source file. Of the pieces between its slashes those are dead
+/// that are empty, or are a dot and aren't the first. The file is the last live one, and the
+/// directory is the text to the end of the live one before it. Where no live one is before it, the
+/// directory is `/` if the text begins with a slash, and else there is none; where none is live at
+/// all, the file is `/` and has no directory. The empty text has neither.
 pub fn split_source<'a>(text: &'a str) -> Option<(Option<&'a str>, &'a str)>
     ensures { option_map (λ parts. (option_map (λ directory. directory.now) parts.0, parts.1.now)) result ≡ split text.now }
 {
@@ -34,7 +37,7 @@ pub fn split_source<'a>(text: &'a str) -> Option<(Option<&'a str>, &'a str)>
     }
 }
 
-/// The text from its start to the end of the last piece that counts.
+/// The text from its start to the end of its last live piece.
 fn up_to_live(text: &str) -> &str
     ensures live { last_live true (pieces result.now) ≡ last_live true (pieces text.now) }
     ensures rooted { 0 < length result.now → begins_with_slash result.now ≡ begins_with_slash text.now }
@@ -47,7 +50,7 @@ fn up_to_live(text: &str) -> &str
     kept
 }
 
-/// The text without its last piece and the slash before it, if that piece doesn't count.
+/// The text without its last piece and the slash before it, if that piece is dead.
 fn without_dead(text: &str) -> Option<&str>
     ensures some { IfSome result (λ front. CutsDead text.now front.now) }
     ensures none { IfNone result (EndsLive text.now) }
@@ -59,11 +62,12 @@ fn without_dead(text: &str) -> Option<&str>
 }
 
 impl CodeInfo<'_> {
-    /// The path of the file: in its directory, if it has one and doesn't begin with a slash itself.
+    /// The path of the file: after its directory, unless it has none or begins with a slash itself.
     pub fn to_path(&self, alloc: Global) -> Result<CowStr<'_>>
         ensures path { IfOk result (λ path. cow_str_bytes path ≡ path_text (site_of self.now).dir (site_of self.now).file) }
         ensures memory { IsOkUnless result Error.OutOfMemory }
         ensures no_memory { IfNone self.now.dir (IsOk result) }
+        ensures rooted { begins_with_slash (site_of self.now).file ≡ true → IsOk result }
     {
         let file = self.file.as_str();
         match &self.dir {
@@ -77,6 +81,7 @@ impl CodeInfo<'_> {
 fn joined<'f>(alloc: Global, dir: &str, file: &'f str) -> Result<CowStr<'f>>
     ensures path { IfOk result (λ path. cow_str_bytes path ≡ path_text (Some dir.now) file.now) }
     ensures memory { IsOkUnless result Error.OutOfMemory }
+    ensures rooted { begins_with_slash file.now ≡ true → IsOk result }
 {
     if begins_with_slash(file) {
         return Ok(CowStr::Borrowed(file));

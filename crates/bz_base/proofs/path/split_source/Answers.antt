@@ -1,6 +1,6 @@
 use Rattle.std.proofs.Common.{None, Some, arith, rules}
 use Rattle.bz_base.specs.Path.{slash}
-use Rattle.bz_base.proofs.PathLemmas.{cut_at_last, split_root, split_alone, split_in_root, split_in}
+use Rattle.bz_base.proofs.PathLemmas.{cut_at_last, split_alone, split_in_root, split_in}
 use Rattle.bz_base.proofs.path.split_source.Goals as goal
 
 pub returns-in_default : goal.returns-in_default

@@ -12,7 +12,7 @@ loop-low-preserved-then-start-addr g c = let i = c.loop-low.invariant in record 
   below = λ h. let e : c.loop-low.low + (c.loop-low.high - c.loop-low.low) / 2 + 1 - 1 ≡ c.loop-low.low + (c.loop-low.high - c.loop-low.low) / 2 = omega arith in rw e c.probe-start.ensures.value;
   above = i.above;
   more = omega arith;
-  halved = rw c.probe-start.ensures.step (still_halved _ _ (c.loop-low.high - c.loop-low.low) _ _ i.more (omega arith) i.halved);
+  halved = rw c.probe-start.ensures.step (still_halved _ _ (c.loop-low.high - c.loop-low.low) (c.loop-low.high - (c.loop-low.low + (c.loop-low.high - c.loop-low.low) / 2 + 1)) _ i.more (omega arith) i.halved);
   few = rw c.probe-start.ensures.step (still_few _ _ (c.loop-low.high - c.loop-low.low) _ i.more (omega arith) i.halved);
 }
 
@@ -26,6 +26,6 @@ loop-low-preserved g c = let i = c.loop-low.invariant in record {
   below = i.below;
   above = λ h. c.probe-start.ensures.value;
   more = omega arith;
-  halved = rw c.probe-start.ensures.step (still_halved _ _ (c.loop-low.high - c.loop-low.low) _ _ i.more (omega arith) i.halved);
+  halved = rw c.probe-start.ensures.step (still_halved _ _ (c.loop-low.high - c.loop-low.low) (c.loop-low.low + (c.loop-low.high - c.loop-low.low) / 2 - c.loop-low.low) _ i.more (omega arith) i.halved);
   few = rw c.probe-start.ensures.step (still_few _ _ (c.loop-low.high - c.loop-low.low) _ i.more (omega arith) i.halved);
 }
