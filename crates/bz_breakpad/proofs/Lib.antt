@@ -16,6 +16,7 @@ pub mod NameLemmas
 pub mod Pieces
 pub mod OrderLemmas
 pub mod PlaceLemmas
+pub mod PlacedLemmas
 pub mod PlainLemmas
 pub mod PlainStep
 pub mod RoleLaws

@@ -63,13 +63,14 @@ start_in_front text line is =
     let n = prefix_len (λ b. not (b == line_feed)) text in
     let more = cut.ends ++ drop n text in
     let whole : text ≡ spelled.front ++ (spelled.back ++ more) = sym (take-append-drop n text)
-        ∙ ap (λ t. t ++ drop n text) (cut.whole ∙ ap (λ t. t ++ cut.ends) spelled.whole)
-        ∙ append_assoc (spelled.front ++ spelled.back) cut.ends (drop n text)
-        ∙ append_assoc spelled.front spelled.back more in
+    ∙ ap (λ t. t ++ drop n text) (cut.whole ∙ ap (λ t. t ++ cut.ends) spelled.whole)
+    ∙ append_assoc (spelled.front ++ spelled.back) cut.ends (drop n text)
+    ∙ append_assoc spelled.front spelled.back more in
     let stops = no_digit (spelled.back ++ more) (sep_front (Sep · Hex 8 · Sep · Dec · Sep · Dec · End) refl spelled.back more spelled.others spelled.back_is) in
-    let start : spelled.tells ≡ line.start = ap (λ (v : Value LINE). v.0) (sym spelled.valued) ∙ ap (λ (l : SourceLine). l.start) value.2 in
-    (spelled.back ++ more,
-     ap (piece_at (Hex 16)) whole ∙ piece_again (Hex 16) spelled.front (spelled.back ++ more) spelled.tells spelled.front_is stops ∙ ap (λ s. Some (s, spelled.back ++ more)) start)
+    let start : spelled.tells ≡ line.start = ap (λ (v : Value LINE). v.0) (sym spelled.valued) ∙ ap (λ (l : SourceLine). l.start) value.2 in (
+      spelled.back ++ more,
+      ap (piece_at (Hex 16)) whole ∙ piece_again (Hex 16) spelled.front (spelled.back ++ more) spelled.tells spelled.front_is stops ∙ ap (λ s. Some (s, spelled.back ++ more)) start,
+    )
 
 by_read : (o : Option SourceLine) → IsSome o → o ≡ Some (unwrap_or o no_line)
 by_read None some = absurd (false≢true some)
@@ -106,12 +107,12 @@ ascend_more starts k ascend last i j below within =
     elim (cases_lt j k) [
       | inl before ↦ ascend i j below before
       | inr at ↦
-        let is : j ≡ k = omega (arith, at, within) in
-        let step = last (omega (arith, is, below)) in
-        rw is (elim (cases_lt i (k - 1)) [
-          | inl earlier ↦ omega (arith, ascend i (k - 1) earlier (omega (arith, is, below)), step)
-          | inr here ↦ let same : i ≡ k - 1 = omega (arith, here, is, below) in rw same step
-        ])
+          let is : j ≡ k = omega (arith, at, within) in
+          let step = last (omega (arith, is, below)) in
+          rw is (elim (cases_lt i (k - 1)) [
+            | inl earlier ↦ omega (arith, ascend i (k - 1) earlier (omega (arith, is, below)), step)
+            | inr here ↦ let same : i ≡ k - 1 = omega (arith, here, is, below) in rw same step
+          ])
     ]
 
 module _ (bytes places : List ℕ) (searchable : AreSearchable bytes places) (lines : List SourceLine)

@@ -65,7 +65,8 @@ impl SymbolParser {
     {
         let walk = parser::read(alloc, bytes.as_slice())?;
         let count = walk.count as u64;
-        let mut table = ordered(alloc, bytes.as_slice(), finished(walk)?)?;
+        let read = finished(walk)?;
+        let mut table = ordered(alloc, bytes.as_slice(), read)?;
         let starts = sorted(alloc, &mut table)?;
         let file = SymbolFile {
             bytes,

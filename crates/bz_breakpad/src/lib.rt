@@ -9,6 +9,7 @@ mod lookups;
 mod names;
 mod order;
 mod parser;
+mod places;
 mod search;
 #[cfg(test)]
 mod tests;

@@ -9,14 +9,15 @@ ghost use Rattle.bz_base.specs.Starts.{IsFound};
 ghost use Rattle.bz_base.specs.declared.error.Error.{Error};
 ghost use Rattle.bz_base.specs.declared.types.FindSymOpts.{FindSymOpts};
 ghost use Rattle.bz_breakpad.specs.Kept.{IsTextAt, text_at};
-ghost use Rattle.bz_breakpad.specs.Lent.{function_seen};
-ghost use Rattle.bz_breakpad.specs.Plain.{batch, nowhere, plain, symbol_at};
+ghost use Rattle.bz_breakpad.specs.Lent.{IsLentPlaced, function_seen, placed_seen};
+ghost use Rattle.bz_breakpad.specs.Plain.{batch, plain, symbol_at};
 ghost use Rattle.bz_breakpad.specs.Reader.{table_in};
 ghost use Rattle.bz_breakpad.specs.Refusal.{IsAnswerRefusal};
 ghost use Rattle.bz_breakpad.specs.Sorted.{StandsFor, starts_of};
 ghost use Rattle.bz_breakpad.specs.Table.{Table};
 
 use crate::function::text_of;
+use crate::places::{Placed, placed_at};
 use crate::search::function_at;
 use crate::types::{KeptFunction, KeptTable};
 use bz_base::{Error, FindSymOpts, Reason, Result, Sym, Symbolized, in_batch};
@@ -99,30 +100,32 @@ pub(crate) fn answer_from<'a>(
     ensures lent { IfOk result IsLent }
     ensures refusal { IfErr result IsAnswerRefusal }
 {
-    // No record that is looked at tells a place in the source code, so the options change nothing.
-    let _opts = opts;
     if kept.code.functions.is_empty() {
         return Ok(Symbolized::Unknown(Reason::MissingSyms));
     }
     match function_at(&kept.code, place, addr) {
-        Some(function) => Ok(Symbolized::Sym(symbol(alloc, bytes, kept, function, addr))),
+        Some(function) => match placed_at(alloc, bytes, kept, opts, function, addr) {
+            Ok(placed) => Ok(Symbolized::Sym(symbol(bytes, kept, function, addr, placed))),
+            Err(error) => Err(error),
+        },
         None => Ok(Symbolized::Unknown(Reason::UnknownAddr)),
     }
 }
 
-/// The function as the symbol at the address.
+/// The function as the symbol at the address, which lies there in the source code.
 fn symbol<'a>(
-    alloc: Global,
     bytes: &'a [u8],
     kept: &'a KeptTable,
     function: &'a KeptFunction,
     addr: u64,
+    placed: Placed<'a>,
 ) -> Sym<'a>
     requires below { function.now.start ≤ addr }
     requires module_fits { IfSome kept.now.«module» (IsTextAt bytes.now) }
     requires name_fits { IsTextAt bytes.now function.now.name }
+    requires lent { IsLentPlaced placed }
     ensures symbol { (read : Table) → read.«module» ≡ option_map (text_at bytes.now) kept.now.«module» →
-        symbol_of result ≡ symbol_at read (function_seen bytes.now kept.now.code function.now) addr nowhere }
+        symbol_of result ≡ symbol_at read (function_seen bytes.now kept.now.code function.now) addr (placed_seen placed.entry) }
     ensures lent { IsLentSymbol result }
 {
     Sym {
@@ -131,8 +134,8 @@ fn symbol<'a>(
         addr: function.start,
         offset: (addr - function.start) as usize,
         size: Some(function.size as usize),
-        code_info: None,
-        inlined: Vec::new(alloc),
+        code_info: placed.code_info,
+        inlined: placed.inlined,
     }
 }
 

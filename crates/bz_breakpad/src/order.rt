@@ -63,8 +63,12 @@ fn function_in_order(
         × AreInlineesSearched code.now.inlinees.items copies.new.inlinees.items f.inlinees f.inlinee_order) }
 {
     let line_order = order_lines(alloc, bytes, &code.lines, function.lines, &mut copies.lines)?;
-    let inlinee_order =
-        order_inlinees(alloc, &code.inlinees, function.inlinees, &mut copies.inlinees)?;
+    let inlinee_order = order_inlinees(
+        alloc,
+        &code.inlinees,
+        function.inlinees,
+        &mut copies.inlinees,
+    )?;
     Ok(KeptFunction {
         line_order,
         inlinee_order,

@@ -31,7 +31,7 @@ loop-function-preserved c =
           ∙ sym (ap (map (kept_function bytes lines inlinees)) (take_more c.deref-function-items.result.now c.loop-function.function-index _ (omega arith)));
       fits = rw c.in_ok-push.ensures.items (all_and_one (FunctionFits bytes (length lines) (length inlinees)) old new i.fits
           (same_fits bytes (length lines) (length inlinees) _ new done.same (all_get (FunctionFits bytes (length lines) (length inlinees)) c.deref-function-items.result.now c.loop-function.function-index _
-              (subst (AllByRecursion (FunctionFits bytes (length lines) (length inlinees))) (sym c.deref-function-items.ensures.value) c.requires.fits) (omega arith))));
+          (subst (AllByRecursion (FunctionFits bytes (length lines) (length inlinees))) (sym c.deref-function-items.ensures.value) c.requires.fits) (omega arith))));
       lines = rw c.in_ok-push.ensures.items (all_and_one (λ (f : KeptFunction). AreLinesSearched bytes lines _ f.lines f.line_order) old new
           (rw done.lines.1 (all_weaker _ _ (λ (f : KeptFunction) is. lines_still bytes lines c.loop-function.copies.lines.items done.lines.0 f.lines f.line_order is) old i.lines)) done.searched.0);
       inlinees = rw c.in_ok-push.ensures.items (all_and_one (λ (f : KeptFunction). AreInlineesSearched inlinees _ f.inlinees f.inlinee_order) old new

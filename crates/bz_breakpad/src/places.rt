@@ -1,0 +1,239 @@
+//! Where an address lies in the source code: the line record that answers for it, and the calls
+//! that were inlined around it.
+
+ghost use Rattle.std.specs.Prelude.{◌≡◌, ◌∷◌, List, length, map, option_map, Some, IfOk, IfErr, IfSome};
+ghost use Rattle.std.specs.Cow.{cow_str_bytes};
+ghost use Rattle.bz_base.specs.Answer.{Call, Gives, call_of, site_of};
+ghost use Rattle.bz_base.specs.Lent.{IsLentCall, IsLentPlace, IsLentText};
+ghost use Rattle.bz_base.specs.declared.types.FindSymOpts.{FindSymOpts};
+ghost use Rattle.bz_breakpad.specs.Kept.{IsPart, NamesFit, kept_inlinee};
+ghost use Rattle.bz_breakpad.specs.Lent.{IsLentPlaced, function_seen, line_seen, placed_seen};
+ghost use Rattle.bz_breakpad.specs.Plain.{by_seen, calls_asked, calls_around, line_at, nowhere, placed_at, seen_from, seen_outside, site_in};
+ghost use Rattle.bz_breakpad.specs.Refusal.{IsAnswerRefusal};
+ghost use Rattle.bz_breakpad.specs.Search.{AreInlineesSearched, IsFunction, searched};
+ghost use Rattle.bz_breakpad.specs.Sorted.{StandsFor};
+ghost use Rattle.bz_breakpad.specs.Table as tables;
+ghost use Rattle.bz_breakpad.specs.Table.{Table};
+
+use crate::lines::line_covering;
+use crate::names::name_of;
+use crate::types::{FunctionTable, Inlinee, KeptFunction, KeptTable, SourceLine};
+use bz_base::{Addr, CodeInfo, Error, FindSymOpts, InlinedFn, Result, chain_in, split_source};
+use std::alloc::{AllocError, Global};
+use std::borrow::CowStr;
+
+/// Where an address lies in the source code.
+#[derive(Drop)]
+pub(crate) struct Placed<'f> {
+    /// The place in the function, if one is known.
+    pub code_info: Option<CodeInfo<'f>>,
+    /// The calls that were inlined there, the outermost first.
+    pub inlined: Vec<InlinedFn<'f>>,
+}
+
+/// Where the address lies, as far as the options ask for it.
+pub(crate) fn placed_at<'f>(
+    alloc: Global,
+    bytes: &'f [u8],
+    kept: &'f KeptTable,
+    opts: &FindSymOpts,
+    function: &KeptFunction,
+    addr: Addr,
+) -> Result<Placed<'f>>
+    requires function { IsFunction bytes.now kept.now.code function.now }
+    requires stands { (table : Table) × StandsFor bytes.now table kept.now }
+    ensures placed { (table : Table) → StandsFor bytes.now table kept.now →
+        Gives placed_seen (placed_at table opts.now (function_seen bytes.now kept.now.code function.now) addr) result }
+    ensures lent { IfOk result IsLentPlaced }
+    ensures refusal { IfErr result IsAnswerRefusal }
+{
+    if matches!(opts, FindSymOpts::Basic) {
+        return Ok(nowhere(alloc));
+    }
+    match line_of(bytes, &kept.code, function, addr) {
+        Some(line) => placed_on_line(alloc, bytes, kept, opts, function, addr, line),
+        None => Ok(nowhere(alloc)),
+    }
+}
+
+/// Where the address lies, of the line record that answers for it.
+fn placed_on_line<'f>(
+    alloc: Global,
+    bytes: &'f [u8],
+    kept: &'f KeptTable,
+    opts: &FindSymOpts,
+    function: &KeptFunction,
+    addr: Addr,
+    line: SourceLine,
+) -> Result<Placed<'f>>
+    requires function { IsFunction bytes.now kept.now.code function.now }
+    requires stands { (table : Table) × StandsFor bytes.now table kept.now }
+    ensures placed { (table : Table) → StandsFor bytes.now table kept.now →
+        Gives placed_seen (by_seen (seen_from table (calls_asked opts.now addr (function_seen bytes.now kept.now.code function.now).inlinees) (line_seen line))) result }
+    ensures lent { IfOk result IsLentPlaced }
+    ensures refusal { IfErr result IsAnswerRefusal }
+{
+    let calls = calls_asked(alloc, bytes, &kept.code, opts, function, addr)?;
+    let Some(site) = site_in(bytes, kept, line.file, line.line) else {
+        return Err(Error::InvalidInput);
+    };
+    seen_outside_all(alloc, bytes, kept, &calls, site)
+}
+
+/// No place.
+fn nowhere<'f>(alloc: Global) -> Placed<'f>
+    ensures placed { placed_seen result ≡ nowhere }
+    ensures lent { IsLentPlaced result }
+{
+    Placed {
+        code_info: None,
+        inlined: Vec::new(alloc),
+    }
+}
+
+/// The line record of the function that answers for the address.
+fn line_of(
+    bytes: &[u8],
+    code: &FunctionTable,
+    function: &KeptFunction,
+    addr: Addr,
+) -> Option<SourceLine>
+    requires { IsFunction bytes.now code.now function.now }
+    ensures { option_map line_seen result ≡ line_at addr (function_seen bytes.now code.now function.now).lines }
+{
+    let places = match function.line_order {
+        Some(order) => &code.line_copies[order.from..order.to],
+        None => &code.lines[function.lines.from..function.lines.to],
+    };
+    line_covering(bytes, places, addr)
+}
+
+/// The calls that were inlined around the address, the outermost first, where they are asked for.
+fn calls_asked<'f>(
+    alloc: Global,
+    bytes: &[u8],
+    code: &'f FunctionTable,
+    opts: &FindSymOpts,
+    function: &KeptFunction,
+    addr: Addr,
+) -> std::result::Result<Vec<&'f Inlinee>, AllocError>
+    requires { IsFunction bytes.now code.now function.now }
+    ensures { IfOk result (λ calls. map (λ call. kept_inlinee call.now) calls.items ≡ calls_asked opts.now addr (function_seen bytes.now code.now function.now).inlinees) }
+{
+    match opts {
+        FindSymOpts::CodeInfoAndInlined => calls_around(alloc, bytes, code, function, addr),
+        FindSymOpts::Basic | FindSymOpts::CodeInfo => Ok(Vec::new(alloc)),
+    }
+}
+
+/// The calls that were inlined around the address, the outermost first.
+fn calls_around<'f>(
+    alloc: Global,
+    bytes: &[u8],
+    code: &'f FunctionTable,
+    function: &KeptFunction,
+    addr: Addr,
+) -> std::result::Result<Vec<&'f Inlinee>, AllocError>
+    requires { IsFunction bytes.now code.now function.now }
+    ensures { IfOk result (λ calls. map (λ call. kept_inlinee call.now) calls.items ≡ calls_around addr (function_seen bytes.now code.now function.now).inlinees) }
+{
+    chain_in(alloc, inlinees_searched(code, function), addr)
+}
+
+/// The inlined calls of a function, in the order in which they are searched.
+fn inlinees_searched<'f>(code: &'f FunctionTable, function: &KeptFunction) -> &'f [Inlinee]
+    requires part { IsPart (length code.now.inlinees.items) function.now.inlinees }
+    requires searched { AreInlineesSearched code.now.inlinees.items code.now.inlinee_copies.items function.now.inlinees function.now.inlinee_order }
+    ensures { result.now ≡ searched code.now.inlinees.items function.now.inlinees code.now.inlinee_copies.items function.now.inlinee_order }
+{
+    match function.inlinee_order {
+        Some(order) => &code.inlinee_copies[order.from..order.to],
+        None => &code.inlinees[function.inlinees.from..function.inlinees.to],
+    }
+}
+
+/// A line of the file of an id; none if the id or its name's file isn't known.
+fn site_in<'f>(bytes: &'f [u8], kept: &'f KeptTable, file: u32, line: u32) -> Option<CodeInfo<'f>>
+    requires { NamesFit bytes.now kept.now.files }
+    ensures site { (table : Table) → StandsFor bytes.now table kept.now → option_map site_of result ≡ site_in table file line }
+    ensures lent { IfSome result IsLentPlace }
+{
+    let (dir, file) = split_source(name_of(bytes, &kept.files, file)?)?;
+    Some(CodeInfo {
+        dir: lent(dir),
+        file: CowStr::Borrowed(file),
+        line: Some(line),
+        column: None,
+    })
+}
+
+/// A directory, lent.
+fn lent(dir: Option<&str>) -> Option<CowStr<'_>>
+    ensures text { option_map cow_str_bytes result ≡ option_map (λ text. text.now) dir.entry }
+    ensures lent { IfSome result IsLentText }
+{
+    match dir {
+        Some(dir) => Some(CowStr::Borrowed(dir)),
+        None => None,
+    }
+}
+
+/// A place inside calls, seen from outside them.
+fn seen_outside_all<'f>(
+    alloc: Global,
+    bytes: &'f [u8],
+    kept: &'f KeptTable,
+    calls: &[&Inlinee],
+    inner: CodeInfo<'f>,
+) -> Result<Placed<'f>>
+    requires files { NamesFit bytes.now kept.now.files }
+    requires origins { NamesFit bytes.now kept.now.origins }
+    requires lent { IsLentPlace inner }
+    ensures placed { (table : Table) (line : tables.SourceLine) → StandsFor bytes.now table kept.now → Some (site_of inner.entry) ≡ site_in table line.file line.line →
+        Gives placed_seen (by_seen (seen_from table (map (λ call. kept_inlinee call.now) calls.now) line)) result }
+    ensures lent { IfOk result IsLentPlaced }
+    ensures refusal { IfErr result IsAnswerRefusal }
+{
+    let mut site = inner;
+    let mut inlined = Vec::new(alloc);
+    let mut left = calls.len();
+    while left > 0 {
+        left -= 1;
+        let Some((call, outer)) = seen_outside(bytes, kept, calls[left], site) else {
+            return Err(Error::InvalidInput);
+        };
+        inlined.push(call)?;
+        site = outer;
+    }
+    // The innermost call came first.
+    inlined.reverse();
+    Ok(Placed {
+        code_info: Some(site),
+        inlined,
+    })
+}
+
+/// Code at a place inside a call, seen from outside it: the call with the place, and where the call
+/// stands. None if a name isn't known.
+fn seen_outside<'f>(
+    bytes: &'f [u8],
+    kept: &'f KeptTable,
+    call: &Inlinee,
+    inner: CodeInfo<'f>,
+) -> Option<(InlinedFn<'f>, CodeInfo<'f>)>
+    requires files { NamesFit bytes.now kept.now.files }
+    requires origins { NamesFit bytes.now kept.now.origins }
+    requires lent { IsLentPlace inner }
+    ensures seen { (table : Table) (calls : List Call) → StandsFor bytes.now table kept.now →
+        option_map (λ seen. (site_of seen.1, call_of seen.0 ∷ calls)) result ≡ seen_outside table (kept_inlinee call.now) (site_of inner.entry, calls) }
+    ensures lent_call { IfSome result (λ seen. IsLentCall seen.0) }
+    ensures lent_place { IfSome result (λ seen. IsLentPlace seen.1) }
+{
+    let name = name_of(bytes, &kept.origins, call.origin_id)?;
+    let outer = site_in(bytes, kept, call.call_file, call.call_line)?;
+    let call = InlinedFn {
+        name: CowStr::Borrowed(name),
+        code_info: Some(inner),
+    };
+    Some((call, outer))
+}
