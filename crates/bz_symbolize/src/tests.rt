@@ -66,6 +66,8 @@ fn answers_a_file_that_changes(rt: HostRuntime) -> std::result::Result<(), Fail>
     let mut anew = Symbolizer::new(alloc);
     let mut still = Symbolizer::builder()
         .enable_auto_reload(false)
+        .enable_code_info(false)
+        .enable_inlined_fns(false)
         .enable_demangling(false)
         .set_debug_dirs(Some(Vec::new(alloc)))
         .build(alloc);
