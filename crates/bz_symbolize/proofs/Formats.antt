@@ -36,20 +36,34 @@ is_format query (sources.Breakpad source) = record {
   answers = λ opts bytes formed. breakpad_meant query opts bytes formed;
 }
 
-by_form : {B : Type 0} (query : Query B) (source : Source) (form : SourceForm) {P Q : FileSource → Type 0} → OnFileForm form (IsFormatOf query source) → OnFileForm form P →
-    ((file : FileSource) → IsFormatOf query source file → P file → Q file) → OnFileForm form Q
-by_form query source (OneFile file) laws holds f = f file laws holds
+by_form : (form : SourceForm) {P Q R : FileSource → Type 0} → OnFileForm form P → OnFileForm form Q → ((file : FileSource) → P file → Q file → R file) → OnFileForm form R
+by_form (OneFile file) p q f = f file p q
 
--- from a fact of the file of a source to another
-pub on_file : {B : Type 0} (query : Query B) (source : Source) {P Q : FileSource → Type 0} → OnFile source P → ((file : FileSource) → IsFormatOf query source file → P file → Q file) → OnFile source Q
-on_file query source holds f = by_form query source (form_of source) (is_format query source) holds f
+-- from a fact of the file of a source to another, by the laws of its format
+pub on_file : {B : Type 0} (query : Query B) (source : Source) {P Q : FileSource → Type 0} → OnFile source P →
+    ((file : FileSource) → IsFormatOf query source file → P file → Q file) → OnFile source Q
+on_file query source holds f = by_form (form_of source) (is_format query source) holds f
 
-by_both : (form : SourceForm) (P Q : FileSource → Type 0) → OnFileForm form P → OnFileForm form Q → OnFileForm form (λ file. P file × Q file)
-by_both (OneFile file) P Q p q = (p, q)
+by_any : (form : SourceForm) {Q : FileSource → Type 0} → ((file : FileSource) → Q file) → OnFileForm form Q
+by_any (OneFile file) f = f file
+
+-- what holds of any file holds of that of a source
+pub any_file : (source : Source) {Q : FileSource → Type 0} → ((file : FileSource) → Q file) → OnFile source Q
+any_file source f = by_any (form_of source) f
+
+by_each : {I : Type 0} (form : SourceForm) (P : I → FileSource → Type 0) → ((i : I) → OnFileForm form (P i)) → OnFileForm form (λ file. (i : I) → P i file)
+by_each (OneFile file) P holds = holds
+
+by_laws : (form : SourceForm) {P Q : FileSource → Type 0} → OnFileForm form P → ((file : FileSource) → P file → Q file) → OnFileForm form Q
+by_laws (OneFile file) p f = f file p
+
+-- a fact of the file of a source, by the laws of its format for each of many queries
+pub on_each : {I B : Type 0} (query : I → Query B) (source : Source) {Q : FileSource → Type 0} → ((file : FileSource) → ((i : I) → IsFormatOf (query i) source file) → Q file) → OnFile source Q
+on_each query source f = by_laws (form_of source) (by_each (form_of source) (λ i file. IsFormatOf (query i) source file) (λ i. is_format (query i) source)) f
 
 -- two facts of the file of a source
 pub both : (source : Source) (P Q : FileSource → Type 0) → OnFile source P → OnFile source Q → OnFile source (λ file. P file × Q file)
-both source P Q p q = by_both (form_of source) P Q p q
+both source P Q p q = by_form (form_of source) p q (λ file here there. (here, there))
 
 -- what a call on one file is as a call by its form of source
 pub told_by_form : {A B : Type 0} (reading : A → B) (opts : FindSymOpts) (form : SourceForm) (query : Query B) (result : Result A Error) (old now : State) (world : World) (before after : ℕ) →

@@ -120,12 +120,19 @@ pub record Query (B : Type 0) : Type 0 where
   pub given : (ℕ → Result Answer Error) → Result B Error
 
 -- a batch: the answers at the addresses, in their order, where a refused address is an ignored error
-abbrev pub batch_query : Input (Bor (List ℕ)) → Query (List Answer)
-batch_query input = record { kind = address_kind input; given = λ answer_at. Ok (map (λ addr. in_batch (answer_at addr)) (payload input).now) }
+abbrev pub batch_of : AddressKind → List ℕ → Query (List Answer)
+batch_of kind addrs = record { kind = kind; given = λ answer_at. Ok (map (λ addr. in_batch (answer_at addr)) addrs) }
 
 -- a single address: its answer, or its refusal
+abbrev pub single_of : AddressKind → ℕ → Query Answer
+single_of kind addr = record { kind = kind; given = λ answer_at. answer_at addr }
+
+-- the same of inputs
+abbrev pub batch_query : Input (Bor (List ℕ)) → Query (List Answer)
+batch_query input = batch_of (address_kind input) (payload input).now
+
 abbrev pub single_query : Input ℕ → Query Answer
-single_query input = record { kind = address_kind input; given = λ answer_at. answer_at (payload input) }
+single_query input = single_of (address_kind input) (payload input)
 
 -- what a version answers, or the refusal of another kind of address
 abbrev pub query_given : {B : Type 0} → Answering → FindSymOpts → List ℕ → Query B → List ℕ → Result B Error

@@ -35,9 +35,13 @@ by_view asked Absent = Err errors.NotFound
 by_view asked Hidden = Err errors.PermissionDenied
 by_view asked (Shown bytes) = by_version asked bytes
 
+-- what a call on one file answers, by what is in view
+abbrev pub shown_answer : {B : Type 0} → Question B → View → Result B Error
+shown_answer asked shown = cond asked.taken (by_view asked shown) (Err errors.Unsupported)
+
 -- what a call on one file answers by the version in view
 abbrev pub view_answer : {B : Type 0} → Question B → Cache → World → List ℕ → Result B Error
-view_answer asked cache world path = cond asked.taken (by_view asked (view cache world path)) (Err errors.Unsupported)
+view_answer asked cache world path = shown_answer asked (view cache world path)
 
 -- the batch of the table, or the refusal of bytes that have none
 abbrev pub by_table : FindSymOpts → List ℕ → Option Table → Result (List Answer) Error

@@ -80,6 +80,6 @@ pub fn answer_file_at<T: Answers + Drop, F: Files, L: Ledger>(
     if !T::takes(&input) {
         return Err(Error::Unsupported);
     }
-    let file = cache.entry(alloc, files, path)?;
-    file.answer_at(alloc, opts, path, input, steps)
+    let version = cache.entry(alloc, files, path)?;
+    version.answer_at(alloc, opts, path, input, steps)
 }
