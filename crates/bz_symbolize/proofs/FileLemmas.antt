@@ -8,9 +8,10 @@ use Rattle.bz_files.specs.World.{World, Entry, Denied, Present, entry_at}
 use Rattle.bz_cache.specs.Cache.{Cache}
 use Rattle.bz_cache.specs.Coherence.{Coherent}
 use Rattle.bz_cache.specs.Format.{Comes, FailsAs}
-use Rattle.bz_cache.specs.Look.{look, will_open, by_test, by_entry, by_fixed}
+use Rattle.bz_cache.specs.Look.{look, will_open, by_test, by_entry, by_fixed, Lends}
 use Rattle.bz_cache.specs.View.{fixed, by_fixed_view, shown, view}
-use Rattle.bz_symbolize.specs.FileCall.{Question, by_version, by_look, Leaves, FileTold}
+use Rattle.bz_symbolize.specs.FileCall.{Question, by_version, by_look, Leaves, FileTold, ByVersion}
+use Rattle.bz_base.specs.Answer.{Gives}
 use Rattle.bz_symbolize.specs.Lookup.{by_view}
 
 -- the answer of a call that a look refuses
@@ -79,3 +80,8 @@ told_refused {A} reading asked path e old now there before after taken same fail
   opened = tt;
   spared = λ closed. spared (rw taken at closed);
 }
+
+-- the version that a look lent answers
+pub by_lent : {A B : Type 0} (reading : A → B) (asked : Question B) (path bytes : List ℕ) (in_view : Option World) (old now : Cache) (result : Result A Error) →
+    Lends asked.test old now path bytes in_view → Gives reading (asked.given bytes) result → ByVersion reading asked path result old now
+by_lent reading asked path bytes in_view old now result lent given = record { bytes = bytes; kept = lent.kept; looked = lent.some; given = given }

@@ -1,20 +1,18 @@
 -- Over worlds that agree, calls leave every cache coherent with all of them.
-use Rattle.std.proofs.Common.{ℕ, Bool, true, false, cond, List, [], ◌∷◌, map, string_bytes, inl, inr, refl, sym, subst, zero, suc, suc-le-suc, zero-lt-suc}
+use Rattle.std.proofs.Common.{ℕ, Bool, true, false, List, Option, [], ◌∷◌, map, string_bytes, inl, inr, refl, sym, subst, zero, suc, suc-le-suc, zero-lt-suc}
 use Rattle.std.specs.Prelude.{Contains}
-use denote.Ref.{Bor}
-use Rattle.bz_base.specs.Answer.{Answer}
-use Rattle.bz_base.specs.declared.input.Input.{Input}
+use Rattle.bz_base.specs.InputKind.{AddressKind}
+use Rattle.bz_base.specs.declared.error.Error.{Error}
 use Rattle.bz_files.specs.World.{World, entry_at}
 use Rattle.bz_cache.specs.Cache.{Cache}
 use Rattle.bz_files.specs.Agreement.{Agree}
 use Rattle.bz_cache.specs.Coherence.{CoherentWithAll}
-use Rattle.bz_cache.specs.Look.{look}
 use Rattle.bz_cache.proofs.CoherenceLaws.{look_coherent, new_coherent}
 use Rattle.bz_breakpad.specs.Version.{format_test}
-use Rattle.bz_symbolize.specs.FileCall.{Question, batch_asked, file_cache}
+use Rattle.bz_symbolize.specs.FileCall.{file_cache}
 use Rattle.bz_symbolize.specs.History.{Call, Symbolize, Coheres, MayLeave, MayReach, state_after}
-use Rattle.bz_symbolize.specs.Sources.{breakpad_answering}
-use Rattle.bz_symbolize.specs.State.{Settings, State, new_state, opts_of}
+use Rattle.bz_symbolize.specs.Sources.{is_in_file}
+use Rattle.bz_symbolize.specs.State.{Settings, State, new_state}
 use Rattle.bz_symbolize.specs.declared.source.Source.{Source}
 use Rattle.bz_symbolize.specs.declared.source.Source.TheVariants as sources
 
@@ -36,23 +34,19 @@ module _ (worlds : List World) (agree : Agree worlds) where
   CoheresWithAll s = (w : World) → Contains worlds w → Coheres s w
 
   -- a call on one file leaves its cache coherent
-  after_file : (asked : Question (List Answer)) (c : Cache) (p : List ℕ) (w : World) → Contains worlds w → CoherentWithAll c.kept worlds →
-      CoherentWithAll (file_cache asked c p (entry_at w p)).kept worlds
-  after_file asked c p w has coherent = by_taken asked.taken
-    where
-      by_taken : (taken : Bool) → CoherentWithAll (cond taken (look asked.test c p (entry_at w p)).1 c).kept worlds
-      by_taken true v has_v = look_coherent asked.test c w v p (agree w v has has_v) (coherent v has_v)
-      by_taken false v has_v = coherent v has_v
+  after_file : (test : List ℕ → Option Error) (taken : Bool) (c : Cache) (p : List ℕ) (w : World) → Contains worlds w → CoherentWithAll c.kept worlds →
+      CoherentWithAll (file_cache test taken c p (entry_at w p)).kept worlds
+  after_file test true c p w has coherent v has_v = look_coherent test c w v p (agree w v has has_v) (coherent v has_v)
+  after_file test false c p w has coherent v has_v = coherent v has_v
 
   -- a call on a source leaves the other caches as they are
-  after_source : (source : Source) (input : Input (Bor (List ℕ))) (s : State) (w : World) → Contains worlds w → CoheresWithAll s → CoheresWithAll (state_after s w (Symbolize source input))
-  after_source (sources.Breakpad source) input s w has coherent v has_v = record {
-    breakpad = after_file (batch_asked format_test breakpad_answering (opts_of s.settings) (string_bytes source.path) input) s.breakpad (string_bytes source.path) w has
-        (λ u has_u. (coherent u has_u).breakpad) v has_v;
+  after_source : (source : Source) (kind : AddressKind) (s : State) (w : World) → Contains worlds w → CoheresWithAll s → CoheresWithAll (state_after s w (Symbolize source kind))
+  after_source (sources.Breakpad source) kind s w has coherent v has_v = record {
+    breakpad = after_file format_test (is_in_file kind) s.breakpad (string_bytes source.path) w has (λ u has_u. (coherent u has_u).breakpad) v has_v;
   }
 
   after_call : (call : Call) (s : State) (w : World) → Contains worlds w → CoheresWithAll s → CoheresWithAll (state_after s w call)
-  after_call (Symbolize source input) s w has coherent = after_source source input s w has coherent
+  after_call (Symbolize source kind) s w has coherent = after_source source kind s w has coherent
 
   after_step : (call : Call) (s now : State) (w : World) → Contains worlds w → CoheresWithAll s → MayLeave s w call now → CoheresWithAll now
   after_step call s now w has coherent (inl same) = subst CoheresWithAll (sym same) coherent

@@ -1,3 +1,6 @@
+pub mod AlikeLemmas
+pub mod BatchLemmas
+pub mod CallLemmas
 pub mod FileLemmas
 pub mod Formats
 pub mod HistoryLemmas

@@ -13,7 +13,7 @@ use Rattle.bz_cache.specs.Look as looking
 use Rattle.bz_breakpad.specs.Reader.{table_in}
 use Rattle.bz_breakpad.specs.Table.{Table}
 use Rattle.bz_breakpad.specs.Version.{format_test, refusal_of}
-use Rattle.bz_symbolize.specs.FileCall.{Question, batch_asked, by_look, file_answer}
+use Rattle.bz_symbolize.specs.FileCall.{Question, batch_query, query_asked, by_look, file_answer}
 use Rattle.bz_symbolize.specs.Lookup.{by_table, fresh_answer}
 use Rattle.bz_symbolize.specs.Sources.{breakpad_answering}
 use denote.Ref.{Bor}
@@ -21,7 +21,7 @@ use denote.Ref.{Bor}
 module _ (opts : FindSymOpts) (reload : Bool) (path : List ℕ) (addrs : Bor (List ℕ)) where
   -- what the batch asks
   abbrev asked : Question (List Answer)
-  asked = batch_asked format_test breakpad_answering opts path (FileOffset addrs)
+  asked = query_asked format_test breakpad_answering opts path (batch_query (FileOffset addrs))
 
   -- bytes that are looked at for the first time answer by their table
   by_read : (s : Stamp) (bytes : List ℕ) (read : Option Table) → table_in bytes ≡ read →

@@ -1,21 +1,21 @@
 -- What a list of calls may leave of a symbolizer, each call in its world.
-use Rattle.std.specs.Prelude.{◌≡◌, ◌⊎◌, ℕ, List, [], ◌∷◌}
-use denote.Ref.{Bor}
-use Rattle.bz_base.specs.declared.input.Input.{Input}
+use Rattle.std.specs.Prelude.{◌≡◌, ◌⊎◌, List, [], ◌∷◌}
+use Rattle.bz_base.specs.InputKind.{AddressKind}
 use Rattle.bz_files.specs.World.{World}
 use Rattle.bz_cache.specs.Coherence.{Coherent}
 use Rattle.bz_symbolize.specs.Lookup.{state_of}
 use Rattle.bz_symbolize.specs.Sources.{form_of}
-use Rattle.bz_symbolize.specs.State.{State, opts_of}
+use Rattle.bz_symbolize.specs.State.{State}
 use Rattle.bz_symbolize.specs.declared.source.Source.{Source}
 
--- a call of a symbolizer
+-- a call of a symbolizer: a batch or a single address of some kind is asked of a source. Nothing else that is asked matters to
+-- the state.
 pub data Call : Type 0 where
-  Symbolize : Source → Input (Bor (List ℕ)) → Call
+  Symbolize : Source → AddressKind → Call
 
 -- the state that a call leaves in its world, if it comes to it
 abbrev pub state_after : State → World → Call → State
-state_after state world (Symbolize source input) = state_of (opts_of state.settings) state (form_of source) input world
+state_after state world (Symbolize source kind) = state_of state (form_of source) kind world
 
 -- what a call may leave in its world: the state as it was, or the one after it
 abbrev pub MayLeave : State → World → Call → State → Type 0

@@ -1,3 +1,4 @@
+pub mod Alike
 pub mod FileCall
 pub mod History
 pub mod Lookup

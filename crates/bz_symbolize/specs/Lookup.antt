@@ -1,10 +1,9 @@
 -- What a call of a symbolizer answers, and the state that it leaves.
 use Rattle.std.specs.Prelude.{ℕ, Bool, cond, List, Option, Some, None, Result, Ok, Err}
-use denote.Ref.{Bor}
 use Rattle.bz_base.specs.Answer.{Answer}
+use Rattle.bz_base.specs.InputKind.{AddressKind}
 use Rattle.bz_base.specs.declared.error.Error.{Error}
 use Rattle.bz_base.specs.declared.error.Error.TheVariants as errors
-use Rattle.bz_base.specs.declared.input.Input.{Input}
 use Rattle.bz_base.specs.declared.types.FindSymOpts.{FindSymOpts}
 use Rattle.bz_files.specs.World.{World, Entry, entry_at}
 use Rattle.bz_files.specs.World.Entry.{Denied, Present}
@@ -13,21 +12,22 @@ use Rattle.bz_cache.specs.View.{View, Absent, Hidden, Shown, view}
 use Rattle.bz_breakpad.specs.Table.{Table}
 use Rattle.bz_breakpad.specs.Reader.{table_in}
 use Rattle.bz_breakpad.specs.Plain.{batch}
-use Rattle.bz_symbolize.specs.FileCall.{Question, by_version, file_answer, file_cache, file_opens}
+use Rattle.bz_symbolize.specs.FileCall.{Query, Question, by_version, file_answer, file_cache, file_opens}
 use Rattle.bz_symbolize.specs.Sources.{SourceForm, OneFile, asked_of}
 use Rattle.bz_symbolize.specs.State.{State}
 
 -- what a call answers
-abbrev pub answer_of : FindSymOpts → State → SourceForm → Input (Bor (List ℕ)) → World → Result (List Answer) Error
-answer_of opts state (OneFile file) input world = file_answer (asked_of file opts input) (file.cache state) file.path (entry_at world file.path)
+abbrev pub answer_of : {B : Type 0} → FindSymOpts → State → SourceForm → Query B → World → Result B Error
+answer_of opts state (OneFile file) query world = file_answer (asked_of file opts query) (file.cache state) file.path (entry_at world file.path)
 
--- the state that a call leaves
-abbrev pub state_of : FindSymOpts → State → SourceForm → Input (Bor (List ℕ)) → World → State
-state_of opts state (OneFile file) input world = file.with_cache state (file_cache (asked_of file opts input) (file.cache state) file.path (entry_at world file.path))
+-- the state that a call leaves: of what is asked, the kind of address alone matters to it
+abbrev pub state_of : State → SourceForm → AddressKind → World → State
+state_of state (OneFile file) kind world =
+    file.with_cache state (file_cache file.test (file.answering.takes kind) (file.cache state) file.path (entry_at world file.path))
 
 -- whether a call reads a file
-abbrev pub opens_of : FindSymOpts → State → SourceForm → Input (Bor (List ℕ)) → World → Bool
-opens_of opts state (OneFile file) input world = file_opens (asked_of file opts input) (file.cache state) file.path (entry_at world file.path)
+abbrev pub opens_of : State → SourceForm → AddressKind → World → Bool
+opens_of state (OneFile file) kind world = file_opens (file.answering.takes kind) (file.cache state) file.path (entry_at world file.path)
 
 -- what the version in view answers, or the refusal of a file that is absent, may not be read or isn't in the format
 abbrev pub by_view : {B : Type 0} → Question B → View → Result B Error
@@ -35,9 +35,13 @@ by_view asked Absent = Err errors.NotFound
 by_view asked Hidden = Err errors.PermissionDenied
 by_view asked (Shown bytes) = by_version asked bytes
 
+-- what a call on one file answers, by what is in view
+abbrev pub shown_answer : {B : Type 0} → Question B → View → Result B Error
+shown_answer asked shown = cond asked.taken (by_view asked shown) (Err errors.Unsupported)
+
 -- what a call on one file answers by the version in view
 abbrev pub view_answer : {B : Type 0} → Question B → Cache → World → List ℕ → Result B Error
-view_answer asked cache world path = cond asked.taken (by_view asked (view cache world path)) (Err errors.Unsupported)
+view_answer asked cache world path = shown_answer asked (view cache world path)
 
 -- the batch of the table, or the refusal of bytes that have none
 abbrev pub by_table : FindSymOpts → List ℕ → Option Table → Result (List Answer) Error

@@ -1,17 +1,16 @@
 -- Sources as data: what each format answers, and which cache of a symbolizer keeps the source's file.
-use Rattle.std.specs.Prelude.{ℕ, Bool, true, false, List, [], Option, string_bytes}
-use Rattle.std.specs.Option.{option_map_or}
-use denote.Ref.{Bor}
+use Rattle.std.specs.Prelude.{ℕ, Bool, true, false, List, Option, Some, None, Result, Err, string_bytes}
 use Rattle.bz_base.specs.Answer.{Answer}
-use Rattle.bz_base.specs.InputKind.{AddressKind, InProcess, InTable, InFile, payload}
+use Rattle.bz_base.specs.InputKind.{AddressKind, InProcess, InTable, InFile}
 use Rattle.bz_base.specs.declared.error.Error.{Error}
-use Rattle.bz_base.specs.declared.input.Input.{Input}
+use Rattle.bz_base.specs.declared.error.Error.TheVariants as errors
 use Rattle.bz_base.specs.declared.types.FindSymOpts.{FindSymOpts}
 use Rattle.bz_cache.specs.Cache.{Cache}
 use Rattle.bz_breakpad.specs.Reader.{table_in}
-use Rattle.bz_breakpad.specs.Plain.{batch}
+use Rattle.bz_breakpad.specs.Plain.{plain}
+use Rattle.bz_breakpad.specs.Table.{Table}
 use Rattle.bz_breakpad.specs.Version.{format_test}
-use Rattle.bz_symbolize.specs.FileCall.{Answering, Question, batch_asked}
+use Rattle.bz_symbolize.specs.FileCall.{Answering, Query, Question, query_asked}
 use Rattle.bz_symbolize.specs.State.{State}
 use Rattle.bz_symbolize.specs.declared.source.Source.{Source}
 use Rattle.bz_symbolize.specs.declared.source.Source.TheVariants as sources
@@ -22,12 +21,13 @@ is_in_file InFile = true
 is_in_file InProcess = false
 is_in_file InTable = false
 
--- the batch of the bytes' table
-abbrev pub breakpad_batch : FindSymOpts → List ℕ → List ℕ → List Answer
-breakpad_batch opts bytes addrs = option_map_or (λ table. batch table opts addrs) (table_in bytes) []
+-- the plain answer of a file's table at an address; bytes that have none are refused
+abbrev pub breakpad_single : FindSymOpts → Option Table → ℕ → Result Answer Error
+breakpad_single opts None addr = Err errors.InvalidInput
+breakpad_single opts (Some table) addr = plain table opts addr
 
 abbrev pub breakpad_answering : Answering
-breakpad_answering = record { takes = is_in_file; serves = is_in_file; batch = λ opts path bytes input. breakpad_batch opts bytes (payload input).now }
+breakpad_answering = record { takes = is_in_file; serves = is_in_file; single = λ opts path bytes kind addr. breakpad_single opts (table_in bytes) addr }
 
 -- a source that is one file in one cache
 pub record FileSource : Type 0 where
@@ -39,9 +39,9 @@ pub record FileSource : Type 0 where
   pub cache : State → Cache
   pub with_cache : State → Cache → State
 
--- what a batch asks of the source's file
-abbrev pub asked_of : FileSource → FindSymOpts → Input (Bor (List ℕ)) → Question (List Answer)
-asked_of file opts input = batch_asked file.test file.answering opts file.path input
+-- what a query asks of the source's file
+abbrev pub asked_of : {B : Type 0} → FileSource → FindSymOpts → Query B → Question B
+asked_of file opts query = query_asked file.test file.answering opts file.path query
 
 -- the forms that a source may have
 pub data SourceForm : Type 0 where

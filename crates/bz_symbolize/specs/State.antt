@@ -1,26 +1,34 @@
 -- The state of a symbolizer: how it was set, and the files that it keeps.
-use Rattle.std.specs.Prelude.{◌≡◌, ℕ, Bool, true, List, Option, None, refl}
+use Rattle.std.specs.Prelude.{◌≡◌, ℕ, Bool, true, false, List, Option, None, refl}
 use Rattle.std.specs.Coded.{Coded, code_by, coded×, coded_ℕ, coded_bool, coded_list, coded_option}
 use Rattle.bz_base.specs.declared.error.Error.{Error}
 use Rattle.bz_base.specs.declared.types.FindSymOpts.{FindSymOpts}
-use Rattle.bz_base.specs.declared.types.FindSymOpts.TheVariants.{Basic}
+use Rattle.bz_base.specs.declared.types.FindSymOpts.TheVariants.{Basic, CodeInfo, CodeInfoAndInlined}
 use Rattle.bz_cache.specs.Cache.{Cache, Consistent, new_cache, coded_cache}
 use Rattle.bz_breakpad.specs.Version.{format_test}
 
--- how a symbolizer is set: whether files are looked at anew, whether names are demangled, and where debug files are looked
--- for. The last two are kept and have no effect.
+-- how a symbolizer is set: whether files are looked at anew, whether answers have places in the source code, and inlined
+-- calls, whether names are demangled, and where debug files are looked for. The last two are kept and have no effect.
 pub record Settings : Type 0 where
   pub reload : Bool
+  pub code_info : Bool
+  pub inlined : Bool
   pub demangling : Bool
   pub debug_dirs : Option (List (List ℕ))
 
 -- all features on, and no directories
 abbrev pub default_settings : Settings
-default_settings = record { reload = true; demangling = true; debug_dirs = None }
+default_settings = record { reload = true; code_info = true; inlined = true; demangling = true; debug_dirs = None }
 
--- the options of a look-up. Until source lines are read, answers have none, whatever the settings.
+-- the options of a look-up, by whether answers have places, and inlined calls: these only where there are places
+abbrev pub opts_by : Bool → Bool → FindSymOpts
+opts_by false inlined = Basic
+opts_by true false = CodeInfo
+opts_by true true = CodeInfoAndInlined
+
+-- the options of a look-up
 abbrev pub opts_of : Settings → FindSymOpts
-opts_of settings = Basic
+opts_of settings = opts_by settings.code_info settings.inlined
 
 -- a symbolizer: its settings, and the Breakpad files that it keeps
 pub record State : Type 0 where
@@ -44,9 +52,10 @@ pub record WellKept (state : State) : Type 0 where
 -- settings and states can be kept in the model of a value
 abbrev pub coded_settings : Coded Settings
 coded_settings =
-    code_by (Bool × (Bool × Option (List (List ℕ)))) (coded× coded_bool (coded× coded_bool (coded_option (coded_list (coded_list coded_ℕ)))))
-    (λ s. (s.reload, (s.demangling, s.debug_dirs)))
-    (λ p. record { reload = p.0; demangling = p.1.0; debug_dirs = p.1.1 })
+    code_by (Bool × (Bool × (Bool × (Bool × Option (List (List ℕ))))))
+    (coded× coded_bool (coded× coded_bool (coded× coded_bool (coded× coded_bool (coded_option (coded_list (coded_list coded_ℕ)))))))
+    (λ s. (s.reload, (s.code_info, (s.inlined, (s.demangling, s.debug_dirs)))))
+    (λ p. record { reload = p.0; code_info = p.1.0; inlined = p.1.1.0; demangling = p.1.1.1.0; debug_dirs = p.1.1.1.1 })
     (λ _. refl)
 
 abbrev pub coded_state : Coded State

@@ -1,22 +1,21 @@
 //! A Breakpad file as one that answers.
 
-ghost use Rattle.std.specs.Prelude.{◌≡◌, ◌<◌, ℕ, List, Some, map, IfOk, IsOkUnless};
-ghost use Rattle.bz_base.specs.Answer.{reading};
-ghost use Rattle.bz_breakpad.specs.Plain.{batch};
+ghost use Rattle.std.specs.Prelude.{◌≡◌, ◌<◌, Ok, length, map, slice_index, IfOk, IfErr, IsOkUnless};
+ghost use Rattle.bz_base.specs.Answer.{Gives, in_batch, reading};
 ghost use Rattle.bz_breakpad.specs.Reader.{table_in};
-ghost use Rattle.bz_breakpad.specs.Table.{Table};
-ghost use Rattle.bz_symbolize.specs.Sources.{breakpad_answering};
+ghost use Rattle.bz_breakpad.specs.Refusal.{IsAnswerRefusal};
+ghost use Rattle.bz_symbolize.specs.Sources.{breakpad_answering, breakpad_single};
 
 use crate::answering::Answers;
-use bz_base::{Error, FindSymOpts, Input, Result, Steps, Sym, Symbolized};
-use bz_breakpad::SymbolFile;
+use bz_base::{Addr, Error, FindSymOpts, Input, Result, Steps, Sym, Symbolized, in_batch};
+use bz_breakpad::{Lookups, SymbolFile};
 use std::alloc::Global;
 use std::sync::ledger::Ledger;
 
 impl Answers for SymbolFile {
     ghost answering = { breakpad_answering };
 
-    fn takes(input: Input<&[u64]>) -> bool {
+    fn takes<A>(input: &Input<A>) -> bool {
         match input {
             Input::FileOffset(_) => true,
             Input::AbsAddr(_) | Input::VirtOffset(_) => false,
@@ -38,6 +37,21 @@ impl Answers for SymbolFile {
             Input::AbsAddr(_) | Input::VirtOffset(_) => Err(Error::Unsupported),
         }
     }
+
+    fn answer_at<L: Ledger>(
+        &self,
+        alloc: Global,
+        opts: &FindSymOpts,
+        path: &str,
+        input: Input<u64>,
+        steps: &mut Steps<L>,
+    ) -> Result<Symbolized<'static>> {
+        let _path = path;
+        match input {
+            Input::FileOffset(addr) => answer_of(alloc, self, opts, addr, steps),
+            Input::AbsAddr(_) | Input::VirtOffset(_) => Err(Error::Unsupported),
+        }
+    }
 }
 
 // The answers of a file, with texts of their own.
@@ -48,25 +62,49 @@ fn answers_of<L: Ledger>(
     addrs: &[u64],
     steps: &mut Steps<L>,
 ) -> Result<Vec<Symbolized<'static>>>
-    ensures answers { IfOk result (λ answers. (table : Table) × (table_in file.now ≡ Some table) × (map reading answers.items ≡ batch table opts.now addrs.now)) }
+    ensures answers { IfOk result (λ answers. map reading answers.items ≡ map (λ addr. in_batch (breakpad_single opts.now (table_in file.now) addr)) addrs.now) }
     ensures memory { IsOkUnless result Error.OutOfMemory }
 {
-    let borrowed = file.answer_batch(alloc, addrs, opts, steps)?;
-    owned(alloc, borrowed)
-}
-
-// The same answers, with texts of their own.
-fn owned(alloc: Global, answers: Vec<Symbolized<'_>>) -> Result<Vec<Symbolized<'static>>>
-    ensures same { IfOk result (λ all. map reading all.items ≡ map reading answers.entry.items) }
-    ensures memory { IsOkUnless result Error.OutOfMemory }
-{
-    let mut all = Vec::new(alloc);
-    for answer in answers {
-        all.push(owned_answer(alloc, answer)?)?;
+    let lookups = file.look_up(alloc, addrs, steps)?;
+    // Each answer is made and owned by itself, so that no second list stands beside this one.
+    let mut answers = Vec::with_capacity(alloc, lookups.len())?;
+    for index in 0..lookups.len() {
+        answers.push(entry_at(alloc, &lookups, index, opts)?)?;
     }
-    Ok(all)
+    Ok(answers)
 }
 
+// The answer at the address of an index, as an entry of a batch, with texts of its own.
+fn entry_at(
+    alloc: Global,
+    lookups: &Lookups<'_, '_>,
+    index: usize,
+    opts: &FindSymOpts,
+) -> Result<Symbolized<'static>>
+    requires { index < length lookups.now.addrs }
+    ensures entry { IfOk result (λ entry. reading entry ≡ in_batch (breakpad_single opts.now (table_in lookups.now.bytes) (slice_index lookups.now.addrs index))) }
+    ensures memory { IsOkUnless result Error.OutOfMemory }
+{
+    let entry = in_batch(lookups.answer(alloc, index, opts))?;
+    owned_answer(alloc, entry)
+}
+
+// The answer of a file at an address, with texts of its own.
+fn answer_of<L: Ledger>(
+    alloc: Global,
+    file: &SymbolFile,
+    opts: &FindSymOpts,
+    addr: Addr,
+    steps: &mut Steps<L>,
+) -> Result<Symbolized<'static>>
+    ensures answer { Gives reading (breakpad_single opts.now (table_in file.now) addr) result }
+    ensures refusal { IfErr result IsAnswerRefusal }
+{
+    let answer = file.answer(alloc, addr, opts, steps)?;
+    owned_answer(alloc, answer)
+}
+
+// The same answer, with texts of its own.
 fn owned_answer(alloc: Global, answer: Symbolized<'_>) -> Result<Symbolized<'static>>
     ensures same { IfOk result (λ own. reading own ≡ reading answer.entry) }
     ensures memory { IsOkUnless result Error.OutOfMemory }

@@ -33,6 +33,8 @@ impl Builder {
         Builder {
             settings: Settings {
                 reload: true,
+                code_info: true,
+                inlined: true,
                 demangling: true,
                 debug_dirs: None,
             },
@@ -45,6 +47,22 @@ impl Builder {
         ensures { result ≡ record self { reload = enable } }
     {
         self.settings.reload = enable;
+        self
+    }
+
+    /// Whether answers have places in the source code.
+    pub fn enable_code_info(mut self, enable: bool) -> Builder
+        ensures { result ≡ record self { code_info = enable } }
+    {
+        self.settings.code_info = enable;
+        self
+    }
+
+    /// Whether answers have inlined calls. They have none without places in the source code.
+    pub fn enable_inlined_fns(mut self, enable: bool) -> Builder
+        ensures { result ≡ record self { inlined = enable } }
+    {
+        self.settings.inlined = enable;
         self
     }
 

@@ -1,22 +1,29 @@
 //! What holds of this crate's definitions.
 
-ghost use Rattle.std.specs.Prelude.{◌≡◌, ◌∷◌, ℕ, List, map};
+ghost use Rattle.std.specs.Prelude.{◌≡◌, ◌↔◌, ◌∷◌, ℕ, List, Some, Ok, Err, map, slice_get};
 ghost use denote.Ref.{Bor};
+ghost use Rattle.bz_base.specs.Answer.{Answer};
+ghost use Rattle.bz_base.specs.InputKind.{AddressKind};
+ghost use Rattle.bz_base.specs.declared.error.Error.{Error};
 ghost use Rattle.bz_base.specs.declared.input.Input.TheVariants.{FileOffset};
 ghost use Rattle.bz_base.specs.declared.types.FindSymOpts.{FindSymOpts};
 ghost use Rattle.bz_files.specs.Agreement.{Agree};
 ghost use Rattle.bz_breakpad.specs.Version.{format_test};
 ghost use Rattle.bz_files.specs.World.{World, entry_at};
-ghost use Rattle.bz_symbolize.specs.FileCall.{batch_asked, file_answer};
+ghost use Rattle.bz_cache.specs.View.{View};
+ghost use Rattle.bz_symbolize.specs.Alike.{AreAlike, IsFolded, StandsAlone, batch_in_view, single_in_view};
+ghost use Rattle.bz_symbolize.specs.FileCall.{batch_of, batch_query, file_answer, query_asked};
 ghost use Rattle.bz_symbolize.specs.History.{Call, Coheres, MayReach};
 ghost use Rattle.bz_symbolize.specs.Lookup.{fresh_answer};
-ghost use Rattle.bz_symbolize.specs.Sources.{breakpad_answering};
+ghost use Rattle.bz_symbolize.specs.Promise.{IsAnswerOf, IsBreakpadAnswer, IsBreakpadBatch};
+ghost use Rattle.bz_symbolize.specs.Sources.{OnFile, breakpad_answering};
 ghost use Rattle.bz_symbolize.specs.State.{Settings, State, new_state};
+ghost use Rattle.bz_symbolize.specs.declared.source.Source.{Source};
 
 /// A symbolizer that keeps nothing answers a Breakpad source by what lies at its path.
 pub fn new_symbolizer_answers()
     ensures { (opts : FindSymOpts) (settings : Settings) (path : List ℕ) (addrs : Bor (List ℕ)) (world : World) →
-        file_answer (batch_asked format_test breakpad_answering opts path (FileOffset addrs)) (new_state settings).breakpad path (entry_at world path) ≡ fresh_answer opts addrs.now (entry_at world path) }
+        file_answer (query_asked format_test breakpad_answering opts path (batch_query (FileOffset addrs))) (new_state settings).breakpad path (entry_at world path) ≡ fresh_answer opts addrs.now (entry_at world path) }
 {}
 
 /// From a new symbolizer on, over any list of calls whose worlds agree with each other and with the
@@ -24,4 +31,34 @@ pub fn new_symbolizer_answers()
 pub fn runs_stay_coherent()
     ensures { (settings : Settings) (calls : List (World × Call)) (state : State) (world : World) →
         Agree (world ∷ map (λ call. call.0) calls) → MayReach (new_state settings) calls state → Coheres state world }
+{}
+
+/// An entry of a batch that is answered is what a batch of its address alone is answered, over the
+/// same version in view.
+pub fn entries_stand_alone()
+    ensures { (source : Source) → OnFile source (λ file. (opts : FindSymOpts) (kind : AddressKind) (shown : View) (addrs : List ℕ) (answers : List Answer) (i addr : ℕ) →
+        batch_in_view file opts kind shown addrs ≡ Ok answers → slice_get addrs i ≡ Some addr → StandsAlone (batch_in_view file opts kind shown) answers i addr) }
+{}
+
+/// Of two batches that are answered over the same version in view, equal addresses have equal
+/// entries, and a batch in another order has its answers in that order.
+pub fn order_moves_answers()
+    ensures { (source : Source) → OnFile source (λ file. (opts : FindSymOpts) (kind : AddressKind) (shown : View) (addrs others : List ℕ) (answers other_answers : List Answer) →
+        batch_in_view file opts kind shown addrs ≡ Ok answers → batch_in_view file opts kind shown others ≡ Ok other_answers → AreAlike addrs others answers other_answers) }
+{}
+
+/// An entry of a batch that is answered is what the single call makes of its address over the same
+/// version in view, where a refusal is an ignored error; and that call is answered, or refused for
+/// its address.
+pub fn batches_fold_refusals()
+    ensures { (source : Source) → OnFile source (λ file. (opts : FindSymOpts) (kind : AddressKind) (shown : View) (addrs : List ℕ) (answers : List Answer) (i addr : ℕ) →
+        batch_in_view file opts kind shown addrs ≡ Ok answers → slice_get addrs i ≡ Some addr → IsFolded source opts kind shown answers i addr (single_in_view file opts kind shown addr)) }
+{}
+
+/// No version refuses a batch by itself, so a promise of a batch leaves no such refusal; and what a
+/// Breakpad file answers to one is the batch of its table.
+pub fn batches_are_answered()
+    ensures refused { (source : Source) (opts : FindSymOpts) (bytes : List ℕ) (kind : AddressKind) (addrs : List ℕ) (e : Error) → IsAnswerOf source opts bytes (batch_of kind addrs) (Err e) → ⊥ }
+    ensures breakpad { (opts : FindSymOpts) (bytes : List ℕ) (kind : AddressKind) (addrs : List ℕ) (answers : List Answer) →
+        IsBreakpadAnswer opts bytes (batch_of kind addrs) (Ok answers) ↔ IsBreakpadBatch opts bytes addrs answers }
 {}

@@ -11,6 +11,10 @@ use std::marker::Model;
 pub(crate) struct Settings {
     /// Whether files are looked at anew at each call.
     pub(crate) reload: bool,
+    /// Whether answers have places in the source code.
+    pub(crate) code_info: bool,
+    /// Whether answers with places have inlined calls too.
+    pub(crate) inlined: bool,
     /// Whether names are demangled.
     pub(crate) demangling: bool,
     /// Where debug files are looked for.
@@ -25,7 +29,7 @@ impl Model for Settings {
 
     ghost coded = { coded_settings };
 
-    ghost view = { λ s. record { reload = s.reload; demangling = s.demangling; debug_dirs = option_map (λ dirs. map string_bytes dirs.items) s.debug_dirs } };
+    ghost view = { λ s. record { reload = s.reload; code_info = s.code_info; inlined = s.inlined; demangling = s.demangling; debug_dirs = option_map (λ dirs. map string_bytes dirs.items) s.debug_dirs } };
 }
 
 impl Settings {
@@ -33,8 +37,10 @@ impl Settings {
     pub(crate) fn opts(&self) -> FindSymOpts
         ensures { result ≡ opts_of self.now }
     {
-        // No setting asks for more until source lines are read.
-        let _settings = self;
-        FindSymOpts::Basic
+        match (self.code_info, self.inlined) {
+            (false, _) => FindSymOpts::Basic,
+            (true, false) => FindSymOpts::CodeInfo,
+            (true, true) => FindSymOpts::CodeInfoAndInlined,
+        }
     }
 }

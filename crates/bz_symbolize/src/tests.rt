@@ -4,7 +4,7 @@ ghost use Rattle.std.specs.Prelude.{◌≡◌, ◌<◌};
 
 use crate::source::{Breakpad, Source};
 use crate::{Builder, Symbolizer};
-use bz_base::{Input, Result, Steps, Symbolized};
+use bz_base::{Error, Input, Reason, Result, Steps, Symbolized};
 use bz_files::MemFiles;
 use std::alloc::Global;
 use std::default::Default;
@@ -16,7 +16,12 @@ const FIRST: &[u8] = b"FUNC 1000 20 0 one\n";
 
 const SECOND: &[u8] = b"FUNC 1000 20 0 two\n";
 
+/// A line record whose file has no FILE record.
+const WITHOUT_ITS_FILE: &[u8] = b"FUNC 1000 10 0 f\n1000 10 5 9\n";
+
 const ADDRESSES: &[u64] = &[0x1010];
+
+const REFUSED: &[u64] = &[0x1000];
 
 /// Puts a text at `/s.sym`. Says whether memory was left.
 fn put(alloc: Global, files: &mut MemFiles, text: &[u8]) -> bool {
@@ -31,12 +36,17 @@ fn source(alloc: Global) -> Result<Source> {
     Ok(Source::from(Breakpad::new(String::from_str(alloc, "/s.sym")?)))
 }
 
-/// Whether the first answer is a symbol with this name.
+/// Whether the first answer is a symbol with the name.
 fn has_name(answers: &[Symbolized<'_>], name: &str) -> bool {
     if answers.is_empty() {
         return false;
     }
-    match answers[0].as_sym() {
+    is_named(&answers[0], name)
+}
+
+/// Whether the answer is a symbol with this name.
+fn is_named(answer: &Symbolized<'_>, name: &str) -> bool {
+    match answer.as_sym() {
         Some(symbol) => symbol.name.as_str() == name,
         None => false,
     }
@@ -66,6 +76,8 @@ fn answers_a_file_that_changes(rt: HostRuntime) -> std::result::Result<(), Fail>
     let mut anew = Symbolizer::new(alloc);
     let mut still = Symbolizer::builder()
         .enable_auto_reload(false)
+        .enable_code_info(false)
+        .enable_inlined_fns(false)
         .enable_demangling(false)
         .set_debug_dirs(Some(Vec::new(alloc)))
         .build(alloc);
@@ -78,6 +90,28 @@ fn answers_a_file_that_changes(rt: HostRuntime) -> std::result::Result<(), Fail>
     assert!(rt; answers(alloc, &mut still, &mut files, &src, "one"));
     assert!(rt; files.opens() == 3);
     Ok(())
+}
+
+/// A single address is answered as in a batch.
+#[test]
+fn answers_a_single_address(rt: HostRuntime) -> std::result::Result<(), Fail> {
+    let alloc = rt.alloc();
+    let src = source(alloc)?;
+    let mut files = MemFiles::new(alloc, 7);
+    let mut symbolizer = Symbolizer::new(alloc);
+    assert!(rt; put(alloc, &mut files, FIRST));
+    let input = Input::FileOffset(0x1010);
+    let answer = symbolizer.symbolize_single(alloc, &mut files, &src, input)?;
+    assert!(rt; is_named(&answer, "one"));
+    Ok(())
+}
+
+/// Whether the call is refused as input that isn't valid.
+fn is_refused(answer: Result<Symbolized<'_>>) -> bool {
+    match answer {
+        Err(Error::InvalidInput) => true,
+        _ => false,
+    }
 }
 
 fn counted<L: Ledger>(
@@ -112,5 +146,30 @@ fn prints_a_source_by_its_path(rt: HostRuntime) -> std::result::Result<(), Fail>
     let src = source(rt.alloc())?;
     let text = format!(in rt.alloc(); "{src:?}")?;
     assert!(rt; text.as_str() == "Breakpad(\"/s.sym\")");
+    Ok(())
+}
+
+/// An address whose place in the source code has no name is refused alone, and is an ignored error
+/// in a batch; without places both answer.
+#[test]
+fn folds_a_refused_address_into_a_batch(rt: HostRuntime) -> std::result::Result<(), Fail> {
+    let alloc = rt.alloc();
+    let src = source(alloc)?;
+    let mut files = MemFiles::new(alloc, 7);
+    let mut places = Symbolizer::new(alloc);
+    let mut names = Symbolizer::builder().enable_code_info(false).build(alloc);
+    let batch = Input::FileOffset(REFUSED);
+    let single = Input::FileOffset(0x1000);
+    assert!(rt; put(alloc, &mut files, WITHOUT_ITS_FILE));
+    assert!(rt; has_name(&names.symbolize(alloc, &mut files, &src, batch)?, "f"));
+    assert!(rt;
+        is_named(
+            &names.symbolize_single(alloc, &mut files, &src, single)?,
+            "f"
+        )
+    );
+    let answers = places.symbolize(alloc, &mut files, &src, batch)?;
+    assert!(rt; answers.len() == 1 && answers[0] == Symbolized::Unknown(Reason::IgnoredError));
+    assert!(rt; is_refused(places.symbolize_single(alloc, &mut files, &src, single)));
     Ok(())
 }

@@ -1,0 +1,25 @@
+-- What a version answers to a batch, in the words of the source's format.
+use Rattle.std.proofs.Common.{◌≡◌, ◌↔◌, ℕ, List, Ok, Err, ap, sym}
+use Rattle.bz_base.specs.Answer.{Answer}
+use Rattle.bz_base.specs.InputKind.{AddressKind}
+use Rattle.bz_base.specs.declared.error.Error.{Error}
+use Rattle.bz_base.specs.declared.types.FindSymOpts.{FindSymOpts}
+use Rattle.bz_breakpad.specs.Plain.{batch}
+use Rattle.bz_symbolize.specs.FileCall.{batch_of}
+use Rattle.bz_symbolize.specs.Promise.{IsAnswerOf, IsBreakpadAnswer, IsBreakpadBatch}
+use Rattle.bz_symbolize.specs.declared.source.Source.{Source}
+use Rattle.bz_symbolize.specs.declared.source.Source.TheVariants as sources
+
+-- a version refuses no batch by itself
+pub never_refused : (source : Source) (opts : FindSymOpts) (bytes : List ℕ) (kind : AddressKind) (addrs : List ℕ) (e : Error) → IsAnswerOf source opts bytes (batch_of kind addrs) (Err e) → ⊥
+never_refused (sources.Breakpad source) opts bytes kind addrs e is = let plain = is.plain in cc
+
+-- what a Breakpad file answers to a batch is the batch of its table
+pub batch_answered : (opts : FindSymOpts) (bytes : List ℕ) (kind : AddressKind) (addrs : List ℕ) (answers : List Answer) →
+    IsBreakpadAnswer opts bytes (batch_of kind addrs) (Ok answers) → IsBreakpadBatch opts bytes addrs answers
+batch_answered opts bytes kind addrs answers is = record { table = is.table; accepted = is.accepted; plain = let plain = is.plain in cc }
+
+pub plain_batch : (opts : FindSymOpts) (bytes : List ℕ) (kind : AddressKind) (addrs : List ℕ) (answers : List Answer) →
+    IsBreakpadAnswer opts bytes (batch_of kind addrs) (Ok answers) ↔ IsBreakpadBatch opts bytes addrs answers
+plain_batch opts bytes kind addrs answers =
+    (batch_answered opts bytes kind addrs answers, λ is. record { table = is.table; accepted = is.accepted; plain = ap Ok (sym is.plain) })

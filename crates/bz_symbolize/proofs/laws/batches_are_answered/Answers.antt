@@ -1,0 +1,8 @@
+use Rattle.bz_symbolize.proofs.BatchLemmas.{never_refused, plain_batch}
+use Rattle.bz_symbolize.proofs.laws.batches_are_answered.Goals as goal
+
+pub returns-clause-refused : goal.returns-clause-refused
+returns-clause-refused c source opts bytes kind addrs e is = never_refused source opts bytes kind addrs e is
+
+pub returns-clause-breakpad : goal.returns-clause-breakpad
+returns-clause-breakpad c opts bytes kind addrs answers = plain_batch opts bytes kind addrs answers

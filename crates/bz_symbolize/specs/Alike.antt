@@ -1,0 +1,41 @@
+-- What the answers of calls on one version in view have to do with each other.
+use Rattle.std.specs.Prelude.{◌≡◌, ℕ, List, [], ◌∷◌, Some, Result, Ok, Err, slice_get}
+use Rattle.std.specs.List.Sorted.{IsPermutation}
+use Rattle.bz_base.specs.Answer.{Answer, in_batch}
+use Rattle.bz_base.specs.InputKind.{AddressKind}
+use Rattle.bz_base.specs.declared.error.Error.{Error}
+use Rattle.bz_base.specs.declared.types.FindSymOpts.{FindSymOpts}
+use Rattle.bz_cache.specs.View.{View, Shown}
+use Rattle.bz_symbolize.specs.FileCall.{batch_of, single_of}
+use Rattle.bz_symbolize.specs.Lookup.{shown_answer}
+use Rattle.bz_symbolize.specs.Promise.{IsAnswerOf}
+use Rattle.bz_symbolize.specs.Sources.{FileSource, asked_of}
+use Rattle.bz_symbolize.specs.declared.source.Source.{Source}
+
+-- what a batch, and what a single address, is answered by what is in view at the file's path: where kept versions cohere with
+-- the world in view, the answers of the calls
+abbrev pub batch_in_view : FileSource → FindSymOpts → AddressKind → View → List ℕ → Result (List Answer) Error
+batch_in_view file opts kind shown addrs = shown_answer (asked_of file opts (batch_of kind addrs)) shown
+
+abbrev pub single_in_view : FileSource → FindSymOpts → AddressKind → View → ℕ → Result Answer Error
+single_in_view file opts kind shown addr = shown_answer (asked_of file opts (single_of kind addr)) shown
+
+-- the entry of a batch at the place of an address: the batch of that address alone has it too
+pub record StandsAlone (batch : List ℕ → Result (List Answer) Error) (answers : List Answer) (i addr : ℕ) : Type 0 where
+  pub entry : Answer
+  pub here : slice_get answers i ≡ Some entry
+  pub alone : batch (addr ∷ []) ≡ Ok (entry ∷ [])
+
+-- the answers of two batches: equal addresses have equal entries, and the addresses in another order have the answers in that
+-- order
+pub record AreAlike (addrs others : List ℕ) (answers other_answers : List Answer) : Type 0 where
+  pub equal : (i j : ℕ) → slice_get addrs i ≡ slice_get others j → slice_get answers i ≡ slice_get other_answers j
+  pub permuted : IsPermutation addrs others → IsPermutation answers other_answers
+
+-- an address of a batch that is answered: its entry is what the single call makes of it, where a refusal is an ignored error;
+-- and the single call is answered, or refused for its address, as the version in view itself says
+pub record IsFolded (source : Source) (opts : FindSymOpts) (kind : AddressKind) (shown : View) (answers : List Answer) (i addr : ℕ) (single : Result Answer Error) : Type 0 where
+  pub entry : slice_get answers i ≡ Some (in_batch single)
+  pub bytes : List ℕ
+  pub in_view : shown ≡ Shown bytes
+  pub answered : IsAnswerOf source opts bytes (single_of kind addr) single
