@@ -27,6 +27,9 @@ status_from expected ended status no_failure (inr (inr memory)) is = absurd (no_
 done_no_failure : IsNoFailure statuses.Done
 done_no_failure = (λ other. cc, λ other. cc)
 
+refused_no_failure : IsNoFailure statuses.Refused
+refused_no_failure = (λ other. cc, λ other. cc)
+
 usage_no_failure : IsNoFailure statuses.Usage
 usage_no_failure = (λ other. cc, λ other. cc)
 
@@ -44,12 +47,8 @@ never ended status no_failure (inr memory) is = no_failure.1 (sym is ∙ memory)
 
 -- and it has written a front, if only the empty one
 failed_ends : (expected : Outcome) (old : List ℕ) (ended : Status) (new : Option (List ℕ)) → IsFailure ended → new ≡ Some old → Ends expected old ended new
-failed_ends expected old statuses.Fault new failed unwritten = ([], expected.text, refl, unwritten ∙ ap Some (sym (append-nil old)))
-failed_ends expected old statuses.Memory new failed unwritten = ([], expected.text, refl, unwritten ∙ ap Some (sym (append-nil old)))
-failed_ends expected old statuses.Done new failed unwritten = absurd (never statuses.Done statuses.Done done_no_failure failed refl)
-failed_ends expected old statuses.Refused new failed unwritten = absurd (never statuses.Refused statuses.Refused (λ other. cc, λ other. cc) failed refl)
-failed_ends expected old statuses.Usage new failed unwritten = absurd (never statuses.Usage statuses.Usage usage_no_failure failed refl)
-failed_ends expected old statuses.Input new failed unwritten = absurd (never statuses.Input statuses.Input input_no_failure failed refl)
+failed_ends expected old ended new (inl fault) unwritten = rw fault ([], expected.text, refl, unwritten ∙ ap Some (sym (append-nil old)))
+failed_ends expected old ended new (inr memory) unwritten = rw memory ([], expected.text, refl, unwritten ∙ ap Some (sym (append-nil old)))
 
 module _ {R W F : Type 0} (reads : input_trait.Ghosts R) (writes : output_trait.Ghosts W) (looks : files_trait.Ghosts F) (words : List (List ℕ)) (ended : Status)
     (input_before input_after : R) (output_before output_after : W) (files_before files_after : F) where
@@ -108,7 +107,7 @@ module _ {R W F : Type 0} (reads : input_trait.Ghosts R) (writes : output_trait.
     status = λ text left world seen. inr failed;
     done = λ done. absurd (never ended statuses.Done done_no_failure failed done);
     answered = λ done. absurd (never ended statuses.Done done_no_failure failed done);
-    refused = λ refused. absurd (never ended statuses.Refused (λ other. cc, λ other. cc) failed refused);
+    refused = λ refused. absurd (never ended statuses.Refused refused_no_failure failed refused);
     usage = (λ usage. absurd (never ended statuses.Usage usage_no_failure failed usage), λ none. inr failed);
     input = λ text left. (λ bad. absurd (never ended statuses.Input input_no_failure failed bad), λ bad. inr failed);
     complete = λ text left world seen is. inr failed;

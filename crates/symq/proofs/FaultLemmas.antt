@@ -19,11 +19,7 @@ failed_at side _ = None
 -- it is named exactly where the run ended by a fault
 fault_iff : (side : Side) (ended : Status) → (ended ≡ statuses.Fault) ↔ IsSome (failed_at side ended)
 fault_iff side statuses.Fault = (λ _. refl, λ _. refl)
-fault_iff side statuses.Done = (λ is. cc, λ some. absurd (false≢true some))
-fault_iff side statuses.Refused = (λ is. cc, λ some. absurd (false≢true some))
-fault_iff side statuses.Usage = (λ is. cc, λ some. absurd (false≢true some))
-fault_iff side statuses.Input = (λ is. cc, λ some. absurd (false≢true some))
-fault_iff side statuses.Memory = (λ is. cc, λ some. absurd (false≢true some))
+fault_iff side _ = (λ is. cc, λ some. absurd (false≢true some))
 
 fault_at : (side other : Side) (ended : Status) → failed_at side ended ≡ Some other → (ended ≡ statuses.Fault) × (side ≡ other)
 fault_at side other statuses.Fault is = (refl, cc)

@@ -53,17 +53,14 @@ ends_whole : (expected : Outcome) (status : Status) → expected.status ≡ stat
     Ends expected old status new
 ends_whole expected statuses.Fault is old new no_failure written = absurd (no_failure.0 refl)
 ends_whole expected statuses.Memory is old new no_failure written = absurd (no_failure.1 refl)
-ends_whole expected statuses.Done is old new no_failure written = (is, written)
-ends_whole expected statuses.Refused is old new no_failure written = (is, written)
-ends_whole expected statuses.Usage is old new no_failure written = (is, written)
-ends_whole expected statuses.Input is old new no_failure written = (is, written)
+ends_whole expected _ is old new no_failure written = (is, written)
 
 module _ {W : Type 0} (writes : output_trait.Ghosts W) where
   -- one more call writes the next bytes of what is left
-  pub has_put : (text rest : List ℕ) (first before after : W) (n : ℕ) → HasWritten writes text rest first before → false ≡ eqb (length rest) 0 →
+  pub has_put : {text rest : List ℕ} {first before after : W} (n : ℕ) → HasWritten writes text rest first before → false ≡ eqb (length rest) 0 →
       Puts (writes.written before) (writes.written after) rest (Ok n) → writes.faults after ≡ writes.faults before →
       HasWritten writes text (take (length rest - n) (drop n rest)) first after
-  has_put text rest first before after n so_far more puts steady = record {
+  has_put {text} {rest} {first} {before} {after} n so_far more puts steady = record {
     front = so_far.front ++ take n rest;
     whole = front_more text so_far.front rest n so_far.whole;
     written = λ old told. written_more (writes.written before) (writes.written after) old so_far.front rest n (so_far.written old told) puts;
@@ -72,16 +69,16 @@ module _ {W : Type 0} (writes : output_trait.Ghosts W) where
   }
 
   -- the text of the next answer goes to the piece that is left
-  pub has_answer : {B : Type 0} (view : B → Answer) (text piece grown : List ℕ) (addrs more : List ℕ) (answers rest : List B) (addr : ℕ) (answer : B) (first before : W) →
+  pub has_answer : {B : Type 0} (view : B → Answer) (piece : List ℕ) {text grown addrs more : List ℕ} {answers rest : List B} {addr : ℕ} {answer : B} {first before : W} →
       (addrs ≡ addr ∷ more) × (answers ≡ answer ∷ rest) → grown ≡ piece ++ answer_text addr (view answer) →
       HasWritten writes text (piece ++ answer_texts addrs (map view answers)) first before → HasWritten writes text (grown ++ answer_texts more (map view rest)) first before
-  has_answer view text piece grown addrs more answers rest addr answer first before next grows so_far =
+  has_answer view piece {text} {grown} {addrs} {more} {answers} {rest} {addr} {answer} next grows so_far =
       rw (texts_step view piece grown addrs more answers rest addr answer next.0 next.1 grows) so_far
 
   -- the piece is written, and the next one is empty
-  pub has_piece : {A : Type 0} (given : A) (text piece next left : List ℕ) (first before after : W) → HasWritten writes text (piece ++ left) first before →
+  pub has_piece : {A : Type 0} {given : A} {text piece next : List ℕ} (left : List ℕ) {first before after : W} → HasWritten writes text (piece ++ left) first before →
       WritesText writes piece (Ok given) before after → next ≡ [] → HasWritten writes text (next ++ left) first after
-  has_piece given text piece next left first before after so_far wrote empty = rw empty (record {
+  has_piece {given = given} {piece = piece} left {first = first} {before = before} {after = after} so_far wrote empty = rw empty (record {
     front = so_far.front ++ piece;
     whole = so_far.whole ∙ sym (append_assoc so_far.front piece left);
     written = λ old told. wrote.whole (old ++ so_far.front) (so_far.written old told) ∙ ap Some (append_assoc old so_far.front piece);
@@ -93,9 +90,9 @@ module _ {W : Type 0} (writes : output_trait.Ghosts W) where
       silent_on same none = wrote.silent (nothing_in piece left (sym none.1)).0 ∙ same
 
   -- the last piece is written, or the writing of a piece failed
-  pub writes_last : {A : Type 0} (result : Result A IoFault) (text piece left : List ℕ) (first before after : W) → HasWritten writes text (piece ++ left) first before →
+  pub writes_last : {A : Type 0} (result : Result A IoFault) {text piece left : List ℕ} {first before after : W} → HasWritten writes text (piece ++ left) first before →
       WritesText writes piece result before after → (IsErr result ⊎ (left ≡ [])) → WritesText writes text result first after
-  writes_last {A} result text piece left first before after so_far wrote last = record {
+  writes_last {A} result {text} {piece} {left} {first} {before} {after} so_far wrote last = record {
     whole = λ old told. by_whole result old (so_far.written old told) wrote.whole last;
     front = λ old told. by_front result old (so_far.written old told) wrote.front;
     silent = λ none. wrote.silent (nothing_in piece left (sym (nothing_in so_far.front (piece ++ left) (sym none ∙ so_far.whole)).1)).0 ∙ so_far.silent none;
@@ -123,9 +120,9 @@ module _ {W : Type 0} (writes : output_trait.Ghosts W) where
           )
 
   -- a run whose reply was written ends with its status
-  pub finishes_whole : {A : Type 0} (given : A) (reply : Outcome) (before after : W) → IsNoFailure reply.status → WritesText writes reply.text (Ok given) before after →
+  pub finishes_whole : {A : Type 0} {given : A} {reply : Outcome} {before after : W} → IsNoFailure reply.status → WritesText writes reply.text (Ok given) before after →
       Finishes writes reply reply.status before after
-  finishes_whole given reply before after no_failure wrote = record {
+  finishes_whole {given = given} {reply = reply} {before = before} {after = after} no_failure wrote = record {
     ends = λ old told. ends_whole reply reply.status refl old (writes.written after) no_failure (wrote.whole old told);
     status = inl refl;
     silent = wrote.silent;
