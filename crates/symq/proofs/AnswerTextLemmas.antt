@@ -1,5 +1,5 @@
 -- The texts of answers, written one after the other.
-use Rattle.std.proofs.Common.{◌≡◌, ◌⊎◌, ℕ, List, [], ◌∷◌, ◌++◌, map, append_assoc, append-nil, inl, inr}
+use Rattle.std.proofs.Common.{◌≡◌, ◌⊎◌, ℕ, List, [], ◌∷◌, ◌++◌, map, append_assoc, refl, inl, inr}
 use Rattle.bz_base.specs.Answer.{Answer}
 use Rattle.symq.specs.AnswerText.{answer_text, answer_texts}
 
@@ -11,8 +11,7 @@ texts_step view written new addrs more answers rest addr answer first second gro
     rw (first, second, grows) (append_assoc written (answer_text addr (view answer)) (answer_texts more (map view rest)))
 
 -- where one of the lists is at its end, no text is left
-pub texts_end : {B : Type 0} (view : B → Answer) (written : List ℕ) (addrs : List ℕ) (answers : List B) →
-    (addrs ≡ []) ⊎ (answers ≡ []) → written ++ answer_texts addrs (map view answers) ≡ written
-texts_end view written addrs answers (inl none) = rw none (append-nil written)
-texts_end view written [] answers (inr none) = append-nil written
-texts_end view written (addr ∷ addrs) answers (inr none) = rw none (append-nil written)
+pub texts_none : {B : Type 0} (view : B → Answer) (addrs : List ℕ) (answers : List B) → (addrs ≡ []) ⊎ (answers ≡ []) → answer_texts addrs (map view answers) ≡ []
+texts_none view addrs answers (inl none) = rw none refl
+texts_none view [] answers (inr none) = refl
+texts_none view (addr ∷ addrs) answers (inr none) = rw none refl

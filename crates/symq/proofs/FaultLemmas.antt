@@ -1,79 +1,107 @@
 -- At which side of a run a call failed.
-use Rattle.std.proofs.Common.{◌≡◌, ◌⊎◌, ℕ, ◌≤◌, Option, Some, None, IsSome, refl, ap, inl, inr, arith}
+use Rattle.std.proofs.Common.{◌≡◌, ◌⊎◌, ◌↔◌, ℕ, Option, Some, None, IsSome, refl, ap, inl, inr, arith}
 use Rattle.std.proofs.lemmas.Bool.{false≢true}
 use Rattle.bz_files.specs.Count.{CountsFaults, HasRisen}
+use Rattle.bz_files.specs.Looked.{Looked}
 use Rattle.bz_files.specs.declared.files.Files as files_trait
 use Rattle.bz_files.specs.declared.text.TextIn as input_trait
 use Rattle.bz_files.specs.declared.text.TextOut as output_trait
 use Rattle.symq.specs.Run.{Side, AtInput, AtFiles, AtOutput, Fails}
+use Rattle.symq.specs.Turns.{FailsAtOne}
 use Rattle.symq.specs.declared.status.Status.{Status}
 use Rattle.symq.specs.declared.status.Status.TheVariants as statuses
 
--- a count that stands still where no call failed, and one that rose where one did
-counts_still : (before after : ℕ) (failed : Type 0) → (failed → ⊥) → after ≡ before → CountsFaults before after failed
+-- the side at which a run that ended so has failed, where it can only be this one
+abbrev failed_at : Side → Status → Option Side
+failed_at side statuses.Fault = Some side
+failed_at side _ = None
+
+-- it is named exactly where the run ended by a fault
+fault_iff : (side : Side) (ended : Status) → (ended ≡ statuses.Fault) ↔ IsSome (failed_at side ended)
+fault_iff side statuses.Fault = (λ _. refl, λ _. refl)
+fault_iff side _ = (λ is. cc, λ some. absurd (false≢true some))
+
+fault_at : (side other : Side) (ended : Status) → failed_at side ended ≡ Some other → (ended ≡ statuses.Fault) × (side ≡ other)
+fault_at side other statuses.Fault is = (refl, cc)
+fault_at side other _ is = cc
+
+-- what counts faults where one thing holds counts them where the same holds in other words
+counts_as : {A B : Type 0} (before after : ℕ) → (A → B) → (B → A) → CountsFaults before after A → CountsFaults before after B
+counts_as {A} {B} before after to from counts = record { grows = counts.grows; fault = λ is. counts.fault (from is); steady = by_steady counts.steady }
+  where
+    by_steady : A ⊎ (after ≡ before) → B ⊎ (after ≡ before)
+    by_steady (inl is) = inl (to is)
+    by_steady (inr same) = inr same
+
+pub fails_as : {R F A B : Type 0} (reads : input_trait.Ghosts R) (looks : files_trait.Ghosts F) {input_before input_after : R} {files_before files_after : F} → (A → B) → (B → A) →
+    FailsAtOne reads looks A input_before input_after files_before files_after → FailsAtOne reads looks B input_before input_after files_before files_after
+fails_as reads looks to from (inl (unlooked, counts)) = inl (unlooked, counts_as _ _ to from counts)
+fails_as reads looks to from (inr (steady, looked)) = inr (steady, record { worlds = looked.worlds; pid = looked.pid; faults = counts_as _ _ to from looked.faults })
+
+-- a count that stands still counts what never failed
+pub counts_still : (before after : ℕ) (failed : Type 0) → (failed → ⊥) → after ≡ before → CountsFaults before after failed
 counts_still before after failed never same = record { grows = omega (arith, same); fault = λ is. absurd (never is); steady = inr same }
 
-counts_risen : (before after : ℕ) (failed : Type 0) → failed → before ≤ after → HasRisen before after → CountsFaults before after failed
-counts_risen before after failed is grows risen = record { grows = grows; fault = λ _. risen; steady = inl is }
+-- where no call failed, a count stands still
+pub no_fault : (before after : ℕ) (failed : Type 0) → (failed → ⊥) → CountsFaults before after failed → after ≡ before
+no_fault before after failed never counts = by_steady counts.steady
+  where
+    by_steady : failed ⊎ (after ≡ before) → after ≡ before
+    by_steady (inl is) = absurd (never is)
+    by_steady (inr same) = same
 
-module _ {R W F : Type 0} (reads : input_trait.Ghosts R) (writes : output_trait.Ghosts W) (looks : files_trait.Ghosts F) (status : Status)
-    (input_before input_after : R) (output_before output_after : W) (files_before files_after : F)
-    (worlds : looks.worlds files_after ≡ looks.worlds files_before) (pid : looks.pid files_after ≡ looks.pid files_before)
-    (grows : (reads.faults input_before ≤ reads.faults input_after) × (writes.faults output_before ≤ writes.faults output_after) × (looks.faults files_before ≤ looks.faults files_after))
-    (fault : status ≡ statuses.Fault →
-    (HasRisen (reads.faults input_before) (reads.faults input_after) × (files_after ≡ files_before) × (output_after ≡ output_before))
-    ⊎ ((HasRisen (looks.faults files_before) (looks.faults files_after) × (reads.faults input_after ≡ reads.faults input_before) × (output_after ≡ output_before))
-    ⊎ (HasRisen (writes.faults output_before) (writes.faults output_after) × (reads.faults input_after ≡ reads.faults input_before) × (looks.faults files_after ≡ looks.faults files_before))))
-    (steady : (status ≡ statuses.Fault) ⊎ ((reads.faults input_after ≡ reads.faults input_before) × (writes.faults output_after ≡ writes.faults output_before) × (looks.faults files_after ≡ looks.faults files_before))) where
-  -- the side where a call failed, from what is known of each side
-  pub fails_by_status : Fails reads writes looks status input_before input_after output_before output_after files_before files_after
-  fails_by_status = by_status status refl
+-- the counts at the side that failed, and at the others
+counts_here : (side : Side) (ended : Status) (before after : ℕ) → CountsFaults before after (ended ≡ statuses.Fault) → CountsFaults before after (failed_at side ended ≡ Some side)
+counts_here side ended before after counts = counts_as before after (λ is. ap (failed_at side) is) (λ at. (fault_at side side ended at).0) counts
+
+counts_there : (side other : Side) (ended : Status) (before after : ℕ) → (side ≡ other → ⊥) → after ≡ before → CountsFaults before after (failed_at side ended ≡ Some other)
+counts_there side other ended before after apart same = counts_still before after _ (λ at. apart (fault_at side other ended at).1) same
+
+module _ {R W F : Type 0} (reads : input_trait.Ghosts R) (writes : output_trait.Ghosts W) (looks : files_trait.Ghosts F) (ended : Status)
+    (input_before input_after : R) (output_before output_after : W) (files_before files_after : F) where
+  -- a run without a reply failed at the input or at the files
+  pub fails_before : FailsAtOne reads looks (ended ≡ statuses.Fault) input_before input_after files_before files_after → output_after ≡ output_before →
+      Fails reads writes looks ended input_before input_after output_before output_after files_before files_after
+  fails_before (inl (unlooked, counts)) unwritten = record {
+    failed = failed_at AtInput ended;
+    fault = fault_iff AtInput ended;
+    input_faults = counts_here AtInput ended _ _ counts;
+    output_faults = counts_there AtInput AtOutput ended _ _ (λ same. cc) (ap writes.faults unwritten);
+    files = record { worlds = ap looks.worlds unlooked; pid = ap looks.pid unlooked; faults = counts_there AtInput AtFiles ended _ _ (λ same. cc) (ap looks.faults unlooked) };
+    untouched = λ _. unwritten;
+  }
+  fails_before (inr (steady, looked)) unwritten = record {
+    failed = failed_at AtFiles ended;
+    fault = fault_iff AtFiles ended;
+    input_faults = counts_there AtFiles AtInput ended _ _ (λ same. cc) steady;
+    output_faults = counts_there AtFiles AtOutput ended _ _ (λ same. cc) (ap writes.faults unwritten);
+    files = record { worlds = looked.worlds; pid = looked.pid; faults = counts_here AtFiles ended _ _ looked.faults };
+    untouched = λ _. unwritten;
+  }
+
+  -- a run with a reply failed at the output alone
+  pub fails_after : (failed : Type 0) → (failed → ⊥) → FailsAtOne reads looks failed input_before input_after files_before files_after →
+      CountsFaults (writes.faults output_before) (writes.faults output_after) (ended ≡ statuses.Fault) →
+      Fails reads writes looks ended input_before input_after output_before output_after files_before files_after
+  fails_after failed never counts wrote = record {
+    failed = failed_at AtOutput ended;
+    fault = fault_iff AtOutput ended;
+    input_faults = counts_there AtOutput AtInput ended _ _ (λ same. cc) (read counts);
+    output_faults = counts_here AtOutput ended _ _ wrote;
+    files = looked counts;
+    untouched = λ at. absurd (apart (fault_at AtOutput AtFiles ended at).1);
+  }
     where
-      by_fault : status ≡ statuses.Fault →
-          (HasRisen (reads.faults input_before) (reads.faults input_after) × (files_after ≡ files_before) × (output_after ≡ output_before))
-          ⊎ ((HasRisen (looks.faults files_before) (looks.faults files_after) × (reads.faults input_after ≡ reads.faults input_before) × (output_after ≡ output_before))
-          ⊎ (HasRisen (writes.faults output_before) (writes.faults output_after) × (reads.faults input_after ≡ reads.faults input_before) × (looks.faults files_after ≡ looks.faults files_before))) →
-          Fails reads writes looks status input_before input_after output_before output_after files_before files_after
-      by_fault is (inl at) = record {
-        failed = Some AtInput;
-        fault = (λ _. refl, λ _. is);
-        input_faults = counts_risen _ _ _ refl grows.0 at.0;
-        output_faults = counts_still _ _ _ (λ other. cc) (ap writes.faults at.2);
-        files = record { worlds = worlds; pid = pid; faults = counts_still _ _ _ (λ other. cc) (ap looks.faults at.1) };
-        untouched = λ other. cc;
-      }
-      by_fault is (inr (inl at)) = record {
-        failed = Some AtFiles;
-        fault = (λ _. refl, λ _. is);
-        input_faults = counts_still _ _ _ (λ other. cc) at.1;
-        output_faults = counts_still _ _ _ (λ other. cc) (ap writes.faults at.2);
-        files = record { worlds = worlds; pid = pid; faults = counts_risen _ _ _ refl grows.2 at.0 };
-        untouched = λ _. at.2;
-      }
-      by_fault is (inr (inr at)) = record {
-        failed = Some AtOutput;
-        fault = (λ _. refl, λ _. is);
-        input_faults = counts_still _ _ _ (λ other. cc) at.1;
-        output_faults = counts_risen _ _ _ refl grows.1 at.0;
-        files = record { worlds = worlds; pid = pid; faults = counts_still _ _ _ (λ other. cc) at.2 };
-        untouched = λ other. cc;
-      }
+      apart : AtOutput ≡ AtFiles → ⊥
+      apart same = cc
 
-      by_steady : (status ≡ statuses.Fault → ⊥) → (status ≡ statuses.Fault) ⊎ ((reads.faults input_after ≡ reads.faults input_before) × (writes.faults output_after ≡ writes.faults output_before) × (looks.faults files_after ≡ looks.faults files_before)) →
-          Fails reads writes looks status input_before input_after output_before output_after files_before files_after
-      by_steady never (inl is) = absurd (never is)
-      by_steady never (inr same) = record {
-        failed = None;
-        fault = (λ is. absurd (never is), λ some. absurd (false≢true some));
-        input_faults = counts_still _ _ _ (λ at. cc) same.0;
-        output_faults = counts_still _ _ _ (λ at. cc) same.1;
-        files = record { worlds = worlds; pid = pid; faults = counts_still _ _ _ (λ at. cc) same.2 };
-        untouched = λ at. cc;
-      }
+      read : FailsAtOne reads looks failed input_before input_after files_before files_after → reads.faults input_after ≡ reads.faults input_before
+      read (inl (unlooked, counts)) = no_fault _ _ failed never counts
+      read (inr (steady, looked)) = steady
 
-      by_status : (s : Status) → status ≡ s → Fails reads writes looks status input_before input_after output_before output_after files_before files_after
-      by_status statuses.Fault is = by_fault is (fault is)
-      by_status _ is = by_steady (λ failed. cc) steady
+      looked : FailsAtOne reads looks failed input_before input_after files_before files_after → Looked looks files_before files_after (failed_at AtOutput ended ≡ Some AtFiles)
+      looked (inl (unlooked, counts)) = record { worlds = ap looks.worlds unlooked; pid = ap looks.pid unlooked; faults = counts_there AtOutput AtFiles ended _ _ apart (ap looks.faults unlooked) }
+      looked (inr (steady, only)) = record { worlds = only.worlds; pid = only.pid; faults = counts_there AtOutput AtFiles ended _ _ apart (no_fault _ _ failed never only.faults) }
 
 module _ {R W F : Type 0} (reads : input_trait.Ghosts R) (writes : output_trait.Ghosts W) (looks : files_trait.Ghosts F) (status : Status)
     (input_before input_after : R) (output_before output_after : W) (files_before files_after : F)

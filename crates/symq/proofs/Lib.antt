@@ -1,5 +1,6 @@
 mod AnswerTextLemmas
 mod CommandLemmas
+mod EndLemmas
 mod FaultLemmas
 mod InputGrammarLemmas
 mod InputTextLemmas

@@ -1,5 +1,5 @@
 -- What the outcome of a run says of its words, its input and its source.
-use Rattle.std.proofs.Common.{◌≡◌, ℕ, ◌≤◌, Bool, true, false, List, ◌++◌, length, Option, Some, None, Ok, Err, Result, IfOk, IsErr, refl, sym, ap, ◌∙◌, inl, inr, arith, ltb}
+use Rattle.std.proofs.Common.{◌≡◌, ℕ, ◌≤◌, Bool, true, false, List, ◌++◌, length, Option, Some, None, Ok, Err, Result, IsErr, refl, sym, ap, ◌∙◌, inl, inr, arith, ltb}
 use Rattle.std.proofs.lemmas.Bool.{false≢true, le-ltb, lt-ltb, ltb-false, ltb-true}
 use Rattle.bz_base.specs.Answer.{Answer}
 use Rattle.bz_base.specs.declared.error.Error.{Error}
@@ -7,10 +7,8 @@ use Rattle.bz_files.specs.World.{World}
 use Rattle.symq.specs.Commands.{answer_to}
 use Rattle.symq.specs.InputText.{HasBadLine, addresses_in, greatest_input}
 use Rattle.symq.specs.Outcome.{Outcome, run_outcome, by_command, by_length, by_addresses, by_answer}
-use Rattle.symq.specs.Reply.{IsInputReply, IsRunReply}
 use Rattle.symq.specs.Run.{Asks, Ends, IsAnswerable, IsBadInput, IsDone, IsRefusable, IsRefused}
 use Rattle.symq.specs.Words.{Command, command_in}
-use Rattle.symq.specs.declared.program.Reply.{Reply}
 use Rattle.symq.specs.declared.status.Status.{Status}
 use Rattle.symq.specs.declared.status.Status.TheVariants as statuses
 use Rattle.symq.proofs.CommandLemmas.{answers_found, answers_given, cause_found, has_answers, refusal_given}
@@ -26,27 +24,6 @@ module _ (words : List (List ℕ)) (command : Command) (input : List ℕ) (comma
   pub err_from_bad : IsBadInput words input → IsErr (addresses_in input)
   err_from_bad (named, same, inl long) = absurd (omega arith)
   err_from_bad (named, same, inr (n, bad)) = rw (first_bad_again input n bad) refl
-
-  -- so it decides on the reply's status
-  pub input_from_read : (result : Result Reply Error) →
-      IfOk result (λ given. (given.status ≡ statuses.Input → IsErr (addresses_in input)) × (IsErr (addresses_in input) → given.status ≡ statuses.Input)) →
-      IfOk result (λ given. (given.status ≡ statuses.Input → IsBadInput words input) × (IsBadInput words input → given.status ≡ statuses.Input))
-  input_from_read (Ok reply) read = (λ is. bad_from_read (addresses_in input) refl (read.0 is), λ bad. read.1 (err_from_bad bad))
-  input_from_read (Err e) read = tt
-
-  -- the addresses that a reply answers are those that the run is asked for
-  pub some_from_reply : (result : Result Reply Error) → IfOk result (λ given. IsInputReply command input given) → IfOk result (λ given. IsRunReply words input given)
-  some_from_reply (Ok reply) answered = λ done old new written.
-      let given = answered done in
-      record {
-        command = command;
-        addrs = given.0;
-        answers = given.2.answers;
-        asks = record { command_is = command_is; short = short; input_is = addresses_found input given.0 given.1 };
-        answers_are = given.2.answers_are;
-        written = written ∙ ap (λ text. Some (old ++ text)) given.2.text_is;
-      }
-  some_from_reply (Err e) answered = tt
 
 -- a run that asks its source ends by its answer
 abbrev is_asking : Status → Bool

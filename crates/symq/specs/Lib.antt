@@ -4,4 +4,6 @@ pub mod InputText
 pub mod Outcome
 pub mod Reply
 pub mod Run
+pub mod Turns
 pub mod Words
+pub mod Writing

@@ -20,7 +20,13 @@ code_of statuses.Input = 3
 code_of statuses.Fault = 4
 code_of statuses.Memory = 5
 
--- a status, and all that is written
+-- the line that goes to standard error, without its end: where reading or writing failed, or memory ran out
+abbrev pub message_of : Status → Option (List ℕ)
+message_of statuses.Fault = Some (codes "symq: reading or writing failed")
+message_of statuses.Memory = Some (codes "symq: out of memory")
+message_of _ = None
+
+-- a status, and all that is written to standard output
 pub record Outcome : Type 0 where
   pub status : Status
   pub text : List ℕ
@@ -47,9 +53,13 @@ abbrev pub by_addresses : Command → World → Result (List ℕ) ℕ → Outcom
 by_addresses command world (Err n) = bad_line n
 by_addresses command world (Ok addrs) = by_answer addrs (answer_to command addrs world)
 
--- an input that is too long is named before its lines are read
+-- an input that is too long is named as such
+abbrev pub too_long : Outcome
+too_long = record { status = statuses.Input; text = codes "input: too long\n" }
+
+-- and that before its lines are read
 abbrev pub by_length : Command → List ℕ → World → Bool → Outcome
-by_length command input world true = record { status = statuses.Input; text = codes "input: too long\n" }
+by_length command input world true = too_long
 by_length command input world false = by_addresses command world (addresses_in input)
 
 -- the whole input comes first, then the source

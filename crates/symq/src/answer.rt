@@ -4,23 +4,11 @@ ghost use Rattle.std.specs.Prelude.{◌≡◌, ◌++◌, Some, map, option_map, 
 ghost use Rattle.std.specs.Cow.{cow_str_bytes};
 ghost use Rattle.bz_base.specs.Answer.{site_of, call_of, symbol_of, reading};
 ghost use Rattle.bz_base.specs.Answer.Answer.{Unknown};
-ghost use Rattle.symq.specs.AnswerText.{begins_with_slash, last_byte, slash_after, path_text, size_text, module_text, line_text, place_text, end_text, start_text, extent_text, call_text, calls_text, symbol_text, result_text, answer_text, answer_texts};
+ghost use Rattle.symq.specs.AnswerText.{begins_with_slash, last_byte, slash_after, path_text, size_text, module_text, line_text, place_text, end_text, start_text, extent_text, call_text, calls_text, symbol_text, result_text, answer_text};
 
 use bz_base::{CodeInfo, Error, InlinedFn, Reason, Result, Sym, Symbolized};
 use std::alloc::Global;
 use std::borrow::CowStr;
-
-/// The texts of the answers at the addresses, one after the other.
-pub fn texts(alloc: Global, addrs: &[u64], answers: &[Symbolized<'_>]) -> Result<String>
-    ensures ok { IfOk result (λ text. string_bytes text ≡ answer_texts addrs.now (map reading answers.now)) }
-    ensures memory { IsOkUnless result Error.OutOfMemory }
-{
-    let mut text = String::new(alloc);
-    for (addr, answer) in addrs.iter().zip(answers) {
-        push_answer(&mut text, *addr, answer)?;
-    }
-    Ok(text)
-}
 
 /// The text of the answer at an address.
 pub fn answer_text(alloc: Global, addr: u64, answer: &Symbolized<'_>) -> Result<String>
@@ -32,7 +20,8 @@ pub fn answer_text(alloc: Global, addr: u64, answer: &Symbolized<'_>) -> Result<
     Ok(text)
 }
 
-fn push_answer(text: &mut String, addr: u64, answer: &Symbolized<'_>) -> Result<()>
+/// Puts the text of the answer at an address to the end of a text.
+pub fn push_answer(text: &mut String, addr: u64, answer: &Symbolized<'_>) -> Result<()>
     ensures ok { OnOk result (string_bytes text.new ≡ string_bytes text.old ++ answer_text addr (reading answer.now)) }
     ensures memory { IsOkUnless result Error.OutOfMemory }
 {

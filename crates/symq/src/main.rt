@@ -6,6 +6,7 @@ mod input;
 mod laws;
 mod output;
 mod program;
+mod reply;
 mod status;
 #[cfg(test)]
 mod tests;
@@ -18,7 +19,12 @@ use std::process::ExitCode;
 use std::{env, io};
 
 fn main(rt: HostRuntime) -> ExitCode {
-    ExitCode::from(run_real(&rt).code())
+    let status = run_real(&rt);
+    if let Some(message) = status.message() {
+        // The status says it too, so a message that can't be written is let go.
+        let _unwritten = eprintln!(rt; "{message}");
+    }
+    ExitCode::from(status.code())
 }
 
 // Runs the program over the real files and the standard streams.

@@ -1,38 +1,72 @@
 //! The output.
 
-ghost use Rattle.std.specs.Prelude.{◌≡◌, ◌++◌, [], Some, OnOk, OnErr, IsErrOf};
-ghost use Rattle.bz_files.specs.Count.{CountsFaults};
-ghost use Rattle.bz_files.specs.World.{Told};
-ghost use Rattle.symq.specs.Reply.{outcome_of};
-ghost use Rattle.symq.specs.Run.{Ends, WritesFront, IsNoFailure, IsOrFails};
+ghost use Rattle.std.specs.Prelude.{map};
+ghost use Rattle.bz_base.specs.Answer.{reading};
+ghost use Rattle.symq.specs.AnswerText.{answer_texts};
+ghost use Rattle.symq.specs.Reply.{outcome_of, text_of};
+ghost use Rattle.symq.specs.Run.{IsNoFailure};
+ghost use Rattle.symq.specs.Writing.{Finishes, WritesText};
 
-use crate::program::Reply;
+use crate::answer::push_answer;
+use crate::reply::{Reply, Said};
 use crate::status::Status;
+use bz_base::Symbolized;
 use bz_files::{IoFault, TextOut};
+use std::alloc::Global;
+
+/// How long the texts of answers grow, in bytes, before they are written.
+const PIECE: usize = 65_536;
 
 /// Writes the reply, and ends with its status.
-pub fn finish<W: TextOut>(output: &mut W, reply: &Reply) -> Status
+pub fn finish<W: TextOut>(alloc: Global, output: &mut W, reply: &Reply) -> Status
     requires no_failure { IsNoFailure reply.now.status }
-    ensures ends { Told (W.written output.old) (λ old. Ends (outcome_of reply.now) old result (W.written output.new)) }
-    ensures done { result ≡ Status.Done → reply.now.status ≡ Status.Done }
-    ensures whole { result ≡ Status.Done → Told (W.written output.old) (λ old. W.written output.new ≡ Some (old ++ (outcome_of reply.now).text)) }
-    ensures silent { (outcome_of reply.now).text ≡ [] → output.new ≡ output.old }
-    ensures status { IsOrFails reply.now.status result }
-    ensures faults { CountsFaults (W.faults output.old) (W.faults output.new) (result ≡ Status.Fault) }
+    ensures { Finishes W.TextOut (outcome_of reply.now) result output.old output.new }
 {
-    match write_all(output, reply.text.as_str().as_bytes()) {
+    match write_said(alloc, output, &reply.said) {
         Ok(()) => reply.status,
         Err(IoFault::Fault) => Status::Fault,
         Err(IoFault::OutOfMemory) => Status::Memory,
     }
 }
 
-// Writes the whole text, in as many pieces as it takes.
+fn write_said<W: TextOut>(alloc: Global, output: &mut W, said: &Said) -> Result<(), IoFault>
+    ensures { WritesText W.TextOut (text_of said.now) result output.old output.new }
+{
+    match said {
+        Said::Text(text) => write_all(output, text.as_str().as_bytes()),
+        Said::Answers(addrs, answers) => {
+            write_answers(alloc, output, addrs.as_slice(), answers.as_slice())
+        }
+    }
+}
+
+// Writes the texts of the answers at the addresses, one after the other. However many there are, only
+// a piece of their texts is in memory.
+fn write_answers<W: TextOut>(
+    alloc: Global,
+    output: &mut W,
+    addrs: &[u64],
+    answers: &[Symbolized<'_>],
+) -> Result<(), IoFault>
+    ensures { WritesText W.TextOut (answer_texts addrs.now (map reading answers.now)) result output.old output.new }
+{
+    let mut piece = String::new(alloc);
+    for (addr, answer) in addrs.iter().zip(answers) {
+        let Ok(()) = push_answer(&mut piece, *addr, answer) else {
+            return Err(IoFault::OutOfMemory);
+        };
+        if piece.len() >= PIECE {
+            write_all(output, piece.as_str().as_bytes())?;
+            // The next piece is made in the same memory.
+            piece.clear();
+        }
+    }
+    write_all(output, piece.as_str().as_bytes())
+}
+
+// Writes the whole text, in as many calls as it takes.
 fn write_all<W: TextOut>(output: &mut W, text: &[u8]) -> Result<(), IoFault>
-    ensures whole { Told (W.written output.old) (λ old. OnOk result (W.written output.new ≡ Some (old ++ text.now))) }
-    ensures silent { text.now ≡ [] → output.new ≡ output.old }
-    ensures front { Told (W.written output.old) (λ old. OnErr result (WritesFront text.now old (W.written output.new))) }
-    ensures faults { CountsFaults (W.faults output.old) (W.faults output.new) (IsErrOf result IoFault.Fault) }
+    ensures { WritesText W.TextOut text.now result output.old output.new }
 {
     let mut rest = text;
     while !rest.is_empty() {

@@ -1,7 +1,7 @@
 //! How a run ends.
 
-ghost use Rattle.std.specs.Prelude.{◌≡◌};
-ghost use Rattle.symq.specs.Outcome.{code_of};
+ghost use Rattle.std.specs.Prelude.{◌≡◌, option_map};
+ghost use Rattle.symq.specs.Outcome.{code_of, message_of};
 
 /// How a run ended.
 #[derive(Clone, Copy, Debug, PartialEq, Eq)]
@@ -32,6 +32,17 @@ impl Status {
             Status::Input => 3,
             Status::Fault => 4,
             Status::Memory => 5,
+        }
+    }
+
+    /// The line that goes to standard error, without its end; none where standard output says why.
+    pub fn message(&self) -> Option<&'static str>
+        ensures { option_map (λ text. text.now) result ≡ message_of self.now }
+    {
+        match self {
+            Status::Fault => Some("symq: reading or writing failed"),
+            Status::Memory => Some("symq: out of memory"),
+            _ => None,
         }
     }
 }

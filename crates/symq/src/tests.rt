@@ -59,7 +59,8 @@ fn over_first<'a>(path: &'a str, input: &'a str, status: Status, written: &'a st
     }
 }
 
-fn check(rt: &impl Abort, alloc: Global, row: Row<'_>) -> Result<(), Fail> {
+/// How the run ends, and what it writes.
+fn ending(alloc: Global, row: Row<'_>) -> Result<(Status, Vec<u8>), Fail> {
     let words = vec![in alloc;
         String::from_str(alloc, "breakpad")?,
         String::from_str(alloc, row.path)?,
@@ -72,9 +73,14 @@ fn check(rt: &impl Abort, alloc: Global, row: Row<'_>) -> Result<(), Fail> {
     let mut to = MemOut::new(alloc);
     to.fail_call(row.faults.2);
     let ended = run(alloc, words.as_slice(), &mut from, &mut to, &mut files);
+    Ok((ended, to.written().to_vec(alloc)?))
+}
+
+fn check(rt: &impl Abort, alloc: Global, row: Row<'_>) -> Result<(), Fail> {
+    let (ended, text) = ending(alloc, row)?;
     let written = row.written;
     assert!(rt;
-        ended == row.status && to.written() == written.as_bytes(),
+        ended == row.status && text.as_slice() == written.as_bytes(),
         "{written}"
     );
     Ok(())
@@ -176,4 +182,47 @@ fn reads_the_longest_input(rt: HostRuntime) -> Result<(), Fail> {
     let mut row = over_first("/a.sym", "", Status::Input, "input: too long\n");
     row.input = input.as_slice();
     check(&rt, alloc, row)
+}
+
+/// One function, and more addresses of it than have their answers written at a time.
+const WIDE: &str = "FUNC 0 bb8 0 f\n";
+
+/// The addresses from 0 on, and the texts of their answers.
+fn many_answers(alloc: Global) -> Result<(String, String), Fail> {
+    let mut input = String::new(alloc);
+    let mut written = String::new(alloc);
+    for addr in 0..2500u64 {
+        write!(input, "{addr:x}\n")?;
+        write!(written, "0x{addr:x}: f+0x{addr:x} start 0x0 ")?;
+        written.push_str("size 0xbb8 module - at -\n")?;
+    }
+    Ok((input, written))
+}
+
+/// Answers that are written in several pieces, whole and in order.
+#[test]
+fn writes_many_answers(rt: HostRuntime) -> Result<(), Fail> {
+    let alloc = rt.alloc();
+    let (input, written) = many_answers(alloc)?;
+    let mut row = over_first("/a.sym", input.as_str(), Status::Done, written.as_str());
+    row.file = WIDE;
+    check(&rt, alloc, row)
+}
+
+/// Where the second piece can't be written, the first one was.
+#[test]
+fn keeps_the_piece_before_a_fault(rt: HostRuntime) -> Result<(), Fail> {
+    let alloc = rt.alloc();
+    let (input, written) = many_answers(alloc)?;
+    let mut row = over_first("/a.sym", input.as_str(), Status::Fault, written.as_str());
+    row.file = WIDE;
+    row.faults = (0, 0, 2);
+    let (ended, front) = ending(alloc, row)?;
+    assert!(rt;
+        ended == Status::Fault
+            && !front.is_empty()
+            && front.len() < written.len()
+            && written.as_str().as_bytes().starts_with(front.as_slice())
+    );
+    Ok(())
 }

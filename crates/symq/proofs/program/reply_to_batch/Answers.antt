@@ -7,4 +7,5 @@ use Rattle.symq.proofs.program.reply_to_batch.Goals as goal
 -- the call was refused
 pub returns-in-Err-clause-reply : goal.returns-in-Err-clause-reply
 returns-in-Err-clause-reply g c world told =
-    replies_refused (λ (answers : Vec Symbolized Global). map reading answers.items) c.args.addrs.now _ c.in-Err.error c.refusal.result (c.in-Err.ensures.answer world told) c.refusal.ensures.reply
+    let refused = rw c.as_slice.ensures.value at (c.in-Err.ensures.answer world told) in
+    replies_refused (λ (answers : Vec Symbolized Global). map reading answers.items) c.args.addrs.items _ c.in-Err.error c.refusal.result refused c.refusal.ensures.reply

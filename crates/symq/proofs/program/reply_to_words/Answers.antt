@@ -1,52 +1,34 @@
-use Rattle.std.proofs.Common.{◌≡◌, ◌≤◌, length, map, string_bytes, refl, sym, ap, inl, inr, ◌∙◌, arith}
+use Rattle.std.proofs.Common.{◌≤◌, length, map, string_bytes, sym, refl, inr, arith, rules}
 use Rattle.symq.specs.InputText.{greatest_input}
-use Rattle.symq.specs.Outcome.{Outcome}
 use Rattle.symq.specs.Words.{command_of}
 use Rattle.symq.proofs.InputTextLemmas.{over_at_end}
-use Rattle.symq.proofs.ReplyLemmas.{given_always}
-use Rattle.symq.proofs.RunLemmas.{err_from_bad, input_from_read, some_from_reply}
+use Rattle.symq.proofs.ReplyLemmas.{given_always, words_from_input, words_from_long}
+use Rattle.symq.proofs.RunLemmas.{err_from_bad}
 use Rattle.symq.proofs.program.reply_to_words.Goals as goal
 
--- the input was read whole, and whether it is addresses decides
-pub returns-in-Ok-clause-input : goal.returns-in-Ok-clause-input
-returns-in-Ok-clause-input g c text left =
-    let whole : c.as_slice.result.now ≡ text = c.as_slice.ensures.value ∙ c.in-Ok.ensures.whole text left in
-    let few : length c.as_slice.result.now ≤ greatest_input = omega (arith, c.as_slice.ensures.len, c.in-Ok.ensures.short) in
-    let short = rw whole at few in
-    let read = rw whole at c.reply_to_input.ensures.input in
-    input_from_read (map string_bytes c.args.words.now) (command_of c.in-Some.command) text (sym c.in-Some.ensures) short c.reply_to_input.result read
+-- the input was read whole, and the reply to it is the reply to the words
+pub returns-in-Ok-clause-reply : goal.returns-in-Ok-clause-reply
+returns-in-Ok-clause-reply g c =
+    let short : length c.in-Ok.text.items ≤ greatest_input = omega (arith, c.in-Ok.text.ok.0, c.in-Ok.ensures.short) in
+    words_from_input (map string_bytes c.args.words.now) (command_of c.in-Some.command) c.in-Ok.text.items (sym c.in-Some.ensures) short _ _ c.reply_to_input.result
+    c.in-Ok.ensures.whole c.reply_to_input.ensures.reply c.reply_to_input.ensures.answered c.reply_to_input.ensures.status
 
--- the addresses that are answered are its own
-pub returns-in-Ok-clause-answered : goal.returns-in-Ok-clause-answered
-returns-in-Ok-clause-answered g c text left =
-    let whole : c.as_slice.result.now ≡ text = c.as_slice.ensures.value ∙ c.in-Ok.ensures.whole text left in
-    let few : length c.as_slice.result.now ≤ greatest_input = omega (arith, c.as_slice.ensures.len, c.in-Ok.ensures.short) in
-    let short = rw whole at few in
-    let answered = rw whole at c.reply_to_input.ensures.answered in
-    some_from_reply (map string_bytes c.args.words.now) (command_of c.in-Some.command) text (sym c.in-Some.ensures) short c.reply_to_input.result answered
+-- words, input and files in their turn
+pub returns-in-Ok-clause-turns : goal.returns-in-Ok-clause-turns
+returns-in-Ok-clause-turns g c =
+    let short : length c.in-Ok.text.items ≤ greatest_input = omega (arith, c.in-Ok.text.ok.0, c.in-Ok.ensures.short) in
+    let words = map string_bytes c.args.words.now in
+    record {
+      unread = search rules;
+      unlooked = λ text left bad. c.reply_to_input.ensures.unlooked
+          (err_from_bad words (command_of c.in-Some.command) c.in-Ok.text.items (sym c.in-Some.ensures) short (rw (c.in-Ok.ensures.whole text left) bad));
+      read = given_always c.reply_to_input.result (λ command given. over_at_end _ _ c.in-Ok.text.items short c.in-Ok.ensures.whole c.in-Ok.ensures.end);
+      bounded = c.in-Ok.ensures.bounded;
+      order = inr (λ command given. over_at_end _ _ c.in-Ok.text.items short c.in-Ok.ensures.whole c.in-Ok.ensures.end);
+    }
 
--- an input that is no addresses leaves the files alone
-pub returns-in-Ok-clause-unlooked : goal.returns-in-Ok-clause-unlooked
-returns-in-Ok-clause-unlooked g c text left bad =
-    let whole : c.as_slice.result.now ≡ text = c.as_slice.ensures.value ∙ c.in-Ok.ensures.whole text left in
-    let few : length c.as_slice.result.now ≤ greatest_input = omega (arith, c.as_slice.ensures.len, c.in-Ok.ensures.short) in
-    let short = rw whole at few in
-    let none = err_from_bad (map string_bytes c.args.words.now) (command_of c.in-Some.command) text (sym c.in-Some.ensures) short bad in
-    c.reply_to_input.ensures.unlooked (rw whole none)
-
--- an input that is too long is a bad one
-pub returns-in-Err-TooLong-clause-input : goal.returns-in-Err-TooLong-clause-input
-returns-in-Err-TooLong-clause-input g c text left =
+-- the input is too long
+pub returns-in-Err-TooLong-clause-reply : goal.returns-in-Err-TooLong-clause-reply
+returns-in-Err-TooLong-clause-reply g c =
     let long = rw (c.in-Err-TooLong.field-0-is) at c.in-Err-TooLong.ensures.long in
-    (λ is. (command_of c.in-Some.command, sym c.in-Some.ensures, inl (long text left refl)), λ bad. ap (λ (o : Outcome). o.status) c.said-in-Err-TooLong.ensures)
-
--- the input was read to its end
-pub returns-in-Ok-clause-read : goal.returns-in-Ok-clause-read
-returns-in-Ok-clause-read g c =
-    let few : length c.in-Ok.text.items ≤ greatest_input = omega (arith, c.in-Ok.text.ok.0, c.in-Ok.ensures.short) in
-    given_always c.reply_to_input.result (λ command given. over_at_end _ _ c.in-Ok.text.items few c.in-Ok.ensures.whole c.in-Ok.ensures.end)
-
-pub returns-in-Ok-clause-order : goal.returns-in-Ok-clause-order
-returns-in-Ok-clause-order g c =
-    let few : length c.in-Ok.text.items ≤ greatest_input = omega (arith, c.in-Ok.text.ok.0, c.in-Ok.ensures.short) in
-    inr (λ command given. over_at_end _ _ c.in-Ok.text.items few c.in-Ok.ensures.whole c.in-Ok.ensures.end)
+    words_from_long (map string_bytes c.args.words.now) (command_of c.in-Some.command) (sym c.in-Some.ensures) _ _ _ (λ text left. long text left refl) c.stored_reply-in-Err-TooLong.ensures

@@ -3,6 +3,7 @@ use Rattle.bz_base.specs.Answer.{Answer, reading}
 use Rattle.bz_base.specs.declared.types.Symbolized.{Symbolized}
 use Rattle.symq.specs.Words.{command_of}
 use Rattle.symq.proofs.CommandLemmas.{answer_new, of_any_file, opened_by_command, some_from_kept}
+use Rattle.symq.proofs.ReplyLemmas.{given_from_ok}
 use Rattle.symq.proofs.program.symbolize.Goals as goal
 
 abbrev read : Vec Symbolized Global → List Answer
@@ -20,12 +21,11 @@ returns-clause-answered g c =
     let kept = rw c.input_for.ensures at c.symbolize.ensures.kept in
     some_from_kept read (command_of c.args.command.now) c.in_ok-src.src c.args.addrs _ c.symbolize.result c.in_ok-src.ensures.ok kept
 
--- one file at most was read
-pub returns-clause-most : goal.returns-clause-most
-returns-clause-most g c = of_any_file c.in_ok-src.src _ c.symbolize.ensures.most
-
--- and the file whose answers are given was
-pub returns-clause-opened : goal.returns-clause-opened
-returns-clause-opened g c world told =
-    let opened = rw (c.new.ensures, c.input_for.ensures) at ((c.symbolize.ensures.told world told).opened) in
-    opened_by_command read (command_of c.args.command.now) c.in_ok-src.src c.args.addrs world _ _ c.symbolize.result c.in_ok-src.ensures.ok (returns-clause-answer g c world told) opened
+-- one file at most was read, and where answers are given one was
+pub returns-clause-opens : goal.returns-clause-opens
+returns-clause-opens g c = record {
+  most = of_any_file c.in_ok-src.src _ c.symbolize.ensures.most;
+  opened = λ world told.
+      let opened = rw (c.new.ensures, c.input_for.ensures) at ((c.symbolize.ensures.told world told).opened) in
+      given_from_ok c.symbolize.result _ (opened_by_command read (command_of c.args.command.now) c.in_ok-src.src c.args.addrs world _ _ c.symbolize.result c.in_ok-src.ensures.ok (returns-clause-answer g c world told) opened);
+}
