@@ -99,7 +99,7 @@ module _ {X Y : Type 0} (depth start size : X → ℕ) (view : Y → X) where
 
   module _ (records : List X) (table : List Y) (is : IsTable depth start records (map view table)) (addr : ℕ) where
     -- at each depth table and list have the same record around the address
-    step_seen : (at : ℕ) →
+    pub step_seen : (at : ℕ) →
         option_map view (around (λ z. depth (view z)) (λ z. start (view z)) (λ z. size (view z)) addr (inner (λ z. depth (view z)) (λ z. start (view z)) at addr table)) ≡ around depth start size addr (inner depth start at addr records)
     step_seen at = around_seen addr (inner (λ z. depth (view z)) (λ z. start (view z)) at addr table) ∙ ap (around depth start size addr) (inner_seen at addr table ∙ inner_of_table depth start records (map view table) is at addr)
 

@@ -59,7 +59,7 @@ pub fn chain_in<'t, T: Nested>(
     let mut found = Vec::new(alloc);
     let mut depth = 0;
     while depth < u32::MAX {
-        match around(table, depth, addr) {
+        match around_in(table, depth, addr) {
             Some(entry) => found.push(entry)?,
             None => return Ok(found),
         }
@@ -68,8 +68,8 @@ pub fn chain_in<'t, T: Nested>(
     Ok(found)
 }
 
-/// The record around the address at a depth.
-fn around<T: Nested>(table: &[T], depth: u32, addr: Addr) -> Option<&T>
+/// The record at a depth that has the address inside, of a table by depth and start.
+pub fn around_in<T: Nested>(table: &[T], depth: u32, addr: Addr) -> Option<&T>
     ensures { (records : List T) → IsTable T.depth T.start records table.now →
         option_map (λ r. r.now) result ≡ around T.depth T.start T.size addr (inner T.depth T.start depth addr records) }
 {

@@ -19,7 +19,7 @@ mod text;
 mod types;
 
 pub use batch::in_batch;
-pub use chain::{Nested, chain_in, inner_in, sort_nested};
+pub use chain::{Nested, around_in, chain_in, inner_in, sort_nested};
 pub use error::{Error, ErrorKind, Result};
 pub use input::Input;
 pub use number::{decimal, hex, whole_decimal, whole_hex};

@@ -7,12 +7,12 @@ use Rattle.std.proofs.Math.Seq.{drop-cons}
 use Rattle.std.proofs.lemmas.List.{reverse-append, map-append}
 use Rattle.std.proofs.lemmas.Simd.{map-map}
 use Rattle.bz_base.specs.Answer.{Call, Site}
-use Rattle.bz_base.specs.Chain.{chain}
+use Rattle.bz_base.specs.Chain.{around, chain, inner}
 use Rattle.bz_base.specs.Nearest.{IsTable}
-use Rattle.bz_base.proofs.ChainLemmas.{chain_through}
+use Rattle.bz_base.proofs.ChainLemmas.{chain_through, step_seen}
 use Rattle.bz_base.proofs.ViewLemmas.{table_itself, table_seen}
 use Rattle.bz_breakpad.specs.Kept.{kept_inlinee}
-use Rattle.bz_breakpad.specs.Plain.{calls_around, seen_from, seen_outside, site_in}
+use Rattle.bz_breakpad.specs.Plain.{calls_around, inlinee_at, seen_from, seen_outside, site_in}
 use Rattle.bz_breakpad.specs.Reads.{◌>>=◌}
 use Rattle.bz_breakpad.specs.Table.{Inlinee, SourceLine, Table}
 use Rattle.bz_breakpad.specs.declared.types.Inlinee.{Inlinee as KeptInlinee}
@@ -27,6 +27,16 @@ calls_through standing table is addr found finds =
     sym (map-map kept_inlinee (λ (r : Bor KeptInlinee). r.now) found)
     ∙ ap (map kept_inlinee) (finds table (table_itself (λ (i : Inlinee). i.depth) (λ i. i.start) kept_inlinee (map kept_inlinee standing) table seen))
     ∙ chain_through (λ (i : Inlinee). i.depth) (λ i. i.start) (λ i. i.size) kept_inlinee (map kept_inlinee standing) table seen addr
+
+-- and so is the one of a depth
+pub inlinee_through : (standing table : List KeptInlinee) → IsTable (λ i. i.depth) (λ i. i.addr) standing table → (depth addr : ℕ) (found : Option KeptInlinee) →
+    ((records : List KeptInlinee) → IsTable (λ i. i.depth) (λ i. i.addr) records table →
+    found ≡ around (λ i. i.depth) (λ i. i.addr) (λ i. i.size) addr (inner (λ i. i.depth) (λ i. i.addr) depth addr records)) →
+    option_map kept_inlinee found ≡ inlinee_at depth addr (map kept_inlinee standing)
+inlinee_through standing table is depth addr found finds =
+    let seen = table_seen (λ (i : Inlinee). i.depth) (λ i. i.start) kept_inlinee standing table is in
+    ap (option_map kept_inlinee) (finds table (table_itself (λ (i : Inlinee). i.depth) (λ i. i.start) kept_inlinee (map kept_inlinee standing) table seen))
+    ∙ step_seen (λ (i : Inlinee). i.depth) (λ i. i.start) (λ i. i.size) kept_inlinee (map kept_inlinee standing) table seen addr depth
 
 none_then : {A B : Type 0} (o : Option A) (f : A → Option B) → o ≡ None → (o >>= f) ≡ None
 none_then None f is = refl

@@ -2,7 +2,7 @@
 use Rattle.std.specs.Prelude.{ℕ, ◌-◌, List, [], ◌∷◌, map, Option, Some, None, option_map, Result, Ok, Err}
 use Rattle.bz_base.specs.Answer.{Site, Call, Symbol, Answer, in_batch}
 use Rattle.bz_base.specs.Answer.Answer.{Known, Unknown}
-use Rattle.bz_base.specs.Chain.{chain}
+use Rattle.bz_base.specs.Chain.{around, chain, inner}
 use Rattle.bz_base.specs.Nearest.{nearest_covering}
 use Rattle.bz_base.specs.Path.{split}
 use Rattle.bz_base.specs.declared.error.Error.{Error}
@@ -34,6 +34,11 @@ line_at addr lines = nearest_covering (λ l. l.start) (λ l. l.size) addr lines
 -- the calls that were inlined around the address, the outermost first
 abbrev pub calls_around : ℕ → List Inlinee → List Inlinee
 calls_around addr inlinees = chain (λ i. i.depth) (λ i. i.start) (λ i. i.size) inlinees addr
+
+-- the one of a depth, if it has the address inside
+abbrev pub inlinee_at : ℕ → ℕ → List Inlinee → Option Inlinee
+inlinee_at depth addr inlinees =
+    around (λ i. i.depth) (λ i. i.start) (λ i. i.size) addr (inner (λ i. i.depth) (λ i. i.start) depth addr inlinees)
 
 -- those of them that are asked for
 abbrev pub calls_asked : FindSymOpts → ℕ → List Inlinee → List Inlinee

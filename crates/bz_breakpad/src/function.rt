@@ -1,9 +1,18 @@
 //! A function of a Breakpad file.
 
-ghost use Rattle.std.specs.Prelude.{◌≡◌};
-ghost use Rattle.bz_breakpad.specs.Kept.{IsTextAt, text_at};
+ghost use Rattle.std.specs.Prelude.{◌≡◌, List, map, option_map, IfOk, IsOkUnless};
+ghost use Rattle.bz_base.specs.Chain.{around, inner};
+ghost use Rattle.bz_base.specs.Nearest.{IsTable};
+ghost use Rattle.bz_base.specs.declared.error.Error.{Error};
+ghost use Rattle.bz_breakpad.specs.Kept.{IsTextAt, kept_inlinee, text_at};
+ghost use Rattle.bz_breakpad.specs.Lent.{line_seen};
+ghost use Rattle.bz_breakpad.specs.Plain.{calls_around, inlinee_at, line_at};
+ghost use Rattle.bz_breakpad.specs.declared.types.Inlinee.{Inlinee as KeptInlinee};
 
-use crate::types::{FunctionTable, KeptFunction, Part};
+use crate::places::{calls_around, inlinees_searched, line_of};
+use crate::types::{FunctionTable, Inlinee, KeptFunction, Part, SourceLine};
+use bz_base::{Addr, Error, Result, around_in};
+use std::alloc::Global;
 use std::marker::Model;
 
 /// A function of a file, which lends its name. Contracts see the function with its lines and
@@ -55,6 +64,54 @@ impl<'a> Function<'a> {
     {
         text_of(self.bytes, &self.kept.name)
     }
+
+    /// The line record that answers for an address, which is relative to the module's base.
+    pub fn find_line(&self, addr: Addr) -> Option<SourceLine>
+        ensures { option_map line_seen result ≡ line_at addr self.now.lines }
+    {
+        line_of(self.bytes, self.code, self.kept, addr)
+    }
+
+    /// The inlined call of a depth that has an address inside, which is relative to the module's
+    /// base. Depth 0 is the outermost.
+    pub fn find_inlinee_at_depth(&self, depth: u32, addr: Addr) -> Option<Inlinee>
+        ensures { option_map kept_inlinee result ≡ inlinee_at depth addr self.now.inlinees }
+    {
+        inlinee_at(inlinees_searched(self.code, self.kept), depth, addr)
+    }
+
+    /// The inlined calls around an address, which is relative to the module's base, the outermost
+    /// first.
+    pub fn find_inlinees(&self, alloc: Global, addr: Addr) -> Result<Vec<Inlinee>>
+        ensures calls { IfOk result (λ calls. map kept_inlinee calls.items ≡ calls_around addr self.now.inlinees) }
+        ensures memory { IsOkUnless result Error.OutOfMemory }
+    {
+        let lent = calls_around(alloc, self.bytes, self.code, self.kept, addr)?;
+        copies_of(alloc, &lent)
+    }
+}
+
+/// The inlined call of a depth that has the address inside, of calls in order.
+fn inlinee_at(inlinees: &[Inlinee], depth: u32, addr: Addr) -> Option<Inlinee>
+    ensures { (records : List KeptInlinee) → IsTable (λ i. i.depth) (λ i. i.addr) records inlinees.now →
+        result ≡ around (λ i. i.depth) (λ i. i.addr) (λ i. i.size) addr (inner (λ i. i.depth) (λ i. i.addr) depth addr records) }
+{
+    match around_in(inlinees, depth, addr) {
+        Some(inlinee) => Some(*inlinee),
+        None => None,
+    }
+}
+
+/// The inlined calls, without the loan.
+fn copies_of(alloc: Global, lent: &[&Inlinee]) -> Result<Vec<Inlinee>>
+    ensures calls { IfOk result (λ calls. calls.items ≡ map (λ call. call.now) lent.now) }
+    ensures memory { IsOkUnless result Error.OutOfMemory }
+{
+    let mut calls = Vec::with_capacity(alloc, lent.len())?;
+    for call in lent {
+        calls.push(**call)?;
+    }
+    Ok(calls)
 }
 
 /// The text at a part of the bytes.

@@ -19,4 +19,4 @@ mod version;
 pub use file::{SymbolFile, SymbolParser};
 pub use function::Function;
 pub use lookups::Lookups;
-pub use types::PublicSymbol;
+pub use types::{Inlinee, PublicSymbol, SourceLine};

@@ -92,7 +92,7 @@ fn nowhere<'f>(alloc: Global) -> Placed<'f>
 }
 
 /// The line record of the function that answers for the address.
-fn line_of(
+pub(crate) fn line_of(
     bytes: &[u8],
     code: &FunctionTable,
     function: &KeptFunction,
@@ -127,7 +127,7 @@ fn calls_asked<'f>(
 }
 
 /// The calls that were inlined around the address, the outermost first.
-fn calls_around<'f>(
+pub(crate) fn calls_around<'f>(
     alloc: Global,
     bytes: &[u8],
     code: &'f FunctionTable,
@@ -141,7 +141,10 @@ fn calls_around<'f>(
 }
 
 /// The inlined calls of a function, in the order in which they are searched.
-fn inlinees_searched<'f>(code: &'f FunctionTable, function: &KeptFunction) -> &'f [Inlinee]
+pub(crate) fn inlinees_searched<'f>(
+    code: &'f FunctionTable,
+    function: &KeptFunction,
+) -> &'f [Inlinee]
     requires part { IsPart (length code.now.inlinees.items) function.now.inlinees }
     requires searched { AreInlineesSearched code.now.inlinees.items code.now.inlinee_copies.items function.now.inlinees function.now.inlinee_order }
     ensures { result.now ≡ searched code.now.inlinees.items function.now.inlinees code.now.inlinee_copies.items function.now.inlinee_order }

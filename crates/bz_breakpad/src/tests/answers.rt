@@ -2,7 +2,7 @@
 
 ghost use Rattle.std.specs.Prelude.{◌≡◌, ◌<◌};
 
-use crate::tests::file_of;
+use crate::tests::{file_of, function_of};
 use crate::{Function, SymbolFile};
 use bz_base::{Error, FindSymOpts, Reason, Steps, Symbolized};
 use std::alloc::Global;
@@ -104,19 +104,6 @@ fn answers_by_the_nearest_function(rt: HostRuntime) -> Result<(), Fail> {
 
 /// A function's name, start, size and size of the parameters.
 type Told<'a> = (&'a str, u64, u32, u32);
-
-fn sought<'a, L: Ledger>(blank: Blank, file: &'a SymbolFile, addr: u64) -> Option<Function<'a>>
-    requires name { blank.name ≡ L.name }
-    requires parts { blank.parts ≡ L.parts }
-    requires some { 0 < L.parts }
-{
-    let mut steps = Steps::<L>::new(blank);
-    file.find_function(addr, &mut steps)
-}
-
-fn function_of<'a>(file: &'a SymbolFile, addr: u64) -> Option<Function<'a>> {
-    sought::<Brand>(Blank::new(1), file, addr)
-}
 
 /// What a function tells.
 fn told(found: Option<Function<'_>>) -> Option<Told<'_>> {

@@ -1,4 +1,4 @@
-use Rattle.bz_breakpad.proofs.tests.answers.function_of.Given as goal
+use Rattle.bz_breakpad.proofs.tests.function_of.Given as goal
 
 abbrev pub ghosts-sought : goal.ghosts-sought
 ghosts-sought a = record { name = a.blank.name; parts = a.blank.parts }
