@@ -5,5 +5,6 @@ pub mod Format
 pub mod InsertMap
 pub mod InsertMapLoan
 pub mod Look
+pub mod Steps
 pub mod Store
 pub mod View

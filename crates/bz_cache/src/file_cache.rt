@@ -7,7 +7,8 @@ ghost use Rattle.bz_cache.specs.Eviction.{evicted, evicts};
 ghost use Rattle.bz_files.specs.Looked.{Faulted, Looked, ReadsOne};
 ghost use Rattle.bz_files.specs.World.{Told, in_view, entry_at};
 ghost use Rattle.bz_cache.specs.Format.{Comes, MayFail};
-ghost use Rattle.bz_cache.specs.Look.{named, look, by_entry, is_new, will_open, opens_after, IsUnmoved, IsSomeEntry, IsSomeLook, Lends};
+ghost use Rattle.bz_cache.specs.Look.{named, look, by_entry, is_new, will_open, opens_after, IsUnmoved, Lends};
+ghost use Rattle.bz_cache.specs.Steps.{LeavesCache, ReadsFile};
 ghost use Rattle.bz_cache.specs.View.{fixed, bytes_at};
 
 use crate::version::Version;
@@ -198,19 +199,10 @@ impl<T: Version + Drop> FileCache<T> {
     // The stamp of the version that the path answers by.
     fn look<F: Files>(&mut self, alloc: Global, files: &mut F, path: &str) -> Result<Stamp>
         ensures answer { Told (in_view (F.worlds files.old)) (λ w. Comes (bytes_at self.new) (look T.test self.old path.now (entry_at w path.now)).0 result) }
-        ensures ok { Told (in_view (F.worlds files.old)) (λ w. OnOk result (self.new ≡ (look T.test self.old path.now (entry_at w path.now)).1)) }
-        ensures err { OnErr result (self.new ≡ self.old) }
-        ensures current { IfOk result (λ stamp. current_of self.new path.now ≡ Some stamp) }
-        ensures consistent { OnOk result (Consistent T.test self.new) }
-        ensures some { IfOk result (λ stamp. IsSomeLook T.test self.old self.new path.now (bytes_at self.new stamp)) }
-        ensures sure { IsSome (fixed self.old path.now) → IsOk result }
-        ensures unseen { IsSome (fixed self.old path.now) → files.new ≡ files.old }
-        ensures unchanged { IsSome (fixed self.old path.now) → self.new ≡ self.old }
+        ensures cache { LeavesCache T.test (look T.test self.old path.now) path.now result self.old self.new (in_view (F.worlds files.old)) }
+        ensures fixed { IsSome (fixed self.old path.now) → IsOk result × (self.new ≡ self.old) × (files.new ≡ files.old) }
         ensures unmoved { Told (in_view (F.worlds files.old)) (λ w. IsUnmoved self.old path.now (entry_at w path.now) → IsOkUnless result Error.ReadFault) }
-        ensures opened { Told (in_view (F.worlds files.old)) (λ w. OnOk result (F.opens files.new ≡ opens_after (will_open self.old path.now (entry_at w path.now)) (F.opens files.old))) }
-        ensures spared { Told (in_view (F.worlds files.old)) (λ w. will_open self.old path.now (entry_at w path.now) ≡ false → F.opens files.new ≡ F.opens files.old) }
-        ensures most { ReadsOne F.Files files.old files.new }
-        ensures files { Looked F.Files files.old files.new (Faulted result) }
+        ensures files { ReadsFile F.Files (will_open self.old path.now) path.now result files.old files.new }
         ensures refusal { IfErr result (MayFail T.test) }
     {
         match self.fixed(path) {
@@ -222,16 +214,9 @@ impl<T: Version + Drop> FileCache<T> {
     // The present stamp of a path that isn't fixed, whose version is taken in if it wasn't kept.
     fn refresh<F: Files>(&mut self, alloc: Global, files: &mut F, path: &str) -> Result<Stamp>
         ensures answer { Told (in_view (F.worlds files.old)) (λ w. Comes (bytes_at self.new) (by_entry T.test self.old path.now (entry_at w path.now)).0 result) }
-        ensures ok { Told (in_view (F.worlds files.old)) (λ w. OnOk result (self.new ≡ (by_entry T.test self.old path.now (entry_at w path.now)).1)) }
-        ensures err { OnErr result (self.new ≡ self.old) }
-        ensures current { IfOk result (λ stamp. current_of self.new path.now ≡ Some stamp) }
-        ensures consistent { OnOk result (Consistent T.test self.new) }
-        ensures some { IfOk result (λ stamp. IsSomeEntry T.test self.old self.new path.now (bytes_at self.new stamp)) }
+        ensures cache { LeavesCache T.test (by_entry T.test self.old path.now) path.now result self.old self.new (in_view (F.worlds files.old)) }
         ensures unmoved { Told (in_view (F.worlds files.old)) (λ w. IsUnmoved self.old path.now (entry_at w path.now) → IsOkUnless result Error.ReadFault) }
-        ensures opened { Told (in_view (F.worlds files.old)) (λ w. OnOk result (F.opens files.new ≡ opens_after (is_new self.old (entry_at w path.now)) (F.opens files.old))) }
-        ensures spared { Told (in_view (F.worlds files.old)) (λ w. is_new self.old (entry_at w path.now) ≡ false → F.opens files.new ≡ F.opens files.old) }
-        ensures most { ReadsOne F.Files files.old files.new }
-        ensures files { Looked F.Files files.old files.new (Faulted result) }
+        ensures files { ReadsFile F.Files (is_new self.old) path.now result files.old files.new }
         ensures refusal { IfErr result (MayFail T.test) }
     {
         // The stamp comes first: were it taken after the bytes, a file that changed in between would

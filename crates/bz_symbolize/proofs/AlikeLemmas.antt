@@ -11,7 +11,7 @@ use Rattle.bz_base.specs.declared.types.FindSymOpts.{FindSymOpts}
 use Rattle.bz_cache.specs.View.{View, Absent, Hidden, Shown}
 use Rattle.bz_symbolize.proofs.Formats.{any_file, on_each}
 use Rattle.bz_symbolize.proofs.PromiseLemmas.{IsFormatOf}
-use Rattle.bz_symbolize.specs.Alike.{batch_in_view, single_in_view, StandsAlone, AreAlike, IsFolded}
+use Rattle.bz_symbolize.specs.Alike.{batch_in_view, single_in_view, StandsAlone, AreAlike, IsFolded, EntriesStandAlone, OrderMovesAnswers, BatchesFoldRefusals}
 use Rattle.bz_symbolize.specs.FileCall.{batch_of, single_of}
 use Rattle.bz_symbolize.specs.Lookup.{by_view, shown_answer}
 use Rattle.bz_symbolize.specs.Promise.{IsAnswerOf}
@@ -99,17 +99,14 @@ module _ (file : FileSource) (opts : FindSymOpts) (kind : AddressKind) where
     }
 
 -- the laws, of the file of any source
-pub alone_of : (source : Source) → OnFile source (λ file. (opts : FindSymOpts) (kind : AddressKind) (shown : View) (addrs : List ℕ) (answers : List Answer) (i addr : ℕ) →
-    batch_in_view file opts kind shown addrs ≡ Ok answers → slice_get addrs i ≡ Some addr → StandsAlone (batch_in_view file opts kind shown) answers i addr)
+pub alone_of : (source : Source) → OnFile source EntriesStandAlone
 alone_of source = any_file source (λ file opts kind shown addrs answers i addr given there.
     stands_alone file opts kind shown addrs answers (answered file opts kind shown addrs answers given) i addr there)
 
-pub alike_of : (source : Source) → OnFile source (λ file. (opts : FindSymOpts) (kind : AddressKind) (shown : View) (addrs others : List ℕ) (answers other_answers : List Answer) →
-    batch_in_view file opts kind shown addrs ≡ Ok answers → batch_in_view file opts kind shown others ≡ Ok other_answers → AreAlike addrs others answers other_answers)
+pub alike_of : (source : Source) → OnFile source OrderMovesAnswers
 alike_of source = any_file source (λ file opts kind shown addrs others answers other_answers given other_given.
     are_alike file opts kind shown addrs answers (answered file opts kind shown addrs answers given) others other_answers other_given)
 
-pub folded_of : (source : Source) → OnFile source (λ file. (opts : FindSymOpts) (kind : AddressKind) (shown : View) (addrs : List ℕ) (answers : List Answer) (i addr : ℕ) →
-    batch_in_view file opts kind shown addrs ≡ Ok answers → slice_get addrs i ≡ Some addr → IsFolded source opts kind shown answers i addr (single_in_view file opts kind shown addr))
+pub folded_of : (source : Source) → OnFile source (BatchesFoldRefusals source)
 folded_of source = on_each (λ (a : Address). single_of a.0 a.1) source (λ file laws opts kind shown addrs answers i addr given there.
     is_folded file opts kind shown addrs answers (answered file opts kind shown addrs answers given) source i addr (laws (kind, addr)) there)

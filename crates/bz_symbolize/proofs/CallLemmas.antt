@@ -6,7 +6,8 @@ use Rattle.bz_base.specs.declared.types.FindSymOpts.{FindSymOpts}
 use Rattle.bz_files.specs.World.{Told, in_view}
 use Rattle.bz_files.specs.declared.files.Files.{Ghosts}
 use Rattle.bz_symbolize.proofs.Formats.{on_file, both, told_by_form}
-use Rattle.bz_symbolize.proofs.PromiseLemmas.{look_from_told, view_from_told, causes_from_told, complete_from_told, kept_from_some, ready_from_version, refusal_from_some, told_from_file, step_from_told, leaves_from_some, unchanged}
+use Rattle.bz_symbolize.proofs.LeaveLemmas.{told_from_file, step_from_told, leaves_from_some, unchanged}
+use Rattle.bz_symbolize.proofs.PromiseLemmas.{look_from_told, view_from_told, causes_from_told, complete_from_told, kept_from_some, ready_from_version, refusal_from_some}
 use Rattle.bz_symbolize.specs.FileCall.{Query, CallsFile}
 use Rattle.bz_symbolize.specs.Promise.{AsksSource, CallTold, Symbolizes}
 use Rattle.bz_symbolize.specs.Sources.{FileSource, OnFile, asked_of, form_of}

@@ -4,6 +4,7 @@ pub mod CallLemmas
 pub mod FileLemmas
 pub mod Formats
 pub mod HistoryLemmas
+pub mod LeaveLemmas
 pub mod NewLemmas
 pub mod PromiseLemmas
 pub mod Tables

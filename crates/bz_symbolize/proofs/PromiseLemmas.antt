@@ -28,13 +28,6 @@ pub record IsFormatOf {B : Type 0} (query : Query B) (source : Source) (file : F
   pub answers : (opts : FindSymOpts) (bytes : List ℕ) → file.test bytes ≡ None →
       IsAnswerOf source opts bytes query (query.given (λ addr. file.answering.single opts file.path bytes query.kind addr))
 
--- what is left is the state as it was, or the one that is expected
-pub step_from_told : {A : Type 0} (result : Result A Error) (old now expected : State) → Leaves result old expected now → (now ≡ old) ⊎ (now ≡ expected)
-step_from_told (Ok given) old now expected is = inr is
-step_from_told (Err errors.ReadFault) old now expected is = inl is
-step_from_told (Err errors.OutOfMemory) old now expected is = is
-step_from_told (Err _) old now expected is = inr is
-
 module _ {B : Type 0} (opts : FindSymOpts) (source : Source) (file : FileSource) (query : Query B) (laws : IsFormatOf query source file) (old : State) where
   -- what a version answers, or refuses by itself, where it serves the kind of address
   served : (bytes : List ℕ) (answer : Result B Error) → file.test bytes ≡ None → file.answering.serves query.kind ≡ true →
@@ -57,7 +50,7 @@ module _ {B : Type 0} (opts : FindSymOpts) (source : Source) (file : FileSource)
   own_by_kind bytes e true serves formed is = inr (served bytes (Err e) formed serves is)
   own_by_kind bytes e false serves formed is = let unsupported = rw serves at is in inl (serves, cc)
 
-  own_refusal : (bytes : List ℕ) (e : Error) → file.test bytes ≡ None → query_given file.answering opts file.path query bytes ≡ Err e →
+  pub own_refusal : (bytes : List ℕ) (e : Error) → file.test bytes ≡ None → query_given file.answering opts file.path query bytes ≡ Err e →
       ((file.answering.serves query.kind ≡ false) × (e ≡ errors.Unsupported)) ⊎ IsAnswerOf source opts bytes query (Err e)
   own_refusal bytes e formed is = own_by_kind bytes e (file.answering.serves query.kind) refl formed is
 
@@ -129,7 +122,7 @@ module _ {B : Type 0} (opts : FindSymOpts) (source : Source) (file : FileSource)
 
     module _ (now : State) where
       -- the version that answered is kept
-      kept_by : (by_bytes : List ℕ) (answer : Result B Error) → kept_at (file.cache now) file.path ≡ Some by_bytes → IsAnswerOf source opts by_bytes query answer →
+      pub kept_by : (by_bytes : List ℕ) (answer : Result B Error) → kept_at (file.cache now) file.path ≡ Some by_bytes → IsAnswerOf source opts by_bytes query answer →
           AnswersKept opts source file now query answer
       kept_by bytes answer kept is = record { bytes = bytes; kept = kept; answered = is }
 
@@ -162,52 +155,3 @@ module _ {B : Type 0} (opts : FindSymOpts) (source : Source) (file : FileSource)
       refusal_from_some (Err e) (inr first) = inl first.refusal
       refusal_from_some (Err errors.OutOfMemory) (inl by) = inl tt
       refusal_from_some (Err e) (inl by) = refusal_by by.bytes e (own_refusal by.bytes e by.kept.1 by.given)
-
-      module _ (rest : now ≡ file.with_cache old (file.cache now)) where
-        -- where the cache is as before, the state is
-        pub unchanged : file.cache now ≡ file.cache old → now ≡ old
-        unchanged is = rest ∙ ap (file.with_cache old) is ∙ laws.same old
-
-        leaves_state : (result : Result A Error) (expected : Cache) → Leaves result (file.cache old) expected (file.cache now) → Leaves result old (file.with_cache old expected) now
-        leaves_state (Ok given) expected is = rest ∙ ap (file.with_cache old) is
-        leaves_state (Err errors.ReadFault) expected is = unchanged is
-        leaves_state (Err errors.OutOfMemory) expected (inl is) = inl (unchanged is)
-        leaves_state (Err errors.OutOfMemory) expected (inr is) = inr (rest ∙ ap (file.with_cache old) is)
-        leaves_state (Err _) expected is = rest ∙ ap (file.with_cache old) is
-
-        pub told_from_file : (world : World) (before after : ℕ) (result : Result A Error) →
-            FileTold reading (asked_of file opts query) file.path result (file.cache old) (file.cache now) (entry_at world file.path) before after →
-            CallTold reading opts (OneFile file) query result old now world before after
-        told_from_file world before after result told =
-            record { answer = told.answer; state = leaves_state result _ told.state; opened = told.opened; spared = told.spared }
-
-        old_or_own : (bytes : List ℕ) (e : Error) → kept_at (file.cache now) file.path ≡ Some bytes → (file.answering.takes query.kind ≡ false → now ≡ old) →
-            file.answering.takes query.kind ≡ file.answering.serves query.kind →
-            ((file.answering.serves query.kind ≡ false) × (e ≡ errors.Unsupported)) ⊎ IsAnswerOf source opts bytes query (Err e) →
-            (now ≡ old) ⊎ AnswersKept opts source file now query (Err e)
-        old_or_own bytes e kept untaken alike (inl kind) = inl (untaken (alike ∙ kind.0))
-        old_or_own bytes e kept untaken alike (inr own) = inr (kept_by bytes (Err e) kept own)
-
-        refused_from_some : (result : Result A Error) → (file.answering.takes query.kind ≡ false → now ≡ old) →
-            FileSome reading (asked_of file opts query) file.path result (file.cache old) (file.cache now) →
-            file.answering.takes query.kind ≡ file.answering.serves query.kind → LeavesOld opts source file query result old now
-        refused_from_some (Ok given) untaken some alike = tt
-        refused_from_some (Err errors.OutOfMemory) untaken some alike = tt
-        refused_from_some (Err e) untaken (inl by) alike = old_or_own by.bytes e by.kept.0 untaken alike (own_refusal by.bytes e by.kept.1 by.given)
-        refused_from_some (Err e) untaken (inr first) alike = inl (unchanged first.unchanged)
-
-        step_from_some : (result : Result A Error) → FileSome reading (asked_of file opts query) file.path result (file.cache old) (file.cache now) →
-            (now ≡ old) ⊎ IsAfterSomeLook file old now
-        step_from_some result (inl by) = inr (by.looked.0, rest ∙ ap (file.with_cache old) (sym (ap (λ (x : Result (List ℕ) Error × Cache). x.1) by.looked.1)))
-        step_from_some result (inr first) = inl (unchanged first.unchanged)
-
-        memory_from_some : (result : Result A Error) → FileSome reading (asked_of file opts query) file.path result (file.cache old) (file.cache now) →
-            (now ≡ old) ⊎ IsSome (kept_at (file.cache now) file.path)
-        memory_from_some result (inl by) = inr (ap is_some by.kept.0)
-        memory_from_some result (inr first) = inl (unchanged first.unchanged)
-
-        -- what a call leaves, whatever is told
-        pub leaves_from_some : (result : Result A Error) → (file.answering.takes query.kind ≡ false → now ≡ old) →
-            FileSome reading (asked_of file opts query) file.path result (file.cache old) (file.cache now) → FileLeaves opts source file query result old now
-        leaves_from_some result untaken some =
-            record { one_look = step_from_some result some; on_refusal = refused_from_some result untaken some; out_of_memory = λ _. memory_from_some result some }

@@ -39,3 +39,18 @@ pub record IsFolded (source : Source) (opts : FindSymOpts) (kind : AddressKind) 
   pub bytes : List ℕ
   pub in_view : shown ≡ Shown bytes
   pub answered : IsAnswerOf source opts bytes (single_of kind addr) single
+
+-- of a source's file: every entry of an answered batch stands alone
+abbrev pub EntriesStandAlone : FileSource → Type 0
+EntriesStandAlone file = (opts : FindSymOpts) (kind : AddressKind) (shown : View) (addrs : List ℕ) (answers : List Answer) (i addr : ℕ) →
+    batch_in_view file opts kind shown addrs ≡ Ok answers → slice_get addrs i ≡ Some addr → StandsAlone (batch_in_view file opts kind shown) answers i addr
+
+-- any two answered batches are alike
+abbrev pub OrderMovesAnswers : FileSource → Type 0
+OrderMovesAnswers file = (opts : FindSymOpts) (kind : AddressKind) (shown : View) (addrs others : List ℕ) (answers other_answers : List Answer) →
+    batch_in_view file opts kind shown addrs ≡ Ok answers → batch_in_view file opts kind shown others ≡ Ok other_answers → AreAlike addrs others answers other_answers
+
+-- every entry of an answered batch is that of the single call
+abbrev pub BatchesFoldRefusals : Source → FileSource → Type 0
+BatchesFoldRefusals source file = (opts : FindSymOpts) (kind : AddressKind) (shown : View) (addrs : List ℕ) (answers : List Answer) (i addr : ℕ) →
+    batch_in_view file opts kind shown addrs ≡ Ok answers → slice_get addrs i ≡ Some addr → IsFolded source opts kind shown answers i addr (single_in_view file opts kind shown addr)

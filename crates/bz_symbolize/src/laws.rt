@@ -1,6 +1,6 @@
 //! What holds of this crate's definitions.
 
-ghost use Rattle.std.specs.Prelude.{◌≡◌, ◌↔◌, ◌∷◌, ℕ, List, Some, Ok, Err, map, slice_get};
+ghost use Rattle.std.specs.Prelude.{◌≡◌, ◌↔◌, ◌∷◌, ℕ, List, Ok, Err, map};
 ghost use denote.Ref.{Bor};
 ghost use Rattle.bz_base.specs.Answer.{Answer};
 ghost use Rattle.bz_base.specs.InputKind.{AddressKind};
@@ -10,8 +10,7 @@ ghost use Rattle.bz_base.specs.declared.types.FindSymOpts.{FindSymOpts};
 ghost use Rattle.bz_files.specs.Agreement.{Agree};
 ghost use Rattle.bz_breakpad.specs.Version.{format_test};
 ghost use Rattle.bz_files.specs.World.{World, entry_at};
-ghost use Rattle.bz_cache.specs.View.{View};
-ghost use Rattle.bz_symbolize.specs.Alike.{AreAlike, IsFolded, StandsAlone, batch_in_view, single_in_view};
+ghost use Rattle.bz_symbolize.specs.Alike.{BatchesFoldRefusals, EntriesStandAlone, OrderMovesAnswers};
 ghost use Rattle.bz_symbolize.specs.FileCall.{batch_of, batch_query, file_answer, query_asked};
 ghost use Rattle.bz_symbolize.specs.History.{Call, Coheres, MayReach};
 ghost use Rattle.bz_symbolize.specs.Lookup.{fresh_answer};
@@ -36,23 +35,20 @@ pub fn runs_stay_coherent()
 /// An entry of a batch that is answered is what a batch of its address alone is answered, over the
 /// same version in view.
 pub fn entries_stand_alone()
-    ensures { (source : Source) → OnFile source (λ file. (opts : FindSymOpts) (kind : AddressKind) (shown : View) (addrs : List ℕ) (answers : List Answer) (i addr : ℕ) →
-        batch_in_view file opts kind shown addrs ≡ Ok answers → slice_get addrs i ≡ Some addr → StandsAlone (batch_in_view file opts kind shown) answers i addr) }
+    ensures { (source : Source) → OnFile source EntriesStandAlone }
 {}
 
 /// Of two batches that are answered over the same version in view, equal addresses have equal
 /// entries, and a batch in another order has its answers in that order.
 pub fn order_moves_answers()
-    ensures { (source : Source) → OnFile source (λ file. (opts : FindSymOpts) (kind : AddressKind) (shown : View) (addrs others : List ℕ) (answers other_answers : List Answer) →
-        batch_in_view file opts kind shown addrs ≡ Ok answers → batch_in_view file opts kind shown others ≡ Ok other_answers → AreAlike addrs others answers other_answers) }
+    ensures { (source : Source) → OnFile source OrderMovesAnswers }
 {}
 
 /// An entry of a batch that is answered is what the single call makes of its address over the same
 /// version in view, where a refusal is an ignored error; and that call is answered, or refused for
 /// its address.
 pub fn batches_fold_refusals()
-    ensures { (source : Source) → OnFile source (λ file. (opts : FindSymOpts) (kind : AddressKind) (shown : View) (addrs : List ℕ) (answers : List Answer) (i addr : ℕ) →
-        batch_in_view file opts kind shown addrs ≡ Ok answers → slice_get addrs i ≡ Some addr → IsFolded source opts kind shown answers i addr (single_in_view file opts kind shown addr)) }
+    ensures { (source : Source) → OnFile source (BatchesFoldRefusals source) }
 {}
 
 /// No version refuses a batch by itself, so a promise of a batch leaves no such refusal; and what a

@@ -18,7 +18,7 @@ returns-clause-answer g c world told =
 -- by bytes in the format, whatever is told
 pub returns-clause-answered : goal.returns-clause-answered
 returns-clause-answered g c =
-    let kept = rw c.input_for.ensures at c.symbolize.ensures.kept in
+    let kept = rw (c.new.ensures, c.input_for.ensures) at c.symbolize.ensures.kept in
     some_from_kept read (command_of c.args.command.now) c.in_ok-src.src c.args.addrs _ c.symbolize.result c.in_ok-src.ensures.ok kept
 
 -- one file at most was read, and where answers are given one was
