@@ -290,7 +290,7 @@ fn owned_calls(alloc: Global, calls: Vec<InlinedFn<'_>>) -> Result<Vec<InlinedFn
     ensures ok { IfOk result (λ own. map call_of own.items ≡ map call_of calls.entry.items) }
     ensures memory { IsOkUnless result Error.OutOfMemory }
 {
-    let mut all = Vec::new(alloc);
+    let mut all = Vec::with_capacity(alloc, calls.len())?;
     for call in calls {
         all.push(call.into_owned(alloc)?)?;
     }

@@ -17,6 +17,8 @@ use std::alloc::{AllocError, Global};
 struct Copies {
     lines: Vec<usize>,
     inlinees: Vec<Inlinee>,
+    /// Room in which inlined calls are sorted.
+    room: Vec<Inlinee>,
 }
 
 /// The functions, each with its line records and inlined calls in order.
@@ -32,6 +34,7 @@ pub(crate) fn in_order(
     let mut copies = Copies {
         lines: Vec::new(alloc),
         inlinees: Vec::new(alloc),
+        room: Vec::new(alloc),
     };
     let mut functions = Vec::with_capacity(alloc, code.functions.len())?;
     for function in &code.functions {
@@ -64,10 +67,10 @@ fn function_in_order(
 {
     let line_order = order_lines(alloc, bytes, &code.lines, function.lines, &mut copies.lines)?;
     let inlinee_order = order_inlinees(
-        alloc,
         &code.inlinees,
         function.inlinees,
         &mut copies.inlinees,
+        &mut copies.room,
     )?;
     Ok(KeptFunction {
         line_order,
@@ -109,10 +112,10 @@ fn sorted_lines(alloc: Global, bytes: &[u8], places: &[usize]) -> Result<Vec<usi
 
 /// Where a part of the inlined calls is in order, if not as it stands.
 fn order_inlinees(
-    alloc: Global,
     inlinees: &[Inlinee],
     part: Part,
     copies: &mut Vec<Inlinee>,
+    room: &mut Vec<Inlinee>,
 ) -> Result<Option<Part>, AllocError>
     requires part { IsPart (length inlinees.now) part }
     ensures more { OnOk result ((more : List KeptInlinee) × (copies.new.items ≡ copies.old.items ++ more)) }
@@ -122,10 +125,10 @@ fn order_inlinees(
     if standing.len() < 2 {
         return Ok(None);
     }
-    let mut sorted = Vec::new(alloc);
-    sorted.extend_from_slice(standing)?;
-    sort_nested(&mut sorted)?;
-    Ok(Some(copied(&sorted, copies)?))
+    room.clear();
+    room.extend_from_slice(standing)?;
+    sort_nested(room)?;
+    Ok(Some(copied(room, copies)?))
 }
 
 /// Adds records to the copies, and tells which part of them they are.

@@ -198,7 +198,7 @@ fn seen_outside_all<'f>(
     ensures refusal { IfErr result IsAnswerRefusal }
 {
     let mut site = inner;
-    let mut inlined = Vec::new(alloc);
+    let mut inlined = Vec::with_capacity(alloc, calls.len())?;
     let mut left = calls.len();
     while left > 0 {
         left -= 1;
