@@ -1,6 +1,6 @@
 //! The output.
 
-ghost use Rattle.std.specs.Prelude.{map};
+ghost use Rattle.std.specs.Prelude.{◌≡◌, [], map, string_bytes, OnOk};
 ghost use Rattle.bz_base.specs.Answer.{reading};
 ghost use Rattle.symq.specs.AnswerText.{answer_texts};
 ghost use Rattle.symq.specs.Reply.{outcome_of, text_of};
@@ -56,12 +56,20 @@ fn write_answers<W: TextOut>(
             return Err(IoFault::OutOfMemory);
         };
         if piece.len() >= PIECE {
-            write_all(output, piece.as_str().as_bytes())?;
-            // The next piece is made in the same memory.
-            piece.clear();
+            write_piece(output, &mut piece)?;
         }
     }
-    write_all(output, piece.as_str().as_bytes())
+    write_piece(output, &mut piece)
+}
+
+// Writes the piece; the next one begins in the same memory.
+fn write_piece<W: TextOut>(output: &mut W, piece: &mut String) -> Result<(), IoFault>
+    ensures wrote { WritesText W.TextOut (string_bytes piece.old) result output.old output.new }
+    ensures next { OnOk result (string_bytes piece.new ≡ []) }
+{
+    write_all(output, piece.as_str().as_bytes())?;
+    piece.clear();
+    Ok(())
 }
 
 // Writes the whole text, in as many calls as it takes.

@@ -1,6 +1,6 @@
 //! One run of the program.
 
-ghost use Rattle.std.specs.Prelude.{◌≡◌, map, string_bytes, IfOk, Ok, IsErr, IsOk, IsOkUnless};
+ghost use Rattle.std.specs.Prelude.{◌≡◌, ◌⊎◌, ◌↔◌, map, string_bytes, IfOk, Ok, IsErr, IsOk, IsOkUnless};
 ghost use Rattle.bz_base.specs.Answer.{reading};
 ghost use Rattle.bz_files.specs.Looked.{Faulted, Looked};
 ghost use Rattle.bz_files.specs.World.{Told, in_view};
@@ -36,9 +36,18 @@ pub fn run<R: TextIn, W: TextOut, F: Files>(
 {
     match reply_to_words(alloc, words, input, files) {
         Ok(reply) => finish(alloc, output, &reply),
-        Err(Error::ReadFault) => Status::Fault,
-        // Nothing else is left than want of memory.
-        Err(_) => Status::Memory,
+        Err(error) => failed(error),
+    }
+}
+
+// How a run without a reply ends: by a fault, or nothing else is left than want of memory.
+fn failed(error: Error) -> Status
+    ensures failure { (result ≡ Status.Fault) ⊎ (result ≡ Status.Memory) }
+    ensures fault { (error ≡ Error.ReadFault) ↔ (result ≡ Status.Fault) }
+{
+    match error {
+        Error::ReadFault => Status::Fault,
+        _ => Status::Memory,
     }
 }
 

@@ -1,4 +1,4 @@
-use Rattle.std.proofs.Common.{map, string_bytes, inl, refl}
+use Rattle.std.proofs.Common.{map, string_bytes, refl}
 use Rattle.symq.proofs.EndLemmas.{runs_with_reply, runs_without_reply}
 use Rattle.symq.proofs.program.run.Goals as goal
 
@@ -9,9 +9,9 @@ returns-in-Ok g c =
     runs_with_reply g.R.TextIn g.W.TextOut g.F.Files (map string_bytes c.args.words.now) c.finish.result _ _ _ _ _ _ c.in-Ok.reply
     made.reply made.turns made.opens made.fails c.finish.ensures
 
--- reading or looking failed
-pub returns-in-Err-ReadFault : goal.returns-in-Err-ReadFault
-returns-in-Err-ReadFault g c =
-    let made = c.in-Err-ReadFault.ensures in
-    runs_without_reply g.R.TextIn g.W.TextOut g.F.Files (map string_bytes c.args.words.now) _ _ _ _ _ _ _ c.in-Err-ReadFault.field-0
-    (inl refl) (λ _. refl, λ _. c.in-Err-ReadFault.field-0-is) made.turns made.opens made.fails refl
+-- no reply was given: reading or looking failed, or memory ran out
+pub returns-in-Err : goal.returns-in-Err
+returns-in-Err g c =
+    let made = c.in-Err.ensures in
+    runs_without_reply g.R.TextIn g.W.TextOut g.F.Files (map string_bytes c.args.words.now) c.failed.result _ _ _ _ _ _ c.in-Err.error
+    c.failed.ensures.failure c.failed.ensures.fault made.turns made.opens made.fails refl
