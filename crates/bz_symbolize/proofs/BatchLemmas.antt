@@ -1,10 +1,9 @@
 -- What a version answers to a batch, in the words of the source's format.
-use Rattle.std.proofs.Common.{◌≡◌, ◌↔◌, ℕ, List, Ok, Err, ap, sym}
+use Rattle.std.proofs.Common.{◌↔◌, ℕ, List, Ok, Err, ap, sym}
 use Rattle.bz_base.specs.Answer.{Answer}
 use Rattle.bz_base.specs.InputKind.{AddressKind}
 use Rattle.bz_base.specs.declared.error.Error.{Error}
 use Rattle.bz_base.specs.declared.types.FindSymOpts.{FindSymOpts}
-use Rattle.bz_breakpad.specs.Plain.{batch}
 use Rattle.bz_symbolize.specs.FileCall.{batch_of}
 use Rattle.bz_symbolize.specs.Promise.{IsAnswerOf, IsBreakpadAnswer, IsBreakpadBatch}
 use Rattle.bz_symbolize.specs.declared.source.Source.{Source}

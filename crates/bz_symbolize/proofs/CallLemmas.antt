@@ -1,7 +1,6 @@
 -- From what a call does on its source's file to all that it promises, whatever the source and the query.
-use Rattle.std.proofs.Common.{◌≡◌, IsErrOf, Result, refl}
+use Rattle.std.proofs.Common.{◌≡◌, Result}
 use Rattle.bz_base.specs.declared.error.Error.{Error}
-use Rattle.bz_base.specs.declared.error.Error.TheVariants as errors
 use Rattle.bz_base.specs.declared.types.FindSymOpts.{FindSymOpts}
 use Rattle.bz_files.specs.World.{Told, in_view}
 use Rattle.bz_files.specs.declared.files.Files.{Ghosts}

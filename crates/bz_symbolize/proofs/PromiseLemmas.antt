@@ -1,23 +1,20 @@
 -- From what a call on one file does to what it promises in the words of the subject, whatever the source and the query.
-use Rattle.std.proofs.Common.{◌≡◌, ◌⊎◌, ℕ, Bool, true, false, cond, List, Option, Some, None, is_some, IsSome, Result, Ok, Err, IfOk, IfErr, IsErrOf, inl, inr, refl, sym, ap, subst, ◌∙◌}
+use Rattle.std.proofs.Common.{◌≡◌, ◌⊎◌, ℕ, Bool, true, false, cond, List, Option, Some, None, Result, Ok, Err, IfOk, IfErr, inl, inr, refl, sym, subst}
 use Rattle.std.proofs.lemmas.Bool.{false≢true}
-use Rattle.bz_base.specs.Answer.{Answer}
 use Rattle.bz_base.specs.declared.error.Error.{Error}
 use Rattle.bz_base.specs.declared.error.Error.TheVariants as errors
 use Rattle.bz_base.specs.declared.types.FindSymOpts.{FindSymOpts}
-use Rattle.bz_files.specs.World.{World, Told, in_view, entry_at}
-use Rattle.bz_files.specs.declared.files.Files.{Ghosts}
-use Rattle.bz_cache.specs.Cache.{Cache, kept_at}
+use Rattle.bz_files.specs.World.{World, entry_at}
+use Rattle.bz_cache.specs.Cache.{kept_at}
 use Rattle.bz_cache.specs.Coherence.{Coherent}
 use Rattle.bz_cache.specs.Format.{Comes}
 use Rattle.bz_cache.specs.Look.{look}
-use Rattle.bz_cache.specs.View.{fixed}
 use Rattle.bz_cache.proofs.CoherenceLaws.{shown_by_view}
 use Rattle.bz_symbolize.proofs.FileLemmas.{look_by_view}
-use Rattle.bz_symbolize.specs.FileCall.{Query, by_test, by_look, query_given, file_answer, Leaves, FileTold, ByVersion, FileSome, CallsFile, MayBeRefused}
+use Rattle.bz_symbolize.specs.FileCall.{Query, by_test, by_look, query_given, file_answer, ByVersion, FileSome, MayBeRefused}
 use Rattle.bz_symbolize.specs.Lookup.{view_answer}
-use Rattle.bz_symbolize.specs.Sources.{FileSource, OneFile, asked_of}
-use Rattle.bz_symbolize.specs.Promise.{IsAnswerOf, IsVersionOf, AnswersView, AnswersLook, AnswersKept, CallTold, LeavesOld, IsAfterSomeLook, FileLeaves, IsValid, IsServedOrFails, IsServedKept, IsOwnRefusal}
+use Rattle.bz_symbolize.specs.Sources.{FileSource, asked_of}
+use Rattle.bz_symbolize.specs.Promise.{IsAnswerOf, IsVersionOf, AnswersView, AnswersLook, AnswersKept, IsValid, IsServedOrFails, IsServedKept, IsOwnRefusal}
 use Rattle.bz_symbolize.specs.State.{State}
 use Rattle.bz_symbolize.specs.declared.source.Source.{Source}
 
