@@ -1,3 +1,4 @@
+pub mod AddressLaws
 pub mod Apart
 pub mod Bytes
 pub mod ChoiceLaws
@@ -22,6 +23,7 @@ pub mod PlainStep
 pub mod RoleLaws
 pub mod Rows
 pub mod Runs
+pub mod SeenLaws
 pub mod SortedLemmas
 pub mod StepLemmas
 pub mod TableLaws

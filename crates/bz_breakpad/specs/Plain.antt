@@ -1,5 +1,5 @@
 -- The plain answer of a table at an address, field by field, and the answers to a batch of addresses.
-use Rattle.std.specs.Prelude.{ℕ, ◌-◌, List, [], ◌∷◌, map, Option, Some, None, option_map, Result, Ok, Err}
+use Rattle.std.specs.Prelude.{◌≡◌, ℕ, ◌-◌, List, [], ◌∷◌, ◌++◌, map, Option, Some, None, option_map, Result, Ok, Err}
 use Rattle.bz_base.specs.Answer.{Site, Call, Symbol, Answer, in_batch}
 use Rattle.bz_base.specs.Answer.Answer.{Known, Unknown}
 use Rattle.bz_base.specs.Chain.{around, chain, inner}
@@ -61,6 +61,14 @@ seen_outside table call inner =
 abbrev pub seen_from : Table → List Inlinee → SourceLine → Option (Site × List Call)
 seen_from table [] line = option_map (λ site. (site, [])) (site_in table line.file line.line)
 seen_from table (call ∷ calls) line = seen_from table calls line >>= seen_outside table call
+
+-- the same in whole lists: the sites are those of the calls, and then the line's; the code lies at the first of them, and each
+-- call has its name and the site after its own
+pub record IsSeen (table : Table) (calls : List Inlinee) (line : SourceLine) (seen : Site × List Call) : Type 0 where
+  pub inner : List Site
+  pub sites_are : map (λ site. Some site) (seen.0 ∷ inner) ≡ map (λ call. site_in table call.call_file call.call_line) calls ++ site_in table line.file line.line ∷ []
+  pub names_are : map (λ call. Some call.name) seen.1 ≡ map (λ call. name_for call.origin table.origins) calls
+  pub inner_are : map (λ call. call.site) seen.1 ≡ map (λ site. Some site) inner
 
 -- what isn't known refuses the address
 abbrev pub by_seen : Option (Site × List Call) → Result Placed Error

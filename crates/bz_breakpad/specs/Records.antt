@@ -3,6 +3,7 @@ use Rattle.std.specs.Prelude.{ℕ, List, [], ◌∷◌, codes}
 use Rattle.bz_breakpad.specs.Form.{Form}
 use Rattle.bz_breakpad.specs.Form.Piece.{Tag, Opt, Sep, MSep, Gap, Word, Hex, Dec}
 use Rattle.bz_breakpad.specs.Form.Form.{End, Name, SepText, Many, ◌·◌}
+use Rattle.bz_breakpad.specs.Reads.{IsReadExactly}
 
 -- the mark of a function or symbol that stands in several places
 abbrev pub letter_m : ℕ
@@ -68,3 +69,21 @@ TOP = MODULE ∷ INFO ∷ FILE ∷ INLINE_ORIGIN ∷ PUBLIC ∷ FUNC ∷ STACK_W
 -- the records that stand under a FUNC record
 abbrev pub INNER : List Form
 INNER = LINE ∷ INLINE ∷ INNER_ORIGIN ∷ []
+
+-- each form is read from exactly the lines that have it
+pub record AreFormsRead : Type 0 where
+  -- those that stand by themselves
+  pub «module» : IsReadExactly MODULE
+  pub info : IsReadExactly INFO
+  pub file : IsReadExactly FILE
+  pub inline_origin : IsReadExactly INLINE_ORIGIN
+  pub public : IsReadExactly PUBLIC
+  pub func : IsReadExactly FUNC
+  pub stack_win : IsReadExactly STACK_WIN
+  pub stack_cfi_init : IsReadExactly STACK_CFI_INIT
+  -- the one that stands under a STACK CFI INIT record
+  pub stack_cfi : IsReadExactly STACK_CFI
+  -- those that stand under a FUNC record
+  pub line : IsReadExactly LINE
+  pub inline : IsReadExactly INLINE
+  pub inner_origin : IsReadExactly INNER_ORIGIN

@@ -1,34 +1,28 @@
 //! What holds of this crate's definitions.
 
-ghost use Rattle.std.specs.Prelude.{◌≡◌, ◌↔◌, ℕ, List, Option, Some, IsTrue};
+ghost use Rattle.std.specs.Prelude.{◌≡◌, ◌↔◌, ◌+◌, ℕ, List, Option, Some, Ok, IsTrue};
+ghost use Rattle.bz_base.specs.Answer.{Call, Site, Symbol};
+ghost use Rattle.bz_base.specs.Answer.Answer.{Known};
 ghost use Rattle.bz_base.specs.Nearest.{IsNearestCovering};
+ghost use Rattle.bz_base.specs.declared.types.FindSymOpts.{FindSymOpts};
 ghost use Rattle.bz_breakpad.specs.Grammar.{Accepted};
 ghost use Rattle.bz_breakpad.specs.Lent.{lent_public};
 ghost use Rattle.bz_breakpad.specs.Names.{AreLastNames, names_in};
-ghost use Rattle.bz_breakpad.specs.Plain.{function_at};
+ghost use Rattle.bz_breakpad.specs.Plain.{IsSeen, function_at, plain, seen_from};
 ghost use Rattle.bz_breakpad.specs.Reader.{counted_in};
-ghost use Rattle.bz_breakpad.specs.Records.{MODULE, INFO, FILE, INLINE_ORIGIN, PUBLIC, FUNC, STACK_WIN, STACK_CFI_INIT, STACK_CFI, LINE, INLINE, INNER_ORIGIN, TOP, INNER};
+ghost use Rattle.bz_breakpad.specs.Records.{AreFormsRead, TOP, INNER};
 ghost use Rattle.bz_breakpad.specs.Choice.{AreReadExactly};
-ghost use Rattle.bz_breakpad.specs.Reads.{IsReadExactly};
+ghost use Rattle.bz_breakpad.specs.Table as tables;
 ghost use Rattle.bz_breakpad.specs.Table.{Function, Named, Table};
+ghost use Rattle.bz_breakpad.specs.declared.types.Inlinee.{Inlinee};
 ghost use Rattle.bz_breakpad.specs.declared.types.PublicSymbol.{PublicSymbol};
+ghost use Rattle.bz_breakpad.specs.declared.types.SourceLine.{SourceLine};
 
-use crate::types::PublicSymbol;
+use crate::types::{Inlinee, PublicSymbol, SourceLine};
 
 /// Each form is read from exactly the lines that have it.
 pub fn records_are_read()
-    ensures module { IsReadExactly MODULE }
-    ensures info { IsReadExactly INFO }
-    ensures file { IsReadExactly FILE }
-    ensures inline_origin { IsReadExactly INLINE_ORIGIN }
-    ensures public { IsReadExactly PUBLIC }
-    ensures func { IsReadExactly FUNC }
-    ensures stack_win { IsReadExactly STACK_WIN }
-    ensures stack_cfi_init { IsReadExactly STACK_CFI_INIT }
-    ensures stack_cfi { IsReadExactly STACK_CFI }
-    ensures line { IsReadExactly LINE }
-    ensures inline { IsReadExactly INLINE }
-    ensures inner_origin { IsReadExactly INNER_ORIGIN }
+    ensures { AreFormsRead }
 {}
 
 /// A line is read as the one record whose form it has.
@@ -47,6 +41,12 @@ pub fn last_names_count()
     ensures { (records : List Named) → AreLastNames records (names_in records) }
 {}
 
+/// Line records and inlined calls are equal exactly where every field is.
+pub fn records_are_equal_by_field()
+    ensures lines { (a b : SourceLine) → IsTrue (⟦<SourceLine as PartialEq>⟧.eq a b) ↔ (a ≡ b) }
+    ensures calls { (a b : Inlinee) → IsTrue (⟦<Inlinee as PartialEq>⟧.eq a b) ↔ (a ≡ b) }
+{}
+
 /// PUBLIC records are equal exactly where every field is.
 pub fn public_symbols_are_equal_by_field()
     ensures { (a b : PublicSymbol) → IsTrue (⟦<PublicSymbol<'static> as PartialEq>⟧.eq a b) ↔ (lent_public a ≡ lent_public b) }
@@ -58,4 +58,16 @@ pub fn nearest_function()
         IsNearestCovering (λ f. f.start) (λ f. f.size) functions addr (function_at addr functions) }
     ensures only { (functions : List Function) (addr : ℕ) (answer : Option Function) →
         IsNearestCovering (λ f. f.start) (λ f. f.size) functions addr answer → answer ≡ function_at addr functions }
+{}
+
+/// What is seen from outside all calls has their sites and names, each moved by one: the code lies
+/// at the outermost call, each call at the next one, and the innermost at the line.
+pub fn calls_are_rotated()
+    ensures { (table : Table) (calls : List tables.Inlinee) (line : tables.SourceLine) (seen : Site × List Call) →
+        (seen_from table calls line ≡ Some seen) ↔ IsSeen table calls line seen }
+{}
+
+/// A symbol's start and offset make up the address that it answers for.
+pub fn answers_lie_at_their_addresses()
+    ensures { (table : Table) (opts : FindSymOpts) (addr : ℕ) (s : Symbol) → plain table opts addr ≡ Ok (Known s) → s.addr + s.offset ≡ addr }
 {}
