@@ -2,6 +2,8 @@
 
 ghost use Rattle.std.specs.Prelude.{◌≡◌, ◌<◌};
 
+mod calling;
+
 use crate::source::{Breakpad, Source};
 use crate::{Builder, Symbolizer};
 use bz_base::{Error, Input, Reason, Result, Steps, Symbolized};
