@@ -1,6 +1,6 @@
 -- The line record at a place: where its text begins, what its start is read from, and the records at places in order.
-use Rattle.std.proofs.Common.{◌≡◌, ℕ, zero, suc, ◌+◌, ◌-◌, ◌<◌, ◌≤◌, Bool, true, false, not, ◌==◌, List, [], ◌∷◌, ◌++◌, length, take, drop, map, get_or, Option, Some, None, option_map, unwrap_or, IsSome, refl, sym, ap, subst, ◌∙◌, arith, append_assoc, inl, inr}
-use Rattle.std.specs.List.{AllByRecursion, filter_map, prefix_len, slice_get}
+use Rattle.std.proofs.Common.{◌≡◌, ℕ, zero, suc, ◌+◌, ◌-◌, ◌<◌, ◌≤◌, true, false, not, ◌==◌, List, [], ◌∷◌, ◌++◌, length, drop, map, get_or, Option, Some, None, unwrap_or, IsSome, refl, sym, ap, subst, ◌∙◌, arith, append_assoc, inl, inr}
+use Rattle.std.specs.List.{AllByRecursion, prefix_len}
 use Rattle.std.specs.Prelude.{slice_index}
 use Rattle.std.proofs.lemmas.Bool.{false≢true, cases_lt}
 use Rattle.std.proofs.lemmas.List.{get_or-map, length-map, take-append-drop, drop_all}
@@ -11,7 +11,7 @@ use Rattle.bz_base.specs.Starts.{IsFound}
 use Rattle.bz_base.proofs.TableLemmas.{covering_at, covering_nowhere}
 use Rattle.bz_breakpad.specs.Byte.{is_hex}
 use Rattle.bz_breakpad.specs.Choice.{body_at}
-use Rattle.bz_breakpad.specs.Form.{Spells, Value}
+use Rattle.bz_breakpad.specs.Form.{Value}
 use Rattle.bz_breakpad.specs.Form.Form.{End, ◌·◌}
 use Rattle.bz_breakpad.specs.Form.Piece.{Sep, Hex, Dec}
 use Rattle.bz_breakpad.specs.Kept.{ReadsLine, kept_lines}

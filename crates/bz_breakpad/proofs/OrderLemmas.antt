@@ -1,16 +1,15 @@
 -- Records in the order in which they are searched: those that stand so, and copies of the others.
-use Rattle.std.proofs.Common.{◌≡◌, ℕ, zero, suc, ◌+◌, ◌-◌, ◌<◌, ◌≤◌, List, [], ◌∷◌, ◌++◌, length, take, drop, map, get_or, Option, Some, None, IfSome, refl, sym, ap, subst, ◌∙◌, arith, inl, inr, length-append}
+use Rattle.std.proofs.Common.{◌≡◌, ℕ, zero, suc, ◌-◌, ◌<◌, ◌≤◌, List, [], ◌∷◌, ◌++◌, length, take, drop, map, get_or, Option, Some, None, refl, sym, ap, subst, ◌∙◌, arith, inl, inr, length-append}
 use Rattle.std.specs.List.{AllByRecursion, slice_get, slice_range}
-use Rattle.std.specs.Prelude.{slice_index}
 use Rattle.std.proofs.lemmas.Bool.{cases_lt}
 use Rattle.std.proofs.lemmas.List.{length-map, take-append-drop}
-use Rattle.std.proofs.lemmas.Option.{none-some, same_Some, slice_get_within, slice_get_past}
+use Rattle.std.proofs.lemmas.Option.{same_Some, slice_get_within}
 use Rattle.bz_base.specs.Nearest.{IsTable}
 use Rattle.bz_base.specs.Starts.{NeverDescends}
 use Rattle.bz_base.proofs.TableLemmas.{start_at, record_at}
 use Rattle.bz_base.proofs.ViewLemmas.{table_seen}
 use Rattle.bz_breakpad.specs.Kept.{FunctionFits, IsPart, ReadsLine, kept_function, kept_lines}
-use Rattle.bz_breakpad.specs.Search.{AreInlineesSearched, AreLinesSearched, AreSearchable, Ascends, HasRecords, IsSearched, line_read, line_size, line_start, line_starts, searched}
+use Rattle.bz_breakpad.specs.Search.{AreInlineesSearched, AreLinesSearched, Ascends, HasRecords, IsSearched, line_read, line_size, line_start, line_starts}
 use Rattle.bz_breakpad.specs.Table.{SourceLine}
 use Rattle.bz_breakpad.specs.declared.types.FunctionTable.{FunctionTable}
 use Rattle.bz_breakpad.specs.declared.types.Inlinee.{Inlinee as KeptInlinee}

@@ -1,4 +1,4 @@
-use Rattle.std.proofs.Common.{◌≡◌, ◌-◌, ◌<◌, ◌≤◌, ℕ, Some, take, length}
+use Rattle.std.proofs.Common.{◌≡◌, ◌-◌, ◌<◌, ℕ, Some}
 use Rattle.std.specs.Prelude.{slice_index}
 use Rattle.bz_breakpad.specs.Search.{line_starts}
 use Rattle.bz_breakpad.proofs.lines.starts_ascend.Given as goal

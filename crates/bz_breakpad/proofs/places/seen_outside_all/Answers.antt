@@ -1,7 +1,7 @@
-use Rattle.std.proofs.Common.{◌≡◌, ℕ, Ok, length, [], ◌∷◌, ◌-◌, Some, List, drop, map, sym, ap, arith, ◌∙◌}
+use Rattle.std.proofs.Common.{◌≡◌, Ok, ◌-◌, Some, List, map, sym, ap, arith, ◌∙◌}
 use Rattle.std.specs.Prelude.{reverse}
 use Rattle.std.specs.Borrow.{Bor}
-use Rattle.bz_base.specs.Answer.{Call, Site, call_of, site_of}
+use Rattle.bz_base.specs.Answer.{Call, call_of, site_of}
 use Rattle.bz_base.specs.Lent.{IsLentCall}
 use Rattle.bz_breakpad.specs.Kept.{kept_inlinee}
 use Rattle.bz_breakpad.specs.Plain.{by_seen}

@@ -1,7 +1,6 @@
-use Rattle.std.proofs.Common.{◌≡◌, ap, subst, sym, option_map, ◌∙◌}
+use Rattle.std.proofs.Common.{ap, subst, sym, ◌∙◌}
 use Rattle.std.specs.List.{slice_range}
 use Rattle.bz_base.specs.Nearest.{IsTable}
-use Rattle.bz_breakpad.specs.Kept.{kept_inlinee}
 use Rattle.bz_breakpad.specs.Plain.{inlinee_at}
 use Rattle.bz_breakpad.specs.Table.{Function}
 use Rattle.bz_breakpad.specs.declared.types.Inlinee.{Inlinee as KeptInlinee}

@@ -1,4 +1,4 @@
-use Rattle.std.proofs.Common.{◌≡◌, [], ◌∷◌, ◌++◌, Some, arith, ap, ap₂, sym, subst, ◌∙◌, map, take, length}
+use Rattle.std.proofs.Common.{[], ◌∷◌, ◌++◌, arith, ap, ap₂, sym, subst, ◌∙◌, map, take, length}
 use Rattle.std.specs.Prelude.{slice_index}
 use Rattle.std.proofs.lemmas.List.{map-append, take_more}
 use Rattle.std.proofs.lemmas.Option.{same_Some}

@@ -1,6 +1,6 @@
-use Rattle.std.proofs.Common.{◌≡◌, Some, map, take, length}
+use Rattle.std.proofs.Common.{◌≡◌, Some, map, take}
 use Rattle.std.specs.List.{AllByRecursion}
-use Rattle.bz_base.specs.Answer.{in_batch, reading}
+use Rattle.bz_base.specs.Answer.{reading}
 use Rattle.bz_base.specs.Lent.{IsLent}
 use Rattle.bz_breakpad.specs.Plain.{batch}
 use Rattle.bz_breakpad.specs.Reader.{table_in}
