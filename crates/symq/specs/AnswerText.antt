@@ -1,30 +1,10 @@
 -- The text of an answer: a line for the symbol, or for the reason why there is none, and a line for each inlined call.
-use Rattle.std.specs.Prelude.{ℕ, Bool, false, ◌-◌, ◌==◌, List, [], ◌∷◌, ◌++◌, length, slice_get, flat_map, codes, decimal, Option, Some, None, if◌then◌else◌}
+use Rattle.std.specs.Prelude.{ℕ, false, List, [], ◌∷◌, ◌++◌, flat_map, codes, decimal, Option, Some, None}
 use Rattle.std.specs.Fmt.{digits}
 use Rattle.bz_base.specs.Answer.{Site, Call, Symbol, Answer}
 use Rattle.bz_base.specs.Answer.Answer.{Known, Unknown}
-use Rattle.bz_base.specs.Byte.{begins_with}
+use Rattle.bz_base.specs.Path.{path_text}
 use Rattle.bz_base.specs.ReasonText as reason
-
--- the byte between the parts of a path
-abbrev pub slash : ℕ
-slash = 47
-
-abbrev pub begins_with_slash : List ℕ → Bool
-begins_with_slash path = begins_with (λ b. b == slash) path
-
-abbrev pub last_byte : List ℕ → Option ℕ
-last_byte text = slice_get text (length text - 1)
-
--- the slash between a directory and a file, by the directory's last byte: none if it is empty or ends in a slash
-abbrev pub slash_after : Option ℕ → List ℕ
-slash_after None = []
-slash_after (Some last) = if last == slash then [] else codes "/"
-
--- the joined path of a file, which stands alone if it has no directory or begins with a slash
-abbrev pub path_text : Option (List ℕ) → List ℕ → List ℕ
-path_text None file = file
-path_text (Some dir) file = if begins_with_slash file then file else dir ++ (slash_after (last_byte dir) ++ file)
 
 -- a number as `0x` and lower-case hexadecimal digits, without leading zeros
 abbrev pub hex : ℕ → List ℕ

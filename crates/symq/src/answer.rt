@@ -4,7 +4,8 @@ ghost use Rattle.std.specs.Prelude.{◌≡◌, ◌++◌, Some, map, option_map, 
 ghost use Rattle.std.specs.Cow.{cow_str_bytes};
 ghost use Rattle.bz_base.specs.Answer.{site_of, call_of, symbol_of, reading};
 ghost use Rattle.bz_base.specs.Answer.Answer.{Unknown};
-ghost use Rattle.symq.specs.AnswerText.{begins_with_slash, last_byte, slash_after, path_text, size_text, module_text, line_text, place_text, end_text, start_text, extent_text, call_text, calls_text, symbol_text, result_text, answer_text};
+ghost use Rattle.bz_base.specs.Path.{begins_with_slash, last_byte, path_text, slash_after};
+ghost use Rattle.symq.specs.AnswerText.{size_text, module_text, line_text, place_text, end_text, start_text, extent_text, call_text, calls_text, symbol_text, result_text, answer_text};
 
 use bz_base::{CodeInfo, Error, InlinedFn, Reason, Result, Sym, Symbolized};
 use std::alloc::Global;
