@@ -1,6 +1,8 @@
 //! The program on files, inputs and outputs in memory.
 
 mod answer;
+mod many;
+mod nested;
 
 use crate::program::run;
 use crate::status::Status;
@@ -15,6 +17,14 @@ const ADDRESSES: &str = "1010\n1030\n";
 
 const ANSWERS: &str =
     "0x1010: another func+0x10 start 0x1000 size 0x30 module bar at -\n0x1030: ? address not found in symbolization source\n";
+
+/// The same, where a line record tells the place.
+const PLACED: &str =
+    "0x1010: another func+0x10 start 0x1000 size 0x30 module bar at bar.c:7\n0x1030: ? address not found in symbolization source\n";
+
+/// The same, in a call that was inlined.
+const INLINED: &str =
+    "0x1010: another func+0x10 start 0x1000 size 0x30 module bar at bar.c:5\n  a at bar.c:7\n0x1030: ? address not found in symbolization source\n";
 
 /// A file of several records, and the same with carriage returns before its line feeds.
 const RECORDS: &str =
@@ -38,7 +48,8 @@ const BLANK_LINE: &str = "FUNC 1000 10 0 f\n1000 10 5 1\n\nFILE 1 a.c\n";
 struct Row<'a> {
     /// The path after the word `breakpad`.
     path: &'a str,
-    /// The text of the file at `/a.sym`.
+    /// Where the one file is, and its text.
+    at: &'a str,
     file: &'a str,
     input: &'a [u8],
     /// The calls of files, input and output that fail, counted from 1; 0 where none does.
@@ -51,6 +62,7 @@ struct Row<'a> {
 fn over_first<'a>(path: &'a str, input: &'a str, status: Status, written: &'a str) -> Row<'a> {
     Row {
         path,
+        at: "/a.sym",
         file: FIRST,
         input: input.as_bytes(),
         faults: (0, 0, 0),
@@ -66,7 +78,7 @@ fn ending(alloc: Global, row: Row<'_>) -> Result<(Status, Vec<u8>), Fail> {
         String::from_str(alloc, row.path)?,
     ]?;
     let mut files = MemFiles::new(alloc, 7);
-    files.put(alloc, "/a.sym", row.file.as_bytes().to_vec(alloc)?)?;
+    files.put(alloc, row.at, row.file.as_bytes().to_vec(alloc)?)?;
     files.fail_call(alloc, row.faults.0)?;
     let mut from = MemIn::new(row.input.to_vec(alloc)?);
     from.fail_call(row.faults.1);
@@ -91,10 +103,10 @@ fn check(rt: &impl Abort, alloc: Global, row: Row<'_>) -> Result<(), Fail> {
 fn answers_addresses_in_their_order(rt: HostRuntime) -> Result<(), Fail> {
     let rows = [
         (FIRST, ADDRESSES, ANSWERS),
-        (RECORDS, ADDRESSES, ANSWERS),
-        (ONE_RETURN, ADDRESSES, ANSWERS),
-        (TWO_RETURNS, ADDRESSES, ANSWERS),
-        (EVERY_KIND, ADDRESSES, ANSWERS),
+        (RECORDS, "1010\n0x1030\n", PLACED),
+        (ONE_RETURN, "1010\n0x1030\n", PLACED),
+        (TWO_RETURNS, "1010\n0x1030\n", PLACED),
+        (EVERY_KIND, ADDRESSES, INLINED),
         (FIRST, "0x1010\r\n\r\n1030", ANSWERS),
         (
             "PUBLIC 10 0 p\n",

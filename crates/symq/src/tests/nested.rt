@@ -1,0 +1,57 @@
+//! A function with calls in calls.
+
+use super::{Row, check};
+use crate::status::Status;
+use bz_base::{Error, Input, Reason, Symbolized};
+use bz_files::MemFiles;
+use bz_symbolize::Symbolizer;
+use bz_symbolize::source::{Breakpad, Source};
+use std::process::Abort;
+use std::test::Fail;
+
+/// The line record at 1000 names a file that has no FILE record.
+const NESTED: &str =
+    "FILE 15 o.c\nFILE 4 m.c\nFILE 8 i2.c\nFUNC 1000 30 10 outer_func()\nINLINE_ORIGIN 1 inner_func_2()\nINLINE_ORIGIN 2 mid_func()\nINLINE_ORIGIN 3 inner_func_1()\nINLINE 0 60 15 2 1000 20\nINLINE 1 12 4 3 1000 10\nINLINE 1 17 4 1 1010 10\n1000 10 42 7\n1010 10 52 8\n1020 10 62 15\n";
+
+const ANSWERS: &str =
+    "0x1010: outer_func()+0x10 start 0x1000 size 0x30 module - at o.c:60\n  mid_func() at m.c:17\n  inner_func_2() at i2.c:52\n0x1020: outer_func()+0x20 start 0x1000 size 0x30 module - at o.c:62\n0x1000: ? an error occurred but was ignored in batch mode\n";
+
+/// The calls stand below their caller, each with its place; outside of them the line record has it.
+#[test]
+fn answers_calls_in_calls(rt: HostRuntime) -> Result<(), Fail> {
+    let row = Row {
+        path: "/n.sym",
+        at: "/n.sym",
+        file: NESTED,
+        input: b"1010\n1020\n1000\n",
+        faults: (0, 0, 0),
+        status: Status::Done,
+        written: ANSWERS,
+    };
+    check(&rt, rt.alloc(), row)
+}
+
+/// An answer of a batch is that of its address alone, and where that one is refused an ignored error.
+#[test]
+fn answers_alone_as_in_a_batch(rt: HostRuntime) -> Result<(), Fail> {
+    let alloc = rt.alloc();
+    let src = Source::from(Breakpad::new(String::from_str(alloc, "/n.sym")?));
+    let mut files = MemFiles::new(alloc, 7);
+    files.put(alloc, "/n.sym", NESTED.as_bytes().to_vec(alloc)?)?;
+    let mut symbolizer = Symbolizer::new(alloc);
+    let addrs = [0x1010, 0x1020, 0x1000];
+    let batch = symbolizer.symbolize(alloc, &mut files, &src, Input::FileOffset(&addrs))?;
+    assert!(rt; batch.len() == addrs.len());
+    for (addr, answer) in addrs.iter().zip(batch.iter()) {
+        match symbolizer.symbolize_single(alloc, &mut files, &src, Input::FileOffset(*addr)) {
+            Ok(single) => assert!(rt; *answer == single && *addr != 0x1000, "{addr}"),
+            Err(error) => assert!(rt;
+                error == Error::InvalidInput
+                    && *addr == 0x1000
+                    && *answer == Symbolized::Unknown(Reason::IgnoredError),
+                "{addr}"
+            ),
+        }
+    }
+    Ok(())
+}
