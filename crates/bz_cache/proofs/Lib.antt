@@ -7,6 +7,7 @@ pub mod MapViews
 pub mod Naming
 pub mod Pinning
 pub mod Refusing
+pub mod Sharing
 pub mod SortedEdits
 pub mod SortedPairs
 pub mod Stamps

@@ -1,5 +1,5 @@
 -- A look at a path: its answer, and the cache after it.
-use Rattle.std.specs.Prelude.{◌≡◌, ℕ, Bool, false, not, ◌&&◌, cond, List, [], ◌∷◌, ◌++◌, Option, Some, None, unwrap_or, is_some, IsSome, Result, Ok, Err}
+use Rattle.std.specs.Prelude.{◌≡◌, ◌⊎◌, ℕ, Bool, false, not, ◌&&◌, cond, List, [], ◌∷◌, ◌++◌, Option, Some, None, unwrap_or, is_some, IsSome, Result, Ok, Err}
 use Rattle.std.specs.FinMap as map
 use Rattle.bz_base.specs.declared.error.Error.{Error}
 use Rattle.bz_base.specs.declared.error.Error.TheVariants as errors
@@ -80,6 +80,13 @@ pub record Lends (test : List ℕ → Option Error) (old new : Cache) (path byte
   pub some : IsSomeLook test old new path bytes
   pub unchanged : IsSome (fixed old path) → new ≡ old
   pub consistent : Consistent test new
+
+-- what a call that shares the version of an answered look leaves: what the look lends and leaves; where it was refused the cache
+-- as it was, or as the look left it if memory ran out
+abbrev pub Shares : {A : Type 0} → (A → List ℕ) → (List ℕ → Option Error) → Result A Error → Cache → Cache → List ℕ → Option World → Type 0
+Shares bytes_of test (Ok version) old new path in_view = Lends test old new path (bytes_of version) in_view
+Shares bytes_of test (Err errors.OutOfMemory) old new path in_view = (new ≡ old) ⊎ ((bytes : List ℕ) × Lends test old new path bytes in_view)
+Shares bytes_of test (Err e) old new path in_view = new ≡ old
 
 -- the count of opens once a file was opened or not
 abbrev pub opens_after : Bool → ℕ → ℕ

@@ -7,7 +7,7 @@ ghost use Rattle.bz_cache.specs.Eviction.{evicted, evicts};
 ghost use Rattle.bz_files.specs.Looked.{Faulted, Looked, ReadsOne};
 ghost use Rattle.bz_files.specs.World.{Told, in_view, entry_at};
 ghost use Rattle.bz_cache.specs.Format.{Comes, MayFail};
-ghost use Rattle.bz_cache.specs.Look.{named, look, by_entry, is_new, will_open, opens_after, IsUnmoved, Lends};
+ghost use Rattle.bz_cache.specs.Look.{named, look, by_entry, is_new, will_open, opens_after, IsUnmoved, Lends, Shares};
 ghost use Rattle.bz_cache.specs.Steps.{LeavesCache, ReadsFile};
 ghost use Rattle.bz_cache.specs.View.{fixed, bytes_at};
 
@@ -139,6 +139,15 @@ impl<T: Version + Drop> FileCache<T> {
         entries::get(&self.entries, stamp)
     }
 
+    // The kept version with the stamp, with one owner more.
+    fn share(&self, stamp: &Stamp) -> Result<Rc<T>>
+        requires { IsSome (map.get self.now.kept stamp.now) }
+        ensures ok { IfOk result (λ version. map.get self.now.kept stamp.now ≡ Some (T.bytes_of version.value)) }
+        ensures memory { IsOkUnless result Error.OutOfMemory }
+    {
+        entries::share(&self.entries, stamp)
+    }
+
     // Makes the kept version with the stamp the path's current one.
     fn update_path(&mut self, alloc: Global, path: &str, stamp: Stamp) -> Result<()>
         requires { IsSome (map.get self.old.kept stamp) }
@@ -194,6 +203,22 @@ impl<T: Version + Drop> FileCache<T> {
     {
         let stamp = self.look(alloc, files, path)?;
         Ok(self.version(&stamp))
+    }
+
+    /// The same version, shared: the caller keeps it also where the cache lets it go. After a refusal
+    /// the cache is as before; where memory ran out, the file may have been taken in.
+    pub fn shared<F: Files>(&mut self, alloc: Global, files: &mut F, path: &str) -> Result<Rc<T>>
+        ensures after { Shares (λ v. T.bytes_of v.value) T.test result self.old self.new path.now (in_view (F.worlds files.old)) }
+        ensures answer { Told (in_view (F.worlds files.old)) (λ w. Comes (λ v. T.bytes_of v.value) (look T.test self.old path.now (entry_at w path.now)).0 result) }
+        ensures unseen { IsSome (fixed self.old path.now) → (files.new ≡ files.old) × (self.new ≡ self.old) }
+        ensures opened { Told (in_view (F.worlds files.old)) (λ w. OnOk result (F.opens files.new ≡ opens_after (will_open self.old path.now (entry_at w path.now)) (F.opens files.old))) }
+        ensures spared { Told (in_view (F.worlds files.old)) (λ w. will_open self.old path.now (entry_at w path.now) ≡ false → F.opens files.new ≡ F.opens files.old) }
+        ensures most { ReadsOne F.Files files.old files.new }
+        ensures files { Looked F.Files files.old files.new (Faulted result) }
+        ensures refusal { IfErr result (MayFail T.test) }
+    {
+        let stamp = self.look(alloc, files, path)?;
+        self.share(&stamp)
     }
 
     // The stamp of the version that the path answers by.

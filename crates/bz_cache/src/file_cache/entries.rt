@@ -1,6 +1,6 @@
 //! The kept versions, by their stamps.
 
-ghost use Rattle.std.specs.Prelude.{◌≡◌, OnOk, OnErr, IsOkUnless, IsSome, is_some, Some};
+ghost use Rattle.std.specs.Prelude.{◌≡◌, IfOk, OnOk, OnErr, IsOkUnless, IsSome, is_some, Some};
 ghost use Rattle.std.specs.BTreeMap.{keys, IsOrdered};
 ghost use Rattle.std.specs.FinMap as map;
 ghost use Rattle.bz_cache.specs.Cache.{stamp_cmp};
@@ -31,6 +31,18 @@ pub fn get<'e, T: Version + Drop>(entries: &'e BTreeMap<Stamp, Rc<T>>, stamp: &S
 {
     match entries.get(stamp) {
         Some(value) => value.as_ref(),
+        None => unreachable!(),
+    }
+}
+
+/// The kept version with the stamp, with one owner more.
+pub fn share<T: Version + Drop>(entries: &BTreeMap<Stamp, Rc<T>>, stamp: &Stamp) -> Result<Rc<T>>
+    requires { IsSome (map.get (kept_of T.bytes_of entries.now) stamp.now) }
+    ensures ok { IfOk result (λ version. map.get (kept_of T.bytes_of entries.now) stamp.now ≡ Some (T.bytes_of version.value)) }
+    ensures memory { IsOkUnless result Error.OutOfMemory }
+{
+    match entries.get(stamp) {
+        Some(value) => Ok(value.clone()?),
         None => unreachable!(),
     }
 }
