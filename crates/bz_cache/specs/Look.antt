@@ -81,12 +81,17 @@ pub record Lends (test : List ℕ → Option Error) (old new : Cache) (path byte
   pub unchanged : IsSome (fixed old path) → new ≡ old
   pub consistent : Consistent test new
 
--- what a call that shares the version of an answered look leaves: what the look lends and leaves; where it was refused the cache
--- as it was, or as the look left it if memory ran out
+-- a look that isn't answered leaves the cache, and is none at a fixed path
+pub record Unanswered (old new : Cache) (path : List ℕ) : Type 0 where
+  pub unchanged : new ≡ old
+  pub not_fixed : IsSome (fixed old path) → ⊥
+
+-- what a call that shares the version of a look leaves: what an answered look lends and leaves, also where memory ran out for
+-- the share; or the look wasn't answered
 abbrev pub Shares : {A : Type 0} → (A → List ℕ) → (List ℕ → Option Error) → Result A Error → Cache → Cache → List ℕ → Option World → Type 0
 Shares bytes_of test (Ok version) old new path in_view = Lends test old new path (bytes_of version) in_view
-Shares bytes_of test (Err errors.OutOfMemory) old new path in_view = (new ≡ old) ⊎ ((bytes : List ℕ) × Lends test old new path bytes in_view)
-Shares bytes_of test (Err e) old new path in_view = new ≡ old
+Shares bytes_of test (Err errors.OutOfMemory) old new path in_view = Unanswered old new path ⊎ ((bytes : List ℕ) × Lends test old new path bytes in_view)
+Shares bytes_of test (Err e) old new path in_view = Unanswered old new path
 
 -- the count of opens once a file was opened or not
 abbrev pub opens_after : Bool → ℕ → ℕ

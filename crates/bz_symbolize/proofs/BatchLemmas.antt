@@ -1,11 +1,16 @@
 -- What a version answers to a batch, in the words of the source's format.
-use Rattle.std.proofs.Common.{◌↔◌, ℕ, List, Ok, Err, ap, sym}
-use Rattle.bz_base.specs.Answer.{Answer}
+use Rattle.std.proofs.Common.{◌≡◌, ◌↔◌, ◌<◌, ℕ, List, length, option_map, Some, slice_get, get_or, Result, Ok, Err, IfOk, ap, sym, ◌∙◌}
+use Rattle.std.proofs.lemmas.Option.{slice_get-get_or, slice_get-map}
+use Rattle.bz_base.specs.Answer.{Answer, in_batch, reading}
 use Rattle.bz_base.specs.InputKind.{AddressKind}
 use Rattle.bz_base.specs.declared.error.Error.{Error}
 use Rattle.bz_base.specs.declared.types.FindSymOpts.{FindSymOpts}
+use Rattle.bz_base.specs.declared.types.Symbolized.{Symbolized}
+use Rattle.bz_breakpad.specs.Reader.{table_in}
+use Rattle.bz_symbolize.specs.Batch.{breakpad_batch}
 use Rattle.bz_symbolize.specs.FileCall.{batch_of}
 use Rattle.bz_symbolize.specs.Promise.{IsAnswerOf, IsBreakpadAnswer, IsBreakpadBatch}
+use Rattle.bz_symbolize.specs.Sources.{breakpad_single}
 use Rattle.bz_symbolize.specs.declared.source.Source.{Source}
 use Rattle.bz_symbolize.specs.declared.source.Source.TheVariants as sources
 
@@ -22,3 +27,12 @@ pub plain_batch : (opts : FindSymOpts) (bytes : List ℕ) (kind : AddressKind) (
     IsBreakpadAnswer opts bytes (batch_of kind addrs) (Ok answers) ↔ IsBreakpadBatch opts bytes addrs answers
 plain_batch opts bytes kind addrs answers =
     (batch_answered opts bytes kind addrs answers, λ is. record { table = is.table; accepted = is.accepted; plain = ap Ok (sym is.plain) })
+
+-- the answer that is read of the address of an index is the batch's of that index
+pub answer_read : (opts : FindSymOpts) (bytes addrs : List ℕ) (i d : ℕ) → i < length addrs → (result : Result Symbolized Error) →
+    IfOk result (λ entry. reading entry ≡ in_batch (breakpad_single opts (table_in bytes) (get_or addrs i d))) →
+    IfOk result (λ entry. slice_get (breakpad_batch opts bytes addrs) i ≡ Some (reading entry))
+answer_read opts bytes addrs i d within (Ok entry) is =
+    let single : ℕ → Answer = λ addr. in_batch (breakpad_single opts (table_in bytes) addr) in
+    slice_get-map single addrs i ∙ ap (option_map single) (slice_get-get_or addrs i d within) ∙ ap Some (sym is)
+answer_read opts bytes addrs i d within (Err e) is = tt

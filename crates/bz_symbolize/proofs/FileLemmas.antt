@@ -1,16 +1,19 @@
 -- What a call on one file does, from what a look gives and what a version answers, whatever the format and the question.
-use Rattle.std.proofs.Common.{◌≡◌, ℕ, true, false, List, Option, Some, None, unwrap_or, Result, Err, inl, refl, sym, ◌∙◌}
+use Rattle.std.proofs.Common.{◌≡◌, ℕ, true, false, List, Option, Some, None, unwrap_or, Result, Err, IsSome, inl, inr, refl, sym, ap, subst, ◌∙◌}
 use Rattle.std.specs.FinMap as map
+use Rattle.std.proofs.lemmas.Bool.{false≢true}
 use Rattle.bz_base.specs.declared.error.Error.{Error}
 use Rattle.bz_base.specs.declared.error.Error.TheVariants as errors
 use Rattle.bz_files.specs.declared.stamp.Stamp.{Stamp}
-use Rattle.bz_files.specs.World.{World, Entry, Denied, Present, entry_at}
-use Rattle.bz_cache.specs.Cache.{Cache}
+use Rattle.bz_files.specs.declared.files.Files.{Ghosts}
+use Rattle.bz_files.specs.Looked.{Faulted, Looked, ReadsOne}
+use Rattle.bz_files.specs.World.{World, Entry, Denied, Present, Told, in_view, entry_at}
+use Rattle.bz_cache.specs.Cache.{Cache, Consistent}
 use Rattle.bz_cache.specs.Coherence.{Coherent}
-use Rattle.bz_cache.specs.Format.{Comes, FailsAs}
-use Rattle.bz_cache.specs.Look.{look, will_open, by_test, by_entry, by_fixed, Lends}
+use Rattle.bz_cache.specs.Format.{Comes, FailsAs, MayFail}
+use Rattle.bz_cache.specs.Look.{look, will_open, by_test, by_entry, by_fixed, Lends, Shares, Unanswered}
 use Rattle.bz_cache.specs.View.{fixed, by_fixed_view, shown, view}
-use Rattle.bz_symbolize.specs.FileCall.{Question, by_version, by_look, Leaves, FileTold, ByVersion}
+use Rattle.bz_symbolize.specs.FileCall.{Question, by_version, by_look, Leaves, CallsFile, FileTold, ByVersion, MayBeRefused}
 use Rattle.bz_base.specs.Answer.{Gives}
 use Rattle.bz_symbolize.specs.Lookup.{by_view}
 
@@ -85,3 +88,85 @@ told_refused {A} reading asked path e old now there before after taken same fail
 pub by_lent : {A B : Type 0} (reading : A → B) (asked : Question B) (path bytes : List ℕ) (in_view : Option World) (old now : Cache) (result : Result A Error) →
     Lends asked.test old now path bytes in_view → Gives reading (asked.given bytes) result → ByVersion reading asked path result old now
 by_lent reading asked path bytes in_view old now result lent given = record { bytes = bytes; kept = lent.kept; looked = lent.some; given = given }
+
+-- a look leaves whether the cache reloads
+module _ (test : List ℕ → Option Error) (c : Cache) (p : List ℕ) where
+  reload_test : (s : Stamp) (v : List ℕ) (t : Option Error) → (by_test c p s v t).1.reload ≡ c.reload
+  reload_test s v None = refl
+  reload_test s v (Some _) = refl
+
+  reload_entry : (there : Option Entry) → (by_entry test c p there).1.reload ≡ c.reload
+  reload_entry None = refl
+  reload_entry (Some Denied) = refl
+  reload_entry (Some (Present s b)) = reload_test s _ _
+
+  reload_look : (there : Option Entry) → (look test c p there).1.reload ≡ c.reload
+  reload_look there = by_fix (fixed c p)
+    where
+      by_fix : (o : Option Stamp) → (by_fixed test c p there o).1.reload ≡ c.reload
+      by_fix (Some s) = refl
+      by_fix None = reload_entry there
+
+-- a refusal of a look is one that a call may have
+may_be_refused : (test : List ℕ → Option Error) (e : Error) → MayFail test e → MayBeRefused test e
+may_be_refused test errors.Unsupported may = tt
+may_be_refused test _ may = may
+
+-- a call to which no version was shared
+module _ {A B V X : Type 0} (files : Ghosts X) (reading : A → B) (bytes_of : V → List ℕ) (asked : Question B) (path : List ℕ) (old new : Cache) (before after : X) where
+  abbrev Fails : Error → Type 0
+  Fails e = Told (in_view (files.worlds before)) (λ w. FailsAs (look asked.test old path (entry_at w path)).0 e)
+
+  abbrev Spares : Type 0
+  Spares = Told (in_view (files.worlds before)) (λ w. will_open old path (entry_at w path) ≡ false → files.opens after ≡ files.opens before)
+
+  -- since the look wasn't answered
+  unanswered : (e : Error) → asked.taken ≡ true → Unanswered old new path → Fails e → Spares → ReadsOne files before after →
+      Looked files before after (Faulted {A = A} (Err e)) → MayFail asked.test e → CallsFile files reading asked path (Err e) old new before after
+  unanswered e taken none fails spared most looked may = record {
+    told = λ world seen. told_refused reading asked path e old new (entry_at world path) _ _ taken none.unchanged (fails world seen) (spared world seen);
+    some = inr (record { refused = refl; refusal = may_be_refused asked.test e may; unchanged = none.unchanged });
+    untaken = λ other. absurd (false≢true (sym other ∙ taken));
+    stays = λ held. absurd (none.not_fixed held);
+    ready = λ held t. absurd (none.not_fixed held);
+    consistent = λ all. subst (Consistent asked.test) (sym none.unchanged) all;
+    reload = ap (λ (c : Cache). c.reload) none.unchanged;
+    looked = looked;
+    most = most;
+  }
+
+  -- since memory ran out for the share
+  lent_alone : (bytes : List ℕ) → asked.taken ≡ true → Lends asked.test old new path bytes (in_view (files.worlds before)) →
+      (IsSome (fixed old path) → after ≡ before) → Spares → ReadsOne files before after → Looked files before after (Faulted {A = A} (Err errors.OutOfMemory)) →
+      CallsFile files reading asked path (Err errors.OutOfMemory) old new before after
+  lent_alone bytes taken lent unseen spared most looked =
+      let by = by_lent {A = A} reading asked path bytes (in_view (files.worlds before)) old new (Err errors.OutOfMemory) lent tt in
+      record {
+        told = λ world seen. record {
+          answer = tt;
+          state = rw taken (inr (lent.state world seen));
+          opened = tt;
+          spared = λ closed. spared world seen (rw taken at closed);
+        };
+        some = inl by;
+        untaken = λ other. absurd (false≢true (sym other ∙ taken));
+        stays = λ held. (lent.unchanged held, unseen held);
+        ready = λ held t. by;
+        consistent = λ all. lent.consistent;
+        reload = ap (λ (x : Result (List ℕ) Error × Cache). x.1.reload) (sym lent.some.1) ∙ reload_look asked.test old path lent.some.0;
+        looked = looked;
+        most = most;
+      }
+
+  -- memory ran out for the look or for the share
+  out_of_memory : asked.taken ≡ true → Shares bytes_of asked.test (Err errors.OutOfMemory) old new path (in_view (files.worlds before)) →
+      (IsSome (fixed old path) → after ≡ before) → Spares → ReadsOne files before after → Looked files before after (Faulted {A = A} (Err errors.OutOfMemory)) →
+      CallsFile files reading asked path (Err errors.OutOfMemory) old new before after
+  out_of_memory taken (inl none) unseen spared most looked = unanswered errors.OutOfMemory taken none (λ world seen. tt) spared most looked tt
+  out_of_memory taken (inr lent) unseen spared most looked = lent_alone lent.0 taken lent.1 unseen spared most looked
+
+  pub calls_unshared : (e : Error) → asked.taken ≡ true → Shares bytes_of asked.test (Err e) old new path (in_view (files.worlds before)) → Fails e →
+      (IsSome (fixed old path) → after ≡ before) → Spares → ReadsOne files before after → Looked files before after (Faulted {A = A} (Err e)) → MayFail asked.test e →
+      CallsFile files reading asked path (Err e) old new before after
+  calls_unshared errors.OutOfMemory taken left fails unseen spared most looked may = out_of_memory taken left unseen spared most looked
+  calls_unshared _ taken none fails unseen spared most looked may = unanswered _ taken none fails spared most looked may

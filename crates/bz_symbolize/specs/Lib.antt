@@ -1,4 +1,5 @@
 pub mod Alike
+pub mod Batch
 pub mod FileCall
 pub mod History
 pub mod Lookup

@@ -1,15 +1,17 @@
 //! How a parsed file answers, whatever its format, and the calls on one file in one cache.
 
-ghost use Rattle.std.specs.Prelude.{◌≡◌, map, IfErr};
+ghost use Rattle.std.specs.Prelude.{◌≡◌, map, IfOk, IfErr};
 ghost use Rattle.bz_base.specs.Answer.{Gives, reading};
-ghost use Rattle.bz_base.specs.InputKind.{address_kind};
+ghost use Rattle.bz_base.specs.InputKind.{address_kind, payload};
 ghost use Rattle.bz_base.specs.Refusals.{MayRefuse};
-ghost use Rattle.bz_symbolize.specs.FileCall.{Answering, CallsFile, batch_query, query_asked, query_given, single_query};
+ghost use Rattle.bz_symbolize.specs.FileCall.{Answering, CallsFile, batch_of, batch_query, query_asked, query_given, single_query};
 
+use crate::lookups::Lookups;
 use bz_base::{Error, FindSymOpts, Input, Result, Steps, Symbolized};
 use bz_cache::{FileCache, Version};
 use bz_files::Files;
 use std::alloc::Global;
+use std::rc::Rc;
 use std::sync::ledger::Ledger;
 
 /// A parsed file that answers addresses.
@@ -43,6 +45,17 @@ pub trait Answers: Version {
         steps: &mut Steps<L>,
     ) -> Result<Symbolized<'static>>
         ensures answer { Gives reading (query_given answering opts.now path.now (single_query input) (Self.bytes_of self.now)) result }
+        ensures refusal { IfErr result MayRefuse };
+
+    /// The addresses with the version, from which their answers are then made one by one.
+    fn look_up(
+        version: Rc<Self>,
+        opts: FindSymOpts,
+        path: &str,
+        input: Input<Vec<u64>>,
+    ) -> Result<Lookups>
+        ensures answer { Gives (λ lookups. lookups.answers) (query_given answering opts path.now (batch_of (address_kind input) (payload input).items) (Self.bytes_of version.value)) result }
+        ensures addrs { IfOk result (λ lookups. lookups.addrs ≡ (payload input).items) }
         ensures refusal { IfErr result MayRefuse };
 }
 
@@ -82,4 +95,24 @@ pub fn answer_file_at<T: Answers + Drop, F: Files, L: Ledger>(
     }
     let version = cache.entry(alloc, files, path)?;
     version.answer_at(alloc, opts, path, input, steps)
+}
+
+/// The addresses with the version of the file at the path, from which their answers are then made one
+/// by one.
+pub fn look_up_file<T: Answers + Drop, F: Files>(
+    cache: &mut FileCache<T>,
+    alloc: Global,
+    files: &mut F,
+    path: &str,
+    opts: FindSymOpts,
+    input: Input<Vec<u64>>,
+) -> Result<Lookups>
+    ensures called { CallsFile F.Files (λ lookups. lookups.answers) (query_asked T.test T.answering opts path.now (batch_of (address_kind input) (payload input).items)) path.now result cache.old cache.new files.old files.new }
+    ensures addrs { IfOk result (λ lookups. lookups.addrs ≡ (payload input).items) }
+{
+    if !T::takes(&input) {
+        return Err(Error::Unsupported);
+    }
+    let shared = cache.shared(alloc, files, path)?;
+    T::look_up(shared, opts, path, input)
 }

@@ -2,14 +2,19 @@
 
 ghost use Rattle.std.specs.Prelude.{◌≡◌, ◌<◌, Ok, length, map, slice_index, IfOk, IfErr, IsOkUnless};
 ghost use Rattle.bz_base.specs.Answer.{Gives, in_batch, reading};
+ghost use Rattle.bz_base.specs.InputKind.{address_kind, payload};
+ghost use Rattle.bz_base.specs.Refusals.{MayRefuse};
 ghost use Rattle.bz_breakpad.specs.Reader.{table_in};
 ghost use Rattle.bz_breakpad.specs.Refusal.{IsAnswerRefusal};
+ghost use Rattle.bz_symbolize.specs.FileCall.{batch_of, query_given};
 ghost use Rattle.bz_symbolize.specs.Sources.{breakpad_answering, breakpad_single};
 
 use crate::answering::Answers;
+use crate::lookups::Lookups;
 use bz_base::{Addr, Error, FindSymOpts, Input, Result, Steps, Sym, Symbolized, in_batch};
-use bz_breakpad::{Lookups, SymbolFile};
+use bz_breakpad::SymbolFile;
 use std::alloc::Global;
+use std::rc::Rc;
 use std::sync::ledger::Ledger;
 
 impl Answers for SymbolFile {
@@ -52,6 +57,23 @@ impl Answers for SymbolFile {
             Input::AbsAddr(_) | Input::VirtOffset(_) => Err(Error::Unsupported),
         }
     }
+
+    fn look_up(
+        version: Rc<SymbolFile>,
+        opts: FindSymOpts,
+        path: &str,
+        input: Input<Vec<u64>>,
+    ) -> Result<Lookups>
+        ensures answer { Gives (λ lookups. lookups.answers) (query_given breakpad_answering opts path.now (batch_of (address_kind input) (payload input).items) version.value) result }
+        ensures addrs { IfOk result (λ lookups. lookups.addrs ≡ (payload input).items) }
+        ensures refusal { IfErr result MayRefuse }
+    {
+        let _path = path;
+        match input {
+            Input::FileOffset(addrs) => Ok(Lookups::of_breakpad(version, opts, addrs)),
+            Input::AbsAddr(_) | Input::VirtOffset(_) => Err(Error::Unsupported),
+        }
+    }
 }
 
 // The answers of a file, with texts of their own.
@@ -77,7 +99,7 @@ fn answers_of<L: Ledger>(
 // The answer at the address of an index, as an entry of a batch, with texts of its own.
 fn entry_at(
     alloc: Global,
-    lookups: &Lookups<'_, '_>,
+    lookups: &bz_breakpad::Lookups<'_, '_>,
     index: usize,
     opts: &FindSymOpts,
 ) -> Result<Symbolized<'static>>

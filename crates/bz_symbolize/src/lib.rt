@@ -5,6 +5,7 @@ mod answering;
 mod breakpad;
 mod builder;
 pub mod laws;
+mod lookups;
 mod settings;
 pub mod source;
 mod symbolizer;
@@ -12,4 +13,5 @@ mod symbolizer;
 mod tests;
 
 pub use builder::Builder;
+pub use lookups::Lookups;
 pub use symbolizer::Symbolizer;

@@ -1,13 +1,15 @@
 //! The symbolizer.
 
-ghost use Rattle.std.specs.Prelude.{◌≡◌, ◌<◌, map};
+ghost use Rattle.std.specs.Prelude.{◌≡◌, ◌<◌, map, IfOk};
 ghost use Rattle.bz_base.specs.Answer.{reading};
-ghost use Rattle.bz_symbolize.specs.FileCall.{batch_query, single_query};
+ghost use Rattle.bz_base.specs.InputKind.{address_kind, payload};
+ghost use Rattle.bz_symbolize.specs.FileCall.{batch_of, batch_query, single_query};
 ghost use Rattle.bz_symbolize.specs.Promise.{AsksSource, Symbolizes};
 ghost use Rattle.bz_symbolize.specs.State.{default_settings, new_state};
 
-use crate::answering::{answer_file, answer_file_at};
+use crate::answering::{answer_file, answer_file_at, look_up_file};
 use crate::builder::Builder;
+use crate::lookups::Lookups;
 use crate::settings::Settings;
 use crate::source::Source;
 use bz_base::{FindSymOpts, Input, Result, Steps, Symbolized};
@@ -93,6 +95,22 @@ impl Symbolizer {
         ensures { Symbolizes F.Files reading src.now (single_query input) result self.old self.new files.old files.new }
     {
         self.symbolize_single_blank::<F, Brand>(alloc, files, src, input, Blank::new(1))
+    }
+
+    /// The same answers as `symbolize`, made one by one: they lend their texts from the version of the
+    /// file that the call found, so that no list of them and no text of their own is in memory.
+    pub fn look_up<F: Files>(
+        &mut self,
+        alloc: Global,
+        files: &mut F,
+        src: &Source,
+        input: Input<Vec<u64>>,
+    ) -> Result<Lookups>
+        ensures call { Symbolizes F.Files (λ lookups. lookups.answers) src.now (batch_of (address_kind input) (payload input).items) result self.old self.new files.old files.new }
+        ensures addrs { IfOk result (λ lookups. lookups.addrs ≡ (payload input).items) }
+    {
+        let opts = self.settings.opts();
+        self.look_up_source(alloc, files, src, opts, input)
     }
 
     /// The same answers as `symbolize`, with a count of the steps of their searches.
@@ -193,6 +211,30 @@ impl Symbolizer {
                 opts,
                 input,
                 steps,
+            ),
+        }
+    }
+
+    // The addresses with a version of the source, by its form and format.
+    fn look_up_source<F: Files>(
+        &mut self,
+        alloc: Global,
+        files: &mut F,
+        src: &Source,
+        opts: FindSymOpts,
+        input: Input<Vec<u64>>,
+    ) -> Result<Lookups>
+        ensures asked { AsksSource F.Files (λ lookups. lookups.answers) src.now opts (batch_of (address_kind input) (payload input).items) result self.old self.new files.old files.new }
+        ensures addrs { IfOk result (λ lookups. lookups.addrs ≡ (payload input).items) }
+    {
+        match src {
+            Source::Breakpad(source) => look_up_file(
+                &mut self.breakpad,
+                alloc,
+                files,
+                source.path.as_str(),
+                opts,
+                input,
             ),
         }
     }

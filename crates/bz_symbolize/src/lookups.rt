@@ -1,0 +1,91 @@
+//! Batches whose answers are made one by one.
+
+ghost use Rattle.std.specs.Prelude.{◌≡◌, ◌<◌, length, map, slice_get, slice_index, Some, IfOk, IsOkUnless};
+ghost use Rattle.bz_base.specs.Answer.{in_batch, reading};
+ghost use Rattle.bz_base.specs.Lent.{IsLent};
+ghost use Rattle.bz_base.specs.declared.error.Error.{Error};
+ghost use Rattle.bz_breakpad.specs.Reader.{table_in};
+ghost use Rattle.bz_symbolize.specs.Batch.{breakpad_batch};
+ghost use Rattle.bz_symbolize.specs.Sources.{breakpad_single};
+
+use bz_base::{Addr, Error, FindSymOpts, Result, Steps, Symbolized, in_batch};
+use bz_breakpad::SymbolFile;
+use std::alloc::Global;
+use std::marker::{Brand, Model};
+use std::rc::Rc;
+use std::sync::ledger::{Blank, Ledger};
+
+/// Addresses whose source was looked at. Their answers are made one by one, and lend their texts from
+/// the version that the look gave, which stays as long as this does, whatever becomes of the file and
+/// of the symbolizer. Contracts see the addresses, and the answers to all of them.
+#[derive(Drop)]
+pub struct Lookups {
+    file: Rc<SymbolFile>,
+    opts: FindSymOpts,
+    addrs: Vec<u64>,
+}
+
+impl Model for Lookups {
+    ghost use Rattle.bz_symbolize.specs.Batch.{Batch, breakpad_batch};
+
+    ghost Value = { Batch };
+
+    ghost view = { λ l. record { addrs = l.addrs.items; answers = breakpad_batch l.opts l.file.value l.addrs.items } };
+}
+
+impl Lookups {
+    // A batch on a Breakpad file.
+    pub(crate) fn of_breakpad(
+        file: Rc<SymbolFile>,
+        opts: FindSymOpts,
+        addrs: Vec<u64>,
+    ) -> Lookups
+        ensures { result ≡ record { addrs = addrs.items; answers = breakpad_batch opts file.value addrs.items } }
+    {
+        Lookups { file, opts, addrs }
+    }
+
+    /// How many addresses there are.
+    pub fn len(&self) -> usize
+        ensures { result ≡ length self.now.addrs }
+    {
+        self.addrs.len()
+    }
+
+    /// The address of an index.
+    pub fn addr(&self, index: usize) -> Addr
+        requires { index < length self.now.addrs }
+        ensures { result ≡ slice_index self.now.addrs index }
+    {
+        self.addrs[index]
+    }
+
+    /// The answer at the address of an index; a refused address is an ignored error.
+    pub fn answer(&self, alloc: Global, index: usize) -> Result<Symbolized<'_>>
+        requires { index < length self.now.addrs }
+        ensures answer { IfOk result (λ answer. slice_get self.now.answers index ≡ Some (reading answer)) }
+        ensures lent { IfOk result IsLent }
+        ensures memory { IsOkUnless result Error.OutOfMemory }
+    {
+        entry_blank::<Brand>(alloc, self.file.as_ref(), &self.opts, self.addrs[index], Blank::new(1))
+    }
+}
+
+// The answer of a file at an address, as an entry of a batch, with a count that nobody reads.
+fn entry_blank<'f, L: Ledger>(
+    alloc: Global,
+    file: &'f SymbolFile,
+    opts: &FindSymOpts,
+    addr: Addr,
+    blank: Blank,
+) -> Result<Symbolized<'f>>
+    requires name { blank.name ≡ L.name }
+    requires parts { blank.parts ≡ L.parts }
+    requires some { 0 < L.parts }
+    ensures entry { IfOk result (λ entry. reading entry ≡ in_batch (breakpad_single opts.now (table_in file.now) addr)) }
+    ensures lent { IfOk result IsLent }
+    ensures memory { IsOkUnless result Error.OutOfMemory }
+{
+    let mut steps = Steps::<L>::new(blank);
+    in_batch(file.answer(alloc, addr, opts, &mut steps))
+}
