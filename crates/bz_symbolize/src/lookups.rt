@@ -35,11 +35,7 @@ impl Model for Lookups {
 
 impl Lookups {
     // A batch on a Breakpad file.
-    pub(crate) fn of_breakpad(
-        file: Rc<SymbolFile>,
-        opts: FindSymOpts,
-        addrs: Vec<u64>,
-    ) -> Lookups
+    pub(crate) fn of_breakpad(file: Rc<SymbolFile>, opts: FindSymOpts, addrs: Vec<u64>) -> Lookups
         ensures { result ≡ record { addrs = addrs.items; answers = breakpad_batch opts file.value addrs.items } }
     {
         Lookups { file, opts, addrs }
@@ -67,7 +63,13 @@ impl Lookups {
         ensures lent { IfOk result IsLent }
         ensures memory { IsOkUnless result Error.OutOfMemory }
     {
-        entry_blank::<Brand>(alloc, self.file.as_ref(), &self.opts, self.addrs[index], Blank::new(1))
+        entry_blank::<Brand>(
+            alloc,
+            self.file.as_ref(),
+            &self.opts,
+            self.addrs[index],
+            Blank::new(1),
+        )
     }
 }
 

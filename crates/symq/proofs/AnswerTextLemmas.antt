@@ -1,17 +1,16 @@
 -- The texts of answers, written one after the other.
-use Rattle.std.proofs.Common.{◌≡◌, ◌⊎◌, ℕ, List, [], ◌∷◌, ◌++◌, map, append_assoc, refl, inl, inr}
+use Rattle.std.proofs.Common.{◌≡◌, ◌≤◌, ℕ, List, [], ◌∷◌, ◌++◌, length, drop, append_assoc, refl}
+use Rattle.std.proofs.lemmas.List.{drop_all}
 use Rattle.bz_base.specs.Answer.{Answer}
 use Rattle.symq.specs.AnswerText.{answer_text, answer_texts}
 
 -- the text of the first of those left goes to the end of what is written
-pub texts_step : {B : Type 0} (view : B → Answer) (written new : List ℕ) (addrs more : List ℕ) (answers rest : List B) (addr : ℕ) (answer : B) →
-    addrs ≡ addr ∷ more → answers ≡ answer ∷ rest → new ≡ written ++ answer_text addr (view answer) →
-    new ++ answer_texts more (map view rest) ≡ written ++ answer_texts addrs (map view answers)
-texts_step view written new addrs more answers rest addr answer first second grows =
-    rw (first, second, grows) (append_assoc written (answer_text addr (view answer)) (answer_texts more (map view rest)))
+pub texts_step : (written new : List ℕ) (addrs more : List ℕ) (answers rest : List Answer) (addr : ℕ) (answer : Answer) →
+    addrs ≡ addr ∷ more → answers ≡ answer ∷ rest → new ≡ written ++ answer_text addr answer →
+    new ++ answer_texts more rest ≡ written ++ answer_texts addrs answers
+texts_step written new addrs more answers rest addr answer first second grows =
+    rw (first, second, grows) (append_assoc written (answer_text addr answer) (answer_texts more rest))
 
--- where one of the lists is at its end, no text is left
-pub texts_none : {B : Type 0} (view : B → Answer) (addrs : List ℕ) (answers : List B) → (addrs ≡ []) ⊎ (answers ≡ []) → answer_texts addrs (map view answers) ≡ []
-texts_none view addrs answers (inl none) = rw none refl
-texts_none view [] answers (inr none) = refl
-texts_none view (addr ∷ addrs) answers (inr none) = rw none refl
+-- behind the last address no text is left
+pub texts_none : (n : ℕ) (addrs : List ℕ) (answers : List Answer) → length addrs ≤ n → answer_texts (drop n addrs) answers ≡ []
+texts_none n addrs answers past = rw (drop_all n addrs past) refl

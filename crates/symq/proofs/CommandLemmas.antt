@@ -1,8 +1,7 @@
 -- What each command is answered: from the symbolizer's promises to the words of commands, and to the causes of refusals.
 use Rattle.std.proofs.Common.{◌≡◌, ℕ, List, Option, Some, None, Result, Ok, Err, IfOk, OnOk, refl, sym, ap}
-use denote.Ref.{Bor}
 use Rattle.bz_base.specs.Answer.{Answer}
-use Rattle.bz_base.specs.InputKind.{InFile, address_kind}
+use Rattle.bz_base.specs.InputKind.{InFile}
 use Rattle.bz_base.specs.declared.error.Error.{Error}
 use Rattle.bz_files.specs.Count.{counted}
 use Rattle.bz_files.specs.World.{World, Entry, entry_at}
@@ -13,7 +12,7 @@ use Rattle.bz_cache.specs.Look.{opens_after}
 use Rattle.bz_breakpad.specs.Plain.{batch}
 use Rattle.bz_breakpad.specs.Reader.{table_in}
 use Rattle.bz_breakpad.specs.Table.{Table}
-use Rattle.bz_symbolize.specs.FileCall.{batch_query}
+use Rattle.bz_symbolize.specs.FileCall.{batch_of}
 use Rattle.bz_symbolize.specs.Lookup.{answer_of, opens_of, by_table, fresh_answer}
 use Rattle.bz_symbolize.specs.Promise.{AnswersKept, IsBreakpadBatch}
 use Rattle.bz_symbolize.specs.Sources.{OnFile, form_of}
@@ -23,29 +22,29 @@ use Rattle.bz_symbolize.specs.declared.source.Source.TheVariants as sources
 use Rattle.bz_symbolize.proofs.BatchLemmas.{batch_answered}
 use Rattle.bz_symbolize.proofs.NewLemmas.{new_answer}
 use Rattle.bz_symbolize.proofs.Tables.{table_found, table_again}
-use Rattle.symq.specs.Commands.{run_opts, IsSourceOf, input_of, answer_to, HasFile, HasAnswers, AnswersIn, AnswersSome, IsFileCause, IsRefusalOf, IsCause}
+use Rattle.symq.specs.Commands.{run_opts, IsSourceOf, kind_of, answer_to, HasFile, HasAnswers, AnswersIn, AnswersSome, IsFileCause, IsRefusalOf, IsCause}
 use Rattle.symq.specs.Words.{Command, Breakpad}
 use Rattle.symq.proofs.OpenLemmas.{opened_new}
 
 -- a symbolizer that keeps nothing answers the command's source as the command is answered
-pub answer_new : (command : Command) (source : Source) (addrs : Bor (List ℕ)) (world : World) → IsSourceOf command source →
-    answer_of run_opts (new_state default_settings) (form_of source) (batch_query (input_of command addrs)) world ≡ answer_to command addrs.now world
+pub answer_new : (command : Command) (source : Source) (addrs : List ℕ) (world : World) → IsSourceOf command source →
+    answer_of run_opts (new_state default_settings) (form_of source) (batch_of (kind_of command) addrs) world ≡ answer_to command addrs world
 answer_new (Breakpad path) (sources.Breakpad source) addrs world is =
     rw is (new_answer run_opts default_settings.reload path addrs (entry_at world path))
 
 -- and reads its file where it answers
-pub opened_by_command : {A : Type 0} (view : A → List Answer) (command : Command) (source : Source) (addrs : Bor (List ℕ)) (world : World) (before after : ℕ) (result : Result A Error) →
-    IsSourceOf command source → Comes view (answer_to command addrs.now world) result →
-    OnOk result (after ≡ opens_after (opens_of (new_state default_settings) (form_of source) (address_kind (input_of command addrs)) world) before) →
+pub opened_by_command : {A : Type 0} (view : A → List Answer) (command : Command) (source : Source) (addrs : List ℕ) (world : World) (before after : ℕ) (result : Result A Error) →
+    IsSourceOf command source → Comes view (answer_to command addrs world) result →
+    OnOk result (after ≡ opens_after (opens_of (new_state default_settings) (form_of source) (kind_of command) world) before) →
     OnOk result (after ≡ counted before)
 opened_by_command view (Breakpad path) (sources.Breakpad source) addrs world before after result is comes opens =
-    opened_new view run_opts path addrs.now (entry_at world path) before after result comes (rw is at opens)
+    opened_new view run_opts path addrs (entry_at world path) before after result comes (rw is at opens)
 
 -- what the symbolizer keeps is what it answers, so whatever is told, some bytes in the format are answered
-pub some_from_kept : {A : Type 0} (view : A → List Answer) (command : Command) (source : Source) (addrs : Bor (List ℕ)) (now : State) (result : Result A Error) →
-    IsSourceOf command source → OnFile source (λ file. IfOk result (λ given. AnswersKept run_opts source file now (batch_query (input_of command addrs)) (Ok (view given)))) →
-    IfOk result (λ given. AnswersSome command addrs.now (view given))
-some_from_kept view (Breakpad path) (sources.Breakpad source) addrs now (Ok given) is kept = (kept.bytes, batch_answered run_opts kept.bytes InFile addrs.now (view given) kept.answered)
+pub some_from_kept : {A : Type 0} (view : A → List Answer) (command : Command) (source : Source) (addrs : List ℕ) (now : State) (result : Result A Error) →
+    IsSourceOf command source → OnFile source (λ file. IfOk result (λ given. AnswersKept run_opts source file now (batch_of (kind_of command) addrs) (Ok (view given)))) →
+    IfOk result (λ given. AnswersSome command addrs (view given))
+some_from_kept view (Breakpad path) (sources.Breakpad source) addrs now (Ok given) is kept = (kept.bytes, batch_answered run_opts kept.bytes InFile addrs (view given) kept.answered)
 some_from_kept view (Breakpad path) (sources.Breakpad source) addrs now (Err e) is kept = tt
 
 -- what holds of the file of each source holds

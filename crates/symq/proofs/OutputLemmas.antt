@@ -1,7 +1,8 @@
 -- A text that is written piece by piece.
-use Rattle.std.proofs.Common.{◌≡◌, ◌⊎◌, ℕ, ◌-◌, false, List, [], ◌∷◌, ◌++◌, length, take, drop, Option, Some, Result, Ok, Err, IsErr, IsErrOf, OnOk, OnErr, refl, sym, ap, ◌∙◌, inl, inr, append_assoc, append-nil, length-append, map, arith, eqb}
+use Rattle.std.proofs.Common.{◌≡◌, ◌⊎◌, ◌<◌, ℕ, ◌+◌, ◌-◌, false, List, [], ◌∷◌, ◌++◌, length, take, drop, slice_get, slice_index, Option, Some, Result, Ok, Err, IsErr, IsErrOf, OnOk, OnErr, refl, sym, ap, ◌∙◌, inl, inr, append_assoc, append-nil, length-append, arith, eqb}
 use Rattle.std.proofs.Math.Seq.{take-length}
-use Rattle.std.proofs.lemmas.List.{take-append-drop, length-drop}
+use Rattle.std.proofs.lemmas.List.{take-append-drop, length-drop, drop_more}
+use Rattle.std.proofs.lemmas.Option.{slice_get_within, get_or_from_slice_get}
 use Rattle.bz_base.specs.Answer.{Answer}
 use Rattle.bz_files.specs.TextEnd.{Puts}
 use Rattle.bz_files.specs.World.{Told}
@@ -43,6 +44,11 @@ written_more : (before after : Option (List ℕ)) (old front rest : List ℕ) (n
     Puts before after rest (Ok n) → after ≡ Some (old ++ (front ++ take n rest))
 written_more before after old front rest n told puts = (rw told at puts) ∙ ap Some (append_assoc old front (take n rest))
 
+-- what is left of a list from the place of one of its items on
+drop_given : {B : Type 0} (items : List B) (index : ℕ) (item : B) → slice_get items index ≡ Some item → drop index items ≡ item ∷ drop (index + 1) items
+drop_given items index item is =
+    drop_more items index item (slice_get_within items index item is) ∙ ap (λ x. x ∷ drop (index + 1) items) (get_or_from_slice_get items index item item is)
+
 -- nothing has no rest that isn't empty
 nothing_left : (text front rest : List ℕ) → text ≡ front ++ rest → text ≡ [] → false ≡ eqb (length rest) 0 → ⊥
 nothing_left text front [] whole none more = cc
@@ -69,11 +75,13 @@ module _ {W : Type 0} (writes : output_trait.Ghosts W) where
   }
 
   -- the text of the next answer goes to the piece that is left
-  pub has_answer : {B : Type 0} (view : B → Answer) (piece : List ℕ) {text grown addrs more : List ℕ} {answers rest : List B} {addr : ℕ} {answer : B} {first before : W} →
-      (addrs ≡ addr ∷ more) × (answers ≡ answer ∷ rest) → grown ≡ piece ++ answer_text addr (view answer) →
-      HasWritten writes text (piece ++ answer_texts addrs (map view answers)) first before → HasWritten writes text (grown ++ answer_texts more (map view rest)) first before
-  has_answer view piece {text} {grown} {addrs} {more} {answers} {rest} {addr} {answer} next grows so_far =
-      rw (texts_step view piece grown addrs more answers rest addr answer next.0 next.1 grows) so_far
+  pub has_answer : (piece : List ℕ) {text grown : List ℕ} (addrs : List ℕ) (answers : List Answer) (index : ℕ) (answer : Answer) {first before : W} →
+      index < length addrs → slice_get answers index ≡ Some answer → grown ≡ piece ++ answer_text (slice_index addrs index) answer →
+      HasWritten writes text (piece ++ answer_texts (drop index addrs) (drop index answers)) first before →
+      HasWritten writes text (grown ++ answer_texts (drop (index + 1) addrs) (drop (index + 1) answers)) first before
+  has_answer piece {text} {grown} addrs answers index answer within is grows so_far =
+      rw (texts_step piece grown (drop index addrs) (drop (index + 1) addrs) (drop index answers) (drop (index + 1) answers) (slice_index addrs index) answer
+      (drop_more addrs index 0 within) (drop_given answers index answer is) grows) so_far
 
   -- the piece is written, and the next one is empty
   pub has_piece : {A : Type 0} {given : A} {text piece next : List ℕ} (left : List ℕ) {first before after : W} → HasWritten writes text (piece ++ left) first before →

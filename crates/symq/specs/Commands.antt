@@ -1,11 +1,9 @@
 -- Command by command: which source is asked, what it answers, and why it may have no answers.
 use Rattle.std.specs.Prelude.{◌≡◌, ℕ, List, Option, Some, None, Result, string_bytes}
-use denote.Ref.{Bor}
 use Rattle.bz_base.specs.Answer.{Answer}
+use Rattle.bz_base.specs.InputKind.{AddressKind, InFile}
 use Rattle.bz_base.specs.declared.error.Error.{Error}
 use Rattle.bz_base.specs.declared.error.Error.TheVariants as errors
-use Rattle.bz_base.specs.declared.input.Input.{Input}
-use Rattle.bz_base.specs.declared.input.Input.TheVariants.{FileOffset}
 use Rattle.bz_base.specs.declared.types.FindSymOpts.{FindSymOpts}
 use Rattle.bz_files.specs.World.{World, Entry, entry_at}
 use Rattle.bz_files.specs.World.Entry.{Denied, Present}
@@ -27,9 +25,9 @@ run_opts = opts_of default_settings
 abbrev pub IsSourceOf : Command → Source → Type 0
 IsSourceOf (Breakpad path) (sources.Breakpad source) = string_bytes source.path ≡ path
 
--- the addresses, as addresses of that source
-abbrev pub input_of : Command → Bor (List ℕ) → Input (Bor (List ℕ))
-input_of (Breakpad path) addrs = FileOffset addrs
+-- what the addresses of its input are relative to
+abbrev pub kind_of : Command → AddressKind
+kind_of (Breakpad path) = InFile
 
 -- what a symbolizer that keeps nothing answers
 abbrev pub answer_to : Command → List ℕ → World → Result (List Answer) Error

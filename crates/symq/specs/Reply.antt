@@ -1,7 +1,7 @@
 -- What a run is about to end with and write.
-use Rattle.std.specs.Prelude.{◌≡◌, ◌⊎◌, ◌↔◌, ℕ, List, ◌++◌, map, Option, Some, None, Result, Ok, Err, IfOk}
+use Rattle.std.specs.Prelude.{◌≡◌, ◌⊎◌, ◌↔◌, ℕ, List, ◌++◌, Option, Some, None, Result, Ok, Err, IfOk}
 use Rattle.std.specs.Cow.{cow_str_bytes}
-use Rattle.bz_base.specs.Answer.{Answer, reading}
+use Rattle.bz_base.specs.Answer.{Answer}
 use Rattle.bz_base.specs.declared.error.Error.{Error}
 use Rattle.bz_base.specs.declared.error.Error.TheVariants as errors
 use Rattle.bz_files.specs.World.{World, Told}
@@ -20,7 +20,7 @@ use Rattle.symq.specs.declared.status.Status.TheVariants as statuses
 -- the text that is said
 abbrev pub text_of : Said → List ℕ
 text_of (saids.Text text) = cow_str_bytes text
-text_of (saids.Answers addrs answers) = answer_texts addrs.items (map reading answers.items)
+text_of (saids.Answers lookups) = answer_texts lookups.addrs lookups.answers
 
 -- the outcome that a reply is
 abbrev pub outcome_of : Reply → Outcome

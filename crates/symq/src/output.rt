@@ -1,8 +1,9 @@
 //! The output.
 
-ghost use Rattle.std.specs.Prelude.{◌≡◌, [], map, string_bytes, OnOk};
-ghost use Rattle.bz_base.specs.Answer.{reading};
-ghost use Rattle.symq.specs.AnswerText.{answer_texts};
+ghost use Rattle.std.specs.Prelude.{◌≡◌, ◌<◌, ◌++◌, [], length, slice_get, slice_index, Some, string_bytes, OnOk, IsOkUnless};
+ghost use Rattle.bz_base.specs.Answer.{Answer};
+ghost use Rattle.bz_base.specs.declared.error.Error.{Error};
+ghost use Rattle.symq.specs.AnswerText.{answer_text, answer_texts};
 ghost use Rattle.symq.specs.Reply.{outcome_of, text_of};
 ghost use Rattle.symq.specs.Run.{IsNoFailure};
 ghost use Rattle.symq.specs.Writing.{Finishes, WritesText};
@@ -10,8 +11,9 @@ ghost use Rattle.symq.specs.Writing.{Finishes, WritesText};
 use crate::answer::push_answer;
 use crate::reply::{Reply, Said};
 use crate::status::Status;
-use bz_base::Symbolized;
+use bz_base::{Error, Result};
 use bz_files::{IoFault, TextOut};
+use bz_symbolize::Lookups;
 use std::alloc::Global;
 
 /// How long the texts of answers grow, in bytes, before they are written.
@@ -29,30 +31,31 @@ pub fn finish<W: TextOut>(alloc: Global, output: &mut W, reply: &Reply) -> Statu
     }
 }
 
-fn write_said<W: TextOut>(alloc: Global, output: &mut W, said: &Said) -> Result<(), IoFault>
+fn write_said<W: TextOut>(
+    alloc: Global,
+    output: &mut W,
+    said: &Said,
+) -> std::result::Result<(), IoFault>
     ensures { WritesText W.TextOut (text_of said.now) result output.old output.new }
 {
     match said {
         Said::Text(text) => write_all(output, text.as_str().as_bytes()),
-        Said::Answers(addrs, answers) => {
-            write_answers(alloc, output, addrs.as_slice(), answers.as_slice())
-        }
+        Said::Answers(lookups) => write_answers(alloc, output, lookups),
     }
 }
 
-// Writes the texts of the answers at the addresses, one after the other. However many there are, only
-// a piece of their texts is in memory.
+// Writes the texts of the answers at the addresses, one after the other. However many there are, one
+// answer and a piece of their texts are in memory.
 fn write_answers<W: TextOut>(
     alloc: Global,
     output: &mut W,
-    addrs: &[u64],
-    answers: &[Symbolized<'_>],
-) -> Result<(), IoFault>
-    ensures { WritesText W.TextOut (answer_texts addrs.now (map reading answers.now)) result output.old output.new }
+    lookups: &Lookups,
+) -> std::result::Result<(), IoFault>
+    ensures { WritesText W.TextOut (answer_texts lookups.now.addrs lookups.now.answers) result output.old output.new }
 {
     let mut piece = String::new(alloc);
-    for (addr, answer) in addrs.iter().zip(answers) {
-        let Ok(()) = push_answer(&mut piece, *addr, answer) else {
+    for index in 0..lookups.len() {
+        let Ok(()) = push_entry(alloc, &mut piece, lookups, index) else {
             return Err(IoFault::OutOfMemory);
         };
         if piece.len() >= PIECE {
@@ -62,8 +65,19 @@ fn write_answers<W: TextOut>(
     write_piece(output, &mut piece)
 }
 
+// Puts the text of the answer at the address of an index to the end of a text.
+fn push_entry(alloc: Global, text: &mut String, lookups: &Lookups, index: usize) -> Result<()>
+    requires { index < length lookups.now.addrs }
+    ensures ok { OnOk result ((answer : Answer) × (slice_get lookups.now.answers index ≡ Some answer)
+        × (string_bytes text.new ≡ string_bytes text.old ++ answer_text (slice_index lookups.now.addrs index) answer)) }
+    ensures memory { IsOkUnless result Error.OutOfMemory }
+{
+    let answer = lookups.answer(alloc, index)?;
+    push_answer(text, lookups.addr(index), &answer)
+}
+
 // Writes the piece; the next one begins in the same memory.
-fn write_piece<W: TextOut>(output: &mut W, piece: &mut String) -> Result<(), IoFault>
+fn write_piece<W: TextOut>(output: &mut W, piece: &mut String) -> std::result::Result<(), IoFault>
     ensures wrote { WritesText W.TextOut (string_bytes piece.old) result output.old output.new }
     ensures next { OnOk result (string_bytes piece.new ≡ []) }
 {
@@ -73,7 +87,7 @@ fn write_piece<W: TextOut>(output: &mut W, piece: &mut String) -> Result<(), IoF
 }
 
 // Writes the whole text, in as many calls as it takes.
-fn write_all<W: TextOut>(output: &mut W, text: &[u8]) -> Result<(), IoFault>
+fn write_all<W: TextOut>(output: &mut W, text: &[u8]) -> std::result::Result<(), IoFault>
     ensures { WritesText W.TextOut text.now result output.old output.new }
 {
     let mut rest = text;

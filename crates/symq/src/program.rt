@@ -1,11 +1,11 @@
 //! One run of the program.
 
 ghost use Rattle.std.specs.Prelude.{◌≡◌, ◌⊎◌, ◌↔◌, map, string_bytes, IfOk, Ok, IsErr, IsOk, IsOkUnless};
-ghost use Rattle.bz_base.specs.Answer.{reading};
+ghost use Rattle.bz_base.specs.InputKind.{address_kind, payload};
 ghost use Rattle.bz_files.specs.Looked.{Faulted, Looked};
 ghost use Rattle.bz_files.specs.World.{Told, in_view};
 ghost use Rattle.bz_cache.specs.Format.{Comes};
-ghost use Rattle.symq.specs.Commands.{answer_to, input_of, AnswersSome, IsSourceOf};
+ghost use Rattle.symq.specs.Commands.{answer_to, kind_of, AnswersSome, IsSourceOf};
 ghost use Rattle.symq.specs.InputText.{addresses_in};
 ghost use Rattle.symq.specs.Outcome.{by_answer, by_addresses};
 ghost use Rattle.symq.specs.Reply.{IsBatchReply, IsDoneReply, IsInputReply, IsInputStatus, Replies, RepliesToWords};
@@ -18,10 +18,10 @@ use crate::output::finish;
 use crate::reply::{Reply, Said, bad_line, refusal, stored_reply};
 use crate::status::Status;
 use crate::words::{self, Command};
-use bz_base::{Error, Input, Result, Symbolized};
+use bz_base::{Error, Input, Result};
 use bz_files::{Files, TextIn, TextOut};
-use bz_symbolize::Symbolizer;
 use bz_symbolize::source::{Breakpad, Source};
+use bz_symbolize::{Lookups, Symbolizer};
 use std::alloc::Global;
 
 /// Reads the words and the whole input, looks at the source, and writes the answers.
@@ -109,29 +109,30 @@ fn reply_to_batch<F: Files>(
     ensures opens { ReadsOneFor F.Files (IsDoneReply result) files.old files.new }
     ensures files { Looked F.Files files.old files.new (Faulted result) }
 {
-    match symbolize(alloc, command, addrs.as_slice(), files) {
-        Ok(answers) => Ok(Reply {
+    match look_up(alloc, command, addrs, files) {
+        Ok(lookups) => Ok(Reply {
             status: Status::Done,
-            said: Said::Answers(addrs, answers),
+            said: Said::Answers(lookups),
         }),
         Err(error) => refusal(alloc, error),
     }
 }
 
-// The answers of the command's source.
-fn symbolize<F: Files>(
+// The command's source, looked at for the addresses.
+fn look_up<F: Files>(
     alloc: Global,
     command: &Command<'_>,
-    addrs: &[u64],
+    addrs: Vec<u64>,
     files: &mut F,
-) -> Result<Vec<Symbolized<'static>>>
-    ensures answer { Told (in_view (F.worlds files.old)) (λ world. Comes (λ answers. map reading answers.items) (answer_to (command_of command.now) addrs.now world) result) }
-    ensures answered { IfOk result (λ answers. AnswersSome (command_of command.now) addrs.now (map reading answers.items)) }
+) -> Result<Lookups>
+    ensures answer { Told (in_view (F.worlds files.old)) (λ world. Comes (λ lookups. lookups.answers) (answer_to (command_of command.now) addrs.items world) result) }
+    ensures answered { IfOk result (λ lookups. AnswersSome (command_of command.now) addrs.items lookups.answers) }
+    ensures addrs { IfOk result (λ lookups. lookups.addrs ≡ addrs.items) }
     ensures opens { ReadsOneFor F.Files (IsOk result) files.old files.new }
     ensures files { Looked F.Files files.old files.new (Faulted result) }
 {
     let src = source(alloc, command)?;
-    Symbolizer::new(alloc).symbolize(alloc, files, &src, input_for(command, addrs))
+    Symbolizer::new(alloc).look_up(alloc, files, &src, input_for(command, addrs))
 }
 
 // The source that the command asks.
@@ -148,8 +149,9 @@ fn source(alloc: Global, command: &Command<'_>) -> Result<Source>
 }
 
 // The addresses, as the source of the command takes them.
-fn input_for<'a>(command: &Command<'_>, addrs: &'a [u64]) -> Input<&'a [u64]>
-    ensures { result ≡ input_of (command_of command.now) addrs.entry }
+fn input_for(command: &Command<'_>, addrs: Vec<u64>) -> Input<Vec<u64>>
+    ensures kind { address_kind result ≡ kind_of (command_of command.now) }
+    ensures addrs { payload result ≡ addrs }
 {
     match command {
         Command::Breakpad(_) => Input::FileOffset(addrs),

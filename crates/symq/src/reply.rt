@@ -6,12 +6,13 @@ ghost use Rattle.symq.specs.Outcome.{bad_line};
 ghost use Rattle.symq.specs.Reply.{outcome_of, RepliesTo};
 
 use crate::status::Status;
-use bz_base::{Error, Result, Symbolized};
+use bz_base::{Error, Result};
+use bz_symbolize::Lookups;
 use std::alloc::Global;
 use std::borrow::CowStr;
 
 /// What a run ends with and writes, if nothing fails.
-#[derive(Debug, Drop)]
+#[derive(Drop)]
 pub struct Reply {
     /// How the run ends.
     pub status: Status,
@@ -20,12 +21,12 @@ pub struct Reply {
 }
 
 /// What a run writes.
-#[derive(Debug, Drop)]
+#[derive(Drop)]
 pub enum Said {
     /// A text.
     Text(CowStr<'static>),
-    /// The texts of the answers at the addresses, which are made as they are written.
-    Answers(Vec<u64>, Vec<Symbolized<'static>>),
+    /// The texts of the answers at the addresses, which are made, answer by answer, as they are written.
+    Answers(Lookups),
 }
 
 /// A reply whose text is always the same.

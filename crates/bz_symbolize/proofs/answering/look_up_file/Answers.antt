@@ -21,7 +21,7 @@ returns-in_err-shared-clause-called g c =
     let asked = query_asked g.T.Version.test g.T.Answers.answering c.args.opts c.args.path.now (batch_of (address_kind c.args.input) (payload c.args.input).items) in
     let shared = c.in_err-shared.ensures in
     rw (same.1, same.2) (calls_unshared g.F.Files read (λ (v : Rc g.row.T.Denot Global). g.T.Version.bytes_of v.value) asked c.args.path.now c.args.cache.now c.shared.new.self c.args.files.now c.shared.new.files
-        c.in_err-shared.field-0.0 taken shared.after shared.answer (λ held. (shared.unseen held).0) shared.spared shared.most shared.files shared.refusal)
+    c.in_err-shared.field-0.0 taken shared.after shared.answer (λ held. (shared.unseen held).0) shared.spared shared.most shared.files shared.refusal)
 
 -- the version that was shared answers
 pub returns-clause-called : goal.returns-clause-called

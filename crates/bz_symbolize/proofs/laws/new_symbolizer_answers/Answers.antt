@@ -3,4 +3,4 @@ use Rattle.bz_symbolize.proofs.NewLemmas.{new_answer}
 use Rattle.bz_symbolize.proofs.laws.new_symbolizer_answers.Goals as goal
 
 pub returns : goal.returns
-returns c opts settings path addrs world = new_answer opts settings.reload path addrs (entry_at world path)
+returns c opts settings path addrs world = new_answer opts settings.reload path addrs.now (entry_at world path)
