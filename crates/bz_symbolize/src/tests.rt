@@ -108,6 +108,26 @@ fn answers_a_single_address(rt: HostRuntime) -> std::result::Result<(), Fail> {
     Ok(())
 }
 
+/// A batch that was looked up answers by the version that it found, also after the file has changed.
+#[test]
+fn answers_by_the_version_that_was_found(rt: HostRuntime) -> std::result::Result<(), Fail> {
+    let alloc = rt.alloc();
+    let src = source(alloc)?;
+    let mut files = MemFiles::new(alloc, 7);
+    let mut symbolizer = Symbolizer::new(alloc);
+    assert!(rt; put(alloc, &mut files, FIRST));
+    let addrs = Vec::from_slice(alloc, ADDRESSES)?;
+    let lookups = symbolizer.look_up(alloc, &mut files, &src, Input::FileOffset(addrs))?;
+    assert!(rt; put(alloc, &mut files, SECOND));
+    assert!(rt; answers(alloc, &mut symbolizer, &mut files, &src, "two"));
+    assert!(rt; lookups.len() == 1);
+    if lookups.len() == 1 {
+        let answer = lookups.answer(alloc, 0)?;
+        assert!(rt; lookups.addr(0) == 0x1010 && is_named(&answer, "one"));
+    }
+    Ok(())
+}
+
 /// Whether the call is refused as input that isn't valid.
 fn is_refused(answer: Result<Symbolized<'_>>) -> bool {
     match answer {
