@@ -1,5 +1,6 @@
 pub mod ByteLemmas
 pub mod ChainLemmas
+pub mod CursorLemmas
 pub mod DigitLemmas
 pub mod EqualityLemmas
 pub mod FilterLemmas

@@ -4,9 +4,11 @@
 
 mod batch;
 mod chain;
+mod cursor;
 mod error;
 mod input;
 pub mod laws;
+mod leb128;
 mod number;
 mod path;
 mod scan;
@@ -20,6 +22,7 @@ mod types;
 
 pub use batch::in_batch;
 pub use chain::{Nested, around_in, chain_in, inner_in, sort_nested};
+pub use cursor::Cursor;
 pub use error::{Error, ErrorKind, Result};
 pub use input::Input;
 pub use number::{decimal, hex, whole_decimal, whole_hex};
