@@ -1,0 +1,5 @@
+pub mod FileLemmas
+pub mod NumberLemmas
+pub mod StartLemmas
+pub mod TableLemmas
+pub mod TextLemmas

@@ -1,0 +1,11 @@
+//! GSYM files: their head and tables, and the symbols that they name.
+#![tactic(auto)]
+
+mod parser;
+mod types;
+
+pub use parser::{AddrDataIter, GsymContext, parse_address_data};
+pub use types::{
+    AddrData, AddrInfo, FileInfo, GSYM_MAGIC, GSYM_VERSION, Header, INFO_TYPE_END_OF_LIST,
+    INFO_TYPE_INLINE_INFO, INFO_TYPE_LINE_TABLE_INFO,
+};
