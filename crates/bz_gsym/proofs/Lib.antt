@@ -1,3 +1,4 @@
+pub mod EntryLemmas
 pub mod FileLemmas
 pub mod NumberLemmas
 pub mod StartLemmas
