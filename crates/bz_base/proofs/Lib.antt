@@ -7,6 +7,8 @@ pub mod FilterLemmas
 pub mod HashLemmas
 pub mod InnerLemmas
 pub mod InnerTableLemmas
+pub mod LebLemmas
+pub mod LebValueLemmas
 pub mod LineLemmas
 pub mod NearestLemmas
 pub mod NumberLemmas
