@@ -69,10 +69,10 @@ without : {A : Type 0} (value : ℕ → ℕ → Option A) → ((count bits : ℕ
 without value refuses None long = refl
 without value refuses (Some cut) long = rw (refuses (length cut.0) (low_bits cut.0) (long cut refl)) refl
 
-unsigned_long : (count bits : ℕ) → 10 < count → unsigned count bits ≡ None
+pub unsigned_long : (count bits : ℕ) → 10 < count → unsigned count bits ≡ None
 unsigned_long count bits long = rw (lt-leb count 10 long) refl
 
-signed_long : (count bits : ℕ) → 10 < count → signed count bits ≡ None
+pub signed_long : (count bits : ℕ) → 10 < count → signed count bits ≡ None
 signed_long count bits long = rw (lt-leb count 10 long) refl
 
 pub no_number : (bytes : List ℕ) → ((cut : List ℕ × List ℕ) → leb_at bytes ≡ Some cut → 10 < length cut.0) → HasNoNumber bytes
