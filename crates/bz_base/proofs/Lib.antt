@@ -7,11 +7,15 @@ pub mod FilterLemmas
 pub mod HashLemmas
 pub mod InnerLemmas
 pub mod InnerTableLemmas
+pub mod LebLemmas
+pub mod LebSpellingLemmas
+pub mod LebValueLemmas
 pub mod LineLemmas
 pub mod NearestLemmas
 pub mod NumberLemmas
 pub mod PathLemmas
 pub mod PieceLemmas
+pub mod PieceOfBytesLemmas
 pub mod ReadLemmas
 pub mod SortLemmas
 pub mod SplitLemmas

@@ -1,6 +1,6 @@
 -- Bytes that are read from their front, piece by piece, as little-endian files have them: numbers of a
 -- fixed width with the least byte first, slices, and texts of C.
-use Rattle.std.specs.Prelude.{◌≡◌, ℕ, suc, ◌+◌, ◌-◌, ◌*◌, ◌^◌, ◌%◌, ◌==◌, nat_le, List, [], ◌∷◌, ◌++◌, length, take, drop, Option, Some, None, option_map, if◌then◌else◌}
+use Rattle.std.specs.Prelude.{◌≡◌, ℕ, suc, ◌+◌, ◌-◌, ◌*◌, ◌^◌, ◌%◌, ◌≤◌, ◌==◌, nat_le, List, [], ◌∷◌, ◌++◌, length, take, drop, Option, Some, None, option_map, if◌then◌else◌}
 use Rattle.bz_base.specs.Byte.{zero_byte, HasNo}
 
 -- all the bytes, and those that are left to be read
@@ -55,3 +55,37 @@ padding place = (4 - place % 4) % 4
 -- nothing, and the bytes after so many
 unfoldable pub skip_at : ℕ → List ℕ → Option (Unit {0} × List ℕ)
 skip_at count bytes = option_map (λ cut. (tt, cut.1)) (slice_at count bytes)
+
+-- What the pieces are, by their bytes.
+
+-- the bytes begin with a text with this, and the rest is what follows it
+pub record IsInFront (P : List ℕ → Type 0) (bytes rest : List ℕ) : Type 0 where
+  pub text : List ℕ
+  pub whole : bytes ≡ text ++ rest
+  pub is : P text
+
+-- the sum of the bytes, each of which weighs 256 to the power of its place
+abbrev pub bytes_sum : ℕ → List ℕ → ℕ
+bytes_sum place [] = 0
+bytes_sum place (byte ∷ bytes) = byte * 256 ^ place + bytes_sum (1 + place) bytes
+
+-- so many bytes that are the slice
+pub record IsSlice (count : ℕ) (slice text : List ℕ) : Type 0 where
+  pub many : length text ≡ count
+  pub same : slice ≡ text
+
+-- so many bytes that make the number, the first being the least
+pub record IsWord (size value : ℕ) (text : List ℕ) : Type 0 where
+  pub many : length text ≡ size
+  pub valued : value ≡ bytes_sum 0 text
+
+-- a text without a zero byte, and a zero byte that ends it
+pub record IsCstr (value text : List ℕ) : Type 0 where
+  pub ended : text ≡ value ++ zero_byte ∷ []
+  pub no_zero : HasNo zero_byte value
+
+-- the first place divisible by 4 that isn't before the other
+pub record IsNextAligned (place aligned : ℕ) : Type 0 where
+  pub after : place ≤ aligned
+  pub divided : aligned % 4 ≡ 0
+  pub least : (other : ℕ) → place ≤ other → other % 4 ≡ 0 → aligned ≤ other

@@ -21,7 +21,7 @@ bits_sum place [] = 0
 bits_sum place (byte ∷ bytes) = byte % 128 * 128 ^ place + bits_sum (1 + place) bytes
 
 -- the text is an unsigned number; a tenth byte is 0 or 1
-pub record IsUleb (text : List ℕ) (value : ℕ) : Type 0 where
+pub record IsUleb (value : ℕ) (text : List ℕ) : Type 0 where
   pub front : List ℕ
   pub last : ℕ
   pub number : IsLeb text front last
@@ -33,7 +33,7 @@ abbrev pub extended : List ℕ → ℕ → ℤ
 extended text last = if nat_lt last 64 then pos (bits_sum 0 text) else pos (bits_sum 0 text) -ℤ pos (128 ^ length text)
 
 -- the text is a signed number; a tenth byte is 0 or 127
-pub record IsSleb (text : List ℕ) (value : ℤ) : Type 0 where
+pub record IsSleb (value : ℤ) (text : List ℕ) : Type 0 where
   pub front : List ℕ
   pub last : ℕ
   pub number : IsLeb text front last

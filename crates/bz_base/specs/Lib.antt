@@ -12,6 +12,7 @@ pub mod Number
 pub mod Path
 pub mod ReasonText
 pub mod Refusals
+pub mod Resolution
 pub mod Span
 pub mod Starts
 pub mod Sweep

@@ -36,12 +36,15 @@ pub(crate) fn signed(bytes: &[u8]) -> Option<(i64, usize)>
     ensures some { IfSome result (λ read. 0 < read.1) }
 {
     let parts = take_apart(bytes)?;
-    if parts.len == 10 && parts.last != 0 && parts.last != 127 {
-        return None;
-    }
     let last = u64::from(parts.last);
     if last < 64 {
+        if parts.len == 10 && last != 0 {
+            return None;
+        }
         return Some(((parts.low + parts.weight * last) as i64, parts.len));
+    }
+    if parts.len == 10 && last != 127 {
+        return None;
     }
     // The number is negative: it lies this far below 0.
     let below = parts.weight * (128 - last) - parts.low;
@@ -69,7 +72,7 @@ fn take_apart(bytes: &[u8]) -> Option<Parts>
         if len == 9 {
             return None;
         }
-        low += weight * u64::from(byte - 128);
+        low += weight * u64::from(byte % 128);
         weight *= 128;
         len += 1;
     }
