@@ -2,10 +2,10 @@
 use Rattle.std.proofs.Common.{◌≡◌, ℕ, ◌+◌, ◌-◌, ◌*◌, ◌<◌, ◌≤◌, true, false, List, [], length, Option, Some, None, refl, sym, ap, subst, ◌∙◌, arith, inl, inr}
 use Rattle.std.proofs.lemmas.Bool.{cases_lt}
 use Rattle.std.specs.List.{slice_index}
-use Rattle.bz_base.specs.Starts.{IsFound, NeverDescends}
+use Rattle.bz_base.specs.Starts.{NeverDescends}
 use Rattle.bz_gsym.specs.Header.{header_of}
 use Rattle.bz_gsym.specs.Number.{number_at, numbers_at}
-use Rattle.bz_gsym.specs.Tables.{IsFoundAt, header_len, is_address_size, starts}
+use Rattle.bz_gsym.specs.Tables.{header_len, is_address_size, starts}
 use Rattle.bz_gsym.specs.declared.types.Header.{Header}
 use Rattle.bz_gsym.proofs.TableLemmas.{length_table, number_in}
 
@@ -65,7 +65,3 @@ ascend_more bytes size k last is above before i j order within =
 -- where no start is, none descends, and none is found
 pub none_descends : NeverDescends []
 none_descends i j order within = absurd (omega arith)
-
--- what a search finds, without the start
-pub found_at : (list : List ℕ) (distance : ℕ) (found : Option (ℕ × ℕ)) (x : ℕ × ℕ) → found ≡ Some x → IsFound list distance found → IsFoundAt list distance (Some x.0)
-found_at list distance found x is at = (x.1, subst (IsFound list distance) is at)

@@ -74,11 +74,6 @@ pub record AreStarts (bytes : List ℕ) (size count : ℕ) : Type 0 where
   pub within : header_len + count * size ≤ length bytes
   pub ascend : NeverDescends (numbers_at size count bytes header_len)
 
--- the index is that of the start that a search among starts finds
-abbrev pub IsFoundAt : List ℕ → ℕ → Option ℕ → Type 0
-IsFoundAt list distance None = IsFound list distance None
-IsFoundAt list distance (Some index) = (start : ℕ) × IsFound list distance (Some (index, start))
-
 -- the bytes are a GSYM file: each table lies in them, and the starts never descend
 pub record IsGsym (bytes : List ℕ) : Type 0 where
   pub magic : (header_of bytes).magic ≡ GSYM_MAGIC
@@ -103,11 +98,19 @@ is_gsym bytes =
     let h : Header = header_of bytes in
     (h.magic == GSYM_MAGIC && h.version == GSYM_VERSION) && ((nat_le (files_end bytes) (length bytes) && nat_le (strings_end h) (length bytes)) && never_descends (starts bytes))
 
--- the index of the symbol that is to be tried at an address: none below the base address, and from there on that of the first
--- start which equals the distance from the base, else of the last one below it
-pub record IsIndex (bytes : List ℕ) (addr : ℕ) (index : Option ℕ) : Type 0 where
-  pub below : addr < (header_of bytes).base_address → index ≡ None
-  pub found : (header_of bytes).base_address ≤ addr → IsFoundAt (starts bytes) (addr - (header_of bytes).base_address) index
+-- index and address of the symbol that is to be tried at an address: none below the base address, and from there on those of
+-- the first start that equals the distance from the base, else of the last one below it
+abbrev pub IsNearest : List ℕ → ℕ → Option (ℕ × ℕ) → Type 0
+IsNearest bytes addr None =
+    (header_of bytes).base_address ≤ addr → IsFound (starts bytes) (addr - (header_of bytes).base_address) None
+IsNearest bytes addr (Some at) =
+    ((header_of bytes).base_address ≤ addr)
+    × ((start : ℕ) × ((at.1 ≡ (header_of bytes).base_address + start) × IsFound (starts bytes) (addr - (header_of bytes).base_address) (Some (at.0, start))))
+
+-- the index of that symbol
+abbrev pub IsIndex : List ℕ → ℕ → Option ℕ → Type 0
+IsIndex bytes addr None = IsNearest bytes addr None
+IsIndex bytes addr (Some index) = (at : ℕ) × IsNearest bytes addr (Some (index, at))
 
 -- an address of 64 bits
 abbrev pub fitting : ℕ → Option ℕ

@@ -2,9 +2,12 @@
 #![tactic(auto)]
 
 mod parser;
+mod symbol;
+mod table;
 mod types;
 
 pub use parser::{AddrDataIter, GsymContext, parse_address_data};
+pub use table::GsymTable;
 pub use types::{
     AddrData, AddrInfo, FileInfo, GSYM_MAGIC, GSYM_VERSION, Header, INFO_TYPE_END_OF_LIST,
     INFO_TYPE_INLINE_INFO, INFO_TYPE_LINE_TABLE_INFO,

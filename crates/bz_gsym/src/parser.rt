@@ -6,7 +6,7 @@ ghost use Rattle.bz_gsym.specs.Entries.{entries_in, info_at};
 ghost use Rattle.bz_gsym.specs.Header.{header_of};
 ghost use Rattle.bz_gsym.specs.Seen.{info_seen};
 ghost use Rattle.bz_gsym.specs.Strings.{string_at};
-ghost use Rattle.bz_gsym.specs.Tables.{IsGsym, IsHeaded, IsIndex, address_at, data_places, files, strings};
+ghost use Rattle.bz_gsym.specs.Tables.{IsGsym, IsHeaded, IsIndex, IsNearest, address_at, data_places, files, strings};
 
 mod data;
 mod head;
@@ -68,18 +68,25 @@ impl<'a> GsymContext<'a> {
         self.header
     }
 
-    /// The index of the symbol that is to be tried at an address.
+    /// The index of the symbol that is to be tried at an address. None: the address lies below the
+    /// base address, or below each symbol, or the size of addresses isn't 1, 2, 4 or 8.
     pub fn find_addr(&self, addr: Addr) -> Option<usize>
-        ensures found { IsIndex self.now addr result }
+        ensures { IsIndex self.now addr result }
     {
-        if addr < self.header.base_address || !is_address_size(self.header.addr_off_size) {
+        let (index, _) = self.nearest(addr)?;
+        Some(index)
+    }
+
+    /// Index and address of the symbol that is to be tried at an address.
+    pub(crate) fn nearest(&self, addr: Addr) -> Option<(usize, Addr)>
+        ensures { IsNearest self.now addr result }
+    {
+        let base = self.header.base_address;
+        if addr < base || !is_address_size(self.header.addr_off_size) {
             return None;
         }
-        find_start(
-            self.bytes,
-            &self.header,
-            addr - self.header.base_address,
-        )
+        let (index, start) = find_start(self.bytes, &self.header, addr - base)?;
+        Some((index, base + start))
     }
 
     /// The address that the symbol of an index begins at. None: the index is outside the address

@@ -4,7 +4,7 @@ ghost use Rattle.std.specs.Prelude.{◌≡◌, ◌+◌, ◌*◌, ◌<◌, ◌≤
 ghost use Rattle.bz_base.specs.Starts.{IsFound, NeverDescends};
 ghost use Rattle.bz_gsym.specs.Header.{header_of};
 ghost use Rattle.bz_gsym.specs.Number.{number_at};
-ghost use Rattle.bz_gsym.specs.Tables.{AreStarts, IsFoundAt, header_len, is_address_size, addresses_end, starts};
+ghost use Rattle.bz_gsym.specs.Tables.{AreStarts, header_len, is_address_size, addresses_end, starts};
 
 use super::head::HEADER_LEN;
 use super::number::{u16_at, u32_at, u64_at, u8_at};
@@ -89,11 +89,11 @@ impl<'a> Probe for AddressStarts<'a> {
     }
 }
 
-/// The index of the start that is to be tried at a distance from the base address.
-pub(crate) fn find_start(bytes: &[u8], header: &Header, distance: u64) -> Option<usize>
+/// Index and start of the symbol that is to be tried at a distance from the base address.
+pub(crate) fn find_start(bytes: &[u8], header: &Header, distance: u64) -> Option<(usize, u64)>
     requires head { header.now ≡ header_of bytes.now }
     requires starts { AreStarts bytes.now header.now.addr_off_size header.now.num_addrs }
-    ensures { IsFoundAt (starts bytes.now) distance result }
+    ensures { IsFound (starts bytes.now) distance result }
 {
     find_blank::<Brand>(bytes, header, distance, Blank::new(1))
 }
@@ -104,13 +104,13 @@ fn find_blank<L: Ledger>(
     header: &Header,
     distance: u64,
     blank: Blank,
-) -> Option<usize>
+) -> Option<(usize, u64)>
     requires name { blank.name ≡ L.name }
     requires parts { blank.parts ≡ L.parts }
     requires some { 0 < L.parts }
     requires head { header.now ≡ header_of bytes.now }
     requires starts { AreStarts bytes.now header.now.addr_off_size header.now.num_addrs }
-    ensures { IsFoundAt (starts bytes.now) distance result }
+    ensures { IsFound (starts bytes.now) distance result }
 {
     let mut steps = Steps::<L>::new(blank);
     let starts = AddressStarts {
@@ -118,8 +118,5 @@ fn find_blank<L: Ledger>(
         size: header.addr_off_size,
         count: header.num_addrs as usize,
     };
-    match nearest(&starts, distance, &mut steps) {
-        Some((index, _)) => Some(index),
-        None => None,
-    }
+    nearest(&starts, distance, &mut steps)
 }
