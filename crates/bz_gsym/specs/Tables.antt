@@ -98,19 +98,24 @@ is_gsym bytes =
     let h : Header = header_of bytes in
     (h.magic == GSYM_MAGIC && h.version == GSYM_VERSION) && ((nat_le (files_end bytes) (length bytes) && nat_le (strings_end h) (length bytes)) && never_descends (starts bytes))
 
--- index and address of the symbol that is to be tried at an address: none below the base address, and from there on those of
--- the first start that equals the distance from the base, else of the last one below it
+-- the symbol of this index, at this address, is to be tried at an address: none below the base address, and from there on that
+-- of the first start which equals the distance from the base, else of the last one below it
+pub record IsTried (bytes : List ℕ) (addr index at : ℕ) : Type 0 where
+  pub start : ℕ
+  pub from : (header_of bytes).base_address ≤ addr
+  pub at_is : at ≡ (header_of bytes).base_address + start
+  pub found : IsFound (starts bytes) (addr - (header_of bytes).base_address) (Some (index, start))
+
+-- index and address of the symbol that is to be tried; or there is none
 abbrev pub IsNearest : List ℕ → ℕ → Option (ℕ × ℕ) → Type 0
 IsNearest bytes addr None =
     (header_of bytes).base_address ≤ addr → IsFound (starts bytes) (addr - (header_of bytes).base_address) None
-IsNearest bytes addr (Some at) =
-    ((header_of bytes).base_address ≤ addr)
-    × ((start : ℕ) × ((at.1 ≡ (header_of bytes).base_address + start) × IsFound (starts bytes) (addr - (header_of bytes).base_address) (Some (at.0, start))))
+IsNearest bytes addr (Some symbol) = IsTried bytes addr symbol.0 symbol.1
 
 -- the index of that symbol
 abbrev pub IsIndex : List ℕ → ℕ → Option ℕ → Type 0
 IsIndex bytes addr None = IsNearest bytes addr None
-IsIndex bytes addr (Some index) = (at : ℕ) × IsNearest bytes addr (Some (index, at))
+IsIndex bytes addr (Some index) = (at : ℕ) × IsTried bytes addr index at
 
 -- an address of 64 bits
 abbrev pub fitting : ℕ → Option ℕ

@@ -79,7 +79,8 @@ impl<'a> GsymContext<'a> {
 
     /// Index and address of the symbol that is to be tried at an address.
     pub(crate) fn nearest(&self, addr: Addr) -> Option<(usize, Addr)>
-        ensures { IsNearest self.now addr result }
+        ensures found { IsNearest self.now addr result }
+        ensures formed { IsGsym self.now }
     {
         let base = self.header.base_address;
         if addr < base || !is_address_size(self.header.addr_off_size) {

@@ -1,7 +1,8 @@
 //! The symbol at an address.
 
-ghost use Rattle.std.specs.Prelude.{◌≡◌, ◌≤◌, IfOk};
+ghost use Rattle.std.specs.Prelude.{◌≡◌, IfOk, IfErr};
 ghost use Rattle.bz_base.specs.Resolution.{StartsBefore, found_of};
+ghost use Rattle.bz_base.specs.declared.error.Error.{Error};
 ghost use Rattle.bz_gsym.specs.Answer.{answer_at, reaches};
 ghost use Rattle.bz_gsym.specs.Seen.{answer_seen};
 
@@ -16,6 +17,7 @@ pub(crate) fn symbol_at<'a>(
     addr: Addr,
 ) -> Result<std::result::Result<ResolvedSym<'a>, Reason>>
     ensures answer { answer_seen result ≡ answer_at context.now addr }
+    ensures refusal { IfErr result (λ e. e ≡ Error.InvalidData) }
     ensures starts { IfOk result (λ found. StartsBefore addr (found_of found)) }
 {
     let Some((index, start)) = context.nearest(addr) else {
