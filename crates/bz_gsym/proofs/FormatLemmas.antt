@@ -7,8 +7,11 @@ use Rattle.bz_base.specs.Starts.{NeverDescends}
 use Rattle.bz_base.specs.Refusals.{MayRefuse}
 use Rattle.bz_base.specs.declared.error.Error.{Error}
 use Rattle.bz_base.specs.declared.error.Error.TheVariants.{InvalidData}
-use Rattle.bz_cache.specs.Format.{IsRefusalBy}
+use Rattle.bz_cache.specs.Format.{FailsAs, IsRefusalBy}
+use Rattle.bz_files.specs.World.{Entry, Present}
+use Rattle.bz_files.specs.declared.stamp.Stamp.{Stamp}
 use Rattle.bz_gsym.specs.Header.{header_of}
+use Rattle.bz_gsym.specs.Resolver.{opened}
 use Rattle.bz_gsym.specs.Tables.{IsGsym, files_end, is_gsym, never_descends, starts, strings_end}
 use Rattle.bz_gsym.specs.Version.{format_test}
 use Rattle.bz_gsym.specs.declared.types.TheConstants.{GSYM_MAGIC, GSYM_VERSION}
@@ -87,6 +90,16 @@ module _ (bytes : List ℕ) where
   pub refused : {A : Type 0} (r : Result A Error) → IfErr r (λ e. (e ≡ InvalidData) × ¬ (IsGsym bytes)) → IfErr r (IsRefusalBy (format_test bytes))
   refused (Ok x) is = tt
   refused (Err e) is = subst (IsRefusalBy (format_test bytes)) (sym is.0) (not_in_format is.1)
+
+-- a file that lies there is opened where it is one, and else refused
+module _ (bytes read : List ℕ) (stamp : Stamp) (there : Option Entry) (is : there ≡ Some (Present stamp bytes)) (same : read ≡ bytes) where
+  pub opens : IsGsym read → opened there ≡ Ok read
+  opens formed = ap opened (is ∙ ap (λ (b : List ℕ). Some (Present stamp b)) (sym same)) ∙ rw (passes read formed) refl
+
+  pub opens_not : (e : Error) → (e ≡ InvalidData) × ¬ (IsGsym read) → FailsAs (opened there) e
+  opens_not e other =
+      subst (FailsAs (opened there)) (sym other.0)
+      (ap opened (is ∙ ap (λ (b : List ℕ). Some (Present stamp b)) (sym same)) ∙ rw (false_from_ne_true (is_gsym read) (λ good. other.1 (passed read good))) refl)
 
 -- InvalidData is a refusal of a format
 pub may_refuse : {A : Type 0} (r : Result A Error) → IfErr r (λ e. e ≡ InvalidData) → IfErr r MayRefuse

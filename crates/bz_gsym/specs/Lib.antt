@@ -2,6 +2,7 @@ pub mod Answer
 pub mod Entries
 pub mod Header
 pub mod Number
+pub mod Resolver
 pub mod Seen
 pub mod Strings
 pub mod Tables

@@ -2,11 +2,13 @@
 #![tactic(auto)]
 
 mod parser;
+mod resolver;
 mod symbol;
 mod table;
 mod types;
 
 pub use parser::{AddrDataIter, GsymContext, parse_address_data};
+pub use resolver::GsymResolver;
 pub use table::GsymTable;
 pub use types::{
     AddrData, AddrInfo, FileInfo, GSYM_MAGIC, GSYM_VERSION, Header, INFO_TYPE_END_OF_LIST,
