@@ -20,9 +20,10 @@ slice_tested : (count : ℕ) (bytes : List ℕ) (enough : Bool) → nat_le count
 slice_tested count bytes false test cut read = absurd (none-some cut read)
 slice_tested count bytes true test cut read =
     let same = same_Some (take count bytes, drop count bytes) cut read in
-    let fits = leb-true count (length bytes) test in
-    (ap (λ (c : List ℕ × List ℕ). length c.0) (sym same) ∙ length-take-le count bytes fits,
-     sym (take-append-drop count bytes) ∙ ap (λ (c : List ℕ × List ℕ). c.0 ++ c.1) same)
+    let fits = leb-true count (length bytes) test in (
+      ap (λ (c : List ℕ × List ℕ). length c.0) (sym same) ∙ length-take-le count bytes fits,
+      sym (take-append-drop count bytes) ∙ ap (λ (c : List ℕ × List ℕ). c.0 ++ c.1) same,
+    )
 
 pub slice_parts : (count : ℕ) (bytes : List ℕ) (cut : List ℕ × List ℕ) → slice_at count bytes ≡ Some cut →
     (length cut.0 ≡ count) × (bytes ≡ cut.0 ++ cut.1)
