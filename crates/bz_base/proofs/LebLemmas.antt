@@ -1,5 +1,5 @@
 -- A LEB128 number, byte by byte.
-use Rattle.std.proofs.Common.{◌≡◌, ℕ, zero, suc, ◌+◌, ◌-◌, ◌*◌, ◌%◌, ◌^◌, ◌<◌, ◌≤◌, true, false, List, [], ◌∷◌, length, take, drop, Bool, cond, Option, Some, None, option_map, nat_lt, nat_le, refl, sym, ap, ◌∙◌, arith, add-one}
+use Rattle.std.proofs.Common.{◌≡◌, ℕ, zero, suc, ◌+◌, ◌*◌, ◌%◌, ◌^◌, ◌<◌, ◌≤◌, true, false, List, [], ◌∷◌, length, take, drop, Bool, cond, Option, Some, None, option_map, nat_lt, refl, sym, ap, ◌∙◌, arith, add-one}
 use Rattle.std.specs.Option.{option_and_then}
 use Rattle.std.specs.List.{slice_index, AllByRecursion}
 use Rattle.std.proofs.lemmas.Bool.{lt-ltb, le-ltb, lt-leb}
