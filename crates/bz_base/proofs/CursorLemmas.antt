@@ -1,11 +1,11 @@
 -- Pieces at the front of bytes.
-use Rattle.std.proofs.Common.{◌≡◌, ℕ, zero, suc, ◌+◌, ◌-◌, ◌*◌, ◌%◌, ◌^◌, ◌<◌, ◌≤◌, true, false, List, [], ◌∷◌, ◌++◌, length, take, drop, Option, Some, None, option_map, nat_le, nat_eq, refl, sym, ap, ◌∙◌, arith, append_assoc, drop-cons, add-one, get_or}
+use Rattle.std.proofs.Common.{◌≡◌, ℕ, suc, ◌+◌, ◌-◌, ◌<◌, ◌≤◌, true, List, [], ◌∷◌, ◌++◌, length, take, drop, Option, Some, None, option_map, nat_eq, refl, sym, ap, ◌∙◌, arith, drop-cons, add-one, get_or}
 use Rattle.std.specs.List.{slice_index, slice_index_or, list_any}
 use Rattle.std.specs.Int.{w16, w32, w64, from_le_bytes}
 use Rattle.std.proofs.lemmas.Bool.{le-leb, lt-leb, eqb-true, or_parts}
-use Rattle.std.proofs.lemmas.List.{take_rest, drop-drop, length-drop, length-take-le, take-append-drop}
-use Rattle.std.proofs.lemmas.Option.{none-some, same_Some}
-use Rattle.bz_base.specs.Cursor.{Reading, place_of, IsPlaced, with_rest, byte_at, slice_at, little, word_at, with_first, cstr_at, skip_at, padding}
+use Rattle.std.proofs.lemmas.List.{take_rest, drop-drop, length-drop, take-append-drop}
+use Rattle.std.proofs.lemmas.Option.{none-some}
+use Rattle.bz_base.specs.Cursor.{with_rest, byte_at, slice_at, little, word_at, cstr_at, skip_at}
 use Rattle.bz_base.specs.Byte.{zero_byte, HasNo}
 
 -- where the bytes suffice, the slice is those in front

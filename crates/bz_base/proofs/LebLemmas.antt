@@ -1,5 +1,5 @@
 -- A LEB128 number, byte by byte.
-use Rattle.std.proofs.Common.{◌≡◌, ℕ, zero, suc, ◌+◌, ◌-◌, ◌*◌, ◌%◌, ◌^◌, ◌<◌, ◌≤◌, true, false, List, [], ◌∷◌, length, take, drop, Bool, cond, Option, Some, None, option_map, nat_lt, nat_le, refl, sym, ap, ◌∙◌, arith, add-one}
+use Rattle.std.proofs.Common.{◌≡◌, ℕ, zero, suc, ◌+◌, ◌*◌, ◌%◌, ◌^◌, ◌<◌, ◌≤◌, true, false, List, [], ◌∷◌, length, take, drop, Bool, cond, Option, Some, None, option_map, nat_lt, refl, sym, ap, ◌∙◌, arith, add-one}
 use Rattle.std.specs.Option.{option_and_then}
 use Rattle.std.specs.List.{slice_index, AllByRecursion}
 use Rattle.std.proofs.lemmas.Bool.{lt-ltb, le-ltb, lt-leb}
@@ -59,7 +59,7 @@ low_next (b ∷ bytes) zero within = omega arith
 low_next (b ∷ bytes) (suc k) within =
     let digit = slice_index bytes k % 128 in
     let grows : 128 * (128 ^ k * digit) ≡ 128 ^ suc k * digit =
-            sym (mul_assoc 128 (128 ^ k) digit) ∙ ap (λ n. n * digit) (mul_comm 128 (128 ^ k) ∙ sym (pow-suc 128 k)) in
+    sym (mul_assoc 128 (128 ^ k) digit) ∙ ap (λ n. n * digit) (mul_comm 128 (128 ^ k) ∙ sym (pow-suc 128 k)) in
     ap (λ n. b % 128 + 128 * n) (low_next bytes k (omega arith)) ∙ omega (arith, grows, mul-add 128 (low_bits (take k bytes)) (128 ^ k * digit))
 
 -- no number, or one that is too long

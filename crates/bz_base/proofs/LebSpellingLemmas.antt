@@ -1,10 +1,9 @@
 -- A LEB128 number that is read is spelled in front, and one that is spelled there is read.
-use Rattle.std.proofs.Common.{◌≡◌, ℕ, ℤ, pos, zero, suc, ◌+◌, ◌-◌, ◌*◌, ◌%◌, ◌^◌, ◌<◌, ◌≤◌, ◌-ℤ◌, ◌⊎◌, inl, inr, true, false, List, [], ◌∷◌, ◌++◌, length, take, drop, Bool, cond, Option, Some, None, option_map, nat_lt, nat_le, refl, sym, ap, subst, ◌∙◌, arith, append_assoc, add-one}
+use Rattle.std.proofs.Common.{◌≡◌, ℕ, ℤ, pos, suc, ◌+◌, ◌*◌, ◌%◌, ◌^◌, ◌<◌, ◌≤◌, ◌-ℤ◌, ◌⊎◌, inl, inr, true, false, List, [], ◌∷◌, ◌++◌, length, take, drop, Bool, cond, Option, Some, None, option_map, nat_lt, refl, sym, ap, subst, ◌∙◌, arith, append_assoc}
 use Rattle.std.specs.Option.{option_and_then}
 use Rattle.std.specs.List.{slice_index, AllByRecursion}
-use Rattle.std.proofs.lemmas.Bool.{ltb-true, ltb-false, lt-ltb, le-ltb, lt-leb, cases_lt}
+use Rattle.std.proofs.lemmas.Bool.{ltb-true, ltb-false, lt-ltb, le-ltb, cases_lt}
 use Rattle.std.proofs.lemmas.List.{take_at, drop_at, length-append}
-use Rattle.std.proofs.lemmas.Nat.{mul-le}
 use Rattle.std.proofs.lemmas.Option.{none-some, same_Some}
 use Rattle.std.proofs.Math.Nat.{pow-suc}
 use Rattle.bz_base.specs.Cursor.{with_first, with_rest, IsInFront}
@@ -55,7 +54,7 @@ module _ (front : List ℕ) (last : ℕ) (rest : List ℕ) (marked : AllByRecurs
       let Marked : List ℕ → Type 0 = AllByRecursion IsMarked in
       subst P here
       (in_parts all (length front) (low_bits front) (128 ^ length front) (omega (arith, length-append front (last ∷ rest))) few
-       (subst Marked (sym taken) marked) (ap low_bits taken) refl (low_small front) (rw here unmarked))
+      (subst Marked (sym taken) marked) (ap low_bits taken) refl (low_small front) (rw here unmarked))
 
   abbrev text : List ℕ
   text = front ++ last ∷ []
@@ -87,7 +86,7 @@ module _ (front : List ℕ) (last : ℕ) (rest : List ℕ) (marked : AllByRecurs
       elim (cases_lt 1 last) [
         | inl more ↦
             absurd (none-some x
-             (unsigned_refused all (low_bits front) (128 ^ length front) last (length front + 1) parts (omega arith) more ∙ read))
+            (unsigned_refused all (low_bits front) (128 ^ length front) last (length front + 1) parts (omega arith) more ∙ read))
         | inr most ↦ omega arith
       ]
 
@@ -121,14 +120,14 @@ module _ (front : List ℕ) (last : ℕ) (rest : List ℕ) (marked : AllByRecurs
             elim (cases_lt 0 last) [
               | inl some ↦
                   absurd (none-some x
-                   (positive_refused all (low_bits front) (128 ^ length front) last (length front + 1) parts clear (omega arith) (λ zero_is. omega arith) ∙ read))
+                  (positive_refused all (low_bits front) (128 ^ length front) last (length front + 1) parts clear (omega arith) (λ zero_is. omega arith) ∙ read))
               | inr none ↦ inl (omega arith)
             ]
         | inr set ↦
             elim (cases_lt last 127) [
               | inl some ↦
                   absurd (none-some x
-                   (negative_refused all (low_bits front) (128 ^ length front) last (length front + 1) parts set (omega arith) (λ ones. omega arith) ∙ read))
+                  (negative_refused all (low_bits front) (128 ^ length front) last (length front + 1) parts set (omega arith) (λ ones. omega arith) ∙ read))
               | inr most ↦ inr (omega arith)
             ]
       ]
@@ -180,14 +179,16 @@ module _ {A : Type 0} (value : ℕ → ℕ → Option A) (long : (count bits : �
       option_and_then (λ cut. with_rest (value (length cut.0) (low_bits cut.0)) cut.1) found ≡ Some x →
       (cut : List ℕ × List ℕ) × (found ≡ Some cut) × (length cut.0 ≤ 10)
   read_parts None x read = absurd (none-some x read)
-  read_parts (Some cut) x read =
-      (cut, refl,
-       elim (cases_lt 10 (length cut.0)) [
-         | inl more ↦
-             let none : None ≡ with_rest (value (length cut.0) (low_bits cut.0)) cut.1 = rw (long (length cut.0) (low_bits cut.0) more) refl in
-             absurd (none-some x (none ∙ read))
-         | inr few ↦ omega arith
-       ])
+  read_parts (Some cut) x read = (
+    cut,
+    refl,
+    elim (cases_lt 10 (length cut.0)) [
+      | inl more ↦
+          let none : None ≡ with_rest (value (length cut.0) (low_bits cut.0)) cut.1 = rw (long (length cut.0) (low_bits cut.0) more) refl in
+          absurd (none-some x (none ∙ read))
+      | inr few ↦ omega arith
+    ],
+  )
 
 pub uleb_found : (bytes : List ℕ) (value : ℕ) (rest : List ℕ) → uleb_at bytes ≡ Some (value, rest) → IsInFront (IsUleb value) bytes rest
 unfolding uleb_at

@@ -1,5 +1,5 @@
 -- The number that the parts of a LEB128 number make.
-use Rattle.std.proofs.Common.{◌≡◌, ℕ, ℤ, pos, suc, ◌+◌, ◌-◌, ◌*◌, ◌^◌, ◌<◌, ◌≤◌, negsuc, ◌-ℤ◌, to_z, of_z, true, false, List, [], ◌∷◌, length, take, drop, Option, Some, None, ◌⊎◌, inl, inr, refl, sym, ap, ◌∙◌, arith}
+use Rattle.std.proofs.Common.{◌≡◌, ℕ, pos, ◌+◌, ◌-◌, ◌*◌, ◌^◌, ◌<◌, ◌≤◌, negsuc, ◌-ℤ◌, to_z, of_z, List, length, drop, Option, Some, None, ◌⊎◌, inl, inr, refl, sym, ap, ◌∙◌, arith}
 use Rattle.std.specs.Option.{option_and_then}
 use Rattle.std.specs.Int.{w64}
 use Rattle.std.proofs.lemmas.Int.{ints}
@@ -89,8 +89,12 @@ module _ (bytes : List ℕ) (low weight last len : ℕ) (parts : IsInParts bytes
   pub positive_read : last < 64 → (len ≡ 10 → last ≡ 0) → Some (pos (low + weight * last), drop len bytes) ≡ sleb_at bytes
   unfolding sleb_at
   positive_read clear none =
-      rw (read_of signed, le-leb len 10 parts.few, lt-ltb (2 * (low + weight * last)) (128 ^ len) (lower_half clear),
-          lt-ltb (low + weight * last) (2 ^ 63) (positive_fits clear none)) refl
+      rw (
+        read_of signed,
+        le-leb len 10 parts.few,
+        lt-ltb (2 * (low + weight * last)) (128 ^ len) (lower_half clear),
+        lt-ltb (low + weight * last) (2 ^ 63) (positive_fits clear none),
+      ) refl
 
   rest : last + (128 - last) ≡ 128
   rest = omega (arith, parts.unmarked)
@@ -123,22 +127,34 @@ module _ (bytes : List ℕ) (low weight last len : ℕ) (parts : IsInParts bytes
   pub negative_read : 64 ≤ last → (len ≡ 10 → last ≡ 127) → Some (pos (low + weight * last) -ℤ pos (128 ^ len), drop len bytes) ≡ sleb_at bytes
   unfolding sleb_at
   negative_read set all =
-      rw (read_of signed, le-leb len 10 parts.few, le-ltb (2 * (low + weight * last)) (128 ^ len) (upper_half set),
-          le-leb (128 ^ len) (low + weight * last + 2 ^ 63) (negative_fits set all)) refl
+      rw (
+        read_of signed,
+        le-leb len 10 parts.few,
+        le-ltb (2 * (low + weight * last)) (128 ^ len) (upper_half set),
+        le-leb (128 ^ len) (low + weight * last + 2 ^ 63) (negative_fits set all),
+      ) refl
 
   pub positive_refused : last < 64 → len ≡ 10 → (last ≡ 0 → ⊥) → None ≡ sleb_at bytes
   unfolding sleb_at
   positive_refused clear ten some =
       let least = mul-le 9223372036854775808 1 weight last (omega (arith, tenth ten)) (omega arith) in
-      rw (read_of signed, le-leb len 10 parts.few, lt-ltb (2 * (low + weight * last)) (128 ^ len) (lower_half clear),
-          le-ltb (low + weight * last) (2 ^ 63) (omega (arith, least))) refl
+      rw (
+        read_of signed,
+        le-leb len 10 parts.few,
+        lt-ltb (2 * (low + weight * last)) (128 ^ len) (lower_half clear),
+        le-ltb (low + weight * last) (2 ^ 63) (omega (arith, least)),
+      ) refl
 
   pub negative_refused : 64 ≤ last → len ≡ 10 → (last ≡ 127 → ⊥) → None ≡ sleb_at bytes
   unfolding sleb_at
   negative_refused set ten some =
       let most = mul-le weight last 9223372036854775808 126 (omega (arith, tenth ten)) (let h = parts.unmarked in omega arith) in
-      rw (read_of signed, le-leb len 10 parts.few, le-ltb (2 * (low + weight * last)) (128 ^ len) (upper_half set),
-          lt-leb (128 ^ len) (low + weight * last + 2 ^ 63) (omega (arith, parts.weighs, parts.small, tenth ten, most))) refl
+      rw (
+        read_of signed,
+        le-leb len 10 parts.few,
+        le-ltb (2 * (low + weight * last)) (128 ^ len) (upper_half set),
+        lt-leb (128 ^ len) (low + weight * last + 2 ^ 63) (omega (arith, parts.weighs, parts.small, tenth ten, most)),
+      ) refl
 
 -- a number below 0, made of how far below it lies
 pub below_zero : (bits below all : ℕ) → bits + below ≡ all → 0 < below → below ≤ 9223372036854775808 →

@@ -1,13 +1,12 @@
 -- A piece that is read lies in front, and one that lies there is read.
-use Rattle.std.proofs.Common.{◌≡◌, ℕ, zero, suc, ◌+◌, ◌-◌, ◌*◌, ◌%◌, ◌^◌, ◌<◌, ◌≤◌, true, false, List, [], ◌∷◌, ◌++◌, length, take, drop, Bool, cond, Option, Some, None, option_map, nat_eq, nat_le, refl, sym, ap, subst, ◌∙◌, arith, append_assoc}
-use Rattle.std.specs.List.{list_any}
-use Rattle.std.proofs.lemmas.Bool.{le-leb, leb-true, leb-false, eqb-true, or_from}
+use Rattle.std.proofs.Common.{◌≡◌, ℕ, suc, ◌+◌, ◌*◌, ◌^◌, true, false, List, [], ◌∷◌, ◌++◌, length, take, drop, Bool, cond, Option, Some, None, option_map, nat_eq, nat_le, refl, sym, ap, subst, ◌∙◌, arith, append_assoc}
+use Rattle.std.proofs.lemmas.Bool.{le-leb, leb-true, eqb-true, or_from}
 use Rattle.std.proofs.lemmas.List.{length-take-le, take-append-drop, take_at, drop_at, length-append}
 use Rattle.std.proofs.lemmas.Option.{none-some, same_Some}
 use Rattle.std.proofs.Math.Nat.{mul-add, mul_assoc, mul_comm, pow-suc}
 use Rattle.bz_base.specs.Byte.{zero_byte, HasNo}
 use Rattle.bz_base.specs.Cursor.{with_first, slice_at, little, word_at, cstr_at, padding, IsInFront, bytes_sum, IsSlice, IsWord, IsCstr, IsNextAligned}
-use Rattle.bz_base.proofs.CursorLemmas.{slice_enough, slice_short, cstr_again}
+use Rattle.bz_base.proofs.CursorLemmas.{cstr_again}
 
 pub map_some : {A B : Type 0} (f : A → B) (o : Option A) (y : B) → option_map f o ≡ Some y → (x : A) × (o ≡ Some x) × (f x ≡ y)
 map_some f None y read = absurd (none-some y read)
@@ -20,9 +19,10 @@ slice_tested : (count : ℕ) (bytes : List ℕ) (enough : Bool) → nat_le count
 slice_tested count bytes false test cut read = absurd (none-some cut read)
 slice_tested count bytes true test cut read =
     let same = same_Some (take count bytes, drop count bytes) cut read in
-    let fits = leb-true count (length bytes) test in
-    (ap (λ (c : List ℕ × List ℕ). length c.0) (sym same) ∙ length-take-le count bytes fits,
-     sym (take-append-drop count bytes) ∙ ap (λ (c : List ℕ × List ℕ). c.0 ++ c.1) same)
+    let fits = leb-true count (length bytes) test in (
+      ap (λ (c : List ℕ × List ℕ). length c.0) (sym same) ∙ length-take-le count bytes fits,
+      sym (take-append-drop count bytes) ∙ ap (λ (c : List ℕ × List ℕ). c.0 ++ c.1) same,
+    )
 
 pub slice_parts : (count : ℕ) (bytes : List ℕ) (cut : List ℕ × List ℕ) → slice_at count bytes ≡ Some cut →
     (length cut.0 ≡ count) × (bytes ≡ cut.0 ++ cut.1)

@@ -1,5 +1,5 @@
-use Rattle.std.proofs.Common.{◌≡◌, ◌+◌, ℕ, sym, subst}
-use Rattle.bz_base.specs.Cursor.{IsNextAligned, padding}
+use Rattle.std.proofs.Common.{ℕ, sym, subst}
+use Rattle.bz_base.specs.Cursor.{IsNextAligned}
 use Rattle.bz_base.proofs.PieceOfBytesLemmas.{slice_found, slice_spelled, word_found, word_spelled, cstr_front, cstr_spelled, padding_is, aligned_is}
 use Rattle.bz_base.proofs.laws.pieces_are_exact.Goals as goal
 

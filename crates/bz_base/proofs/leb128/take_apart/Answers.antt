@@ -1,4 +1,4 @@
-use Rattle.std.proofs.Common.{◌≡◌, ◌<◌, sym, ap, ◌∙◌, arith, take, length}
+use Rattle.std.proofs.Common.{arith}
 use Rattle.std.proofs.lemmas.List.{take_all}
 use Rattle.bz_base.proofs.LebLemmas.{in_parts, too_long, no_end, next_weight, next_bits, next_small, next_marked, next_room}
 use Rattle.bz_base.proofs.leb128.take_apart.Goals as goal

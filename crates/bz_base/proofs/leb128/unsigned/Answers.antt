@@ -1,4 +1,4 @@
-use Rattle.std.proofs.Common.{◌≡◌, ◌≤◌, ◌∙◌, ap, sym, arith}
+use Rattle.std.proofs.Common.{sym, arith}
 use Rattle.bz_base.proofs.LebValueLemmas.{unsigned_fits, unsigned_read, unsigned_refused, at_most}
 use Rattle.bz_base.proofs.leb128.unsigned.Goals as goal
 

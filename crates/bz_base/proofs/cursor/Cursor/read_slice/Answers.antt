@@ -1,6 +1,5 @@
-use Rattle.std.proofs.Common.{◌∙◌, ap, sym, arith}
-use Rattle.bz_base.specs.Cursor.{Reading, slice_at}
-use Rattle.bz_base.proofs.CursorLemmas.{slice_enough, slice_short, placed_later}
+use Rattle.std.proofs.Common.{arith}
+use Rattle.bz_base.proofs.CursorLemmas.{slice_enough, slice_short}
 use Rattle.bz_base.proofs.cursor.Cursor.read_slice.Goals as goal
 
 pub returns-then-count-left-clause-reads : goal.returns-then-count-left-clause-reads

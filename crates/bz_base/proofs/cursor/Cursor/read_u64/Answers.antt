@@ -1,5 +1,4 @@
-use Rattle.std.proofs.Common.{Some, None, List, ℕ, option_map, ap, sym, ◌∙◌}
-use Rattle.bz_base.specs.Cursor.{with_rest}
+use Rattle.std.proofs.Common.{Some, None, ap, ◌∙◌}
 use Rattle.bz_base.proofs.CursorLemmas.{little_8, word_of}
 use Rattle.bz_base.proofs.cursor.Cursor.read_u64.Goals as goal
 
