@@ -21,7 +21,7 @@ ended : (bytes : List ℕ) → number_at 4 bytes 0 ≡ INFO_TYPE_END_OF_LIST →
 ended bytes is = rw (eq-eqb (number_at 4 bytes 0) INFO_TYPE_END_OF_LIST is) refl
 
 -- an entry reaches no further than the bytes
-fits : (bytes : List ℕ) → has_entry bytes ≡ true → entry_len bytes ≤ length bytes
+pub fits : (bytes : List ℕ) → has_entry bytes ≡ true → entry_len bytes ≤ length bytes
 fits bytes has = leb-true (entry_len bytes) (length bytes) (and_parts (not (number_at 4 bytes 0 == INFO_TYPE_END_OF_LIST)) (nat_le (entry_len bytes) (length bytes)) has).1
 
 -- the entries, where no entry lies in front

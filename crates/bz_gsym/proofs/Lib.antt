@@ -1,3 +1,4 @@
+pub mod EntryLaws
 pub mod EntryLemmas
 pub mod FileLemmas
 pub mod FormatLemmas

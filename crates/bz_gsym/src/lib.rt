@@ -1,6 +1,7 @@
 //! GSYM files: their head and tables, and the symbols that they name.
 #![tactic(auto)]
 
+pub mod laws;
 mod parser;
 mod resolver;
 mod symbol;
