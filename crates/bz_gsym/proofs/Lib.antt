@@ -6,4 +6,5 @@ pub mod NumberLemmas
 pub mod StartLemmas
 pub mod SymbolLemmas
 pub mod TableLemmas
+pub mod TextLaws
 pub mod TextLemmas

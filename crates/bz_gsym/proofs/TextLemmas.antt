@@ -28,7 +28,7 @@ unfolding cstr_at
 text_after b bytes true is _ = rw is refl
 text_after b bytes false is rest = rw is (mapped b (cstr_at bytes) ∙ ap (option_map (λ text. b ∷ text)) rest ∙ moved b bytes (list_any is_zero bytes) (position_or_len is_zero bytes))
 
-text_cut : (bytes : List ℕ) → option_map (λ x. x.0) (cstr_at bytes) ≡ before_zero bytes
+pub text_cut : (bytes : List ℕ) → option_map (λ x. x.0) (cstr_at bytes) ≡ before_zero bytes
 unfolding cstr_at
 text_cut [] = refl
 text_cut (b ∷ bytes) = text_after b bytes (is_zero b) refl (text_cut bytes)

@@ -1,8 +1,8 @@
 -- The strings of a GSYM file: texts that end in a zero byte, named by their places in the string table.
-use Rattle.std.specs.Prelude.{ℕ, ◌==◌, Bool, if◌then◌else◌, List, drop, Option, Some, None, option_and_then}
+use Rattle.std.specs.Prelude.{◌≡◌, ℕ, ◌==◌, Bool, if◌then◌else◌, List, ◌∷◌, ◌++◌, length, drop, Option, Some, None, option_and_then}
 use Rattle.std.specs.List.{list_any, before_first}
-use Rattle.std.specs.Str.{is_utf8}
-use Rattle.bz_base.specs.Byte.{zero_byte}
+use Rattle.std.specs.Str.{IsUtf8, is_utf8}
+use Rattle.bz_base.specs.Byte.{HasNo, zero_byte}
 
 abbrev pub is_zero : ℕ → Bool
 is_zero byte = byte == zero_byte
@@ -18,3 +18,12 @@ checked text = if is_utf8 text then Some text else None
 -- the string at a place of a string table
 abbrev pub string_at : List ℕ → ℕ → Option (List ℕ)
 string_at table place = option_and_then checked (before_zero (drop place table))
+
+-- the same as a relation: the table is what lies before the place, the text, a zero byte, and what lies behind
+pub record IsString (table : List ℕ) (place : ℕ) (text : List ℕ) : Type 0 where
+  pub before : List ℕ
+  pub after : List ℕ
+  pub whole : table ≡ before ++ (text ++ zero_byte ∷ after)
+  pub from : length before ≡ place
+  pub no_zero : HasNo zero_byte text
+  pub utf8 : IsUtf8 text

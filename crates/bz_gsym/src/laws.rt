@@ -1,7 +1,8 @@
 //! What holds of the definitions that the contracts cite.
 
-ghost use Rattle.std.specs.Prelude.{◌≡◌, ◌↔◌, true, ℕ, List};
+ghost use Rattle.std.specs.Prelude.{◌≡◌, ◌↔◌, true, ℕ, List, Some};
 ghost use Rattle.bz_gsym.specs.Entries.{AreEntries, Entry, entries_in};
+ghost use Rattle.bz_gsym.specs.Strings.{IsString, string_at};
 ghost use Rattle.bz_gsym.specs.Tables.{IsGsym, is_gsym};
 
 /// The test of a GSYM file says what the relation says.
@@ -13,4 +14,9 @@ pub fn files_are_exact()
 /// are any.
 pub fn entries_are_exact()
     ensures { (bytes : List ℕ) (entries : List Entry) → (entries_in bytes ≡ entries) ↔ AreEntries bytes entries }
+{}
+
+/// The string that is read at a place of a table is the one that stands there.
+pub fn strings_are_exact()
+    ensures { (table : List ℕ) (place : ℕ) (text : List ℕ) → (string_at table place ≡ Some text) ↔ IsString table place text }
 {}
