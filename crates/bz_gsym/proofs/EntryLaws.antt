@@ -100,9 +100,13 @@ module _ (entry : Entry) (entries : List Entry) (bytes : List ℕ) (read : entri
   by_front : (has : Bool) → has_entry bytes ≡ has → AreEntries bytes (entry ∷ entries)
   by_front true has =
       let after = drop (entry_len bytes) bytes in
-      let step : first_entry bytes ∷ entries_in after ≡ entry ∷ entries = sym (entries_step bytes has) ∙ read in
-      (after, (subst (λ e. Begins bytes e after) (heads (first_entry bytes) entry (entries_in after) entries step) (begins bytes has),
-          next after (tails (first_entry bytes) entry (entries_in after) entries step)))
+      let step : first_entry bytes ∷ entries_in after ≡ entry ∷ entries = sym (entries_step bytes has) ∙ read in (
+        after,
+        (
+          subst (λ e. Begins bytes e after) (heads (first_entry bytes) entry (entries_in after) entries step) (begins bytes has),
+          next after (tails (first_entry bytes) entry (entries_in after) entries step),
+        ),
+      )
   by_front false has = absurd (nothing entry entries (sym read ∙ no_entries bytes has))
 
 -- what is read makes up the bytes

@@ -96,22 +96,22 @@ slice_less count bytes less = rw (lt-leb count (length bytes) less) refl
 -- a number or a slice that is read of bytes' front, or that isn't there
 word_found : (n : ℕ) (left bytes : List ℕ) → with_rest (Some n) left ≡ word_at 4 bytes → (4 ≤ length bytes) × (n ≡ little (take 4 bytes)) × (left ≡ drop 4 bytes)
 word_found n left bytes read = elim (cases_lt (length bytes) 4) [
-    | inl less ↦ absurd (none-some _ (sym (word_short bytes less) ∙ sym read))
-    | inr more ↦
-        let is = same_Some (n, left) (little (take 4 bytes), drop 4 bytes) (read ∙ word_there bytes more) in
-        (more, ap (λ (p : ℕ × List ℕ). p.0) is, ap (λ (p : ℕ × List ℕ). p.1) is)
-  ]
+  | inl less ↦ absurd (none-some _ (sym (word_short bytes less) ∙ sym read))
+  | inr more ↦
+      let is = same_Some (n, left) (little (take 4 bytes), drop 4 bytes) (read ∙ word_there bytes more) in
+      (more, ap (λ (p : ℕ × List ℕ). p.0) is, ap (λ (p : ℕ × List ℕ). p.1) is)
+]
 
 word_missing : (bytes : List ℕ) → None ≡ word_at 4 bytes → length bytes < 4
 word_missing bytes read = elim (cases_lt (length bytes) 4) [ inl less ↦ less | inr more ↦ absurd (none-some _ (read ∙ word_there bytes more)) ]
 
 slice_found : (count : ℕ) (text left bytes : List ℕ) → with_rest (Some text) left ≡ slice_at count bytes → (count ≤ length bytes) × (text ≡ take count bytes) × (left ≡ drop count bytes)
 slice_found count text left bytes read = elim (cases_lt (length bytes) count) [
-    | inl less ↦ absurd (none-some _ (sym (slice_less count bytes less) ∙ sym read))
-    | inr more ↦
-        let is = same_Some (text, left) (take count bytes, drop count bytes) (read ∙ slice_there count bytes more) in
-        (more, ap (λ (p : List ℕ × List ℕ). p.0) is, ap (λ (p : List ℕ × List ℕ). p.1) is)
-  ]
+  | inl less ↦ absurd (none-some _ (sym (slice_less count bytes less) ∙ sym read))
+  | inr more ↦
+      let is = same_Some (text, left) (take count bytes, drop count bytes) (read ∙ slice_there count bytes more) in
+      (more, ap (λ (p : List ℕ × List ℕ). p.0) is, ap (λ (p : List ℕ × List ℕ). p.1) is)
+]
 
 slice_missing : (count : ℕ) (bytes : List ℕ) → None ≡ slice_at count bytes → length bytes < count
 slice_missing count bytes read = elim (cases_lt (length bytes) count) [ inl less ↦ less | inr more ↦ absurd (none-some _ (read ∙ slice_there count bytes more)) ]

@@ -47,10 +47,10 @@ module _ (table : List ℕ) (place : ℕ) (text : List ℕ) where
   pub string_spelled : IsString table place text → string_at table place ≡ Some text
   string_spelled is =
       let lies : drop place table ≡ text ++ zero_byte ∷ is.after =
-          ap (drop place) is.whole ∙ ap (λ n. drop n (is.before ++ (text ++ zero_byte ∷ is.after))) (sym is.from) ∙ drop-append_seam is.before (text ++ zero_byte ∷ is.after) in
+      ap (drop place) is.whole ∙ ap (λ n. drop n (is.before ++ (text ++ zero_byte ∷ is.after))) (sym is.from) ∙ drop-append_seam is.before (text ++ zero_byte ∷ is.after) in
       let read : before_zero (drop place table) ≡ Some text =
-          sym (text_cut (drop place table)) ∙ ap (λ l. option_map (λ (x : List ℕ × List ℕ). x.0) (cstr_at l)) lies
-          ∙ ap (option_map (λ (x : List ℕ × List ℕ). x.0)) (cstr_again text is.after is.no_zero) in
+      sym (text_cut (drop place table)) ∙ ap (λ l. option_map (λ (x : List ℕ × List ℕ). x.0) (cstr_at l)) lies
+      ∙ ap (option_map (λ (x : List ℕ × List ℕ). x.0)) (cstr_again text is.after is.no_zero) in
       ap (option_and_then checked) read ∙ rw (is_utf8-from_IsUtf8 text is.utf8) refl
 
 -- a text that passes is that text

@@ -6,6 +6,8 @@ mod parser;
 mod resolver;
 mod symbol;
 mod table;
+#[cfg(test)]
+mod tests;
 mod types;
 
 pub use parser::{AddrDataIter, GsymContext, parse_address_data};

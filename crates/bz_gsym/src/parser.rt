@@ -13,11 +13,10 @@ mod head;
 mod number;
 mod starts;
 
-pub use data::AddrDataIter;
-pub(crate) use head::checked_header;
-
 use crate::types::{AddrInfo, FileInfo, Header};
 use bz_base::{Addr, Result};
+pub use data::AddrDataIter;
+pub(crate) use head::checked_header;
 use head::{data_table, file_count_place};
 use number::u32_at;
 use starts::{find_start, is_address_size, start_at};

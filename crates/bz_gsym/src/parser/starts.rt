@@ -7,7 +7,7 @@ ghost use Rattle.bz_gsym.specs.Number.{number_at};
 ghost use Rattle.bz_gsym.specs.Tables.{AreStarts, header_len, is_address_size, addresses_end, starts};
 
 use super::head::HEADER_LEN;
-use super::number::{u16_at, u32_at, u64_at, u8_at};
+use super::number::{u8_at, u16_at, u32_at, u64_at};
 use crate::types::Header;
 use bz_base::{Probe, Steps, nearest};
 use std::marker::{Brand, Model};

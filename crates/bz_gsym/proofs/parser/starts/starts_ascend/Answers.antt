@@ -13,7 +13,7 @@ returns-then-start-last-clause-descend c isnt never =
     let here : c.start_at-start.result ≡ start_in bytes size k = c.start_at-start.ensures in
     let before : c.loop-index.last ≡ start_in bytes size (k - 1) = c.loop-index.invariant.last some in
     let kept : start_in bytes size (k - 1) ≤ start_in bytes size k =
-        never_to bytes size c.args.header.now.num_addrs (subst NeverDescends (starts_are bytes c.args.header.now c.requires.head (sym c.is_address_size.ensures ∙ c.if-not-is_address_size.false)) never) (k - 1) k (omega arith) (omega arith) in
+    never_to bytes size c.args.header.now.num_addrs (subst NeverDescends (starts_are bytes c.args.header.now c.requires.head (sym c.is_address_size.ensures ∙ c.if-not-is_address_size.false)) never) (k - 1) k (omega arith) (omega arith) in
     absurd (omega (arith, here, before, kept))
 
 pub loop-index-preserved : goal.loop-index-preserved

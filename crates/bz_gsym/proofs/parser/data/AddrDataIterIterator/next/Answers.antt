@@ -13,19 +13,19 @@ pub returns-then-typ-eq-INFO_TYPE_END_OF_LIST-clause-steps :
     goal.returns-then-typ-eq-INFO_TYPE_END_OF_LIST-clause-steps
 returns-then-typ-eq-INFO_TYPE_END_OF_LIST-clause-steps c =
     let gone : c.args.self.now ≡ [] =
-        sym c.self.view_is ∙ type_ends c.self.inside.rest.now c.read_u32.new.self.left c.in_ok-typ.typ (c.in_ok-typ.ensures.reads ∙ ap (word_at 4) c.new-cursor.ensures.left) c.if-typ-eq-INFO_TYPE_END_OF_LIST.true in
+    sym c.self.view_is ∙ type_ends c.self.inside.rest.now c.read_u32.new.self.left c.in_ok-typ.typ (c.in_ok-typ.ensures.reads ∙ ap (word_at 4) c.new-cursor.ensures.left) c.if-typ-eq-INFO_TYPE_END_OF_LIST.true in
     (gone, gone)
 
 pub returns-in_err-len-clause-steps : goal.returns-in_err-len-clause-steps
 returns-in_err-len-clause-steps c =
     let gone : c.args.self.now ≡ [] =
-        sym c.self.view_is ∙ none_measured c.self.inside.rest.now c.read_u32.new.self.left c.in_ok-typ.typ (c.in_ok-typ.ensures.reads ∙ ap (word_at 4) c.new-cursor.ensures.left) c.in_err-len.ensures.reads in
+    sym c.self.view_is ∙ none_measured c.self.inside.rest.now c.read_u32.new.self.left c.in_ok-typ.typ (c.in_ok-typ.ensures.reads ∙ ap (word_at 4) c.new-cursor.ensures.left) c.in_err-len.ensures.reads in
     rw c.from_residual-in_err-len.ensures (gone, gone)
 
 pub returns-in_err-bytes-clause-steps : goal.returns-in_err-bytes-clause-steps
 returns-in_err-bytes-clause-steps c =
     let gone : c.args.self.now ≡ [] =
-        sym c.self.view_is ∙ none_filled c.self.inside.rest.now c.read_u32.new.self.left c.in_ok-typ.typ (c.in_ok-typ.ensures.reads ∙ ap (word_at 4) c.new-cursor.ensures.left) c.in_ok-len.len c.read_u32-2.new.self.left c.in_ok-len.ensures.reads c.in_err-bytes.ensures.reads in
+    sym c.self.view_is ∙ none_filled c.self.inside.rest.now c.read_u32.new.self.left c.in_ok-typ.typ (c.in_ok-typ.ensures.reads ∙ ap (word_at 4) c.new-cursor.ensures.left) c.in_ok-len.len c.read_u32-2.new.self.left c.in_ok-len.ensures.reads c.in_err-bytes.ensures.reads in
     rw c.from_residual-in_err-bytes.ensures (gone, gone)
 
 pub returns-clause-steps : goal.returns-clause-steps
