@@ -5,6 +5,7 @@ use Rattle.std.specs.declared.borrow.CowStr.{CowStr}
 use Rattle.std.specs.declared.borrow.CowStr.TheVariants as texts
 use Rattle.bz_base.specs.declared.types.CodeInfo.{CodeInfo}
 use Rattle.bz_base.specs.declared.types.InlinedFn.{InlinedFn}
+use Rattle.bz_base.specs.declared.types.ResolvedSym.{ResolvedSym}
 use Rattle.bz_base.specs.declared.types.Sym.{Sym}
 use Rattle.bz_base.specs.declared.types.Symbolized.{Symbolized}
 use Rattle.bz_base.specs.declared.types.Symbolized.TheVariants as symbolized
@@ -25,6 +26,11 @@ pub record IsLentCall (call : InlinedFn) : Type 0 where
 pub record IsLentSymbol (symbol : Sym) : Type 0 where
   pub name : IsLentText symbol.name
   pub «module» : IfSome symbol.«module» IsLentText
+  pub place : IfSome symbol.code_info IsLentPlace
+  pub calls : AllByRecursion IsLentCall symbol.inlined.items
+
+-- the places and calls of a table's symbol are lent, as its name always is
+pub record IsLentResolved (symbol : ResolvedSym) : Type 0 where
   pub place : IfSome symbol.code_info IsLentPlace
   pub calls : AllByRecursion IsLentCall symbol.inlined.items
 

@@ -1,8 +1,10 @@
 pub mod Answer
 pub mod Byte
 pub mod Chain
+pub mod Cursor
 pub mod ErrorNames
 pub mod InputKind
+pub mod Leb128
 pub mod Lent
 pub mod Line
 pub mod Nearest
@@ -10,6 +12,7 @@ pub mod Number
 pub mod Path
 pub mod ReasonText
 pub mod Refusals
+pub mod Resolution
 pub mod Span
 pub mod Starts
 pub mod Sweep

@@ -1,9 +1,11 @@
 //! What holds of the definitions that the contracts cite.
 
-ghost use Rattle.std.specs.Prelude.{◌≡◌, ◌↔◌, ◌≤◌, ℕ, true, [], List, Option, None, Some, IsTrue, map, option_and_then, slice_get};
+ghost use Rattle.std.specs.Prelude.{◌≡◌, ◌↔◌, ◌+◌, ◌≤◌, ℕ, ℤ, true, [], List, Option, None, Some, IsTrue, map, option_and_then, slice_get};
 ghost use Rattle.bz_base.specs.Answer.{site_of, call_of, symbol_of, resolved_of, reading};
 ghost use Rattle.bz_base.specs.Chain.{IsInner, IsChainTo, inner, chain, last_depth};
+ghost use Rattle.bz_base.specs.Cursor.{IsCstr, IsInFront, IsNextAligned, IsSlice, IsWord, cstr_at, padding, slice_at, word_at};
 ghost use Rattle.bz_base.specs.InputKind.{payload, MapsTo};
+ghost use Rattle.bz_base.specs.Leb128.{IsSleb, IsUleb, sleb_at, uleb_at};
 ghost use Rattle.bz_base.specs.Line.{AreEnded, AreLines, all_lines, ended_lines};
 ghost use Rattle.bz_base.specs.Nearest.{IsCandidate, IsNearestCovering, IsTable, candidate, nearest_covering};
 ghost use Rattle.bz_base.specs.Number.{IsAtFront, IsDecimal, IsHex, decimal_at, hex_at, number_at, whole};
@@ -54,6 +56,22 @@ pub fn numbers_are_exact()
     ensures decimal_front { (most greatest : ℕ) (text : List ℕ) (value : ℕ) (rest : List ℕ) → (decimal_at most greatest text ≡ Some (value, rest)) ↔ (IsAtFront 10 most text value rest × (value ≤ greatest)) }
     ensures whole_hex { (most : ℕ) (text : List ℕ) (value : ℕ) → (whole (hex_at most text) ≡ Some value) ↔ IsHex most text value }
     ensures whole_decimal { (most greatest : ℕ) (text : List ℕ) (value : ℕ) → (whole (decimal_at most greatest text) ≡ Some value) ↔ IsDecimal most greatest text value }
+{}
+
+/// The pieces that are read from the front of bytes are those that lie there: slices, words with the
+/// least byte first, and texts that a zero byte ends. What is passed over to align a place leads to
+/// the first one after it.
+pub fn pieces_are_exact()
+    ensures slice { (count : ℕ) (bytes slice rest : List ℕ) → (slice_at count bytes ≡ Some (slice, rest)) ↔ IsInFront (IsSlice count slice) bytes rest }
+    ensures word { (size : ℕ) (bytes : List ℕ) (value : ℕ) (rest : List ℕ) → (word_at size bytes ≡ Some (value, rest)) ↔ IsInFront (IsWord size value) bytes rest }
+    ensures cstr { (bytes text rest : List ℕ) → (cstr_at bytes ≡ Some (text, rest)) ↔ IsInFront (IsCstr text) bytes rest }
+    ensures aligned { (place aligned : ℕ) → (aligned ≡ place + padding place) ↔ IsNextAligned place aligned }
+{}
+
+/// The LEB128 numbers that are read from the front of bytes are those that are spelled there.
+pub fn lebs_are_exact()
+    ensures unsigned { (bytes : List ℕ) (value : ℕ) (rest : List ℕ) → (uleb_at bytes ≡ Some (value, rest)) ↔ IsInFront (IsUleb value) bytes rest }
+    ensures signed { (bytes : List ℕ) (value : ℤ) (rest : List ℕ) → (sleb_at bytes ≡ Some (value, rest)) ↔ IsInFront (IsSleb value) bytes rest }
 {}
 
 /// A path is split into the directory and the file that its pieces say, and only the empty text into

@@ -4,11 +4,14 @@
 
 mod batch;
 mod chain;
+mod cursor;
 mod error;
 mod input;
 pub mod laws;
+mod leb128;
 mod number;
 mod path;
+mod resolve;
 mod scan;
 mod search;
 mod starts;
@@ -20,10 +23,12 @@ mod types;
 
 pub use batch::in_batch;
 pub use chain::{Nested, around_in, chain_in, inner_in, sort_nested};
+pub use cursor::Cursor;
 pub use error::{Error, ErrorKind, Result};
 pub use input::Input;
 pub use number::{decimal, hex, whole_decimal, whole_hex};
 pub use path::split_source;
+pub use resolve::{Resolve, Symbolize, TranslateFileOffset};
 pub use scan::nearest_by_scan;
 pub use search::{covers, inside};
 pub use starts::{Probe, Starts, nearest};

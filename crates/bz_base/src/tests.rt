@@ -1,6 +1,8 @@
 //! What no clause says: that the calls succeed, and a few answers that were worked out by hand.
 
+mod cursor;
 mod path;
+mod resolve;
 mod search;
 mod text;
 

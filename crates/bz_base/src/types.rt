@@ -1,10 +1,12 @@
 //! What is answered for an address.
 
-ghost use Rattle.std.specs.Prelude.{◌≡◌, ◌++◌, ◌∷◌, [], Some, IfOk, IsOkUnless, map, option_map, option_copied};
+ghost use Rattle.std.specs.Prelude.{◌≡◌, ◌≤◌, ◌++◌, ◌∷◌, [], Some, IfOk, IfSome, IsOkUnless, map, option_map, option_copied};
 ghost use Rattle.std.specs.Cow.{cow_str_bytes};
-ghost use Rattle.bz_base.specs.Answer.{site_of, call_of, symbol_of, sym_in};
+ghost use Rattle.bz_base.specs.Answer.{site_of, call_of, resolved_of, symbol_of, sym_in};
 ghost use Rattle.bz_base.specs.Byte.{zero_byte};
+ghost use Rattle.bz_base.specs.Lent.{IsLentResolved, IsLentSymbol, IsLentText};
 ghost use Rattle.bz_base.specs.ReasonText.{text_of};
+ghost use Rattle.bz_base.specs.Resolution.{symbol_at};
 
 use crate::error::{Error, Result};
 use std::alloc::Global;
@@ -167,6 +169,25 @@ impl InlinedFn<'_> {
     }
 }
 
+impl<'a> ResolvedSym<'a> {
+    /// The symbol at an address that isn't before its start, with the same texts. It takes no memory.
+    pub fn into_sym(self, addr: Addr) -> Sym<'a>
+        requires { self.addr ≤ addr }
+        ensures same { symbol_of result ≡ symbol_at addr (resolved_of self.entry) }
+        ensures lent { IsLentResolved self.entry → IsLentSymbol result }
+    {
+        Sym {
+            name: CowStr::Borrowed(self.name),
+            module: lent_option(self.module),
+            addr: self.addr,
+            offset: (addr - self.addr) as usize,
+            size: self.size,
+            code_info: self.code_info,
+            inlined: self.inlined,
+        }
+    }
+}
+
 impl Sym<'_> {
     /// The same symbol, with texts of its own.
     pub fn into_owned(self, alloc: Global) -> Result<Sym<'static>>
@@ -249,6 +270,16 @@ impl<'a> Symbolized<'a> {
             Symbolized::Sym(symbol) => Some(symbol),
             Symbolized::Unknown(_) => None,
         }
+    }
+}
+
+fn lent_option(text: Option<&str>) -> Option<CowStr<'_>>
+    ensures same { option_map cow_str_bytes result ≡ option_map (λ lent. lent.now) text.entry }
+    ensures lent { IfSome result IsLentText }
+{
+    match text {
+        Some(text) => Some(CowStr::Borrowed(text)),
+        None => None,
     }
 }
 

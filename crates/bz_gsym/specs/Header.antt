@@ -1,0 +1,18 @@
+-- The head of a GSYM file of version 1, as LLVM's documentation of its header has it (llvm::gsym::Header).
+use Rattle.std.specs.Prelude.{ℕ, List, take, drop}
+use Rattle.bz_gsym.specs.Number.{number_at}
+use Rattle.bz_gsym.specs.declared.types.Header.{Header}
+
+-- the head: each field at its place, with its width in bytes
+abbrev pub header_of : List ℕ → Header
+header_of bytes = record {
+  magic = number_at 4 bytes 0;
+  version = number_at 2 bytes 4;
+  addr_off_size = number_at 1 bytes 6;
+  uuid_size = number_at 1 bytes 7;
+  base_address = number_at 8 bytes 8;
+  num_addrs = number_at 4 bytes 16;
+  strtab_offset = number_at 4 bytes 20;
+  strtab_size = number_at 4 bytes 24;
+  uuid = take 20 (drop 28 bytes);
+}

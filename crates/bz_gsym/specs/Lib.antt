@@ -1,0 +1,9 @@
+pub mod Answer
+pub mod Entries
+pub mod Header
+pub mod Number
+pub mod Resolver
+pub mod Seen
+pub mod Strings
+pub mod Tables
+pub mod Version

@@ -1,0 +1,22 @@
+//! What holds of the definitions that the contracts cite.
+
+ghost use Rattle.std.specs.Prelude.{◌≡◌, ◌↔◌, true, ℕ, List, Some};
+ghost use Rattle.bz_gsym.specs.Entries.{AreEntries, Entry, entries_in};
+ghost use Rattle.bz_gsym.specs.Strings.{IsString, string_at};
+ghost use Rattle.bz_gsym.specs.Tables.{IsGsym, is_gsym};
+
+/// The test of a GSYM file says what the relation says.
+pub fn files_are_exact()
+    ensures { (bytes : List ℕ) → (is_gsym bytes ≡ true) ↔ IsGsym bytes }
+{}
+
+/// The data entries that are read of bytes are those that make them up side by side, as far as there
+/// are any.
+pub fn entries_are_exact()
+    ensures { (bytes : List ℕ) (entries : List Entry) → (entries_in bytes ≡ entries) ↔ AreEntries bytes entries }
+{}
+
+/// The string that is read at a place of a table is the one that stands there.
+pub fn strings_are_exact()
+    ensures { (table : List ℕ) (place : ℕ) (text : List ℕ) → (string_at table place ≡ Some text) ↔ IsString table place text }
+{}

@@ -1,0 +1,52 @@
+//! The symbol at an address.
+
+ghost use Rattle.std.specs.Prelude.{◌≡◌, IfOk, IfErr};
+ghost use Rattle.bz_base.specs.Resolution.{StartsBefore, found_of};
+ghost use Rattle.bz_base.specs.declared.error.Error.{Error};
+ghost use Rattle.bz_gsym.specs.Answer.{answer_at, reaches};
+ghost use Rattle.bz_gsym.specs.Seen.{answer_seen};
+
+use crate::parser::GsymContext;
+use bz_base::{Addr, Error, Reason, ResolvedSym, Result, SrcLang, inside};
+use std::alloc::Global;
+
+/// The symbol at an address by name, start and size, or why there is none. It takes no memory.
+pub(crate) fn symbol_at<'a>(
+    context: &GsymContext<'a>,
+    alloc: Global,
+    addr: Addr,
+) -> Result<std::result::Result<ResolvedSym<'a>, Reason>>
+    ensures answer { answer_seen result ≡ answer_at context.now addr }
+    ensures refusal { IfErr result (λ e. e ≡ Error.InvalidData) }
+    ensures starts { IfOk result (λ found. StartsBefore addr (found_of found)) }
+{
+    let Some((index, start)) = context.nearest(addr) else {
+        return Ok(Err(Reason::UnknownAddr));
+    };
+    let Some(info) = context.addr_info(index) else {
+        return Err(Error::InvalidData);
+    };
+    if !reaches(start, info.size, addr) {
+        return Ok(Err(Reason::UnknownAddr));
+    }
+    let Some(name) = context.get_str(info.name as usize) else {
+        return Err(Error::InvalidData);
+    };
+    Ok(Ok(ResolvedSym {
+        name,
+        module: None,
+        addr: start,
+        size: Some(info.size as usize),
+        lang: SrcLang::Unknown,
+        code_info: None,
+        inlined: Vec::new(alloc),
+    }))
+}
+
+/// Whether a symbol with this start and size (in bytes) reaches an address from its start on. One of
+/// size 0 does.
+fn reaches(start: u64, size: u32, addr: Addr) -> bool
+    ensures { result ≡ reaches start size addr }
+{
+    size == 0 || inside(start, u64::from(size), addr)
+}

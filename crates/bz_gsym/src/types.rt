@@ -1,0 +1,68 @@
+//! What a GSYM file is made of.
+
+/// The number that each file begins with.
+pub const GSYM_MAGIC: u32 = 0x4753594d;
+
+/// The one version that is read.
+pub const GSYM_VERSION: u16 = 1;
+
+/// The type of data entry that ends a list.
+pub const INFO_TYPE_END_OF_LIST: u32 = 0;
+
+/// The type of data entry that is a line table.
+pub const INFO_TYPE_LINE_TABLE_INFO: u32 = 1;
+
+/// The type of data entry that is a tree of inlined calls.
+pub const INFO_TYPE_INLINE_INFO: u32 = 2;
+
+/// The head of a file.
+#[derive(Clone, Copy, Debug)]
+pub struct Header {
+    /// The number that the file begins with.
+    pub magic: u32,
+    /// The version of the format.
+    pub version: u16,
+    /// The size of an entry of the address table, in bytes.
+    pub addr_off_size: u8,
+    /// The size of the build id, in bytes. It isn't looked at.
+    pub uuid_size: u8,
+    /// The address that the starts of the address table count from.
+    pub base_address: u64,
+    /// How many entries the address table has.
+    pub num_addrs: u32,
+    /// The place of the string table, from the first byte of the file.
+    pub strtab_offset: u32,
+    /// The size of the string table, in bytes.
+    pub strtab_size: u32,
+    /// The build id, filled up with zeros. It isn't looked at.
+    pub uuid: [u8; 20],
+}
+
+/// A source file: where its texts begin in the string table.
+#[derive(Clone, Debug, Drop)]
+pub struct FileInfo {
+    /// The place of the directory.
+    pub directory: u32,
+    /// The place of the file's name.
+    pub filename: u32,
+}
+
+/// The data of a symbol.
+#[derive(Debug, Drop)]
+pub struct AddrInfo<'a> {
+    /// The symbol's size, in bytes.
+    pub size: u32,
+    /// The place of its name in the string table.
+    pub name: u32,
+    /// The bytes from its data entries on, to the end of the file.
+    pub bytes: &'a [u8],
+}
+
+/// A data entry of a symbol.
+#[derive(Debug, Drop)]
+pub struct AddrData<'a> {
+    /// What the entry is.
+    pub typ: u32,
+    /// The bytes of the entry.
+    pub bytes: &'a [u8],
+}
