@@ -1,6 +1,7 @@
 //! The symbol at an address.
 
 ghost use Rattle.std.specs.Prelude.{◌≡◌, IfOk, IfErr};
+ghost use Rattle.bz_base.specs.Lent.{IsLentResolved};
 ghost use Rattle.bz_base.specs.Resolution.{StartsBefore, found_of};
 ghost use Rattle.bz_base.specs.declared.error.Error.{Error};
 ghost use Rattle.bz_gsym.specs.Answer.{answer_at, reaches};
@@ -19,6 +20,7 @@ pub(crate) fn symbol_at<'a>(
     ensures answer { answer_seen result ≡ answer_at context.now addr }
     ensures refusal { IfErr result (λ e. e ≡ Error.InvalidData) }
     ensures starts { IfOk result (λ found. StartsBefore addr (found_of found)) }
+    ensures lent { IfOk result (λ found. IfOk found IsLentResolved) }
 {
     let Some((index, start)) = context.nearest(addr) else {
         return Ok(Err(Reason::UnknownAddr));
@@ -41,6 +43,22 @@ pub(crate) fn symbol_at<'a>(
         code_info: None,
         inlined: Vec::new(alloc),
     }))
+}
+
+impl<'a> GsymContext<'a> {
+    /// The symbol at an address by name, start and size, or why there is none. It takes no memory.
+    pub fn find_sym(
+        &self,
+        alloc: Global,
+        addr: Addr,
+    ) -> Result<std::result::Result<ResolvedSym<'a>, Reason>>
+        ensures answer { answer_seen result ≡ answer_at self.now addr }
+        ensures starts { IfOk result (λ found. StartsBefore addr (found_of found)) }
+        ensures lent { IfOk result (λ found. IfOk found IsLentResolved) }
+        ensures refusal { IfErr result (λ e. e ≡ Error.InvalidData) }
+    {
+        symbol_at(self, alloc, addr)
+    }
 }
 
 /// Whether a symbol with this start and size (in bytes) reaches an address from its start on. One of

@@ -1,22 +1,22 @@
 -- What a version answers to a batch, in the words of the source's format.
 use Rattle.std.proofs.Common.{◌≡◌, ◌↔◌, ◌<◌, ℕ, List, length, option_map, Some, slice_get, get_or, Result, Ok, Err, IfOk, ap, sym, ◌∙◌}
 use Rattle.std.proofs.lemmas.Option.{slice_get-get_or, slice_get-map}
-use Rattle.bz_base.specs.Answer.{Answer, in_batch, reading}
+use Rattle.bz_base.specs.Answer.{Answer, reading}
 use Rattle.bz_base.specs.InputKind.{AddressKind}
 use Rattle.bz_base.specs.declared.error.Error.{Error}
 use Rattle.bz_base.specs.declared.types.FindSymOpts.{FindSymOpts}
 use Rattle.bz_base.specs.declared.types.Symbolized.{Symbolized}
-use Rattle.bz_breakpad.specs.Reader.{table_in}
-use Rattle.bz_symbolize.specs.Batch.{breakpad_batch}
+use Rattle.bz_symbolize.specs.Batch.{batch_by, entry_by}
+use Rattle.bz_symbolize.specs.declared.held.Held.{Held}
 use Rattle.bz_symbolize.specs.FileCall.{batch_of}
 use Rattle.bz_symbolize.specs.Promise.{IsAnswerOf, IsBreakpadAnswer, IsBreakpadBatch}
-use Rattle.bz_symbolize.specs.Sources.{breakpad_single}
 use Rattle.bz_symbolize.specs.declared.source.Source.{Source}
 use Rattle.bz_symbolize.specs.declared.source.Source.TheVariants as sources
 
 -- a version refuses no batch by itself
 pub never_refused : (source : Source) (opts : FindSymOpts) (bytes : List ℕ) (kind : AddressKind) (addrs : List ℕ) (e : Error) → IsAnswerOf source opts bytes (batch_of kind addrs) (Err e) → ⊥
 never_refused (sources.Breakpad source) opts bytes kind addrs e is = let plain = is.plain in cc
+never_refused (sources.Gsym source) opts bytes kind addrs e is = let plain = is.plain in cc
 
 -- what a Breakpad file answers to a batch is the batch of its table
 pub batch_answered : (opts : FindSymOpts) (bytes : List ℕ) (kind : AddressKind) (addrs : List ℕ) (answers : List Answer) →
@@ -29,10 +29,10 @@ plain_batch opts bytes kind addrs answers =
     (batch_answered opts bytes kind addrs answers, λ is. record { table = is.table; accepted = is.accepted; plain = ap Ok (sym is.plain) })
 
 -- the answer that is read of the address of an index is the batch's of that index
-pub answer_read : (opts : FindSymOpts) (bytes addrs : List ℕ) (i d : ℕ) → i < length addrs → (result : Result Symbolized Error) →
-    IfOk result (λ entry. reading entry ≡ in_batch (breakpad_single opts (table_in bytes) (get_or addrs i d))) →
-    IfOk result (λ entry. slice_get (breakpad_batch opts bytes addrs) i ≡ Some (reading entry))
-answer_read opts bytes addrs i d within (Ok entry) is =
-    let single : ℕ → Answer = λ addr. in_batch (breakpad_single opts (table_in bytes) addr) in
+pub answer_read : (held : Held) (opts : FindSymOpts) (addrs : List ℕ) (i d : ℕ) → i < length addrs → (result : Result Symbolized Error) →
+    IfOk result (λ entry. reading entry ≡ entry_by held opts (get_or addrs i d)) →
+    IfOk result (λ entry. slice_get (batch_by held opts addrs).answers i ≡ Some (reading entry))
+answer_read held opts addrs i d within (Ok entry) is =
+    let single : ℕ → Answer = λ addr. entry_by held opts addr in
     slice_get-map single addrs i ∙ ap (option_map single) (slice_get-get_or addrs i d within) ∙ ap Some (sym is)
-answer_read opts bytes addrs i d within (Err e) is = tt
+answer_read held opts addrs i d within (Err e) is = tt

@@ -1,10 +1,10 @@
 -- From what a call does on its source's file to all that it promises, whatever the source and the query.
-use Rattle.std.proofs.Common.{◌≡◌, Result}
+use Rattle.std.proofs.Common.{◌≡◌, Result, ap}
 use Rattle.bz_base.specs.declared.error.Error.{Error}
 use Rattle.bz_base.specs.declared.types.FindSymOpts.{FindSymOpts}
 use Rattle.bz_files.specs.World.{Told, in_view}
 use Rattle.bz_files.specs.declared.files.Files.{Ghosts}
-use Rattle.bz_symbolize.proofs.Formats.{on_file, both, told_by_form}
+use Rattle.bz_symbolize.proofs.Formats.{on_file, on_handed, both, told_by_form}
 use Rattle.bz_symbolize.proofs.LeaveLemmas.{told_from_file, step_from_told, leaves_from_some, unchanged}
 use Rattle.bz_symbolize.proofs.PromiseLemmas.{look_from_told, view_from_told, causes_from_told, complete_from_told, kept_from_some, ready_from_version, refusal_from_some}
 use Rattle.bz_symbolize.specs.FileCall.{Query, CallsFile}
@@ -26,7 +26,8 @@ module _ {A B X : Type 0} (files : Ghosts X) (reading : A → B) (source : Sourc
       let opts : FindSymOpts = opts_of old.settings in
       let whole : OnFile source (λ file. Calls file × Rests file) = both source Calls Rests did.called did.rest in
       let told_all : Told (in_view (files.worlds before)) (λ world. CallTold reading opts (form_of source) query result old now world (files.opens before) (files.opens after)) = λ world seen. told_by_form reading opts (form_of source) query result old now world _ _
-      (on_file query source whole (λ file laws all. told_from_file opts source file query laws old reading now all.1 world _ _ result (all.0.told world seen))) in
+      (on_file query source whole (λ file laws all. told_from_file opts source file query laws old reading now all.1 world _ _ result (all.0.told world seen)))
+      (on_handed source did.handed (λ given is. (is.0, is.1, ap files.opens is.2))) in
       record {
         view = on_file query source did.called (λ file laws all world seen coherent. view_from_told opts source file query laws old reading world result coherent (all.told world seen).answer);
         look = on_file query source did.called (λ file laws all world seen. look_from_told opts source file query laws old reading world result (all.told world seen).answer);
@@ -37,6 +38,7 @@ module _ {A B X : Type 0} (files : Ghosts X) (reading : A → B) (source : Sourc
         history = λ world seen. step_from_told result old now _ (told_all world seen).state;
         leaves = on_file query source whole (λ file laws all. leaves_from_some opts source file query laws old reading now all.1 result
             (λ other. unchanged opts source file query laws old reading now all.1 (all.0.untaken other).1) all.0.some);
+        handed = did.handed;
         untaken = on_file query source whole (λ file laws all other. let refused = all.0.untaken other in (refused.0, unchanged opts source file query laws old reading now all.1 refused.1, refused.2));
         stays = on_file query source whole (λ file laws all held. let same = all.0.stays held in (unchanged opts source file query laws old reading now all.1 same.0, same.1));
         ready = on_file query source did.called (λ file laws all held taken serves. ready_from_version opts source file query laws old reading now result serves (all.ready held taken));

@@ -3,6 +3,7 @@ pub mod BatchLemmas
 pub mod CallLemmas
 pub mod FileLemmas
 pub mod Formats
+pub mod GsymLemmas
 pub mod HistoryLemmas
 pub mod LeaveLemmas
 pub mod NewLemmas

@@ -3,13 +3,21 @@ use Rattle.std.specs.Prelude.{ℕ, List, map}
 use Rattle.bz_base.specs.Answer.{Answer, in_batch}
 use Rattle.bz_base.specs.declared.types.FindSymOpts.{FindSymOpts}
 use Rattle.bz_breakpad.specs.Reader.{table_in}
-use Rattle.bz_symbolize.specs.Sources.{breakpad_single}
+use Rattle.bz_symbolize.specs.Sources.{breakpad_single, gsym_single}
+use Rattle.bz_symbolize.specs.declared.held.Held.{Held}
+use Rattle.bz_symbolize.specs.declared.held.Held.TheVariants as helds
 
 -- addresses, and the answers of a version of their source to them, in their order
 pub record Batch : Type 0 where
   pub addrs : List ℕ
   pub answers : List Answer
 
--- the answers of a Breakpad file, where a refused address is an ignored error
-abbrev pub breakpad_batch : FindSymOpts → List ℕ → List ℕ → List Answer
-breakpad_batch opts bytes addrs = map (λ addr. in_batch (breakpad_single opts (table_in bytes) addr)) addrs
+-- the entry of a batch at an address, by the version that is held; a refused address is an ignored error
+abbrev pub entry_by : Held → FindSymOpts → ℕ → Answer
+entry_by (helds.Breakpad file) opts addr = in_batch (breakpad_single opts (table_in file.value) addr)
+entry_by (helds.Gsym table) opts addr = in_batch (gsym_single table.value addr)
+entry_by (helds.GsymData context) opts addr = in_batch (gsym_single context addr)
+
+-- the batch by the version that is held
+abbrev pub batch_by : Held → FindSymOpts → List ℕ → Batch
+batch_by held opts addrs = record { addrs = addrs; answers = map (λ addr. entry_by held opts addr) addrs }

@@ -29,3 +29,4 @@ MayReach start (step ∷ later) end = (next : State) × MayLeave start step.0 st
 -- in every cache, kept versions cohere with the world: equal stamps mean equal bytes
 pub record Coheres (state : State) (world : World) : Type 0 where
   pub breakpad : Coherent state.breakpad.kept world
+  pub gsym : Coherent state.gsym.kept world

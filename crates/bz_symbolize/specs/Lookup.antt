@@ -1,5 +1,5 @@
 -- What a call of a symbolizer answers, and the state that it leaves.
-use Rattle.std.specs.Prelude.{ℕ, Bool, cond, List, Option, Some, None, Result, Ok, Err}
+use Rattle.std.specs.Prelude.{ℕ, Bool, false, cond, List, Option, Some, None, Result, Ok, Err}
 use Rattle.bz_base.specs.Answer.{Answer}
 use Rattle.bz_base.specs.InputKind.{AddressKind}
 use Rattle.bz_base.specs.declared.error.Error.{Error}
@@ -13,21 +13,24 @@ use Rattle.bz_breakpad.specs.Table.{Table}
 use Rattle.bz_breakpad.specs.Reader.{table_in}
 use Rattle.bz_breakpad.specs.Plain.{batch}
 use Rattle.bz_symbolize.specs.FileCall.{Query, Question, by_version, file_answer, file_cache, file_opens}
-use Rattle.bz_symbolize.specs.Sources.{SourceForm, OneFile, asked_of}
+use Rattle.bz_symbolize.specs.Sources.{SourceForm, OneFile, Handed, asked_of, handed_answer}
 use Rattle.bz_symbolize.specs.State.{State}
 
 -- what a call answers
 abbrev pub answer_of : {B : Type 0} → FindSymOpts → State → SourceForm → Query B → World → Result B Error
 answer_of opts state (OneFile file) query world = file_answer (asked_of file opts query) (file.cache state) file.path (entry_at world file.path)
+answer_of opts state (Handed given) query world = handed_answer given opts query
 
 -- the state that a call leaves: of what is asked, the kind of address alone matters to it
 abbrev pub state_of : State → SourceForm → AddressKind → World → State
 state_of state (OneFile file) kind world =
     file.with_cache state (file_cache file.test (file.answering.takes kind) (file.cache state) file.path (entry_at world file.path))
+state_of state (Handed given) kind world = state
 
 -- whether a call reads a file
 abbrev pub opens_of : State → SourceForm → AddressKind → World → Bool
 opens_of state (OneFile file) kind world = file_opens (file.answering.takes kind) (file.cache state) file.path (entry_at world file.path)
+opens_of state (Handed given) kind world = false
 
 -- what the version in view answers, or the refusal of a file that is absent, may not be read or isn't in the format
 abbrev pub by_view : {B : Type 0} → Question B → View → Result B Error

@@ -1,6 +1,6 @@
 -- What a call of a symbolizer promises, in the words of the subject, whether a batch or a single address is asked.
 use Rattle.std.specs.Prelude.{◌≡◌, ◌⊎◌, ℕ, true, false, List, Option, Some, IsSome, Result, Ok, Err, IfOk, IfErr, IsErrOf, OnOk}
-use Rattle.bz_base.specs.Answer.{Answer}
+use Rattle.bz_base.specs.Answer.{Answer, Gives}
 use Rattle.bz_base.specs.InputKind.{AddressKind}
 use Rattle.bz_base.specs.declared.error.Error.{Error}
 use Rattle.bz_base.specs.declared.error.Error.TheVariants as errors
@@ -16,10 +16,11 @@ use Rattle.bz_cache.specs.View.{Shown, fixed, view}
 use Rattle.bz_breakpad.specs.Grammar.{IsFile}
 use Rattle.bz_breakpad.specs.Plain.{batch, plain}
 use Rattle.bz_breakpad.specs.Table.{Table}
+use Rattle.bz_gsym.specs.Tables.{IsGsym}
 use Rattle.bz_symbolize.specs.FileCall.{CallsFile, Leaves, MayBeRefused, Query}
 use Rattle.bz_symbolize.specs.History.{MayLeave, Symbolize}
 use Rattle.bz_symbolize.specs.Lookup.{answer_of, state_of, opens_of, view_answer}
-use Rattle.bz_symbolize.specs.Sources.{FileSource, SourceForm, OnFile, asked_of, form_of}
+use Rattle.bz_symbolize.specs.Sources.{FileSource, SourceForm, OnFile, OnHanded, asked_of, form_of, gsym_single, handed_answer}
 use Rattle.bz_symbolize.specs.State.{State, WellKept, opts_of}
 use Rattle.bz_symbolize.specs.declared.source.Source.{Source}
 use Rattle.bz_symbolize.specs.declared.source.Source.TheVariants as sources
@@ -37,13 +38,20 @@ pub record IsBreakpadAnswer {B : Type 0} (opts : FindSymOpts) (bytes : List ℕ)
   pub accepted : IsFile bytes table
   pub plain : query.given (plain table opts) ≡ answer
 
+-- the bytes are a GSYM file, and the answer, or the refusal, is what the query makes of its answers at each address alone
+pub record IsGsymAnswer {B : Type 0} (bytes : List ℕ) (query : Query B) (answer : Result B Error) : Type 0 where
+  pub accepted : IsGsym bytes
+  pub plain : query.given (gsym_single bytes) ≡ answer
+
 -- the bytes are a version of the source, and it answers the query so, or refuses it, in the words of the source's format
 abbrev pub IsAnswerOf : {B : Type 0} → Source → FindSymOpts → List ℕ → Query B → Result B Error → Type 0
 IsAnswerOf (sources.Breakpad source) opts bytes query answer = IsBreakpadAnswer opts bytes query answer
+IsAnswerOf (sources.Gsym source) opts bytes query answer = IsGsymAnswer bytes query answer
 
 -- the bytes are a version of the source, in the words of the source's format
 abbrev pub IsVersionOf : Source → List ℕ → Type 0
 IsVersionOf (sources.Breakpad source) bytes = (table : Table) × IsFile bytes table
+IsVersionOf (sources.Gsym source) bytes = IsGsym bytes
 
 -- the version in view at the path gives this answer
 pub record AnswersView {B : Type 0} (opts : FindSymOpts) (source : Source) (file : FileSource) (state : State) (world : World) (query : Query B) (answer : B) : Type 0 where
@@ -141,6 +149,8 @@ pub record Symbolizes {A B X : Type 0} (files : Ghosts X) (reading : A → B) (s
   pub history : Told (in_view (files.worlds before)) (λ world. MayLeave old world (Symbolize source query.kind) now)
   -- whatever is told and answered, the state is the old one, or the one after some look at the path
   pub leaves : OnFile source (λ file. FileLeaves (opts_of old.settings) source file query result old now)
+  -- bytes that are handed in are answered with no look, and nothing changes
+  pub handed : OnHanded source (λ given. Gives reading (handed_answer given (opts_of old.settings) query) result × (now ≡ old) × (after ≡ before))
   -- a kind of address that isn't taken is refused before any look
   pub untaken : OnFile source (λ file. file.answering.takes query.kind ≡ false → IsErrOf result errors.Unsupported × (now ≡ old) × (after ≡ before))
   -- a path that is held and isn't looked at anew stays as it is, and is answered without a look
@@ -160,6 +170,7 @@ pub record Symbolizes {A B X : Type 0} (files : Ghosts X) (reading : A → B) (s
 pub record AsksSource {A B X : Type 0} (files : Ghosts X) (reading : A → B) (source : Source) (opts : FindSymOpts) (query : Query B)
     (result : Result A Error) (old now : State) (before after : X) : Type 0 where
   pub called : OnFile source (λ file. CallsFile files reading (asked_of file opts query) file.path result (file.cache old) (file.cache now) before after)
+  pub handed : OnHanded source (λ given. Gives reading (handed_answer given opts query) result × (now ≡ old) × (after ≡ before))
   pub rest : OnFile source (λ file. now ≡ file.with_cache old (file.cache now))
   pub settings : now.settings ≡ old.settings
   pub caches : WellKept now

@@ -1,5 +1,5 @@
 -- Sources as data: what each format answers, and which cache of a symbolizer keeps the source's file.
-use Rattle.std.specs.Prelude.{ℕ, Bool, true, false, List, Option, Some, None, Result, Err, string_bytes}
+use Rattle.std.specs.Prelude.{ℕ, Bool, true, false, cond, List, [], Option, Some, None, Result, Ok, Err, string_bytes}
 use Rattle.bz_base.specs.Answer.{Answer}
 use Rattle.bz_base.specs.InputKind.{AddressKind, InProcess, InTable, InFile}
 use Rattle.bz_base.specs.declared.error.Error.{Error}
@@ -10,10 +10,16 @@ use Rattle.bz_breakpad.specs.Reader.{table_in}
 use Rattle.bz_breakpad.specs.Plain.{plain}
 use Rattle.bz_breakpad.specs.Table.{Table}
 use Rattle.bz_breakpad.specs.Version.{format_test}
-use Rattle.bz_symbolize.specs.FileCall.{Answering, Query, Question, query_asked}
+use Rattle.bz_base.specs.Answer.{Resolved}
+use Rattle.bz_base.specs.Resolution as resolution
+use Rattle.bz_base.specs.declared.types.Reason.{Reason}
+use Rattle.bz_gsym.specs.Answer as gsym
+use Rattle.bz_gsym.specs.Version as gsym_version
+use Rattle.bz_symbolize.specs.FileCall.{Answering, Query, Question, by_version, query_asked}
 use Rattle.bz_symbolize.specs.State.{State}
 use Rattle.bz_symbolize.specs.declared.source.Source.{Source}
 use Rattle.bz_symbolize.specs.declared.source.Source.TheVariants as sources
+use Rattle.bz_symbolize.specs.declared.source.Gsym.TheVariants as gsyms
 
 -- a Breakpad source takes file offsets alone
 abbrev pub is_in_file : AddressKind → Bool
@@ -28,6 +34,40 @@ breakpad_single opts (Some table) addr = plain table opts addr
 
 abbrev pub breakpad_answering : Answering
 breakpad_answering = record { takes = is_in_file; serves = is_in_file; single = λ opts path bytes kind addr. breakpad_single opts (table_in bytes) addr }
+
+-- a GSYM source takes addresses as the symbol table has them alone
+abbrev pub is_in_table : AddressKind → Bool
+is_in_table InTable = true
+is_in_table InProcess = false
+is_in_table InFile = false
+
+-- what was found as the answer for the address, or its refusal
+abbrev pub as_answer : ℕ → Result (Result Resolved Reason) Error → Result Answer Error
+as_answer addr (Ok found) = Ok (resolution.answer_at addr found)
+as_answer addr (Err e) = Err e
+
+-- the answer of a GSYM file at an address, or its refusal. It has no places, so options change nothing.
+abbrev pub gsym_single : List ℕ → ℕ → Result Answer Error
+gsym_single bytes addr = as_answer addr (gsym.answer_at bytes addr)
+
+abbrev pub gsym_answering : Answering
+gsym_answering = record { takes = is_in_table; serves = is_in_table; single = λ opts path bytes kind addr. gsym_single bytes addr }
+
+-- a source that is bytes handed in
+pub record HandedSource : Type 0 where
+  -- their format: which refusal bytes give, and what those in it answer
+  pub test : List ℕ → Option Error
+  pub answering : Answering
+  pub bytes : List ℕ
+
+-- what handed-in bytes answer: another kind of address is refused first, then bytes that aren't in the format
+abbrev pub handed_answer : {B : Type 0} → HandedSource → FindSymOpts → Query B → Result B Error
+handed_answer given opts query =
+    cond (given.answering.takes query.kind) (by_version (query_asked given.test given.answering opts [] query) given.bytes) (Err errors.Unsupported)
+
+-- GSYM bytes, handed in
+abbrev pub gsym_handed : List ℕ → HandedSource
+gsym_handed bytes = record { test = gsym_version.format_test; answering = gsym_answering; bytes = bytes }
 
 -- a source that is one file in one cache
 pub record FileSource : Type 0 where
@@ -46,6 +86,7 @@ asked_of file opts query = query_asked file.test file.answering opts file.path q
 -- the forms that a source may have
 pub data SourceForm : Type 0 where
   OneFile : FileSource → SourceForm
+  Handed : HandedSource → SourceForm
 
 -- the form of each source
 abbrev pub form_of : Source → SourceForm
@@ -56,11 +97,29 @@ form_of (sources.Breakpad source) = OneFile (record {
   cache = λ s. s.breakpad;
   with_cache = λ s c. record s { breakpad = c };
 })
+form_of (sources.Gsym (gsyms.File source)) = OneFile (record {
+  test = gsym_version.format_test;
+  answering = gsym_answering;
+  path = string_bytes source.path;
+  cache = λ s. s.gsym;
+  with_cache = λ s c. record s { gsym = c };
+})
+form_of (sources.Gsym (gsyms.Data source)) = Handed (gsym_handed source.bytes.now)
 
 -- a fact of the file of a source that is one
 abbrev pub OnFileForm : SourceForm → (FileSource → Type 0) → Type 0
 OnFileForm (OneFile file) P = P file
+OnFileForm (Handed given) P = Unit {0}
 
 -- the same of a source
 abbrev pub OnFile : Source → (FileSource → Type 0) → Type 0
 OnFile source P = OnFileForm (form_of source) P
+
+-- a fact of a source that is bytes handed in
+abbrev pub OnHandedForm : SourceForm → (HandedSource → Type 0) → Type 0
+OnHandedForm (OneFile file) P = Unit {0}
+OnHandedForm (Handed given) P = P given
+
+-- the same of a source
+abbrev pub OnHanded : Source → (HandedSource → Type 0) → Type 0
+OnHanded source P = OnHandedForm (form_of source) P

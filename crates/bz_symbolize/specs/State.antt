@@ -6,6 +6,7 @@ use Rattle.bz_base.specs.declared.types.FindSymOpts.{FindSymOpts}
 use Rattle.bz_base.specs.declared.types.FindSymOpts.TheVariants.{Basic, CodeInfo, CodeInfoAndInlined}
 use Rattle.bz_cache.specs.Cache.{Cache, Consistent, new_cache, coded_cache}
 use Rattle.bz_breakpad.specs.Version.{format_test}
+use Rattle.bz_gsym.specs.Version as gsym
 
 -- how a symbolizer is set: whether files are looked at anew, whether answers have places in the source code, and inlined
 -- calls, whether names are demangled, and where debug files are looked for. The last two are kept and have no effect.
@@ -30,14 +31,15 @@ opts_by true true = CodeInfoAndInlined
 abbrev pub opts_of : Settings → FindSymOpts
 opts_of settings = opts_by settings.code_info settings.inlined
 
--- a symbolizer: its settings, and the Breakpad files that it keeps
+-- a symbolizer: its settings, and the files that it keeps, of each format
 pub record State : Type 0 where
   pub settings : Settings
   pub breakpad : Cache
+  pub gsym : Cache
 
 -- a symbolizer that keeps nothing
 abbrev pub new_state : Settings → State
-new_state settings = record { settings = settings; breakpad = new_cache settings.reload }
+new_state settings = record { settings = settings; breakpad = new_cache settings.reload; gsym = new_cache settings.reload }
 
 -- a cache of a symbolizer is well kept: a stamp is kept exactly while some path names it, every version is in the format,
 -- and paths are looked at anew exactly where the settings say so
@@ -48,6 +50,7 @@ pub record IsWellKept (test : List ℕ → Option Error) (settings : Settings) (
 -- every cache is well kept
 pub record WellKept (state : State) : Type 0 where
   pub breakpad : IsWellKept format_test state.settings state.breakpad
+  pub gsym : IsWellKept gsym.format_test state.settings state.gsym
 
 -- settings and states can be kept in the model of a value
 abbrev pub coded_settings : Coded Settings
@@ -60,7 +63,7 @@ coded_settings =
 
 abbrev pub coded_state : Coded State
 coded_state =
-    code_by (Settings × Cache) (coded× coded_settings coded_cache)
-    (λ s. (s.settings, s.breakpad))
-    (λ p. record { settings = p.0; breakpad = p.1 })
+    code_by (Settings × (Cache × Cache)) (coded× coded_settings (coded× coded_cache coded_cache))
+    (λ s. (s.settings, (s.breakpad, s.gsym)))
+    (λ p. record { settings = p.0; breakpad = p.1.0; gsym = p.1.1 })
     (λ _. refl)

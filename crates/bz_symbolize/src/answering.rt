@@ -1,13 +1,14 @@
 //! How a parsed file answers, whatever its format, and the calls on one file in one cache.
 
-ghost use Rattle.std.specs.Prelude.{◌≡◌, map, IfOk, IfErr};
+ghost use Rattle.std.specs.Prelude.{◌≡◌, map, IfOk, IfErr, IsOkUnless};
 ghost use Rattle.bz_base.specs.Answer.{Gives, reading};
 ghost use Rattle.bz_base.specs.InputKind.{address_kind, payload};
 ghost use Rattle.bz_base.specs.Refusals.{MayRefuse};
+ghost use Rattle.bz_base.specs.declared.error.Error.{Error};
 ghost use Rattle.bz_symbolize.specs.FileCall.{Answering, CallsFile, batch_of, batch_query, query_asked, query_given, single_query};
 
 use crate::lookups::Lookups;
-use bz_base::{Error, FindSymOpts, Input, Result, Steps, Symbolized};
+use bz_base::{Error, FindSymOpts, Input, Result, Steps, Sym, Symbolized};
 use bz_cache::{FileCache, Version};
 use bz_files::Files;
 use std::alloc::Global;
@@ -48,12 +49,12 @@ pub trait Answers: Version {
         ensures refusal { IfErr result MayRefuse };
 
     /// The addresses with the version, from which their answers are then made one by one.
-    fn look_up(
+    fn look_up<'d>(
         version: Rc<Self>,
         opts: FindSymOpts,
         path: &str,
         input: Input<Vec<u64>>,
-    ) -> Result<Lookups>
+    ) -> Result<Lookups<'d>>
         ensures answer { Gives (λ lookups. lookups.answers) (query_given answering opts path.now (batch_of (address_kind input) (payload input).items) (Self.bytes_of version.value)) result }
         ensures addrs { IfOk result (λ lookups. lookups.addrs ≡ (payload input).items) }
         ensures refusal { IfErr result MayRefuse };
@@ -99,14 +100,14 @@ pub fn answer_file_at<T: Answers + Drop, F: Files, L: Ledger>(
 
 /// The addresses with the version of the file at the path, from which their answers are then made one
 /// by one.
-pub fn look_up_file<T: Answers + Drop, F: Files>(
+pub fn look_up_file<'d, T: Answers + Drop, F: Files>(
     cache: &mut FileCache<T>,
     alloc: Global,
     files: &mut F,
     path: &str,
     opts: FindSymOpts,
     input: Input<Vec<u64>>,
-) -> Result<Lookups>
+) -> Result<Lookups<'d>>
     ensures called { CallsFile F.Files (λ lookups. lookups.answers) (query_asked T.test T.answering opts path.now (batch_of (address_kind input) (payload input).items)) path.now result cache.old cache.new files.old files.new }
     ensures addrs { IfOk result (λ lookups. lookups.addrs ≡ (payload input).items) }
 {
@@ -115,4 +116,18 @@ pub fn look_up_file<T: Answers + Drop, F: Files>(
     }
     let shared = cache.shared(alloc, files, path)?;
     T::look_up(shared, opts, path, input)
+}
+
+/// The same answer, with texts of its own.
+pub(crate) fn owned_answer(alloc: Global, answer: Symbolized<'_>) -> Result<Symbolized<'static>>
+    ensures same { IfOk result (λ own. reading own ≡ reading answer.entry) }
+    ensures memory { IsOkUnless result Error.OutOfMemory }
+{
+    match answer {
+        Symbolized::Sym(symbol) => {
+            let symbol: Sym<'static> = symbol.into_owned(alloc)?;
+            Ok(Symbolized::Sym(symbol))
+        }
+        Symbolized::Unknown(reason) => Ok(Symbolized::Unknown(reason)),
+    }
 }

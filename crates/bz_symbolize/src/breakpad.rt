@@ -9,9 +9,10 @@ ghost use Rattle.bz_breakpad.specs.Refusal.{IsAnswerRefusal};
 ghost use Rattle.bz_symbolize.specs.FileCall.{batch_of, query_given};
 ghost use Rattle.bz_symbolize.specs.Sources.{breakpad_answering, breakpad_single};
 
-use crate::answering::Answers;
+use crate::answering::{Answers, owned_answer};
+use crate::held::Held;
 use crate::lookups::Lookups;
-use bz_base::{Addr, Error, FindSymOpts, Input, Result, Steps, Sym, Symbolized, in_batch};
+use bz_base::{Addr, Error, FindSymOpts, Input, Result, Steps, Symbolized, in_batch};
 use bz_breakpad::SymbolFile;
 use std::alloc::Global;
 use std::rc::Rc;
@@ -58,19 +59,19 @@ impl Answers for SymbolFile {
         }
     }
 
-    fn look_up(
+    fn look_up<'d>(
         version: Rc<SymbolFile>,
         opts: FindSymOpts,
         path: &str,
         input: Input<Vec<u64>>,
-    ) -> Result<Lookups>
+    ) -> Result<Lookups<'d>>
         ensures answer { Gives (λ lookups. lookups.answers) (query_given breakpad_answering opts path.now (batch_of (address_kind input) (payload input).items) version.value) result }
         ensures addrs { IfOk result (λ lookups. lookups.addrs ≡ (payload input).items) }
         ensures refusal { IfErr result MayRefuse }
     {
         let _path = path;
         match input {
-            Input::FileOffset(addrs) => Ok(Lookups::of_breakpad(version, opts, addrs)),
+            Input::FileOffset(addrs) => Ok(Lookups::new(Held::Breakpad(version), opts, addrs)),
             Input::AbsAddr(_) | Input::VirtOffset(_) => Err(Error::Unsupported),
         }
     }
@@ -124,18 +125,4 @@ fn answer_of<L: Ledger>(
 {
     let answer = file.answer(alloc, addr, opts, steps)?;
     owned_answer(alloc, answer)
-}
-
-// The same answer, with texts of its own.
-fn owned_answer(alloc: Global, answer: Symbolized<'_>) -> Result<Symbolized<'static>>
-    ensures same { IfOk result (λ own. reading own ≡ reading answer.entry) }
-    ensures memory { IsOkUnless result Error.OutOfMemory }
-{
-    match answer {
-        Symbolized::Sym(symbol) => {
-            let symbol: Sym<'static> = symbol.into_owned(alloc)?;
-            Ok(Symbolized::Sym(symbol))
-        }
-        Symbolized::Unknown(reason) => Ok(Symbolized::Unknown(reason)),
-    }
 }

@@ -4,6 +4,8 @@
 mod answering;
 mod breakpad;
 mod builder;
+mod gsym;
+mod held;
 pub mod laws;
 mod lookups;
 mod settings;

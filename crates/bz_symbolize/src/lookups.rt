@@ -1,44 +1,45 @@
 //! Batches whose answers are made one by one.
 
-ghost use Rattle.std.specs.Prelude.{◌≡◌, ◌<◌, length, map, slice_get, slice_index, Some, IfOk, IsOkUnless};
+ghost use Rattle.std.specs.Prelude.{◌≡◌, ◌<◌, length, slice_get, slice_index, Some, IfOk, IsOkUnless};
 ghost use Rattle.bz_base.specs.Answer.{in_batch, reading};
 ghost use Rattle.bz_base.specs.Lent.{IsLent};
 ghost use Rattle.bz_base.specs.declared.error.Error.{Error};
 ghost use Rattle.bz_breakpad.specs.Reader.{table_in};
-ghost use Rattle.bz_symbolize.specs.Batch.{breakpad_batch};
+ghost use Rattle.bz_symbolize.specs.Batch.{batch_by, entry_by};
 ghost use Rattle.bz_symbolize.specs.Sources.{breakpad_single};
 
+use crate::gsym::symbol_at;
+use crate::held::Held;
 use bz_base::{Addr, Error, FindSymOpts, Result, Steps, Symbolized, in_batch};
 use bz_breakpad::SymbolFile;
 use std::alloc::Global;
 use std::marker::{Brand, Model};
-use std::rc::Rc;
 use std::sync::ledger::{Blank, Ledger};
 
 /// Addresses whose source was looked at. Their answers are made one by one, and lend their texts from
 /// the version that the look gave, which stays as long as this does, whatever becomes of the file and
 /// of the symbolizer. Contracts see the addresses, and the answers to all of them.
 #[derive(Drop)]
-pub struct Lookups {
-    file: Rc<SymbolFile>,
+pub struct Lookups<'d> {
+    held: Held<'d>,
     opts: FindSymOpts,
     addrs: Vec<u64>,
 }
 
-impl Model for Lookups {
-    ghost use Rattle.bz_symbolize.specs.Batch.{Batch, breakpad_batch};
+impl<'d> Model for Lookups<'d> {
+    ghost use Rattle.bz_symbolize.specs.Batch.{Batch, batch_by};
 
     ghost Value = { Batch };
 
-    ghost view = { λ l. record { addrs = l.addrs.items; answers = breakpad_batch l.opts l.file.value l.addrs.items } };
+    ghost view = { λ l. batch_by l.held l.opts l.addrs.items };
 }
 
-impl Lookups {
-    // A batch on a Breakpad file.
-    pub(crate) fn of_breakpad(file: Rc<SymbolFile>, opts: FindSymOpts, addrs: Vec<u64>) -> Lookups
-        ensures { result ≡ record { addrs = addrs.items; answers = breakpad_batch opts file.value addrs.items } }
+impl<'d> Lookups<'d> {
+    // A batch on a version.
+    pub(crate) fn new(held: Held<'d>, opts: FindSymOpts, addrs: Vec<u64>) -> Lookups<'d>
+        ensures { result ≡ batch_by held.entry opts addrs.items }
     {
-        Lookups { file, opts, addrs }
+        Lookups { held, opts, addrs }
     }
 
     /// How many addresses there are.
@@ -63,17 +64,31 @@ impl Lookups {
         ensures lent { IfOk result IsLent }
         ensures memory { IsOkUnless result Error.OutOfMemory }
     {
-        entry_blank::<Brand>(
-            alloc,
-            self.file.as_ref(),
-            &self.opts,
-            self.addrs[index],
-            Blank::new(1),
-        )
+        entry(alloc, &self.held, &self.opts, self.addrs[index])
     }
 }
 
-// The answer of a file at an address, as an entry of a batch, with a count that nobody reads.
+// The entry of a batch at an address, by the version that is held.
+fn entry<'h>(
+    alloc: Global,
+    held: &'h Held<'_>,
+    opts: &FindSymOpts,
+    addr: Addr,
+) -> Result<Symbolized<'h>>
+    ensures entry { IfOk result (λ entry. reading entry ≡ entry_by held.now opts.now addr) }
+    ensures lent { IfOk result IsLent }
+    ensures memory { IsOkUnless result Error.OutOfMemory }
+{
+    match held {
+        Held::Breakpad(file) => {
+            entry_blank::<Brand>(alloc, file.as_ref(), opts, addr, Blank::new(1))
+        }
+        Held::Gsym(table) => in_batch(symbol_at(alloc, &table.context(), addr)),
+        Held::GsymData(context) => in_batch(symbol_at(alloc, context, addr)),
+    }
+}
+
+// The entry of a Breakpad file, with a count that nobody reads.
 fn entry_blank<'f, L: Ledger>(
     alloc: Global,
     file: &'f SymbolFile,

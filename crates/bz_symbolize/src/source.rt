@@ -1,6 +1,7 @@
 //! What a symbolizer reads symbols from.
 
 ghost use Rattle.std.specs.Prelude.{◌≡◌};
+ghost use Rattle.bz_symbolize.specs.declared.source.Gsym.TheVariants as gsyms;
 ghost use Rattle.bz_symbolize.specs.declared.source.Source.TheVariants as sources;
 
 use std::fmt;
@@ -29,25 +30,116 @@ impl fmt::Debug for Breakpad {
     }
 }
 
-/// Any source of symbols.
+/// GSYM bytes that are handed in. They take virtual offsets: addresses as their tables have them.
 #[derive(Drop)]
-pub enum Source {
-    /// A Breakpad file.
-    Breakpad(Breakpad),
+pub struct GsymData<'d> {
+    /// The bytes.
+    pub bytes: &'d [u8],
 }
 
-impl fmt::Debug for Source {
+impl<'d> GsymData<'d> {
+    /// GSYM bytes.
+    pub fn new(bytes: &'d [u8]) -> GsymData<'d>
+        ensures { result.bytes ≡ bytes.entry }
+    {
+        GsymData { bytes }
+    }
+}
+
+impl fmt::Debug for GsymData<'_> {
+    fn fmt<W: fmt::Write>(&self, f: &mut fmt::Formatter<W>) -> fmt::Result {
+        let shown = &self.bytes[..self.bytes.len().min(32)];
+        write!(f, "GsymData({shown:?})")
+    }
+}
+
+/// A GSYM file. It takes virtual offsets: addresses as its tables have them.
+#[derive(Drop)]
+pub struct GsymFile {
+    /// The path of the file.
+    pub path: String,
+}
+
+impl GsymFile {
+    /// The GSYM file at a path.
+    pub fn new(path: String) -> GsymFile
+        ensures { result.path ≡ path }
+    {
+        GsymFile { path }
+    }
+}
+
+impl fmt::Debug for GsymFile {
+    fn fmt<W: fmt::Write>(&self, f: &mut fmt::Formatter<W>) -> fmt::Result {
+        let path = &self.path;
+        write!(f, "GsymFile({path:?})")
+    }
+}
+
+/// GSYM, handed in or in a file.
+#[derive(Drop)]
+pub enum Gsym<'d> {
+    /// Bytes.
+    Data(GsymData<'d>),
+    /// A file.
+    File(GsymFile),
+}
+
+impl fmt::Debug for Gsym<'_> {
     fn fmt<W: fmt::Write>(&self, f: &mut fmt::Formatter<W>) -> fmt::Result {
         match self {
-            Source::Breakpad(source) => write!(f, "{source:?}"),
+            Gsym::Data(source) => write!(f, "{source:?}"),
+            Gsym::File(source) => write!(f, "{source:?}"),
         }
     }
 }
 
-impl From<Breakpad> for Source {
+/// Any source of symbols.
+#[derive(Drop)]
+pub enum Source<'d> {
+    /// A Breakpad file.
+    Breakpad(Breakpad),
+    /// GSYM, handed in or in a file.
+    Gsym(Gsym<'d>),
+}
+
+impl fmt::Debug for Source<'_> {
+    fn fmt<W: fmt::Write>(&self, f: &mut fmt::Formatter<W>) -> fmt::Result {
+        match self {
+            Source::Breakpad(source) => write!(f, "{source:?}"),
+            Source::Gsym(source) => write!(f, "{source:?}"),
+        }
+    }
+}
+
+impl<'d> From<Breakpad> for Source<'d> {
     ghost from_gives = { λ source given. given ≡ sources.Breakpad source };
 
-    fn from(source: Breakpad) -> Source {
+    fn from(source: Breakpad) -> Source<'d> {
         Source::Breakpad(source)
+    }
+}
+
+impl<'d> From<Gsym<'d>> for Source<'d> {
+    ghost from_gives = { λ source given. given ≡ sources.Gsym source };
+
+    fn from(source: Gsym<'d>) -> Source<'d> {
+        Source::Gsym(source)
+    }
+}
+
+impl<'d> From<GsymData<'d>> for Source<'d> {
+    ghost from_gives = { λ source given. given ≡ sources.Gsym (gsyms.Data source) };
+
+    fn from(source: GsymData<'d>) -> Source<'d> {
+        Source::Gsym(Gsym::Data(source))
+    }
+}
+
+impl<'d> From<GsymFile> for Source<'d> {
+    ghost from_gives = { λ source given. given ≡ sources.Gsym (gsyms.File source) };
+
+    fn from(source: GsymFile) -> Source<'d> {
+        Source::Gsym(Gsym::File(source))
     }
 }

@@ -3,19 +3,22 @@
 ghost use Rattle.std.specs.Prelude.{◌≡◌, ◌<◌, map, IfOk};
 ghost use Rattle.bz_base.specs.Answer.{reading};
 ghost use Rattle.bz_base.specs.InputKind.{address_kind, payload};
+ghost use Rattle.bz_cache.specs.Cache.{new_cache};
 ghost use Rattle.bz_symbolize.specs.FileCall.{batch_of, batch_query, single_query};
 ghost use Rattle.bz_symbolize.specs.Promise.{AsksSource, Symbolizes};
 ghost use Rattle.bz_symbolize.specs.State.{default_settings, new_state};
 
 use crate::answering::{answer_file, answer_file_at, look_up_file};
 use crate::builder::Builder;
+use crate::gsym::{answer_of_data, answers_of_data, look_up_data};
 use crate::lookups::Lookups;
 use crate::settings::Settings;
-use crate::source::Source;
+use crate::source::{Gsym, Source};
 use bz_base::{FindSymOpts, Input, Result, Steps, Symbolized};
 use bz_breakpad::SymbolFile;
-use bz_cache::FileCache;
+use bz_cache::{FileCache, Version};
 use bz_files::Files;
+use bz_gsym::GsymTable;
 use std::alloc::Global;
 use std::marker::{Brand, Model};
 use std::sync::ledger::{Blank, Ledger};
@@ -25,6 +28,7 @@ use std::sync::ledger::{Blank, Ledger};
 pub struct Symbolizer {
     settings: Settings,
     breakpad: FileCache<SymbolFile>,
+    gsym: FileCache<GsymTable>,
 }
 
 impl Model for Symbolizer {
@@ -34,9 +38,9 @@ impl Model for Symbolizer {
 
     ghost coded = { coded_state };
 
-    ghost view = { λ s. record { settings = s.settings; breakpad = s.breakpad } };
+    ghost view = { λ s. record { settings = s.settings; breakpad = s.breakpad; gsym = s.gsym } };
 
-    ghost invariant = { λ s. WellKept (record { settings = s.settings; breakpad = s.breakpad }) };
+    ghost invariant = { λ s. WellKept (record { settings = s.settings; breakpad = s.breakpad; gsym = s.gsym }) };
 }
 
 impl Symbolizer {
@@ -58,10 +62,13 @@ impl Symbolizer {
     pub(crate) fn with_settings(alloc: Global, settings: Settings) -> Symbolizer
         ensures { result ≡ new_state settings }
     {
-        let breakpad = FileCache::builder()
-            .enable_auto_reload(settings.reload)
-            .build(alloc);
-        Symbolizer { settings, breakpad }
+        let breakpad = empty_cache(alloc, settings.reload);
+        let gsym = empty_cache(alloc, settings.reload);
+        Symbolizer {
+            settings,
+            breakpad,
+            gsym,
+        }
     }
 
     /// The answers of the source to the addresses, in their order; an address that is refused is an
@@ -74,7 +81,7 @@ impl Symbolizer {
         &mut self,
         alloc: Global,
         files: &mut F,
-        src: &Source,
+        src: &Source<'_>,
         input: Input<&[u64]>,
     ) -> Result<Vec<Symbolized<'static>>>
         ensures { Symbolizes F.Files (λ answers. map reading answers.items) src.now (batch_query input.entry) result self.old self.new files.old files.new }
@@ -89,7 +96,7 @@ impl Symbolizer {
         &mut self,
         alloc: Global,
         files: &mut F,
-        src: &Source,
+        src: &Source<'_>,
         input: Input<u64>,
     ) -> Result<Symbolized<'static>>
         ensures { Symbolizes F.Files reading src.now (single_query input) result self.old self.new files.old files.new }
@@ -99,13 +106,13 @@ impl Symbolizer {
 
     /// The same answers as `symbolize`, made one by one: they lend their texts from the version of the
     /// file that the call found, so that no list of them and no text of their own is in memory.
-    pub fn look_up<F: Files>(
+    pub fn look_up<'d, F: Files>(
         &mut self,
         alloc: Global,
         files: &mut F,
-        src: &Source,
+        src: &Source<'d>,
         input: Input<Vec<u64>>,
-    ) -> Result<Lookups>
+    ) -> Result<Lookups<'d>>
         ensures call { Symbolizes F.Files (λ lookups. lookups.answers) src.now (batch_of (address_kind input) (payload input).items) result self.old self.new files.old files.new }
         ensures addrs { IfOk result (λ lookups. lookups.addrs ≡ (payload input).items) }
     {
@@ -118,7 +125,7 @@ impl Symbolizer {
         &mut self,
         alloc: Global,
         files: &mut F,
-        src: &Source,
+        src: &Source<'_>,
         input: Input<&[u64]>,
         steps: &mut Steps<L>,
     ) -> Result<Vec<Symbolized<'static>>>
@@ -133,7 +140,7 @@ impl Symbolizer {
         &mut self,
         alloc: Global,
         files: &mut F,
-        src: &Source,
+        src: &Source<'_>,
         input: Input<&[u64]>,
         blank: Blank,
     ) -> Result<Vec<Symbolized<'static>>>
@@ -151,7 +158,7 @@ impl Symbolizer {
         &mut self,
         alloc: Global,
         files: &mut F,
-        src: &Source,
+        src: &Source<'_>,
         input: Input<u64>,
         blank: Blank,
     ) -> Result<Symbolized<'static>>
@@ -170,7 +177,7 @@ impl Symbolizer {
         &mut self,
         alloc: Global,
         files: &mut F,
-        src: &Source,
+        src: &Source<'_>,
         opts: &FindSymOpts,
         input: Input<&[u64]>,
         steps: &mut Steps<L>,
@@ -187,6 +194,16 @@ impl Symbolizer {
                 input,
                 steps,
             ),
+            Source::Gsym(Gsym::File(source)) => answer_file(
+                &mut self.gsym,
+                alloc,
+                files,
+                source.path.as_str(),
+                opts,
+                input,
+                steps,
+            ),
+            Source::Gsym(Gsym::Data(source)) => answers_of_data(alloc, source.bytes, input),
         }
     }
 
@@ -195,7 +212,7 @@ impl Symbolizer {
         &mut self,
         alloc: Global,
         files: &mut F,
-        src: &Source,
+        src: &Source<'_>,
         opts: &FindSymOpts,
         input: Input<u64>,
         steps: &mut Steps<L>,
@@ -212,18 +229,28 @@ impl Symbolizer {
                 input,
                 steps,
             ),
+            Source::Gsym(Gsym::File(source)) => answer_file_at(
+                &mut self.gsym,
+                alloc,
+                files,
+                source.path.as_str(),
+                opts,
+                input,
+                steps,
+            ),
+            Source::Gsym(Gsym::Data(source)) => answer_of_data(alloc, source.bytes, input),
         }
     }
 
     // The addresses with a version of the source, by its form and format.
-    fn look_up_source<F: Files>(
+    fn look_up_source<'d, F: Files>(
         &mut self,
         alloc: Global,
         files: &mut F,
-        src: &Source,
+        src: &Source<'d>,
         opts: FindSymOpts,
         input: Input<Vec<u64>>,
-    ) -> Result<Lookups>
+    ) -> Result<Lookups<'d>>
         ensures asked { AsksSource F.Files (λ lookups. lookups.answers) src.now opts (batch_of (address_kind input) (payload input).items) result self.old self.new files.old files.new }
         ensures addrs { IfOk result (λ lookups. lookups.addrs ≡ (payload input).items) }
     {
@@ -236,6 +263,24 @@ impl Symbolizer {
                 opts,
                 input,
             ),
+            Source::Gsym(Gsym::File(source)) => look_up_file(
+                &mut self.gsym,
+                alloc,
+                files,
+                source.path.as_str(),
+                opts,
+                input,
+            ),
+            Source::Gsym(Gsym::Data(source)) => look_up_data(source.bytes, opts, input),
         }
     }
+}
+
+// A cache that keeps nothing.
+fn empty_cache<T: Version + Drop>(alloc: Global, reload: bool) -> FileCache<T>
+    ensures { result ≡ new_cache reload }
+{
+    FileCache::builder()
+        .enable_auto_reload(reload)
+        .build(alloc)
 }

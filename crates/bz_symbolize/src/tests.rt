@@ -34,7 +34,7 @@ fn put(alloc: Global, files: &mut MemFiles, text: &[u8]) -> bool {
 }
 
 /// The Breakpad file at `/s.sym`.
-fn source(alloc: Global) -> Result<Source> {
+fn source(alloc: Global) -> Result<Source<'static>> {
     Ok(Source::from(Breakpad::new(String::from_str(alloc, "/s.sym")?)))
 }
 
@@ -59,7 +59,7 @@ fn answers(
     alloc: Global,
     symbolizer: &mut Symbolizer,
     files: &mut MemFiles,
-    src: &Source,
+    src: &Source<'_>,
     name: &str,
 ) -> bool {
     match symbolizer.symbolize(alloc, files, src, Input::FileOffset(ADDRESSES)) {
@@ -140,7 +140,7 @@ fn counted<L: Ledger>(
     alloc: Global,
     blank: Blank,
     files: &mut MemFiles,
-    src: &Source,
+    src: &Source<'_>,
 ) -> Result<bool>
     requires name { blank.name ≡ L.name }
     requires parts { blank.parts ≡ L.parts }

@@ -31,6 +31,7 @@ pub answer_new : (command : Command) (source : Source) (addrs : List ℕ) (world
     answer_of run_opts (new_state default_settings) (form_of source) (batch_of (kind_of command) addrs) world ≡ answer_to command addrs world
 answer_new (Breakpad path) (sources.Breakpad source) addrs world is =
     rw is (new_answer run_opts default_settings.reload path addrs (entry_at world path))
+answer_new (Breakpad path) (sources.Gsym source) addrs world is = absurd is
 
 -- and reads its file where it answers
 pub opened_by_command : {A : Type 0} (view : A → List Answer) (command : Command) (source : Source) (addrs : List ℕ) (world : World) (before after : ℕ) (result : Result A Error) →
@@ -39,6 +40,7 @@ pub opened_by_command : {A : Type 0} (view : A → List Answer) (command : Comma
     OnOk result (after ≡ counted before)
 opened_by_command view (Breakpad path) (sources.Breakpad source) addrs world before after result is comes opens =
     opened_new view run_opts path addrs (entry_at world path) before after result comes (rw is at opens)
+opened_by_command view (Breakpad path) (sources.Gsym source) addrs world before after result is comes opens = absurd is
 
 -- what the symbolizer keeps is what it answers, so whatever is told, some bytes in the format are answered
 pub some_from_kept : {A : Type 0} (view : A → List Answer) (command : Command) (source : Source) (addrs : List ℕ) (now : State) (result : Result A Error) →
@@ -46,10 +48,12 @@ pub some_from_kept : {A : Type 0} (view : A → List Answer) (command : Command)
     IfOk result (λ given. AnswersSome command addrs (view given))
 some_from_kept view (Breakpad path) (sources.Breakpad source) addrs now (Ok given) is kept = (kept.bytes, batch_answered run_opts kept.bytes InFile addrs (view given) kept.answered)
 some_from_kept view (Breakpad path) (sources.Breakpad source) addrs now (Err e) is kept = tt
+some_from_kept view (Breakpad path) (sources.Gsym source) addrs now result is kept = absurd is
 
--- what holds of the file of each source holds
-pub of_any_file : (source : Source) (P : Type 0) → OnFile source (λ file. P) → P
-of_any_file (sources.Breakpad source) P holds = holds
+-- what holds of the file of a command's source holds
+pub of_its_file : (command : Command) (source : Source) (P : Type 0) → IsSourceOf command source → OnFile source (λ file. P) → P
+of_its_file (Breakpad path) (sources.Breakpad source) P is holds = holds
+of_its_file (Breakpad path) (sources.Gsym source) P is holds = absurd is
 
 module _ (addrs : List ℕ) where
   -- answers that are given are those of the file

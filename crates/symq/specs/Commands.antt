@@ -24,6 +24,7 @@ run_opts = opts_of default_settings
 -- the source that a command asks
 abbrev pub IsSourceOf : Command → Source → Type 0
 IsSourceOf (Breakpad path) (sources.Breakpad source) = string_bytes source.path ≡ path
+IsSourceOf (Breakpad path) (sources.Gsym source) = ⊥
 
 -- what the addresses of its input are relative to
 abbrev pub kind_of : Command → AddressKind

@@ -49,7 +49,7 @@ fn write_said<W: TextOut>(
 fn write_answers<W: TextOut>(
     alloc: Global,
     output: &mut W,
-    lookups: &Lookups,
+    lookups: &Lookups<'_>,
 ) -> std::result::Result<(), IoFault>
     ensures { WritesText W.TextOut (answer_texts lookups.now.addrs lookups.now.answers) result output.old output.new }
 {
@@ -66,7 +66,7 @@ fn write_answers<W: TextOut>(
 }
 
 // Puts the text of the answer at the address of an index to the end of a text.
-fn push_entry(alloc: Global, text: &mut String, lookups: &Lookups, index: usize) -> Result<()>
+fn push_entry(alloc: Global, text: &mut String, lookups: &Lookups<'_>, index: usize) -> Result<()>
     requires { index < length lookups.now.addrs }
     ensures ok { OnOk result ((answer : Answer) × (slice_get lookups.now.answers index ≡ Some answer)
         × (string_bytes text.new ≡ string_bytes text.old ++ answer_text (slice_index lookups.now.addrs index) answer)) }

@@ -124,7 +124,7 @@ fn look_up<F: Files>(
     command: &Command<'_>,
     addrs: Vec<u64>,
     files: &mut F,
-) -> Result<Lookups>
+) -> Result<Lookups<'static>>
     ensures answer { Told (in_view (F.worlds files.old)) (λ world. Comes (λ lookups. lookups.answers) (answer_to (command_of command.now) addrs.items world) result) }
     ensures answered { IfOk result (λ lookups. AnswersSome (command_of command.now) addrs.items lookups.answers) }
     ensures addrs { IfOk result (λ lookups. lookups.addrs ≡ addrs.items) }
@@ -136,7 +136,7 @@ fn look_up<F: Files>(
 }
 
 // The source that the command asks.
-fn source(alloc: Global, command: &Command<'_>) -> Result<Source>
+fn source(alloc: Global, command: &Command<'_>) -> Result<Source<'static>>
     ensures ok { IfOk result (λ src. IsSourceOf (command_of command.now) src) }
     ensures memory { IsOkUnless result Error.OutOfMemory }
 {

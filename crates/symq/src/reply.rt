@@ -26,7 +26,7 @@ pub enum Said {
     /// A text.
     Text(CowStr<'static>),
     /// The texts of the answers at the addresses, which are made, answer by answer, as they are written.
-    Answers(Lookups),
+    Answers(Lookups<'static>),
 }
 
 /// A reply whose text is always the same.

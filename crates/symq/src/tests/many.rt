@@ -53,7 +53,7 @@ fn generated_files(alloc: Global, functions: u32) -> Result<MemFiles, Fail> {
     Ok(files)
 }
 
-fn source(alloc: Global) -> Result<Source, Fail> {
+fn source(alloc: Global) -> Result<Source<'static>, Fail> {
     Ok(Source::from(Breakpad::new(String::from_str(alloc, "/gen.sym")?)))
 }
 

@@ -2,7 +2,7 @@ use Rattle.std.proofs.Common.{List}
 use Rattle.bz_base.specs.Answer.{Answer}
 use Rattle.bz_symbolize.specs.declared.lookups.Lookups.{Lookups}
 use Rattle.symq.specs.Words.{command_of}
-use Rattle.symq.proofs.CommandLemmas.{answer_new, of_any_file, opened_by_command, some_from_kept}
+use Rattle.symq.proofs.CommandLemmas.{answer_new, of_its_file, opened_by_command, some_from_kept}
 use Rattle.symq.proofs.ReplyLemmas.{given_from_ok}
 use Rattle.symq.proofs.program.look_up.Goals as goal
 
@@ -24,7 +24,7 @@ returns-clause-answered g c =
 -- one file at most was read, and where answers are given one was
 pub returns-clause-opens : goal.returns-clause-opens
 returns-clause-opens g c = record {
-  most = of_any_file c.in_ok-src.src _ c.look_up.ensures.call.most;
+  most = of_its_file (command_of c.args.command.now) c.in_ok-src.src _ c.in_ok-src.ensures.ok c.look_up.ensures.call.most;
   opened = λ world told.
       let opened = rw (c.new.ensures, c.input_for.ensures.kind) at ((c.look_up.ensures.call.told world told).opened) in
       given_from_ok c.look_up.result _ (opened_by_command read (command_of c.args.command.now) c.in_ok-src.src c.args.addrs.items world _ _ c.look_up.result c.in_ok-src.ensures.ok (returns-clause-answer g c world told) opened);

@@ -1,4 +1,4 @@
-use Rattle.bz_symbolize.proofs.lookups.Lookups.answer.Given as goal
+use Rattle.bz_symbolize.proofs.lookups.entry.Given as goal
 
 -- the count is kept in the name of the blank that it is made of
 abbrev pub ghosts-entry_blank : goal.ghosts-entry_blank

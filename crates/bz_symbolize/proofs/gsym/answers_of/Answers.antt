@@ -1,0 +1,15 @@
+use Rattle.std.proofs.Common.{ℕ, List, ◌∷◌, [], ◌++◌, map, take, arith, ap, ap₂, sym, ◌∙◌, rules}
+use Rattle.std.proofs.lemmas.List.{map-append, take_more}
+use Rattle.bz_base.specs.Answer.{Answer, in_batch, reading}
+use Rattle.bz_symbolize.specs.Sources.{gsym_single}
+use Rattle.bz_symbolize.proofs.gsym.answers_of.Goals as goal
+
+-- the answer that is pushed is the one at the next address
+pub loop-addr-preserved : goal.loop-addr-preserved
+loop-addr-preserved c =
+    let entry = λ (addr : ℕ). in_batch (gsym_single c.args.context.now addr) in
+    ap (map reading) c.in_ok-push.ensures.items
+    ∙ map-append reading c.loop-addr.answers.items (_ ∷ [])
+    ∙ ap₂ (λ (old : List Answer) (new : Answer). old ++ new ∷ []) c.loop-addr.invariant c.in_ok-entry_at.ensures.entry
+    ∙ sym (map-append entry (take c.loop-addr.addr-index c.args.addrs.now) (_ ∷ []))
+    ∙ sym (ap (map entry) (take_more c.args.addrs.now c.loop-addr.addr-index 0 (search rules)))

@@ -1,0 +1,188 @@
+//! GSYM as what answers, in a file or handed in.
+
+ghost use Rattle.std.specs.Prelude.{◌≡◌, map, IfOk, IfErr, IsOkUnless};
+ghost use Rattle.bz_base.specs.Answer.{Gives, in_batch, reading};
+ghost use Rattle.bz_base.specs.InputKind.{address_kind, payload};
+ghost use Rattle.bz_base.specs.Lent.{IsLent};
+ghost use Rattle.bz_base.specs.Refusals.{MayRefuse};
+ghost use Rattle.bz_base.specs.declared.error.Error.{Error};
+ghost use Rattle.bz_base.specs.declared.types.FindSymOpts as options;
+ghost use Rattle.bz_symbolize.specs.FileCall.{batch_of, batch_query, query_given, single_query};
+ghost use Rattle.bz_symbolize.specs.Sources.{gsym_answering, gsym_handed, gsym_single, handed_answer};
+
+use crate::answering::{Answers, owned_answer};
+use crate::held::Held;
+use crate::lookups::Lookups;
+use bz_base::{Addr, Error, FindSymOpts, Input, Result, Steps, Symbolized, in_batch};
+use bz_gsym::{GsymContext, GsymTable};
+use std::alloc::Global;
+use std::rc::Rc;
+use std::sync::ledger::Ledger;
+
+impl Answers for GsymTable {
+    ghost answering = { gsym_answering };
+
+    fn takes<A>(input: &Input<A>) -> bool {
+        match input {
+            Input::VirtOffset(_) => true,
+            Input::AbsAddr(_) | Input::FileOffset(_) => false,
+        }
+    }
+
+    fn answers<L: Ledger>(
+        &self,
+        alloc: Global,
+        opts: &FindSymOpts,
+        path: &str,
+        input: Input<&[u64]>,
+        steps: &mut Steps<L>,
+    ) -> Result<Vec<Symbolized<'static>>> {
+        // A GSYM answer names no path and has no places, and its search isn't counted.
+        let _opts = opts;
+        let _path = path;
+        let _steps = steps;
+        match input {
+            Input::VirtOffset(addrs) => answers_of(alloc, &self.context(), addrs),
+            Input::AbsAddr(_) | Input::FileOffset(_) => Err(Error::Unsupported),
+        }
+    }
+
+    fn answer_at<L: Ledger>(
+        &self,
+        alloc: Global,
+        opts: &FindSymOpts,
+        path: &str,
+        input: Input<u64>,
+        steps: &mut Steps<L>,
+    ) -> Result<Symbolized<'static>> {
+        let _opts = opts;
+        let _path = path;
+        let _steps = steps;
+        match input {
+            Input::VirtOffset(addr) => answer_of(alloc, &self.context(), addr),
+            Input::AbsAddr(_) | Input::FileOffset(_) => Err(Error::Unsupported),
+        }
+    }
+
+    fn look_up<'d>(
+        version: Rc<GsymTable>,
+        opts: FindSymOpts,
+        path: &str,
+        input: Input<Vec<u64>>,
+    ) -> Result<Lookups<'d>>
+        ensures answer { Gives (λ lookups. lookups.answers) (query_given gsym_answering opts path.now (batch_of (address_kind input) (payload input).items) version.value) result }
+        ensures addrs { IfOk result (λ lookups. lookups.addrs ≡ (payload input).items) }
+        ensures refusal { IfErr result MayRefuse }
+    {
+        let _path = path;
+        match input {
+            Input::VirtOffset(addrs) => Ok(Lookups::new(Held::Gsym(version), opts, addrs)),
+            Input::AbsAddr(_) | Input::FileOffset(_) => Err(Error::Unsupported),
+        }
+    }
+}
+
+/// The answers of bytes that are handed in, with texts of their own.
+pub(crate) fn answers_of_data(
+    alloc: Global,
+    bytes: &[u8],
+    input: Input<&[u64]>,
+) -> Result<Vec<Symbolized<'static>>>
+    ensures answer { (opts : options.FindSymOpts) → Gives (λ answers. map reading answers.items) (handed_answer (gsym_handed bytes.now) opts (batch_query input.entry)) result }
+    ensures refusal { IfErr result MayRefuse }
+{
+    match input {
+        Input::VirtOffset(addrs) => {
+            let context = GsymContext::parse_header(bytes)?;
+            answers_of(alloc, &context, addrs)
+        }
+        Input::AbsAddr(_) | Input::FileOffset(_) => Err(Error::Unsupported),
+    }
+}
+
+/// The answer of bytes that are handed in to an address alone, with texts of its own.
+pub(crate) fn answer_of_data(
+    alloc: Global,
+    bytes: &[u8],
+    input: Input<u64>,
+) -> Result<Symbolized<'static>>
+    ensures answer { (opts : options.FindSymOpts) → Gives reading (handed_answer (gsym_handed bytes.now) opts (single_query input)) result }
+    ensures refusal { IfErr result MayRefuse }
+{
+    match input {
+        Input::VirtOffset(addr) => {
+            let context = GsymContext::parse_header(bytes)?;
+            answer_of(alloc, &context, addr)
+        }
+        Input::AbsAddr(_) | Input::FileOffset(_) => Err(Error::Unsupported),
+    }
+}
+
+/// The addresses with bytes that are handed in, from which their answers are then made one by one.
+pub(crate) fn look_up_data<'d>(
+    bytes: &'d [u8],
+    opts: FindSymOpts,
+    input: Input<Vec<u64>>,
+) -> Result<Lookups<'d>>
+    ensures answer { Gives (λ lookups. lookups.answers) (handed_answer (gsym_handed bytes.now) opts (batch_of (address_kind input) (payload input).items)) result }
+    ensures addrs { IfOk result (λ lookups. lookups.addrs ≡ (payload input).items) }
+    ensures refusal { IfErr result MayRefuse }
+{
+    match input {
+        Input::VirtOffset(addrs) => {
+            let context = GsymContext::parse_header(bytes)?;
+            Ok(Lookups::new(Held::GsymData(context), opts, addrs))
+        }
+        Input::AbsAddr(_) | Input::FileOffset(_) => Err(Error::Unsupported),
+    }
+}
+
+// The answers of a file, with texts of their own.
+fn answers_of(
+    alloc: Global,
+    context: &GsymContext<'_>,
+    addrs: &[u64],
+) -> Result<Vec<Symbolized<'static>>>
+    ensures answers { IfOk result (λ answers. map reading answers.items ≡ map (λ addr. in_batch (gsym_single context.now addr)) addrs.now) }
+    ensures memory { IsOkUnless result Error.OutOfMemory }
+{
+    let mut answers = Vec::with_capacity(alloc, addrs.len())?;
+    for addr in addrs {
+        answers.push(entry_at(alloc, context, *addr)?)?;
+    }
+    Ok(answers)
+}
+
+// The answer at an address, as an entry of a batch, with texts of its own.
+fn entry_at(alloc: Global, context: &GsymContext<'_>, addr: Addr) -> Result<Symbolized<'static>>
+    ensures entry { IfOk result (λ entry. reading entry ≡ in_batch (gsym_single context.now addr)) }
+    ensures memory { IsOkUnless result Error.OutOfMemory }
+{
+    let entry = in_batch(symbol_at(alloc, context, addr))?;
+    owned_answer(alloc, entry)
+}
+
+// The answer at an address, with texts of its own.
+fn answer_of(alloc: Global, context: &GsymContext<'_>, addr: Addr) -> Result<Symbolized<'static>>
+    ensures answer { Gives reading (gsym_single context.now addr) result }
+    ensures refusal { IfErr result MayRefuse }
+{
+    let answer = symbol_at(alloc, context, addr)?;
+    owned_answer(alloc, answer)
+}
+
+/// The answer at an address, whose texts are lent.
+pub(crate) fn symbol_at<'a>(
+    alloc: Global,
+    context: &GsymContext<'a>,
+    addr: Addr,
+) -> Result<Symbolized<'a>>
+    ensures answer { Gives reading (gsym_single context.now addr) result }
+    ensures lent { IfOk result IsLent }
+    ensures refusal { IfErr result (λ e. e ≡ Error.InvalidData) }
+{
+    match context.find_sym(alloc, addr)? {
+        Ok(symbol) => Ok(Symbolized::Sym(symbol.into_sym(addr))),
+        Err(reason) => Ok(Symbolized::Unknown(reason)),
+    }
+}
