@@ -5,9 +5,8 @@ use Rattle.std.specs.List.{list_all, range_with_len}
 use Rattle.bz_base.specs.Cursor.{padding}
 use Rattle.bz_base.specs.Span.{last_address}
 use Rattle.bz_base.specs.Starts.{IsFound, NeverDescends}
-use Rattle.bz_gsym.specs.Header.{header_of}
+use Rattle.bz_gsym.specs.Header.{gsym_magic, gsym_version, header_of}
 use Rattle.bz_gsym.specs.Number.{number_at, numbers_at}
-use Rattle.bz_gsym.specs.declared.types.TheConstants.{GSYM_MAGIC, GSYM_VERSION}
 use Rattle.bz_gsym.specs.declared.types.FileInfo.{FileInfo}
 use Rattle.bz_gsym.specs.declared.types.Header.{Header}
 
@@ -76,8 +75,8 @@ pub record AreStarts (bytes : List ℕ) (size count : ℕ) : Type 0 where
 
 -- the bytes are a GSYM file: each table lies in them, and the starts never descend
 pub record IsGsym (bytes : List ℕ) : Type 0 where
-  pub magic : (header_of bytes).magic ≡ GSYM_MAGIC
-  pub version : (header_of bytes).version ≡ GSYM_VERSION
+  pub magic : (header_of bytes).magic ≡ gsym_magic
+  pub version : (header_of bytes).version ≡ gsym_version
   pub tables : files_end bytes ≤ length bytes
   pub strings : strings_end (header_of bytes) ≤ length bytes
   pub ascend : NeverDescends (starts bytes)
@@ -96,7 +95,7 @@ never_descends (x ∷ xs) = list_all (nat_le x) xs && never_descends xs
 abbrev pub is_gsym : List ℕ → Bool
 is_gsym bytes =
     let h : Header = header_of bytes in
-    (h.magic == GSYM_MAGIC && h.version == GSYM_VERSION) && ((nat_le (files_end bytes) (length bytes) && nat_le (strings_end h) (length bytes)) && never_descends (starts bytes))
+    (h.magic == gsym_magic && h.version == gsym_version) && ((nat_le (files_end bytes) (length bytes) && nat_le (strings_end h) (length bytes)) && never_descends (starts bytes))
 
 -- the symbol of this index, at this address, is to be tried at an address: none below the base address, and from there on that
 -- of the first start which equals the distance from the base, else of the last one below it
