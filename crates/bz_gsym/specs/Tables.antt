@@ -1,6 +1,6 @@
 -- The tables of a GSYM file of version 1, one after another behind its head, and which bytes are such a file.
 -- After LLVM's documentation of the format (llvm::gsym::GsymReader).
-use Rattle.std.specs.Prelude.{◌≡◌, ℕ, ◌+◌, ◌-◌, ◌*◌, ◌<◌, ◌≤◌, ◌==◌, ◌&&◌, ◌||◌, nat_le, Bool, true, false, if◌then◌else◌, List, [], ◌∷◌, length, map, take, drop, Option, Some, None, option_and_then, option_map, slice_get}
+use Rattle.std.specs.Prelude.{◌≡◌, ℕ, ◌+◌, ◌-◌, ◌*◌, ◌≤◌, ◌==◌, ◌&&◌, ◌||◌, nat_le, Bool, true, if◌then◌else◌, List, [], ◌∷◌, length, map, take, drop, Option, Some, None, option_and_then, slice_get}
 use Rattle.std.specs.List.{list_all, range_with_len}
 use Rattle.bz_base.specs.Cursor.{padding}
 use Rattle.bz_base.specs.Span.{last_address}
