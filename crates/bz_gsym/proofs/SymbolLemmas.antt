@@ -92,6 +92,11 @@ module _ (bytes : List ℕ) (addr : ℕ) (formed : IsGsym bytes) where
         (ap (option_map (based base)) (sym (tried_among bytes formed.ascend (addr - base) (Some (index, found.start)) found.found) ∙ symbol.1)
         ∙ ap (λ (n : ℕ). Some (n, symbol.0.1)) (ap (λ n. base + n) starts_there ∙ sym found.at_is))
 
+    -- with its data place, which its index has
+    pub tried_with : (place : ℕ) → slice_get (data_places bytes) index ≡ Some place → nearest_symbol bytes addr ≡ Some (at, place)
+    tried_with place there =
+        is_tried ∙ ap (λ (p : ℕ). Some (at, p)) (same_Some symbol.0.1 place (sym (second (starts bytes) (data_places bytes) index symbol.0 symbol.1) ∙ there))
+
     -- the data of the index is that at its data place
     by_info : (o : Option Info) → o ≡ option_and_then (info_at bytes) (slice_get (data_places bytes) index) → answer_at bytes addr ≡ answer_of bytes addr at o
     by_info o given =

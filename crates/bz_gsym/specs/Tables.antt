@@ -73,7 +73,8 @@ pub record AreStarts (bytes : List ℕ) (size count : ℕ) : Type 0 where
   pub within : header_len + count * size ≤ length bytes
   pub ascend : NeverDescends (numbers_at size count bytes header_len)
 
--- the bytes are a GSYM file: each table lies in them, and the starts never descend
+-- the bytes are a GSYM file: the files, and so each table before them, end in the bytes, as the string table does, and the
+-- starts never descend
 pub record IsGsym (bytes : List ℕ) : Type 0 where
   pub magic : (header_of bytes).magic ≡ gsym_magic
   pub version : (header_of bytes).version ≡ gsym_version
@@ -86,12 +87,12 @@ pub record IsHeaded (bytes : List ℕ) (header : Header) : Type 0 where
   pub head : header ≡ header_of bytes
   pub formed : IsGsym bytes
 
--- no number is below one before it
+-- whether no number is below one before it
 abbrev pub never_descends : List ℕ → Bool
 never_descends [] = true
 never_descends (x ∷ xs) = list_all (nat_le x) xs && never_descends xs
 
--- the same as a test
+-- whether the bytes are a GSYM file, as a test
 abbrev pub is_gsym : List ℕ → Bool
 is_gsym bytes =
     let h : Header = header_of bytes in
