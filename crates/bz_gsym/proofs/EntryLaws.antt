@@ -1,13 +1,12 @@
 -- The entries that are read of bytes are those that make them up side by side.
-use Rattle.std.proofs.Common.{◌≡◌, ◌≢◌, ℕ, suc, ◌+◌, ◌-◌, ◌*◌, ◌<◌, ◌≤◌, Bool, true, false, not, nat_le, nat_eq, List, [], ◌∷◌, ◌++◌, length, take, drop, append_assoc, refl, sym, ap, subst, ◌∙◌, arith}
-use Rattle.std.specs.Prelude.{◌&&◌, ◌==◌}
-use Rattle.std.proofs.lemmas.Bool.{and_from, and_parts, eqb-false, le-leb, leb-true, ne_eqb, not-true}
+use Rattle.std.proofs.Common.{◌≡◌, ℕ, ◌-◌, ◌≤◌, Bool, true, false, not, nat_le, List, [], ◌∷◌, ◌++◌, length, take, drop, append_assoc, refl, sym, ap, subst, ◌∙◌, arith}
+use Rattle.std.specs.Prelude.{◌==◌}
+use Rattle.std.proofs.lemmas.Bool.{and_parts, eqb-false, le-leb, ne_eqb, not-true}
 use Rattle.std.proofs.lemmas.List.{drop-drop, length-append, length-drop, length-take-le, take-append-drop}
 use Rattle.std.proofs.Math.Seq.{drop-append_seam, take-append_seam}
 use Rattle.bz_base.specs.Cursor.{little}
-use Rattle.bz_gsym.specs.Entries.{AreEntries, Begins, Entry, entries_in, entry_len, first_entry, has_entry}
+use Rattle.bz_gsym.specs.Entries.{AreEntries, Begins, Entry, entries_in, entry_len, first_entry, has_entry, end_of_list}
 use Rattle.bz_gsym.specs.Number.{number_at}
-use Rattle.bz_gsym.specs.declared.types.TheConstants.{INFO_TYPE_END_OF_LIST}
 use Rattle.bz_gsym.proofs.EntryLemmas.{entries_step, fits, no_entries}
 
 -- where an entry lies in front, the bytes are it and what follows
@@ -16,7 +15,7 @@ unfolding number_at
 begins bytes has =
     let reach = fits bytes has in
     let len = number_at 4 bytes 4 in
-    let goes_on = (and_parts (not (number_at 4 bytes 0 == INFO_TYPE_END_OF_LIST)) (nat_le (entry_len bytes) (length bytes)) has).0 in
+    let goes_on = (and_parts (not (number_at 4 bytes 0 == end_of_list)) (nat_le (entry_len bytes) (length bytes)) has).0 in
     let eight : length (drop 8 bytes) ≡ length bytes - 8 = length-drop 8 bytes in
     let four : length (drop 4 bytes) ≡ length bytes - 4 = length-drop 4 bytes in
     let text = take len (drop 8 bytes) in
@@ -75,7 +74,7 @@ module _ (bytes : List ℕ) (entry : Entry) (rest : List ℕ) (is : Begins bytes
 
   pub has_it : has_entry bytes ≡ true
   has_it =
-      let other : (number_at 4 bytes 0 == INFO_TYPE_END_OF_LIST) ≡ false = ne_eqb _ _ (λ ends. is.goes_on (sym type_read ∙ ends)) in
+      let other : (number_at 4 bytes 0 == end_of_list) ≡ false = ne_eqb _ _ (λ ends. is.goes_on (sym type_read ∙ ends)) in
       rw (other, le-leb (entry_len bytes) (length bytes) reaches) refl
 
   pub first_is : first_entry bytes ≡ entry

@@ -1,28 +1,27 @@
 -- The data entries in front of bytes, one after another.
-use Rattle.std.proofs.Common.{◌≡◌, ℕ, zero, suc, ◌+◌, ◌-◌, ◌*◌, ◌<◌, ◌≤◌, Bool, true, false, not, nat_le, nat_eq, List, [], ◌∷◌, length, take, drop, Option, Some, None, refl, sym, ap, subst, ◌∙◌, arith, inl, inr}
-use Rattle.std.specs.Prelude.{◌&&◌, ◌==◌, if◌then◌else◌}
+use Rattle.std.proofs.Common.{◌≡◌, ℕ, zero, suc, ◌-◌, ◌*◌, ◌<◌, ◌≤◌, Bool, true, false, not, nat_le, List, [], ◌∷◌, length, take, drop, Some, None, refl, sym, ap, ◌∙◌, arith, inl, inr}
+use Rattle.std.specs.Prelude.{◌&&◌, ◌==◌}
 use Rattle.std.proofs.lemmas.Bool.{cases_lt, le-leb, lt-leb, leb-true, eq-eqb, ne_eqb, and_parts}
 use Rattle.std.proofs.lemmas.List.{length-drop, drop-drop}
 use Rattle.std.proofs.lemmas.Option.{none-some, same_Some}
 use Rattle.bz_base.specs.Cursor.{little, slice_at, with_rest, word_at}
-use Rattle.bz_gsym.specs.Entries.{Entry, entries_in, entries_within, entry_len, first_entry, has_entry}
+use Rattle.bz_gsym.specs.Entries.{Entry, entries_in, entries_within, entry_len, first_entry, has_entry, end_of_list}
 use Rattle.bz_gsym.specs.Number.{number_at}
-use Rattle.bz_gsym.specs.declared.types.TheConstants.{INFO_TYPE_END_OF_LIST}
 
 -- no entry lies in bytes that don't reach its end
 short : (bytes : List ℕ) → length bytes < entry_len bytes → has_entry bytes ≡ false
-short bytes less = rw (lt-leb (entry_len bytes) (length bytes) less) (none (not (number_at 4 bytes 0 == INFO_TYPE_END_OF_LIST))) where
+short bytes less = rw (lt-leb (entry_len bytes) (length bytes) less) (none (not (number_at 4 bytes 0 == end_of_list))) where
   none : (b : Bool) → (b && false) ≡ false
   none true = refl
   none false = refl
 
 -- nor where the type ends the list
-ended : (bytes : List ℕ) → number_at 4 bytes 0 ≡ INFO_TYPE_END_OF_LIST → has_entry bytes ≡ false
-ended bytes is = rw (eq-eqb (number_at 4 bytes 0) INFO_TYPE_END_OF_LIST is) refl
+ended : (bytes : List ℕ) → number_at 4 bytes 0 ≡ end_of_list → has_entry bytes ≡ false
+ended bytes is = rw (eq-eqb (number_at 4 bytes 0) end_of_list is) refl
 
 -- an entry reaches no further than the bytes
 pub fits : (bytes : List ℕ) → has_entry bytes ≡ true → entry_len bytes ≤ length bytes
-fits bytes has = leb-true (entry_len bytes) (length bytes) (and_parts (not (number_at 4 bytes 0 == INFO_TYPE_END_OF_LIST)) (nat_le (entry_len bytes) (length bytes)) has).1
+fits bytes has = leb-true (entry_len bytes) (length bytes) (and_parts (not (number_at 4 bytes 0 == end_of_list)) (nat_le (entry_len bytes) (length bytes)) has).1
 
 -- the entries, where no entry lies in front
 within_none : (most : ℕ) (bytes : List ℕ) → has_entry bytes ≡ false → entries_within most bytes ≡ []
@@ -120,7 +119,7 @@ slice_missing count bytes read = elim (cases_lt (length bytes) count) [ inl less
 pub none_typed : (bytes : List ℕ) → None ≡ word_at 4 bytes → entries_in bytes ≡ []
 none_typed bytes read = let less = word_missing bytes read in no_entries bytes (short bytes (omega arith))
 
-pub type_ends : (bytes left : List ℕ) (typ : ℕ) → with_rest (Some typ) left ≡ word_at 4 bytes → typ ≡ INFO_TYPE_END_OF_LIST → entries_in bytes ≡ []
+pub type_ends : (bytes left : List ℕ) (typ : ℕ) → with_rest (Some typ) left ≡ word_at 4 bytes → typ ≡ end_of_list → entries_in bytes ≡ []
 unfolding number_at
 type_ends bytes left typ read is = no_entries bytes (ended bytes (sym (word_found typ left bytes read).1 ∙ is))
 
@@ -158,12 +157,12 @@ module _ (bytes left : List ℕ) (typ : ℕ) (read : with_rest (Some typ) left �
         let less = slice_missing len rest none in
         no_entries bytes (short bytes (omega (arith, less, len_is, ap length rest_is, length-drop 8 bytes, long_enough)))
 
-    module _ (text after : List ℕ) (filled : with_rest (Some text) after ≡ slice_at len rest) (goes_on : ¬ (typ ≡ INFO_TYPE_END_OF_LIST)) where
+    module _ (text after : List ℕ) (filled : with_rest (Some text) after ≡ slice_at len rest) (goes_on : ¬ (typ ≡ end_of_list)) where
       has : has_entry bytes ≡ true
       has =
           let more = (slice_found len text after rest filled).0 in
           let reach : entry_len bytes ≤ length bytes = omega (arith, more, len_is, ap length rest_is, length-drop 8 bytes, long_enough) in
-          let other : (number_at 4 bytes 0 == INFO_TYPE_END_OF_LIST) ≡ false = ne_eqb (number_at 4 bytes 0) INFO_TYPE_END_OF_LIST (λ is. goes_on (typ_is ∙ is)) in
+          let other : (number_at 4 bytes 0 == end_of_list) ≡ false = ne_eqb (number_at 4 bytes 0) end_of_list (λ is. goes_on (typ_is ∙ is)) in
           rw (other, le-leb (entry_len bytes) (length bytes) reach) refl
 
       text_is : text ≡ take (number_at 4 bytes 4) (drop 8 bytes)

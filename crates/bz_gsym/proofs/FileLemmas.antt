@@ -1,17 +1,15 @@
 -- What stands in the tables of a file, by a head that is the file's.
-use Rattle.std.proofs.Common.{◌≡◌, ℕ, ◌+◌, ◌-◌, ◌*◌, ◌<◌, ◌≤◌, Bool, true, false, List, [], length, take, drop, map, Option, Some, None, Result, Ok, Err, option_map, refl, sym, ap, subst, ◌∙◌, arith}
-use Rattle.std.specs.List.{slice_get, slice_index, range_with_len}
+use Rattle.std.proofs.Common.{◌≡◌, ℕ, ◌+◌, ◌*◌, ◌<◌, ◌≤◌, Bool, true, false, List, drop, Option, Some, None, refl, sym, ap, subst, ◌∙◌, arith}
+use Rattle.std.specs.List.{slice_get}
 use Rattle.std.specs.Option.{SomeIff, option_and_then}
 use Rattle.std.specs.Str.{IsUtf8, is_utf8}
 use Rattle.std.proofs.lemmas.Bool.{le-leb, lt-leb, false_from_ne_true}
-use Rattle.std.proofs.lemmas.Option.{slice_get_past}
 use Rattle.std.proofs.lemmas.Str.{IsUtf8-from_is_utf8, is_utf8-from_IsUtf8}
 use Rattle.bz_base.specs.Span.{last_address}
 use Rattle.bz_gsym.specs.Header.{header_of}
-use Rattle.bz_gsym.specs.Number.{number_at, numbers_at}
+use Rattle.bz_gsym.specs.Number.{number_at}
 use Rattle.bz_gsym.specs.Strings.{before_zero, checked, string_at}
 use Rattle.bz_gsym.specs.Tables.{address_at, data_places, data_table, file_at, file_count_place, file_table, files, fitting, header_len, is_address_size, starts}
-use Rattle.bz_gsym.specs.declared.types.FileInfo.{FileInfo}
 use Rattle.bz_gsym.specs.declared.types.Header.{Header}
 use Rattle.bz_gsym.proofs.StartLemmas.{no_starts, start_in, starts_are}
 use Rattle.bz_gsym.proofs.TableLemmas.{entry_at, no_entry_table}

@@ -1,5 +1,5 @@
 -- The test of a GSYM file says what the relation says.
-use Rattle.std.proofs.Common.{◌≡◌, ℕ, zero, suc, ◌+◌, ◌<◌, ◌≤◌, ◌↔◌, nat_le, nat_eq, Bool, true, false, List, [], ◌∷◌, length, Option, Some, None, Result, Ok, Err, refl, sym, ap, subst, ◌∙◌, arith}
+use Rattle.std.proofs.Common.{◌≡◌, ℕ, zero, suc, ◌<◌, ◌≤◌, nat_le, Bool, true, List, [], ◌∷◌, length, Option, Some, None, Result, Ok, Err, refl, sym, ap, subst, ◌∙◌, arith}
 use Rattle.std.specs.Prelude.{◌&&◌, ◌==◌, IfOk, IfErr}
 use Rattle.std.specs.List.{list_all, slice_index}
 use Rattle.std.proofs.lemmas.Bool.{and_from, and_parts, eq-eqb, eqb-true, false_from_ne_true, le-leb, leb-true}
@@ -10,11 +10,10 @@ use Rattle.bz_base.specs.declared.error.Error.TheVariants.{InvalidData}
 use Rattle.bz_cache.specs.Format.{FailsAs, IsRefusalBy}
 use Rattle.bz_files.specs.World.{Entry, Present}
 use Rattle.bz_files.specs.declared.stamp.Stamp.{Stamp}
-use Rattle.bz_gsym.specs.Header.{header_of}
+use Rattle.bz_gsym.specs.Header.{gsym_magic, gsym_version, header_of}
 use Rattle.bz_gsym.specs.Resolver.{opened}
 use Rattle.bz_gsym.specs.Tables.{IsGsym, files_end, is_gsym, never_descends, starts, strings_end}
 use Rattle.bz_gsym.specs.Version.{format_test}
-use Rattle.bz_gsym.specs.declared.types.TheConstants.{GSYM_MAGIC, GSYM_VERSION}
 
 -- a number is below none of those that pass the test
 above_all : (x : ℕ) (xs : List ℕ) → list_all (nat_le x) xs ≡ true → (j : ℕ) → j < length xs → x ≤ slice_index xs j
@@ -42,10 +41,10 @@ never_test (x ∷ xs) is =
 
 module _ (bytes : List ℕ) where
   abbrev magic : Bool
-  magic = (header_of bytes).magic == GSYM_MAGIC
+  magic = (header_of bytes).magic == gsym_magic
 
   abbrev version : Bool
-  version = (header_of bytes).version == GSYM_VERSION
+  version = (header_of bytes).version == gsym_version
 
   abbrev tables : Bool
   tables = nat_le (files_end bytes) (length bytes)

@@ -1,7 +1,6 @@
 -- The starts of an address table.
-use Rattle.std.proofs.Common.{◌≡◌, ℕ, ◌+◌, ◌-◌, ◌*◌, ◌<◌, ◌≤◌, true, false, List, [], length, Option, Some, None, refl, sym, ap, subst, ◌∙◌, arith, inl, inr}
+use Rattle.std.proofs.Common.{◌≡◌, ℕ, ◌+◌, ◌-◌, ◌*◌, ◌<◌, ◌≤◌, true, false, List, [], length, refl, sym, subst, arith, inl, inr}
 use Rattle.std.proofs.lemmas.Bool.{cases_lt}
-use Rattle.std.specs.List.{slice_index}
 use Rattle.bz_base.specs.Starts.{NeverDescends}
 use Rattle.bz_gsym.specs.Header.{header_of}
 use Rattle.bz_gsym.specs.Number.{number_at, numbers_at}

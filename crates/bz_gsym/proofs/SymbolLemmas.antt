@@ -1,16 +1,13 @@
 -- The symbol that a search among the starts finds is the one that is to be tried, and what it answers.
-use Rattle.std.proofs.Common.{◌≡◌, ℕ, zero, suc, ◌+◌, ◌-◌, ◌*◌, ◌<◌, ◌≤◌, nat_lt, Bool, true, false, List, [], ◌∷◌, length, map, Option, Some, None, option_map, Result, Ok, Err, refl, sym, ap, subst, ◌∙◌, arith}
+use Rattle.std.proofs.Common.{◌≡◌, ℕ, zero, suc, ◌+◌, ◌-◌, ◌*◌, ◌<◌, ◌≤◌, nat_lt, Bool, true, false, List, [], ◌∷◌, length, map, Option, Some, None, option_map, Ok, Err, refl, sym, ap, subst, ◌∙◌, arith}
 use Rattle.std.specs.List.{slice_get, slice_index, zip}
 use Rattle.std.specs.Option.{option_and_then}
 use Rattle.std.proofs.lemmas.Bool.{le-ltb, ltb-false}
 use Rattle.std.proofs.lemmas.List.{length-map}
 use Rattle.std.proofs.lemmas.Option.{slice_get_within, none-some, same_Some}
-use Rattle.bz_base.specs.Answer.{Resolved}
-use Rattle.bz_base.specs.Nearest.{IsTable, candidate}
+use Rattle.bz_base.specs.Nearest.{IsTable}
 use Rattle.bz_base.specs.Starts.{IsFound, NeverDescends}
-use Rattle.bz_base.specs.declared.error.Error.{Error}
 use Rattle.bz_base.specs.declared.error.Error.TheVariants as errors
-use Rattle.bz_base.specs.declared.types.Reason.{Reason}
 use Rattle.bz_base.specs.declared.types.Reason.TheVariants as reasons
 use Rattle.bz_base.proofs.TableLemmas.{record_at, start_at, table_candidate}
 use Rattle.bz_gsym.specs.Answer.{answer_at, answer_of, based, named, nearest_start, nearest_symbol, reaches, symbols, tried}
@@ -94,6 +91,11 @@ module _ (bytes : List ℕ) (addr : ℕ) (formed : IsGsym bytes) where
         rw (le-ltb addr base found.from)
         (ap (option_map (based base)) (sym (tried_among bytes formed.ascend (addr - base) (Some (index, found.start)) found.found) ∙ symbol.1)
         ∙ ap (λ (n : ℕ). Some (n, symbol.0.1)) (ap (λ n. base + n) starts_there ∙ sym found.at_is))
+
+    -- with its data place, which its index has
+    pub tried_with : (place : ℕ) → slice_get (data_places bytes) index ≡ Some place → nearest_symbol bytes addr ≡ Some (at, place)
+    tried_with place there =
+        is_tried ∙ ap (λ (p : ℕ). Some (at, p)) (same_Some symbol.0.1 place (sym (second (starts bytes) (data_places bytes) index symbol.0 symbol.1) ∙ there))
 
     -- the data of the index is that at its data place
     by_info : (o : Option Info) → o ≡ option_and_then (info_at bytes) (slice_get (data_places bytes) index) → answer_at bytes addr ≡ answer_of bytes addr at o

@@ -1,13 +1,13 @@
 -- The string that is read at a place is the one that stands there.
-use Rattle.std.proofs.Common.{◌≡◌, ℕ, ◌+◌, ◌-◌, ◌<◌, ◌≤◌, Bool, true, false, List, [], ◌∷◌, ◌++◌, length, take, drop, Option, Some, None, option_map, append_assoc, refl, sym, ap, subst, ◌∙◌, arith}
+use Rattle.std.proofs.Common.{◌≡◌, ℕ, ◌≤◌, Bool, true, false, List, [], ◌∷◌, ◌++◌, length, take, drop, Option, Some, None, option_map, append_assoc, refl, sym, ap, subst, ◌∙◌, arith}
 use Rattle.std.specs.Option.{option_and_then}
-use Rattle.std.specs.Str.{IsUtf8, is_utf8}
+use Rattle.std.specs.Str.{is_utf8}
 use Rattle.std.proofs.lemmas.List.{length-append, length-drop, length-take-le, take-append-drop}
 use Rattle.std.proofs.lemmas.Option.{none-some, same_Some}
 use Rattle.std.proofs.lemmas.Str.{IsUtf8-from_is_utf8, is_utf8-from_IsUtf8}
 use Rattle.std.proofs.Math.Seq.{drop-append_seam}
 use Rattle.bz_base.specs.Byte.{HasNo, zero_byte}
-use Rattle.bz_base.specs.Cursor.{IsCstr, IsInFront, cstr_at}
+use Rattle.bz_base.specs.Cursor.{cstr_at}
 use Rattle.bz_base.proofs.CursorLemmas.{cstr_again}
 use Rattle.bz_base.proofs.PieceOfBytesLemmas.{cstr_front, map_some}
 use Rattle.bz_gsym.specs.Strings.{IsString, before_zero, checked, string_at}

@@ -1,7 +1,6 @@
 -- The bytes before a zero byte, read from the front.
-use Rattle.std.proofs.Common.{◌≡◌, ℕ, suc, ◌+◌, Bool, true, false, nat_eq, take, List, [], ◌∷◌, Option, Some, None, option_map, refl, sym, ap, ◌∙◌, arith, cond}
-use Rattle.std.specs.List.{list_any, before_first, position_or_len}
-use Rattle.bz_base.specs.Byte.{zero_byte}
+use Rattle.std.proofs.Common.{◌≡◌, ℕ, suc, ◌+◌, Bool, true, false, take, List, [], ◌∷◌, Option, Some, None, option_map, refl, sym, ap, ◌∙◌, arith, cond}
+use Rattle.std.specs.List.{list_any, position_or_len}
 use Rattle.bz_base.specs.Cursor.{cstr_at, with_first, with_rest}
 use Rattle.bz_gsym.specs.Strings.{is_zero, before_zero}
 

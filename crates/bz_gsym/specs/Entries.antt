@@ -1,8 +1,7 @@
 -- What stands at a symbol's data place: its size, its name, and a list of data entries (llvm::gsym::FunctionInfo).
-use Rattle.std.specs.Prelude.{◌≡◌, ◌≢◌, ℕ, zero, suc, ◌+◌, ◌<◌, ◌==◌, ◌&&◌, not, nat_le, Bool, if◌then◌else◌, List, [], ◌∷◌, ◌++◌, length, take, drop, Option, Some, None}
+use Rattle.std.specs.Prelude.{◌≡◌, ◌≢◌, ℕ, zero, suc, ◌+◌, ◌==◌, ◌&&◌, not, nat_le, Bool, if◌then◌else◌, List, [], ◌∷◌, ◌++◌, length, take, drop, Option, Some, None}
 use Rattle.bz_base.specs.Cursor.{little}
 use Rattle.bz_gsym.specs.Number.{number_at}
-use Rattle.bz_gsym.specs.declared.types.TheConstants.{INFO_TYPE_END_OF_LIST}
 
 -- a symbol's data: its size in bytes, the place of its name in the string table, and the bytes behind, where its entries lie
 pub record Info : Type 0 where
@@ -17,6 +16,10 @@ info_at bytes place =
     then Some (record { size = number_at 4 bytes place; name = number_at 4 bytes (place + 4); rest = drop (place + 8) bytes })
     else None
 
+-- the type that ends a list of data entries
+abbrev pub end_of_list : ℕ
+end_of_list = 0
+
 -- a data entry: its type and its bytes
 pub record Entry : Type 0 where
   pub typ : ℕ
@@ -28,7 +31,7 @@ entry_len bytes = 8 + number_at 4 bytes 4
 
 -- an entry lies in front, and isn't the end of the list
 abbrev pub has_entry : List ℕ → Bool
-has_entry bytes = not (number_at 4 bytes 0 == INFO_TYPE_END_OF_LIST) && nat_le (entry_len bytes) (length bytes)
+has_entry bytes = not (number_at 4 bytes 0 == end_of_list) && nat_le (entry_len bytes) (length bytes)
 
 -- that entry
 abbrev pub first_entry : List ℕ → Entry
@@ -52,7 +55,7 @@ pub record Begins (bytes : List ℕ) (entry : Entry) (rest : List ℕ) : Type 0 
   pub length_width : length len ≡ 4
   pub type_is : little typ ≡ entry.typ
   pub length_is : little len ≡ length entry.text
-  pub goes_on : entry.typ ≢ INFO_TYPE_END_OF_LIST
+  pub goes_on : entry.typ ≢ end_of_list
 
 -- the bytes are these entries side by side, and then no further one follows
 abbrev pub AreEntries : List ℕ → List Entry → Type 0

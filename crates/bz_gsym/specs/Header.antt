@@ -3,6 +3,13 @@ use Rattle.std.specs.Prelude.{ℕ, List, take, drop}
 use Rattle.bz_gsym.specs.Number.{number_at}
 use Rattle.bz_gsym.specs.declared.types.Header.{Header}
 
+-- the number that each file begins with (its bytes read MYSG), and the one version
+abbrev pub gsym_magic : ℕ
+gsym_magic = 1196644685
+
+abbrev pub gsym_version : ℕ
+gsym_version = 1
+
 -- the head: each field at its place, with its width in bytes
 abbrev pub header_of : List ℕ → Header
 header_of bytes = record {

@@ -1,13 +1,12 @@
 -- The tables of a GSYM file of version 1, one after another behind its head, and which bytes are such a file.
 -- After LLVM's documentation of the format (llvm::gsym::GsymReader).
-use Rattle.std.specs.Prelude.{◌≡◌, ℕ, ◌+◌, ◌-◌, ◌*◌, ◌<◌, ◌≤◌, ◌==◌, ◌&&◌, ◌||◌, nat_le, Bool, true, false, if◌then◌else◌, List, [], ◌∷◌, length, map, take, drop, Option, Some, None, option_and_then, option_map, slice_get}
+use Rattle.std.specs.Prelude.{◌≡◌, ℕ, ◌+◌, ◌-◌, ◌*◌, ◌≤◌, ◌==◌, ◌&&◌, ◌||◌, nat_le, Bool, true, if◌then◌else◌, List, [], ◌∷◌, length, map, take, drop, Option, Some, None, option_and_then, slice_get}
 use Rattle.std.specs.List.{list_all, range_with_len}
 use Rattle.bz_base.specs.Cursor.{padding}
 use Rattle.bz_base.specs.Span.{last_address}
 use Rattle.bz_base.specs.Starts.{IsFound, NeverDescends}
-use Rattle.bz_gsym.specs.Header.{header_of}
+use Rattle.bz_gsym.specs.Header.{gsym_magic, gsym_version, header_of}
 use Rattle.bz_gsym.specs.Number.{number_at, numbers_at}
-use Rattle.bz_gsym.specs.declared.types.TheConstants.{GSYM_MAGIC, GSYM_VERSION}
 use Rattle.bz_gsym.specs.declared.types.FileInfo.{FileInfo}
 use Rattle.bz_gsym.specs.declared.types.Header.{Header}
 
@@ -74,10 +73,11 @@ pub record AreStarts (bytes : List ℕ) (size count : ℕ) : Type 0 where
   pub within : header_len + count * size ≤ length bytes
   pub ascend : NeverDescends (numbers_at size count bytes header_len)
 
--- the bytes are a GSYM file: each table lies in them, and the starts never descend
+-- the bytes are a GSYM file: the files, and so each table before them, end in the bytes, as the string table does, and the
+-- starts never descend
 pub record IsGsym (bytes : List ℕ) : Type 0 where
-  pub magic : (header_of bytes).magic ≡ GSYM_MAGIC
-  pub version : (header_of bytes).version ≡ GSYM_VERSION
+  pub magic : (header_of bytes).magic ≡ gsym_magic
+  pub version : (header_of bytes).version ≡ gsym_version
   pub tables : files_end bytes ≤ length bytes
   pub strings : strings_end (header_of bytes) ≤ length bytes
   pub ascend : NeverDescends (starts bytes)
@@ -87,16 +87,16 @@ pub record IsHeaded (bytes : List ℕ) (header : Header) : Type 0 where
   pub head : header ≡ header_of bytes
   pub formed : IsGsym bytes
 
--- no number is below one before it
+-- whether no number is below one before it
 abbrev pub never_descends : List ℕ → Bool
 never_descends [] = true
 never_descends (x ∷ xs) = list_all (nat_le x) xs && never_descends xs
 
--- the same as a test
+-- whether the bytes are a GSYM file, as a test
 abbrev pub is_gsym : List ℕ → Bool
 is_gsym bytes =
     let h : Header = header_of bytes in
-    (h.magic == GSYM_MAGIC && h.version == GSYM_VERSION) && ((nat_le (files_end bytes) (length bytes) && nat_le (strings_end h) (length bytes)) && never_descends (starts bytes))
+    (h.magic == gsym_magic && h.version == gsym_version) && ((nat_le (files_end bytes) (length bytes) && nat_le (strings_end h) (length bytes)) && never_descends (starts bytes))
 
 -- the symbol of this index, at this address, is to be tried at an address: none below the base address, and from there on that
 -- of the first start which equals the distance from the base, else of the last one below it

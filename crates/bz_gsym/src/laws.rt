@@ -1,9 +1,10 @@
 //! What holds of the definitions that the contracts cite.
 
-ghost use Rattle.std.specs.Prelude.{◌≡◌, ◌↔◌, true, ℕ, List, Some};
+ghost use Rattle.std.specs.Prelude.{◌≡◌, ◌↔◌, true, ℕ, List, Some, slice_get};
+ghost use Rattle.bz_gsym.specs.Answer.{nearest_symbol};
 ghost use Rattle.bz_gsym.specs.Entries.{AreEntries, Entry, entries_in};
 ghost use Rattle.bz_gsym.specs.Strings.{IsString, string_at};
-ghost use Rattle.bz_gsym.specs.Tables.{IsGsym, is_gsym};
+ghost use Rattle.bz_gsym.specs.Tables.{IsGsym, IsTried, data_places, is_gsym};
 
 /// The test of a GSYM file says what the relation says.
 pub fn files_are_exact()
@@ -19,4 +20,10 @@ pub fn entries_are_exact()
 /// The string that is read at a place of a table is the one that stands there.
 pub fn strings_are_exact()
     ensures { (table : List ℕ) (place : ℕ) (text : List ℕ) → (string_at table place ≡ Some text) ↔ IsString table place text }
+{}
+
+/// The symbol whose index is found for an address is the one that answers there.
+pub fn the_symbol_that_is_found_answers()
+    ensures { (bytes : List ℕ) (addr index at place : ℕ) → IsGsym bytes → IsTried bytes addr index at → slice_get (data_places bytes) index ≡ Some place →
+        nearest_symbol bytes addr ≡ Some (at, place) }
 {}

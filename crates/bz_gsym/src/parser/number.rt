@@ -7,6 +7,7 @@ ghost use Rattle.bz_gsym.specs.Strings.{before_zero};
 use bz_base::Cursor;
 
 /// The number of one byte at a place.
+#[inline(always)]
 pub(crate) fn u8_at(bytes: &[u8], place: usize) -> u8
     requires { place + 1 ≤ length bytes.now }
     ensures { result ≡ number_at 1 bytes.now place }
@@ -16,6 +17,7 @@ pub(crate) fn u8_at(bytes: &[u8], place: usize) -> u8
 }
 
 /// The number of two bytes at a place.
+#[inline(always)]
 pub(crate) fn u16_at(bytes: &[u8], place: usize) -> u16
     requires { place + 2 ≤ length bytes.now }
     ensures { result ≡ number_at 2 bytes.now place }
@@ -25,6 +27,7 @@ pub(crate) fn u16_at(bytes: &[u8], place: usize) -> u16
 }
 
 /// The number of four bytes at a place.
+#[inline(always)]
 pub(crate) fn u32_at(bytes: &[u8], place: usize) -> u32
     requires { place + 4 ≤ length bytes.now }
     ensures { result ≡ number_at 4 bytes.now place }
@@ -34,6 +37,7 @@ pub(crate) fn u32_at(bytes: &[u8], place: usize) -> u32
 }
 
 /// The number of eight bytes at a place.
+#[inline(always)]
 pub(crate) fn u64_at(bytes: &[u8], place: usize) -> u64
     requires { place + 8 ≤ length bytes.now }
     ensures { result ≡ number_at 8 bytes.now place }

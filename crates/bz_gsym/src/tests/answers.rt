@@ -124,6 +124,7 @@ fn data_entries_end_where_the_list_does(rt: HostRuntime) {
     laws::entries_are_exact();
     laws::files_are_exact();
     laws::strings_are_exact();
+    laws::the_symbol_that_is_found_answers();
     for (bytes, expected) in ENTRIES {
         let mut entries = parse_address_data(bytes);
         for (typ, len) in expected {

@@ -10,7 +10,7 @@ fn file_of(alloc: Global, size: u8, starts: &[u8]) -> Result<Vec<u8>, AllocError
     let mut bytes = Vec::from_slice(alloc, b"MYSG\x01\0")?;
     bytes.push(size)?;
     bytes.extend_from_slice(b"\0\0\x10\0\0\0\0\0\0")?;
-    bytes.push(starts.len() as u8)?;
+    bytes.push((starts.len() % 256) as u8)?;
     for _ in 0..31 {
         bytes.push(0)?;
     }

@@ -1,4 +1,4 @@
-use Rattle.std.proofs.Common.{◌≡◌, sym, refl, ap, ◌∙◌}
+use Rattle.std.proofs.Common.{sym, refl, ◌∙◌}
 use Rattle.bz_gsym.specs.Tables.{is_address_size}
 use Rattle.bz_gsym.proofs.FileLemmas.{address_there, no_address, no_start_of_size, no_start_past}
 use Rattle.bz_gsym.proofs.parser.GsymContext.addr_at.Goals as goal

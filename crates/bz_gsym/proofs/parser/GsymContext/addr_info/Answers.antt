@@ -1,4 +1,4 @@
-use Rattle.std.proofs.Common.{◌≡◌, Some, ap, sym, ◌+◌, ◌*◌, ◌∙◌, ℕ}
+use Rattle.std.proofs.Common.{ap, sym, ◌+◌, ◌*◌, ◌∙◌}
 use Rattle.std.specs.Option.{option_and_then}
 use Rattle.bz_gsym.specs.Entries.{info_at}
 use Rattle.bz_gsym.specs.Number.{number_at}

@@ -1,4 +1,4 @@
-use Rattle.std.proofs.Common.{◌≡◌, ◌<◌, ◌≤◌, ℕ, ap, sym, arith, ◌∙◌}
+use Rattle.std.proofs.Common.{◌≡◌, ap, sym, arith, ◌∙◌}
 use Rattle.bz_gsym.specs.Number.{number_at}
 use Rattle.bz_gsym.specs.Tables.{file_count_place}
 use Rattle.bz_gsym.proofs.FileLemmas.{file_there, no_file}

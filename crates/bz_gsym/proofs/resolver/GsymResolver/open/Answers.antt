@@ -1,7 +1,5 @@
-use Rattle.std.proofs.Common.{Err, ap, ◌∙◌}
 use Rattle.std.proofs.lemmas.Result.{err_from_is_err_and}
 use Rattle.bz_files.specs.World.{entry_at}
-use Rattle.bz_gsym.specs.Resolver.{opened}
 use Rattle.bz_gsym.proofs.FormatLemmas.{opens, opens_not}
 use Rattle.bz_gsym.proofs.resolver.GsymResolver.open.Goals as goal
 

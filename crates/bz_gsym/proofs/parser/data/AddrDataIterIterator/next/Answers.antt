@@ -1,6 +1,6 @@
-use Rattle.std.proofs.Common.{◌≡◌, ℕ, List, [], ◌∷◌, Some, None, sym, ap, ◌∙◌, arith, length}
-use Rattle.bz_base.specs.Cursor.{slice_at, with_rest, word_at}
-use Rattle.bz_gsym.specs.Entries.{Entry, entries_in}
+use Rattle.std.proofs.Common.{◌≡◌, [], ◌∷◌, sym, ap, ◌∙◌, arith, length}
+use Rattle.bz_base.specs.Cursor.{word_at}
+use Rattle.bz_gsym.specs.Entries.{entries_in}
 use Rattle.bz_gsym.proofs.EntryLemmas.{entry_read, none_filled, none_measured, none_typed, type_ends}
 use Rattle.bz_gsym.proofs.parser.data.AddrDataIterIterator.next.Goals as goal
 

@@ -1,4 +1,4 @@
-use Rattle.std.proofs.Common.{length, sym}
+use Rattle.std.proofs.Common.{sym}
 use Rattle.bz_gsym.proofs.StartLemmas.{length_starts}
 use Rattle.bz_gsym.proofs.parser.starts.AddressStartsProbe.len.Goals as goal
 
