@@ -7,6 +7,7 @@ pub mod FilterLemmas
 pub mod HashLemmas
 pub mod InnerLemmas
 pub mod InnerTableLemmas
+pub mod LebByteLemmas
 pub mod LebLemmas
 pub mod LebSpellingLemmas
 pub mod LebValueLemmas

@@ -1,10 +1,11 @@
 -- What a table of symbols answers for an address: the symbol there, or the reason why there is none.
-use Rattle.std.specs.Prelude.{ℕ, ◌-◌, ◌≤◌, Result, Ok, Err}
+use Rattle.std.specs.Prelude.{◌≡◌, ℕ, ◌-◌, ◌≤◌, Result, Ok, Err}
 use Rattle.bz_base.specs.Answer.{Symbol, Resolved, Answer, Known, Unknown, resolved_of}
 use Rattle.bz_base.specs.declared.error.Error.{Error}
 use Rattle.bz_base.specs.declared.error.Error.TheVariants as errors
 use Rattle.bz_base.specs.declared.types.ResolvedSym.{ResolvedSym}
 use Rattle.bz_base.specs.declared.types.Reason.{Reason}
+use Rattle.bz_base.specs.declared.types.SrcLang.TheVariants as languages
 
 -- the plain data of what was found
 abbrev pub found_of : Result ResolvedSym Reason → Result Resolved Reason
@@ -27,6 +28,12 @@ symbol_at addr r = record {
 abbrev pub answer_at : ℕ → Result Resolved Reason → Answer
 answer_at addr (Ok r) = Known (symbol_at addr r)
 answer_at addr (Err reason) = Unknown reason
+
+-- a table that knows no languages finds this answer: its symbol, its reason, or the refusal of the address
+abbrev pub Finds : ℕ → Result Answer Error → Result (Result Resolved Reason) Error → Type 0
+Finds addr expected (Ok (Ok r)) = (expected ≡ Ok (Known (symbol_at addr r))) × (r.lang ≡ languages.Unknown)
+Finds addr expected (Ok (Err reason)) = expected ≡ Ok (Unknown reason)
+Finds addr expected (Err e) = expected ≡ Err e
 
 -- a symbol that was found starts at the address or before it
 abbrev pub StartsBefore : ℕ → Result Resolved Reason → Type 0

@@ -17,7 +17,39 @@ struct Parts {
 }
 
 /// The unsigned number at the front of the bytes, and how many bytes it has.
+#[inline(always)]
 pub(crate) fn unsigned(bytes: &[u8]) -> Option<(u64, usize)>
+    ensures reads { option_map (λ read. (read.0, drop read.1 bytes.now)) result ≡ uleb_at bytes.now }
+    ensures within { IfSome result (λ read. read.1 ≤ length bytes.now) }
+    ensures some { IfSome result (λ read. 0 < read.1) }
+{
+    // Most numbers have one byte.
+    if bytes.len() > 0 && bytes[0] < 128 {
+        return Some((u64::from(bytes[0]), 1));
+    }
+    long_unsigned(bytes)
+}
+
+/// The signed number at the front of the bytes, and how many bytes it has.
+#[inline(always)]
+pub(crate) fn signed(bytes: &[u8]) -> Option<(i64, usize)>
+    ensures reads { option_map (λ read. (read.0, drop read.1 bytes.now)) result ≡ sleb_at bytes.now }
+    ensures within { IfSome result (λ read. read.1 ≤ length bytes.now) }
+    ensures some { IfSome result (λ read. 0 < read.1) }
+{
+    // Most numbers have one byte.
+    if bytes.len() > 0 && bytes[0] < 128 {
+        let bits = i64::from(bytes[0]);
+        if bits < 64 {
+            return Some((bits, 1));
+        }
+        return Some((bits - 128, 1));
+    }
+    long_signed(bytes)
+}
+
+/// The unsigned number at the front of the bytes, and how many bytes it has.
+fn long_unsigned(bytes: &[u8]) -> Option<(u64, usize)>
     ensures reads { option_map (λ read. (read.0, drop read.1 bytes.now)) result ≡ uleb_at bytes.now }
     ensures within { IfSome result (λ read. read.1 ≤ length bytes.now) }
     ensures some { IfSome result (λ read. 0 < read.1) }
@@ -30,7 +62,7 @@ pub(crate) fn unsigned(bytes: &[u8]) -> Option<(u64, usize)>
 }
 
 /// The signed number at the front of the bytes, and how many bytes it has.
-pub(crate) fn signed(bytes: &[u8]) -> Option<(i64, usize)>
+fn long_signed(bytes: &[u8]) -> Option<(i64, usize)>
     ensures reads { option_map (λ read. (read.0, drop read.1 bytes.now)) result ≡ sleb_at bytes.now }
     ensures within { IfSome result (λ read. read.1 ≤ length bytes.now) }
     ensures some { IfSome result (λ read. 0 < read.1) }

@@ -1,5 +1,5 @@
-//! What an answer of the symbolizer is and why there is none, the lines and numbers of a text, and
-//! which record of a table answers for an address.
+//! What an answer of the symbolizer is and why there is none, what finds one, the lines and numbers
+//! of a text, the pieces of binary files, and which record of a table answers for an address.
 #![tactic(auto)]
 
 mod batch;
