@@ -1,6 +1,7 @@
 -- Records in the order in which they are searched: those that stand so, and copies of the others.
-use Rattle.std.proofs.Common.{◌≡◌, ℕ, zero, suc, ◌-◌, ◌<◌, ◌≤◌, List, [], ◌∷◌, ◌++◌, length, take, drop, map, get_or, Option, Some, None, refl, sym, ap, subst, ◌∙◌, arith, inl, inr, length-append}
+use Rattle.std.proofs.Common.{◌≡◌, ℕ, zero, suc, ◌+◌, ◌-◌, ◌<◌, ◌≤◌, List, [], ◌∷◌, ◌++◌, length, take, drop, map, get_or, Option, Some, None, refl, sym, ap, subst, ◌∙◌, arith, add-one, inl, inr, length-append}
 use Rattle.std.specs.List.{AllByRecursion, slice_get, slice_range}
+use Rattle.std.proofs.Math.ListN.{set}
 use Rattle.std.proofs.lemmas.Bool.{cases_lt}
 use Rattle.std.proofs.lemmas.List.{length-map, take-append-drop}
 use Rattle.std.proofs.lemmas.Option.{same_Some, slice_get_within}
@@ -71,6 +72,27 @@ module _ {X : Type 0} (P : X → Type 0) where
   all_get [] i d all within = absurd (omega (arith, within))
   all_get (x ∷ xs) zero d all within = all.0
   all_get (x ∷ xs) (suc i) d all within = all_get xs i d all.1 (omega (arith, within))
+
+  -- and of all where one that it holds of takes the place of another
+  pub all_set : (xs : List X) (i : ℕ) (x : X) → AllByRecursion P xs → P x → AllByRecursion P (set xs i x)
+  all_set [] i x all one = tt
+  all_set (y ∷ xs) zero x all one = (one, all.1)
+  all_set (y ∷ xs) (suc i) x all one = (all.0, all_set xs i x all.1 one)
+
+  one_more : (xs : List X) (i : ℕ) (x : X) → i < length xs → AllByRecursion P (take i xs) → P x → AllByRecursion P (take (suc i) (set xs i x))
+  one_more [] i x within all one = absurd (omega (arith, within))
+  one_more (y ∷ xs) zero x within all one = (one, tt)
+  one_more (y ∷ xs) (suc i) x within all one = (all.0, one_more xs i x (omega (arith, within)) all.1 one)
+
+  -- and of all up to that place, where it holds of those before it
+  pub all_up_to : (xs : List X) (i : ℕ) (x : X) → i < length xs → AllByRecursion P (take i xs) → P x → AllByRecursion P (take (i + 1) (set xs i x))
+  all_up_to xs i x within all one = subst (λ n. AllByRecursion P (take n (set xs i x))) (sym (add-one i)) (one_more xs i x within all one)
+
+-- one that looks the same in the place of another leaves the looks of all as they are
+pub same_looks : {X Y : Type 0} (look : X → Y) (xs : List X) (i : ℕ) (x d : X) → i < length xs → look x ≡ look (get_or xs i d) → map look (set xs i x) ≡ map look xs
+same_looks look [] i x d within same = absurd (omega (arith, within))
+same_looks look (y ∷ xs) zero x d within same = ap (λ z. z ∷ map look xs) same
+same_looks look (y ∷ xs) (suc i) x d within same = ap (λ zs. look y ∷ zs) (same_looks look xs i x d (omega (arith, within)) same)
 
 -- starts that ascend never descend
 never_from_ascends : (starts : List ℕ) → Ascends starts → NeverDescends starts

@@ -36,12 +36,13 @@ pub(crate) fn in_order(
         inlinees: Vec::new(alloc),
         room: Vec::new(alloc),
     };
-    let mut functions = Vec::with_capacity(alloc, code.functions.len())?;
-    for function in &code.functions {
-        functions.push(function_in_order(alloc, bytes, &code, function, &mut copies)?)?;
+    let mut code = code;
+    for index in 0..code.functions.len() {
+        let function = code.functions[index];
+        code.functions[index] = function_in_order(alloc, bytes, &code, function, &mut copies)?;
     }
     Ok(FunctionTable {
-        functions,
+        functions: code.functions,
         lines: code.lines,
         inlinees: code.inlinees,
         line_copies: copies.lines,
@@ -54,14 +55,14 @@ fn function_in_order(
     alloc: Global,
     bytes: &[u8],
     code: &FunctionTable,
-    function: &KeptFunction,
+    function: KeptFunction,
     copies: &mut Copies,
 ) -> Result<KeptFunction, AllocError>
-    requires fits { FunctionFits bytes.now (length code.now.lines.items) (length code.now.inlinees.items) function.now }
+    requires fits { FunctionFits bytes.now (length code.now.lines.items) (length code.now.inlinees.items) function }
     requires read { AllByRecursion (ReadsLine bytes.now) code.now.lines.items }
     ensures lines { OnOk result ((more : List ℕ) × (copies.new.lines.items ≡ copies.old.lines.items ++ more)) }
     ensures inlinees { OnOk result ((more : List KeptInlinee) × (copies.new.inlinees.items ≡ copies.old.inlinees.items ++ more)) }
-    ensures same { IfOk result (HasRecords function.now) }
+    ensures same { IfOk result (HasRecords function) }
     ensures searched { IfOk result (λ f. AreLinesSearched bytes.now code.now.lines.items copies.new.lines.items f.lines f.line_order
         × AreInlineesSearched code.now.inlinees.items copies.new.inlinees.items f.inlinees f.inlinee_order) }
 {
@@ -75,7 +76,7 @@ fn function_in_order(
     Ok(KeptFunction {
         line_order,
         inlinee_order,
-        ..*function
+        ..function
     })
 }
 
