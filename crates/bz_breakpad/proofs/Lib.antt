@@ -25,6 +25,7 @@ pub mod Rows
 pub mod Runs
 pub mod SeenLaws
 pub mod SortedLemmas
+pub mod StartLemmas
 pub mod StepLemmas
 pub mod TableLaws
 pub mod Turns

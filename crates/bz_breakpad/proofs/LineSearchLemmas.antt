@@ -18,7 +18,8 @@ use Rattle.bz_breakpad.specs.Kept.{ReadsLine, kept_lines}
 use Rattle.bz_breakpad.specs.Line.{line_front, line_in, source_line}
 use Rattle.bz_breakpad.specs.Reads.{◌>>=◌, form_at, piece_at}
 use Rattle.bz_breakpad.specs.Records.{LINE}
-use Rattle.bz_breakpad.specs.Search.{AreSearchable, line_read, line_start, line_starts, no_line}
+use Rattle.bz_breakpad.specs.LineStarts.{line_read, line_start, line_starts, no_line}
+use Rattle.bz_breakpad.specs.Search.{AreSearchable}
 use Rattle.bz_breakpad.specs.Table.{SourceLine}
 use Rattle.bz_breakpad.proofs.Apart.{sep_front}
 use Rattle.bz_breakpad.proofs.Bytes.{blank_no_hex}

@@ -1,6 +1,7 @@
 -- Records in the order in which they are searched: those that stand so, and copies of the others.
-use Rattle.std.proofs.Common.{◌≡◌, ℕ, zero, suc, ◌-◌, ◌<◌, ◌≤◌, List, [], ◌∷◌, ◌++◌, length, take, drop, map, get_or, Option, Some, None, refl, sym, ap, subst, ◌∙◌, arith, inl, inr, length-append}
+use Rattle.std.proofs.Common.{◌≡◌, ℕ, zero, suc, ◌+◌, ◌-◌, ◌<◌, ◌≤◌, List, [], ◌∷◌, ◌++◌, length, take, drop, map, get_or, Option, Some, None, refl, sym, ap, subst, ◌∙◌, arith, add-one, inl, inr, length-append}
 use Rattle.std.specs.List.{AllByRecursion, slice_get, slice_range}
+use Rattle.std.proofs.Math.ListN.{set}
 use Rattle.std.proofs.lemmas.Bool.{cases_lt}
 use Rattle.std.proofs.lemmas.List.{length-map, take-append-drop}
 use Rattle.std.proofs.lemmas.Option.{same_Some, slice_get_within}
@@ -9,7 +10,8 @@ use Rattle.bz_base.specs.Starts.{NeverDescends}
 use Rattle.bz_base.proofs.TableLemmas.{start_at, record_at}
 use Rattle.bz_base.proofs.ViewLemmas.{table_seen}
 use Rattle.bz_breakpad.specs.Kept.{FunctionFits, IsPart, ReadsLine, kept_function, kept_lines}
-use Rattle.bz_breakpad.specs.Search.{AreInlineesSearched, AreLinesSearched, Ascends, HasRecords, IsSearched, line_read, line_size, line_start, line_starts}
+use Rattle.bz_breakpad.specs.LineStarts.{Ascends, line_read, line_size, line_start, line_starts}
+use Rattle.bz_breakpad.specs.Search.{AreInlineesSearched, AreLinesSearched, HasRecords, IsSearched, copied}
 use Rattle.bz_breakpad.specs.Table.{SourceLine}
 use Rattle.bz_breakpad.specs.declared.types.FunctionTable.{FunctionTable}
 use Rattle.bz_breakpad.specs.declared.types.Inlinee.{Inlinee as KeptInlinee}
@@ -71,6 +73,42 @@ module _ {X : Type 0} (P : X → Type 0) where
   all_get [] i d all within = absurd (omega (arith, within))
   all_get (x ∷ xs) zero d all within = all.0
   all_get (x ∷ xs) (suc i) d all within = all_get xs i d all.1 (omega (arith, within))
+
+  -- and of all where one that it holds of takes the place of another
+  pub all_set : (xs : List X) (i : ℕ) (x : X) → AllByRecursion P xs → P x → AllByRecursion P (set xs i x)
+  all_set [] i x all one = tt
+  all_set (y ∷ xs) zero x all one = (one, all.1)
+  all_set (y ∷ xs) (suc i) x all one = (all.0, all_set xs i x all.1 one)
+
+  one_more : (xs : List X) (i : ℕ) (x : X) → i < length xs → AllByRecursion P (take i xs) → P x → AllByRecursion P (take (suc i) (set xs i x))
+  one_more [] i x within all one = absurd (omega (arith, within))
+  one_more (y ∷ xs) zero x within all one = (one, tt)
+  one_more (y ∷ xs) (suc i) x within all one = (all.0, one_more xs i x (omega (arith, within)) all.1 one)
+
+  -- and of all up to that place, where it holds of those before it
+  pub all_up_to : (xs : List X) (i : ℕ) (x : X) → i < length xs → AllByRecursion P (take i xs) → P x → AllByRecursion P (take (i + 1) (set xs i x))
+  all_up_to xs i x within all one = subst (λ n. AllByRecursion P (take n (set xs i x))) (sym (add-one i)) (one_more xs i x within all one)
+
+  -- what holds of all from a place on holds of the one there
+  pub all_from : (xs : List X) (i : ℕ) (d : X) → i < length xs → AllByRecursion P (drop i xs) → P (get_or xs i d)
+  all_from [] i d within all = absurd (omega (arith, within))
+  all_from (x ∷ xs) zero d within all = all.0
+  all_from (x ∷ xs) (suc i) d within all = all_from xs i d (omega (arith, within)) all
+
+  rest_past : (xs : List X) (i : ℕ) (x : X) → AllByRecursion P (drop i xs) → AllByRecursion P (drop (suc i) (set xs i x))
+  rest_past [] i x all = tt
+  rest_past (y ∷ xs) zero x all = all.1
+  rest_past (y ∷ xs) (suc i) x all = rest_past xs i x all
+
+  -- and of those after it, where another takes its place
+  pub all_past : (xs : List X) (i : ℕ) (x : X) → AllByRecursion P (drop i xs) → AllByRecursion P (drop (i + 1) (set xs i x))
+  all_past xs i x all = subst (λ n. AllByRecursion P (drop n (set xs i x))) (sym (add-one i)) (rest_past xs i x all)
+
+-- one that looks the same in the place of another leaves the looks of all as they are
+pub same_looks : {X Y : Type 0} (look : X → Y) (xs : List X) (i : ℕ) (x d : X) → i < length xs → look x ≡ look (get_or xs i d) → map look (set xs i x) ≡ map look xs
+same_looks look [] i x d within same = absurd (omega (arith, within))
+same_looks look (y ∷ xs) zero x d within same = ap (λ z. z ∷ map look xs) same
+same_looks look (y ∷ xs) (suc i) x d within same = ap (λ zs. look y ∷ zs) (same_looks look xs i x d (omega (arith, within)) same)
 
 -- starts that ascend never descend
 never_from_ascends : (starts : List ℕ) → Ascends starts → NeverDescends starts
@@ -143,7 +181,7 @@ same_fits bytes line_count inlinee_count old new same fits =
 
 -- the functions of a table are searched in order where their line records and their inlined calls are
 pub both_searched : (bytes : List ℕ) (t : FunctionTable) (fs : List KeptFunction) →
-    AllByRecursion (λ (f : KeptFunction). AreLinesSearched bytes t.lines.items t.line_copies.items f.lines f.line_order) fs →
+    AllByRecursion (λ (f : KeptFunction). AreLinesSearched bytes t.lines.items t.line_copies.items f.lines (copied f.line_order)) fs →
     AllByRecursion (λ (f : KeptFunction). AreInlineesSearched t.inlinees.items t.inlinee_copies.items f.inlinees f.inlinee_order) fs →
     AllByRecursion (IsSearched bytes t) fs
 both_searched bytes t [] lines inlinees = tt

@@ -1,5 +1,5 @@
 -- A line record whose fields end at known places.
-use Rattle.std.proofs.Common.{◌≡◌, ℕ, suc, ◌+◌, ◌<◌, ◌≤◌, Bool, false, not, List, [], ◌∷◌, ◌++◌, length, take, drop, nat_eq, Some, refl, sym, ap, subst, ◌∙◌, arith, append_assoc, append-nil, length-append, drop-cons, add-one}
+use Rattle.std.proofs.Common.{◌≡◌, ℕ, suc, ◌+◌, ◌<◌, ◌≤◌, Bool, false, not, List, [], ◌∷◌, ◌++◌, length, take, drop, nat_eq, Some, IfSome, refl, sym, ap, subst, ◌∙◌, arith, append_assoc, append-nil, length-append, drop-cons, add-one}
 use Rattle.std.specs.List.{slice_index, list_any}
 use Rattle.std.specs.Char.{is_digit, digit_value}
 use Rattle.std.specs.Str.Parse.{digits_value}
@@ -17,8 +17,10 @@ use Rattle.bz_breakpad.specs.Choice.{body_at}
 use Rattle.bz_breakpad.specs.Form.{AllPass, Form, Piece, Tell, told, Value, IsPiece, Spells, greatest}
 use Rattle.bz_breakpad.specs.Form.Piece.{Sep, Hex, Dec}
 use Rattle.bz_breakpad.specs.Form.Form.{End, ◌·◌}
+use Rattle.bz_breakpad.specs.LineStarts.{IsStartText}
 use Rattle.bz_breakpad.specs.PlainLine.{IsPlainLine}
 use Rattle.bz_breakpad.specs.Records.{LINE}
+use Rattle.bz_breakpad.specs.declared.parser.plain.PlainLine.{PlainLine}
 use Rattle.bz_breakpad.proofs.ChoiceLaws.{body_again}
 use Rattle.bz_breakpad.proofs.FormLaws.{form_again}
 
@@ -27,6 +29,7 @@ use Rattle.bz_breakpad.proofs.FormLaws.{form_again}
 -- one to so many digits stand in front, then the byte, then the rest
 record IsField (base most after : ℕ) (text rest : List ℕ) : Type 0 where
   digits : List ℕ
+  digits_are : digits ≡ take (digits_len base text) text
   whole : text ≡ digits ++ after ∷ rest
   number : IsNumber base most digits (digits_value base digits)
 
@@ -45,6 +48,7 @@ field base most after from end text room some run few is =
     let past : drop n tail ≡ drop end text = drop-drop n from text ∙ ap (λ k. drop k text) (omega arith) in
     record {
       digits = take n tail;
+      digits_are = refl;
       whole = sym (take-append-drop n tail) ∙ ap (λ rest. take n tail ++ rest) (past ∙ byte_at end after text room is);
       number = record {
         some = omega (arith, len);
@@ -136,10 +140,10 @@ module _ (a b c d : List ℕ) (is_a : IsNumber 16 16 a (digits_value 16 a)) (is_
       ) refl
 
   -- a text that begins with the line and a line feed begins with a plain line
-  is_plain : (text : List ℕ) (len : ℕ) → len ≤ length text →
-      text ≡ a ++ space ∷ (b ++ space ∷ (c ++ space ∷ (d ++ line_feed ∷ drop len text))) → IsPlainLine text len
-  is_plain text len within whole =
-      let rest = drop len text in
+  is_plain : (text : List ℕ) (found : PlainLine) → found.len ≤ length text → IfSome found.start (IsStartText (digits_value 16 a)) →
+      text ≡ a ++ space ∷ (b ++ space ∷ (c ++ space ∷ (d ++ line_feed ∷ drop found.len text))) → IsPlainLine text found
+  is_plain text found within starts whole =
+      let rest = drop found.len text in
       let cut : text ≡ ended line ++ rest = whole ∙ sym (rw (
         append_assoc line (line_feed ∷ []) rest,
         append_assoc a (space ∷ (b ++ space ∷ (c ++ space ∷ d))) (line_feed ∷ rest),
@@ -150,24 +154,27 @@ module _ (a b c d : List ℕ) (is_a : IsNumber 16 16 a (digits_value 16 a)) (is_
         line = line;
         value = value;
         cut = cut;
-        length_is = omega (arith, ap length cut, length-append (ended line) rest, length-append line (line_feed ∷ []), length-drop len text);
+        length_is = omega (arith, ap length cut, length-append (ended line) rest, length-append line (line_feed ∷ []), length-drop found.len text);
         no_line_feed = none line_feed refl (omega arith);
         body_is = its_body line (none carriage_return refl (omega arith));
         reads = form_again LINE refl line value spells_line;
+        start_is = starts;
         solid = number_solid 16 _ a (space ∷ (b ++ space ∷ (c ++ space ∷ d))) is_a;
       }
 
 -- a text begins with a plain line where its fields end so
-pub plain_by_ends : (text : List ℕ) (first second third fourth : ℕ) → fourth < length text →
+pub plain_by_ends : (text : List ℕ) (found : PlainLine) (first second third fourth : ℕ) → fourth < length text → found.len ≡ fourth + 1 →
+    IfSome found.start (IsStartText (digits_value 16 (take first text))) →
     0 < first → digits_len 16 text + 0 ≡ first → first ≤ 16 → slice_index text first ≡ space →
     first + 1 < second → digits_len 16 (drop (first + 1) text) + (first + 1) ≡ second → second ≤ first + 9 → slice_index text second ≡ space →
     second + 1 < third → digits_len 10 (drop (second + 1) text) + (second + 1) ≡ third → third ≤ second + 10 → slice_index text third ≡ space →
     third + 1 < fourth → digits_len 10 (drop (third + 1) text) + (third + 1) ≡ fourth → fourth ≤ third + 10 → slice_index text fourth ≡ line_feed →
-    IsPlainLine text (fourth + 1)
-plain_by_ends text first second third fourth room some1 run1 few1 is1 some2 run2 few2 is2 some3 run3 few3 is3 some4 run4 few4 is4 =
+    IsPlainLine text found
+plain_by_ends text found first second third fourth room len_is starts some1 run1 few1 is1 some2 run2 few2 is2 some3 run3 few3 is3 some4 run4 few4 is4 =
     let a = field 16 16 space 0 first text (omega arith) some1 run1 (omega arith) is1 in
     let b = field 16 8 space (first + 1) second text (omega arith) some2 run2 (omega arith) is2 in
     let c = field 10 9 space (second + 1) third text (omega arith) some3 run3 (omega arith) is3 in
     let d = field 10 9 line_feed (third + 1) fourth text room some4 run4 (omega arith) is4 in
-    is_plain a.digits b.digits c.digits d.digits a.number b.number c.number d.number text (fourth + 1) (omega arith)
-    (a.whole ∙ ap (λ r. a.digits ++ space ∷ r) (b.whole ∙ ap (λ r. b.digits ++ space ∷ r) (c.whole ∙ ap (λ r. c.digits ++ space ∷ r) d.whole)))
+    let valued : digits_value 16 (take first text) ≡ digits_value 16 a.digits = sym (ap (digits_value 16) (a.digits_are ∙ ap (λ n. take n text) (omega (arith, run1)))) in
+    is_plain a.digits b.digits c.digits d.digits a.number b.number c.number d.number text found (omega (arith, len_is, room)) (subst (λ n. IfSome found.start (IsStartText n)) valued starts)
+    (a.whole ∙ ap (λ r. a.digits ++ space ∷ r) (b.whole ∙ ap (λ r. b.digits ++ space ∷ r) (c.whole ∙ ap (λ r. c.digits ++ space ∷ r) (d.whole ∙ ap (λ n. d.digits ++ line_feed ∷ drop n text) (sym len_is)))))

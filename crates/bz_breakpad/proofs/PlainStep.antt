@@ -18,6 +18,7 @@ use Rattle.bz_breakpad.specs.Walk.{Record, record_at, text_at}
 use Rattle.bz_breakpad.specs.Walk.Context.{InFunc}
 use Rattle.bz_breakpad.specs.Walk.Record.{OfFunc}
 use Rattle.bz_breakpad.specs.Walked.{IsMidway, IsStep}
+use Rattle.bz_breakpad.specs.declared.parser.plain.PlainLine.{PlainLine}
 use Rattle.bz_breakpad.specs.declared.parser.walk.Walk.{Walk}
 use Rattle.bz_breakpad.proofs.MidwayLemmas.{line_front_of, midway_on}
 use Rattle.bz_breakpad.proofs.StepLemmas.{record_read, step_read}
@@ -41,7 +42,7 @@ some_left : (free : Bool) (line : List ℕ) (value : Value LINE) → begins_with
 some_left false line value solid reads = refl
 some_left true line value solid reads = ap is_nothing (its_text true line solid) ∙ not_nothing line value reads
 
-module _ (rest : List ℕ) (len : ℕ) (p : IsPlainLine rest len) where
+module _ (rest : List ℕ) (found : PlainLine) (p : IsPlainLine rest found) where
   -- the record
   abbrev plain_record : Record
   plain_record = OfFunc (inl p.value)
@@ -49,12 +50,12 @@ module _ (rest : List ℕ) (len : ℕ) (p : IsPlainLine rest len) where
   -- it is read from the place where it stands
   pub plain_stands : (bytes : List ℕ) (start : ℕ) → drop start bytes ≡ rest → line_in (drop start bytes) ≡ Some (source_line p.value)
   plain_stands bytes start stands =
-      let front : line_front (drop start bytes) ≡ p.line = ap line_front (stands ∙ p.cut) ∙ line_front_of p.line (drop len rest) p.no_line_feed in
+      let front : line_front (drop start bytes) ≡ p.line = ap line_front (stands ∙ p.cut) ∙ line_front_of p.line (drop found.len rest) p.no_line_feed in
       rw (front, p.body_is, p.reads) refl
 
   -- its line is the first one of the text
-  plain_first : ended_lines rest ≡ option_map (λ lines. p.line ∷ lines) (ended_lines (drop len rest))
-  plain_first = ap ended_lines p.cut ∙ ap ended_lines (append_assoc p.line _ (drop len rest)) ∙ ended_lines-next p.line (drop len rest) p.no_line_feed
+  plain_first : ended_lines rest ≡ option_map (λ lines. p.line ∷ lines) (ended_lines (drop found.len rest))
+  plain_first = ap ended_lines p.cut ∙ ap ended_lines (append_assoc p.line _ (drop found.len rest)) ∙ ended_lines-next p.line (drop found.len rest) p.no_line_feed
 
   -- it is read, and then the lines after it
   plain_step : (free : Bool) (reading : Reading) (lines : List (List ℕ)) →
@@ -65,11 +66,11 @@ module _ (rest : List ℕ) (len : ℕ) (p : IsPlainLine rest len) where
 
   -- the walk is midway still, once it has kept the record
   pub plain_on : (bytes : List ℕ) (old new : Walk) (m : IsMidway bytes rest old) → context_told old.context ≡ InFunc → context_told new.context ≡ InFunc →
-      new.free ≡ false → new.count ≡ old.count + 1 → IsSoFar bytes new.kept (with_record m.reading plain_record) → IsMidway bytes (drop len rest) new
+      new.free ≡ false → new.count ≡ old.count + 1 → IsSoFar bytes new.kept (with_record m.reading plain_record) → IsMidway bytes (drop found.len rest) new
   plain_on bytes old new m in_func still free count so_far =
       let step : IsStep bytes old new p.line m.reading = record {
         next = with_record m.reading plain_record;
         walked = record { so_far = so_far; count_is = count ∙ ap (λ n. n + 1) m.walked.count_is };
         same = λ lines. rw (in_func, still, free) (plain_step old.free m.reading lines);
       } in
-      midway_on bytes rest p.line (drop len rest) old new m p.cut plain_first step (omega (arith, count))
+      midway_on bytes rest p.line (drop found.len rest) old new m p.cut plain_first step (omega (arith, count))

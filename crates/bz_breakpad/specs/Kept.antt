@@ -5,6 +5,7 @@ use Rattle.std.specs.BTreeMap.{BTreeMap}
 use Rattle.std.specs.Map.{values_of}
 use Rattle.bz_breakpad.specs.Choice.{body_at}
 use Rattle.bz_breakpad.specs.Line.{line_front, line_in}
+use Rattle.bz_breakpad.specs.LineStarts.{Stand, StandAs, line_starts}
 use Rattle.bz_breakpad.specs.Reader.{Reading}
 use Rattle.bz_breakpad.specs.Table.{SourceLine, Inlinee, Function, PublicSymbol, Table}
 use Rattle.bz_breakpad.specs.declared.parser.functions.FunctionsReading.{FunctionsReading}
@@ -121,6 +122,13 @@ pub record CurrentFits (bytes : List ℕ) (line_count inlinee_count : ℕ) (f : 
 abbrev pub FunctionsFit : List ℕ → FunctionTable → Type 0
 FunctionsFit bytes t = AllByRecursion (FunctionFits bytes (length t.lines.items) (length t.inlinees.items)) t.functions.items
 
+-- the function's line records stand in order where they are said to
+abbrev pub FunctionStands : List ℕ → List ℕ → KeptFunction → Type 0
+FunctionStands bytes lines f = StandAs (line_starts bytes (slice_range lines f.lines.from f.lines.to)) f.line_order
+
+abbrev pub FunctionsStand : List ℕ → FunctionTable → Type 0
+FunctionsStand bytes t = AllByRecursion (FunctionStands bytes t.lines.items) t.functions.items
+
 abbrev pub NamesFit : List ℕ → BTreeMap ℕ Part → Type 0
 NamesFit bytes names = AllByRecursion (IsTextAt bytes) (values_of names.entries)
 
@@ -143,6 +151,8 @@ pub record FunctionsSoFar (bytes : List ℕ) (f : FunctionsReading) (closed : Li
   pub closed_fit : FunctionsFit bytes f.table
   pub lines_read : AllByRecursion (ReadsLine bytes) f.table.lines.items
   pub current_fits : IfSome f.current (CurrentFits bytes (length f.table.lines.items) (length f.table.inlinees.items))
+  pub closed_stand : FunctionsStand bytes f.table
+  pub current_stands : IfSome f.current (λ function. Stand (line_starts bytes (drop function.lines.from f.table.lines.items)) f.standing)
 
 -- the part holds the name
 pub record IsNameAt (bytes : List ℕ) (part : Part) (name : List ℕ) : Type 0 where

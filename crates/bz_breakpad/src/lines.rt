@@ -7,7 +7,8 @@ ghost use Rattle.bz_base.specs.Nearest.{IsTable, if_covers, nearest_covering};
 ghost use Rattle.bz_breakpad.specs.Kept.{ReadsLine, kept_lines};
 ghost use Rattle.bz_breakpad.specs.Lent.{line_seen};
 ghost use Rattle.bz_breakpad.specs.Line.{line_in};
-ghost use Rattle.bz_breakpad.specs.Search.{AreSearchable, Ascends, line_read, line_size, line_start, line_starts};
+ghost use Rattle.bz_breakpad.specs.LineStarts.{Ascends, line_read, line_size, line_start, line_starts};
+ghost use Rattle.bz_breakpad.specs.Search.{AreSearchable};
 ghost use Rattle.bz_breakpad.specs.Table as tables;
 
 use crate::parser::field::{body, hex};
@@ -96,7 +97,8 @@ struct LineStarts<'a> {
 
 impl<'a> Model for LineStarts<'a> {
     ghost use Rattle.std.specs.Prelude.{ℕ, List};
-    ghost use Rattle.bz_breakpad.specs.Search.{AreSearchable, line_starts};
+    ghost use Rattle.bz_breakpad.specs.LineStarts.{line_starts};
+    ghost use Rattle.bz_breakpad.specs.Search.{AreSearchable};
 
     ghost Value = { List ℕ };
 

@@ -3,12 +3,13 @@
 ghost use Rattle.std.specs.Prelude.{◌≡◌, ◌++◌, ℕ, List, length, slice_range, IfOk, OnOk};
 ghost use Rattle.std.specs.List.{AllByRecursion};
 ghost use Rattle.bz_base.specs.Nearest.{IsTable};
-ghost use Rattle.bz_breakpad.specs.Kept.{FunctionFits, FunctionsFit, IsPart, ReadsLine};
-ghost use Rattle.bz_breakpad.specs.Search.{AreInlineesSearched, AreLinesSearched, Ascends, HasRecords, IsInOrder, line_size, line_start};
+ghost use Rattle.bz_breakpad.specs.Kept.{FunctionFits, FunctionStands, FunctionsFit, FunctionsStand, IsPart, ReadsLine};
+ghost use Rattle.bz_breakpad.specs.LineStarts.{Ascends, line_size, line_start};
+ghost use Rattle.bz_breakpad.specs.Search.{AreInlineesSearched, AreLinesSearched, HasRecords, IsInOrder, copied};
 ghost use Rattle.bz_breakpad.specs.declared.types.Inlinee.{Inlinee as KeptInlinee};
 
 use crate::lines::{span_at, starts_ascend};
-use crate::types::{FunctionTable, Inlinee, KeptFunction, Part};
+use crate::types::{FunctionTable, Inlinee, KeptFunction, LineOrder, Part};
 use bz_base::sort_nested;
 use std::alloc::{AllocError, Global};
 
@@ -29,6 +30,7 @@ pub(crate) fn in_order(
 ) -> Result<FunctionTable, AllocError>
     requires fits { FunctionsFit bytes.now code }
     requires read { AllByRecursion (ReadsLine bytes.now) code.lines.items }
+    requires stand { FunctionsStand bytes.now code }
     ensures { IfOk result (IsInOrder bytes.now code) }
 {
     let mut copies = Copies {
@@ -36,12 +38,13 @@ pub(crate) fn in_order(
         inlinees: Vec::new(alloc),
         room: Vec::new(alloc),
     };
-    let mut functions = Vec::with_capacity(alloc, code.functions.len())?;
-    for function in &code.functions {
-        functions.push(function_in_order(alloc, bytes, &code, function, &mut copies)?)?;
+    let mut code = code;
+    for index in 0..code.functions.len() {
+        let function = code.functions[index];
+        code.functions[index] = function_in_order(alloc, bytes, &code, function, &mut copies)?;
     }
     Ok(FunctionTable {
-        functions,
+        functions: code.functions,
         lines: code.lines,
         inlinees: code.inlinees,
         line_copies: copies.lines,
@@ -54,18 +57,24 @@ fn function_in_order(
     alloc: Global,
     bytes: &[u8],
     code: &FunctionTable,
-    function: &KeptFunction,
+    function: KeptFunction,
     copies: &mut Copies,
 ) -> Result<KeptFunction, AllocError>
-    requires fits { FunctionFits bytes.now (length code.now.lines.items) (length code.now.inlinees.items) function.now }
+    requires fits { FunctionFits bytes.now (length code.now.lines.items) (length code.now.inlinees.items) function }
     requires read { AllByRecursion (ReadsLine bytes.now) code.now.lines.items }
+    requires stands { FunctionStands bytes.now code.now.lines.items function }
     ensures lines { OnOk result ((more : List ℕ) × (copies.new.lines.items ≡ copies.old.lines.items ++ more)) }
     ensures inlinees { OnOk result ((more : List KeptInlinee) × (copies.new.inlinees.items ≡ copies.old.inlinees.items ++ more)) }
-    ensures same { IfOk result (HasRecords function.now) }
-    ensures searched { IfOk result (λ f. AreLinesSearched bytes.now code.now.lines.items copies.new.lines.items f.lines f.line_order
+    ensures same { IfOk result (HasRecords function) }
+    ensures searched { IfOk result (λ f. AreLinesSearched bytes.now code.now.lines.items copies.new.lines.items f.lines (copied f.line_order)
         × AreInlineesSearched code.now.inlinees.items copies.new.inlinees.items f.inlinees f.inlinee_order) }
 {
-    let line_order = order_lines(alloc, bytes, &code.lines, function.lines, &mut copies.lines)?;
+    let line_order = match function.line_order {
+        LineOrder::Standing => LineOrder::Standing,
+        LineOrder::Copied(_) | LineOrder::Unknown => {
+            order_lines(alloc, bytes, &code.lines, function.lines, &mut copies.lines)?
+        }
+    };
     let inlinee_order = order_inlinees(
         &code.inlinees,
         function.inlinees,
@@ -75,29 +84,29 @@ fn function_in_order(
     Ok(KeptFunction {
         line_order,
         inlinee_order,
-        ..*function
+        ..function
     })
 }
 
-/// Where a part of the line records is in order, if not as it stands.
+/// Where a part of the line records is in order.
 fn order_lines(
     alloc: Global,
     bytes: &[u8],
     lines: &[usize],
     part: Part,
     copies: &mut Vec<usize>,
-) -> Result<Option<Part>, AllocError>
+) -> Result<LineOrder, AllocError>
     requires part { IsPart (length lines.now) part }
     requires read { AllByRecursion (ReadsLine bytes.now) lines.now }
     ensures more { OnOk result ((more : List ℕ) × (copies.new.items ≡ copies.old.items ++ more)) }
-    ensures searched { IfOk result (AreLinesSearched bytes.now lines.now copies.new.items part) }
+    ensures searched { IfOk result (λ order. AreLinesSearched bytes.now lines.now copies.new.items part (copied order)) }
 {
     let places = &lines[part.from..part.to];
     if starts_ascend(bytes, places) {
-        return Ok(None);
+        return Ok(LineOrder::Standing);
     }
     let sorted = sorted_lines(alloc, bytes, places)?;
-    Ok(Some(copied(&sorted, copies)?))
+    Ok(LineOrder::Copied(copied(&sorted, copies)?))
 }
 
 /// The line records at these places by start and size.

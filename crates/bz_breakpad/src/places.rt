@@ -17,7 +17,7 @@ ghost use Rattle.bz_breakpad.specs.Table.{Table};
 
 use crate::lines::line_covering;
 use crate::names::name_of;
-use crate::types::{FunctionTable, Inlinee, KeptFunction, KeptTable, SourceLine};
+use crate::types::{FunctionTable, Inlinee, KeptFunction, KeptTable, LineOrder, SourceLine};
 use bz_base::{Addr, CodeInfo, Error, FindSymOpts, InlinedFn, Result, chain_in, split_source};
 use std::alloc::{AllocError, Global};
 use std::borrow::CowStr;
@@ -102,8 +102,10 @@ pub(crate) fn line_of(
     ensures { option_map line_seen result ≡ line_at addr (function_seen bytes.now code.now function.now).lines }
 {
     let places = match function.line_order {
-        Some(order) => &code.line_copies[order.from..order.to],
-        None => &code.lines[function.lines.from..function.lines.to],
+        LineOrder::Copied(order) => &code.line_copies[order.from..order.to],
+        LineOrder::Standing | LineOrder::Unknown => {
+            &code.lines[function.lines.from..function.lines.to]
+        }
     };
     line_covering(bytes, places, addr)
 }

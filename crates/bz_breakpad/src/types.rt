@@ -12,6 +12,17 @@ pub(crate) struct Part {
     pub to: usize,
 }
 
+/// Where the line records of a function stand in order.
+#[derive(Clone, Copy)]
+pub(crate) enum LineOrder {
+    /// In the file.
+    Standing,
+    /// In this part of the table of copies.
+    Copied(Part),
+    /// That isn't known.
+    Unknown,
+}
+
 /// A FUNC record.
 #[derive(Clone, Copy)]
 pub(crate) struct KeptFunction {
@@ -27,8 +38,8 @@ pub(crate) struct KeptFunction {
     pub lines: Part,
     /// Its inlined calls, in the table of all of them.
     pub inlinees: Part,
-    /// Its line records in order, in the table of copies, if they don't stand in order in the file.
-    pub line_order: Option<Part>,
+    /// Where its line records stand in order; known once the file has been read.
+    pub line_order: LineOrder,
     /// Its inlined calls in order, in the table of copies, if they don't stand in order in the file.
     pub inlinee_order: Option<Part>,
 }

@@ -1,8 +1,9 @@
 //! The FUNC records that have been read, with what stands under them.
 
-ghost use Rattle.std.specs.Prelude.{◌≡◌, ◌∷◌, ◌++◌, [], ℕ, List, Option, None, Some, drop, map, option_map, OnOk};
+ghost use Rattle.std.specs.Prelude.{◌≡◌, ◌∷◌, ◌++◌, [], ℕ, List, Option, None, Some, drop, map, option_map, IfSome, OnOk};
 ghost use Rattle.bz_breakpad.specs.Kept.{FunctionsSoFar, IsNameAt, inlinee_kept};
 ghost use Rattle.bz_breakpad.specs.Line.{line_in};
+ghost use Rattle.bz_breakpad.specs.LineStarts.{IsStartText};
 ghost use Rattle.bz_breakpad.specs.Reader.{listed};
 ghost use Rattle.bz_breakpad.specs.Says.{with_own};
 ghost use Rattle.bz_breakpad.specs.Says.Sub.{Inline, Line};
@@ -10,7 +11,8 @@ ghost use Rattle.bz_breakpad.specs.Table.{Function, SourceLine};
 ghost use Rattle.bz_breakpad.specs.Told.{function_told, inlinees_told};
 
 use crate::parser::record::{FuncLine, InlineCall, Range};
-use crate::types::{FunctionTable, Inlinee, KeptFunction, Part};
+use crate::parser::standing::{Standing, StartText};
+use crate::types::{FunctionTable, Inlinee, KeptFunction, LineOrder, Part};
 use std::alloc::{AllocError, Global};
 
 /// The functions that have been read, up to the end of a line.
@@ -20,6 +22,8 @@ pub(crate) struct FunctionsReading {
     pub table: FunctionTable,
     /// The one whose records are being read. Its parts end where the tables do.
     pub current: Option<KeptFunction>,
+    /// What is known of the order of its line records.
+    pub standing: Standing,
 }
 
 impl FunctionsReading {
@@ -36,6 +40,7 @@ impl FunctionsReading {
                 inlinee_copies: Vec::new(alloc),
             },
             current: None,
+            standing: Standing::Empty,
         }
     }
 
@@ -47,6 +52,7 @@ impl FunctionsReading {
         if let Some(mut function) = self.current {
             function.lines.to = self.table.lines.len();
             function.inlinees.to = self.table.inlinees.len();
+            function.line_order = self.standing.order();
             self.table.functions.push(function)?;
             self.current = None;
         }
@@ -73,18 +79,21 @@ impl FunctionsReading {
                 from: inlinees,
                 to: inlinees,
             },
-            line_order: None,
+            line_order: LineOrder::Unknown,
             inlinee_order: None,
         });
+        self.standing = Standing::Empty;
     }
 
-    /// Keeps the line record at a place in the bytes.
-    pub(crate) fn line(&mut self, place: usize) -> Result<(), AllocError>
+    /// Keeps the line record at a place in the bytes, of whose start the text may be known.
+    #[inline(always)]
+    pub(crate) fn line(&mut self, place: usize, start: Option<StartText>) -> Result<(), AllocError>
         ensures { OnOk result ((bytes : List ℕ) (closed : List Function) (current : Option Function) (line : SourceLine) →
-            line_in (drop place bytes) ≡ Some line → FunctionsSoFar bytes self.old closed current →
+            line_in (drop place bytes) ≡ Some line → IfSome start (IsStartText line.start) → FunctionsSoFar bytes self.old closed current →
             FunctionsSoFar bytes self.new closed (option_map (λ f. with_own f (Line line ∷ [])) current)) }
     {
         self.table.lines.push(place)?;
+        self.standing = self.standing.with(start);
         Ok(())
     }
 

@@ -6,6 +6,7 @@ ghost use Rattle.bz_breakpad.specs.PlainLine.{IsPlainLine};
 ghost use lib.Lanes.{mask_l};
 
 use crate::parser::lanes::{dec_end, dec_stops, hex_end, hex_stops};
+use crate::parser::standing::StartText;
 use std::simd::prelude::*;
 
 /// A bit for each of the first 32 bytes that is a line feed.
@@ -19,13 +20,21 @@ fn line_feeds(text: &[u8]) -> u64
         .to_bitmask()
 }
 
-/// The length of a line record of single spaces and few digits at the front, with its line feed.
-/// None tells nothing.
+/// A line record in its common form.
+#[derive(Clone, Copy)]
+pub(crate) struct PlainLine {
+    /// Its length, with its line feed.
+    pub len: usize,
+    /// The text of its start, if it is short.
+    pub start: Option<StartText>,
+}
+
+/// The line record of single spaces and few digits at the front. None tells nothing.
 #[inline(always)]
-pub(crate) fn plain_line(text: &[u8]) -> Option<usize>
+pub(crate) fn plain_line(text: &[u8]) -> Option<PlainLine>
     requires { 32 ≤ length text.now }
     ensures plain { IfSome result (IsPlainLine text.now) }
-    ensures within { IfSome result (λ len. (0 < len) × (len ≤ 32)) }
+    ensures within { IfSome result (λ line. (0 < line.len) × (line.len ≤ 32)) }
 {
     // The next line's place hangs on this alone, and not on the fields one after another.
     let end = line_feeds(text).trailing_zeros();
@@ -47,5 +56,8 @@ pub(crate) fn plain_line(text: &[u8]) -> Option<usize>
     if text[fourth as usize] != b'\n' || fourth != end {
         return None;
     }
-    Some(end as usize + 1)
+    Some(PlainLine {
+        len: end as usize + 1,
+        start: StartText::at_front(text, first),
+    })
 }

@@ -85,7 +85,7 @@ impl KeptReading {
             IsSoFar bytes self.new (with_record reading (OfFunc (inner_told inner.entry ranges.now)))) }
     {
         match inner {
-            InnerLine::Code(_) => self.functions.line(start)?,
+            InnerLine::Code(_) => self.functions.line(start, None)?,
             InnerLine::Inline(call) => self.functions.inline(&call, ranges)?,
             InnerLine::Origin(id, name) => {
                 keep_name(&mut self.origins, id, name_part(name, end))?

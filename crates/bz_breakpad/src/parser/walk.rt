@@ -78,13 +78,15 @@ impl Walk {
         if rest.len() < 32 || !matches!(self.context, Context::InFunc) {
             return Ok(None);
         }
-        let Some(len) = plain_line(rest) else {
+        let Some(line) = plain_line(rest) else {
             return Ok(None);
         };
-        self.kept.functions.line(text.len() - rest.len())?;
+        self.kept
+            .functions
+            .line(text.len() - rest.len(), line.start)?;
         self.free = false;
         self.count += 1;
-        Ok(Some(&rest[len..]))
+        Ok(Some(&rest[line.len..]))
     }
 
     /// Reads the first line of the rest of a text, in any form, and returns the rest after it.

@@ -2,7 +2,7 @@ use Rattle.std.proofs.Common.{sym, drop, unwrap_or, arith, ap, ◌∙◌}
 use Rattle.std.proofs.lemmas.List.{take_rest}
 use Rattle.bz_breakpad.specs.Form.Piece.{Hex}
 use Rattle.bz_breakpad.specs.Reads.{piece_at}
-use Rattle.bz_breakpad.specs.Search.{no_line}
+use Rattle.bz_breakpad.specs.LineStarts.{no_line}
 use Rattle.std.proofs.lemmas.Option.{none-some, same_Some}
 use Rattle.bz_breakpad.proofs.LineSearchLemmas.{past_end, read_there, start_in_front}
 use Rattle.bz_breakpad.proofs.lines.start_at.Goals as goal

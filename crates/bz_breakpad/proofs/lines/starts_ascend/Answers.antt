@@ -1,6 +1,6 @@
 use Rattle.std.proofs.Common.{◌≡◌, ℕ, ◌<◌, ◌-◌, Some, sym, ap, subst, arith, ◌∙◌}
 use Rattle.std.specs.Prelude.{slice_index}
-use Rattle.bz_breakpad.specs.Search.{line_starts}
+use Rattle.bz_breakpad.specs.LineStarts.{line_starts}
 use Rattle.bz_breakpad.proofs.LineSearchLemmas.{ascend_more, start_at_index}
 use Rattle.bz_breakpad.proofs.lines.starts_ascend.Goals as goal
 

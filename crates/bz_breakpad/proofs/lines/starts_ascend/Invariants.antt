@@ -1,6 +1,6 @@
 use Rattle.std.proofs.Common.{◌≡◌, ◌-◌, ◌<◌, ℕ, Some}
 use Rattle.std.specs.Prelude.{slice_index}
-use Rattle.bz_breakpad.specs.Search.{line_starts}
+use Rattle.bz_breakpad.specs.LineStarts.{line_starts}
 use Rattle.bz_breakpad.proofs.lines.starts_ascend.Given as goal
 
 -- the starts so far ascend, and the last one of them is known

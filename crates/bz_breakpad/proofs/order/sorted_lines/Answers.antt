@@ -2,7 +2,7 @@ use Rattle.std.proofs.Common.{◌≡◌, ◌∙◌, ℕ, List, ◌++◌, rules, 
 use Rattle.std.proofs.lemmas.Fn.{always_returns_same}
 use Rattle.bz_base.specs.Nearest.{IsTable}
 use Rattle.bz_base.proofs.SortLemmas.{table_from_sort}
-use Rattle.bz_breakpad.specs.Search.{line_size, line_start}
+use Rattle.bz_breakpad.specs.LineStarts.{line_size, line_start}
 use Rattle.bz_breakpad.proofs.order.sorted_lines.Goals as goal
 
 pub returns : goal.returns

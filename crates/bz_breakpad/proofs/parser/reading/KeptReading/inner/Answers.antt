@@ -2,7 +2,7 @@ use Rattle.std.proofs.Common.{[], ◌∷◌, refl, sym, append-nil}
 use Rattle.bz_breakpad.specs.Line.{source_line}
 use Rattle.bz_breakpad.specs.Says.Sub.{SubOrigin}
 use Rattle.bz_breakpad.specs.Told.{line_told}
-use Rattle.bz_breakpad.proofs.FunctionLemmas.{told_said, more_so_far}
+use Rattle.bz_breakpad.proofs.FunctionLemmas.{told_said, more_so_far, stand_same}
 use Rattle.bz_breakpad.proofs.KeptLemmas.{names_so_far}
 use Rattle.bz_breakpad.proofs.parser.reading.KeptReading.inner.Goals as goal
 
@@ -12,7 +12,7 @@ returns-in_ok-line-in-Code c bytes body reading stands end inner is =
       module_is = is.module_is;
       functions =
           c.in_ok-line-in-Code.ensures bytes reading.closed reading.current (source_line (line_told c.in-Code.field-0))
-          (rw c.in-Code.is at inner) is.functions;
+          (rw c.in-Code.is at inner) tt is.functions;
       files = is.files;
       origins = is.origins;
       publics = is.publics;
@@ -37,7 +37,7 @@ returns-in_ok-keep_name-in-Origin c bytes body reading stands end inner is =
       module_is = is.module_is;
       functions =
           more_so_far bytes functions.table functions.table [] [] (sub ∷ []) (sym (append-nil functions.table.lines.items))
-          (sym (append-nil functions.table.inlinees.items)) tt refl refl functions.current reading.closed reading.current refl is.functions;
+          (sym (append-nil functions.table.inlinees.items)) tt refl refl functions.standing functions.standing (stand_same functions.standing) functions.current reading.closed reading.current refl is.functions;
       files = is.files;
       origins =
           names_so_far bytes c.args.self.now.origins c.keep_name.new.names c.in-Origin.id c.name_part.result c.in-Origin.name.now reading.origins

@@ -14,16 +14,17 @@ returns-clause-ok c =
     let bytes = c.args.text.now in
     let rest = c.args.rest.now in
     let old = c.args.self.now in
+    let line = c.in-Some.line in
     let p = c.in-Some.ensures.plain in
     let in_func : context_told old.context ≡ InFunc = elim c.match-matches.branch [
       | in-InFunc w ↦ ap context_told w.in-InFunc.is
       | in_default w ↦ absurd (false≢true (sym w.matches-is ∙ c.if-not-matches.false))
     ] in
-    let reads = plain_stands rest c.in-Some.len p bytes (length bytes - length rest) m.rest_is in
+    let reads = plain_stands rest line p bytes (length bytes - length rest) m.rest_is in
     let so_far = m.walked.so_far in
-    rw (take_rest rest c.in-Some.len) (plain_on rest c.in-Some.len p bytes old _ m in_func in_func refl refl (record {
+    rw (take_rest rest line.len) (plain_on rest line p bytes old _ m in_func in_func refl refl (record {
       module_is = so_far.module_is;
-      functions = c.in_ok-line.ensures bytes m.reading.closed m.reading.current (source_line p.value) reads so_far.functions;
+      functions = c.in_ok-line.ensures bytes m.reading.closed m.reading.current (source_line p.value) reads p.start_is so_far.functions;
       files = so_far.files;
       origins = so_far.origins;
       publics = so_far.publics;

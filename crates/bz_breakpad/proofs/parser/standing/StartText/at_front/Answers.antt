@@ -1,0 +1,10 @@
+use Rattle.std.proofs.Common.{ℕ, ◌<◌, get_or, arith, ◌∙◌}
+use Rattle.bz_breakpad.proofs.StartLemmas.{loaded, text_is}
+use Rattle.bz_breakpad.proofs.parser.standing.StartText.at_front.Goals as goal
+
+pub returns : goal.returns
+returns c =
+    let text = c.args.text.now in
+    let room = c.requires.room in
+    let small : (k : ℕ) → get_or text k 0 < 256 = λ k. (c.type_inv.text k).fits in
+    text_is text room small c.args.digits (omega arith) c.requires.digits c.from_be_bytes-bytes.result (c.from_be_bytes-bytes.ensures ∙ loaded text room small)
