@@ -280,7 +280,5 @@ impl Symbolizer {
 fn empty_cache<T: Version + Drop>(alloc: Global, reload: bool) -> FileCache<T>
     ensures { result ≡ new_cache reload }
 {
-    FileCache::builder()
-        .enable_auto_reload(reload)
-        .build(alloc)
+    FileCache::builder().enable_auto_reload(reload).build(alloc)
 }

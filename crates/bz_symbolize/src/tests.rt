@@ -3,8 +3,9 @@
 ghost use Rattle.std.specs.Prelude.{◌≡◌, ◌<◌};
 
 mod calling;
+mod gsym;
 
-use crate::source::{Breakpad, Source};
+use crate::source::{Breakpad, GsymData, Source};
 use crate::{Builder, Symbolizer};
 use bz_base::{Error, Input, Reason, Result, Steps, Symbolized};
 use bz_files::MemFiles;
@@ -168,6 +169,9 @@ fn prints_a_source_by_its_path(rt: HostRuntime) -> std::result::Result<(), Fail>
     let src = source(rt.alloc())?;
     let text = format!(in rt.alloc(); "{src:?}")?;
     assert!(rt; text.as_str() == "Breakpad(\"/s.sym\")");
+    let src = Source::from(GsymData::new(b"\x01\x02"));
+    let text = format!(in rt.alloc(); "{src:?}")?;
+    assert!(rt; text.as_str() == "GsymData([1, 2])");
     Ok(())
 }
 
