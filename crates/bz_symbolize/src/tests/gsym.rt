@@ -75,7 +75,12 @@ fn answers_a_gsym_file(rt: HostRuntime) -> std::result::Result<(), Fail> {
     assert!(rt; are_right(answers.as_slice()));
     let answer = symbolizer.symbolize_single(alloc, &mut files, &src, Input::VirtOffset(0x1004))?;
     assert!(rt; is_named(&answer, "main") && files.opens() == 1);
-    let other: Result<_> = symbolizer.symbolize_single(alloc, &mut files, &src, Input::FileOffset(4));
+    let other: Result<_> = symbolizer.symbolize_single(
+        alloc,
+        &mut files,
+        &src,
+        Input::FileOffset(4),
+    );
     assert!(rt; other.is_err());
     Ok(())
 }
