@@ -1,7 +1,7 @@
-pub mod Answer
 pub mod Entries
 pub mod Header
 pub mod Number
+pub mod Plain
 pub mod Resolver
 pub mod Seen
 pub mod Strings

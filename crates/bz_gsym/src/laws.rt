@@ -1,7 +1,7 @@
 //! What holds of the definitions that the contracts cite.
 
 ghost use Rattle.std.specs.Prelude.{◌≡◌, ◌↔◌, true, ℕ, List, Some, slice_get};
-ghost use Rattle.bz_gsym.specs.Answer.{nearest_symbol};
+ghost use Rattle.bz_gsym.specs.Plain.{nearest_symbol};
 ghost use Rattle.bz_gsym.specs.Entries.{AreEntries, Entry, entries_in};
 ghost use Rattle.bz_gsym.specs.Strings.{IsString, string_at};
 ghost use Rattle.bz_gsym.specs.Tables.{IsGsym, IsTried, data_places, is_gsym};

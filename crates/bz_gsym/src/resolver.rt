@@ -7,7 +7,7 @@ ghost use Rattle.bz_cache.specs.Format.{Comes, IsRefusalBy, MayFail};
 ghost use Rattle.bz_files.specs.Count.{counted};
 ghost use Rattle.bz_files.specs.Looked.{Faulted, Looked, ReadsOne};
 ghost use Rattle.bz_files.specs.World.{Told, entry_at, in_view};
-ghost use Rattle.bz_gsym.specs.Answer.{answer_at};
+ghost use Rattle.bz_gsym.specs.Plain.{plain};
 ghost use Rattle.bz_gsym.specs.Resolver.{opened};
 ghost use Rattle.bz_gsym.specs.Seen.{answer_seen};
 ghost use Rattle.bz_gsym.specs.Tables.{IsGsym};
@@ -69,7 +69,7 @@ impl GsymResolver {
 }
 
 impl Symbolize for GsymResolver {
-    ghost may_find = { λ resolver opts addr answer. answer ≡ answer_at resolver.bytes addr };
+    ghost may_find = { λ resolver opts addr answer. answer ≡ plain resolver.bytes addr };
 
     fn find_sym(
         &self,
@@ -77,10 +77,10 @@ impl Symbolize for GsymResolver {
         addr: Addr,
         opts: &FindSymOpts,
     ) -> Result<std::result::Result<ResolvedSym<'_>, Reason>>
-        ensures answer { MayGive found_of (λ answer. answer ≡ answer_at self.now.bytes addr) result }
+        ensures answer { MayGive found_of (λ answer. answer ≡ plain self.now.bytes addr) result }
         ensures starts { IfOk result (λ found. StartsBefore addr (found_of found)) }
         ensures refusal { IfErr result MayRefuse }
-        ensures exact { answer_seen result ≡ answer_at self.now.bytes addr }
+        ensures exact { answer_seen result ≡ plain self.now.bytes addr }
     {
         self.table.find_sym(alloc, addr, opts)
     }

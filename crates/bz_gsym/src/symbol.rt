@@ -4,7 +4,7 @@ ghost use Rattle.std.specs.Prelude.{◌≡◌, IfOk, IfErr};
 ghost use Rattle.bz_base.specs.Lent.{IsLentResolved};
 ghost use Rattle.bz_base.specs.Resolution.{StartsBefore, found_of};
 ghost use Rattle.bz_base.specs.declared.error.Error.{Error};
-ghost use Rattle.bz_gsym.specs.Answer.{answer_at, reaches};
+ghost use Rattle.bz_gsym.specs.Plain.{plain, reaches};
 ghost use Rattle.bz_gsym.specs.Seen.{answer_seen};
 
 use crate::parser::GsymContext;
@@ -17,7 +17,7 @@ pub(crate) fn symbol_at<'a>(
     alloc: Global,
     addr: Addr,
 ) -> Result<std::result::Result<ResolvedSym<'a>, Reason>>
-    ensures answer { answer_seen result ≡ answer_at context.now addr }
+    ensures answer { answer_seen result ≡ plain context.now addr }
     ensures refusal { IfErr result (λ e. e ≡ Error.InvalidData) }
     ensures starts { IfOk result (λ found. StartsBefore addr (found_of found)) }
     ensures lent { IfOk result (λ found. IfOk found IsLentResolved) }

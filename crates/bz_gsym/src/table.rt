@@ -4,7 +4,7 @@ ghost use Rattle.std.specs.Prelude.{◌≡◌, IfOk, IfErr};
 ghost use Rattle.bz_base.specs.Refusals.{MayRefuse};
 ghost use Rattle.bz_base.specs.Resolution.{MayGive, StartsBefore, found_of};
 ghost use Rattle.bz_base.specs.declared.error.Error.{Error};
-ghost use Rattle.bz_gsym.specs.Answer.{answer_at};
+ghost use Rattle.bz_gsym.specs.Plain.{plain};
 ghost use Rattle.bz_gsym.specs.Seen.{answer_seen};
 ghost use Rattle.bz_gsym.specs.Tables.{IsGsym};
 ghost use Rattle.bz_gsym.specs.Version.{format_test, format_refusals};
@@ -72,7 +72,7 @@ impl Version for GsymTable {
 }
 
 impl Symbolize for GsymTable {
-    ghost may_find = { λ table opts addr answer. answer ≡ answer_at table addr };
+    ghost may_find = { λ table opts addr answer. answer ≡ plain table addr };
 
     fn find_sym(
         &self,
@@ -80,10 +80,10 @@ impl Symbolize for GsymTable {
         addr: Addr,
         _opts: &FindSymOpts,
     ) -> Result<std::result::Result<ResolvedSym<'_>, Reason>>
-        ensures answer { MayGive found_of (λ answer. answer ≡ answer_at self.now addr) result }
+        ensures answer { MayGive found_of (λ answer. answer ≡ plain self.now addr) result }
         ensures starts { IfOk result (λ found. StartsBefore addr (found_of found)) }
         ensures refusal { IfErr result MayRefuse }
-        ensures exact { answer_seen result ≡ answer_at self.now addr }
+        ensures exact { answer_seen result ≡ plain self.now addr }
     {
         symbol_at(&self.context(), alloc, addr)
     }

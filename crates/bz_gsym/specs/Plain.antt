@@ -1,4 +1,4 @@
--- What a GSYM file answers at an address, by name, start and size.
+-- The plain answer of a GSYM file at an address: name, start and size of the symbol there.
 use Rattle.std.specs.Prelude.{ℕ, ◌+◌, ◌-◌, ◌==◌, ◌||◌, nat_lt, Bool, if◌then◌else◌, List, [], Option, Some, None, option_map, Result, Ok, Err}
 use Rattle.std.specs.List.{zip}
 use Rattle.bz_base.specs.Answer.{Resolved}
@@ -63,5 +63,5 @@ tried bytes addr None = Ok (Err reasons.UnknownAddr)
 tried bytes addr (Some symbol) = answer_of bytes addr symbol.0 (info_at bytes symbol.1)
 
 -- the symbol at an address, or why there is none; or a refusal, where the symbol's data or name isn't in the format
-abbrev pub answer_at : List ℕ → ℕ → Result (Result Resolved Reason) Error
-answer_at bytes addr = tried bytes addr (nearest_symbol bytes addr)
+abbrev pub plain : List ℕ → ℕ → Result (Result Resolved Reason) Error
+plain bytes addr = tried bytes addr (nearest_symbol bytes addr)
