@@ -21,7 +21,7 @@ pub enum ErrorKind {
     PermissionDenied,
     /// Text outside its format.
     InvalidInput,
-    /// Binary tables outside their format. No format here gives it yet.
+    /// Binary tables outside their format.
     InvalidData,
     /// A table of mappings without an entry. It isn't given yet.
     UnexpectedEof,
@@ -44,7 +44,7 @@ pub enum Error {
     PermissionDenied,
     /// Text outside its format.
     InvalidInput,
-    /// Binary tables outside their format. No format here gives it yet.
+    /// Binary tables outside their format.
     InvalidData,
     /// A table of mappings without an entry. It isn't given yet.
     UnexpectedEof,

@@ -52,7 +52,7 @@ impl<'a> GsymContext<'a> {
         alloc: Global,
         addr: Addr,
     ) -> Result<std::result::Result<ResolvedSym<'a>, Reason>>
-        ensures answer { answer_seen result ≡ answer_at self.now addr }
+        ensures answer { answer_seen result ≡ plain self.now addr }
         ensures starts { IfOk result (λ found. StartsBefore addr (found_of found)) }
         ensures lent { IfOk result (λ found. IfOk found IsLentResolved) }
         ensures refusal { IfErr result (λ e. e ≡ Error.InvalidData) }

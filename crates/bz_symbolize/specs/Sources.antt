@@ -13,7 +13,7 @@ use Rattle.bz_breakpad.specs.Version.{format_test}
 use Rattle.bz_base.specs.Answer.{Resolved}
 use Rattle.bz_base.specs.Resolution as resolution
 use Rattle.bz_base.specs.declared.types.Reason.{Reason}
-use Rattle.bz_gsym.specs.Answer as gsym
+use Rattle.bz_gsym.specs.Plain as gsym
 use Rattle.bz_gsym.specs.Version as gsym_version
 use Rattle.bz_symbolize.specs.FileCall.{Answering, Query, Question, by_version, query_asked}
 use Rattle.bz_symbolize.specs.State.{State}
@@ -48,7 +48,7 @@ as_answer addr (Err e) = Err e
 
 -- the answer of a GSYM file at an address, or its refusal. It has no places, so options change nothing.
 abbrev pub gsym_single : List ℕ → ℕ → Result Answer Error
-gsym_single bytes addr = as_answer addr (gsym.answer_at bytes addr)
+gsym_single bytes addr = as_answer addr (gsym.plain bytes addr)
 
 abbrev pub gsym_answering : Answering
 gsym_answering = record { takes = is_in_table; serves = is_in_table; single = λ opts path bytes kind addr. gsym_single bytes addr }
