@@ -1,12 +1,12 @@
 -- What sharing the version of a look leaves.
-use Rattle.std.proofs.Common.{◌≡◌, ℕ, List, [], Option, Some, None, option_and_then, IsSome, Result, Ok, Err, IfOk, IsOkUnless, inr, ap, ◌∙◌, subst}
+use Rattle.std.proofs.Common.{◌≡◌, ℕ, List, [], Option, option_and_then, IsSome, Result, Ok, Err, IfOk, IsOkUnless, inr, ap, ◌∙◌, subst}
 use Rattle.std.specs.FinMap as map
 use Rattle.bz_base.specs.declared.error.Error.{Error}
 use Rattle.bz_base.specs.declared.error.Error.TheVariants as errors
 use Rattle.bz_files.specs.declared.stamp.Stamp.{Stamp}
 use Rattle.bz_files.specs.World.{World}
 use Rattle.bz_cache.specs.Cache.{Cache}
-use Rattle.bz_cache.specs.Look.{Lends, Shares, Unanswered, look}
+use Rattle.bz_cache.specs.Look.{Lends, Shares, look}
 use Rattle.bz_cache.specs.Steps.{LeavesCache}
 use Rattle.bz_cache.specs.View.{bytes_at, fixed}
 use Rattle.bz_cache.proofs.Looking.{current_kept}

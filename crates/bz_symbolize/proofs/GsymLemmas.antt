@@ -5,13 +5,13 @@ use Rattle.bz_base.specs.Refusals.{MayRefuse}
 use Rattle.bz_base.specs.declared.error.Error.{Error}
 use Rattle.bz_base.specs.declared.error.Error.TheVariants as errors
 use Rattle.bz_base.specs.declared.types.FindSymOpts.{FindSymOpts}
-use Rattle.bz_files.specs.Looked.{Faulted, Looked}
+use Rattle.bz_files.specs.Looked.{Faulted}
 use Rattle.bz_files.specs.declared.files.Files.{Ghosts}
 use Rattle.bz_gsym.specs.Tables.{IsGsym}
 use Rattle.bz_gsym.proofs.FormatLemmas.{in_format, not_in_format}
 use Rattle.bz_symbolize.specs.FileCall.{Query}
 use Rattle.bz_symbolize.specs.Promise.{AsksSource}
-use Rattle.bz_symbolize.specs.Sources.{HandedSource, SourceForm, Handed, OnFileForm, form_of, gsym_handed, gsym_single, handed_answer, is_in_table}
+use Rattle.bz_symbolize.specs.Sources.{HandedSource, Handed, form_of, gsym_handed, gsym_single, handed_answer, is_in_table}
 use Rattle.bz_symbolize.specs.State.{State, WellKept}
 use Rattle.bz_symbolize.specs.declared.source.Source.{Source}
 

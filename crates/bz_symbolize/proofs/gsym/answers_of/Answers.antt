@@ -1,4 +1,4 @@
-use Rattle.std.proofs.Common.{ℕ, List, ◌∷◌, [], ◌++◌, map, take, arith, ap, ap₂, sym, ◌∙◌, rules}
+use Rattle.std.proofs.Common.{ℕ, List, ◌∷◌, [], ◌++◌, map, take, ap, ap₂, sym, ◌∙◌, rules}
 use Rattle.std.proofs.lemmas.List.{map-append, take_more}
 use Rattle.bz_base.specs.Answer.{Answer, in_batch, reading}
 use Rattle.bz_symbolize.specs.Sources.{gsym_single}

@@ -1,4 +1,4 @@
-use Rattle.std.proofs.Common.{refl, sym, map, Vec, Global, List, rules}
+use Rattle.std.proofs.Common.{refl, map, Vec, Global, List}
 use Rattle.std.proofs.lemmas.Result.{err_from_is_err_and}
 use Rattle.bz_base.specs.Answer.{Answer, reading}
 use Rattle.bz_base.specs.InputKind.{InTable}

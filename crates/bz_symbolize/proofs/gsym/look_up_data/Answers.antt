@@ -1,8 +1,7 @@
-use Rattle.std.proofs.Common.{refl, sym, ap, Ok, List, ◌∙◌, rules}
+use Rattle.std.proofs.Common.{refl, List}
 use Rattle.std.proofs.lemmas.Result.{err_from_is_err_and}
 use Rattle.bz_base.specs.Answer.{Answer}
 use Rattle.bz_base.specs.InputKind.{InTable}
-use Rattle.bz_symbolize.specs.Batch.{Batch}
 use Rattle.bz_symbolize.specs.FileCall.{batch_of}
 use Rattle.bz_symbolize.specs.declared.lookups.Lookups.{Lookups}
 use Rattle.bz_symbolize.proofs.GsymLemmas.{gives_refused, handed_given}

@@ -1,7 +1,5 @@
-use Rattle.std.proofs.Common.{◌≡◌, [], ℕ, List, Option, unwrap_or, ap, rules}
+use Rattle.std.proofs.Common.{[], rules}
 use Rattle.bz_files.specs.World.{in_view}
-use Rattle.bz_cache.specs.Steps.{LeavesCache}
-use Rattle.bz_cache.specs.Look.{look}
 use Rattle.bz_cache.proofs.Looking.{current_kept}
 use Rattle.bz_cache.proofs.Sharing.{lent_by_look, shares_lent}
 use Rattle.bz_cache.proofs.file_cache.FileCache.shared.Goals as goal
