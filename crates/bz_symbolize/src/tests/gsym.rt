@@ -26,12 +26,10 @@ const ADDRESSES: &[u64] = &[0x1004, 0xfff];
 
 /// Whether these are the answers to the addresses.
 fn are_right(answers: &[Symbolized<'_>]) -> bool {
-    match answers {
-        [symbol, Symbolized::Unknown(reason)] => {
-            is_named(symbol, "main") && *reason == Reason::UnknownAddr
-        }
-        _ => false,
+    if answers.len() != 2 {
+        return false;
     }
+    is_named(&answers[0], "main") && answers[1] == Symbolized::Unknown(Reason::UnknownAddr)
 }
 
 /// The refusal of a batch of virtual offsets on handed-in bytes, if it is refused.
