@@ -1,5 +1,6 @@
 pub mod Entries
 pub mod Header
+pub mod LineTable
 pub mod Number
 pub mod Plain
 pub mod Resolver

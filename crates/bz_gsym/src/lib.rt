@@ -2,6 +2,7 @@
 #![tactic(auto)]
 
 pub mod laws;
+mod linetab;
 mod parser;
 mod resolver;
 mod symbol;
@@ -10,6 +11,7 @@ mod table;
 mod tests;
 mod types;
 
+pub use linetab::{LineTableHeader, LineTableRow};
 pub use parser::{AddrDataIter, GsymContext, parse_address_data};
 pub use resolver::GsymResolver;
 pub use table::GsymTable;

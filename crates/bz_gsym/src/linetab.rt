@@ -1,0 +1,166 @@
+//! The line table of a symbol.
+
+ghost use Rattle.std.specs.Prelude.{◌≡◌, ◌<◌, ◌/◌, ◌%◌, ◌+ℤ◌, ◌≤◌, pos, drop, length, option_map, IfNone, IfSome};
+ghost use Rattle.bz_base.specs.Cursor.{with_rest};
+ghost use Rattle.bz_gsym.specs.LineTable.{first_state, header_at, line_in, low_half, operator_at, picked, special, states, wrapped};
+
+use bz_base::{Addr, Cursor};
+
+/// The operator that ends the table.
+const END_SEQUENCE: u8 = 0;
+
+/// The operator that sets the file. Its state is no row.
+const SET_FILE: u8 = 1;
+
+/// The operator that goes on to a further address. Its state is a row.
+const ADVANCE_PC: u8 = 2;
+
+/// The operator that goes on to another line. Its state is no row.
+const ADVANCE_LINE: u8 = 3;
+
+/// The first of the special operators, whose states are rows.
+const FIRST_SPECIAL: u8 = 4;
+
+/// The head of a line table.
+#[derive(Debug, Drop)]
+pub struct LineTableHeader {
+    /// The least line delta of a special operator.
+    pub min_delta: i64,
+    /// The greatest line delta of a special operator.
+    pub max_delta: i64,
+    /// The line before the first operator.
+    pub first_line: u32,
+}
+
+/// A state of a line table, which may be a row of it.
+#[derive(Clone, Copy, Debug)]
+pub struct LineTableRow {
+    /// The address, as the symbol's is.
+    pub addr: Addr,
+    /// The index of the source file in the file table.
+    pub file_idx: u32,
+    /// The line in that file.
+    pub file_line: u32,
+}
+
+/// What an operator came to.
+#[derive(Debug, Drop)]
+pub enum RunResult {
+    /// A state that is no row.
+    Ok,
+    /// A state that is a row.
+    NewRow,
+    /// The end of the table.
+    End,
+}
+
+impl LineTableHeader {
+    /// Reads the head of a line table. None: a number is missing.
+    pub fn parse(cursor: &mut Cursor<'_>) -> Option<LineTableHeader>
+        ensures reads { IfSome result (λ header. header_at cursor.old.left ≡ Some (header, cursor.new.left)) }
+        ensures none { IfNone result (header_at cursor.old.left ≡ None) }
+        ensures all { cursor.new.all ≡ cursor.old.all }
+    {
+        let min_delta = cursor.read_sleb()?;
+        let max_delta = cursor.read_sleb()?;
+        let first_line = cursor.read_uleb()?;
+        Some(LineTableHeader {
+            min_delta,
+            max_delta,
+            first_line: low_half(first_line),
+        })
+    }
+}
+
+impl LineTableRow {
+    /// The state before the first operator in the line table of a symbol.
+    pub fn from_header(header: &LineTableHeader, symaddr: Addr) -> LineTableRow
+        ensures { result ≡ first_state header.now symaddr }
+    {
+        LineTableRow {
+            addr: symaddr,
+            file_idx: 1,
+            file_line: header.first_line,
+        }
+    }
+}
+
+/// Runs the operator in front of `ops`: the row takes the operator's state, and the cursor goes past
+/// it. None: no operator is left, its operand is missing, or the range of a special one is below one;
+/// then the row is unchanged, and the cursor stands after the operator's byte, if there was one.
+pub fn run_op(
+    row: &mut LineTableRow,
+    header: &LineTableHeader,
+    ops: &mut Cursor<'_>,
+) -> Option<RunResult>
+    ensures runs { with_rest (option_map (λ came. (came, row.new)) result) ops.new.left ≡ operator_at header.now row.old ops.old.left }
+    ensures none { IfNone result (row.new ≡ row.old) }
+    ensures stands { IfNone result (ops.new.left ≡ drop 1 ops.old.left) }
+    ensures all { ops.new.all ≡ ops.old.all }
+    ensures shorter { IfSome result (λ came. length ops.new.left < length ops.old.left) }
+{
+    match ops.read_u8()? {
+        END_SEQUENCE => Some(RunResult::End),
+        SET_FILE => {
+            row.file_idx = low_half(ops.read_uleb()?);
+            Some(RunResult::Ok)
+        }
+        ADVANCE_PC => {
+            row.addr = row.addr.wrapping_add(ops.read_uleb()?);
+            Some(RunResult::NewRow)
+        }
+        ADVANCE_LINE => {
+            row.file_line = low_sum(row.file_line, ops.read_sleb()?);
+            Some(RunResult::Ok)
+        }
+        operator => {
+            *row = special(*row, header, operator - FIRST_SPECIAL)?;
+            Some(RunResult::NewRow)
+        }
+    }
+}
+
+/// The state of the special operator that lies so far past the first one. None: the range of line
+/// deltas is below one.
+fn special(row: LineTableRow, header: &LineTableHeader, past: u8) -> Option<LineTableRow>
+    ensures { result ≡ special header.now row past }
+{
+    if header.max_delta < header.min_delta {
+        return None;
+    }
+    let (addr_delta, line_delta) = deltas(past, header.max_delta.abs_diff(header.min_delta));
+    Some(LineTableRow {
+        addr: row.addr.wrapping_add(u64::from(addr_delta)),
+        file_idx: row.file_idx,
+        file_line: low_sum(row.file_line, header.min_delta + i64::from(line_delta)),
+    })
+}
+
+/// The number in front of a special operator as address delta and line delta, where one line delta
+/// more than `above` goes with each address delta.
+fn deltas(past: u8, above: u64) -> (u8, u8)
+    ensures addr { result.0 ≡ past / (above + 1) }
+    ensures line { result.1 ≡ past % (above + 1) }
+    ensures within { result.1 ≤ above }
+{
+    if u64::from(past) <= above {
+        return (0, past);
+    }
+    let range = above as u8 + 1;
+    (past / range, past % range)
+}
+
+/// The low 32 bits of a number.
+fn low_half(number: u64) -> u32
+    ensures { result ≡ low_half (pos number) }
+{
+    (number % 4294967296) as u32
+}
+
+/// The low 32 bits of a line and a delta together.
+fn low_sum(line: u32, delta: i64) -> u32
+    ensures { result ≡ low_half (pos line +ℤ delta) }
+{
+    let delta = delta.rem_euclid(4294967296) as u32;
+    line.wrapping_add(delta)
+}
