@@ -2,6 +2,8 @@ pub mod EntryLaws
 pub mod EntryLemmas
 pub mod FileLemmas
 pub mod FormatLemmas
+pub mod LineTableLaws
+pub mod LineTableLemmas
 pub mod NumberLemmas
 pub mod StartLemmas
 pub mod SymbolLemmas

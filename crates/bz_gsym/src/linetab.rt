@@ -1,8 +1,8 @@
 //! The line table of a symbol.
 
-ghost use Rattle.std.specs.Prelude.{◌≡◌, ◌<◌, ◌/◌, ◌%◌, ◌+ℤ◌, ◌≤◌, pos, drop, length, option_map, IfNone, IfSome};
+ghost use Rattle.std.specs.Prelude.{◌≡◌, ◌+◌, ◌<◌, ◌/◌, ◌%◌, ◌+ℤ◌, ◌≤◌, pos, drop, length, option_map, IfNone, IfSome};
 ghost use Rattle.bz_base.specs.Cursor.{with_rest};
-ghost use Rattle.bz_gsym.specs.LineTable.{first_state, header_at, line_in, low_half, operator_at, picked, special, states, wrapped};
+ghost use Rattle.bz_gsym.specs.LineTable.{first_state, header_at, line_in, low_half, operated, operator_at, picked, special, states, wrapped};
 
 use bz_base::{Addr, Cursor};
 
@@ -88,6 +88,7 @@ impl LineTableRow {
 /// Runs the operator in front of `ops`: the row takes the operator's state, and the cursor goes past
 /// it. None: no operator is left, its operand is missing, or the range of a special one is below one;
 /// then the row is unchanged, and the cursor stands after the operator's byte, if there was one.
+#[tactic(auto, unfolding(crate::specs::LineTable::operator_at))]
 pub fn run_op(
     row: &mut LineTableRow,
     header: &LineTableHeader,
@@ -99,23 +100,42 @@ pub fn run_op(
     ensures all { ops.new.all ≡ ops.old.all }
     ensures shorter { IfSome result (λ came. length ops.new.left < length ops.old.left) }
 {
-    match ops.read_u8()? {
-        END_SEQUENCE => Some(RunResult::End),
+    let operator = ops.read_u8()?;
+    let (came, state) = operated(*row, header, operator, ops)?;
+    *row = state;
+    Some(came)
+}
+
+/// What an operator does to a row, with its operand read.
+#[inline(always)]
+fn operated(
+    row: LineTableRow,
+    header: &LineTableHeader,
+    operator: u8,
+    ops: &mut Cursor<'_>,
+) -> Option<(RunResult, LineTableRow)>
+    ensures does { with_rest result ops.new.left ≡ operated header.now row operator ops.old.left }
+    ensures none { IfNone result (ops.new ≡ ops.old) }
+    ensures all { ops.new.all ≡ ops.old.all }
+    ensures within { IfSome result (λ came. length ops.new.left ≤ length ops.old.left) }
+{
+    match operator {
+        END_SEQUENCE => Some((RunResult::End, row)),
         SET_FILE => {
-            row.file_idx = low_half(ops.read_uleb()?);
-            Some(RunResult::Ok)
+            let file_idx = low_half(ops.read_uleb()?);
+            Some((RunResult::Ok, LineTableRow { file_idx, ..row }))
         }
         ADVANCE_PC => {
-            row.addr = row.addr.wrapping_add(ops.read_uleb()?);
-            Some(RunResult::NewRow)
+            let addr = row.addr.wrapping_add(ops.read_uleb()?);
+            Some((RunResult::NewRow, LineTableRow { addr, ..row }))
         }
         ADVANCE_LINE => {
-            row.file_line = low_sum(row.file_line, ops.read_sleb()?);
-            Some(RunResult::Ok)
+            let file_line = low_sum(row.file_line, ops.read_sleb()?);
+            Some((RunResult::Ok, LineTableRow { file_line, ..row }))
         }
-        operator => {
-            *row = special(*row, header, operator - FIRST_SPECIAL)?;
-            Some(RunResult::NewRow)
+        _ => {
+            let state = special(row, header, operator - FIRST_SPECIAL)?;
+            Some((RunResult::NewRow, state))
         }
     }
 }
@@ -163,4 +183,41 @@ fn low_sum(line: u32, delta: i64) -> u32
 {
     let delta = delta.rem_euclid(4294967296) as u32;
     line.wrapping_add(delta)
+}
+
+/// The state that answers for an address, in the line table of the symbol that begins at `start`.
+/// None: the table's head isn't whole. None inside: no row answers for the address.
+pub(crate) fn line_in(bytes: &[u8], start: Addr, addr: Addr) -> Option<Option<LineTableRow>>
+    ensures { result ≡ line_in start addr bytes.now }
+{
+    let mut ops = Cursor::new(bytes);
+    let header = LineTableHeader::parse(&mut ops)?;
+    let first = LineTableRow::from_header(&header, start);
+    Some(picked(&header, first, &mut ops, addr))
+}
+
+/// The state that answers for an address. No operator is run past the first row above it.
+fn picked(
+    header: &LineTableHeader,
+    first: LineTableRow,
+    ops: &mut Cursor<'_>,
+    addr: Addr,
+) -> Option<LineTableRow>
+    ensures { result ≡ picked addr (states header.now first ops.old.left) }
+{
+    let mut row = first;
+    let mut last = None;
+    while let Some(came) = run_op(&mut row, header, ops) {
+        match came {
+            RunResult::End => break,
+            RunResult::Ok => {}
+            RunResult::NewRow => {
+                if addr < row.addr {
+                    return last;
+                }
+                last = Some(row);
+            }
+        }
+    }
+    last.and(Some(row))
 }
