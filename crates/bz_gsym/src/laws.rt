@@ -1,10 +1,13 @@
 //! What holds of the definitions that the contracts cite.
 
-ghost use Rattle.std.specs.Prelude.{◌≡◌, ◌↔◌, true, ℕ, List, Some, slice_get};
+ghost use Rattle.std.specs.Prelude.{◌≡◌, ◌↔◌, true, ℕ, List, None, Some, slice_get};
 ghost use Rattle.bz_gsym.specs.Plain.{nearest_symbol};
 ghost use Rattle.bz_gsym.specs.Entries.{AreEntries, Entry, entries_in};
+ghost use Rattle.bz_gsym.specs.LineTable.{followed, operator_at, picked, sought, states};
 ghost use Rattle.bz_gsym.specs.Strings.{IsString, string_at};
 ghost use Rattle.bz_gsym.specs.Tables.{IsGsym, IsTried, data_places, is_gsym};
+ghost use Rattle.bz_gsym.specs.declared.linetab.LineTableHeader.{LineTableHeader};
+ghost use Rattle.bz_gsym.specs.declared.linetab.LineTableRow.{LineTableRow};
 
 /// The test of a GSYM file says what the relation says.
 pub fn files_are_exact()
@@ -26,4 +29,18 @@ pub fn strings_are_exact()
 pub fn the_symbol_that_is_found_answers()
     ensures { (bytes : List ℕ) (addr index at place : ℕ) → IsGsym bytes → IsTried bytes addr index at → slice_get (data_places bytes) index ≡ Some place →
         nearest_symbol bytes addr ≡ Some (at, place) }
+{}
+
+/// The states of a line table, over whatever bytes its operators are: that of the operator in front,
+/// and those that follow it.
+pub fn line_states_go_on()
+    ensures { (header : LineTableHeader) (row : LineTableRow) (operators : List ℕ) →
+        states header row operators ≡ followed (states header) (operator_at header row operators) }
+{}
+
+/// The state that is picked for an address from a line table's finished list is known at the first row
+/// above the address, over whatever bytes its operators are.
+pub fn lines_are_known_early()
+    ensures { (header : LineTableHeader) (row : LineTableRow) (operators : List ℕ) (addr : ℕ) →
+        sought addr None row (states header row operators) ≡ picked addr (states header row operators) }
 {}
