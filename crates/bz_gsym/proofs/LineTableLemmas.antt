@@ -1,10 +1,11 @@
 -- The operators of a line table, one after another, and the states that they come to.
 use Rattle.std.proofs.Common.{◌≡◌, ℕ, ℤ, zero, suc, ◌-◌, ◌<◌, ◌≤◌, Bool, true, false, cond, List, [], ◌∷◌, length, drop, Option, Some, None, IfNone, option_map, nat_lt, nat_eq, refl, sym, ap, ◌∙◌, arith}
-use Rattle.std.specs.Option.{option_and_then}
+use Rattle.std.specs.Option.{option_and, option_and_then}
+use Rattle.std.proofs.lemmas.Bool.{le-ltb, lt-ltb}
 use Rattle.std.proofs.lemmas.Option.{none-some, same_Some}
 use Rattle.bz_base.specs.Cursor.{Reading, byte_at, with_first, with_rest}
 use Rattle.bz_base.specs.Leb128.{leb_at, low_bits, signed, sleb_at, uleb_at, unsigned}
-use Rattle.bz_gsym.specs.LineTable.{State, followed, operated, operator_at, special, states, states_within, with_file, further, lines_on, advance_line, advance_pc, end_sequence, first_special, set_file}
+use Rattle.bz_gsym.specs.LineTable.{State, followed, operated, operator_at, sought, special, states, states_within, with_file, further, lines_on, advance_line, advance_pc, end_sequence, first_special, set_file}
 use Rattle.bz_gsym.specs.declared.linetab.LineTableHeader.{LineTableHeader}
 use Rattle.bz_gsym.specs.declared.linetab.LineTableRow.{LineTableRow}
 use Rattle.bz_gsym.specs.declared.linetab.RunResult.{RunResult}
@@ -137,3 +138,55 @@ module _ (header : LineTableHeader) where
       enough (length bytes) (suc (length bytes)) row bytes (omega arith) (omega arith)
       ∙ followed_same (operator_at header row bytes) (states_within (length bytes) header) (λ row bytes. states_within (length bytes) header row bytes)
       (λ x is. let shorter = operator-shorter row bytes x is in enough (length bytes) (length x.1) x.0.1 x.1 (omega arith) (omega arith))
+
+  not_ended : {A : Type 0} (came : A → Came) (o : Option A) (next : LineTableRow) (rest : List ℕ) → ((y : A) → (came y).0.0 ≡ results.End → ⊥) →
+      option_map came o ≡ Some ((results.End, next), rest) → ⊥
+  not_ended came o next rest goes_on is =
+      let found = map_some came o ((results.End, next), rest) is in
+      goes_on found.0 (ap (λ (p : Came). p.0.0) found.2)
+
+  -- the operator that ends the table leaves the state
+  end_keeps : (row next : LineTableRow) (bytes rest : List ℕ) → operator_at header row bytes ≡ Some ((results.End, next), rest) → next ≡ row
+  unfolding operator_at byte_at
+  end_keeps row next [] rest is = absurd (none-some ((results.End, next), rest) is)
+  end_keeps row next (operator ∷ bytes) rest is =
+      let end : Came = ((results.End, next), rest) in
+      if_then (nat_eq operator end_sequence) _ _ end is
+      (λ is. sym (ap (λ (p : Came). p.0.1) (same_Some ((results.End, row), bytes) end is)))
+      (λ is. if_then (nat_eq operator set_file) _ _ end is
+      (λ is. absurd (not_ended (λ file. ((results.Ok, with_file row file.0), file.1)) (uleb_at bytes) next rest (λ y same. cc) is))
+      (λ is. if_then (nat_eq operator advance_pc) _ _ end is
+      (λ is. absurd (not_ended (λ delta. ((results.NewRow, further row delta.0), delta.1)) (uleb_at bytes) next rest (λ y same. cc) is))
+      (λ is. if_then (nat_eq operator advance_line) _ _ end is
+      (λ is. absurd (not_ended (λ delta. ((results.Ok, lines_on row delta.0), delta.1)) (sleb_at bytes) next rest (λ y same. cc) is))
+      (λ is. absurd (not_ended (λ state. ((results.NewRow, state), bytes)) (special header row (operator - first_special)) next rest (λ y same. cc) is)))))
+
+  -- What is found for an address goes on from operator to operator.
+  module _ (addr : ℕ) (last : Option LineTableRow) (now next : LineTableRow) (left rest : List ℕ) where
+    by_operator : (o : Option Came) → o ≡ operator_at header now left → sought addr last now (states header now left) ≡ sought addr last now (followed (states header) o)
+    by_operator o is = ap (sought addr last now) (states_go_on now left ∙ ap (followed (states header)) (sym is))
+
+    pub past_state : Some ((results.Ok, next), rest) ≡ operator_at header now left → sought addr last next (states header next rest) ≡ sought addr last now (states header now left)
+    past_state is = sym (by_operator (Some ((results.Ok, next), rest)) is)
+
+    -- a row that isn't above the address is the last one so far
+    pub past_row : Some ((results.NewRow, next), rest) ≡ operator_at header now left → next.addr ≤ addr →
+        sought addr (Some next) next (states header next rest) ≡ sought addr last now (states header now left)
+    past_row is below = sym (by_operator (Some ((results.NewRow, next), rest)) is ∙ rw (le-ltb addr next.addr below) refl)
+
+    -- one above it is where the last one so far is known to be the one
+    pub at_row : Some ((results.NewRow, next), rest) ≡ operator_at header now left → addr < next.addr → last ≡ sought addr last now (states header now left)
+    at_row is above = sym (by_operator (Some ((results.NewRow, next), rest)) is ∙ rw (lt-ltb addr next.addr above) refl)
+
+    -- at the end the state is the one, if there was a row
+    pub at_end : Some ((results.End, next), rest) ≡ operator_at header now left → option_and last (Some next) ≡ sought addr last now (states header now left)
+    at_end is = rw (end_keeps now next left rest (sym is)) (by_row last ∙ sym (by_operator (Some ((results.End, next), rest)) is)) where
+      by_row : (o : Option LineTableRow) → option_and o (Some now) ≡ option_map (λ row. now) o
+      by_row None = refl
+      by_row (Some row) = refl
+
+    pub at_none : None ≡ operator_at header now left → next ≡ now → option_and last (Some next) ≡ sought addr last now (states header now left)
+    at_none is same = rw same (by_row last ∙ sym (by_operator None is)) where
+      by_row : (o : Option LineTableRow) → option_and o (Some now) ≡ option_map (λ row. now) o
+      by_row None = refl
+      by_row (Some row) = refl
