@@ -2,6 +2,7 @@ pub mod Entries
 pub mod Header
 pub mod Number
 pub mod Plain
+pub mod Refusal
 pub mod Resolver
 pub mod Seen
 pub mod Strings
