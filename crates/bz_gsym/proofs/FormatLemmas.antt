@@ -4,7 +4,6 @@ use Rattle.std.specs.Prelude.{◌&&◌, ◌==◌, IfOk, IfErr}
 use Rattle.std.specs.List.{list_all, slice_index}
 use Rattle.std.proofs.lemmas.Bool.{and_from, and_parts, eq-eqb, eqb-true, false_from_ne_true, le-leb, leb-true}
 use Rattle.bz_base.specs.Starts.{NeverDescends}
-use Rattle.bz_base.specs.Refusals.{MayRefuse}
 use Rattle.bz_base.specs.declared.error.Error.{Error}
 use Rattle.bz_base.specs.declared.error.Error.TheVariants.{InvalidData}
 use Rattle.bz_cache.specs.Format.{FailsAs, IsRefusalBy}
@@ -99,8 +98,3 @@ module _ (bytes read : List ℕ) (stamp : Stamp) (there : Option Entry) (is : th
   opens_not e other =
       subst (FailsAs (opened there)) (sym other.0)
       (ap opened (is ∙ ap (λ (b : List ℕ). Some (Present stamp b)) (sym same)) ∙ rw (false_from_ne_true (is_gsym read) (λ good. other.1 (passed read good))) refl)
-
--- InvalidData is a refusal of a format
-pub may_refuse : {A : Type 0} (r : Result A Error) → IfErr r (λ e. e ≡ InvalidData) → IfErr r MayRefuse
-may_refuse (Ok x) is = tt
-may_refuse (Err e) is = subst MayRefuse (sym is) tt

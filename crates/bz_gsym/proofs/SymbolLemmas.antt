@@ -8,6 +8,7 @@ use Rattle.std.proofs.lemmas.Option.{slice_get_within, none-some, same_Some}
 use Rattle.bz_base.specs.Nearest.{IsTable}
 use Rattle.bz_base.specs.Starts.{IsFound, NeverDescends}
 use Rattle.bz_base.specs.declared.error.Error.TheVariants as errors
+use Rattle.bz_base.specs.declared.types.FindSymOpts.{FindSymOpts}
 use Rattle.bz_base.specs.declared.types.Reason.TheVariants as reasons
 use Rattle.bz_base.proofs.TableLemmas.{record_at, start_at, table_candidate}
 use Rattle.bz_gsym.specs.Plain.{plain, answer_of, based, named, nearest_start, nearest_symbol, reaches, symbols, tried}
@@ -73,8 +74,8 @@ module _ (bytes : List ℕ) (addr : ℕ) (formed : IsGsym bytes) where
       rw is (ap (option_map (based base)) (sym (tried_among bytes formed.ascend (addr - base) None (none from))))
 
   -- nothing is to be tried where nothing is found
-  pub none_tried : IsNearest bytes addr None → plain bytes addr ≡ Ok (Err reasons.UnknownAddr)
-  none_tried none = ap (tried bytes addr) (none_from (nat_lt addr base) refl none)
+  pub none_tried : (opts : FindSymOpts) → IsNearest bytes addr None → plain bytes opts addr ≡ Ok (Err reasons.UnknownAddr)
+  none_tried opts none = ap (tried bytes addr) (none_from (nat_lt addr base) refl none)
 
   module _ (index at : ℕ) (found : IsTried bytes addr index at) where
     symbol : (s : ℕ × ℕ) × (slice_get (symbols bytes) index ≡ Some s)
@@ -98,24 +99,24 @@ module _ (bytes : List ℕ) (addr : ℕ) (formed : IsGsym bytes) where
         is_tried ∙ ap (λ (p : ℕ). Some (at, p)) (same_Some symbol.0.1 place (sym (second (starts bytes) (data_places bytes) index symbol.0 symbol.1) ∙ there))
 
     -- the data of the index is that at its data place
-    by_info : (o : Option Info) → o ≡ option_and_then (info_at bytes) (slice_get (data_places bytes) index) → plain bytes addr ≡ answer_of bytes addr at o
-    by_info o given =
+    by_info : (opts : FindSymOpts) (o : Option Info) → o ≡ option_and_then (info_at bytes) (slice_get (data_places bytes) index) → plain bytes opts addr ≡ answer_of bytes addr at o
+    by_info opts o given =
         ap (tried bytes addr) is_tried
         ∙ ap (answer_of bytes addr at) (sym (given ∙ ap (option_and_then (info_at bytes)) (second (starts bytes) (data_places bytes) index symbol.0 symbol.1)))
 
     -- without data it is refused
-    pub no_data : None ≡ option_and_then (info_at bytes) (slice_get (data_places bytes) index) → Err errors.InvalidData ≡ plain bytes addr
-    no_data none = sym (by_info None none)
+    pub no_data : (opts : FindSymOpts) → None ≡ option_and_then (info_at bytes) (slice_get (data_places bytes) index) → Err errors.InvalidData ≡ plain bytes opts addr
+    no_data opts none = sym (by_info opts None none)
 
-    module _ (info : Info) (given : Some info ≡ option_and_then (info_at bytes) (slice_get (data_places bytes) index)) where
+    module _ (opts : FindSymOpts) (info : Info) (given : Some info ≡ option_and_then (info_at bytes) (slice_get (data_places bytes) index)) where
       -- a symbol that doesn't reach the address leaves it unknown
-      pub not_reached : reaches at info.size addr ≡ false → Ok (Err reasons.UnknownAddr) ≡ plain bytes addr
-      not_reached short = sym (by_info (Some info) given ∙ rw short refl)
+      pub not_reached : reaches at info.size addr ≡ false → Ok (Err reasons.UnknownAddr) ≡ plain bytes opts addr
+      not_reached short = sym (by_info opts (Some info) given ∙ rw short refl)
 
       -- one that does answers by its name
       pub reached : reaches at info.size addr ≡ true → (name : Option (List ℕ)) → name ≡ string_at (strings bytes) info.name →
-          named at info.size name ≡ plain bytes addr
-      reached far name same = sym (by_info (Some info) given ∙ rw far (ap (named at info.size) (sym same)))
+          named at info.size name ≡ plain bytes opts addr
+      reached far name same = sym (by_info opts (Some info) given ∙ rw far (ap (named at info.size) (sym same)))
 
     -- it starts at the address or before it
     pub starts_before : at ≤ addr

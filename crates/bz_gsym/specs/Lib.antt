@@ -3,6 +3,7 @@ pub mod Header
 pub mod LineTable
 pub mod Number
 pub mod Plain
+pub mod Refusal
 pub mod Resolver
 pub mod Seen
 pub mod Strings

@@ -6,6 +6,7 @@ use Rattle.bz_base.specs.Nearest.{candidate}
 use Rattle.bz_base.specs.Span.{inside}
 use Rattle.bz_base.specs.declared.error.Error.{Error}
 use Rattle.bz_base.specs.declared.error.Error.TheVariants as errors
+use Rattle.bz_base.specs.declared.types.FindSymOpts.{FindSymOpts}
 use Rattle.bz_base.specs.declared.types.Reason.{Reason}
 use Rattle.bz_base.specs.declared.types.Reason.TheVariants as reasons
 use Rattle.bz_base.specs.declared.types.SrcLang.TheVariants as languages
@@ -62,6 +63,7 @@ abbrev pub tried : List ℕ → ℕ → Option (ℕ × ℕ) → Result (Result R
 tried bytes addr None = Ok (Err reasons.UnknownAddr)
 tried bytes addr (Some symbol) = answer_of bytes addr symbol.0 (info_at bytes symbol.1)
 
--- the symbol at an address, or why there is none; or a refusal, where the symbol's data or name isn't in the format
-abbrev pub plain : List ℕ → ℕ → Result (Result Resolved Reason) Error
-plain bytes addr = tried bytes addr (nearest_symbol bytes addr)
+-- the symbol at an address, or why there is none; or a refusal, where the symbol's data or name isn't in the format. No places
+-- are read yet, so options change nothing.
+abbrev pub plain : List ℕ → FindSymOpts → ℕ → Result (Result Resolved Reason) Error
+plain bytes opts addr = tried bytes addr (nearest_symbol bytes addr)

@@ -1,15 +1,14 @@
 //! What answers addresses by a GSYM file.
 
 ghost use Rattle.std.specs.Prelude.{◌≡◌, Some, None, IfOk, IfErr, OnOk};
-ghost use Rattle.bz_base.specs.Refusals.{MayRefuse};
 ghost use Rattle.bz_base.specs.Resolution.{MayGive, StartsBefore, found_of};
 ghost use Rattle.bz_cache.specs.Format.{Comes, IsRefusalBy, MayFail};
 ghost use Rattle.bz_files.specs.Count.{counted};
 ghost use Rattle.bz_files.specs.Looked.{Faulted, Looked, ReadsOne};
 ghost use Rattle.bz_files.specs.World.{Told, entry_at, in_view};
 ghost use Rattle.bz_gsym.specs.Plain.{plain};
+ghost use Rattle.bz_gsym.specs.Refusal.{IsAnswerRefusal};
 ghost use Rattle.bz_gsym.specs.Resolver.{opened};
-ghost use Rattle.bz_gsym.specs.Seen.{answer_seen};
 ghost use Rattle.bz_gsym.specs.Tables.{IsGsym};
 ghost use Rattle.bz_gsym.specs.Version.{format_test};
 
@@ -69,7 +68,7 @@ impl GsymResolver {
 }
 
 impl Symbolize for GsymResolver {
-    ghost may_find = { λ resolver opts addr answer. answer ≡ plain resolver.bytes addr };
+    ghost may_find = { λ resolver opts addr answer. answer ≡ plain resolver.bytes opts addr };
 
     fn find_sym(
         &self,
@@ -77,10 +76,9 @@ impl Symbolize for GsymResolver {
         addr: Addr,
         opts: &FindSymOpts,
     ) -> Result<std::result::Result<ResolvedSym<'_>, Reason>>
-        ensures answer { MayGive found_of (λ answer. answer ≡ plain self.now.bytes addr) result }
+        ensures answer { MayGive found_of (λ answer. answer ≡ plain self.now.bytes opts.now addr) result }
         ensures starts { IfOk result (λ found. StartsBefore addr (found_of found)) }
-        ensures refusal { IfErr result MayRefuse }
-        ensures exact { answer_seen result ≡ plain self.now.bytes addr }
+        ensures refusal { IfErr result IsAnswerRefusal }
     {
         self.table.find_sym(alloc, addr, opts)
     }

@@ -2,23 +2,23 @@
 
 ghost use Rattle.std.specs.Prelude.{◌≡◌, IfOk, IfErr};
 ghost use Rattle.bz_base.specs.Lent.{IsLentResolved};
-ghost use Rattle.bz_base.specs.Resolution.{StartsBefore, found_of};
-ghost use Rattle.bz_base.specs.declared.error.Error.{Error};
+ghost use Rattle.bz_base.specs.Resolution.{MayGive, StartsBefore, found_of};
 ghost use Rattle.bz_gsym.specs.Plain.{plain, reaches};
-ghost use Rattle.bz_gsym.specs.Seen.{answer_seen};
+ghost use Rattle.bz_gsym.specs.Refusal.{IsAnswerRefusal};
 
 use crate::parser::GsymContext;
-use bz_base::{Addr, Error, Reason, ResolvedSym, Result, SrcLang, inside};
+use bz_base::{Addr, Error, FindSymOpts, Reason, ResolvedSym, Result, SrcLang, inside};
 use std::alloc::Global;
 
-/// The symbol at an address by name, start and size, or why there is none. It takes no memory.
+/// The symbol at an address as far as the options ask, or why there is none.
 pub(crate) fn symbol_at<'a>(
     context: &GsymContext<'a>,
     alloc: Global,
     addr: Addr,
+    opts: &FindSymOpts,
 ) -> Result<std::result::Result<ResolvedSym<'a>, Reason>>
-    ensures answer { answer_seen result ≡ plain context.now addr }
-    ensures refusal { IfErr result (λ e. e ≡ Error.InvalidData) }
+    ensures answer { MayGive found_of (λ answer. answer ≡ plain context.now opts.now addr) result }
+    ensures refusal { IfErr result IsAnswerRefusal }
     ensures starts { IfOk result (λ found. StartsBefore addr (found_of found)) }
     ensures lent { IfOk result (λ found. IfOk found IsLentResolved) }
 {
@@ -46,18 +46,20 @@ pub(crate) fn symbol_at<'a>(
 }
 
 impl<'a> GsymContext<'a> {
-    /// The symbol at an address by name, start and size, or why there is none. It takes no memory.
+    /// The symbol at an address as far as the options ask, or why there is none. InvalidData: what is
+    /// asked of it isn't in the format.
     pub fn find_sym(
         &self,
         alloc: Global,
         addr: Addr,
+        opts: &FindSymOpts,
     ) -> Result<std::result::Result<ResolvedSym<'a>, Reason>>
-        ensures answer { answer_seen result ≡ plain self.now addr }
+        ensures answer { MayGive found_of (λ answer. answer ≡ plain self.now opts.now addr) result }
         ensures starts { IfOk result (λ found. StartsBefore addr (found_of found)) }
         ensures lent { IfOk result (λ found. IfOk found IsLentResolved) }
-        ensures refusal { IfErr result (λ e. e ≡ Error.InvalidData) }
+        ensures refusal { IfErr result IsAnswerRefusal }
     {
-        symbol_at(self, alloc, addr)
+        symbol_at(self, alloc, addr, opts)
     }
 }
 

@@ -1,11 +1,10 @@
 //! A GSYM file that owns its bytes.
 
 ghost use Rattle.std.specs.Prelude.{◌≡◌, IfOk, IfErr};
-ghost use Rattle.bz_base.specs.Refusals.{MayRefuse};
 ghost use Rattle.bz_base.specs.Resolution.{MayGive, StartsBefore, found_of};
 ghost use Rattle.bz_base.specs.declared.error.Error.{Error};
 ghost use Rattle.bz_gsym.specs.Plain.{plain};
-ghost use Rattle.bz_gsym.specs.Seen.{answer_seen};
+ghost use Rattle.bz_gsym.specs.Refusal.{IsAnswerRefusal};
 ghost use Rattle.bz_gsym.specs.Tables.{IsGsym};
 ghost use Rattle.bz_gsym.specs.Version.{format_test, format_refusals};
 
@@ -72,19 +71,18 @@ impl Version for GsymTable {
 }
 
 impl Symbolize for GsymTable {
-    ghost may_find = { λ table opts addr answer. answer ≡ plain table addr };
+    ghost may_find = { λ table opts addr answer. answer ≡ plain table opts addr };
 
     fn find_sym(
         &self,
         alloc: Global,
         addr: Addr,
-        _opts: &FindSymOpts,
+        opts: &FindSymOpts,
     ) -> Result<std::result::Result<ResolvedSym<'_>, Reason>>
-        ensures answer { MayGive found_of (λ answer. answer ≡ plain self.now addr) result }
+        ensures answer { MayGive found_of (λ answer. answer ≡ plain self.now opts.now addr) result }
         ensures starts { IfOk result (λ found. StartsBefore addr (found_of found)) }
-        ensures refusal { IfErr result MayRefuse }
-        ensures exact { answer_seen result ≡ plain self.now addr }
+        ensures refusal { IfErr result IsAnswerRefusal }
     {
-        symbol_at(&self.context(), alloc, addr)
+        symbol_at(&self.context(), alloc, addr, opts)
     }
 }
