@@ -1,7 +1,14 @@
 pub mod Entries
 pub mod Header
+pub mod InlineRanges
+pub mod InlineReader
+pub mod InlineSeen
+pub mod InlineSpelling
+pub mod InlineTree
+pub mod InlineWalk
 pub mod Number
 pub mod Plain
+pub mod Refusal
 pub mod Resolver
 pub mod Seen
 pub mod Strings

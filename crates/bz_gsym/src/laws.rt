@@ -3,6 +3,9 @@
 ghost use Rattle.std.specs.Prelude.{◌≡◌, ◌↔◌, true, ℕ, List, Some, slice_get};
 ghost use Rattle.bz_gsym.specs.Plain.{nearest_symbol};
 ghost use Rattle.bz_gsym.specs.Entries.{AreEntries, Entry, entries_in};
+ghost use Rattle.bz_gsym.specs.InlineReader.{frames_at, tree_at};
+ghost use Rattle.bz_gsym.specs.InlineSpelling.{IsTree};
+ghost use Rattle.bz_gsym.specs.InlineTree.{Frame, Nodes, frames};
 ghost use Rattle.bz_gsym.specs.Strings.{IsString, string_at};
 ghost use Rattle.bz_gsym.specs.Tables.{IsGsym, IsTried, data_places, is_gsym};
 
@@ -26,4 +29,16 @@ pub fn strings_are_exact()
 pub fn the_symbol_that_is_found_answers()
     ensures { (bytes : List ℕ) (addr index at place : ℕ) → IsGsym bytes → IsTried bytes addr index at → slice_get (data_places bytes) index ≡ Some place →
         nearest_symbol bytes addr ≡ Some (at, place) }
+{}
+
+/// The inline tree that is read of bytes is the one that they begin with.
+pub fn trees_are_exact()
+    ensures { (bytes : List ℕ) (tree : Nodes) → (tree_at bytes ≡ Some tree) ↔ IsTree bytes tree }
+{}
+
+/// The frames of bytes are those of the one tree that they begin with.
+pub fn frames_are_the_trees()
+    ensures some { (addr base : ℕ) (bytes : List ℕ) (found : List Frame) → frames_at addr base bytes ≡ Some found →
+        (tree : Nodes) × IsTree bytes tree × (frames addr base tree ≡ Some found) }
+    ensures all { (addr base : ℕ) (bytes : List ℕ) (tree : Nodes) → IsTree bytes tree → frames_at addr base bytes ≡ frames addr base tree }
 {}
