@@ -1,5 +1,11 @@
 pub mod Entries
 pub mod Header
+pub mod InlineRanges
+pub mod InlineReader
+pub mod InlineSeen
+pub mod InlineSpelling
+pub mod InlineTree
+pub mod InlineWalk
 pub mod LineTable
 pub mod Number
 pub mod Plain

@@ -1,4 +1,5 @@
--- Which refusals an address may meet.
+-- Which refusals an address may meet, and when bytes of a GSYM file are refused.
+use Rattle.std.specs.Prelude.{◌≡◌, Option, None}
 use Rattle.bz_base.specs.declared.error.Error.{Error}
 use Rattle.bz_base.specs.declared.error.Error.TheVariants as errors
 
@@ -7,3 +8,9 @@ abbrev pub IsAnswerRefusal : Error → Type 0
 IsAnswerRefusal errors.InvalidData = Unit {0}
 IsAnswerRefusal errors.OutOfMemory = Unit {0}
 IsAnswerRefusal _ = ⊥
+
+-- InvalidData exactly where nothing is read of the bytes; want of memory may come anywhere, and nothing else comes
+abbrev pub Refuses : {A : Type 0} → Option A → Error → Type 0
+Refuses read errors.InvalidData = read ≡ None
+Refuses read errors.OutOfMemory = Unit {0}
+Refuses read _ = ⊥

@@ -1,6 +1,7 @@
-//! GSYM files: their head and tables, and the symbols that they name.
+//! GSYM files: their head and tables, the symbols that they name, and the calls that were inlined into these.
 #![tactic(auto)]
 
+mod inline;
 pub mod laws;
 mod linetab;
 mod parser;
@@ -11,11 +12,12 @@ mod table;
 mod tests;
 mod types;
 
-pub use linetab::{LineTableHeader, LineTableRow};
+pub use inline::InlineInfo;
+pub use linetab::{LineTableHeader, LineTableRow, RunResult, run_op};
 pub use parser::{AddrDataIter, GsymContext, parse_address_data};
 pub use resolver::GsymResolver;
 pub use table::GsymTable;
 pub use types::{
     AddrData, AddrInfo, FileInfo, GSYM_MAGIC, GSYM_VERSION, Header, INFO_TYPE_END_OF_LIST,
-    INFO_TYPE_INLINE_INFO, INFO_TYPE_LINE_TABLE_INFO,
+    INFO_TYPE_INLINE_INFO, INFO_TYPE_LINE_TABLE_INFO, InlineFrame,
 };

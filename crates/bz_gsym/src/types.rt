@@ -66,3 +66,14 @@ pub struct AddrData<'a> {
     /// The bytes of the entry.
     pub bytes: &'a [u8],
 }
+
+/// A function around an address: a node of an inline tree that has the address inside.
+#[derive(Clone, Copy, Debug, PartialEq, Eq)]
+pub struct InlineFrame {
+    /// The place of its name in the string table. It isn't 0.
+    pub name: u32,
+    /// The index of the file that it was called in.
+    pub call_file: u32,
+    /// The line that it was called at. One past 32 bits is 4294967295.
+    pub call_line: u32,
+}

@@ -1,0 +1,153 @@
+//! The walk over an inline tree.
+
+ghost use Rattle.std.specs.Prelude.{◌≡◌, ◌<◌, ◌++◌, [], Some, None, if◌then◌else◌, length, reverse, option_map, IfSome, IfNone, IfOk, IfErr, OnOk, IsOkUnless};
+ghost use Rattle.bz_base.specs.declared.error.Error.{Error};
+ghost use Rattle.bz_gsym.specs.InlineRanges.{read_at};
+ghost use Rattle.bz_gsym.specs.InlineReader.{frames_at};
+ghost use Rattle.bz_gsym.specs.InlineSeen.{visit_seen};
+ghost use Rattle.bz_gsym.specs.InlineTree.{frame_by, with_frame};
+ghost use Rattle.bz_gsym.specs.InlineWalk.{opened, passed_at, visit_at};
+ghost use Rattle.bz_gsym.specs.Refusal.{Refuses};
+ghost use Rattle.bz_gsym.specs.Seen.{frame_seen, frames_seen};
+ghost use Rattle.bz_gsym.specs.declared.inline.node.Level.TheVariants.{PassedOver, Read};
+
+mod node;
+mod reader;
+
+use crate::types::InlineFrame;
+use bz_base::{Addr, Cursor, Error, Result};
+use node::{Level, Span, Tail, Visit};
+use reader::{read_ranges, skip_ranges, tail};
+use std::alloc::Global;
+
+/// The reader of inline trees.
+pub struct InlineInfo;
+
+impl InlineInfo {
+    /// The frames at `lookup_addr` of the tree that the bytes of a data entry begin with: the nodes that have it inside, together
+    /// with all nodes around them, outermost first. The root's offsets count from `base_addr`, the symbol's address.
+    /// InvalidData: the tree isn't whole, or a node that is read has a range past 64 bits or a call file past 32 bits; the
+    /// nodes that are read are the root and the children of those that have the address inside.
+    pub fn parse_inline_stack(
+        alloc: Global,
+        bytes: &[u8],
+        base_addr: Addr,
+        lookup_addr: Addr,
+    ) -> Result<Vec<InlineFrame>>
+        ensures ok { IfOk result (λ frames. frames_at lookup_addr base_addr bytes.now ≡ Some (frames_seen frames.items)) }
+        ensures refusal { IfErr result (Refuses (frames_at lookup_addr base_addr bytes.now)) }
+    {
+        let mut cursor = Cursor::new(bytes);
+        let mut frames = Vec::new(alloc);
+        let Some(root) = visit(&mut cursor, Level::Read(base_addr), lookup_addr) else {
+            return Err(Error::InvalidData);
+        };
+        let mut nodes = Vec::new(alloc);
+        let Some(found) = root else {
+            return Ok(frames);
+        };
+        keep(&mut frames, &mut nodes, found)?;
+        while let Some(level) = nodes.pop() {
+            let Some(next) = visit(&mut cursor, level, lookup_addr) else {
+                return Err(Error::InvalidData);
+            };
+            let Some(found) = next else {
+                continue;
+            };
+            nodes.push(level)?;
+            keep(&mut frames, &mut nodes, found)?;
+        }
+        Ok(frames)
+    }
+}
+
+/// Keeps what a node gave.
+fn keep(frames: &mut Vec<InlineFrame>, nodes: &mut Vec<Level>, found: Visit) -> Result<()>
+    ensures frames { OnOk result (frames_seen frames.new.items ≡ frames_seen frames.old.items ++ with_frame (option_map frame_seen found.frame) []) }
+    ensures nodes { OnOk result (reverse nodes.new.items ≡ opened found.inside (reverse nodes.old.items)) }
+    ensures memory { IsOkUnless result Error.OutOfMemory }
+{
+    if let Some(frame) = found.frame {
+        frames.push(frame)?;
+    }
+    if let Some(inner) = found.inside {
+        nodes.push(inner)?;
+    }
+    Ok(())
+}
+
+/// What the next node gives, or None at the end of siblings.
+fn visit(cursor: &mut Cursor<'_>, level: Level, addr: u64) -> Option<Option<Visit>>
+    ensures some { IfSome result (λ found. visit_at addr level cursor.old.left ≡ Some (option_map visit_seen found, cursor.new.left)) }
+    ensures none { IfNone result (visit_at addr level cursor.old.left ≡ None) }
+{
+    let count = cursor.read_uleb()?;
+    if count == 0 {
+        return Some(None);
+    }
+    match level {
+        Level::PassedOver => Some(Some(pass_over(cursor, count)?)),
+        Level::Read(base) => Some(Some(read_node(cursor, count, base, addr)?)),
+    }
+}
+
+/// What a node that is passed over gives.
+#[tactic(auto, unfolding(crate::specs::InlineWalk::passed_at, crate::specs::InlineReader::filled_at))]
+fn pass_over(cursor: &mut Cursor<'_>, count: u64) -> Option<Visit>
+    ensures some { IfSome result (λ found. passed_at count cursor.old.left ≡ Some (visit_seen found, cursor.new.left)) }
+    ensures none { IfNone result (passed_at count cursor.old.left ≡ None) }
+{
+    skip_ranges(cursor, count)?;
+    let tail = tail(cursor)?;
+    Some(Visit {
+        frame: None,
+        inside: tail.has_children.then_some(Level::PassedOver),
+    })
+}
+
+/// What a node that is read gives.
+#[tactic(auto, unfolding(crate::specs::InlineRanges::read_at))]
+fn read_node(cursor: &mut Cursor<'_>, count: u64, base: u64, addr: u64) -> Option<Visit>
+    ensures some { IfSome result (λ found. read_at addr base count cursor.old.left ≡ Some (visit_seen found, cursor.new.left)) }
+    ensures none { IfNone result (read_at addr base count cursor.old.left ≡ None) }
+{
+    let span = read_ranges(cursor, count, base, addr)?;
+    let tail = tail(cursor)?;
+    if tail.call_file > 4294967295 {
+        return None;
+    }
+    Some(Visit {
+        frame: frame(&tail, span.covers),
+        inside: inside(&tail, &span),
+    })
+}
+
+/// A node's frame, where it matches and has a name.
+#[tactic(auto, unfolding(crate::specs::InlineTree::frame_by))]
+fn frame(tail: &Tail, matches: bool) -> Option<InlineFrame>
+    requires { tail.now.call_file < 4294967296 }
+    ensures { option_map frame_seen result ≡ (if matches then frame_by tail.now.name tail.now.call_file tail.now.call_line else None) }
+{
+    if !matches || tail.name == 0 {
+        return None;
+    }
+    Some(InlineFrame {
+        name: tail.name,
+        call_file: tail.call_file as u32,
+        call_line: tail.call_line.min(4294967295) as u32,
+    })
+}
+
+/// How the children of a node are taken, if it has some.
+fn inside(tail: &Tail, span: &Span) -> Option<Level>
+    ensures { result ≡ (if tail.now.has_children then Some (if span.now.covers then Read span.now.start else PassedOver) else None) }
+{
+    if !tail.has_children {
+        return None;
+    }
+    if span.covers {
+        Some(Level::Read(span.start))
+    } else {
+        Some(Level::PassedOver)
+    }
+}
