@@ -16,9 +16,15 @@ info_at bytes place =
     then Some (record { size = number_at 4 bytes place; name = number_at 4 bytes (place + 4); rest = drop (place + 8) bytes })
     else None
 
--- the type that ends a list of data entries
+-- the type that ends a list of data entries, and those of line tables and of inline trees
 abbrev pub end_of_list : ℕ
 end_of_list = 0
+
+abbrev pub line_table : ℕ
+line_table = 1
+
+abbrev pub inline_tree : ℕ
+inline_tree = 2
 
 -- a data entry: its type and its bytes
 pub record Entry : Type 0 where

@@ -6,6 +6,7 @@ pub mod InlineSeen
 pub mod InlineSpelling
 pub mod InlineTree
 pub mod InlineWalk
+pub mod Joining
 pub mod LineTable
 pub mod Number
 pub mod Plain

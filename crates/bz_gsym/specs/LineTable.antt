@@ -1,9 +1,10 @@
 -- The line table of a symbol: operators that carry a state from row to row (llvm::gsym::LineTable).
-use Rattle.std.specs.Prelude.{ℕ, zero, suc, ℤ, pos, ◌+◌, ◌-◌, ◌/◌, ◌%◌, ◌^◌, ◌+ℤ◌, ◌-ℤ◌, ◌==◌, nat_lt, int_lt, unsigned_abs, not, Bool, true, false, if◌then◌else◌, List, [], ◌∷◌, length, map, Option, Some, None, option_and_then, option_map}
+use Rattle.std.specs.Prelude.{ℕ, zero, suc, ℤ, pos, ◌+◌, ◌-◌, ◌/◌, ◌%◌, ◌^◌, ◌+ℤ◌, ◌-ℤ◌, ◌==◌, nat_lt, int_lt, unsigned_abs, not, Bool, true, false, if◌then◌else◌, List, [], ◌∷◌, length, map, Option, Some, None, option_map}
 use Rattle.std.specs.Int.{int_rem_euclid}
 use Rattle.std.specs.List.{before_first, filter, last_or, list_any}
 use Rattle.bz_base.specs.Cursor.{byte_at}
 use Rattle.bz_base.specs.Leb128.{sleb_at, uleb_at}
+use Rattle.bz_gsym.specs.InlineReader.{◌>>=◌}
 use Rattle.bz_gsym.specs.declared.linetab.LineTableHeader.{LineTableHeader}
 use Rattle.bz_gsym.specs.declared.linetab.LineTableRow.{LineTableRow}
 use Rattle.bz_gsym.specs.declared.linetab.RunResult.{RunResult}
@@ -20,11 +21,11 @@ wrapped addr = addr % 2 ^ 64
 -- the head of a table, and the bytes of the operators: least and greatest line delta, and the first line; none if a number is
 -- missing
 abbrev pub header_at : List ℕ → Option (LineTableHeader × List ℕ)
-header_at bytes =
-    option_and_then (λ least.
-    option_and_then (λ greatest.
-    option_map (λ line. (record { min_delta = least.0; max_delta = greatest.0; first_line = low_half (pos line.0) }, line.1)) (uleb_at greatest.1))
-    (sleb_at least.1)) (sleb_at bytes)
+header_at bytes = do
+  least ← sleb_at bytes
+  greatest ← sleb_at least.1
+  line ← uleb_at greatest.1
+  Some (record { min_delta = least.0; max_delta = greatest.0; first_line = low_half (pos line.0) }, line.1)
 
 -- the state before the first operator
 abbrev pub first_state : LineTableHeader → ℕ → LineTableRow
@@ -79,7 +80,7 @@ operated header row operator bytes =
 
 -- what the operator in front does; none where there is none
 unfoldable pub operator_at : LineTableHeader → LineTableRow → List ℕ → Option ((RunResult × LineTableRow) × List ℕ)
-operator_at header row bytes = option_and_then (λ operator. operated header row operator.0 operator.1) (byte_at bytes)
+operator_at header row bytes = byte_at bytes >>= (λ operator. operated header row operator.0 operator.1)
 
 -- a state, and whether it is a row of the table
 pub record State : Type 0 where

@@ -1,5 +1,5 @@
--- The plain answer of a GSYM file at an address: name, start and size of the symbol there.
-use Rattle.std.specs.Prelude.{ℕ, ◌+◌, ◌-◌, ◌==◌, ◌||◌, nat_lt, Bool, if◌then◌else◌, List, [], Option, Some, None, option_map, Result, Ok, Err}
+-- The plain answer of a GSYM file at an address: the symbol there, and where the address lies in the source code.
+use Rattle.std.specs.Prelude.{ℕ, ◌+◌, ◌-◌, ◌==◌, ◌||◌, nat_lt, Bool, if◌then◌else◌, List, Option, Some, None, option_map, Result, Ok, Err}
 use Rattle.std.specs.List.{zip}
 use Rattle.bz_base.specs.Answer.{Resolved}
 use Rattle.bz_base.specs.Nearest.{candidate}
@@ -10,8 +10,10 @@ use Rattle.bz_base.specs.declared.types.FindSymOpts.{FindSymOpts}
 use Rattle.bz_base.specs.declared.types.Reason.{Reason}
 use Rattle.bz_base.specs.declared.types.Reason.TheVariants as reasons
 use Rattle.bz_base.specs.declared.types.SrcLang.TheVariants as languages
-use Rattle.bz_gsym.specs.Entries.{Info, info_at}
+use Rattle.bz_gsym.specs.Entries.{Info, entries_in, info_at}
 use Rattle.bz_gsym.specs.Header.{header_of}
+use Rattle.bz_gsym.specs.InlineReader.{◌>>=◌}
+use Rattle.bz_gsym.specs.Joining.{Placed, placed_by, told_of}
 use Rattle.bz_gsym.specs.Strings.{string_at}
 use Rattle.bz_gsym.specs.Tables.{starts, data_places, strings}
 
@@ -39,31 +41,38 @@ nearest_symbol bytes addr =
 abbrev pub reaches : ℕ → ℕ → ℕ → Bool
 reaches start size addr = size == 0 || inside start size addr
 
--- a symbol with its name; without one it is refused
-abbrev pub named : ℕ → ℕ → Option (List ℕ) → Result (Result Resolved Reason) Error
-named start size None = Err errors.InvalidData
-named start size (Some name) = Ok (Ok (record {
-  name = name;
+-- a symbol at its place; without one it is refused
+abbrev pub symbol_at : ℕ → ℕ → Option Placed → Result (Result Resolved Reason) Error
+symbol_at start size None = Err errors.InvalidData
+symbol_at start size (Some placed) = Ok (Ok (record {
+  name = placed.name;
   «module» = None;
   addr = start;
   size = Some size;
   lang = languages.Unknown;
-  site = None;
-  calls = [];
+  site = placed.site;
+  calls = placed.calls;
 }))
 
+-- the name of a symbol's data, and what its entries say; each refuses the address if it isn't in the format
+abbrev pub placed_of : List ℕ → FindSymOpts → ℕ → ℕ → Info → Option Placed
+placed_of bytes opts addr start info = do
+  name ← string_at (strings bytes) info.name
+  told ← told_of opts start addr (entries_in info.rest)
+  placed_by bytes name told.row told.frames
+
 -- what a symbol with this start and data says of an address from the start on; without data it is refused
-abbrev pub answer_of : List ℕ → ℕ → ℕ → Option Info → Result (Result Resolved Reason) Error
-answer_of bytes addr start None = Err errors.InvalidData
-answer_of bytes addr start (Some info) =
-    if reaches start info.size addr then named start info.size (string_at (strings bytes) info.name) else Ok (Err reasons.UnknownAddr)
+abbrev pub answer_of : List ℕ → FindSymOpts → ℕ → ℕ → Option Info → Result (Result Resolved Reason) Error
+answer_of bytes opts addr start None = Err errors.InvalidData
+answer_of bytes opts addr start (Some info) =
+    if reaches start info.size addr then symbol_at start info.size (placed_of bytes opts addr start info) else Ok (Err reasons.UnknownAddr)
 
 -- what the symbol that is to be tried says, if there is one
-abbrev pub tried : List ℕ → ℕ → Option (ℕ × ℕ) → Result (Result Resolved Reason) Error
-tried bytes addr None = Ok (Err reasons.UnknownAddr)
-tried bytes addr (Some symbol) = answer_of bytes addr symbol.0 (info_at bytes symbol.1)
+abbrev pub tried : List ℕ → FindSymOpts → ℕ → Option (ℕ × ℕ) → Result (Result Resolved Reason) Error
+tried bytes opts addr None = Ok (Err reasons.UnknownAddr)
+tried bytes opts addr (Some symbol) = answer_of bytes opts addr symbol.0 (info_at bytes symbol.1)
 
--- the symbol at an address, or why there is none; or a refusal, where the symbol's data or name isn't in the format. No places
--- are read yet, so options change nothing.
+-- the symbol at an address as far as the options ask, or why there is none; or a refusal, where what is asked of it isn't in the
+-- format
 abbrev pub plain : List ℕ → FindSymOpts → ℕ → Result (Result Resolved Reason) Error
-plain bytes opts addr = tried bytes addr (nearest_symbol bytes addr)
+plain bytes opts addr = tried bytes opts addr (nearest_symbol bytes addr)

@@ -3,13 +3,10 @@
 ghost use Rattle.std.specs.Prelude.{◌≡◌, ◌↔◌, true, ℕ, List, None, Some, slice_get};
 ghost use Rattle.bz_gsym.specs.Plain.{nearest_symbol};
 ghost use Rattle.bz_gsym.specs.Entries.{AreEntries, Entry, entries_in};
-<<<<<<< HEAD
 ghost use Rattle.bz_gsym.specs.LineTable.{followed, operator_at, picked, sought, states};
-=======
 ghost use Rattle.bz_gsym.specs.InlineReader.{frames_at, tree_at};
 ghost use Rattle.bz_gsym.specs.InlineSpelling.{IsTree};
 ghost use Rattle.bz_gsym.specs.InlineTree.{Frame, Nodes, frames};
->>>>>>> ec102872a478613779935ba084911917510d1044
 ghost use Rattle.bz_gsym.specs.Strings.{IsString, string_at};
 ghost use Rattle.bz_gsym.specs.Tables.{IsGsym, IsTried, data_places, is_gsym};
 ghost use Rattle.bz_gsym.specs.declared.linetab.LineTableHeader.{LineTableHeader};
@@ -37,7 +34,6 @@ pub fn the_symbol_that_is_found_answers()
         nearest_symbol bytes addr ≡ Some (at, place) }
 {}
 
-<<<<<<< HEAD
 /// The states of a line table, over whatever bytes its operators are: that of the operator in front,
 /// and those that follow it.
 pub fn line_states_go_on()
@@ -50,7 +46,8 @@ pub fn line_states_go_on()
 pub fn lines_are_known_early()
     ensures { (header : LineTableHeader) (row : LineTableRow) (operators : List ℕ) (addr : ℕ) →
         sought addr None row (states header row operators) ≡ picked addr (states header row operators) }
-=======
+{}
+
 /// The inline tree that is read of bytes is the one that they begin with.
 pub fn trees_are_exact()
     ensures { (bytes : List ℕ) (tree : Nodes) → (tree_at bytes ≡ Some tree) ↔ IsTree bytes tree }
@@ -61,5 +58,4 @@ pub fn frames_are_the_trees()
     ensures some { (addr base : ℕ) (bytes : List ℕ) (found : List Frame) → frames_at addr base bytes ≡ Some found →
         (tree : Nodes) × IsTree bytes tree × (frames addr base tree ≡ Some found) }
     ensures all { (addr base : ℕ) (bytes : List ℕ) (tree : Nodes) → IsTree bytes tree → frames_at addr base bytes ≡ frames addr base tree }
->>>>>>> ec102872a478613779935ba084911917510d1044
 {}

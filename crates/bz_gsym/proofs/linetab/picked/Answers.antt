@@ -25,8 +25,8 @@ pub returns : goal.returns
 returns c =
     c.and.ensures
     ∙ elim c.match-run_op.branch [
-        in-Some+in-End w ↦ at_end c.args.header.now c.args.addr c.loop-came.last c.loop-came.row c.run_op.new.row c.loop-came.ops.left c.run_op.new.ops.left (rw w.in-End.is at w.in-Some.ensures.runs)
-        | in_default w ↦ at_none c.args.header.now c.args.addr c.loop-came.last c.loop-came.row c.run_op.new.row c.loop-came.ops.left c.run_op.new.ops.left w.in_default.ensures.runs w.in_default.ensures.none
-      ]
+      | in-Some+in-End w ↦ at_end c.args.header.now c.args.addr c.loop-came.last c.loop-came.row c.run_op.new.row c.loop-came.ops.left c.run_op.new.ops.left (rw w.in-End.is at w.in-Some.ensures.runs)
+      | in_default w ↦ at_none c.args.header.now c.args.addr c.loop-came.last c.loop-came.row c.run_op.new.row c.loop-came.ops.left c.run_op.new.ops.left w.in_default.ensures.runs w.in_default.ensures.none
+    ]
     ∙ c.loop-came.invariant
     ∙ picked_early c.args.addr c.args.first (states c.args.header.now c.args.first c.args.ops.now.left)

@@ -1,0 +1,90 @@
+-- What a symbol's data entries say of an address, and how a line table's state and the frames of an inline tree are joined to a
+-- name, a place in the source code and the calls that were inlined there.
+use Rattle.std.specs.Prelude.{ℕ, ◌==◌, ◌&&◌, Bool, false, is_none, if◌then◌else◌, List, [], ◌∷◌, length, Option, Some, None, option_map, slice_get}
+use Rattle.bz_base.specs.Answer.{Call, Site}
+use Rattle.bz_base.specs.declared.types.FindSymOpts.{FindSymOpts}
+use Rattle.bz_base.specs.declared.types.FindSymOpts.TheVariants as asked
+use Rattle.bz_gsym.specs.Entries.{Entry, inline_tree, line_table}
+use Rattle.bz_gsym.specs.InlineReader.{◌>>=◌, frames_at}
+use Rattle.bz_gsym.specs.InlineTree.{Frame}
+use Rattle.bz_gsym.specs.LineTable.{line_in}
+use Rattle.bz_gsym.specs.Strings.{string_at}
+use Rattle.bz_gsym.specs.Tables.{files, strings}
+use Rattle.bz_gsym.specs.declared.linetab.LineTableRow.{LineTableRow}
+
+-- what the data entries of a symbol say of an address: the state of a line table that answers for it, and the functions around it
+pub record Told : Type 0 where
+  pub row : Option LineTableRow
+  pub frames : List Frame
+
+-- before any entry is read
+abbrev pub nothing_told : Told
+nothing_told = record { row = None; frames = [] }
+
+-- an entry is read as a line table as long as none has given a row
+abbrev pub gives_row : Told → Entry → Bool
+gives_row told entry = is_none told.row && entry.typ == line_table
+
+-- and as an inline tree, where inlined calls are asked for, as long as there are no frames
+abbrev pub gives_frames : FindSymOpts → Told → Entry → Bool
+gives_frames asked.CodeInfoAndInlined told entry = length told.frames == 0 && entry.typ == inline_tree
+gives_frames _ told entry = false
+
+-- what is told with one entry more, of a symbol with this start; an entry of another type is passed over. None: an entry that is
+-- read isn't in the format
+abbrev pub told_with : FindSymOpts → ℕ → ℕ → Told → Entry → Option Told
+told_with opts start addr told entry =
+    if gives_row told entry then option_map (λ row. record { row = row; frames = told.frames }) (line_in start addr entry.text)
+    else (if gives_frames opts told entry then option_map (λ frames. record { row = told.row; frames = frames }) (frames_at addr start entry.text)
+    else Some told)
+
+-- and with these, in order
+abbrev pub told_after : FindSymOpts → ℕ → ℕ → Told → List Entry → Option Told
+told_after opts start addr told [] = Some told
+told_after opts start addr told (entry ∷ entries) = told_with opts start addr told entry >>= (λ more. told_after opts start addr more entries)
+
+-- what a symbol's entries say, as far as it is asked for
+abbrev pub told_of : FindSymOpts → ℕ → ℕ → List Entry → Option Told
+told_of asked.Basic start addr entries = Some nothing_told
+told_of opts start addr entries = told_after opts start addr nothing_told entries
+
+-- a line of the source file of an index, which has a directory even if that is empty; none if there is no such file, or a text of
+-- it isn't in the format
+abbrev pub site_in : List ℕ → ℕ → ℕ → Option Site
+site_in bytes index line = do
+  file ← slice_get (files bytes) index
+  dir ← string_at (strings bytes) file.directory
+  name ← string_at (strings bytes) file.filename
+  Some (record { dir = Some dir; file = name; line = Some line; column = None })
+
+-- code that lies at a place, inside calls, seen from outside a further call: it lies at that call, and inside the call at the
+-- place
+abbrev pub seen_outside : List ℕ → Frame → Site × List Call → Option (Site × List Call)
+seen_outside bytes frame inner = do
+  name ← string_at (strings bytes) frame.name
+  site ← site_in bytes frame.call_file frame.call_line
+  Some (site, record { name = name; site = Some inner.0 } ∷ inner.1)
+
+-- where the code of a line table's state lies, seen from outside the calls around it; none if something isn't in the format
+abbrev pub seen_from : List ℕ → LineTableRow → List Frame → Option (Site × List Call)
+seen_from bytes row [] = option_map (λ site. (site, [])) (site_in bytes row.file_idx row.file_line)
+seen_from bytes row (frame ∷ frames) = seen_from bytes row frames >>= seen_outside bytes frame
+
+-- the name that the symbol has at an address, and where that lies in the source code
+pub record Placed : Type 0 where
+  pub name : List ℕ
+  pub site : Option Site
+  pub calls : List Call
+
+abbrev pub at_site : List ℕ → Site × List Call → Placed
+at_site name seen = record { name = name; site = Some seen.0; calls = seen.1 }
+
+-- without a line table's state there is neither a place nor a call nor another name. With one, the first function around the
+-- address gives the symbol's name, and the further ones are the calls
+abbrev pub placed_by : List ℕ → List ℕ → Option LineTableRow → List Frame → Option Placed
+placed_by bytes name None frames = Some (record { name = name; site = None; calls = [] })
+placed_by bytes name (Some row) [] = option_map (at_site name) (seen_from bytes row [])
+placed_by bytes name (Some row) (first ∷ frames) = do
+  name ← string_at (strings bytes) first.name
+  seen ← seen_from bytes row frames
+  Some (at_site name seen)
