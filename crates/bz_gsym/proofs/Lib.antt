@@ -2,6 +2,7 @@ pub mod EntryLaws
 pub mod EntryLemmas
 pub mod FileLemmas
 pub mod FormatLemmas
+pub mod JoiningLemmas
 pub mod LineTableLaws
 pub mod LineTableLemmas
 pub mod NumberLemmas

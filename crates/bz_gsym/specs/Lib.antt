@@ -7,6 +7,7 @@ pub mod InlineSpelling
 pub mod InlineTree
 pub mod InlineWalk
 pub mod Joining
+pub mod JoiningSeen
 pub mod LineTable
 pub mod Number
 pub mod Plain

@@ -1,10 +1,12 @@
 //! GSYM files: their head and tables, the symbols that they name, and the calls that were inlined into these.
 #![tactic(auto)]
 
+mod entries;
 mod inline;
 pub mod laws;
 mod linetab;
 mod parser;
+mod places;
 mod resolver;
 mod symbol;
 mod table;

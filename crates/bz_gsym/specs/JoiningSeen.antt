@@ -1,0 +1,20 @@
+-- What is told of an address, and its place, as plain data.
+use Rattle.std.specs.Prelude.{map, option_map, IfSome}
+use Rattle.std.specs.List.{AllByRecursion}
+use Rattle.bz_base.specs.Answer.{call_of, site_of}
+use Rattle.bz_base.specs.Lent.{IsLentCall, IsLentPlace}
+use Rattle.bz_gsym.specs.Joining as joining
+use Rattle.bz_gsym.specs.Seen.{frames_seen}
+use Rattle.bz_gsym.specs.declared.entries.Told.{Told}
+use Rattle.bz_gsym.specs.declared.places.Placed.{Placed}
+
+abbrev pub told_seen : Told → joining.Told
+told_seen told = record { row = told.row; frames = frames_seen told.frames.items }
+
+abbrev pub placed_seen : Placed → joining.Placed
+placed_seen placed = record { name = placed.name.now; site = option_map site_of placed.code_info; calls = map call_of placed.inlined.items }
+
+-- none of its texts has memory of its own
+pub record IsLentPlaced (placed : Placed) : Type 0 where
+  pub site : IfSome placed.code_info IsLentPlace
+  pub calls : AllByRecursion IsLentCall placed.inlined.items

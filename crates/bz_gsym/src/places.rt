@@ -1,0 +1,151 @@
+//! Where an address lies in the source code: the line, and the calls that were inlined around it.
+
+ghost use Rattle.std.specs.Prelude.{◌≡◌, ◌∷◌, List, option_map, Some, IfOk, IfErr, IfSome};
+ghost use Rattle.bz_base.specs.Answer.{Call, call_of, site_of};
+ghost use Rattle.bz_base.specs.Lent.{IsLentCall, IsLentPlace};
+ghost use Rattle.bz_gsym.specs.Joining.{at_site, placed_by, seen_from, seen_outside, site_in};
+ghost use Rattle.bz_gsym.specs.JoiningSeen.{IsLentPlaced, placed_seen, told_seen};
+ghost use Rattle.bz_gsym.specs.Plain.{placed_of};
+ghost use Rattle.bz_gsym.specs.Refusal.{Refuses};
+ghost use Rattle.bz_gsym.specs.Seen.{frame_seen, frames_seen, info_seen};
+
+use crate::entries::{Told, told_of};
+use crate::linetab::LineTableRow;
+use crate::parser::GsymContext;
+use crate::types::{AddrInfo, InlineFrame};
+use bz_base::{Addr, CodeInfo, Error, FindSymOpts, InlinedFn, Result};
+use std::alloc::Global;
+use std::borrow::CowStr;
+
+/// The name that a symbol has at an address, and where that lies in the source code.
+#[derive(Drop)]
+pub(crate) struct Placed<'a> {
+    /// The name.
+    pub name: &'a str,
+    /// The place in the function of that name, if one is known.
+    pub code_info: Option<CodeInfo<'a>>,
+    /// The calls that were inlined there, the outermost first.
+    pub inlined: Vec<InlinedFn<'a>>,
+}
+
+/// The name and the place of an address in a symbol that begins at `start`, as far as they are asked
+/// for. InvalidData: the name, or what is asked for, isn't in the format.
+pub(crate) fn placed_of<'a>(
+    context: &GsymContext<'a>,
+    alloc: Global,
+    opts: &FindSymOpts,
+    addr: Addr,
+    start: Addr,
+    info: &AddrInfo<'a>,
+) -> Result<Placed<'a>>
+    ensures ok { IfOk result (λ placed. placed_of context.now opts.now addr start (info_seen info.now) ≡ Some (placed_seen placed)) }
+    ensures lent { IfOk result IsLentPlaced }
+    ensures refusal { IfErr result (Refuses (placed_of context.now opts.now addr start (info_seen info.now))) }
+{
+    let Some(name) = context.get_str(info.name as usize) else {
+        return Err(Error::InvalidData);
+    };
+    let told = told_of(alloc, opts, start, addr, info.bytes)?;
+    placed_by(context, alloc, name, &told)
+}
+
+/// The name and the place by what is told of the address. Without a line nothing is known beside the
+/// symbol's own name.
+fn placed_by<'a>(
+    context: &GsymContext<'a>,
+    alloc: Global,
+    name: &'a str,
+    told: &Told,
+) -> Result<Placed<'a>>
+    ensures ok { IfOk result (λ placed. placed_by context.now name.now (told_seen told.now).row (told_seen told.now).frames ≡ Some (placed_seen placed)) }
+    ensures lent { IfOk result IsLentPlaced }
+    ensures refusal { IfErr result (Refuses (placed_by context.now name.now (told_seen told.now).row (told_seen told.now).frames)) }
+{
+    let Some(row) = told.row else {
+        return Ok(Placed {
+            name,
+            code_info: None,
+            inlined: Vec::new(alloc),
+        });
+    };
+    let Some((first, calls)) = told.frames.split_first() else {
+        return seen_from(context, alloc, name, row, &[]);
+    };
+    let Some(name) = context.get_str(first.name as usize) else {
+        return Err(Error::InvalidData);
+    };
+    seen_from(context, alloc, name, row, calls)
+}
+
+/// The code of a line, seen from outside the calls around it.
+fn seen_from<'a>(
+    context: &GsymContext<'a>,
+    alloc: Global,
+    name: &'a str,
+    row: LineTableRow,
+    calls: &[InlineFrame],
+) -> Result<Placed<'a>>
+    ensures ok { IfOk result (λ placed. option_map (at_site name.now) (seen_from context.now row (frames_seen calls.now)) ≡ Some (placed_seen placed)) }
+    ensures lent { IfOk result IsLentPlaced }
+    ensures refusal { IfErr result (Refuses (seen_from context.now row (frames_seen calls.now))) }
+{
+    let Some(mut site) = site_in(context, row.file_idx, row.file_line) else {
+        return Err(Error::InvalidData);
+    };
+    let mut inlined = Vec::with_capacity(alloc, calls.len())?;
+    let mut left = calls.len();
+    while left > 0 {
+        left -= 1;
+        let Some((call, outer)) = seen_outside(context, &calls[left], site) else {
+            return Err(Error::InvalidData);
+        };
+        inlined.push(call)?;
+        site = outer;
+    }
+    // The innermost call came first.
+    inlined.reverse();
+    Ok(Placed {
+        name,
+        code_info: Some(site),
+        inlined,
+    })
+}
+
+/// Code at a place inside a call, seen from outside it: the call with the place, and where the call
+/// stands. None: a text isn't in the format, or there is no such file.
+fn seen_outside<'a>(
+    context: &GsymContext<'a>,
+    call: &InlineFrame,
+    inner: CodeInfo<'a>,
+) -> Option<(InlinedFn<'a>, CodeInfo<'a>)>
+    requires { IsLentPlace inner }
+    ensures seen { (calls : List Call) →
+        option_map (λ seen. (site_of seen.1, call_of seen.0 ∷ calls)) result ≡ seen_outside context.now (frame_seen call.now) (site_of inner.entry, calls) }
+    ensures lent_call { IfSome result (λ seen. IsLentCall seen.0) }
+    ensures lent_place { IfSome result (λ seen. IsLentPlace seen.1) }
+{
+    let name = context.get_str(call.name as usize)?;
+    let outer = site_in(context, call.call_file, call.call_line)?;
+    let call = InlinedFn {
+        name: CowStr::Borrowed(name),
+        code_info: Some(inner),
+    };
+    Some((call, outer))
+}
+
+/// A line of the source file of an index. None: there is no such file, or a text of it isn't in the
+/// format.
+fn site_in<'a>(context: &GsymContext<'a>, file: u32, line: u32) -> Option<CodeInfo<'a>>
+    ensures site { option_map site_of result ≡ site_in context.now file line }
+    ensures lent { IfSome result IsLentPlace }
+{
+    let file = context.file_info(file as usize)?;
+    let dir = context.get_str(file.directory as usize)?;
+    let name = context.get_str(file.filename as usize)?;
+    Some(CodeInfo {
+        dir: Some(CowStr::Borrowed(dir)),
+        file: CowStr::Borrowed(name),
+        line: Some(line),
+        column: None,
+    })
+}
