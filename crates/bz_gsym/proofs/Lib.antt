@@ -2,6 +2,13 @@ pub mod EntryLaws
 pub mod EntryLemmas
 pub mod FileLemmas
 pub mod FormatLemmas
+pub mod InlineHeadLemmas
+pub mod InlinePieceLemmas
+pub mod InlineRangeLemmas
+pub mod InlineReaderLemmas
+pub mod InlineSpellingLemmas
+pub mod InlineStepLemmas
+pub mod InlineWalkLemmas
 pub mod JoiningLemmas
 pub mod LineTableLaws
 pub mod LineTableLemmas

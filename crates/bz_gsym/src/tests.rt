@@ -2,6 +2,7 @@
 
 mod answers;
 mod heads;
+mod inlines;
 mod searches;
 
 use std::alloc::{AllocError, Global};
