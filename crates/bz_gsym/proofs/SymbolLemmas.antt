@@ -11,7 +11,8 @@ use Rattle.bz_base.specs.declared.error.Error.TheVariants as errors
 use Rattle.bz_base.specs.declared.types.FindSymOpts.{FindSymOpts}
 use Rattle.bz_base.specs.declared.types.Reason.TheVariants as reasons
 use Rattle.bz_base.proofs.TableLemmas.{record_at, start_at, table_candidate}
-use Rattle.bz_gsym.specs.Plain.{plain, answer_of, based, named, nearest_start, nearest_symbol, reaches, symbols, tried}
+use Rattle.bz_gsym.specs.Joining.{Placed}
+use Rattle.bz_gsym.specs.Plain.{plain, answer_of, based, placed_of, symbol_at, nearest_start, nearest_symbol, reaches, symbols, tried}
 use Rattle.bz_gsym.specs.Entries.{Info, info_at}
 use Rattle.bz_gsym.specs.Header.{header_of}
 use Rattle.bz_gsym.specs.Number.{number_at}
@@ -75,7 +76,7 @@ module _ (bytes : List ℕ) (addr : ℕ) (formed : IsGsym bytes) where
 
   -- nothing is to be tried where nothing is found
   pub none_tried : (opts : FindSymOpts) → IsNearest bytes addr None → plain bytes opts addr ≡ Ok (Err reasons.UnknownAddr)
-  none_tried opts none = ap (tried bytes addr) (none_from (nat_lt addr base) refl none)
+  none_tried opts none = ap (tried bytes opts addr) (none_from (nat_lt addr base) refl none)
 
   module _ (index at : ℕ) (found : IsTried bytes addr index at) where
     symbol : (s : ℕ × ℕ) × (slice_get (symbols bytes) index ≡ Some s)
@@ -99,10 +100,10 @@ module _ (bytes : List ℕ) (addr : ℕ) (formed : IsGsym bytes) where
         is_tried ∙ ap (λ (p : ℕ). Some (at, p)) (same_Some symbol.0.1 place (sym (second (starts bytes) (data_places bytes) index symbol.0 symbol.1) ∙ there))
 
     -- the data of the index is that at its data place
-    by_info : (opts : FindSymOpts) (o : Option Info) → o ≡ option_and_then (info_at bytes) (slice_get (data_places bytes) index) → plain bytes opts addr ≡ answer_of bytes addr at o
+    by_info : (opts : FindSymOpts) (o : Option Info) → o ≡ option_and_then (info_at bytes) (slice_get (data_places bytes) index) → plain bytes opts addr ≡ answer_of bytes opts addr at o
     by_info opts o given =
-        ap (tried bytes addr) is_tried
-        ∙ ap (answer_of bytes addr at) (sym (given ∙ ap (option_and_then (info_at bytes)) (second (starts bytes) (data_places bytes) index symbol.0 symbol.1)))
+        ap (tried bytes opts addr) is_tried
+        ∙ ap (answer_of bytes opts addr at) (sym (given ∙ ap (option_and_then (info_at bytes)) (second (starts bytes) (data_places bytes) index symbol.0 symbol.1)))
 
     -- without data it is refused
     pub no_data : (opts : FindSymOpts) → None ≡ option_and_then (info_at bytes) (slice_get (data_places bytes) index) → Err errors.InvalidData ≡ plain bytes opts addr
@@ -113,10 +114,14 @@ module _ (bytes : List ℕ) (addr : ℕ) (formed : IsGsym bytes) where
       pub not_reached : reaches at info.size addr ≡ false → Ok (Err reasons.UnknownAddr) ≡ plain bytes opts addr
       not_reached short = sym (by_info opts (Some info) given ∙ rw short refl)
 
-      -- one that does answers by its name
-      pub reached : reaches at info.size addr ≡ true → (name : Option (List ℕ)) → name ≡ string_at (strings bytes) info.name →
-          named at info.size name ≡ plain bytes opts addr
-      reached far name same = sym (by_info opts (Some info) given ∙ rw far (ap (named at info.size) (sym same)))
+      -- one that does answers by what its data say
+      pub reached : reaches at info.size addr ≡ true → (placed : Option Placed) → placed_of bytes opts addr at info ≡ placed →
+          symbol_at at info.size placed ≡ plain bytes opts addr
+      reached far placed is = sym (by_info opts (Some info) given ∙ rw far (ap (symbol_at at info.size) is))
+
+      -- and is refused as they are
+      pub refused : reaches at info.size addr ≡ true → (e : Error) → Refuses (placed_of bytes opts addr at info) e → NotMemory e → Err e ≡ plain bytes opts addr
+      refused far e is given = ?
 
     -- it starts at the address or before it
     pub starts_before : at ≤ addr

@@ -7,6 +7,7 @@ ghost use Rattle.bz_gsym.specs.Plain.{plain, reaches};
 ghost use Rattle.bz_gsym.specs.Refusal.{IsAnswerRefusal};
 
 use crate::parser::GsymContext;
+use crate::places::placed_of;
 use bz_base::{Addr, Error, FindSymOpts, Reason, ResolvedSym, Result, SrcLang, inside};
 use std::alloc::Global;
 
@@ -31,17 +32,15 @@ pub(crate) fn symbol_at<'a>(
     if !reaches(start, info.size, addr) {
         return Ok(Err(Reason::UnknownAddr));
     }
-    let Some(name) = context.get_str(info.name as usize) else {
-        return Err(Error::InvalidData);
-    };
+    let placed = placed_of(context, alloc, opts, addr, start, &info)?;
     Ok(Ok(ResolvedSym {
-        name,
+        name: placed.name,
         module: None,
         addr: start,
         size: Some(info.size as usize),
         lang: SrcLang::Unknown,
-        code_info: None,
-        inlined: Vec::new(alloc),
+        code_info: placed.code_info,
+        inlined: placed.inlined,
     }))
 }
 
