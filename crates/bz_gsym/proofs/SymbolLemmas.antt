@@ -6,7 +6,9 @@ use Rattle.std.proofs.lemmas.Bool.{le-ltb, ltb-false}
 use Rattle.std.proofs.lemmas.List.{length-map}
 use Rattle.std.proofs.lemmas.Option.{slice_get_within, none-some, same_Some}
 use Rattle.bz_base.specs.Nearest.{IsTable}
+use Rattle.bz_base.specs.Resolution.{MayGive, found_of}
 use Rattle.bz_base.specs.Starts.{IsFound, NeverDescends}
+use Rattle.bz_base.specs.declared.error.Error.{Error}
 use Rattle.bz_base.specs.declared.error.Error.TheVariants as errors
 use Rattle.bz_base.specs.declared.types.FindSymOpts.{FindSymOpts}
 use Rattle.bz_base.specs.declared.types.Reason.TheVariants as reasons
@@ -16,8 +18,8 @@ use Rattle.bz_gsym.specs.Plain.{plain, answer_of, based, placed_of, symbol_at, n
 use Rattle.bz_gsym.specs.Entries.{Info, info_at}
 use Rattle.bz_gsym.specs.Header.{header_of}
 use Rattle.bz_gsym.specs.Number.{number_at}
-use Rattle.bz_gsym.specs.Strings.{string_at}
-use Rattle.bz_gsym.specs.Tables.{IsGsym, IsNearest, IsTried, data_places, data_table, header_len, is_address_size, starts, strings}
+use Rattle.bz_gsym.specs.Refusal.{Refuses}
+use Rattle.bz_gsym.specs.Tables.{IsGsym, IsNearest, IsTried, data_places, data_table, header_len, is_address_size, starts}
 use Rattle.bz_gsym.proofs.TableLemmas.{length_table}
 
 -- of lists side by side the first, where the second is as long
@@ -119,9 +121,12 @@ module _ (bytes : List ℕ) (addr : ℕ) (formed : IsGsym bytes) where
           symbol_at at info.size placed ≡ plain bytes opts addr
       reached far placed is = sym (by_info opts (Some info) given ∙ rw far (ap (symbol_at at info.size) is))
 
-      -- and is refused as they are
-      pub refused : reaches at info.size addr ≡ true → (e : Error) → Refuses (placed_of bytes opts addr at info) e → NotMemory e → Err e ≡ plain bytes opts addr
-      refused far e is given = ?
+      -- and is refused where they are
+      pub refused : reaches at info.size addr ≡ true → (e : Error) → Refuses (placed_of bytes opts addr at info) e →
+          MayGive found_of (λ answer. answer ≡ plain bytes opts addr) (Err e)
+      refused far errors.InvalidData none = reached far None none
+      refused far errors.OutOfMemory none = tt
+      refused far _ none = absurd none
 
     -- it starts at the address or before it
     pub starts_before : at ≤ addr

@@ -1,6 +1,8 @@
-use Rattle.std.proofs.Common.{None, Some, sym, ◌∙◌}
+use Rattle.std.proofs.Common.{Some, sym, ◌∙◌}
+use Rattle.std.proofs.lemmas.Result.{err_from_is_err_and}
+use Rattle.bz_gsym.specs.JoiningSeen.{placed_seen}
 use Rattle.bz_gsym.specs.Seen.{info_seen}
-use Rattle.bz_gsym.proofs.SymbolLemmas.{no_data, none_tried, not_reached, reached}
+use Rattle.bz_gsym.proofs.SymbolLemmas.{no_data, none_tried, not_reached, reached, refused}
 use Rattle.bz_gsym.proofs.symbol.symbol_at.Goals as goal
 
 pub returns-in_default-clause-answer : goal.returns-in_default-clause-answer
@@ -15,14 +17,15 @@ returns-then-not-reaches-clause-answer c =
     not_reached c.args.context.now c.args.addr c.in-Some.ensures.formed c.in-Some.index c.in-Some.start c.in-Some.ensures.found c.args.opts.now
     (info_seen c.in-Some-addr_info.info) c.in-Some-addr_info.ensures (sym c.reaches.ensures ∙ c.if-not-reaches.true)
 
-pub returns-in_default-get_str-clause-answer : goal.returns-in_default-get_str-clause-answer
-returns-in_default-get_str-clause-answer c =
-    reached c.args.context.now c.args.addr c.in-Some.ensures.formed c.in-Some.index c.in-Some.start c.in-Some.ensures.found c.args.opts.now
-    (info_seen c.in-Some-addr_info.info) c.in-Some-addr_info.ensures (sym c.reaches.ensures ∙ c.if-not-reaches.false) None c.in_default-get_str.ensures
+pub returns-in_err-placed-clause-answer : goal.returns-in_err-placed-clause-answer
+returns-in_err-placed-clause-answer c =
+    let same = err_from_is_err_and c.from_residual.result c.from_residual.ensures.1 in
+    rw (same.1, same.2)
+    (refused c.args.context.now c.args.addr c.in-Some.ensures.formed c.in-Some.index c.in-Some.start c.in-Some.ensures.found c.args.opts.now
+    (info_seen c.in-Some-addr_info.info) c.in-Some-addr_info.ensures (sym c.reaches.ensures ∙ c.if-not-reaches.false) c.in_err-placed.field-0.0 c.in_err-placed.ensures.refusal)
 
 pub returns-clause-answer : goal.returns-clause-answer
 returns-clause-answer c =
-    rw c.new.ensures.items
-    (reached c.args.context.now c.args.addr c.in-Some.ensures.formed c.in-Some.index c.in-Some.start c.in-Some.ensures.found c.args.opts.now
+    reached c.args.context.now c.args.addr c.in-Some.ensures.formed c.in-Some.index c.in-Some.start c.in-Some.ensures.found c.args.opts.now
     (info_seen c.in-Some-addr_info.info) c.in-Some-addr_info.ensures (sym c.reaches.ensures ∙ c.if-not-reaches.false)
-    (Some c.in-Some-get_str.name.now) c.in-Some-get_str.ensures)
+    (Some (placed_seen c.in_ok-placed.placed)) c.in_ok-placed.ensures.ok
