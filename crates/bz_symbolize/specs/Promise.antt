@@ -39,14 +39,14 @@ pub record IsBreakpadAnswer {B : Type 0} (opts : FindSymOpts) (bytes : List ℕ)
   pub plain : query.given (plain table opts) ≡ answer
 
 -- the bytes are a GSYM file, and the answer, or the refusal, is what the query makes of its answers at each address alone
-pub record IsGsymAnswer {B : Type 0} (bytes : List ℕ) (query : Query B) (answer : Result B Error) : Type 0 where
+pub record IsGsymAnswer {B : Type 0} (opts : FindSymOpts) (bytes : List ℕ) (query : Query B) (answer : Result B Error) : Type 0 where
   pub accepted : IsGsym bytes
-  pub plain : query.given (gsym_single bytes) ≡ answer
+  pub plain : query.given (gsym_single opts bytes) ≡ answer
 
 -- the bytes are a version of the source, and it answers the query so, or refuses it, in the words of the source's format
 abbrev pub IsAnswerOf : {B : Type 0} → Source → FindSymOpts → List ℕ → Query B → Result B Error → Type 0
 IsAnswerOf (sources.Breakpad source) opts bytes query answer = IsBreakpadAnswer opts bytes query answer
-IsAnswerOf (sources.Gsym source) opts bytes query answer = IsGsymAnswer bytes query answer
+IsAnswerOf (sources.Gsym source) opts bytes query answer = IsGsymAnswer opts bytes query answer
 
 -- the bytes are a version of the source, in the words of the source's format
 abbrev pub IsVersionOf : Source → List ℕ → Type 0

@@ -46,12 +46,12 @@ abbrev pub as_answer : ℕ → Result (Result Resolved Reason) Error → Result 
 as_answer addr (Ok found) = Ok (resolution.answer_at addr found)
 as_answer addr (Err e) = Err e
 
--- the answer of a GSYM file at an address, or its refusal. It has no places, so options change nothing.
-abbrev pub gsym_single : List ℕ → ℕ → Result Answer Error
-gsym_single bytes addr = as_answer addr (gsym.plain bytes addr)
+-- the answer of a GSYM file at an address, or its refusal
+abbrev pub gsym_single : FindSymOpts → List ℕ → ℕ → Result Answer Error
+gsym_single opts bytes addr = as_answer addr (gsym.plain bytes opts addr)
 
 abbrev pub gsym_answering : Answering
-gsym_answering = record { takes = is_in_table; serves = is_in_table; single = λ opts path bytes kind addr. gsym_single bytes addr }
+gsym_answering = record { takes = is_in_table; serves = is_in_table; single = λ opts path bytes kind addr. gsym_single opts bytes addr }
 
 -- a source that is bytes handed in
 pub record HandedSource : Type 0 where
