@@ -20,7 +20,7 @@ use Rattle.bz_gsym.specs.Tables.{IsGsym}
 use Rattle.bz_symbolize.specs.FileCall.{CallsFile, Leaves, MayBeRefused, Query}
 use Rattle.bz_symbolize.specs.History.{MayLeave, Symbolize}
 use Rattle.bz_symbolize.specs.Lookup.{answer_of, state_of, opens_of, view_answer}
-use Rattle.bz_symbolize.specs.Sources.{FileSource, SourceForm, OnFile, OnHanded, asked_of, form_of, gsym_single, handed_answer}
+use Rattle.bz_symbolize.specs.Sources.{FileSource, SourceForm, OnFile, OnHanded, asked_of, form_of, gsym_batch, gsym_single, handed_answer}
 use Rattle.bz_symbolize.specs.State.{State, WellKept, opts_of}
 use Rattle.bz_symbolize.specs.declared.source.Source.{Source}
 use Rattle.bz_symbolize.specs.declared.source.Source.TheVariants as sources
@@ -37,6 +37,11 @@ pub record IsBreakpadAnswer {B : Type 0} (opts : FindSymOpts) (bytes : List ℕ)
   pub table : Table
   pub accepted : IsFile bytes table
   pub plain : query.given (plain table opts) ≡ answer
+
+-- the bytes are a GSYM file, and the answers are its plain ones, each at its own address, in order
+pub record IsGsymBatch (opts : FindSymOpts) (bytes addrs : List ℕ) (answers : List Answer) : Type 0 where
+  pub accepted : IsGsym bytes
+  pub plain : answers ≡ gsym_batch opts bytes addrs
 
 -- the bytes are a GSYM file, and the answer, or the refusal, is what the query makes of its answers at each address alone
 pub record IsGsymAnswer {B : Type 0} (opts : FindSymOpts) (bytes : List ℕ) (query : Query B) (answer : Result B Error) : Type 0 where
