@@ -2,15 +2,23 @@
 use Rattle.std.specs.Prelude.{◌≡◌, Option, None}
 use Rattle.bz_base.specs.declared.error.Error.{Error}
 use Rattle.bz_base.specs.declared.error.Error.TheVariants as errors
+use Rattle.bz_base.specs.declared.types.FindSymOpts.{FindSymOpts}
+use Rattle.bz_base.specs.declared.types.FindSymOpts.TheVariants as asked
 
--- an address is refused by these alone: what is asked of it isn't in the format, or memory ran out
-abbrev pub IsAnswerRefusal : Error → Type 0
-IsAnswerRefusal errors.InvalidData = Unit {0}
-IsAnswerRefusal errors.OutOfMemory = Unit {0}
-IsAnswerRefusal _ = ⊥
+-- an address is refused by these alone: what is asked of it isn't in the format; or memory ran out, and inlined calls alone
+-- take some
+abbrev pub IsAnswerRefusal : FindSymOpts → Error → Type 0
+IsAnswerRefusal opts errors.InvalidData = Unit {0}
+IsAnswerRefusal opts errors.OutOfMemory = opts ≡ asked.CodeInfoAndInlined
+IsAnswerRefusal opts _ = ⊥
 
 -- InvalidData exactly where nothing is read of the bytes; want of memory may come anywhere, and nothing else comes
 abbrev pub Refuses : {A : Type 0} → Option A → Error → Type 0
 Refuses read errors.InvalidData = read ≡ None
 Refuses read errors.OutOfMemory = Unit {0}
 Refuses read _ = ⊥
+
+-- memory runs out only where this holds
+abbrev pub WantsMemory : Type 0 → Error → Type 0
+WantsMemory needed errors.OutOfMemory = needed
+WantsMemory needed _ = Unit {0}

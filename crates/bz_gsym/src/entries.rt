@@ -1,10 +1,11 @@
 //! What a symbol's data entries say of an address.
 
-ghost use Rattle.std.specs.Prelude.{◌≡◌, Some, IfOk, IfErr, OnOk};
+ghost use Rattle.std.specs.Prelude.{◌≡◌, Some, IfOk, IfErr, IsTrue, OnOk};
+ghost use Rattle.bz_base.specs.declared.types.FindSymOpts.{FindSymOpts};
 ghost use Rattle.bz_gsym.specs.Entries.{entries_in};
 ghost use Rattle.bz_gsym.specs.Joining.{gives_frames, gives_row, told_of, told_with};
-ghost use Rattle.bz_gsym.specs.JoiningSeen.{told_seen};
-ghost use Rattle.bz_gsym.specs.Refusal.{Refuses};
+ghost use Rattle.bz_gsym.specs.JoiningSeen.{HasAskedFrames, told_seen};
+ghost use Rattle.bz_gsym.specs.Refusal.{Refuses, WantsMemory};
 ghost use Rattle.bz_gsym.specs.Seen.{entry_seen};
 
 use crate::inline::InlineInfo;
@@ -34,6 +35,8 @@ pub(crate) fn told_of(
 ) -> Result<Told>
     ensures ok { IfOk result (λ told. told_of opts.now start addr (entries_in bytes.now) ≡ Some (told_seen told)) }
     ensures refusal { IfErr result (Refuses (told_of opts.now start addr (entries_in bytes.now))) }
+    ensures memory { IfErr result (WantsMemory (opts.now ≡ FindSymOpts.CodeInfoAndInlined)) }
+    ensures asked { IfOk result (λ told. HasAskedFrames opts.now told.frames.items) }
 {
     let mut told = Told {
         row: None,
@@ -59,6 +62,8 @@ fn tell(
 ) -> Result<()>
     ensures ok { OnOk result (told_with opts.now start addr (told_seen told.old) (entry_seen entry.now) ≡ Some (told_seen told.new)) }
     ensures refusal { IfErr result (Refuses (told_with opts.now start addr (told_seen told.old) (entry_seen entry.now))) }
+    ensures memory { IfErr result (WantsMemory (opts.now ≡ FindSymOpts.CodeInfoAndInlined)) }
+    ensures asked { OnOk result (HasAskedFrames opts.now told.old.frames.items → HasAskedFrames opts.now told.new.frames.items) }
 {
     if gives_row(told, entry) {
         let Some(row) = line_in(entry.bytes, start, addr) else {
@@ -80,7 +85,8 @@ fn gives_row(told: &Told, entry: &AddrData<'_>) -> bool
 
 /// Whether an entry is read as an inline tree.
 fn gives_frames(opts: &FindSymOpts, told: &Told, entry: &AddrData<'_>) -> bool
-    ensures { result ≡ gives_frames opts.now (told_seen told.now) (entry_seen entry.now) }
+    ensures asked { IsTrue result → opts.now ≡ FindSymOpts.CodeInfoAndInlined }
+    ensures gives { result ≡ gives_frames opts.now (told_seen told.now) (entry_seen entry.now) }
 {
     matches!(opts, FindSymOpts::CodeInfoAndInlined)
         && told.frames.is_empty()

@@ -1,12 +1,13 @@
 //! Where an address lies in the source code: the line, and the calls that were inlined around it.
 
-ghost use Rattle.std.specs.Prelude.{◌≡◌, ◌∷◌, List, option_map, Some, IfOk, IfErr, IfSome};
+ghost use Rattle.std.specs.Prelude.{◌≡◌, ◌<◌, ◌∷◌, List, length, option_map, Some, IfOk, IfErr, IfSome};
 ghost use Rattle.bz_base.specs.Answer.{Call, call_of, site_of};
 ghost use Rattle.bz_base.specs.Lent.{IsLentCall, IsLentPlace};
+ghost use Rattle.bz_base.specs.declared.types.FindSymOpts.{FindSymOpts};
 ghost use Rattle.bz_gsym.specs.Joining.{at_site, placed_by, seen_from, seen_outside, site_in};
 ghost use Rattle.bz_gsym.specs.JoiningSeen.{IsLentPlaced, placed_seen, told_seen};
 ghost use Rattle.bz_gsym.specs.Plain.{placed_of};
-ghost use Rattle.bz_gsym.specs.Refusal.{Refuses};
+ghost use Rattle.bz_gsym.specs.Refusal.{Refuses, WantsMemory};
 ghost use Rattle.bz_gsym.specs.Seen.{frame_seen, frames_seen, info_seen};
 
 use crate::entries::{Told, told_of};
@@ -41,6 +42,7 @@ pub(crate) fn placed_of<'a>(
     ensures ok { IfOk result (λ placed. placed_of context.now opts.now addr start (info_seen info.now) ≡ Some (placed_seen placed)) }
     ensures lent { IfOk result IsLentPlaced }
     ensures refusal { IfErr result (Refuses (placed_of context.now opts.now addr start (info_seen info.now))) }
+    ensures memory { IfErr result (WantsMemory (opts.now ≡ FindSymOpts.CodeInfoAndInlined)) }
 {
     let Some(name) = context.get_str(info.name as usize) else {
         return Err(Error::InvalidData);
@@ -60,6 +62,7 @@ fn placed_by<'a>(
     ensures ok { IfOk result (λ placed. placed_by context.now name.now (told_seen told.now).row (told_seen told.now).frames ≡ Some (placed_seen placed)) }
     ensures lent { IfOk result IsLentPlaced }
     ensures refusal { IfErr result (Refuses (placed_by context.now name.now (told_seen told.now).row (told_seen told.now).frames)) }
+    ensures memory { IfErr result (WantsMemory (0 < length told.now.frames.items)) }
 {
     let Some(row) = told.row else {
         return Ok(Placed {
@@ -88,6 +91,7 @@ fn seen_from<'a>(
     ensures ok { IfOk result (λ placed. option_map (at_site name.now) (seen_from context.now row (frames_seen calls.now)) ≡ Some (placed_seen placed)) }
     ensures lent { IfOk result IsLentPlaced }
     ensures refusal { IfErr result (Refuses (seen_from context.now row (frames_seen calls.now))) }
+    ensures memory { IfErr result (WantsMemory (0 < length calls.now)) }
 {
     let Some(mut site) = site_in(context, row.file_idx, row.file_line) else {
         return Err(Error::InvalidData);

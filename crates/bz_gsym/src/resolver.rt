@@ -78,7 +78,7 @@ impl Symbolize for GsymResolver {
     ) -> Result<std::result::Result<ResolvedSym<'_>, Reason>>
         ensures answer { MayGive found_of (λ answer. answer ≡ plain self.now.bytes opts.now addr) result }
         ensures starts { IfOk result (λ found. StartsBefore addr (found_of found)) }
-        ensures refusal { IfErr result IsAnswerRefusal }
+        ensures refusal { IfErr result (IsAnswerRefusal opts.now) }
     {
         self.table.find_sym(alloc, addr, opts)
     }

@@ -19,7 +19,7 @@ pub(crate) fn symbol_at<'a>(
     opts: &FindSymOpts,
 ) -> Result<std::result::Result<ResolvedSym<'a>, Reason>>
     ensures answer { MayGive found_of (λ answer. answer ≡ plain context.now opts.now addr) result }
-    ensures refusal { IfErr result IsAnswerRefusal }
+    ensures refusal { IfErr result (IsAnswerRefusal opts.now) }
     ensures starts { IfOk result (λ found. StartsBefore addr (found_of found)) }
     ensures lent { IfOk result (λ found. IfOk found IsLentResolved) }
 {
@@ -56,7 +56,7 @@ impl<'a> GsymContext<'a> {
         ensures answer { MayGive found_of (λ answer. answer ≡ plain self.now opts.now addr) result }
         ensures starts { IfOk result (λ found. StartsBefore addr (found_of found)) }
         ensures lent { IfOk result (λ found. IfOk found IsLentResolved) }
-        ensures refusal { IfErr result IsAnswerRefusal }
+        ensures refusal { IfErr result (IsAnswerRefusal opts.now) }
     {
         symbol_at(self, alloc, addr, opts)
     }

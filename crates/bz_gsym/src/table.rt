@@ -81,7 +81,7 @@ impl Symbolize for GsymTable {
     ) -> Result<std::result::Result<ResolvedSym<'_>, Reason>>
         ensures answer { MayGive found_of (λ answer. answer ≡ plain self.now opts.now addr) result }
         ensures starts { IfOk result (λ found. StartsBefore addr (found_of found)) }
-        ensures refusal { IfErr result IsAnswerRefusal }
+        ensures refusal { IfErr result (IsAnswerRefusal opts.now) }
     {
         symbol_at(&self.context(), alloc, addr, opts)
     }

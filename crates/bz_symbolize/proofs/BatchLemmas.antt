@@ -9,7 +9,7 @@ use Rattle.bz_base.specs.declared.types.Symbolized.{Symbolized}
 use Rattle.bz_symbolize.specs.Batch.{batch_by, entry_by}
 use Rattle.bz_symbolize.specs.declared.held.Held.{Held}
 use Rattle.bz_symbolize.specs.FileCall.{batch_of}
-use Rattle.bz_symbolize.specs.Promise.{IsAnswerOf, IsBreakpadAnswer, IsBreakpadBatch}
+use Rattle.bz_symbolize.specs.Promise.{IsAnswerOf, IsBreakpadAnswer, IsBreakpadBatch, IsGsymAnswer, IsGsymBatch}
 use Rattle.bz_symbolize.specs.declared.source.Source.{Source}
 use Rattle.bz_symbolize.specs.declared.source.Source.TheVariants as sources
 
@@ -27,6 +27,16 @@ pub plain_batch : (opts : FindSymOpts) (bytes : List ℕ) (kind : AddressKind) (
     IsBreakpadAnswer opts bytes (batch_of kind addrs) (Ok answers) ↔ IsBreakpadBatch opts bytes addrs answers
 plain_batch opts bytes kind addrs answers =
     (batch_answered opts bytes kind addrs answers, λ is. record { table = is.table; accepted = is.accepted; plain = ap Ok (sym is.plain) })
+
+-- what a GSYM file answers to a batch is the batch of its tables
+pub gsym_answered : (opts : FindSymOpts) (bytes : List ℕ) (kind : AddressKind) (addrs : List ℕ) (answers : List Answer) →
+    IsGsymAnswer opts bytes (batch_of kind addrs) (Ok answers) → IsGsymBatch opts bytes addrs answers
+gsym_answered opts bytes kind addrs answers is = record { accepted = is.accepted; plain = let plain = is.plain in cc }
+
+pub plain_gsym : (opts : FindSymOpts) (bytes : List ℕ) (kind : AddressKind) (addrs : List ℕ) (answers : List Answer) →
+    IsGsymAnswer opts bytes (batch_of kind addrs) (Ok answers) ↔ IsGsymBatch opts bytes addrs answers
+plain_gsym opts bytes kind addrs answers =
+    (gsym_answered opts bytes kind addrs answers, λ is. record { accepted = is.accepted; plain = ap Ok (sym is.plain) })
 
 -- the answer that is read of the address of an index is the batch's of that index
 pub answer_read : (held : Held) (opts : FindSymOpts) (addrs : List ℕ) (i d : ℕ) → i < length addrs → (result : Result Symbolized Error) →

@@ -17,7 +17,7 @@ use Rattle.bz_symbolize.specs.declared.source.Source.{Source}
 
 module _ {B : Type 0} (bytes : List ℕ) (opts : FindSymOpts) (query : Query B) (taken : is_in_table query.kind ≡ true) where
   -- bytes in the format answer at each address
-  pub handed_given : IsGsym bytes → handed_answer (gsym_handed bytes) opts query ≡ query.given (gsym_single bytes)
+  pub handed_given : IsGsym bytes → handed_answer (gsym_handed bytes) opts query ≡ query.given (gsym_single opts bytes)
   handed_given formed = rw (taken, in_format bytes formed, taken) refl
 
   -- others are refused

@@ -15,8 +15,8 @@ pub record Batch : Type 0 where
 -- the entry of a batch at an address, by the version that is held; a refused address is an ignored error
 abbrev pub entry_by : Held → FindSymOpts → ℕ → Answer
 entry_by (helds.Breakpad file) opts addr = in_batch (breakpad_single opts (table_in file.value) addr)
-entry_by (helds.Gsym table) opts addr = in_batch (gsym_single table.value addr)
-entry_by (helds.GsymData context) opts addr = in_batch (gsym_single context addr)
+entry_by (helds.Gsym table) opts addr = in_batch (gsym_single opts table.value addr)
+entry_by (helds.GsymData context) opts addr = in_batch (gsym_single opts context addr)
 
 -- the batch by the version that is held
 abbrev pub batch_by : Held → FindSymOpts → List ℕ → Batch

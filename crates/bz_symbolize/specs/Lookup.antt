@@ -1,5 +1,5 @@
 -- What a call of a symbolizer answers, and the state that it leaves.
-use Rattle.std.specs.Prelude.{ℕ, Bool, false, cond, List, Option, Some, None, Result, Ok, Err}
+use Rattle.std.specs.Prelude.{ℕ, Bool, false, cond, if◌then◌else◌, List, Option, Some, None, Result, Ok, Err}
 use Rattle.bz_base.specs.Answer.{Answer}
 use Rattle.bz_base.specs.InputKind.{AddressKind}
 use Rattle.bz_base.specs.declared.error.Error.{Error}
@@ -12,8 +12,9 @@ use Rattle.bz_cache.specs.View.{View, Absent, Hidden, Shown, view}
 use Rattle.bz_breakpad.specs.Table.{Table}
 use Rattle.bz_breakpad.specs.Reader.{table_in}
 use Rattle.bz_breakpad.specs.Plain.{batch}
+use Rattle.bz_gsym.specs.Tables.{is_gsym}
 use Rattle.bz_symbolize.specs.FileCall.{Query, Question, by_version, file_answer, file_cache, file_opens}
-use Rattle.bz_symbolize.specs.Sources.{SourceForm, OneFile, Handed, asked_of, handed_answer}
+use Rattle.bz_symbolize.specs.Sources.{SourceForm, OneFile, Handed, asked_of, gsym_batch, handed_answer}
 use Rattle.bz_symbolize.specs.State.{State}
 
 -- what a call answers
@@ -51,8 +52,16 @@ abbrev pub by_table : FindSymOpts → List ℕ → Option Table → Result (List
 by_table opts addrs None = Err errors.InvalidInput
 by_table opts addrs (Some table) = Ok (batch table opts addrs)
 
--- what a symbolizer that keeps nothing answers of a Breakpad file, by what lies at its path
-abbrev pub fresh_answer : FindSymOpts → List ℕ → Option Entry → Result (List Answer) Error
-fresh_answer opts addrs None = Err errors.NotFound
-fresh_answer opts addrs (Some Denied) = Err errors.PermissionDenied
-fresh_answer opts addrs (Some (Present stamp bytes)) = by_table opts addrs (table_in bytes)
+-- what bytes answer to a batch as a Breakpad file
+abbrev pub breakpad_answer : FindSymOpts → List ℕ → List ℕ → Result (List Answer) Error
+breakpad_answer opts addrs bytes = by_table opts addrs (table_in bytes)
+
+-- and as a GSYM file
+abbrev pub gsym_answer : FindSymOpts → List ℕ → List ℕ → Result (List Answer) Error
+gsym_answer opts addrs bytes = if is_gsym bytes then Ok (gsym_batch opts bytes addrs) else Err errors.InvalidData
+
+-- what a symbolizer that keeps nothing answers by what lies at the path of a file, where its bytes answer so
+abbrev pub fresh_answer : (List ℕ → Result (List Answer) Error) → Option Entry → Result (List Answer) Error
+fresh_answer given None = Err errors.NotFound
+fresh_answer given (Some Denied) = Err errors.PermissionDenied
+fresh_answer given (Some (Present stamp bytes)) = given bytes

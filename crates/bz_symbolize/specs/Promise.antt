@@ -20,7 +20,7 @@ use Rattle.bz_gsym.specs.Tables.{IsGsym}
 use Rattle.bz_symbolize.specs.FileCall.{CallsFile, Leaves, MayBeRefused, Query}
 use Rattle.bz_symbolize.specs.History.{MayLeave, Symbolize}
 use Rattle.bz_symbolize.specs.Lookup.{answer_of, state_of, opens_of, view_answer}
-use Rattle.bz_symbolize.specs.Sources.{FileSource, SourceForm, OnFile, OnHanded, asked_of, form_of, gsym_single, handed_answer}
+use Rattle.bz_symbolize.specs.Sources.{FileSource, SourceForm, OnFile, OnHanded, asked_of, form_of, gsym_batch, gsym_single, handed_answer}
 use Rattle.bz_symbolize.specs.State.{State, WellKept, opts_of}
 use Rattle.bz_symbolize.specs.declared.source.Source.{Source}
 use Rattle.bz_symbolize.specs.declared.source.Source.TheVariants as sources
@@ -38,15 +38,20 @@ pub record IsBreakpadAnswer {B : Type 0} (opts : FindSymOpts) (bytes : List ℕ)
   pub accepted : IsFile bytes table
   pub plain : query.given (plain table opts) ≡ answer
 
--- the bytes are a GSYM file, and the answer, or the refusal, is what the query makes of its answers at each address alone
-pub record IsGsymAnswer {B : Type 0} (bytes : List ℕ) (query : Query B) (answer : Result B Error) : Type 0 where
+-- the bytes are a GSYM file, and the answers are its plain ones, each at its own address, in order
+pub record IsGsymBatch (opts : FindSymOpts) (bytes addrs : List ℕ) (answers : List Answer) : Type 0 where
   pub accepted : IsGsym bytes
-  pub plain : query.given (gsym_single bytes) ≡ answer
+  pub plain : answers ≡ gsym_batch opts bytes addrs
+
+-- the bytes are a GSYM file, and the answer, or the refusal, is what the query makes of its answers at each address alone
+pub record IsGsymAnswer {B : Type 0} (opts : FindSymOpts) (bytes : List ℕ) (query : Query B) (answer : Result B Error) : Type 0 where
+  pub accepted : IsGsym bytes
+  pub plain : query.given (gsym_single opts bytes) ≡ answer
 
 -- the bytes are a version of the source, and it answers the query so, or refuses it, in the words of the source's format
 abbrev pub IsAnswerOf : {B : Type 0} → Source → FindSymOpts → List ℕ → Query B → Result B Error → Type 0
 IsAnswerOf (sources.Breakpad source) opts bytes query answer = IsBreakpadAnswer opts bytes query answer
-IsAnswerOf (sources.Gsym source) opts bytes query answer = IsGsymAnswer bytes query answer
+IsAnswerOf (sources.Gsym source) opts bytes query answer = IsGsymAnswer opts bytes query answer
 
 -- the bytes are a version of the source, in the words of the source's format
 abbrev pub IsVersionOf : Source → List ℕ → Type 0

@@ -1,6 +1,6 @@
 -- Sources as data: what each format answers, and which cache of a symbolizer keeps the source's file.
-use Rattle.std.specs.Prelude.{ℕ, Bool, true, false, cond, List, [], Option, Some, None, Result, Ok, Err, string_bytes}
-use Rattle.bz_base.specs.Answer.{Answer}
+use Rattle.std.specs.Prelude.{ℕ, Bool, true, false, cond, List, [], map, Option, Some, None, Result, Ok, Err, string_bytes}
+use Rattle.bz_base.specs.Answer.{Answer, Resolved, in_batch}
 use Rattle.bz_base.specs.InputKind.{AddressKind, InProcess, InTable, InFile}
 use Rattle.bz_base.specs.declared.error.Error.{Error}
 use Rattle.bz_base.specs.declared.error.Error.TheVariants as errors
@@ -10,7 +10,6 @@ use Rattle.bz_breakpad.specs.Reader.{table_in}
 use Rattle.bz_breakpad.specs.Plain.{plain}
 use Rattle.bz_breakpad.specs.Table.{Table}
 use Rattle.bz_breakpad.specs.Version.{format_test}
-use Rattle.bz_base.specs.Answer.{Resolved}
 use Rattle.bz_base.specs.Resolution as resolution
 use Rattle.bz_base.specs.declared.types.Reason.{Reason}
 use Rattle.bz_gsym.specs.Plain as gsym
@@ -46,12 +45,16 @@ abbrev pub as_answer : ℕ → Result (Result Resolved Reason) Error → Result 
 as_answer addr (Ok found) = Ok (resolution.answer_at addr found)
 as_answer addr (Err e) = Err e
 
--- the answer of a GSYM file at an address, or its refusal. It has no places, so options change nothing.
-abbrev pub gsym_single : List ℕ → ℕ → Result Answer Error
-gsym_single bytes addr = as_answer addr (gsym.plain bytes addr)
+-- the answer of a GSYM file at an address, or its refusal
+abbrev pub gsym_single : FindSymOpts → List ℕ → ℕ → Result Answer Error
+gsym_single opts bytes addr = as_answer addr (gsym.plain bytes opts addr)
+
+-- a batch of addresses, each of them answered by itself, in their order; an address that is refused is an ignored error
+abbrev pub gsym_batch : FindSymOpts → List ℕ → List ℕ → List Answer
+gsym_batch opts bytes addrs = map (λ addr. in_batch (gsym_single opts bytes addr)) addrs
 
 abbrev pub gsym_answering : Answering
-gsym_answering = record { takes = is_in_table; serves = is_in_table; single = λ opts path bytes kind addr. gsym_single bytes addr }
+gsym_answering = record { takes = is_in_table; serves = is_in_table; single = λ opts path bytes kind addr. gsym_single opts bytes addr }
 
 -- a source that is bytes handed in
 pub record HandedSource : Type 0 where

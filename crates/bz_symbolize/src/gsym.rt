@@ -6,7 +6,7 @@ ghost use Rattle.bz_base.specs.InputKind.{address_kind, payload};
 ghost use Rattle.bz_base.specs.Lent.{IsLent};
 ghost use Rattle.bz_base.specs.Refusals.{MayRefuse};
 ghost use Rattle.bz_base.specs.declared.error.Error.{Error};
-ghost use Rattle.bz_base.specs.declared.types.FindSymOpts as options;
+ghost use Rattle.bz_gsym.specs.Refusal.{IsAnswerRefusal};
 ghost use Rattle.bz_symbolize.specs.FileCall.{batch_of, batch_query, query_given, single_query};
 ghost use Rattle.bz_symbolize.specs.Sources.{gsym_answering, gsym_handed, gsym_single, handed_answer};
 
@@ -37,12 +37,11 @@ impl Answers for GsymTable {
         input: Input<&[u64]>,
         steps: &mut Steps<L>,
     ) -> Result<Vec<Symbolized<'static>>> {
-        // A GSYM answer names no path and has no places, and its search isn't counted.
-        let _opts = opts;
+        // A GSYM answer names no path, and its search isn't counted.
         let _path = path;
         let _steps = steps;
         match input {
-            Input::VirtOffset(addrs) => answers_of(alloc, &self.context(), addrs),
+            Input::VirtOffset(addrs) => answers_of(alloc, &self.context(), opts, addrs),
             Input::AbsAddr(_) | Input::FileOffset(_) => Err(Error::Unsupported),
         }
     }
@@ -55,11 +54,10 @@ impl Answers for GsymTable {
         input: Input<u64>,
         steps: &mut Steps<L>,
     ) -> Result<Symbolized<'static>> {
-        let _opts = opts;
         let _path = path;
         let _steps = steps;
         match input {
-            Input::VirtOffset(addr) => answer_of(alloc, &self.context(), addr),
+            Input::VirtOffset(addr) => answer_of(alloc, &self.context(), opts, addr),
             Input::AbsAddr(_) | Input::FileOffset(_) => Err(Error::Unsupported),
         }
     }
@@ -86,15 +84,16 @@ impl Answers for GsymTable {
 pub(crate) fn answers_of_data(
     alloc: Global,
     bytes: &[u8],
+    opts: &FindSymOpts,
     input: Input<&[u64]>,
 ) -> Result<Vec<Symbolized<'static>>>
-    ensures answer { (opts : options.FindSymOpts) → Gives (λ answers. map reading answers.items) (handed_answer (gsym_handed bytes.now) opts (batch_query input.entry)) result }
+    ensures answer { Gives (λ answers. map reading answers.items) (handed_answer (gsym_handed bytes.now) opts.now (batch_query input.entry)) result }
     ensures refusal { IfErr result MayRefuse }
 {
     match input {
         Input::VirtOffset(addrs) => {
             let context = GsymContext::parse_header(bytes)?;
-            answers_of(alloc, &context, addrs)
+            answers_of(alloc, &context, opts, addrs)
         }
         Input::AbsAddr(_) | Input::FileOffset(_) => Err(Error::Unsupported),
     }
@@ -104,15 +103,16 @@ pub(crate) fn answers_of_data(
 pub(crate) fn answer_of_data(
     alloc: Global,
     bytes: &[u8],
+    opts: &FindSymOpts,
     input: Input<u64>,
 ) -> Result<Symbolized<'static>>
-    ensures answer { (opts : options.FindSymOpts) → Gives reading (handed_answer (gsym_handed bytes.now) opts (single_query input)) result }
+    ensures answer { Gives reading (handed_answer (gsym_handed bytes.now) opts.now (single_query input)) result }
     ensures refusal { IfErr result MayRefuse }
 {
     match input {
         Input::VirtOffset(addr) => {
             let context = GsymContext::parse_header(bytes)?;
-            answer_of(alloc, &context, addr)
+            answer_of(alloc, &context, opts, addr)
         }
         Input::AbsAddr(_) | Input::FileOffset(_) => Err(Error::Unsupported),
     }
@@ -141,33 +141,44 @@ pub(crate) fn look_up_data<'d>(
 fn answers_of(
     alloc: Global,
     context: &GsymContext<'_>,
+    opts: &FindSymOpts,
     addrs: &[u64],
 ) -> Result<Vec<Symbolized<'static>>>
-    ensures answers { IfOk result (λ answers. map reading answers.items ≡ map (λ addr. in_batch (gsym_single context.now addr)) addrs.now) }
+    ensures answers { IfOk result (λ answers. map reading answers.items ≡ map (λ addr. in_batch (gsym_single opts.now context.now addr)) addrs.now) }
     ensures memory { IsOkUnless result Error.OutOfMemory }
 {
     let mut answers = Vec::with_capacity(alloc, addrs.len())?;
     for addr in addrs {
-        answers.push(entry_at(alloc, context, *addr)?)?;
+        answers.push(entry_at(alloc, context, opts, *addr)?)?;
     }
     Ok(answers)
 }
 
 // The answer at an address, as an entry of a batch, with texts of its own.
-fn entry_at(alloc: Global, context: &GsymContext<'_>, addr: Addr) -> Result<Symbolized<'static>>
-    ensures entry { IfOk result (λ entry. reading entry ≡ in_batch (gsym_single context.now addr)) }
+fn entry_at(
+    alloc: Global,
+    context: &GsymContext<'_>,
+    opts: &FindSymOpts,
+    addr: Addr,
+) -> Result<Symbolized<'static>>
+    ensures entry { IfOk result (λ entry. reading entry ≡ in_batch (gsym_single opts.now context.now addr)) }
     ensures memory { IsOkUnless result Error.OutOfMemory }
 {
-    let entry = in_batch(symbol_at(alloc, context, addr))?;
+    let entry = in_batch(symbol_at(alloc, context, opts, addr))?;
     owned_answer(alloc, entry)
 }
 
 // The answer at an address, with texts of its own.
-fn answer_of(alloc: Global, context: &GsymContext<'_>, addr: Addr) -> Result<Symbolized<'static>>
-    ensures answer { Gives reading (gsym_single context.now addr) result }
+fn answer_of(
+    alloc: Global,
+    context: &GsymContext<'_>,
+    opts: &FindSymOpts,
+    addr: Addr,
+) -> Result<Symbolized<'static>>
+    ensures answer { Gives reading (gsym_single opts.now context.now addr) result }
     ensures refusal { IfErr result MayRefuse }
 {
-    let answer = symbol_at(alloc, context, addr)?;
+    let answer = symbol_at(alloc, context, opts, addr)?;
     owned_answer(alloc, answer)
 }
 
@@ -175,13 +186,14 @@ fn answer_of(alloc: Global, context: &GsymContext<'_>, addr: Addr) -> Result<Sym
 pub(crate) fn symbol_at<'a>(
     alloc: Global,
     context: &GsymContext<'a>,
+    opts: &FindSymOpts,
     addr: Addr,
 ) -> Result<Symbolized<'a>>
-    ensures answer { Gives reading (gsym_single context.now addr) result }
+    ensures answer { Gives reading (gsym_single opts.now context.now addr) result }
     ensures lent { IfOk result IsLent }
-    ensures refusal { IfErr result (λ e. e ≡ Error.InvalidData) }
+    ensures refusal { IfErr result (IsAnswerRefusal opts.now) }
 {
-    match context.find_sym(alloc, addr)? {
+    match context.find_sym(alloc, addr, opts)? {
         Ok(symbol) => Ok(Symbolized::Sym(symbol.into_sym(addr))),
         Err(reason) => Ok(Symbolized::Unknown(reason)),
     }

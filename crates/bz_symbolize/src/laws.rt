@@ -5,24 +5,27 @@ ghost use denote.Ref.{Bor};
 ghost use Rattle.bz_base.specs.Answer.{Answer};
 ghost use Rattle.bz_base.specs.InputKind.{AddressKind};
 ghost use Rattle.bz_base.specs.declared.error.Error.{Error};
-ghost use Rattle.bz_base.specs.declared.input.Input.TheVariants.{FileOffset};
+ghost use Rattle.bz_base.specs.declared.input.Input.TheVariants.{FileOffset, VirtOffset};
 ghost use Rattle.bz_base.specs.declared.types.FindSymOpts.{FindSymOpts};
 ghost use Rattle.bz_files.specs.Agreement.{Agree};
 ghost use Rattle.bz_breakpad.specs.Version.{format_test};
 ghost use Rattle.bz_files.specs.World.{World, entry_at};
+ghost use Rattle.bz_gsym.specs.Version as gsym;
 ghost use Rattle.bz_symbolize.specs.Alike.{BatchesFoldRefusals, EntriesStandAlone, OrderMovesAnswers};
 ghost use Rattle.bz_symbolize.specs.FileCall.{batch_of, batch_query, file_answer, query_asked};
 ghost use Rattle.bz_symbolize.specs.History.{Call, Coheres, MayReach};
-ghost use Rattle.bz_symbolize.specs.Lookup.{fresh_answer};
-ghost use Rattle.bz_symbolize.specs.Promise.{IsAnswerOf, IsBreakpadAnswer, IsBreakpadBatch};
-ghost use Rattle.bz_symbolize.specs.Sources.{OnFile, breakpad_answering};
+ghost use Rattle.bz_symbolize.specs.Lookup.{breakpad_answer, fresh_answer, gsym_answer};
+ghost use Rattle.bz_symbolize.specs.Promise.{IsAnswerOf, IsBreakpadAnswer, IsBreakpadBatch, IsGsymAnswer, IsGsymBatch};
+ghost use Rattle.bz_symbolize.specs.Sources.{OnFile, breakpad_answering, gsym_answering};
 ghost use Rattle.bz_symbolize.specs.State.{Settings, State, new_state};
 ghost use Rattle.bz_symbolize.specs.declared.source.Source.{Source};
 
-/// A symbolizer that keeps nothing answers a Breakpad source by what lies at its path.
+/// A symbolizer that keeps nothing answers a source that is a file by what lies at its path.
 pub fn new_symbolizer_answers()
-    ensures { (opts : FindSymOpts) (settings : Settings) (path : List ℕ) (addrs : Bor (List ℕ)) (world : World) →
-        file_answer (query_asked format_test breakpad_answering opts path (batch_query (FileOffset addrs))) (new_state settings).breakpad path (entry_at world path) ≡ fresh_answer opts addrs.now (entry_at world path) }
+    ensures breakpad { (opts : FindSymOpts) (settings : Settings) (path : List ℕ) (addrs : Bor (List ℕ)) (world : World) →
+        file_answer (query_asked format_test breakpad_answering opts path (batch_query (FileOffset addrs))) (new_state settings).breakpad path (entry_at world path) ≡ fresh_answer (breakpad_answer opts addrs.now) (entry_at world path) }
+    ensures gsym { (opts : FindSymOpts) (settings : Settings) (path : List ℕ) (addrs : Bor (List ℕ)) (world : World) →
+        file_answer (query_asked gsym.format_test gsym_answering opts path (batch_query (VirtOffset addrs))) (new_state settings).gsym path (entry_at world path) ≡ fresh_answer (gsym_answer opts addrs.now) (entry_at world path) }
 {}
 
 /// From a new symbolizer on, over any list of calls whose worlds agree with each other and with the
@@ -52,9 +55,12 @@ pub fn batches_fold_refusals()
 {}
 
 /// No version refuses a batch by itself, so a promise of a batch leaves no such refusal; and what a
-/// Breakpad file answers to one is the batch of its table.
+/// Breakpad file answers to one is the batch of its table, and what a GSYM file does that of its
+/// tables.
 pub fn batches_are_answered()
     ensures refused { (source : Source) (opts : FindSymOpts) (bytes : List ℕ) (kind : AddressKind) (addrs : List ℕ) (e : Error) → IsAnswerOf source opts bytes (batch_of kind addrs) (Err e) → ⊥ }
     ensures breakpad { (opts : FindSymOpts) (bytes : List ℕ) (kind : AddressKind) (addrs : List ℕ) (answers : List Answer) →
         IsBreakpadAnswer opts bytes (batch_of kind addrs) (Ok answers) ↔ IsBreakpadBatch opts bytes addrs answers }
+    ensures gsym { (opts : FindSymOpts) (bytes : List ℕ) (kind : AddressKind) (addrs : List ℕ) (answers : List Answer) →
+        IsGsymAnswer opts bytes (batch_of kind addrs) (Ok answers) ↔ IsGsymBatch opts bytes addrs answers }
 {}

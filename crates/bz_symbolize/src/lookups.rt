@@ -83,8 +83,8 @@ fn entry<'h>(
         Held::Breakpad(file) => {
             entry_blank::<Brand>(alloc, file.as_ref(), opts, addr, Blank::new(1))
         }
-        Held::Gsym(table) => in_batch(symbol_at(alloc, &table.context(), addr)),
-        Held::GsymData(context) => in_batch(symbol_at(alloc, context, addr)),
+        Held::Gsym(table) => in_batch(symbol_at(alloc, &table.context(), opts, addr)),
+        Held::GsymData(context) => in_batch(symbol_at(alloc, context, opts, addr)),
     }
 }
 

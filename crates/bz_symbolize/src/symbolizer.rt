@@ -203,7 +203,7 @@ impl Symbolizer {
                 input,
                 steps,
             ),
-            Source::Gsym(Gsym::Data(source)) => answers_of_data(alloc, source.bytes, input),
+            Source::Gsym(Gsym::Data(source)) => answers_of_data(alloc, source.bytes, opts, input),
         }
     }
 
@@ -238,7 +238,7 @@ impl Symbolizer {
                 input,
                 steps,
             ),
-            Source::Gsym(Gsym::Data(source)) => answer_of_data(alloc, source.bytes, input),
+            Source::Gsym(Gsym::Data(source)) => answer_of_data(alloc, source.bytes, opts, input),
         }
     }
 

@@ -7,7 +7,7 @@ use Rattle.bz_symbolize.proofs.gsym.answers_of.Goals as goal
 -- the answer that is pushed is the one at the next address
 pub loop-addr-preserved : goal.loop-addr-preserved
 loop-addr-preserved c =
-    let entry = λ (addr : ℕ). in_batch (gsym_single c.args.context.now addr) in
+    let entry = λ (addr : ℕ). in_batch (gsym_single c.args.opts.now c.args.context.now addr) in
     ap (map reading) c.in_ok-push.ensures.items
     ∙ map-append reading c.loop-addr.answers.items (_ ∷ [])
     ∙ ap₂ (λ (old : List Answer) (new : Answer). old ++ new ∷ []) c.loop-addr.invariant c.in_ok-entry_at.ensures.entry

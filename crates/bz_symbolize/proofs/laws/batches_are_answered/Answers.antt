@@ -1,4 +1,4 @@
-use Rattle.bz_symbolize.proofs.BatchLemmas.{never_refused, plain_batch}
+use Rattle.bz_symbolize.proofs.BatchLemmas.{never_refused, plain_batch, plain_gsym}
 use Rattle.bz_symbolize.proofs.laws.batches_are_answered.Goals as goal
 
 pub returns-clause-refused : goal.returns-clause-refused
@@ -6,3 +6,6 @@ returns-clause-refused c source opts bytes kind addrs e is = never_refused sourc
 
 pub returns-clause-breakpad : goal.returns-clause-breakpad
 returns-clause-breakpad c opts bytes kind addrs answers = plain_batch opts bytes kind addrs answers
+
+pub returns-clause-gsym : goal.returns-clause-gsym
+returns-clause-gsym c opts bytes kind addrs answers = plain_gsym opts bytes kind addrs answers

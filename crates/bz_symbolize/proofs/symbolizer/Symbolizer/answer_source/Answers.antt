@@ -16,4 +16,4 @@ pub returns-in-Gsym-Data : goal.returns-in-Gsym-Data
 returns-in-Gsym-Data g c =
     let is : c.args.src.now ≡ sources.Gsym (gsyms.Data c.in-Gsym-Data.source) = search rules in
     asks_handed g.F.Files read c.args.src.now c.args.opts.now (batch_query c.args.input) c.answers_of_data.result c.args.self.now c.args.files.now
-    (gsym_handed c.in-Gsym-Data.source.bytes.now) (ap form_of is) (c.answers_of_data.ensures.answer c.args.opts.now) c.answers_of_data.ensures.refusal (search rules)
+    (gsym_handed c.in-Gsym-Data.source.bytes.now) (ap form_of is) c.answers_of_data.ensures.answer c.answers_of_data.ensures.refusal (search rules)

@@ -12,4 +12,4 @@ pub returns-in-Gsym-Data : goal.returns-in-Gsym-Data
 returns-in-Gsym-Data g c =
     let is : c.args.src.now ≡ sources.Gsym (gsyms.Data c.in-Gsym-Data.source) = search rules in
     asks_handed g.F.Files reading c.args.src.now c.args.opts.now (single_query c.args.input) c.answer_of_data.result c.args.self.now c.args.files.now
-    (gsym_handed c.in-Gsym-Data.source.bytes.now) (ap form_of is) (c.answer_of_data.ensures.answer c.args.opts.now) c.answer_of_data.ensures.refusal (search rules)
+    (gsym_handed c.in-Gsym-Data.source.bytes.now) (ap form_of is) c.answer_of_data.ensures.answer c.answer_of_data.ensures.refusal (search rules)
