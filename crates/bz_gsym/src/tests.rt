@@ -3,6 +3,7 @@
 mod answers;
 mod heads;
 mod inlines;
+mod lines;
 mod searches;
 
 use std::alloc::{AllocError, Global};
