@@ -4,6 +4,7 @@ mod answers;
 mod heads;
 mod inlines;
 mod lines;
+mod places;
 mod searches;
 
 use std::alloc::{AllocError, Global};
