@@ -11,11 +11,13 @@ const MAIN: InlineFrame = InlineFrame {
     call_file: 0,
     call_line: 0,
 };
+
 const SUB: InlineFrame = InlineFrame {
     name: 14,
     call_file: 1,
     call_line: 9,
 };
+
 const NEXT: InlineFrame = InlineFrame {
     name: 2,
     call_file: 1,
@@ -28,6 +30,7 @@ const LAST_FILE: InlineFrame = InlineFrame {
     call_file: 4294967295,
     call_line: 0,
 };
+
 const LAST_LINE: InlineFrame = InlineFrame {
     name: 1,
     call_file: 0,
@@ -35,13 +38,16 @@ const LAST_LINE: InlineFrame = InlineFrame {
 };
 
 /// A function of 0x20 bytes, in it a call without a name of 0x10 bytes, and in that one of 4 bytes.
-const NESTED: &[u8] = b"\x01\x00\x20\x01\x01\0\0\0\x00\x00\x01\x00\x10\x01\0\0\0\0\x00\x00\x01\x04\x04\x00\x0e\0\0\0\x01\x09\x00\x00";
+const NESTED: &[u8] =
+    b"\x01\x00\x20\x01\x01\0\0\0\x00\x00\x01\x00\x10\x01\0\0\0\0\x00\x00\x01\x04\x04\x00\x0e\0\0\0\x01\x09\x00\x00";
 
 /// A function of 0x10 bytes, with a call in it whose start passes 64 bits.
-const FAR: &[u8] = b"\x01\x00\x10\x01\x01\0\0\0\x00\x00\x01\xff\xff\xff\xff\xff\xff\xff\xff\xff\x01\x01\x00\x02\0\0\0\x00\x00\x00";
+const FAR: &[u8] =
+    b"\x01\x00\x10\x01\x01\0\0\0\x00\x00\x01\xff\xff\xff\xff\xff\xff\xff\xff\xff\x01\x01\x00\x02\0\0\0\x00\x00\x00";
 
 /// A function of two ranges, whose call counts from the first one and is followed by another call.
-const RANGES: &[u8] = b"\x02\x08\x04\x20\x04\x01\x01\0\0\0\x00\x00\x01\x18\x01\x00\x0e\0\0\0\x01\x09\x01\x19\x01\x00\x02\0\0\0\x01\x06\x00";
+const RANGES: &[u8] =
+    b"\x02\x08\x04\x20\x04\x01\x01\0\0\0\x00\x00\x01\x18\x01\x00\x0e\0\0\0\x01\x09\x01\x19\x01\x00\x02\0\0\0\x01\x06\x00";
 
 /// Trees, addresses, and their frames; or none where the bytes are refused. Each tree's base is 0x1000.
 const TREES: [(&[u8], u64, Option<&[InlineFrame]>); 19] = [
