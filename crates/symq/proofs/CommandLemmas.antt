@@ -1,37 +1,44 @@
 -- What each command is answered: from the symbolizer's promises to the words of commands, and to the causes of refusals.
-use Rattle.std.proofs.Common.{◌≡◌, ℕ, List, Option, Some, None, Result, Ok, Err, IfOk, OnOk, refl, sym, ap}
+use Rattle.std.proofs.Common.{◌≡◌, ℕ, Bool, true, false, List, Option, Some, None, Result, Ok, Err, IfOk, OnOk, refl, sym, ap}
 use Rattle.bz_base.specs.Answer.{Answer}
-use Rattle.bz_base.specs.InputKind.{InFile}
+use Rattle.bz_base.specs.InputKind.{InFile, InTable}
 use Rattle.bz_base.specs.declared.error.Error.{Error}
+use Rattle.bz_base.specs.declared.error.Error.TheVariants as errors
 use Rattle.bz_files.specs.Count.{counted}
 use Rattle.bz_files.specs.World.{World, Entry, entry_at}
 use Rattle.bz_files.specs.World.Entry.{Denied, Present}
-use Rattle.bz_files.specs.declared.stamp.Stamp.{Stamp}
 use Rattle.bz_cache.specs.Format.{Comes}
 use Rattle.bz_cache.specs.Look.{opens_after}
 use Rattle.bz_breakpad.specs.Plain.{batch}
 use Rattle.bz_breakpad.specs.Reader.{table_in}
 use Rattle.bz_breakpad.specs.Table.{Table}
+use Rattle.bz_gsym.specs.Tables.{IsGsym, is_gsym}
+use Rattle.bz_gsym.proofs.FormatLemmas.{passed, passes}
 use Rattle.bz_symbolize.specs.FileCall.{batch_of}
-use Rattle.bz_symbolize.specs.Lookup.{answer_of, opens_of, by_table, fresh_answer}
-use Rattle.bz_symbolize.specs.Promise.{AnswersKept, IsBreakpadBatch}
-use Rattle.bz_symbolize.specs.Sources.{OnFile, form_of}
+use Rattle.bz_symbolize.specs.Lookup.{answer_of, opens_of, by_table, breakpad_answer, fresh_answer, gsym_answer}
+use Rattle.bz_symbolize.specs.Promise.{AnswersKept}
+use Rattle.bz_symbolize.specs.Sources.{OnFile, form_of, gsym_batch}
 use Rattle.bz_symbolize.specs.State.{State, default_settings, new_state}
+use Rattle.bz_symbolize.specs.declared.source.Gsym.TheVariants as gsyms
 use Rattle.bz_symbolize.specs.declared.source.Source.{Source}
 use Rattle.bz_symbolize.specs.declared.source.Source.TheVariants as sources
-use Rattle.bz_symbolize.proofs.BatchLemmas.{batch_answered}
-use Rattle.bz_symbolize.proofs.NewLemmas.{new_answer}
+use Rattle.bz_symbolize.proofs.BatchLemmas.{batch_answered, gsym_answered}
+use Rattle.bz_symbolize.proofs.NewLemmas.{new_breakpad, new_gsym}
 use Rattle.bz_symbolize.proofs.Tables.{table_found, table_again}
-use Rattle.symq.specs.Commands.{run_opts, IsSourceOf, kind_of, answer_to, HasFile, HasAnswers, AnswersIn, AnswersSome, IsFileCause, IsRefusalOf, IsCause}
-use Rattle.symq.specs.Words.{Command, Breakpad}
+use Rattle.symq.specs.Commands.{run_opts, IsSourceOf, kind_of, answer_by, answer_to, file_of, HasFile, HasAnswers, AnswersIn, AnswersSome, IsBatch, IsFileCause, IsRefusalOf, IsCause, IsVersion}
+use Rattle.symq.specs.Words.{Command, Breakpad, Gsym}
 use Rattle.symq.proofs.OpenLemmas.{opened_new}
 
 -- a symbolizer that keeps nothing answers the command's source as the command is answered
 pub answer_new : (command : Command) (source : Source) (addrs : List ℕ) (world : World) → IsSourceOf command source →
     answer_of run_opts (new_state default_settings) (form_of source) (batch_of (kind_of command) addrs) world ≡ answer_to command addrs world
 answer_new (Breakpad path) (sources.Breakpad source) addrs world is =
-    rw is (new_answer run_opts default_settings.reload path addrs (entry_at world path))
+    rw is (new_breakpad run_opts default_settings.reload path addrs (entry_at world path))
+answer_new (Gsym path) (sources.Gsym (gsyms.File source)) addrs world is =
+    rw is (new_gsym run_opts default_settings.reload path addrs (entry_at world path))
 answer_new (Breakpad path) (sources.Gsym source) addrs world is = absurd is
+answer_new (Gsym path) (sources.Breakpad source) addrs world is = absurd is
+answer_new (Gsym path) (sources.Gsym (gsyms.Data source)) addrs world is = absurd is
 
 -- and reads its file where it answers
 pub opened_by_command : {A : Type 0} (view : A → List Answer) (command : Command) (source : Source) (addrs : List ℕ) (world : World) (before after : ℕ) (result : Result A Error) →
@@ -39,77 +46,113 @@ pub opened_by_command : {A : Type 0} (view : A → List Answer) (command : Comma
     OnOk result (after ≡ opens_after (opens_of (new_state default_settings) (form_of source) (kind_of command) world) before) →
     OnOk result (after ≡ counted before)
 opened_by_command view (Breakpad path) (sources.Breakpad source) addrs world before after result is comes opens =
-    opened_new view run_opts path addrs (entry_at world path) before after result comes (rw is at opens)
+    opened_new view (breakpad_answer run_opts addrs) path (entry_at world path) before after result comes (rw is at opens)
+opened_by_command view (Gsym path) (sources.Gsym (gsyms.File source)) addrs world before after result is comes opens =
+    opened_new view (gsym_answer run_opts addrs) path (entry_at world path) before after result comes (rw is at opens)
 opened_by_command view (Breakpad path) (sources.Gsym source) addrs world before after result is comes opens = absurd is
+opened_by_command view (Gsym path) (sources.Breakpad source) addrs world before after result is comes opens = absurd is
+opened_by_command view (Gsym path) (sources.Gsym (gsyms.Data source)) addrs world before after result is comes opens = absurd is
 
 -- what the symbolizer keeps is what it answers, so whatever is told, some bytes in the format are answered
 pub some_from_kept : {A : Type 0} (view : A → List Answer) (command : Command) (source : Source) (addrs : List ℕ) (now : State) (result : Result A Error) →
     IsSourceOf command source → OnFile source (λ file. IfOk result (λ given. AnswersKept run_opts source file now (batch_of (kind_of command) addrs) (Ok (view given)))) →
     IfOk result (λ given. AnswersSome command addrs (view given))
 some_from_kept view (Breakpad path) (sources.Breakpad source) addrs now (Ok given) is kept = (kept.bytes, batch_answered run_opts kept.bytes InFile addrs (view given) kept.answered)
-some_from_kept view (Breakpad path) (sources.Breakpad source) addrs now (Err e) is kept = tt
-some_from_kept view (Breakpad path) (sources.Gsym source) addrs now result is kept = absurd is
+some_from_kept view (Gsym path) (sources.Gsym (gsyms.File source)) addrs now (Ok given) is kept = (kept.bytes, gsym_answered run_opts kept.bytes InTable addrs (view given) kept.answered)
+some_from_kept view (Breakpad path) (sources.Gsym source) addrs now (Ok given) is kept = absurd is
+some_from_kept view (Gsym path) (sources.Breakpad source) addrs now (Ok given) is kept = absurd is
+some_from_kept view (Gsym path) (sources.Gsym (gsyms.Data source)) addrs now (Ok given) is kept = absurd is
+some_from_kept view command source addrs now (Err e) is kept = tt
 
 -- what holds of the file of a command's source holds
 pub of_its_file : (command : Command) (source : Source) (P : Type 0) → IsSourceOf command source → OnFile source (λ file. P) → P
 of_its_file (Breakpad path) (sources.Breakpad source) P is holds = holds
+of_its_file (Gsym path) (sources.Gsym (gsyms.File source)) P is holds = holds
 of_its_file (Breakpad path) (sources.Gsym source) P is holds = absurd is
+of_its_file (Gsym path) (sources.Breakpad source) P is holds = absurd is
+of_its_file (Gsym path) (sources.Gsym (gsyms.Data source)) P is holds = absurd is
 
-module _ (addrs : List ℕ) where
-  -- answers that are given are those of the file
-  batch_from_table : (answers : List Answer) (stamp : Stamp) (bytes : List ℕ) (read : Option Table) → table_in bytes ≡ read → by_table run_opts addrs read ≡ Ok answers →
-      HasFile (λ b. IsBreakpadBatch run_opts b addrs answers) (Some (Present stamp bytes))
-  batch_from_table answers stamp bytes None is given = cc
-  batch_from_table answers stamp bytes (Some table) is given = record {
-    stamp = stamp;
-    bytes = bytes;
-    present = refl;
-    such = record { table = table; accepted = table_found bytes table is; plain = cc };
-  }
+-- bytes that answer are in the source's format, and these are their answers
+batch_by : (command : Command) (addrs bytes : List ℕ) (answers : List Answer) → answer_by command addrs bytes ≡ Ok answers → IsBatch command bytes addrs answers
+batch_by (Breakpad path) addrs bytes answers given = by_read (table_in bytes) refl given
+  where
+    by_read : (read : Option Table) → table_in bytes ≡ read → by_table run_opts addrs read ≡ Ok answers → IsBatch (Breakpad path) bytes addrs answers
+    by_read None is read_is = cc
+    by_read (Some table) is read_is = record { table = table; accepted = table_found bytes table is; plain = cc }
+batch_by (Gsym path) addrs bytes answers given = by_test (is_gsym bytes) refl
+  where
+    by_test : (formed : Bool) → is_gsym bytes ≡ formed → IsBatch (Gsym path) bytes addrs answers
+    by_test true is = let answered = rw is at given in record { accepted = passed bytes is; plain = cc }
+    by_test false is = let refused = rw is at given in cc
 
-  batch_from_file : (answers : List Answer) (there : Option Entry) → fresh_answer run_opts addrs there ≡ Ok answers →
-      HasFile (λ b. IsBreakpadBatch run_opts b addrs answers) there
+-- and bytes in the format do answer
+answers_by : (command : Command) (addrs bytes : List ℕ) → IsVersion command bytes → (answers : List Answer) × (answer_by command addrs bytes ≡ Ok answers)
+answers_by (Breakpad path) addrs bytes version = (batch version.0 run_opts addrs, rw (table_again bytes version.0 version.1) refl)
+answers_by (Gsym path) addrs bytes version = (gsym_batch run_opts bytes addrs, rw (passes bytes version) refl)
+
+-- bytes that are answered are in the format
+version_by : (command : Command) (addrs bytes : List ℕ) (answers : List Answer) → IsBatch command bytes addrs answers → IsVersion command bytes
+version_by (Breakpad path) addrs bytes answers is = (is.table, is.accepted)
+version_by (Gsym path) addrs bytes answers is = is.accepted
+
+-- bytes are refused exactly where they aren't
+refusal_by : (command : Command) (addrs bytes : List ℕ) (e : Error) → answer_by command addrs bytes ≡ Err e → IsRefusalOf command bytes e
+refusal_by (Breakpad path) addrs bytes e given = by_read (table_in bytes) refl given
+  where
+    by_read : (read : Option Table) → table_in bytes ≡ read → by_table run_opts addrs read ≡ Err e → IsRefusalOf (Breakpad path) bytes e
+    by_read None is read_is = (cc, λ table file. let read = table_again bytes table file in cc)
+    by_read (Some table) is read_is = cc
+refusal_by (Gsym path) addrs bytes e given = by_test (is_gsym bytes) refl
+  where
+    by_test : (formed : Bool) → is_gsym bytes ≡ formed → IsRefusalOf (Gsym path) bytes e
+    by_test true is = let answered = rw is at given in cc
+    by_test false is = let refused = rw is at given in (cc, λ formed. let passes_it = passes bytes formed in cc)
+
+refused_by : (command : Command) (addrs bytes : List ℕ) (e : Error) → IsRefusalOf command bytes e → answer_by command addrs bytes ≡ Err e
+refused_by (Breakpad path) addrs bytes e refusal = by_read (table_in bytes) refl
+  where
+    by_read : (read : Option Table) → table_in bytes ≡ read → by_table run_opts addrs read ≡ Err e
+    by_read None is = ap Err (sym refusal.0)
+    by_read (Some table) is = absurd (refusal.1 table (table_found bytes table is))
+refused_by (Gsym path) addrs bytes e refusal = by_test (is_gsym bytes) refl
+  where
+    by_test : (formed : Bool) → is_gsym bytes ≡ formed → gsym_answer run_opts addrs bytes ≡ Err e
+    by_test true is = absurd (refusal.1 (passed bytes is))
+    by_test false is = rw is (ap Err (sym refusal.0))
+
+-- the same of what lies at the source's path
+module _ (command : Command) (addrs : List ℕ) where
+  batch_from_file : (answers : List Answer) (there : Option Entry) → fresh_answer (answer_by command addrs) there ≡ Ok answers → HasFile (λ bytes. IsBatch command bytes addrs answers) there
   batch_from_file answers None given = cc
   batch_from_file answers (Some Denied) given = cc
-  batch_from_file answers (Some (Present stamp bytes)) given = batch_from_table answers stamp bytes (table_in bytes) refl given
+  batch_from_file answers (Some (Present stamp bytes)) given = record { stamp = stamp; bytes = bytes; present = refl; such = batch_by command addrs bytes answers given }
 
-  -- a refusal has its cause in the file
-  cause_from_table : (path : List ℕ) (e : Error) (bytes : List ℕ) (read : Option Table) → table_in bytes ≡ read → by_table run_opts addrs read ≡ Err e → IsRefusalOf (Breakpad path) bytes e
-  cause_from_table path e bytes None is given = (cc, λ table file. let read = table_again bytes table file in cc)
-  cause_from_table path e bytes (Some table) is given = cc
+  cause_from_file : (e : Error) (there : Option Entry) → fresh_answer (answer_by command addrs) there ≡ Err e → IsFileCause (IsRefusalOf command) there e
+  cause_from_file e None given = cc
+  cause_from_file e (Some Denied) given = cc
+  cause_from_file e (Some (Present stamp bytes)) given = refusal_by command addrs bytes e given
 
-  cause_from_file : (path : List ℕ) (e : Error) (there : Option Entry) → fresh_answer run_opts addrs there ≡ Err e → IsFileCause (IsRefusalOf (Breakpad path)) there e
-  cause_from_file path e None given = cc
-  cause_from_file path e (Some Denied) given = cc
-  cause_from_file path e (Some (Present stamp bytes)) given = cause_from_table path e bytes (table_in bytes) refl given
+  file_from_cause : (e : Error) (there : Option Entry) → IsFileCause (IsRefusalOf command) there e → fresh_answer (answer_by command addrs) there ≡ Err e
+  file_from_cause e None cause = ap Err (sym cause)
+  file_from_cause e (Some Denied) cause = ap Err (sym cause)
+  file_from_cause e (Some (Present stamp bytes)) cause = refused_by command addrs bytes e cause
 
-  -- and where the file has the cause, the refusal is given
-  file_from_cause : (path : List ℕ) (e : Error) (there : Option Entry) → IsFileCause (IsRefusalOf (Breakpad path)) there e → fresh_answer run_opts addrs there ≡ Err e
-  file_from_cause path e None cause = ap Err (sym cause)
-  file_from_cause path e (Some Denied) cause = ap Err (sym cause)
-  file_from_cause path e (Some (Present stamp bytes)) cause = by_read (table_in bytes) refl
-    where
-      by_read : (read : Option Table) → table_in bytes ≡ read → by_table run_opts addrs read ≡ Err e
-      by_read None is = ap Err (sym cause.0)
-      by_read (Some table) is = absurd (cause.1 table (table_found bytes table is))
+module _ (command : Command) (world : World) (addrs : List ℕ) where
+  -- answers that are given are those of the command's file
+  pub answers_found : (answers : List Answer) → answer_to command addrs world ≡ Ok answers → AnswersIn command world addrs answers
+  answers_found answers given = batch_from_file command addrs answers (file_of command world) given
 
--- answers that are given are those of the command's file
-pub answers_found : (command : Command) (world : World) (addrs : List ℕ) (answers : List Answer) → answer_to command addrs world ≡ Ok answers → AnswersIn command world addrs answers
-answers_found (Breakpad path) world addrs answers given = batch_from_file addrs answers (entry_at world path) given
+  -- and a command that has answers is given some
+  pub answers_given : HasAnswers command world → (answers : List Answer) × (answer_to command addrs world ≡ Ok answers)
+  answers_given has = let given = answers_by command addrs has.bytes has.such in (given.0, rw has.present given.1)
 
--- and a command that has answers is given some
-pub answers_given : (command : Command) (world : World) (addrs : List ℕ) → HasAnswers command world → (answers : List Answer) × (answer_to command addrs world ≡ Ok answers)
-answers_given (Breakpad path) world addrs has =
-    (batch has.such.0 run_opts addrs, rw (has.present, table_again has.bytes has.such.0 has.such.1) refl)
+  -- where the command's file is answered, it has answers
+  pub has_answers : (answers : List Answer) → AnswersIn command world addrs answers → HasAnswers command world
+  has_answers answers has = record { stamp = has.stamp; bytes = has.bytes; present = has.present; such = version_by command addrs has.bytes answers has.such }
 
--- where the command's file is answered, it has answers
-pub has_answers : (command : Command) (world : World) (addrs : List ℕ) (answers : List Answer) → AnswersIn command world addrs answers → HasAnswers command world
-has_answers (Breakpad path) world addrs answers has =
-    record { stamp = has.stamp; bytes = has.bytes; present = has.present; such = (has.such.table, has.such.accepted) }
+  -- a command is refused exactly where its file has the cause
+  pub cause_found : (e : Error) → answer_to command addrs world ≡ Err e → IsCause command world e
+  cause_found e given = cause_from_file command addrs e (file_of command world) given
 
--- a command is refused exactly where its file has the cause
-pub cause_found : (command : Command) (world : World) (addrs : List ℕ) (e : Error) → answer_to command addrs world ≡ Err e → IsCause command world e
-cause_found (Breakpad path) world addrs e given = cause_from_file addrs path e (entry_at world path) given
-
-pub refusal_given : (command : Command) (world : World) (addrs : List ℕ) (e : Error) → IsCause command world e → answer_to command addrs world ≡ Err e
-refusal_given (Breakpad path) world addrs e cause = file_from_cause addrs path e (entry_at world path) cause
+  pub refusal_given : (e : Error) → IsCause command world e → answer_to command addrs world ≡ Err e
+  refusal_given e cause = file_from_cause command addrs e (file_of command world) cause

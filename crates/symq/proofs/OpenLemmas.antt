@@ -5,7 +5,6 @@ use Rattle.std.specs.Ordering.{nat_cmp}
 use Rattle.std.specs.Cmp.Lexicographic.{slice_cmp}
 use Rattle.bz_base.specs.Answer.{Answer}
 use Rattle.bz_base.specs.declared.error.Error.{Error}
-use Rattle.bz_base.specs.declared.types.FindSymOpts.{FindSymOpts}
 use Rattle.bz_files.specs.Count.{counted}
 use Rattle.bz_files.specs.World.{Entry}
 use Rattle.bz_files.specs.World.Entry.{Denied, Present}
@@ -15,16 +14,16 @@ use Rattle.bz_cache.specs.Look.{opens_after, will_open}
 use Rattle.bz_symbolize.specs.Lookup.{fresh_answer}
 
 -- what is there is read
-opens_present : (opts : FindSymOpts) (path : List ℕ) (there : Option Entry) (answers : List Answer) (addrs : List ℕ) (before after : ℕ) → fresh_answer opts addrs there ≡ Ok answers →
+opens_present : (given : List ℕ → Result (List Answer) Error) (path : List ℕ) (there : Option Entry) (answers : List Answer) (before after : ℕ) → fresh_answer given there ≡ Ok answers →
     after ≡ opens_after (will_open (new_cache true) path there) before → after ≡ counted before
-opens_present opts path None answers addrs before after given opens = cc
-opens_present opts path (Some Denied) answers addrs before after given opens = cc
-opens_present opts path (Some (Present s b)) answers addrs before after given opens =
+opens_present given path None answers before after is opens = cc
+opens_present given path (Some Denied) answers before after is opens = cc
+opens_present given path (Some (Present s b)) answers before after is opens =
     rw (map.get-empty {X = PathState} (slice_cmp nat_cmp) path, map.get-empty {X = List ℕ} stamp_cmp s) at opens
 
 -- where its answers are given, the file was read
-pub opened_new : {A : Type 0} (view : A → List Answer) (opts : FindSymOpts) (path addrs : List ℕ) (there : Option Entry) (before after : ℕ) (result : Result A Error) →
-    Comes view (fresh_answer opts addrs there) result → OnOk result (after ≡ opens_after (will_open (new_cache true) path there) before) →
+pub opened_new : {A : Type 0} (view : A → List Answer) (given : List ℕ → Result (List Answer) Error) (path : List ℕ) (there : Option Entry) (before after : ℕ) (result : Result A Error) →
+    Comes view (fresh_answer given there) result → OnOk result (after ≡ opens_after (will_open (new_cache true) path there) before) →
     OnOk result (after ≡ counted before)
-opened_new view opts path addrs there before after (Ok answers) comes opens = opens_present opts path there (view answers) addrs before after comes opens
-opened_new view opts path addrs there before after (Err e) comes opens = tt
+opened_new view given path there before after (Ok answers) comes opens = opens_present given path there (view answers) before after comes opens
+opened_new view given path there before after (Err e) comes opens = tt

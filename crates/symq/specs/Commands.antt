@@ -1,7 +1,7 @@
 -- Command by command: which source is asked, what it answers, and why it may have no answers.
 use Rattle.std.specs.Prelude.{◌≡◌, ℕ, List, Option, Some, None, Result, string_bytes}
 use Rattle.bz_base.specs.Answer.{Answer}
-use Rattle.bz_base.specs.InputKind.{AddressKind, InFile}
+use Rattle.bz_base.specs.InputKind.{AddressKind, InFile, InTable}
 use Rattle.bz_base.specs.declared.error.Error.{Error}
 use Rattle.bz_base.specs.declared.error.Error.TheVariants as errors
 use Rattle.bz_base.specs.declared.types.FindSymOpts.{FindSymOpts}
@@ -10,12 +10,14 @@ use Rattle.bz_files.specs.World.Entry.{Denied, Present}
 use Rattle.bz_files.specs.declared.stamp.Stamp.{Stamp}
 use Rattle.bz_breakpad.specs.Table.{Table}
 use Rattle.bz_breakpad.specs.Grammar.{IsFile}
-use Rattle.bz_symbolize.specs.Lookup.{fresh_answer}
-use Rattle.bz_symbolize.specs.Promise.{IsBreakpadBatch}
+use Rattle.bz_gsym.specs.Tables.{IsGsym}
+use Rattle.bz_symbolize.specs.Lookup.{breakpad_answer, fresh_answer, gsym_answer}
+use Rattle.bz_symbolize.specs.Promise.{IsBreakpadBatch, IsGsymBatch}
 use Rattle.bz_symbolize.specs.State.{default_settings, opts_of}
+use Rattle.bz_symbolize.specs.declared.source.Gsym.TheVariants as gsyms
 use Rattle.bz_symbolize.specs.declared.source.Source.{Source}
 use Rattle.bz_symbolize.specs.declared.source.Source.TheVariants as sources
-use Rattle.symq.specs.Words.{Command, Breakpad}
+use Rattle.symq.specs.Words.{Command, Breakpad, Gsym}
 
 -- the options of a run: those of a symbolizer with all features on
 abbrev pub run_opts : FindSymOpts
@@ -24,31 +26,42 @@ run_opts = opts_of default_settings
 -- the source that a command asks
 abbrev pub IsSourceOf : Command → Source → Type 0
 IsSourceOf (Breakpad path) (sources.Breakpad source) = string_bytes source.path ≡ path
-IsSourceOf (Breakpad path) (sources.Gsym source) = ⊥
+IsSourceOf (Gsym path) (sources.Gsym (gsyms.File source)) = string_bytes source.path ≡ path
+IsSourceOf _ _ = ⊥
 
 -- what the addresses of its input are relative to
 abbrev pub kind_of : Command → AddressKind
 kind_of (Breakpad path) = InFile
-
--- what a symbolizer that keeps nothing answers
-abbrev pub answer_to : Command → List ℕ → World → Result (List Answer) Error
-answer_to (Breakpad path) addrs world = fresh_answer run_opts addrs (entry_at world path)
+kind_of (Gsym path) = InTable
 
 -- what lies at the source's path
 abbrev pub file_of : Command → World → Option Entry
 file_of (Breakpad path) world = entry_at world path
+file_of (Gsym path) world = entry_at world path
+
+-- what bytes answer as those of the source
+abbrev pub answer_by : Command → List ℕ → List ℕ → Result (List Answer) Error
+answer_by (Breakpad path) addrs bytes = breakpad_answer run_opts addrs bytes
+answer_by (Gsym path) addrs bytes = gsym_answer run_opts addrs bytes
+
+-- what a symbolizer that keeps nothing answers
+abbrev pub answer_to : Command → List ℕ → World → Result (List Answer) Error
+answer_to command addrs world = fresh_answer (answer_by command addrs) (file_of command world)
 
 -- the bytes are in the source's format
 abbrev pub IsVersion : Command → List ℕ → Type 0
 IsVersion (Breakpad path) bytes = (table : Table) × IsFile bytes table
+IsVersion (Gsym path) bytes = IsGsym bytes
 
 -- the bytes are in the source's format, and the answers are their plain ones, each at its own address, in order
 abbrev pub IsBatch : Command → List ℕ → List ℕ → List Answer → Type 0
 IsBatch (Breakpad path) bytes addrs answers = IsBreakpadBatch run_opts bytes addrs answers
+IsBatch (Gsym path) bytes addrs answers = IsGsymBatch run_opts bytes addrs answers
 
 -- the bytes aren't in the source's format, and this is the refusal of such bytes
 abbrev pub IsRefusalOf : Command → List ℕ → Error → Type 0
 IsRefusalOf (Breakpad path) bytes e = (e ≡ errors.InvalidInput) × ((table : Table) → IsFile bytes table → ⊥)
+IsRefusalOf (Gsym path) bytes e = (e ≡ errors.InvalidData) × ¬ (IsGsym bytes)
 
 -- a file is there whose bytes are such
 pub record HasFile (P : List ℕ → Type 0) (there : Option Entry) : Type 0 where

@@ -1,5 +1,5 @@
 -- The words of a command line, without the program's name, and the command that they give.
-use Rattle.std.specs.Prelude.{ℕ, Bool, not, ◌==◌, ◌&&◌, List, [], ◌∷◌, codes, Option, Some, None, if◌then◌else◌, bytes_eq}
+use Rattle.std.specs.Prelude.{ℕ, Bool, ◌==◌, List, [], ◌∷◌, codes, Option, Some, None, if◌then◌else◌, bytes_eq}
 use Rattle.bz_base.specs.Byte.{begins_with, dash}
 use Rattle.symq.specs.declared.words.Command as lent
 use Rattle.symq.specs.declared.words.Command.TheVariants as lents
@@ -8,15 +8,23 @@ use Rattle.symq.specs.declared.words.Command.TheVariants as lents
 pub data Command : Type 0 where
   -- those of the Breakpad file at a path
   Breakpad : List ℕ → Command
+  -- those of the GSYM file at a path
+  Gsym : List ℕ → Command
 
 -- the command whose words are lent
 abbrev pub command_of : lent.Command → Command
 command_of (lents.Breakpad path) = Breakpad path.now
+command_of (lents.Gsym path) = Gsym path.now
 
 abbrev pub begins_with_dash : List ℕ → Bool
 begins_with_dash text = begins_with (λ b. b == dash) text
 
--- `breakpad PATH`, with a path that doesn't begin with a dash
+-- `breakpad PATH` or `gsym PATH`
+abbrev pub command_of_kind : List ℕ → List ℕ → Option Command
+command_of_kind kind path =
+    if bytes_eq kind (codes "breakpad") then Some (Breakpad path) else (if bytes_eq kind (codes "gsym") then Some (Gsym path) else None)
+
+-- with a path that doesn't begin with a dash
 abbrev pub command_in : List (List ℕ) → Option Command
-command_in (kind ∷ path ∷ []) = if bytes_eq kind (codes "breakpad") && not (begins_with_dash path) then Some (Breakpad path) else None
+command_in (kind ∷ path ∷ []) = if begins_with_dash path then None else command_of_kind kind path
 command_in _ = None

@@ -20,7 +20,7 @@ use crate::status::Status;
 use crate::words::{self, Command};
 use bz_base::{Error, Input, Result};
 use bz_files::{Files, TextIn, TextOut};
-use bz_symbolize::source::{Breakpad, Source};
+use bz_symbolize::source::{Breakpad, GsymFile, Source};
 use bz_symbolize::{Lookups, Symbolizer};
 use std::alloc::Global;
 
@@ -145,6 +145,10 @@ fn source(alloc: Global, command: &Command<'_>) -> Result<Source<'static>>
             let path = String::from_str(alloc, path)?;
             Ok(Source::from(Breakpad::new(path)))
         }
+        Command::Gsym(path) => {
+            let path = String::from_str(alloc, path)?;
+            Ok(Source::from(GsymFile::new(path)))
+        }
     }
 }
 
@@ -155,5 +159,6 @@ fn input_for(command: &Command<'_>, addrs: Vec<u64>) -> Input<Vec<u64>>
 {
     match command {
         Command::Breakpad(_) => Input::FileOffset(addrs),
+        Command::Gsym(_) => Input::VirtOffset(addrs),
     }
 }

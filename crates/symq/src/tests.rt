@@ -1,6 +1,7 @@
 //! The program on files, inputs and outputs in memory.
 
 mod answer;
+mod gsym;
 mod many;
 mod nested;
 
@@ -46,11 +47,12 @@ const BLANK_LINE: &str = "FUNC 1000 10 0 f\n1000 10 5 1\n\nFILE 1 a.c\n";
 /// What a run is given, and how it is to end.
 #[derive(Clone, Copy)]
 struct Row<'a> {
-    /// The path after the word `breakpad`.
+    /// The kind of source, and the path after it.
+    kind: &'a str,
     path: &'a str,
-    /// Where the one file is, and its text.
+    /// Where the one file is, and its bytes.
     at: &'a str,
-    file: &'a str,
+    file: &'a [u8],
     input: &'a [u8],
     /// The calls of files, input and output that fail, counted from 1; 0 where none does.
     faults: (u64, u64, u64),
@@ -61,9 +63,10 @@ struct Row<'a> {
 /// A run over the first file.
 fn over_first<'a>(path: &'a str, input: &'a str, status: Status, written: &'a str) -> Row<'a> {
     Row {
+        kind: "breakpad",
         path,
         at: "/a.sym",
-        file: FIRST,
+        file: FIRST.as_bytes(),
         input: input.as_bytes(),
         faults: (0, 0, 0),
         status,
@@ -74,11 +77,11 @@ fn over_first<'a>(path: &'a str, input: &'a str, status: Status, written: &'a st
 /// How the run ends, and what it writes.
 fn ending(alloc: Global, row: Row<'_>) -> Result<(Status, Vec<u8>), Fail> {
     let words = vec![in alloc;
-        String::from_str(alloc, "breakpad")?,
+        String::from_str(alloc, row.kind)?,
         String::from_str(alloc, row.path)?,
     ]?;
     let mut files = MemFiles::new(alloc, 7);
-    files.put(alloc, row.at, row.file.as_bytes().to_vec(alloc)?)?;
+    files.put(alloc, row.at, row.file.to_vec(alloc)?)?;
     files.fail_call(alloc, row.faults.0)?;
     let mut from = MemIn::new(row.input.to_vec(alloc)?);
     from.fail_call(row.faults.1);
@@ -131,7 +134,7 @@ fn answers_addresses_in_their_order(rt: HostRuntime) -> Result<(), Fail> {
     ];
     for (file, input, written) in rows {
         let mut row = over_first("/a.sym", input, Status::Done, written);
-        row.file = file;
+        row.file = file.as_bytes();
         check(&rt, rt.alloc(), row)?;
     }
     Ok(())
@@ -153,7 +156,7 @@ fn ends_by_its_cause(rt: HostRuntime) -> Result<(), Fail> {
         Status::Refused,
         "refused: InvalidInput\n",
     );
-    row.file = BLANK_LINE;
+    row.file = BLANK_LINE.as_bytes();
     check(&rt, rt.alloc(), row)?;
     for faults in [(2, 0, 0), (0, 2, 0), (0, 0, 1)] {
         let mut row = over_first("/a.sym", ADDRESSES, Status::Fault, "");
@@ -217,7 +220,7 @@ fn writes_many_answers(rt: HostRuntime) -> Result<(), Fail> {
     let alloc = rt.alloc();
     let (input, written) = many_answers(alloc)?;
     let mut row = over_first("/a.sym", input.as_str(), Status::Done, written.as_str());
-    row.file = WIDE;
+    row.file = WIDE.as_bytes();
     check(&rt, alloc, row)
 }
 
@@ -227,7 +230,7 @@ fn keeps_the_piece_before_a_fault(rt: HostRuntime) -> Result<(), Fail> {
     let alloc = rt.alloc();
     let (input, written) = many_answers(alloc)?;
     let mut row = over_first("/a.sym", input.as_str(), Status::Fault, written.as_str());
-    row.file = WIDE;
+    row.file = WIDE.as_bytes();
     row.faults = (0, 0, 2);
     let (ended, front) = ending(alloc, row)?;
     assert!(rt;

@@ -8,6 +8,8 @@ ghost use Rattle.symq.specs.Words.{begins_with_dash, command_in, command_of};
 pub enum Command<'a> {
     /// The answers of the Breakpad file at a path.
     Breakpad(&'a str),
+    /// The answers of the GSYM file at a path.
+    Gsym(&'a str),
 }
 
 /// The command that the words give.
@@ -23,8 +25,12 @@ pub fn command_in(words: &[String]) -> Option<Command<'_>>
 fn named_command<'a>(kind: &str, path: &'a str) -> Option<Command<'a>>
     ensures { option_map command_of result ≡ command_in (kind.now ∷ path.now ∷ []) }
 {
-    if kind == "breakpad" && !begins_with_dash(path) {
+    if begins_with_dash(path) {
+        None
+    } else if kind == "breakpad" {
         Some(Command::Breakpad(path))
+    } else if kind == "gsym" {
+        Some(Command::Gsym(path))
     } else {
         None
     }

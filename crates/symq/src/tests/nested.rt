@@ -20,9 +20,10 @@ const ANSWERS: &str =
 #[test]
 fn answers_calls_in_calls(rt: HostRuntime) -> Result<(), Fail> {
     let row = Row {
+        kind: "breakpad",
         path: "/n.sym",
         at: "/n.sym",
-        file: NESTED,
+        file: NESTED.as_bytes(),
         input: b"1010\n1020\n1000\n",
         faults: (0, 0, 0),
         status: Status::Done,
