@@ -1,6 +1,6 @@
 -- What a symbol's data entries say of an address, and how a line table's state and the frames of an inline tree are joined to a
 -- name, a place in the source code and the calls that were inlined there.
-use Rattle.std.specs.Prelude.{ℕ, ◌==◌, ◌&&◌, Bool, false, is_none, if◌then◌else◌, List, [], ◌∷◌, length, Option, Some, None, option_map, slice_get}
+use Rattle.std.specs.Prelude.{◌≡◌, ℕ, ◌==◌, ◌&&◌, Bool, false, is_none, if◌then◌else◌, List, [], ◌∷◌, ◌++◌, length, map, Option, Some, None, option_map, slice_get}
 use Rattle.bz_base.specs.Answer.{Call, Site}
 use Rattle.bz_base.specs.declared.types.FindSymOpts.{FindSymOpts}
 use Rattle.bz_base.specs.declared.types.FindSymOpts.TheVariants as asked
@@ -69,6 +69,14 @@ seen_outside bytes frame inner = do
 abbrev pub seen_from : List ℕ → LineTableRow → List Frame → Option (Site × List Call)
 seen_from bytes row [] = option_map (λ site. (site, [])) (site_in bytes row.file_idx row.file_line)
 seen_from bytes row (frame ∷ frames) = seen_from bytes row frames >>= seen_outside bytes frame
+
+-- the same in whole lists: the sites are those of the calls, and then the line's; the code lies at the first of them, and each
+-- call has its name and the site after its own
+pub record IsSeen (bytes : List ℕ) (row : LineTableRow) (frames : List Frame) (seen : Site × List Call) : Type 0 where
+  pub inner : List Site
+  pub sites_are : map (λ site. Some site) (seen.0 ∷ inner) ≡ map (λ frame. site_in bytes frame.call_file frame.call_line) frames ++ site_in bytes row.file_idx row.file_line ∷ []
+  pub names_are : map (λ call. Some call.name) seen.1 ≡ map (λ frame. string_at (strings bytes) frame.name) frames
+  pub inner_are : map (λ call. call.site) seen.1 ≡ map (λ site. Some site) inner
 
 -- the name that the symbol has at an address, and where that lies in the source code
 pub record Placed : Type 0 where

@@ -1,8 +1,10 @@
 //! What holds of the definitions that the contracts cite.
 
 ghost use Rattle.std.specs.Prelude.{◌≡◌, ◌↔◌, true, ℕ, List, None, Some, slice_get};
+ghost use Rattle.bz_base.specs.Answer.{Call, Site};
 ghost use Rattle.bz_gsym.specs.Plain.{nearest_symbol};
 ghost use Rattle.bz_gsym.specs.Entries.{AreEntries, Entry, entries_in};
+ghost use Rattle.bz_gsym.specs.Joining.{IsSeen, seen_from};
 ghost use Rattle.bz_gsym.specs.LineTable.{followed, operator_at, picked, sought, states};
 ghost use Rattle.bz_gsym.specs.InlineReader.{frames_at, tree_at};
 ghost use Rattle.bz_gsym.specs.InlineSpelling.{IsTree};
@@ -58,4 +60,11 @@ pub fn frames_are_the_trees()
     ensures some { (addr base : ℕ) (bytes : List ℕ) (found : List Frame) → frames_at addr base bytes ≡ Some found →
         (tree : Nodes) × IsTree bytes tree × (frames addr base tree ≡ Some found) }
     ensures all { (addr base : ℕ) (bytes : List ℕ) (tree : Nodes) → IsTree bytes tree → frames_at addr base bytes ≡ frames addr base tree }
+{}
+
+/// What is seen from outside inlined calls: the symbol has the first call's site, each call the one of
+/// the call inside it, and the innermost call the line.
+pub fn calls_are_rotated()
+    ensures { (bytes : List ℕ) (row : LineTableRow) (calls : List Frame) (seen : Site × List Call) →
+        (seen_from bytes row calls ≡ Some seen) ↔ IsSeen bytes row calls seen }
 {}

@@ -3,6 +3,8 @@
 mod answers;
 mod heads;
 mod inlines;
+mod lines;
+mod places;
 mod searches;
 
 use std::alloc::{AllocError, Global};
