@@ -2,6 +2,7 @@ mod AnswerTextLemmas
 mod CommandLemmas
 mod EndLemmas
 mod FaultLemmas
+mod HexLemmas
 mod InputGrammarLemmas
 mod InputTextLemmas
 mod OpenLemmas

@@ -7,7 +7,9 @@ ghost use Rattle.bz_base.specs.Answer.Answer.{Unknown};
 ghost use Rattle.bz_base.specs.Path.{begins_with_slash, last_byte, path_text, slash_after};
 ghost use Rattle.symq.specs.AnswerText.{size_text, module_text, line_text, place_text, end_text, start_text, extent_text, call_text, calls_text, symbol_text, result_text, answer_text};
 
+use crate::hex::push_hex;
 use bz_base::{CodeInfo, Error, InlinedFn, Reason, Result, Sym, Symbolized};
+use itoa::Buffer;
 use std::alloc::Global;
 use std::borrow::CowStr;
 
@@ -26,7 +28,9 @@ pub fn push_answer(text: &mut String, addr: u64, answer: &Symbolized<'_>) -> Res
     ensures ok { OnOk result (string_bytes text.new ≡ string_bytes text.old ++ answer_text addr (reading answer.now)) }
     ensures memory { IsOkUnless result Error.OutOfMemory }
 {
-    write!(text, "0x{addr:x}: ")?;
+    text.push_str("0x")?;
+    push_hex(text, addr)?;
+    text.push_str(": ")?;
     match answer {
         Symbolized::Sym(symbol) => push_symbol(text, symbol),
         Symbolized::Unknown(reason) => push_reason(text, *reason),
@@ -58,9 +62,10 @@ fn push_start(text: &mut String, symbol: &Sym<'_>) -> Result<()>
     ensures memory { IsOkUnless result Error.OutOfMemory }
 {
     text.push_str(symbol.name.as_str())?;
-    let offset = symbol.offset;
-    let start = symbol.addr;
-    write!(text, "+0x{offset:x} start 0x{start:x}")?;
+    text.push_str("+0x")?;
+    push_hex(text, symbol.offset as u64)?;
+    text.push_str(" start 0x")?;
+    push_hex(text, symbol.addr)?;
     Ok(())
 }
 
@@ -78,7 +83,10 @@ fn push_size(text: &mut String, size: Option<usize>) -> Result<()>
     ensures memory { IsOkUnless result Error.OutOfMemory }
 {
     match size {
-        Some(size) => write!(text, " size 0x{size:x}")?,
+        Some(size) => {
+            text.push_str(" size 0x")?;
+            push_hex(text, size as u64)?
+        }
         None => text.push_str(" size -")?,
     }
     Ok(())
@@ -154,7 +162,9 @@ fn push_line(text: &mut String, line: Option<u32>) -> Result<()>
     ensures memory { IsOkUnless result Error.OutOfMemory }
 {
     if let Some(line) = line {
-        write!(text, ":{line}")?;
+        let mut digits = Buffer::new();
+        text.push_str(":")?;
+        text.push_str(digits.format(line))?;
     }
     Ok(())
 }

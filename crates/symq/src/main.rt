@@ -2,6 +2,7 @@
 #![tactic(auto)]
 
 mod answer;
+mod hex;
 mod input;
 mod laws;
 mod output;
