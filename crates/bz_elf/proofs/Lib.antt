@@ -1,0 +1,9 @@
+pub mod AnswerLemmas
+pub mod CheckLemmas
+pub mod FormatLemmas
+pub mod HeadLemmas
+pub mod NumberLemmas
+pub mod PlaceLemmas
+pub mod SectionLemmas
+pub mod SymbolLemmas
+pub mod TextLemmas

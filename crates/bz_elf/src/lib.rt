@@ -1,0 +1,11 @@
+//! ELF files: the functions that they name, and where their bytes are loaded.
+#![tactic(auto)]
+
+mod file;
+mod parser;
+mod resolver;
+mod search;
+mod types;
+
+pub use file::ElfFile;
+pub use resolver::ElfResolver;
