@@ -5,6 +5,8 @@ mod file;
 mod parser;
 mod resolver;
 mod search;
+#[cfg(test)]
+mod tests;
 mod types;
 
 pub use file::ElfFile;
