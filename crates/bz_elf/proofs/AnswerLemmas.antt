@@ -30,7 +30,7 @@ module _ {X : Type 0} (start size : X → ℕ) where
       omega (arith, is.starts_ascend i j first.0 last.0 order first.1 last.1, start_at start size table i first.0 first.1, start_at start size table j last.0 last.1)
 
 -- what all of a list pass, each of it passes
-passes_at : {X : Type 0} (test : X → Bool) (list : List X) (i : ℕ) (x : X) → list_all test list ≡ true → slice_get list i ≡ Some x → test x ≡ true
+pub passes_at : {X : Type 0} (test : X → Bool) (list : List X) (i : ℕ) (x : X) → list_all test list ≡ true → slice_get list i ≡ Some x → test x ≡ true
 passes_at test [] i x all there = absurd (none-some x there)
 passes_at {X} test (y ∷ list) zero x all there = ap test (sym (same_Some y x there)) ∙ (and_parts (test y) (list_all test list) all).0
 passes_at test (y ∷ list) (suc i) x all there = passes_at test list i x (and_parts (test y) (list_all test list) all).1 there

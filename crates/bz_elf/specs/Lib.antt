@@ -4,6 +4,7 @@ pub mod Head
 pub mod Kept
 pub mod Number
 pub mod Plain
+pub mod Profile
 pub mod Resolver
 pub mod Sections
 pub mod Seen

@@ -8,6 +8,7 @@ ghost use Rattle.bz_base.specs.declared.error.Error.{Error};
 ghost use Rattle.bz_cache.specs.Format.{IsRefusalBy};
 ghost use Rattle.bz_elf.specs.Format.{format_test};
 ghost use Rattle.bz_elf.specs.Plain.{plain, told_size};
+ghost use Rattle.bz_elf.specs.Profile.{IsElf};
 ghost use Rattle.bz_elf.specs.Seen.{answer_seen};
 ghost use Rattle.bz_elf.specs.Segments.{holds, segments, translated};
 ghost use Rattle.bz_elf.specs.Version.{format_refusals};
@@ -46,7 +47,7 @@ impl ElfFile {
     /// its numbers is first. InvalidData: the bytes aren't a file of the profile.
     pub fn from_bytes(alloc: Global, bytes: Vec<u8>) -> Result<ElfFile>
         ensures ok { IfOk result (λ file. file ≡ bytes.items) }
-        ensures accepted { IfOk result (λ file. format_test bytes.items ≡ None) }
+        ensures accepted { IfOk result (λ file. IsElf bytes.items) }
         ensures refusal { IfErr result (IsRefusalBy (format_test bytes.items)) }
     {
         let kept = parser::read(alloc, bytes.as_slice())?;

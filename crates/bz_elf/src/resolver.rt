@@ -6,6 +6,7 @@ ghost use Rattle.bz_base.specs.Resolution.{MayGive, StartsBefore, found_of};
 ghost use Rattle.bz_cache.specs.Format.{Comes, IsRefusalBy, MayFail};
 ghost use Rattle.bz_elf.specs.Format.{format_test};
 ghost use Rattle.bz_elf.specs.Plain.{plain};
+ghost use Rattle.bz_elf.specs.Profile.{IsElf};
 ghost use Rattle.bz_elf.specs.Resolver.{opened};
 ghost use Rattle.bz_elf.specs.Seen.{answer_seen};
 ghost use Rattle.bz_elf.specs.Segments.{segments, translated};
@@ -42,7 +43,7 @@ impl ElfResolver {
     pub fn open<F: Files>(alloc: Global, files: &mut F, path: &str) -> Result<ElfResolver>
         ensures answer { Told (in_view (F.worlds files.old)) (λ world. Comes (λ r. r.bytes) (opened (entry_at world path.now)) result) }
         ensures path { IfOk result (λ r. r.path ≡ path.now) }
-        ensures accepted { IfOk result (λ r. format_test r.bytes ≡ None) }
+        ensures accepted { IfOk result (λ r. IsElf r.bytes) }
         ensures opened { OnOk result (F.opens files.new ≡ counted (F.opens files.old)) }
         ensures most { ReadsOne F.Files files.old files.new }
         ensures files { Looked F.Files files.old files.new (Faulted result) }
@@ -55,7 +56,7 @@ impl ElfResolver {
     /// Takes the bytes of a file. The path names the module, and isn't looked at.
     pub fn from_bytes(alloc: Global, path: &str, bytes: Vec<u8>) -> Result<ElfResolver>
         ensures ok { IfOk result (λ r. r ≡ record { bytes = bytes.items; path = path.now }) }
-        ensures accepted { IfOk result (λ r. format_test bytes.items ≡ None) }
+        ensures accepted { IfOk result (λ r. IsElf bytes.items) }
         ensures refusal { IfErr result (IsRefusalBy (format_test bytes.items)) }
     {
         let file = ElfFile::from_bytes(alloc, bytes)?;

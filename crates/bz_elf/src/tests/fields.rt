@@ -1,6 +1,6 @@
 //! Which files are taken.
 
-use crate::ElfFile;
+use crate::{ElfFile, laws};
 use crate::tests::{E1, damaged};
 use bz_base::Error;
 use std::alloc::Global;
@@ -127,6 +127,8 @@ fn fields_are_checked(rt: HostRuntime) -> Result<(), Fail> {
 fn a_cut_file_is_refused_by_its_first_fault(rt: HostRuntime) -> Result<(), Fail> {
     let alloc = rt.alloc();
 
+    laws::files_are_exact();
+    laws::names_are_exact();
     let other = damaged(alloc, &E1, 4, b"\x01")?;
     for len in 0..368usize {
         let bytes = E1[..len].to_vec(alloc)?;
