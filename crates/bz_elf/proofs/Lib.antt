@@ -1,0 +1,11 @@
+pub mod AnswerLemmas
+pub mod CheckLemmas
+pub mod FormatLemmas
+pub mod HeadLemmas
+pub mod NameLaws
+pub mod NumberLemmas
+pub mod PlaceLemmas
+pub mod ProfileLaws
+pub mod SectionLemmas
+pub mod SymbolLemmas
+pub mod TextLemmas

@@ -1,0 +1,13 @@
+pub mod Checks
+pub mod Format
+pub mod Head
+pub mod Kept
+pub mod Number
+pub mod Plain
+pub mod Profile
+pub mod Resolver
+pub mod Sections
+pub mod Seen
+pub mod Segments
+pub mod Symbols
+pub mod Version

@@ -1,0 +1,47 @@
+-- The load segments of an ELF file, and where a byte of the file lies when they are loaded.
+use Rattle.std.specs.Prelude.{ℕ, ◌+◌, ◌-◌, ◌==◌, ◌&&◌, nat_le, nat_lt, Bool, if◌then◌else◌, List, Option, Some, None, option_and_then}
+use Rattle.std.specs.List.{filter_map, find}
+use Rattle.bz_base.specs.Span.{last_address}
+use Rattle.bz_elf.specs.Head.{program_place, program_count}
+use Rattle.bz_elf.specs.Number.{number_at, places}
+use Rattle.bz_elf.specs.declared.types.Segment.{Segment}
+
+-- the size of a program header
+abbrev pub program_header_len : ℕ
+program_header_len = 56
+
+-- the type of a load segment
+abbrev pub load : ℕ
+load = 1
+
+-- the segment of the program header at a place
+abbrev pub segment_at : List ℕ → ℕ → Segment
+segment_at bytes place = record {
+  offset = number_at 8 bytes (place + 8);
+  addr = number_at 8 bytes (place + 16);
+  size = number_at 8 bytes (place + 32);
+}
+
+-- if it is a load segment
+abbrev pub loaded_at : List ℕ → ℕ → Option Segment
+loaded_at bytes place = if number_at 4 bytes place == load then Some (segment_at bytes place) else None
+
+-- the load segments, in the order of the file
+unfoldable pub segments : List ℕ → List Segment
+segments bytes = filter_map (loaded_at bytes) (places (program_place bytes) program_header_len (program_count bytes))
+
+-- the segment holds the file's byte at an offset
+abbrev pub holds : ℕ → Segment → Bool
+holds offset segment = nat_le segment.offset offset && nat_lt (offset - segment.offset) segment.size
+
+-- an address of 64 bits
+abbrev pub fitting : ℕ → Option ℕ
+fitting addr = if nat_le addr last_address then Some addr else None
+
+-- the address at which a segment has the byte at an offset that it holds
+abbrev pub addr_in : ℕ → Segment → Option ℕ
+addr_in offset segment = fitting (segment.addr + (offset - segment.offset))
+
+-- the address of the byte at an offset, by the first of the segments that holds it
+abbrev pub translated : List Segment → ℕ → Option ℕ
+translated loaded offset = option_and_then (addr_in offset) (find (holds offset) loaded)

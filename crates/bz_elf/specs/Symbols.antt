@@ -1,0 +1,81 @@
+-- The symbols of an ELF file in its order: its functions, by name, start and size.
+use Rattle.std.specs.Prelude.{ℕ, ◌+◌, ◌/◌, ◌%◌, ◌==◌, ◌&&◌, ◌||◌, not, Bool, List, [], drop, map, Option, Some, None, if◌then◌else◌}
+use Rattle.std.specs.List.{list_any, before_first, filter_map}
+use Rattle.std.specs.Str.{is_utf8}
+use Rattle.bz_base.specs.Byte.{zero_byte}
+use Rattle.bz_elf.specs.Number.{number_at, places}
+use Rattle.bz_elf.specs.Sections.{symbol_table, strings}
+use Rattle.bz_elf.specs.declared.types.Section.{Section}
+use Rattle.bz_elf.specs.declared.types.SymbolEntry.{SymbolEntry}
+
+-- the size of an entry of a symbol table
+abbrev pub symbol_len : ℕ
+symbol_len = 24
+
+-- the types of symbols that are functions: called as they are, or chosen when the file is loaded
+abbrev pub function : ℕ
+function = 2
+
+abbrev pub indirect_function : ℕ
+indirect_function = 10
+
+abbrev pub is_function : ℕ → Bool
+is_function kind = kind == function || kind == indirect_function
+
+-- the symbol at a place counts: it is a function, and lies in a section
+abbrev pub counts : List ℕ → ℕ → Bool
+counts bytes place = is_function (number_at 1 bytes (place + 4) % 16) && not (number_at 2 bytes (place + 6) == 0)
+
+-- its numbers
+abbrev pub entry_at : List ℕ → ℕ → SymbolEntry
+entry_at bytes place = record {
+  name = number_at 4 bytes place;
+  start = number_at 8 bytes (place + 8);
+  size = number_at 8 bytes (place + 16);
+}
+
+-- if it counts
+abbrev pub counted_at : List ℕ → ℕ → Option SymbolEntry
+counted_at bytes place = if counts bytes place then Some (entry_at bytes place) else None
+
+-- where the entries of a symbol table lie
+abbrev pub places_of : Option Section → List ℕ
+places_of None = []
+places_of (Some table) = places table.offset symbol_len (table.size / symbol_len)
+
+-- the entries that count, in the order of the file
+unfoldable pub entries : List ℕ → List SymbolEntry
+entries bytes = filter_map (counted_at bytes) (places_of (symbol_table bytes))
+
+abbrev pub is_zero : ℕ → Bool
+is_zero byte = byte == zero_byte
+
+-- the bytes before the first zero byte
+abbrev pub before_zero : List ℕ → List ℕ
+before_zero bytes = before_first is_zero bytes
+
+-- those bytes, if there is a zero byte
+abbrev pub ended_text : List ℕ → Option (List ℕ)
+ended_text bytes = if list_any is_zero bytes then Some (before_zero bytes) else None
+
+-- a name stands in front of the bytes: UTF-8 that a zero byte ends
+abbrev pub is_name : List ℕ → Bool
+is_name bytes = list_any is_zero bytes && is_utf8 (before_zero bytes)
+
+-- the entry's name stands in the strings
+abbrev pub is_named : List ℕ → SymbolEntry → Bool
+is_named names entry = is_name (drop entry.name names)
+
+-- a symbol: its name, its first address, and how many bytes it has
+pub record Symbol : Type 0 where
+  pub name : List ℕ
+  pub start : ℕ
+  pub size : ℕ
+
+-- an entry with its name from the strings
+abbrev pub symbol_of : List ℕ → SymbolEntry → Symbol
+symbol_of names entry = record { name = before_zero (drop entry.name names); start = entry.start; size = entry.size }
+
+-- the symbols, in the order of the file
+abbrev pub symbols : List ℕ → List Symbol
+symbols bytes = map (symbol_of (strings bytes)) (entries bytes)

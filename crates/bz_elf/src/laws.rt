@@ -1,0 +1,20 @@
+//! What holds of the definitions that the contracts cite.
+
+ghost use Rattle.std.specs.Prelude.{◌≡◌, ◌↔◌, ℕ, List, None, Some, true, drop};
+ghost use Rattle.bz_base.specs.declared.error.Error.{Error};
+ghost use Rattle.bz_elf.specs.Format.{IsFirstFailing, checks, format_test};
+ghost use Rattle.bz_elf.specs.Profile.{IsElf, IsNameAt};
+ghost use Rattle.bz_elf.specs.Symbols.{before_zero, is_name};
+
+/// The test of an ELF file says what the relation says, and other bytes are refused by the first
+/// check that they fail.
+pub fn files_are_exact()
+    ensures taken { (bytes : List ℕ) → (format_test bytes ≡ None) ↔ IsElf bytes }
+    ensures refused { (bytes : List ℕ) (e : Error) → (format_test bytes ≡ Some e) ↔ ((index : ℕ) × IsFirstFailing checks bytes index e) }
+{}
+
+/// A name stands at a place of the strings by the test exactly where a zero byte ends it and it is
+/// UTF-8, and it is the one that stands there.
+pub fn names_are_exact()
+    ensures { (strings : List ℕ) (place : ℕ) (name : List ℕ) → ((is_name (drop place strings) ≡ true) × (before_zero (drop place strings) ≡ name)) ↔ IsNameAt strings place name }
+{}
