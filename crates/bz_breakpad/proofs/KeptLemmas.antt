@@ -1,8 +1,8 @@
 -- What is kept of a file as it is read: one record more leaves what was kept before.
-use Rattle.std.proofs.Common.{◌≡◌, ℕ, List, [], ◌∷◌, ◌++◌, map, refl, ap, ◌∙◌}
-use Rattle.std.specs.BTreeMap.{BTreeMap, insert_entry}
+use Rattle.std.proofs.Common.{◌≡◌, ℕ, Bool, true, false, cond, List, [], ◌∷◌, ◌++◌, map, Some, refl, ap, subst, ◌∙◌}
+use Rattle.std.specs.BTreeMap.{insert_entry}
 use Rattle.std.specs.List.{AllByRecursion}
-use Rattle.std.specs.Map.{values_of}
+use Rattle.std.specs.Map.{lookup, values_of}
 use Rattle.std.specs.Ordering.{nat_cmp}
 use Rattle.std.specs.declared.cmp.Ordering.{Ordering}
 use Rattle.std.specs.declared.cmp.Ordering.TheVariants.{Less, Equal, Greater}
@@ -51,14 +51,23 @@ values_with P (e ∷ entries) id part all one = by (nat_cmp id e.0) refl (values
   by Equal order rest = rw order (one, all.1)
   by Greater order rest = rw order (all.0, rest)
 
+-- what holds of each value holds of the one that is found
+pub value_found : {K X : Type 0} (P : X → Type 0) (test : K → Bool) (entries : List (K × X)) (x : X) → AllByRecursion P (values_of entries) →
+    Some x ≡ lookup test entries → P x
+value_found P test [] x all is = cc
+value_found P test (e ∷ entries) x all is = by (test e.0) is (value_found P test entries x all.1) where
+  by : (b : Bool) → Some x ≡ cond b (Some e.1) (lookup test entries) → (Some x ≡ lookup test entries → P x) → P x
+  by true same later = let here : e.1 ≡ x = cc in subst P here all.0
+  by false same later = later same
+
 -- the names with one more
-pub names_so_far : (bytes : List ℕ) (old new : BTreeMap ℕ Part) (id : ℕ) (part : Part) (name : List ℕ) (list : List (ℕ × List ℕ)) →
-    new.entries ≡ insert_entry nat_cmp old.entries id part → IsNameAt bytes part name → NamesSoFar bytes old list →
+pub names_so_far : (bytes : List ℕ) (old new : List (ℕ × Part)) (id : ℕ) (part : Part) (name : List ℕ) (list : List (ℕ × List ℕ)) →
+    new ≡ insert_entry nat_cmp old id part → IsNameAt bytes part name → NamesSoFar bytes old list →
     NamesSoFar bytes new (with_name list (record { id = id; name = name }))
 names_so_far bytes old new id part name list inserted named so_far = record {
   are =
       ap (map (λ (e : ℕ × Part). (e.0, text_at bytes e.1))) inserted
-      ∙ names_with bytes old.entries id part name named.is
+      ∙ names_with bytes old id part name named.is
       ∙ ap (λ names. with_name names (record { id = id; name = name })) so_far.are;
-  fit = rw inserted (values_with (IsTextAt bytes) old.entries id part so_far.fit named.fits);
+  fit = rw inserted (values_with (IsTextAt bytes) old id part so_far.fit named.fits);
 }

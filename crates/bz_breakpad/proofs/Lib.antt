@@ -2,6 +2,7 @@ pub mod AddressLaws
 pub mod Apart
 pub mod Bytes
 pub mod ChoiceLaws
+pub mod DenseLemmas
 pub mod FinishLemmas
 pub mod FoldLaws
 pub mod FormLaws

@@ -1,7 +1,6 @@
 -- What is kept of a file, as its bytes say it.
 use Rattle.std.specs.Prelude.{◌≡◌, ◌≤◌, ℕ, List, length, drop, map, Option, Some, option_map, IsUtf8, slice_range, IfSome, IsSome}
 use Rattle.std.specs.List.{AllByRecursion, filter_map}
-use Rattle.std.specs.BTreeMap.{BTreeMap}
 use Rattle.std.specs.Map.{values_of}
 use Rattle.bz_breakpad.specs.Choice.{body_at}
 use Rattle.bz_breakpad.specs.Line.{line_front, line_in}
@@ -86,8 +85,9 @@ kept_functions bytes t = map (kept_function bytes t.lines.items t.inlinees.items
 abbrev pub current_function : List ℕ → FunctionTable → KeptFunction → Function
 current_function bytes t f = function_of bytes f (drop f.lines.from t.lines.items) (drop f.inlinees.from t.inlinees.items)
 
-abbrev pub kept_names : List ℕ → BTreeMap ℕ Part → List (ℕ × List ℕ)
-kept_names bytes names = map (λ entry. (entry.0, text_at bytes entry.1)) names.entries
+-- the names of ids
+abbrev pub kept_names : List ℕ → List (ℕ × Part) → List (ℕ × List ℕ)
+kept_names bytes names = map (λ entry. (entry.0, text_at bytes entry.1)) names
 
 abbrev pub kept_public : List ℕ → KeptPublic → PublicSymbol
 kept_public bytes p = record { start = p.start; parameter_size = p.parameter_size; name = text_at bytes p.name }
@@ -129,8 +129,8 @@ FunctionStands bytes lines f = StandAs (line_starts bytes (slice_range lines f.l
 abbrev pub FunctionsStand : List ℕ → FunctionTable → Type 0
 FunctionsStand bytes t = AllByRecursion (FunctionStands bytes t.lines.items) t.functions.items
 
-abbrev pub NamesFit : List ℕ → BTreeMap ℕ Part → Type 0
-NamesFit bytes names = AllByRecursion (IsTextAt bytes) (values_of names.entries)
+abbrev pub NamesFit : List ℕ → List (ℕ × Part) → Type 0
+NamesFit bytes names = AllByRecursion (IsTextAt bytes) (values_of names)
 
 abbrev pub PublicsFit : List ℕ → List KeptPublic → Type 0
 PublicsFit bytes publics = AllByRecursion (λ p. IsTextAt bytes p.name) publics
@@ -159,7 +159,7 @@ pub record IsNameAt (bytes : List ℕ) (part : Part) (name : List ℕ) : Type 0 
   pub fits : IsTextAt bytes part
   pub is : text_at bytes part ≡ name
 
-pub record NamesSoFar (bytes : List ℕ) (kept : BTreeMap ℕ Part) (names : List (ℕ × List ℕ)) : Type 0 where
+pub record NamesSoFar (bytes : List ℕ) (kept : List (ℕ × Part)) (names : List (ℕ × List ℕ)) : Type 0 where
   pub are : kept_names bytes kept ≡ names
   pub fit : NamesFit bytes kept
 

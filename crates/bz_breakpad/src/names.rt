@@ -1,19 +1,91 @@
 //! The names of ids.
 
-ghost use Rattle.std.specs.Prelude.{◌≡◌, option_map};
+ghost use Rattle.std.specs.Prelude.{◌≡◌, [], length, option_map, OnOk};
+ghost use Rattle.std.specs.BTreeMap.{insert_entry, is_at};
+ghost use Rattle.std.specs.Map.{lookup};
+ghost use Rattle.std.specs.Ordering.{nat_cmp};
 ghost use Rattle.bz_breakpad.specs.Kept.{NamesFit, kept_names};
 ghost use Rattle.bz_breakpad.specs.Names.{name_for};
 
 use crate::function::text_of;
 use crate::types::Part;
+use std::alloc::{AllocError, Global};
 use std::collections::BTreeMap;
+use std::marker::Model;
+
+/// The names of ids, as parts of a file's bytes. Contracts see the ids with their parts, in the
+/// order of the ids.
+#[derive(Drop)]
+pub(crate) struct Names {
+    /// The names of the ids from 0 on, as far as they came one after another.
+    dense: Vec<Part>,
+    /// The names of the other ids.
+    sparse: BTreeMap<u32, Part>,
+}
+
+impl Model for Names {
+    ghost use Rattle.std.specs.Prelude.{◌≤◌, ◌^◌, ◌++◌, ℕ, List, length};
+    ghost use Rattle.std.specs.List.{enumerate_from};
+    ghost use Rattle.bz_breakpad.specs.declared.types.Part.{Part};
+
+    ghost Value = { List (ℕ × Part) };
+
+    ghost view = { λ names. enumerate_from 0 names.dense.items ++ names.sparse.entries };
+
+    ghost invariant = { λ names. length names.dense.items ≤ 2 ^ 32 };
+}
+
+impl Names {
+    /// No names.
+    pub(crate) fn new(alloc: Global) -> Names
+        ensures { result ≡ [] }
+    {
+        Names {
+            dense: Vec::new(alloc),
+            sparse: BTreeMap::new(alloc),
+        }
+    }
+
+    /// How many ids have a name.
+    pub(crate) fn len(&self) -> usize
+        ensures { result ≡ length self.now }
+    {
+        self.dense.len() + self.sparse.len()
+    }
+
+    /// The part of the name of an id.
+    fn get(&self, id: u32) -> Option<&Part>
+        ensures { option_map (λ part. part.now) result ≡ lookup (is_at (nat_cmp id)) self.now }
+    {
+        match self.dense.get(id as usize) {
+            Some(part) => Some(part),
+            None => self.sparse.get(&id),
+        }
+    }
+
+    /// Keeps the name of an id, in place of one that was kept before.
+    pub(crate) fn insert(&mut self, id: u32, part: Part) -> Result<(), AllocError>
+        ensures { OnOk result (self.new ≡ insert_entry nat_cmp self.old id part) }
+    {
+        let at = id as usize;
+        let count = self.dense.len();
+        if at < count {
+            self.dense[at] = part;
+        } else if at == count && self.sparse.is_empty() {
+            self.dense.push(part)?;
+        } else {
+            self.sparse.insert(id, part)?;
+        }
+        Ok(())
+    }
+}
 
 /// The name of an id.
-pub(crate) fn name_of<'a>(bytes: &'a [u8], names: &BTreeMap<u32, Part>, id: u32) -> Option<&'a str>
+pub(crate) fn name_of<'a>(bytes: &'a [u8], names: &Names, id: u32) -> Option<&'a str>
     requires { NamesFit bytes.now names.now }
     ensures { option_map (λ name. name.now) result ≡ name_for id (kept_names bytes.now names.now) }
 {
-    match names.get(&id) {
+    match names.get(id) {
         Some(part) => Some(text_of(bytes, part)),
         None => None,
     }

@@ -1,6 +1,6 @@
 //! What is kept of a Breakpad file: numbers, and places in its bytes.
 
-use std::collections::BTreeMap;
+use crate::names::Names;
 
 /// A part of the file's bytes or of a table: from the first of its places up to the last, which
 /// isn't in it.
@@ -78,9 +78,9 @@ pub(crate) struct KeptTable {
     /// The FUNC records.
     pub code: FunctionTable,
     /// The names of files, by id.
-    pub files: BTreeMap<u32, Part>,
+    pub files: Names,
     /// The names of inlined functions, by id.
-    pub origins: BTreeMap<u32, Part>,
+    pub origins: Names,
     /// The PUBLIC records, in the order of the file.
     pub publics: Vec<KeptPublic>,
 }

@@ -1,8 +1,6 @@
 //! What has been read of a file so far, and one line more.
 
 ghost use Rattle.std.specs.Prelude.{◌≡◌, ◌+◌, ◌∷◌, ◌++◌, [], ℕ, List, length, Some, IfSome, OnOk};
-ghost use Rattle.std.specs.BTreeMap.{insert_entry};
-ghost use Rattle.std.specs.Ordering.{nat_cmp};
 ghost use Rattle.bz_breakpad.specs.Kept.{IsNameAt, IsRecordAt, IsSoFar, PublicsSoFar};
 ghost use Rattle.bz_breakpad.specs.Line.{EndsWith};
 ghost use Rattle.bz_breakpad.specs.Reader.{Reading, nothing_read, with_record};
@@ -11,11 +9,11 @@ ghost use Rattle.bz_breakpad.specs.Told.{InnerStands, inner_told, public_symbol,
 ghost use Rattle.bz_breakpad.specs.Walk.{Context, body_record};
 ghost use Rattle.bz_breakpad.specs.Walk.Record.{OfFunc, Top};
 
+use crate::names::Names;
 use crate::parser::functions::FunctionsReading;
 use crate::parser::record::{InnerLine, PublicLine, Range, RecordLine, TopLine};
 use crate::types::{KeptPublic, Part};
 use std::alloc::{AllocError, Global};
-use std::collections::BTreeMap;
 
 /// What has been read of a file, up to the end of a line.
 #[derive(Drop)]
@@ -25,9 +23,9 @@ pub(crate) struct KeptReading {
     /// The FUNC records, with what stands under them.
     pub functions: FunctionsReading,
     /// The names of files, by id.
-    pub files: BTreeMap<u32, Part>,
+    pub files: Names,
     /// The names of inlined functions, by id.
-    pub origins: BTreeMap<u32, Part>,
+    pub origins: Names,
     /// The PUBLIC records, in the order of the file.
     pub publics: Vec<KeptPublic>,
 }
@@ -40,8 +38,8 @@ impl KeptReading {
         KeptReading {
             module: None,
             functions: FunctionsReading::new(alloc),
-            files: BTreeMap::new(alloc),
-            origins: BTreeMap::new(alloc),
+            files: Names::new(alloc),
+            origins: Names::new(alloc),
             publics: Vec::new(alloc),
         }
     }
@@ -55,10 +53,8 @@ impl KeptReading {
         self.functions.close()?;
         match top {
             TopLine::Module(name) => self.module = Some(name_part(name, end)),
-            TopLine::File(id, path) => keep_name(&mut self.files, id, name_part(path, end))?,
-            TopLine::InlineOrigin(id, name) => {
-                keep_name(&mut self.origins, id, name_part(name, end))?
-            }
+            TopLine::File(id, path) => self.files.insert(id, name_part(path, end))?,
+            TopLine::InlineOrigin(id, name) => self.origins.insert(id, name_part(name, end))?,
             TopLine::Public(public) => keep_public(
                 &mut self.publics,
                 &public,
@@ -87,9 +83,7 @@ impl KeptReading {
         match inner {
             InnerLine::Code(_) => self.functions.line(start, None)?,
             InnerLine::Inline(call) => self.functions.inline(&call, ranges)?,
-            InnerLine::Origin(id, name) => {
-                keep_name(&mut self.origins, id, name_part(name, end))?
-            }
+            InnerLine::Origin(id, name) => self.origins.insert(id, name_part(name, end))?,
         }
         Ok(())
     }
@@ -124,14 +118,6 @@ fn name_part(name: &str, end: usize) -> Part
         from: end.saturating_sub(name.len()),
         to: end,
     }
-}
-
-/// Keeps the name of an id, in place of one that was kept before.
-fn keep_name(names: &mut BTreeMap<u32, Part>, id: u32, part: Part) -> Result<(), AllocError>
-    ensures { OnOk result (names.new.entries ≡ insert_entry nat_cmp names.old.entries id part) }
-{
-    names.insert(id, part)?;
-    Ok(())
 }
 
 /// Keeps a PUBLIC record.

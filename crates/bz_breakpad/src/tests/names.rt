@@ -31,6 +31,53 @@ fn names_by_ids(rt: HostRuntime) -> Result<(), Fail> {
     Ok(())
 }
 
+/// FILE records, how many ids they have, and the names of some ids: of ids in order from 0, with a
+/// gap, out of order, repeated, and of the last id that there is.
+const NUMBERED: [(&[u8], usize, [(u32, Option<&str>); 4]); 5] = [
+    (
+        b"FILE 0 a\nFILE 1 b\nFILE 2 c\n",
+        3,
+        [(0, Some("a")), (1, Some("b")), (2, Some("c")), (3, None)],
+    ),
+    (
+        b"FILE 0 a\nFILE 2 c\nFILE 1 b\n",
+        3,
+        [(0, Some("a")), (1, Some("b")), (2, Some("c")), (3, None)],
+    ),
+    (
+        b"FILE 2 c\nFILE 0 a\nFILE 3 d\n",
+        3,
+        [(0, Some("a")), (1, None), (2, Some("c")), (3, Some("d"))],
+    ),
+    (
+        b"FILE 0 a\nFILE 0 b\nFILE 2 c\nFILE 1 d\nFILE 1 e\nFILE 2 f\n",
+        3,
+        [(0, Some("b")), (1, Some("e")), (2, Some("f")), (3, None)],
+    ),
+    (
+        b"FILE 0 a\nFILE 4294967295 y\nFILE 4294967295 z\n",
+        2,
+        [
+            (0, Some("a")),
+            (1, None),
+            (4294967294, None),
+            (4294967295, Some("z")),
+        ],
+    ),
+];
+
+#[test]
+fn names_of_numbered_ids(rt: HostRuntime) -> Result<(), Fail> {
+    for (text, count, names) in NUMBERED {
+        let file = file_of(rt.alloc(), text)?;
+        assert_eq!(rt; file.file_count(), count);
+        for (id, name) in names {
+            assert_eq!(rt; file.file(id), name, "at {id}");
+        }
+    }
+    Ok(())
+}
+
 /// The address, the size of the parameters and the name of each PUBLIC record.
 const PUBLICS: [(u64, u32, &str); 2] = [(0x1234, 0x10, "some public"), (0xff, 0xffffffff, "")];
 

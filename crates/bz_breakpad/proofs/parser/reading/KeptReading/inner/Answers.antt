@@ -28,8 +28,8 @@ returns-in_ok-inline-in-Inline c bytes body reading stands end inner is =
       publics = is.publics;
     })
 
-pub returns-in_ok-keep_name-in-Origin : goal.returns-in_ok-keep_name-in-Origin
-returns-in_ok-keep_name-in-Origin c bytes body reading stands end inner is =
+pub returns-in_ok-insert-in-Origin : goal.returns-in_ok-insert-in-Origin
+returns-in_ok-insert-in-Origin c bytes body reading stands end inner is =
     let functions = c.args.self.now.functions in
     let named = c.name_part.ensures bytes body c.args.start stands end (rw c.in-Origin.is at inner) in
     let sub = SubOrigin (record { id = c.in-Origin.id; name = c.in-Origin.name.now }) in
@@ -40,7 +40,7 @@ returns-in_ok-keep_name-in-Origin c bytes body reading stands end inner is =
           (sym (append-nil functions.table.inlinees.items)) tt refl refl functions.standing functions.standing (stand_same functions.standing) functions.current reading.closed reading.current refl is.functions;
       files = is.files;
       origins =
-          names_so_far bytes c.args.self.now.origins c.keep_name.new.names c.in-Origin.id c.name_part.result c.in-Origin.name.now reading.origins
-          c.in_ok-keep_name-in-Origin.ensures named is.origins;
+          names_so_far bytes c.args.self.now.origins c.insert.new.self c.in-Origin.id c.name_part.result c.in-Origin.name.now reading.origins
+          c.in_ok-insert-in-Origin.ensures named is.origins;
       publics = is.publics;
     })

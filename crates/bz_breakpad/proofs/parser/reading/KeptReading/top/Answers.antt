@@ -13,29 +13,29 @@ returns-in-Module c bytes body start reading stands end ends is =
       publics = is.publics;
     })
 
-pub returns-in_ok-keep_name-in-File : goal.returns-in_ok-keep_name-in-File
-returns-in_ok-keep_name-in-File c bytes body start reading stands end ends is =
+pub returns-in_ok-insert-in-File : goal.returns-in_ok-insert-in-File
+returns-in_ok-insert-in-File c bytes body start reading stands end ends is =
     let named = c.name_part-in-File.ensures bytes body start stands end (rw c.in-File.is at ends) in
     rw c.in-File.is (record {
       module_is = is.module_is;
       functions = c.in_ok-close.ensures bytes reading.closed reading.current is.functions;
       files =
-          names_so_far bytes c.args.self.now.files c.keep_name.new.names c.in-File.id c.name_part-in-File.result c.in-File.path.now reading.files
-          c.in_ok-keep_name-in-File.ensures named is.files;
+          names_so_far bytes c.args.self.now.files c.insert.new.self c.in-File.id c.name_part-in-File.result c.in-File.path.now reading.files
+          c.in_ok-insert-in-File.ensures named is.files;
       origins = is.origins;
       publics = is.publics;
     })
 
-pub returns-in_ok-keep_name-in-InlineOrigin : goal.returns-in_ok-keep_name-in-InlineOrigin
-returns-in_ok-keep_name-in-InlineOrigin c bytes body start reading stands end ends is =
+pub returns-in_ok-insert-in-InlineOrigin : goal.returns-in_ok-insert-in-InlineOrigin
+returns-in_ok-insert-in-InlineOrigin c bytes body start reading stands end ends is =
     let named = c.name_part-in-InlineOrigin.ensures bytes body start stands end (rw c.in-InlineOrigin.is at ends) in
     rw c.in-InlineOrigin.is (record {
       module_is = is.module_is;
       functions = c.in_ok-close.ensures bytes reading.closed reading.current is.functions;
       files = is.files;
       origins =
-          names_so_far bytes c.args.self.now.origins c.keep_name-in-InlineOrigin.new.names c.in-InlineOrigin.id c.name_part-in-InlineOrigin.result
-          c.in-InlineOrigin.name.now reading.origins c.in_ok-keep_name-in-InlineOrigin.ensures named is.origins;
+          names_so_far bytes c.args.self.now.origins c.insert-in-InlineOrigin.new.self c.in-InlineOrigin.id c.name_part-in-InlineOrigin.result
+          c.in-InlineOrigin.name.now reading.origins c.in_ok-insert-in-InlineOrigin.ensures named is.origins;
       publics = is.publics;
     })
 
