@@ -5,7 +5,7 @@ use Rattle.std.proofs.lemmas.Option.{same_Some}
 use Rattle.bz_base.specs.Cursor.{IsInFront, IsWord, byte_at, word_at}
 use Rattle.bz_base.specs.Leb128.{IsUleb, uleb_at}
 use Rattle.bz_base.proofs.PieceOfBytesLemmas.{map_some}
-use Rattle.bz_gsym.specs.InlineReader.{◌>>=◌, range_at, before, ranges_at, Tail, tail_at, filled_at, there, head_at}
+use Rattle.bz_gsym.specs.InlineReader.{range_at, before, ranges_at, Tail, tail_at, filled_at, there, head_at}
 use Rattle.bz_gsym.specs.InlineSpelling.{AreRanges, IsHead}
 use Rattle.bz_gsym.specs.InlineTree.{Head}
 use Rattle.bz_gsym.proofs.InlinePieceLemmas.{byte_front, uleb_again, uleb_front, word_again, word_front}

@@ -1,5 +1,5 @@
 -- What a reading leaves is shorter, and siblings are read alike with any reach that is far enough.
-use Rattle.std.proofs.Common.{◌≡◌, ℕ, zero, suc, ◌<◌, ◌≤◌, true, false, List, [], ◌∷◌, length, Bool, cond, Option, Some, None, option_map, nat_lt, nat_eq, refl, ap, ◌∙◌, arith}
+use Rattle.std.proofs.Common.{◌≡◌, ℕ, zero, suc, ◌<◌, ◌≤◌, true, false, List, length, Bool, cond, Option, Some, None, option_map, nat_eq, refl, ap, ◌∙◌, arith}
 use Rattle.std.proofs.lemmas.Option.{none-some, same_Some}
 use Rattle.bz_gsym.specs.InlineTree.{Head, Nodes}
 use Rattle.bz_base.specs.Cursor.{byte_at, word_at}

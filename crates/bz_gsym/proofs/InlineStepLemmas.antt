@@ -1,16 +1,14 @@
 -- The frames of what is left of an inline tree are what the next node gives, and the frames of what is left then.
-use Rattle.std.proofs.Common.{◌≡◌, ℕ, true, false, List, [], ◌∷◌, ◌++◌, Bool, cond, Option, Some, None, option_map, refl, sym, ap, ◌∙◌, append_assoc, reverse, length, ◌<◌, arith}
-use Rattle.std.proofs.lemmas.Option.{same_Some}
+use Rattle.std.proofs.Common.{◌≡◌, ℕ, true, false, List, [], ◌∷◌, ◌++◌, Bool, cond, Option, Some, None, option_map, refl, sym, ap, ◌∙◌, append_assoc}
 use Rattle.std.proofs.lemmas.Bool.{false≢true, not-true, not-false}
-use Rattle.std.proofs.lemmas.List.{append-nil, reverse-append}
+use Rattle.std.proofs.lemmas.List.{append-nil}
 use Rattle.bz_gsym.specs.InlineTree.{Head, Nodes, Frame, matches, children_base, frame_of, with_frame, both, frames}
 use Rattle.bz_gsym.specs.InlineTree.Nodes.{Ended, Node}
 use Rattle.bz_gsym.specs.InlineReader.{◌>>=◌, head_at, node_before, children_by, node_by, root_by, nodes_at, tree_at, frames_at}
 use Rattle.bz_gsym.specs.declared.inline.node.Level.{Level}
 use Rattle.bz_gsym.specs.declared.inline.node.Level.TheVariants.{PassedOver, Read}
-use Rattle.bz_gsym.specs.InlineWalk.{Visit, is_refused, own_frame, inner_level, visit, visit_next, visit_at, level_frames, open_frames, opened, walked, walked_root, after_front}
-use Rattle.bz_gsym.proofs.InlineReaderLemmas.{nodes_at-step, bind_then, head_at-shorter}
-use Rattle.bz_base.proofs.PieceOfBytesLemmas.{map_some}
+use Rattle.bz_gsym.specs.InlineWalk.{Visit, is_refused, own_frame, inner_level, visit_next, visit_at, level_frames, open_frames, opened, walked, walked_root}
+use Rattle.bz_gsym.proofs.InlineReaderLemmas.{nodes_at-step}
 
 both_nothing : {A : Type 0} (o : Option (List A)) → both (Some []) o ≡ o
 both_nothing None = refl

@@ -7,7 +7,7 @@ use Rattle.bz_gsym.specs.InlineReader.{◌>>=◌, head_at, frames_at}
 use Rattle.bz_gsym.specs.InlineTree.{Head, Frame, with_frame}
 use Rattle.bz_gsym.specs.InlineWalk.{Visit, visit, visit_next, visit_at, open_frames, opened, walked, walked_root, after_front}
 use Rattle.bz_gsym.specs.declared.inline.node.Level.{Level}
-use Rattle.bz_gsym.specs.declared.inline.node.Level.TheVariants.{PassedOver, Read}
+use Rattle.bz_gsym.specs.declared.inline.node.Level.TheVariants.{Read}
 use Rattle.bz_gsym.proofs.InlineReaderLemmas.{bind_then, head_at-shorter}
 use Rattle.bz_gsym.proofs.InlineStepLemmas.{frames_at-step, open_frames-step}
 

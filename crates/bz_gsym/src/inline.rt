@@ -62,6 +62,7 @@ impl InlineInfo {
 }
 
 /// Keeps what a node gave.
+#[inline(always)]
 fn keep(frames: &mut Vec<InlineFrame>, nodes: &mut Vec<Level>, found: Visit) -> Result<()>
     ensures frames { OnOk result (frames_seen frames.new.items ≡ frames_seen frames.old.items ++ with_frame (option_map frame_seen found.frame) []) }
     ensures nodes { OnOk result (reverse nodes.new.items ≡ opened found.inside (reverse nodes.old.items)) }
@@ -77,6 +78,7 @@ fn keep(frames: &mut Vec<InlineFrame>, nodes: &mut Vec<Level>, found: Visit) -> 
 }
 
 /// What the next node gives, or None at the end of siblings.
+#[inline(always)]
 fn visit(cursor: &mut Cursor<'_>, level: Level, addr: u64) -> Option<Option<Visit>>
     ensures some { IfSome result (λ found. visit_at addr level cursor.old.left ≡ Some (option_map visit_seen found, cursor.new.left)) }
     ensures none { IfNone result (visit_at addr level cursor.old.left ≡ None) }
@@ -93,6 +95,7 @@ fn visit(cursor: &mut Cursor<'_>, level: Level, addr: u64) -> Option<Option<Visi
 
 /// What a node that is passed over gives.
 #[tactic(auto, unfolding(crate::specs::InlineWalk::passed_at, crate::specs::InlineReader::filled_at))]
+#[inline(always)]
 fn pass_over(cursor: &mut Cursor<'_>, count: u64) -> Option<Visit>
     ensures some { IfSome result (λ found. passed_at count cursor.old.left ≡ Some (visit_seen found, cursor.new.left)) }
     ensures none { IfNone result (passed_at count cursor.old.left ≡ None) }
@@ -107,6 +110,7 @@ fn pass_over(cursor: &mut Cursor<'_>, count: u64) -> Option<Visit>
 
 /// What a node that is read gives.
 #[tactic(auto, unfolding(crate::specs::InlineRanges::read_at))]
+#[inline(always)]
 fn read_node(cursor: &mut Cursor<'_>, count: u64, base: u64, addr: u64) -> Option<Visit>
     ensures some { IfSome result (λ found. read_at addr base count cursor.old.left ≡ Some (visit_seen found, cursor.new.left)) }
     ensures none { IfNone result (read_at addr base count cursor.old.left ≡ None) }
@@ -124,6 +128,7 @@ fn read_node(cursor: &mut Cursor<'_>, count: u64, base: u64, addr: u64) -> Optio
 
 /// A node's frame, where it matches and has a name.
 #[tactic(auto, unfolding(crate::specs::InlineTree::frame_by))]
+#[inline(always)]
 fn frame(tail: &Tail, matches: bool) -> Option<InlineFrame>
     requires { tail.now.call_file < 4294967296 }
     ensures { option_map frame_seen result ≡ (if matches then frame_by tail.now.name tail.now.call_file tail.now.call_line else None) }
@@ -139,6 +144,7 @@ fn frame(tail: &Tail, matches: bool) -> Option<InlineFrame>
 }
 
 /// How the children of a node are taken, if it has some.
+#[inline(always)]
 fn inside(tail: &Tail, span: &Span) -> Option<Level>
     ensures { result ≡ (if tail.now.has_children then Some (if span.now.covers then Read span.now.start else PassedOver) else None) }
 {

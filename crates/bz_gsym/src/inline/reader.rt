@@ -10,6 +10,7 @@ use bz_base::Cursor;
 
 /// A range: its offset and its size.
 #[tactic(auto, unfolding(crate::specs::InlineReader::range_at))]
+#[inline(always)]
 fn range(cursor: &mut Cursor<'_>) -> Option<(u64, u64)>
     ensures some { IfSome result (λ range. range_at cursor.old.left ≡ Some (range, cursor.new.left)) }
     ensures none { IfNone result (range_at cursor.old.left ≡ None) }
@@ -20,6 +21,7 @@ fn range(cursor: &mut Cursor<'_>) -> Option<(u64, u64)>
 }
 
 /// Leaves so many ranges behind.
+#[inline(always)]
 pub(crate) fn skip_ranges(cursor: &mut Cursor<'_>, count: u64) -> Option<()>
     ensures some { IfSome result (λ _. after_ranges count cursor.old.left ≡ Some cursor.new.left) }
     ensures none { IfNone result (after_ranges count cursor.old.left ≡ None) }
@@ -31,6 +33,7 @@ pub(crate) fn skip_ranges(cursor: &mut Cursor<'_>, count: u64) -> Option<()>
 }
 
 /// What so many ranges say of the address, unless one of them passes 64 bits.
+#[inline(always)]
 pub(crate) fn read_ranges(cursor: &mut Cursor<'_>, count: u64, base: u64, addr: u64) -> Option<Span>
     ensures some { IfSome result (λ span. span_at addr base count cursor.old.left ≡ Some (span_seen span, cursor.new.left)) }
     ensures none { IfNone result (span_at addr base count cursor.old.left ≡ None) }
@@ -49,6 +52,7 @@ pub(crate) fn read_ranges(cursor: &mut Cursor<'_>, count: u64, base: u64, addr: 
 }
 
 /// Adds a range after so many others.
+#[inline(always)]
 fn add_range(span: &mut Span, seen: u64, start: u64, end: u64, addr: u64)
     ensures covers { span.new.covers ≡ (span.old.covers || (nat_le start addr && nat_lt addr end)) }
     ensures start { span.new.start ≡ (if seen == 0 then start else span.old.start) }
@@ -63,6 +67,7 @@ fn add_range(span: &mut Span, seen: u64, start: u64, end: u64, addr: u64)
 
 /// What stands after the ranges.
 #[tactic(auto, unfolding(crate::specs::InlineReader::tail_at))]
+#[inline(always)]
 pub(crate) fn tail(cursor: &mut Cursor<'_>) -> Option<Tail>
     ensures some { IfSome result (λ tail. tail_at cursor.old.left ≡ Some (tail_seen tail, cursor.new.left)) }
     ensures none { IfNone result (tail_at cursor.old.left ≡ None) }
