@@ -4,7 +4,7 @@ use Rattle.std.specs.FinMap as map
 use Rattle.std.specs.Ordering.{nat_cmp}
 use Rattle.std.specs.Cmp.Lexicographic.{slice_cmp}
 use Rattle.bz_base.specs.Answer.{Answer}
-use Rattle.bz_base.specs.InputKind.{AddressKind, InFile, InTable}
+use Rattle.bz_base.specs.InputKind.{InFile, InTable}
 use Rattle.bz_base.specs.declared.error.Error.{Error}
 use Rattle.bz_base.specs.declared.types.FindSymOpts.{FindSymOpts}
 use Rattle.bz_files.specs.declared.stamp.Stamp.{Stamp}
@@ -16,7 +16,7 @@ use Rattle.bz_breakpad.specs.Table.{Table}
 use Rattle.bz_breakpad.specs.Version.{format_test, refusal_of}
 use Rattle.bz_gsym.specs.Tables.{is_gsym}
 use Rattle.bz_gsym.specs.Version as gsym
-use Rattle.bz_symbolize.specs.FileCall.{Answering, Question, batch_of, query_asked, by_test, by_version, by_look, file_answer}
+use Rattle.bz_symbolize.specs.FileCall.{Question, batch_of, query_asked, by_test, by_version, by_look, file_answer}
 use Rattle.bz_symbolize.specs.Lookup.{breakpad_answer, by_table, fresh_answer, gsym_answer}
 use Rattle.bz_symbolize.specs.Sources.{breakpad_answering, gsym_answering}
 

@@ -12,7 +12,7 @@ use Rattle.bz_cache.specs.Look.{opens_after}
 use Rattle.bz_breakpad.specs.Plain.{batch}
 use Rattle.bz_breakpad.specs.Reader.{table_in}
 use Rattle.bz_breakpad.specs.Table.{Table}
-use Rattle.bz_gsym.specs.Tables.{IsGsym, is_gsym}
+use Rattle.bz_gsym.specs.Tables.{is_gsym}
 use Rattle.bz_gsym.proofs.FormatLemmas.{passed, passes}
 use Rattle.bz_symbolize.specs.FileCall.{batch_of}
 use Rattle.bz_symbolize.specs.Lookup.{answer_of, opens_of, by_table, breakpad_answer, fresh_answer, gsym_answer}
