@@ -1,5 +1,5 @@
 -- The line table of a symbol: operators that carry a state from row to row (llvm::gsym::LineTable).
-use Rattle.std.specs.Prelude.{ℕ, zero, suc, ℤ, pos, ◌+◌, ◌-◌, ◌/◌, ◌%◌, ◌^◌, ◌+ℤ◌, ◌-ℤ◌, ◌==◌, nat_lt, int_lt, unsigned_abs, not, Bool, true, false, if◌then◌else◌, List, [], ◌∷◌, length, map, Option, Some, None, option_map}
+use Rattle.std.specs.Prelude.{ℕ, zero, suc, ℤ, pos, ◌+◌, ◌-◌, ◌/◌, ◌%◌, ◌^◌, ◌+ℤ◌, ◌-ℤ◌, ◌==◌, nat_lt, int_lt, unsigned_abs, Bool, true, false, if◌then◌else◌, List, [], ◌∷◌, length, map, Option, Some, None, option_map}
 use Rattle.std.specs.Int.{int_rem_euclid}
 use Rattle.std.specs.List.{before_first, filter, last_or, list_any}
 use Rattle.bz_base.specs.Cursor.{byte_at}
@@ -68,7 +68,7 @@ special header row past =
     if int_lt (range header) (pos 1) then None
     else Some (further (lines_on row (header.min_delta +ℤ pos (past % count))) (past / count))
 
--- what an operator does: whether its state is a row, the state, and the bytes behind its operand; none if the operand is
+-- what an operator does: what it comes to, the state, and the bytes behind its operand; none if the operand is
 -- missing, or the range of a special one is below one
 abbrev pub operated : LineTableHeader → LineTableRow → ℕ → List ℕ → Option ((RunResult × LineTableRow) × List ℕ)
 operated header row operator bytes =
