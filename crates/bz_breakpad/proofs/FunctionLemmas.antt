@@ -160,7 +160,7 @@ module _ (bytes : List ℕ) (table ended_table : FunctionTable) (function : Kept
     (functions_are : ended_table.functions.items ≡ table.functions.items ++ function_ended table function ended ∷ [])
     (lines_are : ended_table.lines.items ≡ table.lines.items) (inlinees_are : ended_table.inlinees.items ≡ table.inlinees.items)
     (ends : LinesFitSoFar bytes (length table.lines.items) so →
-        LinesFit bytes (length table.lines.items) ended × (records_of bytes table.lines.items ended ≡ records_so_far bytes table.lines.items so)) where
+    LinesFit bytes (length table.lines.items) ended × (records_of bytes table.lines.items ended ≡ records_so_far bytes table.lines.items so)) where
   abbrev kept : KeptFunction
   kept = function_ended table function ended
 

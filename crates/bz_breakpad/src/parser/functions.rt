@@ -86,7 +86,12 @@ impl FunctionsReading {
 
     /// Keeps the line record at a place in the bytes, in its common form.
     #[inline(always)]
-    pub(crate) fn line(&mut self, bytes: &[u8], place: usize, line: PlainLine) -> Result<(), AllocError>
+    pub(crate) fn line(
+        &mut self,
+        bytes: &[u8],
+        place: usize,
+        line: PlainLine,
+    ) -> Result<(), AllocError>
         requires { place + line.len ≤ length bytes.now }
         ensures { OnOk result ((closed : List Function) (current : Option Function) (rest : List ℕ) (is : IsPlainLine rest line) →
             drop place bytes.now ≡ rest → FunctionsSoFar bytes.now self.old closed current →
@@ -140,11 +145,7 @@ fn listed_with(
 }
 
 /// Lists the line records so far, if they aren't, and tells from where on.
-fn listed(
-    lines: LinesSoFar,
-    places: &mut Vec<usize>,
-    bytes: &[u8],
-) -> Result<usize, AllocError>
+fn listed(lines: LinesSoFar, places: &mut Vec<usize>, bytes: &[u8]) -> Result<usize, AllocError>
     ensures { IfOk result (λ from. LinesFitSoFar bytes.now (length places.old.items) lines → AreListed bytes.now places.old.items places.new.items lines from) }
 {
     let end = places.len();

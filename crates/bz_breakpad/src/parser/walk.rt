@@ -131,8 +131,13 @@ impl Walk {
         let place = start + (line.len() - text.len());
         self.context = context_after(&found);
         self.free = free_after(&found);
-        self.kept
-            .record(bytes, found, self.ranges.as_slice(), place, place + body.len())?;
+        self.kept.record(
+            bytes,
+            found,
+            self.ranges.as_slice(),
+            place,
+            place + body.len(),
+        )?;
         self.count += 1;
         Ok(())
     }
