@@ -2,7 +2,7 @@
 use Rattle.std.proofs.Common.{◌≡◌, ℕ, List, [], ◌∷◌, ◌++◌, length, Some, None, option_map, refl, sym, ap, subst, ◌∙◌}
 use Rattle.std.specs.List.{AllByRecursion}
 use Rattle.bz_breakpad.specs.Grammar.{Accepted}
-use Rattle.bz_breakpad.specs.Kept.{FunctionFits, FunctionsSoFar, FunctionsStand, TableFits, kept_table}
+use Rattle.bz_breakpad.specs.Kept.{FunctionFits, FunctionsSoFar, TableFits, kept_table}
 use Rattle.bz_breakpad.specs.Reader.{Reading, counted_in, listed, table_read}
 use Rattle.bz_breakpad.specs.Search.{IsFunction, IsInOrder, IsSearched}
 use Rattle.bz_breakpad.specs.Sorted.{IsKept, IsOrdered, StandsFor, starts_of}
@@ -30,7 +30,6 @@ finished_as bytes walk ended reading closes walked =
     let kept = walked.so_far in
     let functions = closes kept.functions in
     record {
-      stand = functions.closed_stand;
       is = rw (kept.module_is.is, functions.closed_are, kept.files.are, kept.origins.are, kept.publics.are) refl;
       fits = record {
         module_fits = kept.module_is.fits;
@@ -45,10 +44,6 @@ finished_as bytes walk ended reading closes walked =
 -- every part of what a walk has read lies in the bytes
 pub finished_fits : (bytes : List ℕ) (walk : Walk) (table : KeptTable) → HasRead bytes walk → IsFinished bytes walk table → TableFits bytes table
 finished_fits bytes walk table read finished = (finished read.reading read.walked).fits
-
--- and its functions' line records stand as they are said to
-pub finished_stand : (bytes : List ℕ) (walk : Walk) (table : KeptTable) → HasRead bytes walk → IsFinished bytes walk table → FunctionsStand bytes table.code
-finished_stand bytes walk table read finished = (finished read.reading read.walked).stand
 
 -- what was read and put in order is kept of the bytes
 pub kept_of : (bytes : List ℕ) (walk : Walk) (table ordered sorted : KeptTable) (starts : List ℕ) → HasRead bytes walk → IsFinished bytes walk table →

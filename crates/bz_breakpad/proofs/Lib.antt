@@ -12,6 +12,7 @@ pub mod Kept
 pub mod KeptLemmas
 pub mod LaneLemmas
 pub mod LineSearchLemmas
+pub mod ListingLemmas
 pub mod MidwayLemmas
 pub mod NameEnds
 pub mod NameLemmas
@@ -23,6 +24,8 @@ pub mod PlainLemmas
 pub mod PlainStep
 pub mod RoleLaws
 pub mod Rows
+pub mod RunGrowLemmas
+pub mod RunLemmas
 pub mod Runs
 pub mod SeenLaws
 pub mod SortedLemmas

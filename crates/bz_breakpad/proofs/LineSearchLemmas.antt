@@ -73,7 +73,7 @@ start_in_front text line is =
       ap (piece_at (Hex 16)) whole ∙ piece_again (Hex 16) spelled.front (spelled.back ++ more) spelled.tells spelled.front_is stops ∙ ap (λ s. Some (s, spelled.back ++ more)) start,
     )
 
-by_read : (o : Option SourceLine) → IsSome o → o ≡ Some (unwrap_or o no_line)
+pub by_read : (o : Option SourceLine) → IsSome o → o ≡ Some (unwrap_or o no_line)
 by_read None some = absurd (false≢true some)
 by_read (Some line) some = refl
 

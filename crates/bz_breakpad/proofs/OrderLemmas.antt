@@ -11,11 +11,13 @@ use Rattle.bz_base.proofs.TableLemmas.{start_at, record_at}
 use Rattle.bz_base.proofs.ViewLemmas.{table_seen}
 use Rattle.bz_breakpad.specs.Kept.{FunctionFits, IsPart, ReadsLine, kept_function, kept_lines}
 use Rattle.bz_breakpad.specs.LineStarts.{Ascends, line_read, line_size, line_start, line_starts}
-use Rattle.bz_breakpad.specs.Search.{AreInlineesSearched, AreLinesSearched, HasRecords, IsSearched, copied}
+use Rattle.bz_breakpad.specs.Search.{AreInlineesSearched, AreLinesSearched, AreRecordsSearched, HasRecords, IsSearched}
 use Rattle.bz_breakpad.specs.Table.{SourceLine}
 use Rattle.bz_breakpad.specs.declared.types.FunctionTable.{FunctionTable}
 use Rattle.bz_breakpad.specs.declared.types.Inlinee.{Inlinee as KeptInlinee}
 use Rattle.bz_breakpad.specs.declared.types.KeptFunction.{KeptFunction}
+use Rattle.bz_breakpad.specs.declared.types.LineRecords.{LineRecords}
+use Rattle.bz_breakpad.specs.declared.types.LineRecords.TheVariants as records
 use Rattle.bz_breakpad.specs.declared.types.Part.{Part}
 use Rattle.bz_breakpad.proofs.FunctionLemmas.{part_more}
 use Rattle.bz_breakpad.proofs.LineSearchLemmas.{kept_are_read, starts_are}
@@ -57,7 +59,7 @@ module _ {X : Type 0} (start size : X → ℕ) where
 
 module _ {X : Type 0} (P : X → Type 0) where
   -- what holds of all holds of those in each of two parts
-  all_parts : (xs ys : List X) → AllByRecursion P (xs ++ ys) → AllByRecursion P xs × AllByRecursion P ys
+  pub all_parts : (xs ys : List X) → AllByRecursion P (xs ++ ys) → AllByRecursion P xs × AllByRecursion P ys
   all_parts [] ys all = (tt, all)
   all_parts (x ∷ xs) ys all = let rest = all_parts xs ys all.1 in ((all.0, rest.0), rest.1)
 
@@ -88,21 +90,6 @@ module _ {X : Type 0} (P : X → Type 0) where
   -- and of all up to that place, where it holds of those before it
   pub all_up_to : (xs : List X) (i : ℕ) (x : X) → i < length xs → AllByRecursion P (take i xs) → P x → AllByRecursion P (take (i + 1) (set xs i x))
   all_up_to xs i x within all one = subst (λ n. AllByRecursion P (take n (set xs i x))) (sym (add-one i)) (one_more xs i x within all one)
-
-  -- what holds of all from a place on holds of the one there
-  pub all_from : (xs : List X) (i : ℕ) (d : X) → i < length xs → AllByRecursion P (drop i xs) → P (get_or xs i d)
-  all_from [] i d within all = absurd (omega (arith, within))
-  all_from (x ∷ xs) zero d within all = all.0
-  all_from (x ∷ xs) (suc i) d within all = all_from xs i d (omega (arith, within)) all
-
-  rest_past : (xs : List X) (i : ℕ) (x : X) → AllByRecursion P (drop i xs) → AllByRecursion P (drop (suc i) (set xs i x))
-  rest_past [] i x all = tt
-  rest_past (y ∷ xs) zero x all = all.1
-  rest_past (y ∷ xs) (suc i) x all = rest_past xs i x all
-
-  -- and of those after it, where another takes its place
-  pub all_past : (xs : List X) (i : ℕ) (x : X) → AllByRecursion P (drop i xs) → AllByRecursion P (drop (i + 1) (set xs i x))
-  all_past xs i x all = subst (λ n. AllByRecursion P (drop n (set xs i x))) (sym (add-one i)) (rest_past xs i x all)
 
 -- one that looks the same in the place of another leaves the looks of all as they are
 pub same_looks : {X Y : Type 0} (look : X → Y) (xs : List X) (i : ℕ) (x d : X) → i < length xs → look x ≡ look (get_or xs i d) → map look (set xs i x) ≡ map look xs
@@ -147,7 +134,7 @@ module _ (bytes lines copies : List ℕ) (part : Part) (read : AllByRecursion (R
       }
 
 -- a search is the same where more copies follow
-pub lines_still : (bytes lines copies more : List ℕ) (part : Part) (order : Option Part) →
+lines_still : (bytes lines copies more : List ℕ) (part : Part) (order : Option Part) →
     AreLinesSearched bytes lines copies part order → AreLinesSearched bytes lines (copies ++ more) part order
 lines_still bytes lines copies more part None is = record { within = tt; searchable = is.searchable; table = is.table }
 lines_still bytes lines copies more part (Some order) is =
@@ -157,6 +144,11 @@ lines_still bytes lines copies more part (Some order) is =
       searchable = rw same is.searchable;
       table = rw same is.table;
     }
+
+pub records_still : (bytes lines copies more : List ℕ) (r : LineRecords) (order : Option Part) →
+    AreRecordsSearched bytes lines copies r order → AreRecordsSearched bytes lines (copies ++ more) r order
+records_still bytes lines copies more (records.Run part) order is = tt
+records_still bytes lines copies more (records.Listed part) order is = lines_still bytes lines copies more part order is
 
 pub inlinees_still : (inlinees copies more : List KeptInlinee) (part : Part) (order : Option Part) →
     AreInlineesSearched inlinees copies part order → AreInlineesSearched inlinees (copies ++ more) part order
@@ -181,7 +173,7 @@ same_fits bytes line_count inlinee_count old new same fits =
 
 -- the functions of a table are searched in order where their line records and their inlined calls are
 pub both_searched : (bytes : List ℕ) (t : FunctionTable) (fs : List KeptFunction) →
-    AllByRecursion (λ (f : KeptFunction). AreLinesSearched bytes t.lines.items t.line_copies.items f.lines (copied f.line_order)) fs →
+    AllByRecursion (λ (f : KeptFunction). AreRecordsSearched bytes t.lines.items t.line_copies.items f.lines f.line_order) fs →
     AllByRecursion (λ (f : KeptFunction). AreInlineesSearched t.inlinees.items t.inlinee_copies.items f.inlinees f.inlinee_order) fs →
     AllByRecursion (IsSearched bytes t) fs
 both_searched bytes t [] lines inlinees = tt

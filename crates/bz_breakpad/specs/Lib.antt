@@ -5,6 +5,7 @@ pub mod Grammar
 pub mod Kept
 pub mod Lent
 pub mod Line
+pub mod LineRun
 pub mod LineStarts
 pub mod Names
 pub mod Plain

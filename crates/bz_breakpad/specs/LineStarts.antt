@@ -4,11 +4,7 @@ use Rattle.std.specs.Int.Digits.{number_from_digits}
 use Rattle.std.specs.Str.Parse.{AllDigits, digits_value}
 use Rattle.bz_breakpad.specs.Line.{line_in}
 use Rattle.bz_breakpad.specs.Table.{SourceLine}
-use Rattle.bz_breakpad.specs.declared.parser.standing.Standing.{Standing}
-use Rattle.bz_breakpad.specs.declared.parser.standing.Standing.TheVariants as standings
 use Rattle.bz_breakpad.specs.declared.parser.standing.StartText.{StartText}
-use Rattle.bz_breakpad.specs.declared.types.LineOrder.{LineOrder}
-use Rattle.bz_breakpad.specs.declared.types.LineOrder.TheVariants as orders
 
 -- what stands at a place where no line record does
 abbrev pub no_line : SourceLine
@@ -51,14 +47,3 @@ pub record AscendTo (starts : List ℕ) (text : StartText) : Type 0 where
   pub last : ℕ
   pub are : starts ≡ front ++ last ∷ []
   pub text_is : IsStartText last text
-
--- what is known of the starts of line records that were read one after another
-abbrev pub Stand : List ℕ → Standing → Type 0
-Stand starts standings.Empty = starts ≡ []
-Stand starts (standings.Ascending text) = AscendTo starts text
-Stand starts standings.Unknown = Unit {0}
-
--- the starts ascend where the line records are said to stand in order
-abbrev pub StandAs : List ℕ → LineOrder → Type 0
-StandAs starts orders.Standing = Ascends starts
-StandAs starts _ = Unit {0}

@@ -9,8 +9,8 @@ use Rattle.bz_breakpad.specs.LineStarts.{line_starts}
 use Rattle.bz_breakpad.specs.declared.types.FunctionTable.{FunctionTable}
 use Rattle.bz_breakpad.specs.declared.types.Inlinee.{Inlinee as KeptInlinee}
 use Rattle.bz_breakpad.specs.declared.types.KeptFunction.{KeptFunction}
-use Rattle.bz_breakpad.specs.declared.types.LineOrder.{LineOrder}
-use Rattle.bz_breakpad.specs.declared.types.LineOrder.TheVariants as orders
+use Rattle.bz_breakpad.specs.declared.types.LineRecords.{LineRecords}
+use Rattle.bz_breakpad.specs.declared.types.LineRecords.TheVariants as records
 use Rattle.bz_breakpad.specs.declared.types.Part.{Part}
 
 -- at each place a line record is read, and their starts never descend
@@ -23,16 +23,16 @@ abbrev pub searched : {A : Type 0} → List A → Part → List A → Option Par
 searched standing part copies None = slice_range standing part.from part.to
 searched standing part copies (Some order) = slice_range copies order.from order.to
 
--- the part of the copies where line records stand in order, if not in the file
-abbrev pub copied : LineOrder → Option Part
-copied (orders.Copied part) = Some part
-copied _ = None
-
--- the copies are of a function's line records, where they don't stand in order
+-- the copies are of the line records at a part of the places, where they don't stand in order
 pub record AreLinesSearched (bytes places copies : List ℕ) (part : Part) (order : Option Part) : Type 0 where
   pub within : IfSome order (IsPart (length copies))
   pub searchable : AreSearchable bytes (searched places part copies order)
   pub table : IsTable (λ l. l.start) (λ l. l.size) (kept_lines bytes (slice_range places part.from part.to)) (kept_lines bytes (searched places part copies order))
+
+-- a run is searched where it stands
+abbrev pub AreRecordsSearched : List ℕ → List ℕ → List ℕ → LineRecords → Option Part → Type 0
+AreRecordsSearched bytes places copies (records.Run part) order = Unit {0}
+AreRecordsSearched bytes places copies (records.Listed part) order = AreLinesSearched bytes places copies part order
 
 -- and the same of its inlined calls
 pub record AreInlineesSearched (inlinees copies : List KeptInlinee) (part : Part) (order : Option Part) : Type 0 where
@@ -41,7 +41,7 @@ pub record AreInlineesSearched (inlinees copies : List KeptInlinee) (part : Part
 
 -- a function's line records and inlined calls are searched in order
 pub record IsSearched (bytes : List ℕ) (t : FunctionTable) (f : KeptFunction) : Type 0 where
-  pub lines : AreLinesSearched bytes t.lines.items t.line_copies.items f.lines (copied f.line_order)
+  pub lines : AreRecordsSearched bytes t.lines.items t.line_copies.items f.lines f.line_order
   pub inlinees : AreInlineesSearched t.inlinees.items t.inlinee_copies.items f.inlinees f.inlinee_order
 
 -- a function of the file: its parts lie in the tables, and its records are searched in order

@@ -3,7 +3,7 @@ use Rattle.std.specs.Prelude.{◌≡◌, ◌≤◌, ◌-◌, ℕ, List, ◌∷�
 use Rattle.bz_base.specs.Line.{ended_lines}
 use Rattle.bz_base.specs.declared.error.Error.{Error}
 use Rattle.bz_base.specs.declared.error.Error.TheVariants as errors
-use Rattle.bz_breakpad.specs.Kept.{FunctionsStand, IsSoFar, TableFits, kept_table}
+use Rattle.bz_breakpad.specs.Kept.{IsSoFar, TableFits, kept_table}
 use Rattle.bz_breakpad.specs.Line.{line_front}
 use Rattle.bz_breakpad.specs.Reader.{Reading, lines_read, reading_in, table_read}
 use Rattle.bz_breakpad.specs.Reads.{◌>>=◌}
@@ -61,7 +61,6 @@ pub record HasRead (bytes : List ℕ) (walk : Walk) : Type 0 where
 pub record IsFinishedAs (bytes : List ℕ) (table : KeptTable) (reading : Reading) : Type 0 where
   pub is : kept_table bytes table ≡ table_read reading
   pub fits : TableFits bytes table
-  pub stand : FunctionsStand bytes table.code
 
 abbrev pub IsFinished : List ℕ → Walk → KeptTable → Type 0
 IsFinished bytes walk table = (reading : Reading) → IsWalked bytes walk reading → IsFinishedAs bytes table reading

@@ -8,7 +8,7 @@ ghost use Rattle.bz_base.specs.Starts.{AreFew};
 ghost use Rattle.bz_base.specs.declared.error.Error.{Error};
 ghost use Rattle.bz_base.specs.declared.types.FindSymOpts.{FindSymOpts};
 ghost use Rattle.bz_breakpad.specs.Grammar.{Accepted, IsFile};
-ghost use Rattle.bz_breakpad.specs.Kept.{FunctionsStand, TableFits, kept_table};
+ghost use Rattle.bz_breakpad.specs.Kept.{TableFits, kept_table};
 ghost use Rattle.bz_breakpad.specs.Lent.{lent_public};
 ghost use Rattle.bz_breakpad.specs.Names.{name_for};
 ghost use Rattle.bz_breakpad.specs.Plain.{batch, function_at, plain};
@@ -242,8 +242,7 @@ fn finished(walk: Walk) -> Result<KeptTable>
 
 /// The records of a file, with those of each function in order.
 fn ordered(alloc: Global, bytes: &[u8], kept: KeptTable) -> Result<KeptTable>
-    requires fits { TableFits bytes.now kept }
-    requires stand { FunctionsStand bytes.now kept.code }
+    requires { TableFits bytes.now kept }
     ensures ok { IfOk result (IsOrdered bytes.now kept) }
     ensures memory { IsOkUnless result Error.OutOfMemory }
 {

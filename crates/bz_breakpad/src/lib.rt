@@ -4,6 +4,7 @@
 mod file;
 mod function;
 pub mod laws;
+mod line_run;
 mod lines;
 mod lookups;
 mod names;

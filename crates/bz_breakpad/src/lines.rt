@@ -39,7 +39,7 @@ pub(crate) fn line_at(bytes: &[u8], place: usize) -> Option<SourceLine>
 
 /// Where the code of the line record at a place starts.
 #[inline(always)]
-fn start_at(bytes: &[u8], place: usize) -> u64
+pub(crate) fn start_at(bytes: &[u8], place: usize) -> u64
     requires { ReadsLine bytes.now place }
     ensures { result ≡ line_start bytes.now place }
 {
@@ -152,7 +152,7 @@ fn covering_blank<L: Ledger>(
 }
 
 /// The line record at a place, if it covers the address.
-fn line_if_covers(bytes: &[u8], place: usize, addr: Addr) -> Option<SourceLine>
+pub(crate) fn line_if_covers(bytes: &[u8], place: usize, addr: Addr) -> Option<SourceLine>
     requires { ReadsLine bytes.now place }
     ensures { option_map line_seen result ≡ if_covers (λ l. l.start) (λ l. l.size) addr (line_read bytes.now place) }
 {

@@ -3,13 +3,13 @@
 ghost use Rattle.std.specs.Prelude.{◌≡◌, ◌++◌, ℕ, List, length, slice_range, IfOk, OnOk};
 ghost use Rattle.std.specs.List.{AllByRecursion};
 ghost use Rattle.bz_base.specs.Nearest.{IsTable};
-ghost use Rattle.bz_breakpad.specs.Kept.{FunctionFits, FunctionStands, FunctionsFit, FunctionsStand, IsPart, ReadsLine};
-ghost use Rattle.bz_breakpad.specs.LineStarts.{Ascends, line_size, line_start};
-ghost use Rattle.bz_breakpad.specs.Search.{AreInlineesSearched, AreLinesSearched, HasRecords, IsInOrder, copied};
+ghost use Rattle.bz_breakpad.specs.Kept.{FunctionFits, FunctionsFit, IsPart, ReadsLine};
+ghost use Rattle.bz_breakpad.specs.LineStarts.{line_size, line_start};
+ghost use Rattle.bz_breakpad.specs.Search.{AreInlineesSearched, AreLinesSearched, AreRecordsSearched, HasRecords, IsInOrder};
 ghost use Rattle.bz_breakpad.specs.declared.types.Inlinee.{Inlinee as KeptInlinee};
 
 use crate::lines::{span_at, starts_ascend};
-use crate::types::{FunctionTable, Inlinee, KeptFunction, LineOrder, Part};
+use crate::types::{FunctionTable, Inlinee, KeptFunction, LineRecords, Part};
 use bz_base::sort_nested;
 use std::alloc::{AllocError, Global};
 
@@ -30,7 +30,6 @@ pub(crate) fn in_order(
 ) -> Result<FunctionTable, AllocError>
     requires fits { FunctionsFit bytes.now code }
     requires read { AllByRecursion (ReadsLine bytes.now) code.lines.items }
-    requires stand { FunctionsStand bytes.now code }
     ensures { IfOk result (IsInOrder bytes.now code) }
 {
     let mut copies = Copies {
@@ -62,17 +61,16 @@ fn function_in_order(
 ) -> Result<KeptFunction, AllocError>
     requires fits { FunctionFits bytes.now (length code.now.lines.items) (length code.now.inlinees.items) function }
     requires read { AllByRecursion (ReadsLine bytes.now) code.now.lines.items }
-    requires stands { FunctionStands bytes.now code.now.lines.items function }
     ensures lines { OnOk result ((more : List ℕ) × (copies.new.lines.items ≡ copies.old.lines.items ++ more)) }
     ensures inlinees { OnOk result ((more : List KeptInlinee) × (copies.new.inlinees.items ≡ copies.old.inlinees.items ++ more)) }
     ensures same { IfOk result (HasRecords function) }
-    ensures searched { IfOk result (λ f. AreLinesSearched bytes.now code.now.lines.items copies.new.lines.items f.lines (copied f.line_order)
+    ensures searched { IfOk result (λ f. AreRecordsSearched bytes.now code.now.lines.items copies.new.lines.items f.lines f.line_order
         × AreInlineesSearched code.now.inlinees.items copies.new.inlinees.items f.inlinees f.inlinee_order) }
 {
-    let line_order = match function.line_order {
-        LineOrder::Standing => LineOrder::Standing,
-        LineOrder::Copied(_) | LineOrder::Unknown => {
-            order_lines(alloc, bytes, &code.lines, function.lines, &mut copies.lines)?
+    let line_order = match function.lines {
+        LineRecords::Run(_) => None,
+        LineRecords::Listed(part) => {
+            order_lines(alloc, bytes, &code.lines, part, &mut copies.lines)?
         }
     };
     let inlinee_order = order_inlinees(
@@ -88,25 +86,25 @@ fn function_in_order(
     })
 }
 
-/// Where a part of the line records is in order.
+/// Where a part of the listed line records is in order, if not as it stands.
 fn order_lines(
     alloc: Global,
     bytes: &[u8],
     lines: &[usize],
     part: Part,
     copies: &mut Vec<usize>,
-) -> Result<LineOrder, AllocError>
+) -> Result<Option<Part>, AllocError>
     requires part { IsPart (length lines.now) part }
     requires read { AllByRecursion (ReadsLine bytes.now) lines.now }
     ensures more { OnOk result ((more : List ℕ) × (copies.new.items ≡ copies.old.items ++ more)) }
-    ensures searched { IfOk result (λ order. AreLinesSearched bytes.now lines.now copies.new.items part (copied order)) }
+    ensures searched { IfOk result (λ order. AreLinesSearched bytes.now lines.now copies.new.items part order) }
 {
     let places = &lines[part.from..part.to];
     if starts_ascend(bytes, places) {
-        return Ok(LineOrder::Standing);
+        return Ok(None);
     }
     let sorted = sorted_lines(alloc, bytes, places)?;
-    Ok(LineOrder::Copied(copied(&sorted, copies)?))
+    Ok(Some(copied(&sorted, copies)?))
 }
 
 /// The line records at these places by start and size.

@@ -15,9 +15,10 @@ ghost use Rattle.bz_breakpad.specs.Sorted.{StandsFor};
 ghost use Rattle.bz_breakpad.specs.Table as tables;
 ghost use Rattle.bz_breakpad.specs.Table.{Table};
 
+use crate::line_run::line_in_run;
 use crate::lines::line_covering;
 use crate::names::name_of;
-use crate::types::{FunctionTable, Inlinee, KeptFunction, KeptTable, LineOrder, SourceLine};
+use crate::types::{FunctionTable, Inlinee, KeptFunction, KeptTable, LineRecords, SourceLine};
 use bz_base::{Addr, CodeInfo, Error, FindSymOpts, InlinedFn, Result, chain_in, split_source};
 use std::alloc::{AllocError, Global};
 use std::borrow::CowStr;
@@ -101,13 +102,16 @@ pub(crate) fn line_of(
     requires { IsFunction bytes.now code.now function.now }
     ensures { option_map line_seen result ≡ line_at addr (function_seen bytes.now code.now function.now).lines }
 {
-    let places = match function.line_order {
-        LineOrder::Copied(order) => &code.line_copies[order.from..order.to],
-        LineOrder::Standing | LineOrder::Unknown => {
-            &code.lines[function.lines.from..function.lines.to]
+    match function.lines {
+        LineRecords::Run(part) => line_in_run(&bytes[part.from..part.to], addr),
+        LineRecords::Listed(part) => {
+            let places = match function.line_order {
+                Some(order) => &code.line_copies[order.from..order.to],
+                None => &code.lines[part.from..part.to],
+            };
+            line_covering(bytes, places, addr)
         }
-    };
-    line_covering(bytes, places, addr)
+    }
 }
 
 /// The calls that were inlined around the address, the outermost first, where they are asked for.

@@ -1,6 +1,7 @@
 //! What texts are taken, and what they answer.
 
 mod answers;
+mod lines;
 mod names;
 mod places;
 mod texts;

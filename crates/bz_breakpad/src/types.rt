@@ -12,15 +12,14 @@ pub(crate) struct Part {
     pub to: usize,
 }
 
-/// Where the line records of a function stand in order.
+/// The line records of a function.
 #[derive(Clone, Copy)]
-pub(crate) enum LineOrder {
-    /// In the file.
-    Standing,
-    /// In this part of the table of copies.
-    Copied(Part),
-    /// That isn't known.
-    Unknown,
+pub(crate) enum LineRecords {
+    /// They stand one after another in this part of the file's bytes, and each starts after the one
+    /// before it.
+    Run(Part),
+    /// They begin at the places in this part of the table of places.
+    Listed(Part),
 }
 
 /// A FUNC record.
@@ -34,12 +33,13 @@ pub(crate) struct KeptFunction {
     pub parameter_size: u32,
     /// Its name, in the file's bytes.
     pub name: Part,
-    /// Its line records, in the table of all of them.
-    pub lines: Part,
+    /// Its line records.
+    pub lines: LineRecords,
     /// Its inlined calls, in the table of all of them.
     pub inlinees: Part,
-    /// Where its line records stand in order; known once the file has been read.
-    pub line_order: LineOrder,
+    /// The places of its line records in order, in the table of copies, if they are listed and
+    /// don't stand in order in the file.
+    pub line_order: Option<Part>,
     /// Its inlined calls in order, in the table of copies, if they don't stand in order in the file.
     pub inlinee_order: Option<Part>,
 }
@@ -60,11 +60,11 @@ pub(crate) struct KeptPublic {
 pub(crate) struct FunctionTable {
     /// The functions: in the order of the file as they are read, and then by start and size.
     pub functions: Vec<KeptFunction>,
-    /// Where each line record begins in the file's bytes, in the order of the file.
+    /// Where the line records begin in the file's bytes that are listed, in the order of the file.
     pub lines: Vec<usize>,
     /// The ranges of the INLINE records, in the order of the file.
     pub inlinees: Vec<Inlinee>,
-    /// Line records by start and size, of the functions whose own don't stand so.
+    /// Such places by start and size, of the functions whose own don't stand so.
     pub line_copies: Vec<usize>,
     /// Ranges by depth and start, of the functions whose own don't stand so.
     pub inlinee_copies: Vec<Inlinee>,

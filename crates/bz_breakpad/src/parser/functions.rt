@@ -1,18 +1,21 @@
 //! The FUNC records that have been read, with what stands under them.
 
-ghost use Rattle.std.specs.Prelude.{◌≡◌, ◌∷◌, ◌++◌, [], ℕ, List, Option, None, Some, drop, map, option_map, IfSome, OnOk};
-ghost use Rattle.bz_breakpad.specs.Kept.{FunctionsSoFar, IsNameAt, inlinee_kept};
-ghost use Rattle.bz_breakpad.specs.Line.{line_in};
-ghost use Rattle.bz_breakpad.specs.LineStarts.{IsStartText};
+ghost use Rattle.std.specs.Prelude.{◌≡◌, ◌+◌, ◌≤◌, ◌∷◌, ◌++◌, [], ℕ, List, Option, None, Some, length, drop, map, option_map, IfOk, OnOk};
+ghost use Rattle.bz_breakpad.specs.Kept.{AreListed, AreListedTo, FunctionsSoFar, IsLonger, IsNameAt, IsOpenRunAt, LinesFitSoFar, inlinee_kept};
+ghost use Rattle.bz_breakpad.specs.Line.{line_in, source_line};
+ghost use Rattle.bz_breakpad.specs.PlainLine.{IsPlainLine};
 ghost use Rattle.bz_breakpad.specs.Reader.{listed};
 ghost use Rattle.bz_breakpad.specs.Says.{with_own};
 ghost use Rattle.bz_breakpad.specs.Says.Sub.{Inline, Line};
 ghost use Rattle.bz_breakpad.specs.Table.{Function, SourceLine};
 ghost use Rattle.bz_breakpad.specs.Told.{function_told, inlinees_told};
+ghost use Rattle.bz_breakpad.specs.declared.parser.standing.StartText.{StartText};
 
+use crate::parser::plain::PlainLine;
 use crate::parser::record::{FuncLine, InlineCall, Range};
-use crate::parser::standing::{Standing, StartText};
-use crate::types::{FunctionTable, Inlinee, KeptFunction, LineOrder, Part};
+use crate::parser::standing::LinesSoFar;
+use crate::types::{FunctionTable, Inlinee, KeptFunction, LineRecords, Part};
+use bz_base::next_line;
 use std::alloc::{AllocError, Global};
 
 /// The functions that have been read, up to the end of a line.
@@ -20,10 +23,11 @@ use std::alloc::{AllocError, Global};
 pub(crate) struct FunctionsReading {
     /// Those whose records are at their end.
     pub table: FunctionTable,
-    /// The one whose records are being read. Its parts end where the tables do.
+    /// The one whose records are being read, without its line records. Its inlined calls end where
+    /// the table does.
     pub current: Option<KeptFunction>,
-    /// What is known of the order of its line records.
-    pub standing: Standing,
+    /// Its line records.
+    pub lines: LinesSoFar,
 }
 
 impl FunctionsReading {
@@ -40,7 +44,7 @@ impl FunctionsReading {
                 inlinee_copies: Vec::new(alloc),
             },
             current: None,
-            standing: Standing::Empty,
+            lines: LinesSoFar::Empty,
         }
     }
 
@@ -50,9 +54,8 @@ impl FunctionsReading {
             FunctionsSoFar bytes self.old closed current → FunctionsSoFar bytes self.new (closed ++ listed current) None) }
     {
         if let Some(mut function) = self.current {
-            function.lines.to = self.table.lines.len();
+            function.lines = self.lines.records(self.table.lines.len());
             function.inlinees.to = self.table.inlinees.len();
-            function.line_order = self.standing.order();
             self.table.functions.push(function)?;
             self.current = None;
         }
@@ -64,36 +67,55 @@ impl FunctionsReading {
         ensures { (bytes : List ℕ) (closed : List Function) → IsNameAt bytes name func.now.name.now → FunctionsSoFar bytes self.old closed None →
             FunctionsSoFar bytes self.new closed (Some (function_told func.now)) }
     {
-        let lines = self.table.lines.len();
         let inlinees = self.table.inlinees.len();
         self.current = Some(KeptFunction {
             start: func.start,
             size: func.size,
             parameter_size: func.parameter_size,
             name,
-            lines: Part {
-                from: lines,
-                to: lines,
-            },
+            lines: LineRecords::Run(Part { from: 0, to: 0 }),
             inlinees: Part {
                 from: inlinees,
                 to: inlinees,
             },
-            line_order: LineOrder::Unknown,
+            line_order: None,
             inlinee_order: None,
         });
-        self.standing = Standing::Empty;
+        self.lines = LinesSoFar::Empty;
     }
 
-    /// Keeps the line record at a place in the bytes, of whose start the text may be known.
+    /// Keeps the line record at a place in the bytes, in its common form.
     #[inline(always)]
-    pub(crate) fn line(&mut self, place: usize, start: Option<StartText>) -> Result<(), AllocError>
-        ensures { OnOk result ((bytes : List ℕ) (closed : List Function) (current : Option Function) (line : SourceLine) →
-            line_in (drop place bytes) ≡ Some line → IfSome start (IsStartText line.start) → FunctionsSoFar bytes self.old closed current →
-            FunctionsSoFar bytes self.new closed (option_map (λ f. with_own f (Line line ∷ [])) current)) }
+    pub(crate) fn line(
+        &mut self,
+        bytes: &[u8],
+        place: usize,
+        line: PlainLine,
+    ) -> Result<(), AllocError>
+        requires { place + line.len ≤ length bytes.now }
+        ensures { OnOk result ((closed : List Function) (current : Option Function) (rest : List ℕ) (is : IsPlainLine rest line) →
+            drop place bytes.now ≡ rest → FunctionsSoFar bytes.now self.old closed current →
+            FunctionsSoFar bytes.now self.new closed (option_map (λ f. with_own f (Line (source_line is.value) ∷ [])) current)) }
     {
-        self.table.lines.push(place)?;
-        self.standing = self.standing.with(start);
+        let part = Part {
+            from: place,
+            to: place + line.len,
+        };
+        match self.lines.run_with(part, line.start) {
+            Some(lines) => self.lines = lines,
+            None => self.list(bytes, place)?,
+        }
+        Ok(())
+    }
+
+    /// Keeps the line record at a place in the bytes, in the table of places.
+    #[inline(never)]
+    pub(crate) fn list(&mut self, bytes: &[u8], place: usize) -> Result<(), AllocError>
+        ensures { OnOk result ((closed : List Function) (current : Option Function) (line : SourceLine) → line_in (drop place bytes.now) ≡ Some line →
+            FunctionsSoFar bytes.now self.old closed current →
+            FunctionsSoFar bytes.now self.new closed (option_map (λ f. with_own f (Line line ∷ [])) current)) }
+    {
+        self.lines = listed_with(self.lines, &mut self.table.lines, bytes, place)?;
         Ok(())
     }
 
@@ -105,6 +127,52 @@ impl FunctionsReading {
         keep_inlinees(&mut self.table.inlinees, call, ranges)?;
         Ok(())
     }
+}
+
+/// The line records so far and the one at a place, in the table of places.
+fn listed_with(
+    lines: LinesSoFar,
+    places: &mut Vec<usize>,
+    bytes: &[u8],
+    place: usize,
+) -> Result<LinesSoFar, AllocError>
+    ensures { IfOk result (λ new. (line : SourceLine) → line_in (drop place bytes.now) ≡ Some line → LinesFitSoFar bytes.now (length places.old.items) lines →
+        IsLonger bytes.now places.old.items places.new.items lines new line) }
+{
+    let from = listed(lines, places, bytes)?;
+    places.push(place)?;
+    Ok(LinesSoFar::Listed(from))
+}
+
+/// Lists the line records so far, if they aren't, and tells from where on.
+fn listed(lines: LinesSoFar, places: &mut Vec<usize>, bytes: &[u8]) -> Result<usize, AllocError>
+    ensures { IfOk result (λ from. LinesFitSoFar bytes.now (length places.old.items) lines → AreListed bytes.now places.old.items places.new.items lines from) }
+{
+    let end = places.len();
+    match lines {
+        LinesSoFar::Empty => Ok(end),
+        LinesSoFar::Run(run, _) => {
+            list_run(places, bytes, run)?;
+            Ok(end)
+        }
+        LinesSoFar::Listed(from) => Ok(from),
+    }
+}
+
+/// Lists the places of a run's line records.
+fn list_run(places: &mut Vec<usize>, bytes: &[u8], run: Part) -> Result<(), AllocError>
+    ensures { OnOk result ((last : StartText) → IsOpenRunAt bytes.now run last → AreListedTo bytes.now run [] places.old.items places.new.items) }
+{
+    // Never so: the run lies in the bytes.
+    if run.from > run.to || run.to > bytes.len() {
+        return Ok(());
+    }
+    let mut rest = &bytes[run.from..run.to];
+    while let Some((_line, after)) = next_line(rest) {
+        places.push(run.to - rest.len())?;
+        rest = after;
+    }
+    Ok(())
 }
 
 /// Keeps an inlined call for each of the ranges.

@@ -11,7 +11,7 @@ use std::simd::prelude::*;
 
 /// A bit for each of the first 32 bytes that is a line feed.
 #[inline(always)]
-fn line_feeds(text: &[u8]) -> u64
+pub(crate) fn line_feeds(text: &[u8]) -> u64
     requires { 32 ≤ length text.now }
     ensures { result ≡ mask_l (map (λ b. b == line_feed) (take 32 text.now)) }
 {

@@ -71,17 +71,18 @@ impl KeptReading {
     /// Keeps a record under a FUNC record, whose body stands at a place in the bytes.
     fn inner(
         &mut self,
+        bytes: &[u8],
         inner: InnerLine<'_>,
         ranges: &[Range],
         start: usize,
         end: usize,
     ) -> Result<(), AllocError>
-        ensures { OnOk result ((bytes body : List ℕ) (reading : Reading) → IsRecordAt bytes start body → end ≡ start + length body →
-            InnerStands bytes start body inner.entry → IsSoFar bytes self.old reading →
-            IsSoFar bytes self.new (with_record reading (OfFunc (inner_told inner.entry ranges.now)))) }
+        ensures { OnOk result ((body : List ℕ) (reading : Reading) → IsRecordAt bytes.now start body → end ≡ start + length body →
+            InnerStands bytes.now start body inner.entry → IsSoFar bytes.now self.old reading →
+            IsSoFar bytes.now self.new (with_record reading (OfFunc (inner_told inner.entry ranges.now)))) }
     {
         match inner {
-            InnerLine::Code(_) => self.functions.line(start, None)?,
+            InnerLine::Code(_) => self.functions.list(bytes, start)?,
             InnerLine::Inline(call) => self.functions.inline(&call, ranges)?,
             InnerLine::Origin(id, name) => self.origins.insert(id, name_part(name, end))?,
         }
@@ -91,18 +92,19 @@ impl KeptReading {
     /// Keeps a record whose body stands at a place in the bytes, with the ranges of an INLINE record.
     pub(crate) fn record(
         &mut self,
+        bytes: &[u8],
         found: RecordLine<'_>,
         ranges: &[Range],
         start: usize,
         end: usize,
     ) -> Result<(), AllocError>
-        ensures { OnOk result ((bytes body : List ℕ) (context : Context) (reading : Reading) → IsRecordAt bytes start body →
-            end ≡ start + length body → body_record context body ≡ Some (record_told found.entry ranges.now) → IsSoFar bytes self.old reading →
-            IsSoFar bytes self.new (with_record reading (record_told found.entry ranges.now))) }
+        ensures { OnOk result ((body : List ℕ) (context : Context) (reading : Reading) → IsRecordAt bytes.now start body →
+            end ≡ start + length body → body_record context body ≡ Some (record_told found.entry ranges.now) → IsSoFar bytes.now self.old reading →
+            IsSoFar bytes.now self.new (with_record reading (record_told found.entry ranges.now))) }
     {
         match found {
             RecordLine::Top(top) => self.top(top, end)?,
-            RecordLine::OfFunc(inner) => self.inner(inner, ranges, start, end)?,
+            RecordLine::OfFunc(inner) => self.inner(bytes, inner, ranges, start, end)?,
             RecordLine::OfCfi => {}
         }
         Ok(())

@@ -1,11 +1,16 @@
-//! Whether line records stand in order, as the texts of their starts tell it.
+//! The line records of a function as they are read: a run, as long as the texts of their starts tell
+//! that they stand in order.
 
-ghost use Rattle.std.specs.Prelude.{◌≡◌, ◌<◌, ◌≤◌, ◌∷◌, ◌++◌, [], true, ℕ, List, length, take, IfSome};
+ghost use Rattle.std.specs.Prelude.{◌≡◌, ◌<◌, ◌≤◌, ◌+◌, true, ℕ, List, length, take, drop, IfSome};
 ghost use Rattle.std.specs.Str.Parse.{digits_value};
 ghost use Rattle.bz_base.specs.Number.{digits_len};
-ghost use Rattle.bz_breakpad.specs.LineStarts.{IsStartText, Stand, StandAs};
+ghost use Rattle.bz_breakpad.specs.Kept.{IsLonger, LinesFit, LinesFitSoFar, records_of, records_so_far};
+ghost use Rattle.bz_breakpad.specs.Line.{source_line};
+ghost use Rattle.bz_breakpad.specs.LineStarts.{IsStartText};
+ghost use Rattle.bz_breakpad.specs.PlainLine.{IsPlainLine};
+ghost use Rattle.bz_breakpad.specs.declared.parser.plain.PlainLine.{PlainLine};
 
-use crate::types::LineOrder;
+use crate::types::{LineRecords, Part};
 
 /// The text of a start: one to eight hexadecimal digits.
 #[derive(Clone, Copy)]
@@ -48,42 +53,52 @@ impl StartText {
     }
 }
 
-/// What is known of the order of line records that were read one after another.
+/// The line records of a function that have been read.
 #[derive(Clone, Copy)]
-pub(crate) enum Standing {
+pub(crate) enum LinesSoFar {
     /// There are none.
     Empty,
-    /// Each starts after the one before it; the text of the last start.
-    Ascending(StartText),
-    /// Nothing.
-    Unknown,
+    /// They stand one after another in this part of the file's bytes, and each starts after the one
+    /// before it; the text of the last start.
+    Run(Part, StartText),
+    /// They are the last of the table of places, from here on.
+    Listed(usize),
 }
 
-impl Standing {
-    /// What is known with one line record more, of whose start the text may be known.
+impl LinesSoFar {
+    /// With the line record in a part of the bytes, in its common form, if they are a run with it.
+    /// None if that isn't known.
     #[inline(always)]
-    pub(crate) fn with(self, next: Option<StartText>) -> Standing
-        ensures { (starts : List ℕ) (start : ℕ) → IfSome next (IsStartText start) → Stand starts self → Stand (starts ++ start ∷ []) result }
+    pub(crate) fn run_with(self, part: Part, start: Option<StartText>) -> Option<LinesSoFar>
+        ensures { IfSome result (λ more. (bytes places : List ℕ) (rest : List ℕ) (line : PlainLine) (is : IsPlainLine rest line) → drop part.from bytes ≡ rest →
+            part.to ≡ part.from + line.len → start ≡ line.start → LinesFitSoFar bytes (length places) self → IsLonger bytes places places self more (source_line is.value)) }
     {
-        let Some(next) = next else {
-            return Standing::Unknown;
+        let Some(start) = start else {
+            return None;
         };
         match self {
-            Standing::Empty => Standing::Ascending(next),
-            Standing::Ascending(last) if last.is_below(next) => Standing::Ascending(next),
-            Standing::Ascending(_) => Standing::Unknown,
-            Standing::Unknown => Standing::Unknown,
+            LinesSoFar::Empty => Some(LinesSoFar::Run(part, start)),
+            LinesSoFar::Run(run, last) if run.to == part.from && last.is_below(start) => {
+                let whole = Part {
+                    from: run.from,
+                    to: part.to,
+                };
+                Some(LinesSoFar::Run(whole, start))
+            }
+            LinesSoFar::Run(_, _) => None,
+            LinesSoFar::Listed(_) => None,
         }
     }
 
-    /// Where the line records stand in order.
-    pub(crate) fn order(self) -> LineOrder
-        ensures { (starts : List ℕ) → Stand starts self → StandAs starts result }
+    /// The line records, where so many places are in the table.
+    pub(crate) fn records(self, count: usize) -> LineRecords
+        ensures { (bytes places : List ℕ) → length places ≡ count → LinesFitSoFar bytes count self →
+            LinesFit bytes count result × (records_of bytes places result ≡ records_so_far bytes places self) }
     {
         match self {
-            Standing::Empty => LineOrder::Standing,
-            Standing::Ascending(_) => LineOrder::Standing,
-            Standing::Unknown => LineOrder::Unknown,
+            LinesSoFar::Empty => LineRecords::Run(Part { from: 0, to: 0 }),
+            LinesSoFar::Run(run, _) => LineRecords::Run(run),
+            LinesSoFar::Listed(from) => LineRecords::Listed(Part { from, to: count }),
         }
     }
 }

@@ -83,7 +83,7 @@ impl Walk {
         };
         self.kept
             .functions
-            .line(text.len() - rest.len(), line.start)?;
+            .line(text, text.len() - rest.len(), line)?;
         self.free = false;
         self.count += 1;
         Ok(Some(&rest[line.len..]))
@@ -101,17 +101,17 @@ impl Walk {
         let Some((line, after)) = next_line(rest) else {
             return Err(Error::InvalidInput);
         };
-        self.line(text.len() - rest.len(), line)?;
+        self.line(text, text.len() - rest.len(), line)?;
         Ok(after)
     }
 
     /// Reads the line at a place in the bytes.
     #[tactic(auto, unfolding(crate::specs::Walk::record_at))]
-    fn line(&mut self, start: usize, line: &[u8]) -> Result<()>
+    fn line(&mut self, bytes: &[u8], start: usize, line: &[u8]) -> Result<()>
         requires room { start + length line.now < 2 ^ 63 }
         requires few { self.old.count ≤ start }
-        ensures ok { OnOk result ((bytes : List ℕ) (reading : Reading) → IsLineAt bytes start line.now → IsWalked bytes self.old reading →
-            IsStep bytes self.old self.new line.now reading) }
+        ensures ok { OnOk result ((reading : Reading) → IsLineAt bytes.now start line.now → IsWalked bytes.now self.old reading →
+            IsStep bytes.now self.old self.new line.now reading) }
         ensures refusal { IfErr result (IsRefused self.old line.now) }
         ensures few { OnOk result (self.new.count ≤ self.old.count + 1) }
     {
@@ -131,8 +131,13 @@ impl Walk {
         let place = start + (line.len() - text.len());
         self.context = context_after(&found);
         self.free = free_after(&found);
-        self.kept
-            .record(found, self.ranges.as_slice(), place, place + body.len())?;
+        self.kept.record(
+            bytes,
+            found,
+            self.ranges.as_slice(),
+            place,
+            place + body.len(),
+        )?;
         self.count += 1;
         Ok(())
     }

@@ -1,11 +1,11 @@
 use Rattle.std.proofs.Common.{◌≡◌, ◌<◌, take, length, get_or, sym, ap, subst, arith, ◌∙◌}
 use Rattle.std.proofs.Math.Seq.{take-length}
 use Rattle.std.proofs.lemmas.List.{length-set}
-use Rattle.bz_breakpad.specs.Kept.{FunctionFits, FunctionStands, kept_function}
-use Rattle.bz_breakpad.specs.Search.{AreInlineesSearched, AreLinesSearched, copied}
+use Rattle.bz_breakpad.specs.Kept.{FunctionFits, kept_function}
+use Rattle.bz_breakpad.specs.Search.{AreInlineesSearched, AreRecordsSearched}
 use Rattle.bz_breakpad.specs.declared.types.KeptFunction.{KeptFunction}
 use Rattle.bz_breakpad.proofs.KeptLemmas.{all_weaker}
-use Rattle.bz_breakpad.proofs.OrderLemmas.{all_past, all_set, all_up_to, all_get, both_searched, inlinees_still, lines_still, same_fits, same_function, same_looks}
+use Rattle.bz_breakpad.proofs.OrderLemmas.{all_set, all_up_to, all_get, both_searched, inlinees_still, records_still, same_fits, same_function, same_looks}
 use Rattle.bz_breakpad.proofs.order.in_order.Goals as goal
 
 pub loop-index-preserved : goal.loop-index-preserved
@@ -29,13 +29,12 @@ loop-index-preserved c =
       fits = all_set (FunctionFits bytes (length lines) (length inlinees)) old at.index new i.fits
           (same_fits bytes (length lines) (length inlinees) before new done.same
           (subst (FunctionFits bytes (length lines) (length inlinees)) (sym there) (all_get (FunctionFits bytes (length lines) (length inlinees)) old at.index before i.fits within)));
-      lines = all_up_to (λ (f : KeptFunction). AreLinesSearched bytes lines _ f.lines (copied f.line_order)) old at.index new within
-          (rw done.lines.1 (all_weaker _ _ (λ (f : KeptFunction) is. lines_still bytes lines at.copies.lines.items done.lines.0 f.lines (copied f.line_order) is) (take at.index old) i.lines))
+      lines = all_up_to (λ (f : KeptFunction). AreRecordsSearched bytes lines _ f.lines f.line_order) old at.index new within
+          (rw done.lines.1 (all_weaker _ _ (λ (f : KeptFunction) is. records_still bytes lines at.copies.lines.items done.lines.0 f.lines f.line_order is) (take at.index old) i.lines))
           (rw i.same_lines at done.searched.0);
       inlinees = all_up_to (λ (f : KeptFunction). AreInlineesSearched inlinees _ f.inlinees f.inlinee_order) old at.index new within
           (rw done.inlinees.1 (all_weaker _ _ (λ (f : KeptFunction) is. inlinees_still inlinees at.copies.inlinees.items done.inlinees.0 f.inlinees f.inlinee_order is) (take at.index old) i.inlinees))
           (rw i.same_inlinees at done.searched.1);
-      stand = all_past (FunctionStands bytes lines) old at.index new i.stand;
     }
 
 pub returns : goal.returns

@@ -1,7 +1,7 @@
-use Rattle.std.proofs.Common.{◌≡◌, map, take, drop, length}
+use Rattle.std.proofs.Common.{◌≡◌, map, take, length}
 use Rattle.std.specs.List.{AllByRecursion}
-use Rattle.bz_breakpad.specs.Kept.{FunctionFits, FunctionStands, kept_function}
-use Rattle.bz_breakpad.specs.Search.{AreInlineesSearched, AreLinesSearched, copied}
+use Rattle.bz_breakpad.specs.Kept.{FunctionFits, kept_function}
+use Rattle.bz_breakpad.specs.Search.{AreInlineesSearched, AreRecordsSearched}
 use Rattle.bz_breakpad.specs.declared.types.KeptFunction.{KeptFunction}
 use Rattle.bz_breakpad.proofs.order.in_order.Given as goal
 
@@ -14,9 +14,8 @@ invariant-loop-index l = record {
   functions : map (kept_function l.bytes l.fn.code.lines.items l.fn.code.inlinees.items) l.code.functions.items
       ≡ map (kept_function l.bytes l.fn.code.lines.items l.fn.code.inlinees.items) l.fn.code.functions.items;
   fits : AllByRecursion (FunctionFits l.bytes (length l.fn.code.lines.items) (length l.fn.code.inlinees.items)) l.code.functions.items;
-  lines : AllByRecursion (λ (f : KeptFunction). AreLinesSearched l.bytes l.fn.code.lines.items l.copies.lines.items f.lines (copied f.line_order))
+  lines : AllByRecursion (λ (f : KeptFunction). AreRecordsSearched l.bytes l.fn.code.lines.items l.copies.lines.items f.lines f.line_order)
       (take l.index l.code.functions.items);
   inlinees : AllByRecursion (λ (f : KeptFunction). AreInlineesSearched l.fn.code.inlinees.items l.copies.inlinees.items f.inlinees f.inlinee_order)
       (take l.index l.code.functions.items);
-  stand : AllByRecursion (FunctionStands l.bytes l.fn.code.lines.items) (drop l.index l.code.functions.items);
 }

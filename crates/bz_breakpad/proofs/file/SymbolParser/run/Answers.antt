@@ -1,8 +1,8 @@
 use Rattle.std.proofs.Common.{sym, subst, ◌∙◌}
-use Rattle.bz_breakpad.specs.Kept.{FunctionsStand, TableFits}
+use Rattle.bz_breakpad.specs.Kept.{TableFits}
 use Rattle.bz_breakpad.specs.Sorted.{IsOrdered}
 use Rattle.bz_breakpad.specs.Walked.{HasRead}
-use Rattle.bz_breakpad.proofs.FinishLemmas.{accepted_of, finished_fits, finished_stand, kept_of}
+use Rattle.bz_breakpad.proofs.FinishLemmas.{accepted_of, finished_fits, kept_of}
 use Rattle.bz_breakpad.proofs.file.SymbolParser.run.Goals as goal
 
 pub ordered-requires : goal.ordered-requires
@@ -10,10 +10,7 @@ ordered-requires c =
     let read = c.in_ok-read.read in
     let walk = c.in_ok-walk in
     let same = c.as_slice.ensures.value ∙ sym c.as_slice-2.ensures.value in
-    record {
-      fits = subst (λ text. TableFits text read) same (finished_fits _ walk.walk read walk.ensures.ok (c.in_ok-read.ensures.ok _));
-      stand = subst (λ text. FunctionsStand text read.code) same (finished_stand _ walk.walk read walk.ensures.ok (c.in_ok-read.ensures.ok _));
-    }
+    subst (λ text. TableFits text read) same (finished_fits _ walk.walk read walk.ensures.ok (c.in_ok-read.ensures.ok _))
 
 pub invariant_of-file : goal.invariant_of-file
 invariant_of-file c =

@@ -10,4 +10,4 @@ returns-clause-ok c =
     let after = c.in-Some.after.now in
     let at = line_stands bytes rest line after c.in-Some.ensures.whole c.in-Some.ensures.no_line_feed m.within m.rest_is in
     midway_on bytes rest line after c.args.self.now c.line.new.self m c.in-Some.ensures.whole c.in-Some.ensures.some
-    (c.in_ok-line.ensures.ok bytes m.reading at m.walked) c.in_ok-line.ensures.few
+    (c.in_ok-line.ensures.ok m.reading at m.walked) c.in_ok-line.ensures.few

@@ -9,7 +9,8 @@ use Rattle.bz_breakpad.proofs.StepLemmas.{text_stands, record_read, step_read}
 use Rattle.bz_breakpad.proofs.parser.walk.Walk.line.Goals as goal
 
 pub returns-clause-ok : goal.returns-clause-ok
-returns-clause-ok c bytes reading at walked =
+returns-clause-ok c reading at walked =
+    let bytes = c.args.bytes.now in
     let old = c.args.self.now in
     let line = c.args.line.now in
     let text = c.text_of-text.result.now in
@@ -24,7 +25,7 @@ returns-clause-ok c bytes reading at walked =
     let record_is = ap (record_at context) (sym text_is) ∙ record_read context text body r body_is read in
     let some = ap (λ t. old.free && is_nothing t) (sym text_is) ∙ sym c.if-is_blank.ensures in
     let first = ap (λ n. is_some (module_of r) && nat_lt 0 n) (sym walked.count_is) ∙ sym (c.if-is_late_module.ensures ranges) in
-    let kept = rw c.as_slice.ensures.value at (c.in_ok-record.ensures bytes body context reading stands refl) in
+    let kept = rw c.as_slice.ensures.value at (c.in_ok-record.ensures body context reading stands refl) in
     record {
       next = with_record reading r;
       walked = record { so_far = kept read walked.so_far; count_is = ap (λ n. n + 1) walked.count_is };

@@ -1,10 +1,9 @@
 use Rattle.std.proofs.Common.{◌≡◌, ◌-◌, length, refl, sym, ap, ◌∙◌}
 use Rattle.std.proofs.lemmas.Bool.{false≢true}
 use Rattle.std.proofs.lemmas.List.{take_rest}
-use Rattle.bz_breakpad.specs.Line.{source_line}
 use Rattle.bz_breakpad.specs.Told.{context_told}
 use Rattle.bz_breakpad.specs.Walk.Context.{InFunc}
-use Rattle.bz_breakpad.proofs.PlainStep.{plain_on, plain_stands}
+use Rattle.bz_breakpad.proofs.PlainStep.{plain_on}
 use Rattle.bz_breakpad.proofs.parser.walk.Walk.plain.Goals as goal
 use Rattle.bz_breakpad.proofs.parser.walk.Walk.plain.Goals.{in-InFunc, in_default}
 
@@ -20,11 +19,10 @@ returns-clause-ok c =
       | in-InFunc w ↦ ap context_told w.in-InFunc.is
       | in_default w ↦ absurd (false≢true (sym w.matches-is ∙ c.if-not-matches.false))
     ] in
-    let reads = plain_stands rest line p bytes (length bytes - length rest) m.rest_is in
     let so_far = m.walked.so_far in
     rw (take_rest rest line.len) (plain_on rest line p bytes old _ m in_func in_func refl refl (record {
       module_is = so_far.module_is;
-      functions = c.in_ok-line.ensures bytes m.reading.closed m.reading.current (source_line p.value) reads p.start_is so_far.functions;
+      functions = c.in_ok-line.ensures m.reading.closed m.reading.current rest p m.rest_is so_far.functions;
       files = so_far.files;
       origins = so_far.origins;
       publics = so_far.publics;

@@ -1,0 +1,25 @@
+use Rattle.std.proofs.Common.{arith}
+use Rattle.std.proofs.lemmas.List.{length-drop, length-take-le}
+use Rattle.bz_breakpad.proofs.ListingLemmas.{listing_begins, listing_ends, listing_goes_on, run_within}
+use Rattle.bz_breakpad.proofs.parser.functions.list_run.Goals as goal
+
+pub loop-line-init : goal.loop-line-init
+loop-line-init c = record {
+  within = run_within c.args.bytes.now c.args.run (omega arith);
+  listed = λ last is. listing_begins c.args.bytes.now c.args.run c.args.places.now.items last is;
+}
+
+pub loop-line-preserved : goal.loop-line-preserved
+loop-line-preserved c =
+    let at = c.loop-line in
+    let cut = c.in-Some.ensures in
+    record {
+      within = omega (arith, at.invariant.within, cut.shorter);
+      listed = λ last is.
+          listing_goes_on c.args.bytes.now c.args.run c.args.places.now.items c.in-Some._line.now c.in-Some.after.now cut.no_line_feed at.rest.now at.places.items c.push.new.self.items
+          cut.whole cut.all cut.some at.invariant.within c.in_ok-push.ensures.items (at.invariant.listed last is);
+    }
+
+pub returns : goal.returns
+returns c last is =
+    listing_ends c.args.bytes.now c.args.run c.args.places.now.items c.loop-line.rest.now c.loop-line.places.items c.in_default.ensures.unended (c.loop-line.invariant.listed last is)

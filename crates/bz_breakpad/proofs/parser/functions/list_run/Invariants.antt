@@ -1,0 +1,15 @@
+use Rattle.std.proofs.Common.{◌≤◌, length}
+use Rattle.bz_breakpad.specs.Kept.{AreListedTo, IsOpenRunAt}
+use Rattle.bz_breakpad.specs.declared.parser.standing.StartText.{StartText}
+use Rattle.bz_breakpad.proofs.parser.functions.list_run.Given as goal
+
+-- the line records up to the rest are listed
+abbrev pub invariant-loop-line : goal.invariant-loop-line
+invariant-loop-line l = record {
+  within : length l.rest ≤ l.run.to;
+  listed : (last : StartText) → IsOpenRunAt l.bytes l.run last → AreListedTo l.bytes l.run l.rest l.fn.places.items l.places.items;
+}
+
+-- it gets shorter
+abbrev pub decreases-loop-line : goal.decreases-loop-line
+decreases-loop-line l = length l.rest

@@ -1,0 +1,84 @@
+//! The search in a run: line records that stand one after another in a file, each starting after the
+//! one before it.
+
+ghost use Rattle.std.specs.Prelude.{◌≡◌, ◌≤◌, length, option_map, IfSome, IfNone};
+ghost use Rattle.bz_base.specs.Line.{all_lines};
+ghost use Rattle.bz_base.specs.Nearest.{nearest_covering};
+ghost use Rattle.bz_breakpad.specs.Lent.{line_seen};
+ghost use Rattle.bz_breakpad.specs.LineRun.{AreLineRecords, IsCut, IsLineRun, lines_in};
+
+use crate::lines::{line_if_covers, start_at};
+use crate::parser::plain::line_feeds;
+use crate::types::SourceLine;
+use bz_base::{Addr, next_line};
+
+/// The line record of a run that answers for the address.
+pub(crate) fn line_in_run(run: &[u8], addr: Addr) -> Option<SourceLine>
+    requires { IsLineRun run.now }
+    ensures { option_map line_seen result ≡ nearest_covering (λ l. l.start) (λ l. l.size) addr (lines_in run.now) }
+{
+    let mut rest = run;
+    while let Some(cut) = cut_of(rest) {
+        rest = if start_at(rest, cut) <= addr {
+            &rest[cut..]
+        } else {
+            &rest[..cut]
+        };
+    }
+    only_line(rest, addr)
+}
+
+/// Where a text is cut in two behind a line feed: near its middle, or else behind its first line.
+/// None if the text has one line at most.
+fn cut_of(text: &[u8]) -> Option<usize>
+    ensures some { IfSome result (IsCut text.now) }
+    ensures none { IfNone result (length (all_lines text.now) ≤ 1) }
+{
+    match cut_near(text, text.len() / 2) {
+        Some(cut) => Some(cut),
+        None => first_cut(text),
+    }
+}
+
+/// Where the next line after a place begins, if one load shows it.
+#[inline(always)]
+fn cut_near(text: &[u8], place: usize) -> Option<usize>
+    requires { place ≤ length text.now }
+    ensures { IfSome result (IsCut text.now) }
+{
+    if text.len() - place < 32 {
+        return None;
+    }
+    let cut = place + line_feeds(&text[place..]).trailing_zeros() as usize + 1;
+    if cut < text.len() && text[cut - 1] == b'\n' {
+        Some(cut)
+    } else {
+        None
+    }
+}
+
+/// Where the second line begins.
+fn first_cut(text: &[u8]) -> Option<usize>
+    ensures some { IfSome result (IsCut text.now) }
+    ensures none { IfNone result (length (all_lines text.now) ≤ 1) }
+{
+    let (_line, after) = next_line(text)?;
+    if after.is_empty() {
+        None
+    } else {
+        Some(text.len() - after.len())
+    }
+}
+
+/// The only line record of a text, if it covers the address.
+fn only_line(text: &[u8], addr: Addr) -> Option<SourceLine>
+    requires only { length (all_lines text.now) ≤ 1 }
+    requires read { AreLineRecords text.now }
+    ensures { option_map line_seen result ≡ nearest_covering (λ l. l.start) (λ l. l.size) addr (lines_in text.now) }
+{
+    if text.is_empty() {
+        None
+    } else {
+        line_if_covers(text, 0, addr)
+    }
+}
