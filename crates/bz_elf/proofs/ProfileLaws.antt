@@ -188,8 +188,7 @@ module _ (bytes : List ℕ) where
   -- and such a file is refused by none
   pub taken : IsElf bytes → format_test bytes ≡ None
   taken is =
-      rw
-      (
+      rw (
         begins_test is.identity is.magic,
         supported_test is.class is.order,
         long_test is.head,

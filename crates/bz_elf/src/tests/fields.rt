@@ -1,7 +1,7 @@
 //! Which files are taken.
 
-use crate::{ElfFile, laws};
 use crate::tests::{E1, damaged};
+use crate::{ElfFile, laws};
 use bz_base::Error;
 use std::alloc::Global;
 use std::test::Fail;
@@ -126,15 +126,13 @@ fn fields_are_checked(rt: HostRuntime) -> Result<(), Fail> {
 #[test]
 fn a_cut_file_is_refused_by_its_first_fault(rt: HostRuntime) -> Result<(), Fail> {
     let alloc = rt.alloc();
-
     laws::files_are_exact();
     laws::names_are_exact();
-    let other = damaged(alloc, &E1, 4, b"\x01")?;
     for len in 0..368usize {
         let bytes = E1[..len].to_vec(alloc)?;
         assert_eq!(rt; refusal_of(alloc, bytes), BAD, "at {len}");
         let expected = if len < 6 { BAD } else { OTHER };
-        let bytes = other[..len].to_vec(alloc)?;
+        let bytes = damaged(alloc, &E1[..len], 4, b"\x01")?;
         assert_eq!(rt; refusal_of(alloc, bytes), expected, "of 32 bits at {len}");
     }
     Ok(())

@@ -2,10 +2,21 @@
 
 use crate::tests::E1;
 use crate::{ElfFile, ElfResolver};
-use bz_base::{ErrorKind, FindSymOpts, Reason, Symbolize, TranslateFileOffset};
+use bz_base::{ErrorKind, FindSymOpts, Reason, ResolvedSym, Symbolize, TranslateFileOffset};
 use bz_cache::FileCache;
 use bz_files::MemFiles;
 use std::test::Fail;
+
+/// A symbol's name and module.
+type Placed<'a> = (&'a str, Option<&'a str>);
+
+/// What is found, by name and module.
+fn placed<'a>(found: &Result<ResolvedSym<'a>, Reason>) -> Result<Placed<'a>, Reason> {
+    match found {
+        Ok(symbol) => Ok((symbol.name, symbol.module)),
+        Err(reason) => Err(*reason),
+    }
+}
 
 #[test]
 fn the_path_is_the_module(rt: HostRuntime) -> Result<(), Fail> {
@@ -16,16 +27,14 @@ fn the_path_is_the_module(rt: HostRuntime) -> Result<(), Fail> {
     let handed = ElfResolver::from_bytes(alloc, "/e", E1.to_vec(alloc)?)?;
     for resolver in [opened, handed] {
         let found = resolver.find_sym(alloc, 0x400088, &FindSymOpts::Basic)?;
-        assert!(rt;
-            found.is_ok_and(|f| f.name == "f" && f.module == Some("/e") && f.size == Some(16))
-        );
+        assert_eq!(rt; placed(&found), Ok(("f", Some("/e"))));
         let missed = resolver.find_sym(alloc, 0x400090, &FindSymOpts::Basic)?;
-        assert!(rt; missed.is_err_and(|reason| reason == Reason::UnknownAddr));
+        assert_eq!(rt; placed(&missed), Err(Reason::UnknownAddr));
         assert_eq!(rt; resolver.file_offset_to_virt_offset(0x88)?, Some(0x400088));
         assert_eq!(rt; resolver.file_offset_to_virt_offset(0x200)?, None);
         let file = resolver.file().clone()?;
         let found = file.find_sym(alloc, 0x400088, &FindSymOpts::Basic)?;
-        assert!(rt; found.is_ok_and(|f| f.name == "f" && f.module.is_none()));
+        assert_eq!(rt; placed(&found), Ok(("f", None)));
     }
     Ok(())
 }

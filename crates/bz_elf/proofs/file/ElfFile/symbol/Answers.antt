@@ -1,4 +1,4 @@
-use Rattle.std.proofs.Common.{◌≡◌, ◌<◌, ℕ, List, Option, option_map, length, sym, ap, ◌∙◌, arith}
+use Rattle.std.proofs.Common.{◌<◌, option_map, length, sym, ap, ◌∙◌, arith}
 use Rattle.std.proofs.lemmas.Bool.{eqb-false}
 use Rattle.bz_base.specs.Nearest.{IsTable}
 use Rattle.bz_elf.specs.Number.{bytes_at}

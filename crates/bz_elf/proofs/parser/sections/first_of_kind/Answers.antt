@@ -1,4 +1,4 @@
-use Rattle.std.proofs.Common.{◌≡◌, true, false, sym, ap, Some, ◌∙◌, arith}
+use Rattle.std.proofs.Common.{sym, ap, Some, ◌∙◌, arith}
 use Rattle.std.proofs.lemmas.Bool.{eq-eqb, ne_eqb}
 use Rattle.bz_elf.specs.Head.{section_count, section_place}
 use Rattle.bz_elf.specs.Sections.{is_kind, section_at, section_header_len}

@@ -1,4 +1,4 @@
-use Rattle.std.proofs.Common.{◌≡◌, true, drop, ap, ◌∙◌}
+use Rattle.std.proofs.Common.{ap, ◌∙◌}
 use Rattle.std.proofs.lemmas.List.{take_rest}
 use Rattle.bz_elf.specs.Symbols.{before_zero, is_name}
 use Rattle.bz_elf.proofs.TextLemmas.{name_within}
