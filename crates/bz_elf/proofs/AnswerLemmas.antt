@@ -1,18 +1,15 @@
 -- What is kept of a file answers as its symbols do.
-use Rattle.std.proofs.Common.{◌≡◌, ℕ, zero, suc, ◌<◌, ◌≤◌, Bool, true, false, List, [], ◌∷◌, length, map, Option, Some, None, option_map, Result, Ok, Err, refl, sym, ap, ◌∙◌, arith}
-use Rattle.std.specs.List.{list_all, slice_get, slice_index}
+use Rattle.std.proofs.Common.{◌≡◌, ℕ, zero, suc, ◌<◌, Bool, true, List, [], ◌∷◌, length, map, Option, Some, None, option_map, Ok, Err, refl, sym, ap, ◌∙◌, arith}
+use Rattle.std.specs.List.{list_all, slice_get}
 use Rattle.std.proofs.lemmas.Bool.{and_parts}
 use Rattle.std.proofs.lemmas.List.{length-map}
-use Rattle.std.proofs.lemmas.Option.{none-some, same_Some, slice_get_within}
-use Rattle.bz_base.specs.Nearest.{IsNearestCovering, IsTable, nearest_covering}
+use Rattle.std.proofs.lemmas.Option.{none-some, same_Some}
+use Rattle.bz_base.specs.Nearest.{IsTable, nearest_covering}
 use Rattle.bz_base.specs.Starts.{NeverDescends}
-use Rattle.bz_base.specs.declared.error.Error.{Error}
 use Rattle.bz_base.specs.declared.types.Reason.TheVariants as reasons
 use Rattle.bz_base.proofs.NearestLemmas.{nearest_covering_is}
 use Rattle.bz_base.proofs.TableLemmas.{record_at, start_at}
 use Rattle.bz_base.proofs.ViewLemmas.{covering_seen}
-use Rattle.bz_elf.specs.Checks.{has_names}
-use Rattle.bz_elf.specs.Format.{format_test}
 use Rattle.bz_elf.specs.Kept.{IsKept}
 use Rattle.bz_elf.specs.Plain.{answer_in, found, plain, resolved}
 use Rattle.bz_elf.specs.Sections.{strings}

@@ -1,8 +1,8 @@
 -- A head that passes its checks has its tables in the bytes.
-use Rattle.std.proofs.Common.{◌≡◌, ℕ, ◌+◌, ◌*◌, ◌<◌, ◌≤◌, Bool, true, false, List, length, nat_le, refl, sym, ◌∙◌, arith}
-use Rattle.std.specs.Prelude.{◌==◌, ◌&&◌, ◌||◌, not}
+use Rattle.std.proofs.Common.{◌≡◌, ℕ, ◌+◌, ◌*◌, ◌<◌, ◌≤◌, true, false, List, length, arith}
+use Rattle.std.specs.Prelude.{◌==◌, not}
 use Rattle.std.proofs.lemmas.Bool.{and_parts, leb-true, ne_eqb}
-use Rattle.bz_elf.specs.Checks.{PassesHead, has_head, has_program_headers, has_sections, count_elsewhere}
+use Rattle.bz_elf.specs.Checks.{has_head, has_program_headers, has_sections, count_elsewhere}
 use Rattle.bz_elf.specs.Head.{head_len, program_count, program_place, program_size, section_count, section_place, section_size}
 use Rattle.bz_elf.specs.Kept.{TablesLie}
 use Rattle.bz_elf.specs.Sections.{section_header_len}

@@ -1,16 +1,15 @@
 -- The checks of a file say what the relation says, one by one.
-use Rattle.std.proofs.Common.{◌≡◌, ℕ, zero, suc, ◌+◌, ◌*◌, ◌≤◌, Bool, true, false, cond, nat_le, List, [], ◌∷◌, length, drop, Option, Some, None, Result, Ok, Err, refl, sym, ap, subst, ◌∙◌, arith, inl, inr}
+use Rattle.std.proofs.Common.{◌≡◌, ℕ, suc, ◌+◌, ◌*◌, ◌≤◌, Bool, true, false, cond, nat_le, List, [], ◌∷◌, length, Option, Some, None, Result, Ok, Err, refl, sym, ap, subst, ◌∙◌, inl, inr}
 use Rattle.std.specs.Prelude.{◌==◌, ◌&&◌, ◌||◌, ◌%◌, ◌≢◌, ◌⊎◌, not, IfOk, IfErr}
 use Rattle.std.specs.List.{list_all, slice_get}
 use Rattle.std.proofs.lemmas.Bool.{and_from, and_parts, eq-eqb, eqb-false, eqb-true, le-leb, leb-true, ne_eqb, not-true}
-use Rattle.std.proofs.lemmas.Option.{none-some, same_Some}
 use Rattle.bz_base.specs.declared.error.Error.{Error}
 use Rattle.bz_base.specs.declared.error.Error.TheVariants as errors
 use Rattle.bz_cache.specs.Format.{Comes, FailsAs, IsRefusalBy}
 use Rattle.bz_files.specs.World.{Entry, Present}
 use Rattle.bz_files.specs.declared.stamp.Stamp.{Stamp}
 use Rattle.bz_elf.specs.Checks.{count_elsewhere, has_head, has_names, has_program_headers, has_sections, has_strings, has_symbols, if_there, is_elf, is_supported, is_symbol_table, is_there, section_lies}
-use Rattle.bz_elf.specs.Format.{Check, checks, format_test}
+use Rattle.bz_elf.specs.Format.{checks, format_test}
 use Rattle.bz_elf.specs.Head.{elf_magic, class_64, least_first, identity_len, head_len, program_place, program_size, program_count, section_place, section_size, section_count}
 use Rattle.bz_elf.specs.Number.{number_at}
 use Rattle.bz_elf.specs.Profile.{HasEntries, HaveProgramHeaders, HaveSections, IsElf, IsNameAt, SectionLies}

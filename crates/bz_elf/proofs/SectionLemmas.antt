@@ -1,11 +1,11 @@
 -- Whether the symbol table and its strings pass their checks, and where they lie.
-use Rattle.std.proofs.Common.{◌≡◌, ℕ, ◌+◌, ◌*◌, ◌/◌, ◌≤◌, Bool, true, false, List, [], length, take, Option, Some, None, refl, sym, ap, ◌∙◌, arith}
+use Rattle.std.proofs.Common.{◌≡◌, ℕ, ◌+◌, ◌/◌, Bool, true, false, List, [], length, Option, Some, None, refl, sym, ap, ◌∙◌, arith}
 use Rattle.std.specs.Prelude.{◌&&◌, ◌==◌, ◌%◌}
 use Rattle.std.specs.List.{slice_get}
 use Rattle.std.specs.Option.{option_and_then}
 use Rattle.std.proofs.lemmas.Bool.{and_parts, leb-true}
 use Rattle.bz_elf.specs.Checks.{has_strings, has_symbols, if_there, is_symbol_table, is_there, section_lies}
-use Rattle.bz_elf.specs.Kept.{AreStrings, IsSymbolTable}
+use Rattle.bz_elf.specs.Kept.{IsSymbolTable}
 use Rattle.bz_elf.specs.Number.{bytes_at}
 use Rattle.bz_elf.specs.Sections.{bytes_of, sections, string_table, strings, symbol_table}
 use Rattle.bz_elf.specs.Symbols.{places_of, symbol_len}

@@ -1,5 +1,5 @@
 -- What is kept of an ELF file beside its bytes.
-use Rattle.std.specs.Prelude.{◌≡◌, ◌+◌, ◌*◌, ◌<◌, ◌≤◌, ℕ, List, [], length, Option, Some, None}
+use Rattle.std.specs.Prelude.{◌≡◌, ◌+◌, ◌*◌, ◌<◌, ◌≤◌, ℕ, List, length, None}
 use Rattle.bz_base.specs.Nearest.{IsTable}
 use Rattle.bz_elf.specs.Format.{format_test}
 use Rattle.bz_elf.specs.Head.{head_len, program_count, program_place, section_count, section_place}

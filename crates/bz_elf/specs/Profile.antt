@@ -1,5 +1,5 @@
 -- Which bytes are ELF files of the profile, as a relation.
-use Rattle.std.specs.Prelude.{◌≡◌, ◌≢◌, ◌⊎◌, ℕ, ◌+◌, ◌*◌, ◌%◌, ◌≤◌, List, ◌∷◌, ◌++◌, length, Option, Some, slice_get}
+use Rattle.std.specs.Prelude.{◌≡◌, ◌≢◌, ◌⊎◌, ℕ, ◌+◌, ◌*◌, ◌%◌, ◌≤◌, List, ◌∷◌, ◌++◌, length, Some, slice_get}
 use Rattle.std.specs.Str.{IsUtf8}
 use Rattle.bz_base.specs.Byte.{HasNo, zero_byte}
 use Rattle.bz_elf.specs.Checks.{count_elsewhere}

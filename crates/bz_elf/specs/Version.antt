@@ -1,5 +1,5 @@
 -- ELF files as versions of files: they are refused as formats refuse.
-use Rattle.std.specs.Prelude.{◌≡◌, ℕ, Bool, true, false, if◌then◌else◌, List, [], ◌∷◌, Option, Some, None}
+use Rattle.std.specs.Prelude.{◌≡◌, ℕ, Bool, true, false, if◌then◌else◌, List, [], ◌∷◌, Option, Some}
 use Rattle.std.proofs.Common.{subst}
 use Rattle.bz_base.specs.Refusals.{IsFormatRefusal}
 use Rattle.bz_base.specs.declared.error.Error.{Error}
