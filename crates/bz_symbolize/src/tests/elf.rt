@@ -111,13 +111,15 @@ fn answers_elf_addresses_by_their_kind(rt: HostRuntime) -> std::result::Result<(
     Ok(())
 }
 
+const OFFSETS: &[u64] = &[0x200, 0x88];
+
 #[test]
 fn answers_batches_of_file_offsets(rt: HostRuntime) -> std::result::Result<(), Fail> {
     let alloc = rt.alloc();
     let mut files = files(alloc)?;
     let mut symbolizer = Symbolizer::new(alloc);
     let src: Source<'static> = source(alloc, "/e")?;
-    let input = Input::FileOffset(&[0x200, 0x88]);
+    let input = Input::FileOffset(OFFSETS);
     let answers = symbolizer.symbolize(alloc, &mut files, &src, input)?;
     assert!(rt; answers.len() == 2 && is_named(&answers[1], "f"));
     let addrs = Vec::from_slice(alloc, &[0x88])?;
