@@ -170,6 +170,8 @@ fn tells_places_as_it_is_set(rt: HostRuntime) -> std::result::Result<(), Fail> {
     Ok(())
 }
 
+const FOLDED: &[u64] = &[0x1005, 0x1009];
+
 /// An address whose inlined call names a file that isn't there is refused alone, and is an ignored
 /// error in a batch; others answer.
 #[test]
@@ -181,7 +183,7 @@ fn folds_a_refused_gsym_address(rt: HostRuntime) -> std::result::Result<(), Fail
     bytes.extend_from_slice(&CALLS[167..])?;
     let src = Source::from(GsymData::new(bytes.as_slice()));
     let mut symbolizer = Symbolizer::new(alloc);
-    let batch = Input::VirtOffset(&[0x1005, 0x1009]);
+    let batch = Input::VirtOffset(FOLDED);
     let answers = symbolizer.symbolize(alloc, &mut files, &src, batch)?;
     for (answer, expected) in answers.iter().zip(["IgnoredError", "main+9 src/a.c:7"]) {
         assert!(rt; told(alloc, answer)?.as_str() == expected, "{expected}");
