@@ -95,7 +95,7 @@ module _ (file : FileSource) (opts : FindSymOpts) (kind : AddressKind) where
       entry = rw (single_by addr) (entry_by i addr there);
       bytes = by.bytes;
       in_view = by.in_view;
-      answered = subst (λ (a : Result Answer Error). IsAnswerOf source opts by.bytes (single_of kind addr) a) (sym (single_by addr)) (laws.answers opts by.bytes by.formed);
+      answered = subst (λ (a : Result Answer Error). IsAnswerOf source opts by.bytes (single_of kind addr) a) (sym (single_by addr)) (laws.answers opts by.bytes by.formed by.served);
     }
 
 -- the laws, of the file of any source

@@ -9,7 +9,7 @@ use Rattle.bz_base.specs.declared.types.Symbolized.{Symbolized}
 use Rattle.bz_symbolize.specs.Batch.{batch_by, entry_by}
 use Rattle.bz_symbolize.specs.declared.held.Held.{Held}
 use Rattle.bz_symbolize.specs.FileCall.{batch_of}
-use Rattle.bz_symbolize.specs.Promise.{IsAnswerOf, IsBreakpadAnswer, IsBreakpadBatch, IsGsymAnswer, IsGsymBatch}
+use Rattle.bz_symbolize.specs.Promise.{IsAnswerOf, IsBreakpadAnswer, IsBreakpadBatch, IsElfAnswer, IsElfBatch, IsGsymAnswer, IsGsymBatch}
 use Rattle.bz_symbolize.specs.declared.source.Source.{Source}
 use Rattle.bz_symbolize.specs.declared.source.Source.TheVariants as sources
 
@@ -17,6 +17,7 @@ use Rattle.bz_symbolize.specs.declared.source.Source.TheVariants as sources
 pub never_refused : (source : Source) (opts : FindSymOpts) (bytes : List ℕ) (kind : AddressKind) (addrs : List ℕ) (e : Error) → IsAnswerOf source opts bytes (batch_of kind addrs) (Err e) → ⊥
 never_refused (sources.Breakpad source) opts bytes kind addrs e is = let plain = is.plain in cc
 never_refused (sources.Gsym source) opts bytes kind addrs e is = let plain = is.plain in cc
+never_refused (sources.Elf source) opts bytes kind addrs e is = let plain = is.plain in cc
 
 -- what a Breakpad file answers to a batch is the batch of its table
 pub batch_answered : (opts : FindSymOpts) (bytes : List ℕ) (kind : AddressKind) (addrs : List ℕ) (answers : List Answer) →
@@ -37,6 +38,16 @@ pub plain_gsym : (opts : FindSymOpts) (bytes : List ℕ) (kind : AddressKind) (a
     IsGsymAnswer opts bytes (batch_of kind addrs) (Ok answers) ↔ IsGsymBatch opts bytes addrs answers
 plain_gsym opts bytes kind addrs answers =
     (gsym_answered opts bytes kind addrs answers, λ is. record { accepted = is.accepted; plain = ap Ok (sym is.plain) })
+
+-- what an ELF file answers to a batch is the batch of its symbol table
+pub elf_answered : (path bytes : List ℕ) (kind : AddressKind) (addrs : List ℕ) (answers : List Answer) →
+    IsElfAnswer path bytes (batch_of kind addrs) (Ok answers) → IsElfBatch path bytes kind addrs answers
+elf_answered path bytes kind addrs answers is = record { accepted = is.accepted; served = is.served; plain = let plain = is.plain in cc }
+
+pub plain_elf : (path bytes : List ℕ) (kind : AddressKind) (addrs : List ℕ) (answers : List Answer) →
+    IsElfAnswer path bytes (batch_of kind addrs) (Ok answers) ↔ IsElfBatch path bytes kind addrs answers
+plain_elf path bytes kind addrs answers =
+    (elf_answered path bytes kind addrs answers, λ is. record { accepted = is.accepted; served = is.served; plain = ap Ok (sym is.plain) })
 
 -- the answer that is read of the address of an index is the batch's of that index
 pub answer_read : (held : Held) (opts : FindSymOpts) (addrs : List ℕ) (i d : ℕ) → i < length addrs → (result : Result Symbolized Error) →

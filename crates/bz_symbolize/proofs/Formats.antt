@@ -7,6 +7,7 @@ use Rattle.bz_breakpad.specs.Grammar.{IsFile}
 use Rattle.bz_breakpad.specs.Reader.{table_in}
 use Rattle.bz_breakpad.specs.Table.{Table}
 use Rattle.bz_breakpad.specs.Version.{format_test, refusal_of}
+use Rattle.bz_elf.proofs.ProfileLaws as profiles
 use Rattle.bz_gsym.specs.Tables.{IsGsym, is_gsym}
 use Rattle.bz_gsym.specs.Version as gsym
 use Rattle.bz_gsym.proofs.FormatLemmas.{in_format, passed}
@@ -49,12 +50,17 @@ is_format : {B : Type 0} (query : Query B) (source : Source) → OnFile source (
 is_format query (sources.Breakpad source) = record {
   same = λ s. refl;
   formed = λ bytes version. breakpad_formed bytes version.0 version.1;
-  answers = λ opts bytes formed. breakpad_meant query opts bytes formed;
+  answers = λ opts bytes formed served. breakpad_meant query opts bytes formed;
 }
 is_format query (sources.Gsym (gsyms.File source)) = record {
   same = λ s. refl;
   formed = λ bytes version. in_format bytes version;
-  answers = λ opts bytes formed. record { accepted = gsym_accepted bytes formed; plain = refl };
+  answers = λ opts bytes formed served. record { accepted = gsym_accepted bytes formed; plain = refl };
+}
+is_format query (sources.Elf source) = record {
+  same = λ s. refl;
+  formed = λ bytes version. profiles.taken bytes version;
+  answers = λ opts bytes formed served. record { accepted = profiles.profile bytes formed; served = served; plain = refl };
 }
 is_format query (sources.Gsym (gsyms.Data source)) = tt
 

@@ -9,6 +9,7 @@ use Rattle.bz_files.specs.Agreement.{Agree}
 use Rattle.bz_cache.specs.Coherence.{CoherentWithAll}
 use Rattle.bz_cache.proofs.CoherenceLaws.{look_coherent, new_coherent}
 use Rattle.bz_breakpad.specs.Version.{format_test}
+use Rattle.bz_elf.specs.Format as elf
 use Rattle.bz_gsym.specs.Version as gsym
 use Rattle.bz_symbolize.specs.FileCall.{file_cache}
 use Rattle.bz_symbolize.specs.History.{Call, Symbolize, Coheres, MayLeave, MayReach, state_after}
@@ -46,10 +47,17 @@ module _ (worlds : List World) (agree : Agree worlds) where
   after_source (sources.Breakpad source) kind s w has coherent v has_v = record {
     breakpad = after_file format_test (is_in_file kind) s.breakpad (string_bytes source.path) w has (λ u has_u. (coherent u has_u).breakpad) v has_v;
     gsym = (coherent v has_v).gsym;
+    elf = (coherent v has_v).elf;
   }
   after_source (sources.Gsym (gsyms.File source)) kind s w has coherent v has_v = record {
     breakpad = (coherent v has_v).breakpad;
     gsym = after_file gsym.format_test (is_in_table kind) s.gsym (string_bytes source.path) w has (λ u has_u. (coherent u has_u).gsym) v has_v;
+    elf = (coherent v has_v).elf;
+  }
+  after_source (sources.Elf source) kind s w has coherent v has_v = record {
+    breakpad = (coherent v has_v).breakpad;
+    gsym = (coherent v has_v).gsym;
+    elf = after_file elf.format_test true s.elf (string_bytes source.path) w has (λ u has_u. (coherent u has_u).elf) v has_v;
   }
   after_source (sources.Gsym (gsyms.Data source)) kind s w has coherent v has_v = coherent v has_v
 
@@ -72,4 +80,4 @@ pub history_coheres : (settings : Settings) (calls : List (World × Call)) (stat
     Agree (world ∷ worlds_of calls) → MayReach (new_state settings) calls state → Coheres state world
 history_coheres settings calls state world agree reach =
     reached (world ∷ worlds_of calls) agree calls (new_state settings) state (λ w has. among_later world w (worlds_of calls) has)
-    (λ w has. record { breakpad = new_coherent settings.reload w; gsym = new_coherent settings.reload w }) reach world (among_first world (worlds_of calls))
+    (λ w has. record { breakpad = new_coherent settings.reload w; gsym = new_coherent settings.reload w; elf = new_coherent settings.reload w }) reach world (among_first world (worlds_of calls))

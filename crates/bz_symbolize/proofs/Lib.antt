@@ -1,6 +1,7 @@
 pub mod AlikeLemmas
 pub mod BatchLemmas
 pub mod CallLemmas
+pub mod ElfLemmas
 pub mod FileLemmas
 pub mod Formats
 pub mod GsymLemmas

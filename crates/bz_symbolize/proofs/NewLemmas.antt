@@ -14,11 +14,12 @@ use Rattle.bz_cache.specs.Look as looking
 use Rattle.bz_breakpad.specs.Reader.{table_in}
 use Rattle.bz_breakpad.specs.Table.{Table}
 use Rattle.bz_breakpad.specs.Version.{format_test, refusal_of}
+use Rattle.bz_elf.specs.Format as elf
 use Rattle.bz_gsym.specs.Tables.{is_gsym}
 use Rattle.bz_gsym.specs.Version as gsym
-use Rattle.bz_symbolize.specs.FileCall.{Question, batch_of, query_asked, by_test, by_version, by_look, file_answer}
-use Rattle.bz_symbolize.specs.Lookup.{breakpad_answer, by_table, fresh_answer, gsym_answer}
-use Rattle.bz_symbolize.specs.Sources.{breakpad_answering, gsym_answering}
+use Rattle.bz_symbolize.specs.FileCall.{Answering, Question, batch_of, query_asked, by_test, by_version, by_look, file_answer}
+use Rattle.bz_symbolize.specs.Lookup.{breakpad_answer, by_table, elf_answer, fresh_answer, gsym_answer}
+use Rattle.bz_symbolize.specs.Sources.{breakpad_answering, elf_answering, gsym_answering}
 
 module _ (question : Question (List Answer)) (reload : Bool) (path : List ℕ) where
   -- bytes that are looked at for the first time answer as their version does
@@ -64,3 +65,15 @@ module _ (opts : FindSymOpts) (reload : Bool) (path : List ℕ) (addrs : List �
 
   pub new_gsym : (there : Option Entry) → file_answer of_gsym (new_cache reload) path there ≡ fresh_answer (gsym_answer opts addrs) there
   new_gsym there = new_answer of_gsym reload path refl there ∙ fresh_alike (by_version of_gsym) (gsym_answer opts addrs) (λ bytes. by_tables bytes (is_gsym bytes) refl) there
+
+  -- what a batch of any kind asks of an ELF file
+  abbrev of_elf : AddressKind → Question (List Answer)
+  of_elf kind = query_asked elf.format_test elf_answering opts path (batch_of kind addrs)
+
+  by_profile : (kind : AddressKind) (bytes : List ℕ) (refusal : Option Error) → elf.format_test bytes ≡ refusal → by_version (of_elf kind) bytes ≡ elf_answer path kind addrs bytes
+  by_profile kind bytes None is = rw is refl
+  by_profile kind bytes (Some e) is = rw is refl
+
+  pub new_elf : (kind : AddressKind) (there : Option Entry) → file_answer (of_elf kind) (new_cache reload) path there ≡ fresh_answer (elf_answer path kind addrs) there
+  new_elf kind there =
+      new_answer (of_elf kind) reload path refl there ∙ fresh_alike (by_version (of_elf kind)) (elf_answer path kind addrs) (λ bytes. by_profile kind bytes (elf.format_test bytes) refl) there

@@ -22,7 +22,7 @@ use Rattle.bz_symbolize.specs.declared.source.Source.{Source}
 pub record IsFormatOf {B : Type 0} (query : Query B) (source : Source) (file : FileSource) : Type 0 where
   pub same : (s : State) → file.with_cache s (file.cache s) ≡ s
   pub formed : (bytes : List ℕ) → IsVersionOf source bytes → file.test bytes ≡ None
-  pub answers : (opts : FindSymOpts) (bytes : List ℕ) → file.test bytes ≡ None →
+  pub answers : (opts : FindSymOpts) (bytes : List ℕ) → file.test bytes ≡ None → file.answering.serves query.kind ≡ true →
       IsAnswerOf source opts bytes query (query.given (λ addr. file.answering.single opts file.path bytes query.kind addr))
 
 module _ {B : Type 0} (opts : FindSymOpts) (source : Source) (file : FileSource) (query : Query B) (laws : IsFormatOf query source file) (old : State) where
@@ -30,7 +30,7 @@ module _ {B : Type 0} (opts : FindSymOpts) (source : Source) (file : FileSource)
   served : (bytes : List ℕ) (answer : Result B Error) → file.test bytes ≡ None → file.answering.serves query.kind ≡ true →
       query_given file.answering opts file.path query bytes ≡ answer → IsAnswerOf source opts bytes query answer
   served bytes answer formed serves is =
-      subst (λ (a : Result B Error). IsAnswerOf source opts bytes query a) (rw serves at is) (laws.answers opts bytes formed)
+      subst (λ (a : Result B Error). IsAnswerOf source opts bytes query a) (rw serves at is) (laws.answers opts bytes formed serves)
 
   -- an answer comes only where the kind is served
   by_kind : (bytes : List ℕ) (answer : B) (b : Bool) → file.answering.serves query.kind ≡ b → file.test bytes ≡ None →

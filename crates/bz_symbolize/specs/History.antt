@@ -30,3 +30,4 @@ MayReach start (step ∷ later) end = (next : State) × MayLeave start step.0 st
 pub record Coheres (state : State) (world : World) : Type 0 where
   pub breakpad : Coherent state.breakpad.kept world
   pub gsym : Coherent state.gsym.kept world
+  pub elf : Coherent state.elf.kept world

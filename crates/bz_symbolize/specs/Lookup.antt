@@ -12,9 +12,10 @@ use Rattle.bz_cache.specs.View.{View, Absent, Hidden, Shown, view}
 use Rattle.bz_breakpad.specs.Table.{Table}
 use Rattle.bz_breakpad.specs.Reader.{table_in}
 use Rattle.bz_breakpad.specs.Plain.{batch}
+use Rattle.bz_elf.specs.Format as elf
 use Rattle.bz_gsym.specs.Tables.{is_gsym}
 use Rattle.bz_symbolize.specs.FileCall.{Query, Question, by_version, file_answer, file_cache, file_opens}
-use Rattle.bz_symbolize.specs.Sources.{SourceForm, OneFile, Handed, asked_of, gsym_batch, handed_answer}
+use Rattle.bz_symbolize.specs.Sources.{SourceForm, OneFile, Handed, asked_of, elf_batch, gsym_batch, handed_answer, is_in_elf}
 use Rattle.bz_symbolize.specs.State.{State}
 
 -- what a call answers
@@ -59,6 +60,16 @@ breakpad_answer opts addrs bytes = by_table opts addrs (table_in bytes)
 -- and as a GSYM file
 abbrev pub gsym_answer : FindSymOpts → List ℕ → List ℕ → Result (List Answer) Error
 gsym_answer opts addrs bytes = if is_gsym bytes then Ok (gsym_batch opts bytes addrs) else Err errors.InvalidData
+
+-- what is given, unless the bytes are refused
+abbrev pub unless_refused : Result (List Answer) Error → Option Error → Result (List Answer) Error
+unless_refused given None = given
+unless_refused given (Some e) = Err e
+
+-- and as an ELF file that the path names: bytes that aren't one are refused first, and then the addresses of a process
+abbrev pub elf_answer : List ℕ → AddressKind → List ℕ → List ℕ → Result (List Answer) Error
+elf_answer path kind addrs bytes =
+    unless_refused (cond (is_in_elf kind) (Ok (elf_batch path bytes kind addrs)) (Err errors.Unsupported)) (elf.format_test bytes)
 
 -- what a symbolizer that keeps nothing answers by what lies at the path of a file, where its bytes answer so
 abbrev pub fresh_answer : (List ℕ → Result (List Answer) Error) → Option Entry → Result (List Answer) Error

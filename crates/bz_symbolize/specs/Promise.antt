@@ -1,5 +1,5 @@
 -- What a call of a symbolizer promises, in the words of the subject, whether a batch or a single address is asked.
-use Rattle.std.specs.Prelude.{◌≡◌, ◌⊎◌, ℕ, true, false, List, Option, Some, IsSome, Result, Ok, Err, IfOk, IfErr, IsErrOf, OnOk}
+use Rattle.std.specs.Prelude.{◌≡◌, ◌⊎◌, ℕ, true, false, List, Option, Some, IsSome, Result, Ok, Err, IfOk, IfErr, IsErrOf, OnOk, string_bytes}
 use Rattle.bz_base.specs.Answer.{Answer, Gives}
 use Rattle.bz_base.specs.InputKind.{AddressKind}
 use Rattle.bz_base.specs.declared.error.Error.{Error}
@@ -16,11 +16,12 @@ use Rattle.bz_cache.specs.View.{Shown, fixed, view}
 use Rattle.bz_breakpad.specs.Grammar.{IsFile}
 use Rattle.bz_breakpad.specs.Plain.{batch, plain}
 use Rattle.bz_breakpad.specs.Table.{Table}
+use Rattle.bz_elf.specs.Profile.{IsElf}
 use Rattle.bz_gsym.specs.Tables.{IsGsym}
 use Rattle.bz_symbolize.specs.FileCall.{CallsFile, Leaves, MayBeRefused, Query}
 use Rattle.bz_symbolize.specs.History.{MayLeave, Symbolize}
 use Rattle.bz_symbolize.specs.Lookup.{answer_of, state_of, opens_of, view_answer}
-use Rattle.bz_symbolize.specs.Sources.{FileSource, SourceForm, OnFile, OnHanded, asked_of, form_of, gsym_batch, gsym_single, handed_answer}
+use Rattle.bz_symbolize.specs.Sources.{FileSource, SourceForm, OnFile, OnHanded, asked_of, elf_batch, elf_single, form_of, gsym_batch, gsym_single, handed_answer, is_in_elf}
 use Rattle.bz_symbolize.specs.State.{State, WellKept, opts_of}
 use Rattle.bz_symbolize.specs.declared.source.Source.{Source}
 use Rattle.bz_symbolize.specs.declared.source.Source.TheVariants as sources
@@ -48,15 +49,31 @@ pub record IsGsymAnswer {B : Type 0} (opts : FindSymOpts) (bytes : List ℕ) (qu
   pub accepted : IsGsym bytes
   pub plain : query.given (gsym_single opts bytes) ≡ answer
 
+-- the bytes are an ELF file, its kind of address is one that it answers, and the answers are those of its symbol table, each at
+-- its own address, in order; the path names their module
+pub record IsElfBatch (path bytes : List ℕ) (kind : AddressKind) (addrs : List ℕ) (answers : List Answer) : Type 0 where
+  pub accepted : IsElf bytes
+  pub served : is_in_elf kind ≡ true
+  pub plain : answers ≡ elf_batch path bytes kind addrs
+
+-- the bytes are an ELF file, it answers the kind of address, and the answer is what the query makes of its answers at each
+-- address alone
+pub record IsElfAnswer {B : Type 0} (path bytes : List ℕ) (query : Query B) (answer : Result B Error) : Type 0 where
+  pub accepted : IsElf bytes
+  pub served : is_in_elf query.kind ≡ true
+  pub plain : query.given (λ addr. Ok (elf_single path bytes query.kind addr)) ≡ answer
+
 -- the bytes are a version of the source, and it answers the query so, or refuses it, in the words of the source's format
 abbrev pub IsAnswerOf : {B : Type 0} → Source → FindSymOpts → List ℕ → Query B → Result B Error → Type 0
 IsAnswerOf (sources.Breakpad source) opts bytes query answer = IsBreakpadAnswer opts bytes query answer
 IsAnswerOf (sources.Gsym source) opts bytes query answer = IsGsymAnswer opts bytes query answer
+IsAnswerOf (sources.Elf source) opts bytes query answer = IsElfAnswer (string_bytes source.path) bytes query answer
 
 -- the bytes are a version of the source, in the words of the source's format
 abbrev pub IsVersionOf : Source → List ℕ → Type 0
 IsVersionOf (sources.Breakpad source) bytes = (table : Table) × IsFile bytes table
 IsVersionOf (sources.Gsym source) bytes = IsGsym bytes
+IsVersionOf (sources.Elf source) bytes = IsElf bytes
 
 -- the version in view at the path gives this answer
 pub record AnswersView {B : Type 0} (opts : FindSymOpts) (source : Source) (file : FileSource) (state : State) (world : World) (query : Query B) (answer : B) : Type 0 where

@@ -1,6 +1,6 @@
 -- Sources as data: what each format answers, and which cache of a symbolizer keeps the source's file.
 use Rattle.std.specs.Prelude.{ℕ, Bool, true, false, cond, List, [], map, Option, Some, None, Result, Ok, Err, string_bytes}
-use Rattle.bz_base.specs.Answer.{Answer, Resolved, in_batch}
+use Rattle.bz_base.specs.Answer.{Answer, Unknown, Resolved, in_batch}
 use Rattle.bz_base.specs.InputKind.{AddressKind, InProcess, InTable, InFile}
 use Rattle.bz_base.specs.declared.error.Error.{Error}
 use Rattle.bz_base.specs.declared.error.Error.TheVariants as errors
@@ -12,6 +12,10 @@ use Rattle.bz_breakpad.specs.Table.{Table}
 use Rattle.bz_breakpad.specs.Version.{format_test}
 use Rattle.bz_base.specs.Resolution as resolution
 use Rattle.bz_base.specs.declared.types.Reason.{Reason}
+use Rattle.bz_base.specs.declared.types.Reason.TheVariants as reasons
+use Rattle.bz_elf.specs.Format as elf_format
+use Rattle.bz_elf.specs.Plain as elf
+use Rattle.bz_elf.specs.Segments.{segments, translated}
 use Rattle.bz_gsym.specs.Plain as gsym
 use Rattle.bz_gsym.specs.Version as gsym_version
 use Rattle.bz_symbolize.specs.FileCall.{Answering, Query, Question, by_version, query_asked}
@@ -55,6 +59,35 @@ gsym_batch opts bytes addrs = map (λ addr. in_batch (gsym_single opts bytes add
 
 abbrev pub gsym_answering : Answering
 gsym_answering = record { takes = is_in_table; serves = is_in_table; single = λ opts path bytes kind addr. gsym_single opts bytes addr }
+
+-- an ELF source looks at its file first, whatever the kind of address; then it answers addresses as the symbol table has them,
+-- and offsets in the file
+abbrev pub is_in_elf : AddressKind → Bool
+is_in_elf InTable = true
+is_in_elf InFile = true
+is_in_elf InProcess = false
+
+-- the address as the symbol table has it: an offset in the file goes through the load segments
+abbrev pub virtual_offset : List ℕ → AddressKind → ℕ → Option ℕ
+virtual_offset bytes InFile offset = translated (segments bytes) offset
+virtual_offset bytes InTable addr = Some addr
+virtual_offset bytes InProcess addr = Some addr
+
+-- what the symbol table says of such an address, if there is one; the module is the path that names the file
+abbrev pub elf_by_table : List ℕ → List ℕ → Option ℕ → Answer
+elf_by_table path bytes None = Unknown reasons.InvalidFileOffset
+elf_by_table path bytes (Some addr) = resolution.answer_at addr (elf.plain (Some path) bytes addr)
+
+-- the answer of an ELF file at an address, which it never refuses
+abbrev pub elf_single : List ℕ → List ℕ → AddressKind → ℕ → Answer
+elf_single path bytes kind addr = elf_by_table path bytes (virtual_offset bytes kind addr)
+
+-- a batch of addresses, each of them answered by itself, in their order
+abbrev pub elf_batch : List ℕ → List ℕ → AddressKind → List ℕ → List Answer
+elf_batch path bytes kind addrs = map (λ addr. elf_single path bytes kind addr) addrs
+
+abbrev pub elf_answering : Answering
+elf_answering = record { takes = λ kind. true; serves = is_in_elf; single = λ opts path bytes kind addr. Ok (elf_single path bytes kind addr) }
 
 -- a source that is bytes handed in
 pub record HandedSource : Type 0 where
@@ -106,6 +139,13 @@ form_of (sources.Gsym (gsyms.File source)) = OneFile (record {
   path = string_bytes source.path;
   cache = λ s. s.gsym;
   with_cache = λ s c. record s { gsym = c };
+})
+form_of (sources.Elf source) = OneFile (record {
+  test = elf_format.format_test;
+  answering = elf_answering;
+  path = string_bytes source.path;
+  cache = λ s. s.elf;
+  with_cache = λ s c. record s { elf = c };
 })
 form_of (sources.Gsym (gsyms.Data source)) = Handed (gsym_handed source.bytes.now)
 

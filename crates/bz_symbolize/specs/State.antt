@@ -6,6 +6,7 @@ use Rattle.bz_base.specs.declared.types.FindSymOpts.{FindSymOpts}
 use Rattle.bz_base.specs.declared.types.FindSymOpts.TheVariants.{Basic, CodeInfo, CodeInfoAndInlined}
 use Rattle.bz_cache.specs.Cache.{Cache, Consistent, new_cache, coded_cache}
 use Rattle.bz_breakpad.specs.Version.{format_test}
+use Rattle.bz_elf.specs.Format as elf
 use Rattle.bz_gsym.specs.Version as gsym
 
 -- how a symbolizer is set: whether files are looked at anew, whether answers have places in the source code, and inlined
@@ -36,10 +37,16 @@ pub record State : Type 0 where
   pub settings : Settings
   pub breakpad : Cache
   pub gsym : Cache
+  pub elf : Cache
 
 -- a symbolizer that keeps nothing
 abbrev pub new_state : Settings → State
-new_state settings = record { settings = settings; breakpad = new_cache settings.reload; gsym = new_cache settings.reload }
+new_state settings = record {
+  settings = settings;
+  breakpad = new_cache settings.reload;
+  gsym = new_cache settings.reload;
+  elf = new_cache settings.reload;
+}
 
 -- a cache of a symbolizer is well kept: a stamp is kept exactly while some path names it, every version is in the format,
 -- and paths are looked at anew exactly where the settings say so
@@ -51,6 +58,7 @@ pub record IsWellKept (test : List ℕ → Option Error) (settings : Settings) (
 pub record WellKept (state : State) : Type 0 where
   pub breakpad : IsWellKept format_test state.settings state.breakpad
   pub gsym : IsWellKept gsym.format_test state.settings state.gsym
+  pub elf : IsWellKept elf.format_test state.settings state.elf
 
 -- settings and states can be kept in the model of a value
 abbrev pub coded_settings : Coded Settings
@@ -63,7 +71,7 @@ coded_settings =
 
 abbrev pub coded_state : Coded State
 coded_state =
-    code_by (Settings × (Cache × Cache)) (coded× coded_settings (coded× coded_cache coded_cache))
-    (λ s. (s.settings, (s.breakpad, s.gsym)))
-    (λ p. record { settings = p.0; breakpad = p.1.0; gsym = p.1.1 })
+    code_by (Settings × (Cache × (Cache × Cache))) (coded× coded_settings (coded× coded_cache (coded× coded_cache coded_cache)))
+    (λ s. (s.settings, (s.breakpad, (s.gsym, s.elf))))
+    (λ p. record { settings = p.0; breakpad = p.1.0; gsym = p.1.1.0; elf = p.1.1.1 })
     (λ _. refl)

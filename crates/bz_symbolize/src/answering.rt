@@ -50,6 +50,7 @@ pub trait Answers: Version {
 
     /// The addresses with the version, from which their answers are then made one by one.
     fn look_up<'d>(
+        alloc: Global,
         version: Rc<Self>,
         opts: FindSymOpts,
         path: &str,
@@ -115,7 +116,7 @@ pub fn look_up_file<'d, T: Answers + Drop, F: Files>(
         return Err(Error::Unsupported);
     }
     let shared = cache.shared(alloc, files, path)?;
-    T::look_up(shared, opts, path, input)
+    T::look_up(alloc, shared, opts, path, input)
 }
 
 /// The same answer, with texts of its own.

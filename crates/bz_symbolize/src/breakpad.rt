@@ -60,6 +60,7 @@ impl Answers for SymbolFile {
     }
 
     fn look_up<'d>(
+        alloc: Global,
         version: Rc<SymbolFile>,
         opts: FindSymOpts,
         path: &str,
@@ -69,6 +70,7 @@ impl Answers for SymbolFile {
         ensures addrs { IfOk result (λ lookups. lookups.addrs ≡ (payload input).items) }
         ensures refusal { IfErr result MayRefuse }
     {
+        let _alloc = alloc;
         let _path = path;
         match input {
             Input::FileOffset(addrs) => Ok(Lookups::new(Held::Breakpad(version), opts, addrs)),

@@ -63,6 +63,7 @@ impl Answers for GsymTable {
     }
 
     fn look_up<'d>(
+        alloc: Global,
         version: Rc<GsymTable>,
         opts: FindSymOpts,
         path: &str,
@@ -72,6 +73,7 @@ impl Answers for GsymTable {
         ensures addrs { IfOk result (λ lookups. lookups.addrs ≡ (payload input).items) }
         ensures refusal { IfErr result MayRefuse }
     {
+        let _alloc = alloc;
         let _path = path;
         match input {
             Input::VirtOffset(addrs) => Ok(Lookups::new(Held::Gsym(version), opts, addrs)),

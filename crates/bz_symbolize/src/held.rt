@@ -1,6 +1,7 @@
 //! The version that a batch is answered by.
 
 use bz_breakpad::SymbolFile;
+use bz_elf::ElfFile;
 use bz_gsym::{GsymContext, GsymTable};
 use std::rc::Rc;
 
@@ -13,4 +14,26 @@ pub(crate) enum Held<'d> {
     Gsym(Rc<GsymTable>),
     /// GSYM bytes that were handed in.
     GsymData(GsymContext<'d>),
+    /// An ELF file.
+    Elf(HeldElf),
+}
+
+/// An ELF file, and what is asked of it.
+#[derive(Drop)]
+pub(crate) struct HeldElf {
+    /// The file.
+    pub file: Rc<ElfFile>,
+    /// The path that names it in the call.
+    pub path: String,
+    /// What its addresses are.
+    pub kind: ElfKind,
+}
+
+/// What the addresses that an ELF file is asked for are.
+#[derive(Clone, Copy)]
+pub(crate) enum ElfKind {
+    /// Addresses as the symbol table has them.
+    Table,
+    /// Offsets in the file.
+    File,
 }

@@ -10,13 +10,14 @@ ghost use Rattle.bz_base.specs.declared.types.FindSymOpts.{FindSymOpts};
 ghost use Rattle.bz_files.specs.Agreement.{Agree};
 ghost use Rattle.bz_breakpad.specs.Version.{format_test};
 ghost use Rattle.bz_files.specs.World.{World, entry_at};
+ghost use Rattle.bz_elf.specs.Format as elf;
 ghost use Rattle.bz_gsym.specs.Version as gsym;
 ghost use Rattle.bz_symbolize.specs.Alike.{BatchesFoldRefusals, EntriesStandAlone, OrderMovesAnswers};
 ghost use Rattle.bz_symbolize.specs.FileCall.{batch_of, batch_query, file_answer, query_asked};
 ghost use Rattle.bz_symbolize.specs.History.{Call, Coheres, MayReach};
-ghost use Rattle.bz_symbolize.specs.Lookup.{breakpad_answer, fresh_answer, gsym_answer};
-ghost use Rattle.bz_symbolize.specs.Promise.{IsAnswerOf, IsBreakpadAnswer, IsBreakpadBatch, IsGsymAnswer, IsGsymBatch};
-ghost use Rattle.bz_symbolize.specs.Sources.{OnFile, breakpad_answering, gsym_answering};
+ghost use Rattle.bz_symbolize.specs.Lookup.{breakpad_answer, elf_answer, fresh_answer, gsym_answer};
+ghost use Rattle.bz_symbolize.specs.Promise.{IsAnswerOf, IsBreakpadAnswer, IsBreakpadBatch, IsElfAnswer, IsElfBatch, IsGsymAnswer, IsGsymBatch};
+ghost use Rattle.bz_symbolize.specs.Sources.{OnFile, breakpad_answering, elf_answering, gsym_answering};
 ghost use Rattle.bz_symbolize.specs.State.{Settings, State, new_state};
 ghost use Rattle.bz_symbolize.specs.declared.source.Source.{Source};
 
@@ -26,6 +27,8 @@ pub fn new_symbolizer_answers()
         file_answer (query_asked format_test breakpad_answering opts path (batch_query (FileOffset addrs))) (new_state settings).breakpad path (entry_at world path) ≡ fresh_answer (breakpad_answer opts addrs.now) (entry_at world path) }
     ensures gsym { (opts : FindSymOpts) (settings : Settings) (path : List ℕ) (addrs : Bor (List ℕ)) (world : World) →
         file_answer (query_asked gsym.format_test gsym_answering opts path (batch_query (VirtOffset addrs))) (new_state settings).gsym path (entry_at world path) ≡ fresh_answer (gsym_answer opts addrs.now) (entry_at world path) }
+    ensures elf { (opts : FindSymOpts) (settings : Settings) (path : List ℕ) (kind : AddressKind) (addrs : List ℕ) (world : World) →
+        file_answer (query_asked elf.format_test elf_answering opts path (batch_of kind addrs)) (new_state settings).elf path (entry_at world path) ≡ fresh_answer (elf_answer path kind addrs) (entry_at world path) }
 {}
 
 /// From a new symbolizer on, over any list of calls whose worlds agree with each other and with the
@@ -55,12 +58,14 @@ pub fn batches_fold_refusals()
 {}
 
 /// No version refuses a batch by itself, so a promise of a batch leaves no such refusal; and what a
-/// Breakpad file answers to one is the batch of its table, and what a GSYM file does that of its
-/// tables.
+/// Breakpad file answers to one is the batch of its table, what a GSYM file does that of its tables,
+/// and what an ELF file does that of its symbol table.
 pub fn batches_are_answered()
     ensures refused { (source : Source) (opts : FindSymOpts) (bytes : List ℕ) (kind : AddressKind) (addrs : List ℕ) (e : Error) → IsAnswerOf source opts bytes (batch_of kind addrs) (Err e) → ⊥ }
     ensures breakpad { (opts : FindSymOpts) (bytes : List ℕ) (kind : AddressKind) (addrs : List ℕ) (answers : List Answer) →
         IsBreakpadAnswer opts bytes (batch_of kind addrs) (Ok answers) ↔ IsBreakpadBatch opts bytes addrs answers }
     ensures gsym { (opts : FindSymOpts) (bytes : List ℕ) (kind : AddressKind) (addrs : List ℕ) (answers : List Answer) →
         IsGsymAnswer opts bytes (batch_of kind addrs) (Ok answers) ↔ IsGsymBatch opts bytes addrs answers }
+    ensures elf { (path bytes : List ℕ) (kind : AddressKind) (addrs : List ℕ) (answers : List Answer) →
+        IsElfAnswer path bytes (batch_of kind addrs) (Ok answers) ↔ IsElfBatch path bytes kind addrs answers }
 {}

@@ -4,6 +4,7 @@
 mod answering;
 mod breakpad;
 mod builder;
+mod elf;
 mod gsym;
 mod held;
 pub mod laws;

@@ -8,6 +8,7 @@ ghost use Rattle.bz_breakpad.specs.Reader.{table_in};
 ghost use Rattle.bz_symbolize.specs.Batch.{batch_by, entry_by};
 ghost use Rattle.bz_symbolize.specs.Sources.{breakpad_single};
 
+use crate::elf;
 use crate::gsym::symbol_at;
 use crate::held::Held;
 use bz_base::{Addr, Error, FindSymOpts, Result, Steps, Symbolized, in_batch};
@@ -85,6 +86,13 @@ fn entry<'h>(
         }
         Held::Gsym(table) => in_batch(symbol_at(alloc, &table.context(), opts, addr)),
         Held::GsymData(context) => in_batch(symbol_at(alloc, context, opts, addr)),
+        Held::Elf(elf) => elf::symbol_at(
+            alloc,
+            elf.file.as_ref(),
+            elf.path.as_str(),
+            elf.kind,
+            addr,
+        ),
     }
 }
 

@@ -1,6 +1,6 @@
 //! What a symbolizer reads symbols from.
 
-ghost use Rattle.std.specs.Prelude.{◌≡◌};
+ghost use Rattle.std.specs.Prelude.{◌≡◌, true};
 ghost use Rattle.bz_symbolize.specs.declared.source.Gsym.TheVariants as gsyms;
 ghost use Rattle.bz_symbolize.specs.declared.source.Source.TheVariants as sources;
 
@@ -76,6 +76,36 @@ impl fmt::Debug for GsymFile {
     }
 }
 
+/// An ELF file. It takes virtual offsets: addresses as its symbol table has them; and file offsets,
+/// which go through its load segments.
+#[derive(Drop)]
+pub struct Elf {
+    /// The path of the file. It is the module of the answers.
+    pub path: String,
+    /// Whether debug symbols are looked for. It has no effect: none are.
+    pub debug_syms: bool,
+}
+
+impl Elf {
+    /// The ELF file at a path.
+    pub fn new(path: String) -> Elf
+        ensures path { result.path ≡ path }
+        ensures debug_syms { result.debug_syms ≡ true }
+    {
+        Elf {
+            path,
+            debug_syms: true,
+        }
+    }
+}
+
+impl fmt::Debug for Elf {
+    fn fmt<W: fmt::Write>(&self, f: &mut fmt::Formatter<W>) -> fmt::Result {
+        let path = &self.path;
+        write!(f, "Elf({path:?})")
+    }
+}
+
 /// GSYM, handed in or in a file.
 #[derive(Drop)]
 pub enum Gsym<'d> {
@@ -101,6 +131,8 @@ pub enum Source<'d> {
     Breakpad(Breakpad),
     /// GSYM, handed in or in a file.
     Gsym(Gsym<'d>),
+    /// An ELF file.
+    Elf(Elf),
 }
 
 impl fmt::Debug for Source<'_> {
@@ -108,6 +140,7 @@ impl fmt::Debug for Source<'_> {
         match self {
             Source::Breakpad(source) => write!(f, "{source:?}"),
             Source::Gsym(source) => write!(f, "{source:?}"),
+            Source::Elf(source) => write!(f, "{source:?}"),
         }
     }
 }
@@ -117,6 +150,14 @@ impl<'d> From<Breakpad> for Source<'d> {
 
     fn from(source: Breakpad) -> Source<'d> {
         Source::Breakpad(source)
+    }
+}
+
+impl<'d> From<Elf> for Source<'d> {
+    ghost from_gives = { λ source given. given ≡ sources.Elf source };
+
+    fn from(source: Elf) -> Source<'d> {
+        Source::Elf(source)
     }
 }
 

@@ -17,6 +17,7 @@ use crate::source::{Gsym, Source};
 use bz_base::{FindSymOpts, Input, Result, Steps, Symbolized};
 use bz_breakpad::SymbolFile;
 use bz_cache::{FileCache, Version};
+use bz_elf::ElfFile;
 use bz_files::Files;
 use bz_gsym::GsymTable;
 use std::alloc::Global;
@@ -29,6 +30,7 @@ pub struct Symbolizer {
     settings: Settings,
     breakpad: FileCache<SymbolFile>,
     gsym: FileCache<GsymTable>,
+    elf: FileCache<ElfFile>,
 }
 
 impl Model for Symbolizer {
@@ -38,9 +40,9 @@ impl Model for Symbolizer {
 
     ghost coded = { coded_state };
 
-    ghost view = { λ s. record { settings = s.settings; breakpad = s.breakpad; gsym = s.gsym } };
+    ghost view = { λ s. record { settings = s.settings; breakpad = s.breakpad; gsym = s.gsym; elf = s.elf } };
 
-    ghost invariant = { λ s. WellKept (record { settings = s.settings; breakpad = s.breakpad; gsym = s.gsym }) };
+    ghost invariant = { λ s. WellKept (record { settings = s.settings; breakpad = s.breakpad; gsym = s.gsym; elf = s.elf }) };
 }
 
 impl Symbolizer {
@@ -64,10 +66,12 @@ impl Symbolizer {
     {
         let breakpad = empty_cache(alloc, settings.reload);
         let gsym = empty_cache(alloc, settings.reload);
+        let elf = empty_cache(alloc, settings.reload);
         Symbolizer {
             settings,
             breakpad,
             gsym,
+            elf,
         }
     }
 
@@ -76,7 +80,8 @@ impl Symbolizer {
     /// the source doesn't take the kind of address, by `NotFound`, `PermissionDenied` and `ReadFault`
     /// where its file is absent, may not be read or can't be, by the refusal of its format where its
     /// bytes aren't in it, and by `OutOfMemory`. A refused call leaves the symbolizer as it was; where
-    /// memory ran out, the file may have been taken in.
+    /// memory ran out, the file may have been taken in, and where an ELF file is asked for addresses of
+    /// a process, which it refuses after the look, it has been.
     pub fn symbolize<F: Files>(
         &mut self,
         alloc: Global,
@@ -203,6 +208,15 @@ impl Symbolizer {
                 input,
                 steps,
             ),
+            Source::Elf(source) => answer_file(
+                &mut self.elf,
+                alloc,
+                files,
+                source.path.as_str(),
+                opts,
+                input,
+                steps,
+            ),
             Source::Gsym(Gsym::Data(source)) => answers_of_data(alloc, source.bytes, opts, input),
         }
     }
@@ -238,6 +252,15 @@ impl Symbolizer {
                 input,
                 steps,
             ),
+            Source::Elf(source) => answer_file_at(
+                &mut self.elf,
+                alloc,
+                files,
+                source.path.as_str(),
+                opts,
+                input,
+                steps,
+            ),
             Source::Gsym(Gsym::Data(source)) => answer_of_data(alloc, source.bytes, opts, input),
         }
     }
@@ -265,6 +288,14 @@ impl Symbolizer {
             ),
             Source::Gsym(Gsym::File(source)) => look_up_file(
                 &mut self.gsym,
+                alloc,
+                files,
+                source.path.as_str(),
+                opts,
+                input,
+            ),
+            Source::Elf(source) => look_up_file(
+                &mut self.elf,
                 alloc,
                 files,
                 source.path.as_str(),

@@ -3,6 +3,7 @@
 ghost use Rattle.std.specs.Prelude.{◌≡◌, ◌<◌};
 
 mod calling;
+mod elf;
 mod gsym;
 
 use crate::source::{Breakpad, GsymData, Source};

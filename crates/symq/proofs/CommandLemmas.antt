@@ -12,21 +12,24 @@ use Rattle.bz_cache.specs.Look.{opens_after}
 use Rattle.bz_breakpad.specs.Plain.{batch}
 use Rattle.bz_breakpad.specs.Reader.{table_in}
 use Rattle.bz_breakpad.specs.Table.{Table}
+use Rattle.bz_elf.specs.Format.{checks, format_test}
+use Rattle.bz_elf.proofs.FormatLemmas.{fails_first, refused_by_first}
+use Rattle.bz_elf.proofs.ProfileLaws.{profile, taken}
 use Rattle.bz_gsym.specs.Tables.{is_gsym}
 use Rattle.bz_gsym.proofs.FormatLemmas.{passed, passes}
 use Rattle.bz_symbolize.specs.FileCall.{batch_of}
-use Rattle.bz_symbolize.specs.Lookup.{answer_of, opens_of, by_table, breakpad_answer, fresh_answer, gsym_answer}
+use Rattle.bz_symbolize.specs.Lookup.{answer_of, opens_of, by_table, breakpad_answer, elf_answer, fresh_answer, gsym_answer}
 use Rattle.bz_symbolize.specs.Promise.{AnswersKept}
-use Rattle.bz_symbolize.specs.Sources.{OnFile, form_of, gsym_batch}
+use Rattle.bz_symbolize.specs.Sources.{OnFile, elf_batch, form_of, gsym_batch}
 use Rattle.bz_symbolize.specs.State.{State, default_settings, new_state}
 use Rattle.bz_symbolize.specs.declared.source.Gsym.TheVariants as gsyms
 use Rattle.bz_symbolize.specs.declared.source.Source.{Source}
 use Rattle.bz_symbolize.specs.declared.source.Source.TheVariants as sources
-use Rattle.bz_symbolize.proofs.BatchLemmas.{batch_answered, gsym_answered}
-use Rattle.bz_symbolize.proofs.NewLemmas.{new_breakpad, new_gsym}
+use Rattle.bz_symbolize.proofs.BatchLemmas.{batch_answered, elf_answered, gsym_answered}
+use Rattle.bz_symbolize.proofs.NewLemmas.{new_breakpad, new_elf, new_gsym}
 use Rattle.bz_symbolize.proofs.Tables.{table_found, table_again}
 use Rattle.symq.specs.Commands.{run_opts, IsSourceOf, kind_of, answer_by, answer_to, file_of, HasFile, HasAnswers, AnswersIn, AnswersSome, IsBatch, IsFileCause, IsRefusalOf, IsCause, IsVersion}
-use Rattle.symq.specs.Words.{Command, Breakpad, Gsym}
+use Rattle.symq.specs.Words.{Command, Breakpad, Gsym, Elf}
 use Rattle.symq.proofs.OpenLemmas.{opened_new}
 
 -- a symbolizer that keeps nothing answers the command's source as the command is answered
@@ -39,6 +42,12 @@ answer_new (Gsym path) (sources.Gsym (gsyms.File source)) addrs world is =
 answer_new (Breakpad path) (sources.Gsym source) addrs world is = absurd is
 answer_new (Gsym path) (sources.Breakpad source) addrs world is = absurd is
 answer_new (Gsym path) (sources.Gsym (gsyms.Data source)) addrs world is = absurd is
+answer_new (Elf path) (sources.Elf source) addrs world is =
+    rw is (new_elf run_opts default_settings.reload path addrs InTable (entry_at world path))
+answer_new (Breakpad path) (sources.Elf source) addrs world is = absurd is
+answer_new (Gsym path) (sources.Elf source) addrs world is = absurd is
+answer_new (Elf path) (sources.Breakpad source) addrs world is = absurd is
+answer_new (Elf path) (sources.Gsym source) addrs world is = absurd is
 
 -- and reads its file where it answers
 pub opened_by_command : {A : Type 0} (view : A → List Answer) (command : Command) (source : Source) (addrs : List ℕ) (world : World) (before after : ℕ) (result : Result A Error) →
@@ -52,6 +61,12 @@ opened_by_command view (Gsym path) (sources.Gsym (gsyms.File source)) addrs worl
 opened_by_command view (Breakpad path) (sources.Gsym source) addrs world before after result is comes opens = absurd is
 opened_by_command view (Gsym path) (sources.Breakpad source) addrs world before after result is comes opens = absurd is
 opened_by_command view (Gsym path) (sources.Gsym (gsyms.Data source)) addrs world before after result is comes opens = absurd is
+opened_by_command view (Elf path) (sources.Elf source) addrs world before after result is comes opens =
+    opened_new view (elf_answer path InTable addrs) path (entry_at world path) before after result comes (rw is at opens)
+opened_by_command view (Breakpad path) (sources.Elf source) addrs world before after result is comes opens = absurd is
+opened_by_command view (Gsym path) (sources.Elf source) addrs world before after result is comes opens = absurd is
+opened_by_command view (Elf path) (sources.Breakpad source) addrs world before after result is comes opens = absurd is
+opened_by_command view (Elf path) (sources.Gsym source) addrs world before after result is comes opens = absurd is
 
 -- what the symbolizer keeps is what it answers, so whatever is told, some bytes in the format are answered
 pub some_from_kept : {A : Type 0} (view : A → List Answer) (command : Command) (source : Source) (addrs : List ℕ) (now : State) (result : Result A Error) →
@@ -62,6 +77,11 @@ some_from_kept view (Gsym path) (sources.Gsym (gsyms.File source)) addrs now (Ok
 some_from_kept view (Breakpad path) (sources.Gsym source) addrs now (Ok given) is kept = absurd is
 some_from_kept view (Gsym path) (sources.Breakpad source) addrs now (Ok given) is kept = absurd is
 some_from_kept view (Gsym path) (sources.Gsym (gsyms.Data source)) addrs now (Ok given) is kept = absurd is
+some_from_kept view (Elf path) (sources.Elf source) addrs now (Ok given) is kept = (kept.bytes, elf_answered path kept.bytes InTable addrs (view given) (rw is at kept.answered))
+some_from_kept view (Breakpad path) (sources.Elf source) addrs now (Ok given) is kept = absurd is
+some_from_kept view (Gsym path) (sources.Elf source) addrs now (Ok given) is kept = absurd is
+some_from_kept view (Elf path) (sources.Breakpad source) addrs now (Ok given) is kept = absurd is
+some_from_kept view (Elf path) (sources.Gsym source) addrs now (Ok given) is kept = absurd is
 some_from_kept view command source addrs now (Err e) is kept = tt
 
 -- what holds of the file of a command's source holds
@@ -71,6 +91,11 @@ of_its_file (Gsym path) (sources.Gsym (gsyms.File source)) P is holds = holds
 of_its_file (Breakpad path) (sources.Gsym source) P is holds = absurd is
 of_its_file (Gsym path) (sources.Breakpad source) P is holds = absurd is
 of_its_file (Gsym path) (sources.Gsym (gsyms.Data source)) P is holds = absurd is
+of_its_file (Elf path) (sources.Elf source) P is holds = holds
+of_its_file (Breakpad path) (sources.Elf source) P is holds = absurd is
+of_its_file (Gsym path) (sources.Elf source) P is holds = absurd is
+of_its_file (Elf path) (sources.Breakpad source) P is holds = absurd is
+of_its_file (Elf path) (sources.Gsym source) P is holds = absurd is
 
 -- bytes that answer are in the source's format, and these are their answers
 batch_by : (command : Command) (addrs bytes : List ℕ) (answers : List Answer) → answer_by command addrs bytes ≡ Ok answers → IsBatch command bytes addrs answers
@@ -84,16 +109,23 @@ batch_by (Gsym path) addrs bytes answers given = by_test (is_gsym bytes) refl
     by_test : (formed : Bool) → is_gsym bytes ≡ formed → IsBatch (Gsym path) bytes addrs answers
     by_test true is = let answered = rw is at given in record { accepted = passed bytes is; plain = cc }
     by_test false is = let refused = rw is at given in cc
+batch_by (Elf path) addrs bytes answers given = by_test (format_test bytes) refl
+  where
+    by_test : (refusal : Option Error) → format_test bytes ≡ refusal → IsBatch (Elf path) bytes addrs answers
+    by_test None is = let answered = rw is at given in record { accepted = profile bytes is; served = refl; plain = cc }
+    by_test (Some e) is = let refused = rw is at given in cc
 
 -- and bytes in the format do answer
 answers_by : (command : Command) (addrs bytes : List ℕ) → IsVersion command bytes → (answers : List Answer) × (answer_by command addrs bytes ≡ Ok answers)
 answers_by (Breakpad path) addrs bytes version = (batch version.0 run_opts addrs, rw (table_again bytes version.0 version.1) refl)
 answers_by (Gsym path) addrs bytes version = (gsym_batch run_opts bytes addrs, rw (passes bytes version) refl)
+answers_by (Elf path) addrs bytes version = (elf_batch path bytes InTable addrs, rw (taken bytes version) refl)
 
 -- bytes that are answered are in the format
 version_by : (command : Command) (addrs bytes : List ℕ) (answers : List Answer) → IsBatch command bytes addrs answers → IsVersion command bytes
 version_by (Breakpad path) addrs bytes answers is = (is.table, is.accepted)
 version_by (Gsym path) addrs bytes answers is = is.accepted
+version_by (Elf path) addrs bytes answers is = is.accepted
 
 -- bytes are refused exactly where they aren't
 refusal_by : (command : Command) (addrs bytes : List ℕ) (e : Error) → answer_by command addrs bytes ≡ Err e → IsRefusalOf command bytes e
@@ -107,6 +139,11 @@ refusal_by (Gsym path) addrs bytes e given = by_test (is_gsym bytes) refl
     by_test : (formed : Bool) → is_gsym bytes ≡ formed → IsRefusalOf (Gsym path) bytes e
     by_test true is = let answered = rw is at given in cc
     by_test false is = let refused = rw is at given in (cc, λ formed. let passes_it = passes bytes formed in cc)
+refusal_by (Elf path) addrs bytes e given = by_test (format_test bytes) refl
+  where
+    by_test : (refusal : Option Error) → format_test bytes ≡ refusal → IsRefusalOf (Elf path) bytes e
+    by_test None is = let answered = rw is at given in cc
+    by_test (Some refusal) is = let refused = rw is at given in fails_first bytes checks e cc
 
 refused_by : (command : Command) (addrs bytes : List ℕ) (e : Error) → IsRefusalOf command bytes e → answer_by command addrs bytes ≡ Err e
 refused_by (Breakpad path) addrs bytes e refusal = by_read (table_in bytes) refl
@@ -119,6 +156,7 @@ refused_by (Gsym path) addrs bytes e refusal = by_test (is_gsym bytes) refl
     by_test : (formed : Bool) → is_gsym bytes ≡ formed → gsym_answer run_opts addrs bytes ≡ Err e
     by_test true is = absurd (refusal.1 (passed bytes is))
     by_test false is = rw is (ap Err (sym refusal.0))
+refused_by (Elf path) addrs bytes e refusal = rw (refused_by_first bytes checks refusal.0 e refusal.1) refl
 
 -- the same of what lies at the source's path
 module _ (command : Command) (addrs : List ℕ) where

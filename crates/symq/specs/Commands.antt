@@ -10,14 +10,16 @@ use Rattle.bz_files.specs.World.Entry.{Denied, Present}
 use Rattle.bz_files.specs.declared.stamp.Stamp.{Stamp}
 use Rattle.bz_breakpad.specs.Table.{Table}
 use Rattle.bz_breakpad.specs.Grammar.{IsFile}
+use Rattle.bz_elf.specs.Format.{IsFirstFailing, checks}
+use Rattle.bz_elf.specs.Profile.{IsElf}
 use Rattle.bz_gsym.specs.Tables.{IsGsym}
-use Rattle.bz_symbolize.specs.Lookup.{breakpad_answer, fresh_answer, gsym_answer}
-use Rattle.bz_symbolize.specs.Promise.{IsBreakpadBatch, IsGsymBatch}
+use Rattle.bz_symbolize.specs.Lookup.{breakpad_answer, elf_answer, fresh_answer, gsym_answer}
+use Rattle.bz_symbolize.specs.Promise.{IsBreakpadBatch, IsElfBatch, IsGsymBatch}
 use Rattle.bz_symbolize.specs.State.{default_settings, opts_of}
 use Rattle.bz_symbolize.specs.declared.source.Gsym.TheVariants as gsyms
 use Rattle.bz_symbolize.specs.declared.source.Source.{Source}
 use Rattle.bz_symbolize.specs.declared.source.Source.TheVariants as sources
-use Rattle.symq.specs.Words.{Command, Breakpad, Gsym}
+use Rattle.symq.specs.Words.{Command, Breakpad, Gsym, Elf}
 
 -- the options of a run: those of a symbolizer with all features on
 abbrev pub run_opts : FindSymOpts
@@ -27,22 +29,26 @@ run_opts = opts_of default_settings
 abbrev pub IsSourceOf : Command → Source → Type 0
 IsSourceOf (Breakpad path) (sources.Breakpad source) = string_bytes source.path ≡ path
 IsSourceOf (Gsym path) (sources.Gsym (gsyms.File source)) = string_bytes source.path ≡ path
+IsSourceOf (Elf path) (sources.Elf source) = string_bytes source.path ≡ path
 IsSourceOf _ _ = ⊥
 
 -- what the addresses of its input are relative to
 abbrev pub kind_of : Command → AddressKind
 kind_of (Breakpad path) = InFile
 kind_of (Gsym path) = InTable
+kind_of (Elf path) = InTable
 
 -- what lies at the source's path
 abbrev pub file_of : Command → World → Option Entry
 file_of (Breakpad path) world = entry_at world path
 file_of (Gsym path) world = entry_at world path
+file_of (Elf path) world = entry_at world path
 
 -- what bytes answer as those of the source
 abbrev pub answer_by : Command → List ℕ → List ℕ → Result (List Answer) Error
 answer_by (Breakpad path) addrs bytes = breakpad_answer run_opts addrs bytes
 answer_by (Gsym path) addrs bytes = gsym_answer run_opts addrs bytes
+answer_by (Elf path) addrs bytes = elf_answer path InTable addrs bytes
 
 -- what a symbolizer that keeps nothing answers
 abbrev pub answer_to : Command → List ℕ → World → Result (List Answer) Error
@@ -52,16 +58,19 @@ answer_to command addrs world = fresh_answer (answer_by command addrs) (file_of 
 abbrev pub IsVersion : Command → List ℕ → Type 0
 IsVersion (Breakpad path) bytes = (table : Table) × IsFile bytes table
 IsVersion (Gsym path) bytes = IsGsym bytes
+IsVersion (Elf path) bytes = IsElf bytes
 
 -- the bytes are in the source's format, and the answers are their plain ones, each at its own address, in order
 abbrev pub IsBatch : Command → List ℕ → List ℕ → List Answer → Type 0
 IsBatch (Breakpad path) bytes addrs answers = IsBreakpadBatch run_opts bytes addrs answers
 IsBatch (Gsym path) bytes addrs answers = IsGsymBatch run_opts bytes addrs answers
+IsBatch (Elf path) bytes addrs answers = IsElfBatch path bytes InTable addrs answers
 
--- the bytes aren't in the source's format, and this is the refusal of such bytes
+-- the bytes aren't in the source's format, and this is the refusal of such bytes: of ELF that of the first check that they fail
 abbrev pub IsRefusalOf : Command → List ℕ → Error → Type 0
 IsRefusalOf (Breakpad path) bytes e = (e ≡ errors.InvalidInput) × ((table : Table) → IsFile bytes table → ⊥)
 IsRefusalOf (Gsym path) bytes e = (e ≡ errors.InvalidData) × ¬ (IsGsym bytes)
+IsRefusalOf (Elf path) bytes e = (index : ℕ) × IsFirstFailing checks bytes index e
 
 -- a file is there whose bytes are such
 pub record HasFile (P : List ℕ → Type 0) (there : Option Entry) : Type 0 where

@@ -20,7 +20,7 @@ use crate::status::Status;
 use crate::words::{self, Command};
 use bz_base::{Error, Input, Result};
 use bz_files::{Files, TextIn, TextOut};
-use bz_symbolize::source::{Breakpad, GsymFile, Source};
+use bz_symbolize::source::{Breakpad, Elf, GsymFile, Source};
 use bz_symbolize::{Lookups, Symbolizer};
 use std::alloc::Global;
 
@@ -149,6 +149,10 @@ fn source(alloc: Global, command: &Command<'_>) -> Result<Source<'static>>
             let path = String::from_str(alloc, path)?;
             Ok(Source::from(GsymFile::new(path)))
         }
+        Command::Elf(path) => {
+            let path = String::from_str(alloc, path)?;
+            Ok(Source::from(Elf::new(path)))
+        }
     }
 }
 
@@ -159,6 +163,6 @@ fn input_for(command: &Command<'_>, addrs: Vec<u64>) -> Input<Vec<u64>>
 {
     match command {
         Command::Breakpad(_) => Input::FileOffset(addrs),
-        Command::Gsym(_) => Input::VirtOffset(addrs),
+        Command::Gsym(_) | Command::Elf(_) => Input::VirtOffset(addrs),
     }
 }

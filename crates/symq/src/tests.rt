@@ -1,6 +1,7 @@
 //! The program on files, inputs and outputs in memory.
 
 mod answer;
+mod elf;
 mod gsym;
 mod many;
 mod nested;

@@ -10,6 +10,8 @@ pub enum Command<'a> {
     Breakpad(&'a str),
     /// The answers of the GSYM file at a path.
     Gsym(&'a str),
+    /// The answers of the ELF file at a path.
+    Elf(&'a str),
 }
 
 /// The command that the words give.
@@ -31,6 +33,8 @@ fn named_command<'a>(kind: &str, path: &'a str) -> Option<Command<'a>>
         Some(Command::Breakpad(path))
     } else if kind == "gsym" {
         Some(Command::Gsym(path))
+    } else if kind == "elf" {
+        Some(Command::Elf(path))
     } else {
         None
     }
