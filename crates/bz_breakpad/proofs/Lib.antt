@@ -10,6 +10,7 @@ pub mod FunctionLemmas
 pub mod GrammarLaws
 pub mod Kept
 pub mod KeptLemmas
+pub mod KeyLemmas
 pub mod LaneLemmas
 pub mod LineSearchLemmas
 pub mod ListingLemmas

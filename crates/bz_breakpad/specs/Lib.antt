@@ -1,6 +1,7 @@
 pub mod Byte
 pub mod Choice
 pub mod Form
+pub mod FunctionKeys
 pub mod Grammar
 pub mod Kept
 pub mod Lent

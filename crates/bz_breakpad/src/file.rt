@@ -26,10 +26,9 @@ use crate::order::in_order;
 use crate::parser;
 use crate::parser::walk::Walk;
 use crate::search::function_at;
+use crate::sorting::sort_functions;
 use crate::types::{KeptTable, PublicSymbol};
-use bz_base::{
-    Addr, Error, FindSymOpts, Result, Starts, Steps, Symbolized, nearest, nearest_each, sort_table,
-};
+use bz_base::{Addr, Error, FindSymOpts, Result, Starts, Steps, Symbolized, nearest, nearest_each};
 use std::alloc::Global;
 use std::marker::Model;
 use std::sync::ledger::Ledger;
@@ -262,7 +261,7 @@ fn sorted(alloc: Global, kept: &mut KeptTable) -> Result<Starts>
         × (starts ≡ starts_of kept.new.code)) }
     ensures memory { IsOkUnless result Error.OutOfMemory }
 {
-    sort_table(&mut kept.code.functions)?;
+    sort_functions(alloc, &mut kept.code.functions)?;
     let starts = bz_base::starts_of(alloc, &kept.code.functions)?;
     Ok(starts)
 }

@@ -12,6 +12,7 @@ mod order;
 mod parser;
 mod places;
 mod search;
+mod sorting;
 #[cfg(test)]
 mod tests;
 mod types;

@@ -14,12 +14,12 @@ pub returns-clause-ok : goal.returns-clause-ok
 returns-clause-ok c =
     let code = c.args.kept.now.code in
     let old = code.functions.items in
-    let new = c.sort_table.new.records.items in (
+    let new = c.sort_functions.new.functions.items in (
       λ bytes fits are. record {
         module_is = refl;
-        count = length-map old (function_seen bytes code) ∙ sym c.sort_table.ensures.count;
+        count = length-map old (function_seen bytes code) ∙ sym c.in_ok-sort_functions.ensures.count;
         functions =
-            table_seen (λ (f : Function). f.start) (λ f. f.size) (function_seen bytes code) old new c.in_ok-sort_table.ensures.table;
+            table_seen (λ (f : Function). f.start) (λ f. f.size) (function_seen bytes code) old new c.in_ok-sort_functions.ensures.table;
         files = refl;
         origins = refl;
         publics = refl;
@@ -27,7 +27,7 @@ returns-clause-ok c =
           module_fits = fits.module_fits;
           functions =
               all_in_table (FunctionFits bytes (length code.lines.items) (length code.inlinees.items)) (λ (f : KeptFunction). f.start)
-              (λ f. f.size) old new c.in_ok-sort_table.ensures.table fits.functions;
+              (λ f. f.size) old new c.in_ok-sort_functions.ensures.table fits.functions;
           lines_read = fits.lines_read;
           files = fits.files;
           origins = fits.origins;
@@ -35,7 +35,7 @@ returns-clause-ok c =
         };
         functions_are = all_weaker (IsFunction bytes code) _
             (λ (f : KeptFunction) is. record { fits = is.fits; searched = record { lines = is.searched.lines; inlinees = is.searched.inlinees } }) new
-            (all_in_table (IsFunction bytes code) (λ (f : KeptFunction). f.start) (λ f. f.size) old new c.in_ok-sort_table.ensures.table are);
+            (all_in_table (IsFunction bytes code) (λ (f : KeptFunction). f.start) (λ f. f.size) old new c.in_ok-sort_functions.ensures.table are);
       },
       c.in_ok-starts.ensures ∙ ap (map (λ (f : KeptFunction). f.start)) c.deref.ensures.value,
     )
