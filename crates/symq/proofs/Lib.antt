@@ -9,3 +9,4 @@ mod OpenLemmas
 mod OutputLemmas
 mod ReplyLemmas
 mod RunLemmas
+mod TextsLemmas

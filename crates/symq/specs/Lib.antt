@@ -4,6 +4,7 @@ pub mod InputText
 pub mod Outcome
 pub mod Reply
 pub mod Run
+pub mod Texts
 pub mod Turns
 pub mod Words
 pub mod Writing

@@ -11,6 +11,7 @@ mod reply;
 mod status;
 #[cfg(test)]
 mod tests;
+mod texts;
 mod words;
 
 use bz_files::{RealFiles, RealIn, RealOut};

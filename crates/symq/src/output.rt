@@ -6,11 +6,12 @@ ghost use Rattle.bz_base.specs.declared.error.Error.{Error};
 ghost use Rattle.symq.specs.AnswerText.{answer_text, answer_texts};
 ghost use Rattle.symq.specs.Reply.{outcome_of, text_of};
 ghost use Rattle.symq.specs.Run.{IsNoFailure};
+ghost use Rattle.symq.specs.Texts.{AreTexts};
 ghost use Rattle.symq.specs.Writing.{Finishes, WritesText};
 
-use crate::answer::push_answer;
 use crate::reply::{Reply, Said};
 use crate::status::Status;
+use crate::texts::{Texts, push_entry};
 use bz_base::{Error, Result};
 use bz_files::{IoFault, TextOut};
 use bz_symbolize::Lookups;
@@ -45,7 +46,7 @@ fn write_said<W: TextOut>(
 }
 
 // Writes the texts of the answers at the addresses, one after the other. However many there are, one
-// answer and a piece of their texts are in memory.
+// answer and some of their texts are in memory.
 fn write_answers<W: TextOut>(
     alloc: Global,
     output: &mut W,
@@ -54,8 +55,9 @@ fn write_answers<W: TextOut>(
     ensures { WritesText W.TextOut (answer_texts lookups.now.addrs lookups.now.answers) result output.old output.new }
 {
     let mut piece = String::new(alloc);
+    let mut texts = Texts::new(alloc);
     for index in 0..lookups.len() {
-        let Ok(()) = push_entry(alloc, &mut piece, lookups, index) else {
+        let Ok(()) = push_next(alloc, &mut piece, &mut texts, lookups, index) else {
             return Err(IoFault::OutOfMemory);
         };
         if piece.len() >= PIECE {
@@ -65,15 +67,50 @@ fn write_answers<W: TextOut>(
     write_piece(output, &mut piece)
 }
 
-// Puts the text of the answer at the address of an index to the end of a text.
-fn push_entry(alloc: Global, text: &mut String, lookups: &Lookups<'_>, index: usize) -> Result<()>
-    requires { index < length lookups.now.addrs }
+// Puts the text of the answer at the address of the next index to the end of a text. Before the first
+// of those that are made together, their texts are made.
+fn push_next(
+    alloc: Global,
+    text: &mut String,
+    texts: &mut Texts,
+    lookups: &Lookups<'_>,
+    index: usize,
+) -> Result<()>
+    requires within { index < length lookups.now.addrs }
+    requires texts { AreTexts lookups.now texts.old }
+    ensures ok { OnOk result ((answer : Answer) × (slice_get lookups.now.answers index ≡ Some answer)
+        × (string_bytes text.new ≡ string_bytes text.old ++ answer_text (slice_index lookups.now.addrs index) answer)) }
+    ensures texts { OnOk result (AreTexts lookups.now texts.new) }
+    ensures memory { IsOkUnless result Error.OutOfMemory }
+{
+    if Texts::begin_at(index) {
+        texts.make(alloc, lookups, index)?;
+    }
+    push_text(alloc, text, texts, lookups, index)
+}
+
+// Puts the text of the answer at the address of an index to the end of a text: as it was made, or
+// else it is made now.
+fn push_text(
+    alloc: Global,
+    text: &mut String,
+    texts: &Texts,
+    lookups: &Lookups<'_>,
+    index: usize,
+) -> Result<()>
+    requires within { index < length lookups.now.addrs }
+    requires texts { AreTexts lookups.now texts.now }
     ensures ok { OnOk result ((answer : Answer) × (slice_get lookups.now.answers index ≡ Some answer)
         × (string_bytes text.new ≡ string_bytes text.old ++ answer_text (slice_index lookups.now.addrs index) answer)) }
     ensures memory { IsOkUnless result Error.OutOfMemory }
 {
-    let answer = lookups.answer(alloc, index)?;
-    push_answer(text, lookups.addr(index), &answer)
+    match texts.get(index) {
+        Some(made) => {
+            text.push_str(made)?;
+            Ok(())
+        }
+        None => push_entry(alloc, text, lookups, index),
+    }
 }
 
 // Writes the piece; the next one begins in the same memory.

@@ -1,0 +1,161 @@
+//! The texts of answers, made in the order of their addresses: what stands near each other in a file
+//! is read together.
+
+ghost use Rattle.std.specs.Prelude.{◌≡◌, ◌<◌, ◌++◌, length, slice_get, slice_index, string_bytes, All, Some, OnOk, IfOk, IfSome, IsOkUnless};
+ghost use Rattle.std.specs.List.{AllByRecursion};
+ghost use Rattle.bz_base.specs.Answer.{Answer};
+ghost use Rattle.bz_base.specs.declared.error.Error.{Error};
+ghost use Rattle.bz_symbolize.specs.Batch.{Batch};
+ghost use Rattle.symq.specs.AnswerText.{answer_text};
+ghost use Rattle.symq.specs.Texts.{AreTexts, IsAmong, IsTextOf, MakesMore};
+
+use crate::answer::push_answer;
+use bz_base::{Addr, Error, Result};
+use bz_symbolize::Lookups;
+use std::alloc::Global;
+
+/// So many texts are made at a time. That they are many brings addresses near each other together.
+const AT_A_TIME: usize = 65_536;
+
+/// How long the texts grow that are made at a time, in bytes. What is left then isn't made before it
+/// is written.
+const ROOM: usize = 16_777_216;
+
+/// Where a text stands among others.
+#[derive(Clone, Copy)]
+pub(crate) struct TextPart {
+    /// Where it begins.
+    pub from: usize,
+    /// Where it ends.
+    pub to: usize,
+}
+
+/// The texts of some answers of a batch.
+#[derive(Drop)]
+pub(crate) struct Texts {
+    /// The index of the first of these answers.
+    pub first: usize,
+    /// The texts, in the order in which they were made.
+    pub text: String,
+    /// Where the text of each answer stands, if it was made.
+    pub parts: Vec<Option<TextPart>>,
+}
+
+impl Texts {
+    /// No texts.
+    pub(crate) fn new(alloc: Global) -> Texts
+        ensures { (batch : Batch) → AreTexts batch result }
+    {
+        Texts {
+            first: 0,
+            text: String::new(alloc),
+            parts: Vec::new(alloc),
+        }
+    }
+
+    /// Whether the index is the first of those that are made together.
+    pub(crate) fn begin_at(index: usize) -> bool {
+        index % AT_A_TIME == 0
+    }
+
+    /// The text of the answer at an index, if it was made.
+    pub(crate) fn get(&self, index: usize) -> Option<&str>
+        ensures { (batch : Batch) → AreTexts batch self.now → IfSome result (λ text. IsTextOf batch index text.now) }
+    {
+        let place = index.checked_sub(self.first)?;
+        if place >= self.parts.len() {
+            return None;
+        }
+        match self.parts[place] {
+            Some(part) => self.text.as_str().get(part.from..part.to),
+            None => None,
+        }
+    }
+
+    /// Makes the texts of the answers from an index on, in place of those that were made.
+    pub(crate) fn make(&mut self, alloc: Global, lookups: &Lookups<'_>, first: usize) -> Result<()>
+        ensures ok { OnOk result (AreTexts lookups.now self.new) }
+        ensures memory { IsOkUnless result Error.OutOfMemory }
+    {
+        let order = in_order(alloc, lookups, first)?;
+        self.first = first;
+        self.text.clear();
+        self.parts.clear();
+        self.parts.resize(order.len(), None)?;
+        self.make_in(alloc, lookups, &order)
+    }
+
+    // Makes the texts of the answers at these indices, as long as there is room.
+    fn make_in(
+        &mut self,
+        alloc: Global,
+        lookups: &Lookups<'_>,
+        order: &[(Addr, usize)],
+    ) -> Result<()>
+        requires among { All (λ e. IsAmong lookups.now self.old.first (length self.old.parts.items) e.1) order.now }
+        requires texts { AreTexts lookups.now self.old }
+        ensures ok { OnOk result (AreTexts lookups.now self.new) }
+        ensures memory { IsOkUnless result Error.OutOfMemory }
+    {
+        for (_, index) in order {
+            if self.text.len() > ROOM {
+                break;
+            }
+            self.make_one(alloc, lookups, *index)?;
+        }
+        Ok(())
+    }
+
+    // Makes the text of the answer at an index.
+    fn make_one(&mut self, alloc: Global, lookups: &Lookups<'_>, index: usize) -> Result<()>
+        requires { IsAmong lookups.now self.old.first (length self.old.parts.items) index }
+        ensures ok { OnOk result (MakesMore lookups.now self.old self.new) }
+        ensures memory { IsOkUnless result Error.OutOfMemory }
+    {
+        let from = self.text.len();
+        push_entry(alloc, &mut self.text, lookups, index)?;
+        let to = self.text.len();
+        self.parts[index - self.first] = Some(TextPart { from, to });
+        Ok(())
+    }
+}
+
+// The addresses from an index on, as many as are answered at a time, with their indices: in the
+// order of the addresses.
+fn in_order(alloc: Global, lookups: &Lookups<'_>, first: usize) -> Result<Vec<(Addr, usize)>>
+    ensures among { IfOk result (λ order. All (λ e. IsAmong lookups.now first (length order.items) e.1) order.items) }
+    ensures memory { IsOkUnless result Error.OutOfMemory }
+{
+    let mut order = entries(alloc, lookups, first)?;
+    order.sort_unstable_by_key(|entry| entry.0);
+    Ok(order)
+}
+
+// The addresses from an index on, as many as are answered at a time, with their indices.
+fn entries(alloc: Global, lookups: &Lookups<'_>, first: usize) -> Result<Vec<(Addr, usize)>>
+    ensures among { IfOk result (λ order. AllByRecursion (λ e. IsAmong lookups.now first (length order.items) e.1) order.items) }
+    ensures memory { IsOkUnless result Error.OutOfMemory }
+{
+    let end = lookups.len().min(first.saturating_add(AT_A_TIME));
+    let mut entries = Vec::new(alloc);
+    for index in first..end {
+        entries.push((lookups.addr(index), index))?;
+    }
+    Ok(entries)
+}
+
+/// Puts the text of the answer at the address of an index to the end of a text.
+pub(crate) fn push_entry(
+    alloc: Global,
+    text: &mut String,
+    lookups: &Lookups<'_>,
+    index: usize,
+) -> Result<()>
+    requires { index < length lookups.now.addrs }
+    ensures ok { OnOk result ((answer : Answer) × (slice_get lookups.now.answers index ≡ Some answer)
+        × (string_bytes text.new ≡ string_bytes text.old ++ answer_text (slice_index lookups.now.addrs index) answer)) }
+    ensures memory { IsOkUnless result Error.OutOfMemory }
+{
+    let answer = lookups.answer(alloc, index)?;
+    push_answer(text, lookups.addr(index), &answer)
+}
