@@ -1,5 +1,5 @@
 -- Taking in a version that the caller has, without reading its file: the answer, and the cache after it.
-use Rattle.std.specs.Prelude.{◌≡◌, ℕ, List, Option, Some, None, Result, Ok, Err}
+use Rattle.std.specs.Prelude.{◌≡◌, ◌⊎◌, ℕ, List, Option, Some, None, IsSome, Result, Ok, Err}
 use Rattle.std.specs.FinMap as map
 use Rattle.bz_base.specs.declared.error.Error.{Error}
 use Rattle.bz_base.specs.declared.error.Error.TheVariants as errors
@@ -31,9 +31,9 @@ abbrev pub insertion : Cache → List ℕ → List ℕ → Option Entry → Resu
 insertion cache path version there = insertion_by_fixed cache path version there (fixed cache path)
 
 -- a version is refused by one of the four of a look at a file, or where there is one already
-abbrev pub MayKeepOut : Error → Type 0
-MayKeepOut errors.AlreadyExists = Unit {0}
-MayKeepOut e = MayMiss e
+abbrev pub MayKeepOut : Cache → List ℕ → Error → Type 0
+MayKeepOut cache path errors.AlreadyExists = IsSome (fixed cache path) ⊎ ((stamp : Stamp) × IsSome (map.get cache.kept stamp))
+MayKeepOut cache path e = MayMiss e
 
 -- what a version that was taken in leaves: the cache after its insertion where it is told what lies at the path; whatever is
 -- told, a consistent cache after an insertion by something that may lie there

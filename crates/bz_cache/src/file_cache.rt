@@ -249,7 +249,7 @@ impl<T: Version + Drop> FileCache<T> {
         ensures no_memory { Told (in_view (F.worlds files.old)) (λ w. is_new self.old (entry_at w path.now) ≡ false → IsErrOf result Error.OutOfMemory → ⊥) }
         ensures unopened { F.opens files.new ≡ F.opens files.old }
         ensures files { Looked F.Files files.old files.new (Faulted result) }
-        ensures refusal { IfErr result MayKeepOut }
+        ensures refusal { IfErr result (MayKeepOut self.old path.now) }
     {
         if self.fixed(path).is_some() {
             return Err(Error::AlreadyExists);
