@@ -27,7 +27,7 @@ IsKeptOut (Err errors.AlreadyExists) = Unit {0}
 IsKeptOut (Err errors.OutOfMemory) = Unit {0}
 IsKeptOut _ = ⊥
 
--- all that a registration of bytes in the format promises of its answer, its refusals, and the state and the files that it leaves
+-- all that a registration promises of its answer, its refusals, and the state and the files that it leaves
 pub record Registers {A X : Type 0} (files : Ghosts X) (path bytes : List ℕ) (result : Result A Error) (old now : State) (before after : X) : Type 0 where
   -- where it is told what lies at the path, the answer and the state that is left are those of the definitions
   pub answer : Told (in_view (files.worlds before)) (λ world. Comes (λ _. tt) (insertion old.elf path bytes (entry_at world path)).0 result)
@@ -41,7 +41,7 @@ pub record Registers {A X : Type 0} (files : Ghosts X) (path bytes : List ℕ) (
   pub err : OnErr result (now ≡ old)
   -- at a path that is held and isn't looked at anew there is a version, and the files are as they were
   pub kept_out : IsSome (fixed old.elf path) → IsKeptOut result × (after ≡ before)
-  pub refusal : IfErr result MayKeepOut
+  pub refusal : IfErr result (MayKeepOut old.elf path)
   pub caches : WellKept now
   -- of the files: they are only looked at, and none is read
   pub looked : Looked files before after (Faulted result)
