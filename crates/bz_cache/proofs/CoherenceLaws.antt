@@ -1,5 +1,5 @@
 -- What a look answers where equal stamps mean equal bytes, and that they go on to mean that.
-use Rattle.std.proofs.Common.{◌≡◌, ℕ, Bool, cond, List, [], Option, Some, None, unwrap_or, is_some, Ok, inl, inr, sym, ap, ◌∙◌, refl}
+use Rattle.std.proofs.Common.{◌≡◌, ℕ, Bool, cond, List, [], Option, Some, None, unwrap_or, is_some, Ok, inl, inr, sym, ap, subst, ◌∙◌, refl}
 use Rattle.std.specs.FinMap as map
 use Rattle.std.proofs.lemmas.Bool.{false≢true}
 use Rattle.std.specs.FinMap.{get-empty}
@@ -8,8 +8,9 @@ use Rattle.bz_files.specs.declared.stamp.Stamp.{Stamp}
 use Rattle.bz_files.specs.World.{World, Entry, Denied, Present, entry_at}
 use Rattle.bz_cache.specs.Cache.{Cache, Consistent, stamp_cmp, new_cache}
 use Rattle.bz_files.specs.Agreement.{AgreeOn}
-use Rattle.bz_cache.specs.Coherence.{Coherent}
+use Rattle.bz_cache.specs.Coherence.{Coherent, HasBytes}
 use Rattle.bz_cache.specs.Eviction.{is_named, evicted}
+use Rattle.bz_cache.specs.Insertion.{insertion, insertion_by_entry, insertion_by_fixed, insertion_by_kept}
 use Rattle.bz_cache.specs.Look.{by_test, by_entry, by_fixed, look}
 use Rattle.bz_cache.specs.View.{View, Shown, shown, fixed, bytes_at, by_fixed_view, by_format, bytes_of_view, view}
 use Rattle.bz_cache.proofs.FiniteMaps.{insert_cases}
@@ -93,6 +94,25 @@ module _ (test : List ℕ → Option Error) (c : Cache) (w v : World) (p : List 
           by_tests (Some e) = coherent
 
       by_fix : (o : Option Stamp) → Coherent (by_fixed test c p (entry_at w p) o).1.kept v
+      by_fix None = by_entries (entry_at w p) refl
+      by_fix (Some s) = coherent
+
+  -- a version that is taken in coheres, where it has the bytes that lie there
+  pub insertion_coherent : (version : List ℕ) → HasBytes (entry_at w p) version → Coherent (insertion c p version (entry_at w p)).1.kept v
+  insertion_coherent version true_version = by_fix (fixed c p)
+    where
+      by_entries : (there : Option Entry) → entry_at w p ≡ there → Coherent (insertion_by_entry c p version there).1.kept v
+      by_entries None is = coherent
+      by_entries (Some Denied) is = coherent
+      by_entries (Some (Present s b)) is = by_stamp (map.get c.kept s) refl
+        where
+          by_stamp : (o : Option (List ℕ)) → map.get c.kept s ≡ o → Coherent (insertion_by_kept c p version s o).1.kept v
+          by_stamp None absent =
+              let same : unwrap_or (map.get c.kept s) b ≡ version = ap (λ (o : Option (List ℕ)). unwrap_or o b) absent ∙ true_version s b is in
+              subst (λ (x : List ℕ). Coherent (map.insert c.kept s x) v) same (named_coherent s b is)
+          by_stamp (Some k) kept = coherent
+
+      by_fix : (o : Option Stamp) → Coherent (insertion_by_fixed c p version (entry_at w p) o).1.kept v
       by_fix None = by_entries (entry_at w p) refl
       by_fix (Some s) = coherent
 

@@ -1,6 +1,7 @@
 pub mod CoherenceLaws
 pub mod Evicting
 pub mod FiniteMaps
+pub mod Inserting
 pub mod Looking
 pub mod MapScans
 pub mod MapViews

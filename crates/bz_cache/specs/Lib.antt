@@ -4,6 +4,7 @@ pub mod Eviction
 pub mod Format
 pub mod InsertMap
 pub mod InsertMapLoan
+pub mod Insertion
 pub mod Look
 pub mod Steps
 pub mod Store

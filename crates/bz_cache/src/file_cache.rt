@@ -7,6 +7,7 @@ ghost use Rattle.bz_cache.specs.Eviction.{evicted, evicts};
 ghost use Rattle.bz_files.specs.Looked.{Faulted, Looked, ReadsOne};
 ghost use Rattle.bz_files.specs.World.{Told, in_view, entry_at};
 ghost use Rattle.bz_cache.specs.Format.{Comes, MayFail};
+ghost use Rattle.bz_cache.specs.Insertion.{insertion, Inserts, MayKeepOut};
 ghost use Rattle.bz_cache.specs.Look.{named, look, by_entry, is_new, will_open, opens_after, IsUnmoved, Lends, Shares};
 ghost use Rattle.bz_cache.specs.Steps.{LeavesCache, ReadsFile};
 ghost use Rattle.bz_cache.specs.View.{fixed, bytes_at};
@@ -162,15 +163,21 @@ impl<T: Version + Drop> FileCache<T> {
     }
 
     // Takes in a version that wasn't kept, as the path's current one.
-    fn insert_version(&mut self, alloc: Global, path: &str, stamp: Stamp, version: T) -> Result<()>
+    fn insert_version(
+        &mut self,
+        alloc: Global,
+        path: &str,
+        stamp: Stamp,
+        version: Rc<T>,
+    ) -> Result<()>
         requires absent { map.get self.old.kept stamp ≡ None }
-        requires formed { T.test (T.bytes_of version) ≡ None }
-        ensures ok { OnOk result (self.new ≡ named self.old path.now stamp (T.bytes_of version)) }
+        requires formed { T.test (T.bytes_of version.value) ≡ None }
+        ensures ok { OnOk result (self.new ≡ named self.old path.now stamp (T.bytes_of version.value)) }
         ensures consistent { OnOk result (Consistent T.test self.new) }
         ensures err { OnErr result (self.new ≡ self.old) }
         ensures memory { IsOkUnless result Error.OutOfMemory }
     {
-        entries::insert(&mut self.entries, alloc, stamp, version)?;
+        entries::insert(&mut self.entries, stamp, version)?;
         if let Err(error) = paths::update(&mut self.paths, alloc, path, stamp) {
             entries::remove(&mut self.entries, &stamp);
             return Err(error);
@@ -221,6 +228,40 @@ impl<T: Version + Drop> FileCache<T> {
         self.share(&stamp)
     }
 
+    /// Takes in a version that the caller has, as that of the file at the path, under the file's
+    /// present stamp. The file isn't read. It is refused by `AlreadyExists` where the version in view
+    /// is kept: where the path is pinned, or held in a cache that doesn't reload, for which the file
+    /// isn't looked at either, and where a version with the present stamp is kept; by `NotFound`,
+    /// `PermissionDenied` and `ReadFault` as a look is; and by `OutOfMemory`. After a refusal the
+    /// cache is as before.
+    pub fn insert_value<F: Files>(
+        &mut self,
+        alloc: Global,
+        files: &mut F,
+        path: &str,
+        value: Rc<T>,
+    ) -> Result<()>
+        ensures answer { Told (in_view (F.worlds files.old)) (λ w. Comes (λ _. tt) (insertion self.old path.now (T.bytes_of value.value) (entry_at w path.now)).0 result) }
+        ensures after { OnOk result (Inserts T.test self.old self.new path.now (T.bytes_of value.value) (in_view (F.worlds files.old))) }
+        ensures err { OnErr result (self.new ≡ self.old) }
+        ensures fixed { IsSome (fixed self.old path.now) → IsErrOf result Error.AlreadyExists × (files.new ≡ files.old) }
+        // No memory is taken where a version is there already.
+        ensures no_memory { Told (in_view (F.worlds files.old)) (λ w. is_new self.old (entry_at w path.now) ≡ false → IsErrOf result Error.OutOfMemory → ⊥) }
+        ensures unopened { F.opens files.new ≡ F.opens files.old }
+        ensures files { Looked F.Files files.old files.new (Faulted result) }
+        ensures refusal { IfErr result (MayKeepOut self.old path.now) }
+    {
+        if self.fixed(path).is_some() {
+            return Err(Error::AlreadyExists);
+        }
+        let stamp = lookup::present(files, path)?;
+        if self.is_kept(&stamp) {
+            return Err(Error::AlreadyExists);
+        }
+        value.as_ref().formed();
+        self.insert_version(alloc, path, stamp, value)
+    }
+
     // The stamp of the version that the path answers by.
     fn look<F: Files>(&mut self, alloc: Global, files: &mut F, path: &str) -> Result<Stamp>
         ensures answer { Told (in_view (F.worlds files.old)) (λ w. Comes (bytes_at self.new) (look T.test self.old path.now (entry_at w path.now)).0 result) }
@@ -253,7 +294,8 @@ impl<T: Version + Drop> FileCache<T> {
         }
         let bytes = lookup::contents(files, alloc, path)?;
         let version = T::parse(alloc, bytes)?;
-        self.insert_version(alloc, path, stamp, version)?;
+        let shared = Rc::new(alloc, version)?;
+        self.insert_version(alloc, path, stamp, shared)?;
         Ok(stamp)
     }
 }

@@ -5,8 +5,9 @@ ghost use Rattle.bz_base.specs.declared.error.Error.{Error};
 ghost use Rattle.bz_files.specs.World.{World, entry_at};
 ghost use Rattle.bz_cache.specs.Cache.{Cache, Consistent, new_cache, with_pin};
 ghost use Rattle.bz_files.specs.Agreement.{Agree};
-ghost use Rattle.bz_cache.specs.Coherence.{Coherent, CoherentWithAll};
+ghost use Rattle.bz_cache.specs.Coherence.{Coherent, CoherentWithAll, HasBytes};
 ghost use Rattle.bz_cache.specs.Eviction.{evicted};
+ghost use Rattle.bz_cache.specs.Insertion.{insertion};
 ghost use Rattle.bz_cache.specs.Look.{look};
 ghost use Rattle.bz_cache.specs.View.{Shown, view, bytes_of_view};
 
@@ -17,10 +18,12 @@ pub fn look_answers_by_view()
 {}
 
 /// Over worlds that agree, kept versions cohere with all of them from a new cache on: through looks at
-/// any of the worlds, evictions and pins.
+/// any of the worlds, evictions and pins, and where versions are taken in that have the bytes of their
+/// files.
 pub fn stays_coherent()
     ensures new { (reload : Bool) (worlds : List World) → CoherentWithAll (new_cache reload).kept worlds }
     ensures look { (test : List ℕ → Option Error) (cache : Cache) (worlds : List World) (world : World) (path : List ℕ) → Agree worlds → Contains worlds world → CoherentWithAll cache.kept worlds → CoherentWithAll (look test cache path (entry_at world path)).1.kept worlds }
+    ensures inserted { (cache : Cache) (worlds : List World) (world : World) (path version : List ℕ) → Agree worlds → Contains worlds world → HasBytes (entry_at world path) version → CoherentWithAll cache.kept worlds → CoherentWithAll (insertion cache path version (entry_at world path)).1.kept worlds }
     ensures evicted { (cache : Cache) (worlds : List World) (path : List ℕ) → CoherentWithAll cache.kept worlds → CoherentWithAll (evicted cache path).kept worlds }
     ensures pinned { (pinned : Bool) (cache : Cache) (worlds : List World) (path : List ℕ) → CoherentWithAll cache.kept worlds → CoherentWithAll (with_pin pinned cache path).kept worlds }
 {}

@@ -8,6 +8,7 @@ use crate::{FileCache, InsertMap, Version};
 use bz_base::{Error, Result};
 use bz_files::MemFiles;
 use std::alloc::Global;
+use std::rc::Rc;
 use std::test::Fail;
 
 /// A text that begins with a `V`.
@@ -89,6 +90,23 @@ fn a_fixed_path_keeps_its_version(rt: HostRuntime) -> std::result::Result<(), Fa
     assert!(rt; answers(&mut cache, alloc, &mut files, b"V2"));
     assert!(rt; cache.entry_count() == 2 && cache.path_count() == 1);
     assert!(rt; cache.evict("/s") && cache.entry_count() == 0);
+    Ok(())
+}
+
+#[test]
+fn a_version_is_taken_in_unread(rt: HostRuntime) -> std::result::Result<(), Fail> {
+    let alloc = rt.alloc();
+    let mut files = MemFiles::new(alloc, 0);
+    let mut cache = FileCache::<Note>::builder().build(alloc);
+    let note = Rc::new(alloc, Note::parse(alloc, b"V1".to_vec(alloc)?)?)?;
+    let absent = cache.insert_value(alloc, &mut files, "/s", note.clone()?);
+    assert!(rt; absent == Err(Error::NotFound));
+    assert!(rt; put(alloc, &mut files, b"not a note"));
+    let taken = cache.insert_value(alloc, &mut files, "/s", note.clone()?);
+    assert!(rt; taken == Ok(()));
+    assert!(rt; answers(&mut cache, alloc, &mut files, b"V1") && files.opens() == 0);
+    let again = cache.insert_value(alloc, &mut files, "/s", note);
+    assert!(rt; again == Err(Error::AlreadyExists));
     Ok(())
 }
 

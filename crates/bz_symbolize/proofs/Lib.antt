@@ -9,4 +9,5 @@ pub mod HistoryLemmas
 pub mod LeaveLemmas
 pub mod NewLemmas
 pub mod PromiseLemmas
+pub mod RegistrationLemmas
 pub mod Tables

@@ -70,7 +70,7 @@ module _ (opts : FindSymOpts) (reload : Bool) (path : List ℕ) (addrs : List �
   abbrev of_elf : AddressKind → Question (List Answer)
   of_elf kind = query_asked elf.format_test elf_answering opts path (batch_of kind addrs)
 
-  by_profile : (kind : AddressKind) (bytes : List ℕ) (refusal : Option Error) → elf.format_test bytes ≡ refusal → by_version (of_elf kind) bytes ≡ elf_answer path kind addrs bytes
+  pub by_profile : (kind : AddressKind) (bytes : List ℕ) (refusal : Option Error) → elf.format_test bytes ≡ refusal → by_version (of_elf kind) bytes ≡ elf_answer path kind addrs bytes
   by_profile kind bytes None is = rw is refl
   by_profile kind bytes (Some e) is = rw is refl
 

@@ -4,5 +4,6 @@ pub mod FileCall
 pub mod History
 pub mod Lookup
 pub mod Promise
+pub mod Registration
 pub mod Sources
 pub mod State

@@ -1,6 +1,7 @@
 //! What holds of this crate's definitions.
 
 ghost use Rattle.std.specs.Prelude.{◌≡◌, ◌↔◌, ◌∷◌, ℕ, List, Ok, Err, map};
+ghost use Rattle.std.specs.List.{AllByRecursion};
 ghost use denote.Ref.{Bor};
 ghost use Rattle.bz_base.specs.Answer.{Answer};
 ghost use Rattle.bz_base.specs.InputKind.{AddressKind};
@@ -9,14 +10,18 @@ ghost use Rattle.bz_base.specs.declared.input.Input.TheVariants.{FileOffset, Vir
 ghost use Rattle.bz_base.specs.declared.types.FindSymOpts.{FindSymOpts};
 ghost use Rattle.bz_files.specs.Agreement.{Agree};
 ghost use Rattle.bz_breakpad.specs.Version.{format_test};
+ghost use Rattle.bz_cache.specs.Coherence.{Coherent};
+ghost use Rattle.bz_cache.specs.Insertion.{insertion};
 ghost use Rattle.bz_files.specs.World.{World, entry_at};
 ghost use Rattle.bz_elf.specs.Format as elf;
+ghost use Rattle.bz_elf.specs.Profile.{IsElf};
 ghost use Rattle.bz_gsym.specs.Version as gsym;
 ghost use Rattle.bz_symbolize.specs.Alike.{BatchesFoldRefusals, EntriesStandAlone, OrderMovesAnswers};
 ghost use Rattle.bz_symbolize.specs.FileCall.{batch_of, batch_query, file_answer, query_asked};
-ghost use Rattle.bz_symbolize.specs.History.{Call, Coheres, MayReach};
+ghost use Rattle.bz_symbolize.specs.History.{Call, Coheres, MayReach, RegistersTruly};
 ghost use Rattle.bz_symbolize.specs.Lookup.{breakpad_answer, elf_answer, fresh_answer, gsym_answer};
 ghost use Rattle.bz_symbolize.specs.Promise.{IsAnswerOf, IsBreakpadAnswer, IsBreakpadBatch, IsElfAnswer, IsElfBatch, IsGsymAnswer, IsGsymBatch};
+ghost use Rattle.bz_symbolize.specs.Registration.{StaysRegistered};
 ghost use Rattle.bz_symbolize.specs.Sources.{OnFile, breakpad_answering, elf_answering, gsym_answering};
 ghost use Rattle.bz_symbolize.specs.State.{Settings, State, new_state};
 ghost use Rattle.bz_symbolize.specs.declared.source.Source.{Source};
@@ -32,10 +37,22 @@ pub fn new_symbolizer_answers()
 {}
 
 /// From a new symbolizer on, over any list of calls whose worlds agree with each other and with the
-/// present one, kept versions cohere with the world in view.
+/// present one, kept versions cohere with the world in view: those of Breakpad and GSYM files whatever
+/// was registered, and those of ELF files too where each registration was of the bytes that its file
+/// had, as where none was made.
 pub fn runs_stay_coherent()
-    ensures { (settings : Settings) (calls : List (World × Call)) (state : State) (world : World) →
-        Agree (world ∷ map (λ call. call.0) calls) → MayReach (new_state settings) calls state → Coheres state world }
+    ensures read { (settings : Settings) (calls : List (World × Call)) (state : State) (world : World) →
+        Agree (world ∷ map (λ call. call.0) calls) → MayReach (new_state settings) calls state → Coherent state.breakpad.kept world × Coherent state.gsym.kept world }
+    ensures registered { (settings : Settings) (calls : List (World × Call)) (state : State) (world : World) →
+        Agree (world ∷ map (λ call. call.0) calls) → AllByRecursion (λ call. RegistersTruly call.0 call.1) calls → MayReach (new_state settings) calls state → Coheres state world }
+{}
+
+/// After a registration that is answered, an ELF source at the path is answered by the registered
+/// bytes, as long as the path is at the stamp that its file had and this stamp stays kept, over any
+/// list of calls in any worlds; and so is one at any other path that comes to that stamp.
+pub fn registered_files_answer()
+    ensures { (state : State) (world : World) (path bytes : List ℕ) →
+        IsElf bytes → (insertion state.elf path bytes (entry_at world path)).0 ≡ Ok tt → StaysRegistered state world path bytes }
 {}
 
 /// An entry of a batch that is answered is what a batch of its address alone is answered, over the

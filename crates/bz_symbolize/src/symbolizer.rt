@@ -6,6 +6,7 @@ ghost use Rattle.bz_base.specs.InputKind.{address_kind, payload};
 ghost use Rattle.bz_cache.specs.Cache.{new_cache};
 ghost use Rattle.bz_symbolize.specs.FileCall.{batch_of, batch_query, single_query};
 ghost use Rattle.bz_symbolize.specs.Promise.{AsksSource, Symbolizes};
+ghost use Rattle.bz_symbolize.specs.Registration.{Registers};
 ghost use Rattle.bz_symbolize.specs.State.{default_settings, new_state};
 
 use crate::answering::{answer_file, answer_file_at, look_up_file};
@@ -17,11 +18,12 @@ use crate::source::{Gsym, Source};
 use bz_base::{FindSymOpts, Input, Result, Steps, Symbolized};
 use bz_breakpad::SymbolFile;
 use bz_cache::{FileCache, Version};
-use bz_elf::ElfFile;
+use bz_elf::{ElfFile, ElfResolver};
 use bz_files::Files;
 use bz_gsym::GsymTable;
 use std::alloc::Global;
 use std::marker::{Brand, Model};
+use std::rc::Rc;
 use std::sync::ledger::{Blank, Ledger};
 
 /// Answers addresses, alone or in batches, and keeps the files that it has read.
@@ -138,6 +140,26 @@ impl Symbolizer {
     {
         let opts = self.settings.opts();
         self.answer_source(alloc, files, src, &opts, input, steps)
+    }
+
+    /// Takes in the file of a resolver as the ELF file at the path, under the path's present stamp,
+    /// without reading the file there: a source at the path is answered by it as long as the path is at
+    /// that stamp. It is refused by `AlreadyExists` where the version in view is kept, that is where the
+    /// path is held in a symbolizer that doesn't look at files anew, or one with the present stamp is
+    /// kept; by `NotFound`, `PermissionDenied` and `ReadFault` as a look at the path is; and by
+    /// `OutOfMemory`. After a refusal the symbolizer is as before.
+    pub fn register_elf_resolver<F: Files>(
+        &mut self,
+        alloc: Global,
+        files: &mut F,
+        path: &str,
+        resolver: Rc<ElfResolver>,
+    ) -> Result<()>
+        ensures { Registers F.Files path.now resolver.value.bytes result self.old self.new files.old files.new }
+    {
+        let cache = &mut self.elf;
+        let file = resolver.as_ref().file().clone()?;
+        cache.insert_value(alloc, files, path, file)
     }
 
     // The batch, with a count that nobody reads.

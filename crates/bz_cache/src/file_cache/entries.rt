@@ -13,7 +13,6 @@ use super::paths::{PathEntry, is_named};
 use crate::version::Version;
 use bz_base::{Error, Result};
 use bz_files::Stamp;
-use std::alloc::Global;
 use std::collections::BTreeMap;
 use std::rc::Rc;
 
@@ -50,16 +49,14 @@ pub fn share<T: Version + Drop>(entries: &BTreeMap<Stamp, Rc<T>>, stamp: &Stamp)
 /// Keeps a version under the stamp.
 pub fn insert<T: Version + Drop>(
     entries: &mut BTreeMap<Stamp, Rc<T>>,
-    alloc: Global,
     stamp: Stamp,
-    version: T,
+    version: Rc<T>,
 ) -> Result<()>
-    ensures ok { OnOk result (kept_of T.bytes_of entries.new ≡ map.insert (kept_of T.bytes_of entries.old) stamp (T.bytes_of version)) }
+    ensures ok { OnOk result (kept_of T.bytes_of entries.new ≡ map.insert (kept_of T.bytes_of entries.old) stamp (T.bytes_of version.value)) }
     ensures err { OnErr result (kept_of T.bytes_of entries.new ≡ kept_of T.bytes_of entries.old) }
     ensures memory { IsOkUnless result Error.OutOfMemory }
 {
-    let value = Rc::new(alloc, version)?;
-    entries.insert(stamp, value)?;
+    entries.insert(stamp, version)?;
     Ok(())
 }
 

@@ -3,9 +3,11 @@
 use super::is_named;
 use crate::Symbolizer;
 use crate::source::{Elf, Source};
-use bz_base::{Input, Result, Symbolized};
+use bz_base::{Error, Input, Result, Symbolized};
+use bz_elf::ElfResolver;
 use bz_files::MemFiles;
 use std::alloc::Global;
+use std::rc::Rc;
 use std::test::Fail;
 
 /// A file of one function: `f` from 0x400080 on with 0x10 bytes, in a load segment.
@@ -128,5 +130,37 @@ fn answers_batches_of_file_offsets(rt: HostRuntime) -> std::result::Result<(), F
     if lookups.len() == 1 {
         assert!(rt; told(alloc, lookups.answer(alloc, 0))?.as_str() == "f+8 /e");
     }
+    Ok(())
+}
+
+/// What registering the file of a function at paths, one after the other, is answered. `/d` has other
+/// bytes, and `/l` the stamp of `/e`.
+const REGISTERED: [(&str, Result<()>); 5] = [
+    ("/e", Ok(())),
+    ("/e", Err(Error::AlreadyExists)),
+    ("/l", Err(Error::AlreadyExists)),
+    ("/x", Err(Error::NotFound)),
+    ("/d", Ok(())),
+];
+
+#[test]
+fn registered_files_answer_unread(rt: HostRuntime) -> std::result::Result<(), Fail> {
+    let alloc = rt.alloc();
+    let mut files = files(alloc)?;
+    let mut symbolizer = Symbolizer::new(alloc);
+    let bytes = Vec::from_slice(alloc, &E1)?;
+    let resolver = Rc::new(alloc, ElfResolver::from_bytes(alloc, "/e", bytes)?)?;
+    for (path, expected) in REGISTERED {
+        let shared = resolver.clone()?;
+        let answer = symbolizer.register_elf_resolver(alloc, &mut files, path, shared);
+        assert!(rt; answer == expected, "{path}");
+    }
+    for (path, expected) in [("/e", "f+8 /e"), ("/l", "f+8 /l"), ("/d", "f+8 /d")] {
+        let src = source(alloc, path)?;
+        let input = Input::VirtOffset(0x400088);
+        let answer = symbolizer.symbolize_single(alloc, &mut files, &src, input);
+        assert!(rt; told(alloc, answer)?.as_str() == expected, "{expected}");
+    }
+    assert!(rt; files.opens() == 0);
     Ok(())
 }

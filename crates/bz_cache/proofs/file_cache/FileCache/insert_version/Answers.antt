@@ -24,9 +24,9 @@ returns-in-Err-clause-err g c =
 pub invariant_of-self-in_default : goal.invariant_of-self-in_default
 invariant_of-self-in_default g c =
     let old : Cache = record { reload = c.self.inside.reload; kept = kept_of g.T.Version.bytes_of c.self.inside.entries; paths = paths_of c.self.inside.paths } in
-    consistent_taken g.T.Version.test old c.args.path.now c.args.stamp c.self.invariant (paths_of c.update.new.paths) c.in_default.ensures.ok (g.T.Version.bytes_of c.args.version) c.requires.formed (kept_of g.T.Version.bytes_of c.insert.new.entries) c.in_ok-insert.ensures.ok
+    consistent_taken g.T.Version.test old c.args.path.now c.args.stamp c.self.invariant (paths_of c.update.new.paths) c.in_default.ensures.ok (g.T.Version.bytes_of c.args.version.value) c.requires.formed (kept_of g.T.Version.bytes_of c.insert.new.entries) c.in_ok-insert.ensures.ok
 
 pub returns-clause-consistent : goal.returns-clause-consistent
 returns-clause-consistent g c =
     let old : Cache = record { reload = c.self.inside.reload; kept = kept_of g.T.Version.bytes_of c.self.inside.entries; paths = paths_of c.self.inside.paths } in
-    consistent_taken g.T.Version.test old c.args.path.now c.args.stamp c.self.invariant (paths_of c.update.new.paths) c.in_default.ensures.ok (g.T.Version.bytes_of c.args.version) c.requires.formed (kept_of g.T.Version.bytes_of c.insert.new.entries) c.in_ok-insert.ensures.ok
+    consistent_taken g.T.Version.test old c.args.path.now c.args.stamp c.self.invariant (paths_of c.update.new.paths) c.in_default.ensures.ok (g.T.Version.bytes_of c.args.version.value) c.requires.formed (kept_of g.T.Version.bytes_of c.insert.new.entries) c.in_ok-insert.ensures.ok

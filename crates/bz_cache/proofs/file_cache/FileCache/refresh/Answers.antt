@@ -1,4 +1,4 @@
-use Rattle.std.proofs.Common.{sym, ◌∙◌, rules}
+use Rattle.std.proofs.Common.{sym, ap, ◌∙◌, rules}
 use Rattle.std.proofs.lemmas.Result.{err_from_is_err_and}
 use Rattle.bz_cache.specs.View.{bytes_at}
 use Rattle.bz_cache.proofs.Looking.{none_of, current_named, answer_kept, answer_new, not_unmoved, some_kept, some_new}
@@ -41,6 +41,10 @@ pub returns-in_err-version-clause-unmoved : goal.returns-in_err-version-clause-u
 returns-in_err-version-clause-unmoved g c = λ w told unmoved.
     absurd (not_unmoved g.T.Version.test c.args.self.now c.args.self.now c.args.path.now c.in_ok-stamp.stamp _ (c.in_ok-stamp.ensures.answer w told) c.is_kept.ensures.consistent (sym c.is_kept.ensures.kept ∙ c.if-is_kept.false) unmoved)
 
+pub returns-in_err-shared-clause-unmoved : goal.returns-in_err-shared-clause-unmoved
+returns-in_err-shared-clause-unmoved g c = λ w told unmoved.
+    absurd (not_unmoved g.T.Version.test c.args.self.now c.args.self.now c.args.path.now c.in_ok-stamp.stamp _ (c.in_ok-stamp.ensures.answer w told) c.is_kept.ensures.consistent (sym c.is_kept.ensures.kept ∙ c.if-is_kept.false) unmoved)
+
 pub returns-in_err-insert_version-clause-unmoved : goal.returns-in_err-insert_version-clause-unmoved
 returns-in_err-insert_version-clause-unmoved g c = λ w told unmoved.
     absurd (not_unmoved g.T.Version.test c.args.self.now c.args.self.now c.args.path.now c.in_ok-stamp.stamp _ (c.in_ok-stamp.ensures.answer w told) c.is_kept.ensures.consistent (sym c.is_kept.ensures.kept ∙ c.if-is_kept.false) unmoved)
@@ -48,16 +52,16 @@ returns-in_err-insert_version-clause-unmoved g c = λ w told unmoved.
 pub returns-clause-answer : goal.returns-clause-answer
 returns-clause-answer g c = λ w told.
     answer_new g.T.Version.test c.args.self.now c.insert_version.new.self c.args.path.now c.in_ok-stamp.stamp _ (c.in_ok-stamp.ensures.answer w told)
-    c.in_ok-bytes.bytes.items (g.T.Version.bytes_of c.in_ok-version.version) (none_of _ (sym c.is_kept.ensures.kept ∙ c.if-is_kept.false)) (c.in_ok-bytes.ensures.answer w (rw c.in_ok-stamp.ensures.files.worlds told))
-    c.in_ok-version.ensures.formed c.in_ok-version.ensures.ok c.in_ok-insert_version.ensures.ok
+    c.in_ok-bytes.bytes.items (g.T.Version.bytes_of c.in_ok-shared.shared.value) (none_of _ (sym c.is_kept.ensures.kept ∙ c.if-is_kept.false)) (c.in_ok-bytes.ensures.answer w (rw c.in_ok-stamp.ensures.files.worlds told))
+    c.in_ok-version.ensures.formed (ap g.T.Version.bytes_of c.in_ok-shared.ensures.ok ∙ c.in_ok-version.ensures.ok) c.in_ok-insert_version.ensures.ok
 
 -- the version that was read is
 pub returns-clause-cache : goal.returns-clause-cache
 returns-clause-cache g c = record {
   told = search rules;
   refused = search rules;
-  current = rw c.in_ok-insert_version.ensures.ok (current_named c.args.self.now c.args.path.now c.in_ok-stamp.stamp (g.T.Version.bytes_of c.in_ok-version.version));
-  some = some_new g.T.Version.test c.args.self.now c.insert_version.new.self c.args.path.now c.in_ok-stamp.stamp c.in_ok-bytes.bytes.items (g.T.Version.bytes_of c.in_ok-version.version)
-      (none_of _ (sym c.is_kept.ensures.kept ∙ c.if-is_kept.false)) c.in_ok-version.ensures.formed c.in_ok-version.ensures.ok c.in_ok-insert_version.ensures.ok;
+  current = rw c.in_ok-insert_version.ensures.ok (current_named c.args.self.now c.args.path.now c.in_ok-stamp.stamp (g.T.Version.bytes_of c.in_ok-shared.shared.value));
+  some = some_new g.T.Version.test c.args.self.now c.insert_version.new.self c.args.path.now c.in_ok-stamp.stamp c.in_ok-bytes.bytes.items (g.T.Version.bytes_of c.in_ok-shared.shared.value)
+      (none_of _ (sym c.is_kept.ensures.kept ∙ c.if-is_kept.false)) c.in_ok-version.ensures.formed (ap g.T.Version.bytes_of c.in_ok-shared.ensures.ok ∙ c.in_ok-version.ensures.ok) c.in_ok-insert_version.ensures.ok;
   consistent = search rules;
 }
