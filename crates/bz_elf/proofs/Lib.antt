@@ -3,7 +3,9 @@ pub mod CheckLemmas
 pub mod FormatLemmas
 pub mod HeadLemmas
 pub mod NameLaws
+pub mod NameLemmas
 pub mod NumberLemmas
+pub mod PassLemmas
 pub mod PlaceLemmas
 pub mod ProfileLaws
 pub mod SectionLemmas

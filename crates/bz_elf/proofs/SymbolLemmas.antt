@@ -1,7 +1,6 @@
--- The symbols that count, read one after another, and whether each has a name.
-use Rattle.std.proofs.Common.{◌≡◌, ℕ, true, false, List, [], ◌∷◌, ◌++◌, refl, sym, ap, ◌∙◌}
+-- The symbols that count, and the load segments, read one after another.
+use Rattle.std.proofs.Common.{◌≡◌, ℕ, List, sym, ap, ◌∙◌}
 use Rattle.std.specs.List.{filter_map, list_all}
-use Rattle.std.proofs.lemmas.List.Folds.{list_all-append}
 use Rattle.bz_elf.specs.Checks.{has_names}
 use Rattle.bz_elf.specs.Head.{program_count, program_place}
 use Rattle.bz_elf.specs.Kept.{IsSymbolTable}
@@ -22,17 +21,7 @@ module _ (bytes : List ℕ) where
   unfolding entries
   all_entries table is = ap (filter_map (counted_at bytes)) (places_all table.offset symbol_len table.count ∙ sym is.places_are)
 
-  -- where one has no name, not all have
-  pub unnamed : (done rest : List SymbolEntry) (symbol : SymbolEntry) → done ++ (symbol ∷ rest) ≡ entries bytes →
-      list_all (is_named (strings bytes)) done ≡ true → is_named (strings bytes) symbol ≡ false → has_names bytes ≡ false
+  -- whether all of them have names in the strings
+  pub by_names : (names : List ℕ) (found : List SymbolEntry) → names ≡ strings bytes → found ≡ entries bytes → list_all (is_named names) found ≡ has_names bytes
   unfolding has_names
-  unnamed done rest symbol whole named fails =
-      ap (list_all (is_named (strings bytes))) (sym whole) ∙ list_all-append (is_named (strings bytes)) done (symbol ∷ rest) ∙ rw (named, fails) refl
-
-  pub one_more_named : (done : List SymbolEntry) (symbol : SymbolEntry) → list_all (is_named (strings bytes)) done ≡ true →
-      is_named (strings bytes) symbol ≡ true → list_all (is_named (strings bytes)) (done ++ (symbol ∷ [])) ≡ true
-  one_more_named done symbol named passes = list_all-append (is_named (strings bytes)) done (symbol ∷ []) ∙ rw (named, passes) refl
-
-  pub all_named : (done : List SymbolEntry) → done ≡ entries bytes → list_all (is_named (strings bytes)) done ≡ true → has_names bytes ≡ true
-  unfolding has_names
-  all_named done whole named = ap (list_all (is_named (strings bytes))) (sym whole) ∙ named
+  by_names names found own all = ap (λ l. list_all (is_named l) found) own ∙ ap (list_all (is_named (strings bytes))) all

@@ -2,7 +2,7 @@
 use Rattle.std.proofs.Common.{◌≡◌, ℕ, suc, ◌+◌, Bool, true, false, ◌≤◌, inl, inr, length, drop, take, List, [], ◌∷◌, Option, Some, None, option_map, refl, sym, ap, subst, ◌∙◌, arith, cond}
 use Rattle.std.specs.List.{list_any, position_or_len}
 use Rattle.std.specs.Str.{IsUtf8, is_utf8}
-use Rattle.std.proofs.lemmas.Bool.{and_from, and_parts, cases_lt, false_from_ne_true}
+use Rattle.std.proofs.lemmas.Bool.{and_from, and_parts, cases_lt}
 use Rattle.std.proofs.Math.ListN.{drop_of_length-le}
 use Rattle.std.proofs.lemmas.Option.{none-some, same_Some}
 use Rattle.std.proofs.lemmas.Str.{IsUtf8-from_is_utf8, is_utf8-from_IsUtf8}
@@ -57,9 +57,6 @@ module _ (bytes text : List ℕ) (read : Some text ≡ ended_text bytes) where
   -- and only there
   pub name_is_text : is_name bytes ≡ true → IsUtf8 text
   name_is_text is = subst IsUtf8 (sym is_ended.1) (IsUtf8-from_is_utf8 (before_zero bytes) (and_parts (list_any is_zero bytes) (is_utf8 (before_zero bytes)) is).1)
-
-  pub no_name : ¬ (IsUtf8 text) → is_name bytes ≡ false
-  no_name bad = false_from_ne_true (is_name bytes) (λ is. bad (name_is_text is))
 
 -- a name begins no further than the strings reach
 pub name_within : (strings : List ℕ) (place : ℕ) → is_name (drop place strings) ≡ true → place ≤ length strings

@@ -2,6 +2,7 @@ pub mod Checks
 pub mod Format
 pub mod Head
 pub mod Kept
+pub mod Names
 pub mod Number
 pub mod Plain
 pub mod Profile

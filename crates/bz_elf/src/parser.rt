@@ -6,6 +6,7 @@ ghost use Rattle.bz_elf.specs.Format.{format_test};
 ghost use Rattle.bz_elf.specs.Kept.{IsKept};
 
 mod head;
+mod names;
 mod number;
 mod sections;
 mod segments;
@@ -13,8 +14,9 @@ mod symbols;
 
 use crate::types::KeptFile;
 use bz_base::{Error, Result, sort_table};
+pub(crate) use names::name_of;
 use std::alloc::Global;
-pub(crate) use symbols::{name_of, part_of};
+pub(crate) use symbols::part_of;
 
 /// The size of a program header, in bytes.
 const PROGRAM_HEADER_LEN: usize = 56;

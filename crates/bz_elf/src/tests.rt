@@ -2,6 +2,7 @@
 
 mod answers;
 mod fields;
+mod names;
 mod resolvers;
 
 use std::alloc::{AllocError, Global};

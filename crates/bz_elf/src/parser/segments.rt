@@ -17,6 +17,7 @@ use std::alloc::Global;
 const LOAD: u32 = 1;
 
 /// The load segments, in the order of the file.
+#[tactic(auto, using(crate::proofs::SymbolLemmas::all_segments))]
 pub(crate) fn segments(alloc: Global, bytes: &[u8]) -> Result<Vec<Segment>>
     requires { TablesLie bytes.now }
     ensures ok { IfOk result (λ found. found.items ≡ segments bytes.now) }

@@ -7,7 +7,7 @@ use std::alloc::Global;
 use std::test::Fail;
 
 /// How the bytes are refused, if they are.
-fn refusal_of(alloc: Global, bytes: Vec<u8>) -> Option<Error> {
+pub(crate) fn refusal_of(alloc: Global, bytes: Vec<u8>) -> Option<Error> {
     match ElfFile::from_bytes(alloc, bytes) {
         Ok(_) => None,
         Err(error) => Some(error),

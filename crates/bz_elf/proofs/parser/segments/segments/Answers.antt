@@ -1,14 +1,8 @@
 use Rattle.std.proofs.Common.{◌++◌, sym, ap, ◌∙◌, arith}
 use Rattle.bz_elf.specs.Head.{program_count, program_place}
 use Rattle.bz_elf.specs.Segments.{loaded_at, program_header_len, segments}
-use Rattle.bz_elf.proofs.PlaceLemmas.{all_picked, none_more, one_more, picked_after, picked_from}
-use Rattle.bz_elf.proofs.SymbolLemmas.{all_segments}
+use Rattle.bz_elf.proofs.PlaceLemmas.{all_picked, none_more, one_more, picked_after}
 use Rattle.bz_elf.proofs.parser.segments.segments.Goals as goal
-
-pub loop-index-init : goal.loop-index-init
-loop-index-init c =
-    let bytes = c.args.bytes.now in
-    ap (λ l. l ++ picked_from (loaded_at bytes) (program_place bytes) program_header_len 0 (program_count bytes)) c.new-found.ensures.items ∙ all_segments bytes
 
 pub loop-index-preserved-in_default : goal.loop-index-preserved-in_default
 loop-index-preserved-in_default c =

@@ -2,7 +2,7 @@ use Rattle.std.proofs.Common.{ap, ◌∙◌}
 use Rattle.std.proofs.lemmas.List.{take_rest}
 use Rattle.bz_elf.specs.Symbols.{before_zero, is_name}
 use Rattle.bz_elf.proofs.TextLemmas.{name_within}
-use Rattle.bz_elf.proofs.parser.symbols.name_of.Goals as goal
+use Rattle.bz_elf.proofs.parser.names.name_of.Goals as goal
 
 pub slice_bounds-text_of-count : goal.slice_bounds-text_of-count
 slice_bounds-text_of-count c = name_within c.args.strings.now c.args.symbol.now.name c.requires
