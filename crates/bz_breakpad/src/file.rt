@@ -219,7 +219,15 @@ impl SymbolFile {
         ensures few { (table : Table) → table_in self.now ≡ Some table → AreFew (steps.new - steps.old) (length table.functions) }
     {
         let place = nearest(&self.starts, addr, steps);
-        answer_from(alloc, self.bytes.as_slice(), &self.table, opts, place, addr)
+        answer_from(
+            alloc,
+            self.bytes.as_slice(),
+            &self.table,
+            opts,
+            place,
+            0,
+            addr,
+        )
     }
 }
 

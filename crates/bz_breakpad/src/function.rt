@@ -69,7 +69,7 @@ impl<'a> Function<'a> {
     pub fn find_line(&self, addr: Addr) -> Option<SourceLine>
         ensures { option_map line_seen result ≡ line_at addr self.now.lines }
     {
-        line_of(self.bytes, self.code, self.kept, addr)
+        line_of(self.bytes, self.code, self.kept, 0, addr)
     }
 
     /// The inlined call of a depth that has an address inside, which is relative to the module's

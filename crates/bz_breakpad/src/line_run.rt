@@ -1,7 +1,7 @@
 //! The search in a run: line records that stand one after another in a file, each starting after the
 //! one before it.
 
-ghost use Rattle.std.specs.Prelude.{◌≡◌, ◌≤◌, length, option_map, IfSome, IfNone};
+ghost use Rattle.std.specs.Prelude.{◌≡◌, ◌≤◌, length, true, option_map, IfSome, IfNone};
 ghost use Rattle.bz_base.specs.Line.{all_lines};
 ghost use Rattle.bz_base.specs.Nearest.{nearest_covering};
 ghost use Rattle.bz_breakpad.specs.Lent.{line_seen};
@@ -9,16 +9,19 @@ ghost use Rattle.bz_breakpad.specs.LineRun.{AreLineRecords, IsCut, IsLineRun, li
 
 use crate::lines::{line_if_covers, start_at};
 use crate::parser::plain::line_feeds;
-use crate::types::SourceLine;
+use crate::types::{Part, SourceLine};
 use bz_base::{Addr, next_line};
 
-/// The line record of a run that answers for the address.
-pub(crate) fn line_in_run(run: &[u8], addr: Addr) -> Option<SourceLine>
+/// The line record of a run that answers for the address. It is the same whatever the hint is: a
+/// place where the run may be cut first, in front of a line.
+pub(crate) fn line_in_run(run: &[u8], hint: usize, addr: Addr) -> Option<SourceLine>
     requires { IsLineRun run.now }
     ensures { option_map line_seen result ≡ nearest_covering (λ l. l.start) (λ l. l.size) addr (lines_in run.now) }
 {
     let mut rest = run;
-    while let Some(cut) = cut_of(rest) {
+    let mut hint = hint;
+    while let Some(cut) = cut_by(rest, hint) {
+        hint = 0;
         rest = if start_at(rest, cut) <= addr {
             &rest[cut..]
         } else {
@@ -26,6 +29,37 @@ pub(crate) fn line_in_run(run: &[u8], addr: Addr) -> Option<SourceLine>
         };
     }
     only_line(rest, addr)
+}
+
+/// Where a run in a part of the bytes is to be cut first; 0 if that isn't known. Where it is asked of
+/// several runs before any is searched, the processor waits for their bytes at the same time.
+pub(crate) fn cut_hint(bytes: &[u8], run: &Part) -> usize {
+    match bytes.get(run.from..run.to) {
+        Some(text) => cut_near(text, text.len() / 2).unwrap_or(0),
+        None => 0,
+    }
+}
+
+/// Where a text is cut in two behind a line feed: by the hint if that is such a place, and else near
+/// the text's middle, or behind its first line. None if the text has one line at most.
+#[inline(always)]
+fn cut_by(text: &[u8], hint: usize) -> Option<usize>
+    ensures some { IfSome result (IsCut text.now) }
+    ensures none { IfNone result (length (all_lines text.now) ≤ 1) }
+{
+    if is_cut(text, hint) {
+        Some(hint)
+    } else {
+        cut_of(text)
+    }
+}
+
+/// Whether a line begins at a place within the text.
+#[inline(always)]
+fn is_cut(text: &[u8], place: usize) -> bool
+    ensures { result ≡ true → IsCut text.now place }
+{
+    0 < place && place < text.len() && text[place - 1] == b'\n'
 }
 
 /// Where a text is cut in two behind a line feed: near its middle, or else behind its first line.
@@ -50,7 +84,7 @@ fn cut_near(text: &[u8], place: usize) -> Option<usize>
         return None;
     }
     let cut = place + line_feeds(&text[place..]).trailing_zeros() as usize + 1;
-    if cut < text.len() && text[cut - 1] == b'\n' {
+    if is_cut(text, cut) {
         Some(cut)
     } else {
         None

@@ -17,13 +17,17 @@ ghost use Rattle.bz_breakpad.specs.Sorted.{StandsFor, starts_of};
 ghost use Rattle.bz_breakpad.specs.Table.{Table};
 
 use crate::function::text_of;
+use crate::line_run::cut_hint;
 use crate::places::{Placed, placed_at};
 use crate::search::function_at;
-use crate::types::{KeptFunction, KeptTable};
+use crate::types::{KeptFunction, KeptTable, LineRecords};
 use bz_base::{Error, FindSymOpts, Reason, Result, Sym, Symbolized, in_batch};
 use std::alloc::Global;
 use std::borrow::CowStr;
 use std::marker::Model;
+
+/// For so many answers the first touch of their line records is made together.
+const TOGETHER: usize = 32;
 
 /// Addresses whose functions were looked up in a file. Contracts see the file's bytes and the
 /// addresses.
@@ -60,14 +64,57 @@ impl<'f, 'b> Lookups<'f, 'b> {
         ensures lent { IfOk result IsLent }
         ensures refusal { IfErr result IsAnswerRefusal }
     {
+        self.answer_by(alloc, index, opts, 0)
+    }
+
+    /// The same, with a hint for `line_in_run`.
+    fn answer_by(
+        &self,
+        alloc: Global,
+        index: usize,
+        opts: &FindSymOpts,
+        hint: usize,
+    ) -> Result<Symbolized<'f>>
+        requires { index < length self.now.addrs }
+        ensures answer { (table : Table) × (table_in self.now.bytes ≡ Some table) × Gives reading (plain table opts.now (slice_index self.now.addrs index)) result }
+        ensures lent { IfOk result IsLent }
+        ensures refusal { IfErr result IsAnswerRefusal }
+    {
         answer_from(
             alloc,
             self.bytes,
             self.kept,
             opts,
             self.places[index],
+            hint,
             self.addrs[index],
         )
+    }
+
+    /// Hints for the answers from an index on.
+    fn hints(&self, from: usize) -> [usize; TOGETHER] {
+        let mut hints = [0; TOGETHER];
+        for place in 0..TOGETHER {
+            hints[place] = self.hint(from.saturating_add(place));
+        }
+        hints
+    }
+
+    /// A hint for the answer at an index: where the line records of the function there are cut.
+    fn hint(&self, index: usize) -> usize {
+        if index >= self.places.len() {
+            return 0;
+        }
+        let Some((place, _)) = self.places[index] else {
+            return 0;
+        };
+        match self.kept.code.functions.get(place) {
+            Some(function) => match &function.lines {
+                LineRecords::Run(run) => cut_hint(self.bytes, run),
+                LineRecords::Listed(_) => 0,
+            },
+            None => 0,
+        }
     }
 
     /// The answers to all addresses, in their order; an address that is refused is an ignored error.
@@ -77,21 +124,26 @@ impl<'f, 'b> Lookups<'f, 'b> {
         ensures memory { IsOkUnless result Error.OutOfMemory }
     {
         let mut answers = Vec::with_capacity(alloc, self.addrs.len())?;
+        let mut hints = [0; TOGETHER];
         for index in 0..self.addrs.len() {
-            let answer = in_batch(self.answer(alloc, index, opts))?;
+            if index % TOGETHER == 0 {
+                hints = self.hints(index);
+            }
+            let answer = in_batch(self.answer_by(alloc, index, opts, hints[index % TOGETHER]))?;
             answers.push(answer)?;
         }
         Ok(answers)
     }
 }
 
-/// The answer at an address, from the place that a search found.
+/// The answer at an address, from the place that a search found. The hint is one for `line_in_run`.
 pub(crate) fn answer_from<'a>(
     alloc: Global,
     bytes: &'a [u8],
     kept: &'a KeptTable,
     opts: &FindSymOpts,
     place: Option<(usize, u64)>,
+    hint: usize,
     addr: u64,
 ) -> Result<Symbolized<'a>>
     requires found { IsFound (starts_of kept.now.code) addr place }
@@ -104,7 +156,7 @@ pub(crate) fn answer_from<'a>(
         return Ok(Symbolized::Unknown(Reason::MissingSyms));
     }
     match function_at(&kept.code, place, addr) {
-        Some(function) => match placed_at(alloc, bytes, kept, opts, function, addr) {
+        Some(function) => match placed_at(alloc, bytes, kept, opts, function, hint, addr) {
             Ok(placed) => Ok(Symbolized::Sym(symbol(bytes, kept, function, addr, placed))),
             Err(error) => Err(error),
         },

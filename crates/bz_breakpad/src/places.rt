@@ -32,13 +32,14 @@ pub(crate) struct Placed<'f> {
     pub inlined: Vec<InlinedFn<'f>>,
 }
 
-/// Where the address lies, as far as the options ask for it.
+/// Where the address lies, as far as the options ask for it. The hint is one for `line_in_run`.
 pub(crate) fn placed_at<'f>(
     alloc: Global,
     bytes: &'f [u8],
     kept: &'f KeptTable,
     opts: &FindSymOpts,
     function: &KeptFunction,
+    hint: usize,
     addr: Addr,
 ) -> Result<Placed<'f>>
     requires function { IsFunction bytes.now kept.now.code function.now }
@@ -51,7 +52,7 @@ pub(crate) fn placed_at<'f>(
     if matches!(opts, FindSymOpts::Basic) {
         return Ok(nowhere(alloc));
     }
-    match line_of(bytes, &kept.code, function, addr) {
+    match line_of(bytes, &kept.code, function, hint, addr) {
         Some(line) => placed_on_line(alloc, bytes, kept, opts, function, addr, line),
         None => Ok(nowhere(alloc)),
     }
@@ -92,18 +93,19 @@ fn nowhere<'f>(alloc: Global) -> Placed<'f>
     }
 }
 
-/// The line record of the function that answers for the address.
+/// The line record of the function that answers for the address. The hint is one for `line_in_run`.
 pub(crate) fn line_of(
     bytes: &[u8],
     code: &FunctionTable,
     function: &KeptFunction,
+    hint: usize,
     addr: Addr,
 ) -> Option<SourceLine>
     requires { IsFunction bytes.now code.now function.now }
     ensures { option_map line_seen result ≡ line_at addr (function_seen bytes.now code.now function.now).lines }
 {
     match function.lines {
-        LineRecords::Run(part) => line_in_run(&bytes[part.from..part.to], addr),
+        LineRecords::Run(part) => line_in_run(&bytes[part.from..part.to], hint, addr),
         LineRecords::Listed(part) => {
             let places = match function.line_order {
                 Some(order) => &code.line_copies[order.from..order.to],

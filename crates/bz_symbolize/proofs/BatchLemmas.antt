@@ -1,12 +1,14 @@
 -- What a version answers to a batch, in the words of the source's format.
-use Rattle.std.proofs.Common.{◌≡◌, ◌↔◌, ◌<◌, ℕ, List, length, option_map, Some, slice_get, get_or, Result, Ok, Err, IfOk, ap, sym, ◌∙◌}
+use Rattle.std.proofs.Common.{◌≡◌, ◌↔◌, ◌<◌, ℕ, List, [], ◌∷◌, ◌++◌, length, map, option_map, Some, slice_get, get_or, Result, Ok, Err, IfOk, ap, sym, ◌∙◌}
+use Rattle.std.specs.List.{AllByRecursion}
+use Rattle.std.proofs.lemmas.List.{length-map}
 use Rattle.std.proofs.lemmas.Option.{slice_get-get_or, slice_get-map}
 use Rattle.bz_base.specs.Answer.{Answer, reading}
 use Rattle.bz_base.specs.InputKind.{AddressKind}
 use Rattle.bz_base.specs.declared.error.Error.{Error}
 use Rattle.bz_base.specs.declared.types.FindSymOpts.{FindSymOpts}
 use Rattle.bz_base.specs.declared.types.Symbolized.{Symbolized}
-use Rattle.bz_symbolize.specs.Batch.{batch_by, entry_by}
+use Rattle.bz_symbolize.specs.Batch.{AreAnswersOf, batch_by, entry_by}
 use Rattle.bz_symbolize.specs.declared.held.Held.{Held}
 use Rattle.bz_symbolize.specs.FileCall.{batch_of}
 use Rattle.bz_symbolize.specs.Promise.{IsAnswerOf, IsBreakpadAnswer, IsBreakpadBatch, IsElfAnswer, IsElfBatch, IsGsymAnswer, IsGsymBatch}
@@ -57,3 +59,22 @@ answer_read held opts addrs i d within (Ok entry) is =
     let single : ℕ → Answer = λ addr. entry_by held opts addr in
     slice_get-map single addrs i ∙ ap (option_map single) (slice_get-get_or addrs i d within) ∙ ap Some (sym is)
 answer_read held opts addrs i d within (Err e) is = tt
+
+-- answers at addresses are those of a batch, wherever that has one of these addresses
+pub answers_found : (held : Held) (opts : FindSymOpts) (addrs asked : List ℕ) (answers : List Answer) → answers ≡ map (λ addr. entry_by held opts addr) asked →
+    AreAnswersOf (batch_by held opts addrs) asked answers
+answers_found held opts addrs asked answers are =
+    let entry = λ (addr : ℕ). entry_by held opts addr in
+    record {
+      count = ap length are ∙ length-map asked entry;
+      alike = λ place index within there same.
+          slice_get-map entry addrs index
+          ∙ ap (option_map entry) (slice_get-get_or addrs index 0 there ∙ ap Some same ∙ sym (slice_get-get_or asked place 0 within))
+          ∙ sym (slice_get-map entry asked place)
+          ∙ sym (ap (λ (list : List Answer). slice_get list place) are);
+    }
+
+-- what holds of each and of one more holds of all
+pub all_and_one : {X : Type 0} (P : X → Type 0) (xs : List X) (x : X) → AllByRecursion P xs → P x → AllByRecursion P (xs ++ x ∷ [])
+all_and_one P [] x all one = (one, tt)
+all_and_one P (y ∷ ys) x all one = (all.0, all_and_one P ys x all.1 one)

@@ -1,5 +1,5 @@
 -- A batch whose source was looked at.
-use Rattle.std.specs.Prelude.{ℕ, List, map, string_bytes}
+use Rattle.std.specs.Prelude.{◌≡◌, ◌<◌, ℕ, List, length, map, slice_get, slice_index, string_bytes}
 use Rattle.bz_base.specs.Answer.{Answer, in_batch}
 use Rattle.bz_base.specs.InputKind.{AddressKind, InFile, InTable}
 use Rattle.bz_base.specs.declared.types.FindSymOpts.{FindSymOpts}
@@ -14,6 +14,12 @@ use Rattle.bz_symbolize.specs.declared.held.Held.TheVariants as helds
 pub record Batch : Type 0 where
   pub addrs : List ℕ
   pub answers : List Answer
+
+-- answers at addresses are those of a batch, wherever that has one of these addresses
+pub record AreAnswersOf (batch : Batch) (addrs : List ℕ) (answers : List Answer) : Type 0 where
+  pub count : length answers ≡ length addrs
+  pub alike : (place index : ℕ) → place < length addrs → index < length batch.addrs → slice_index batch.addrs index ≡ slice_index addrs place →
+      slice_get batch.answers index ≡ slice_get answers place
 
 -- the kind of the addresses that an ELF file is asked for
 abbrev pub kind_of : ElfKind → AddressKind

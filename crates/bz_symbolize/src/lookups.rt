@@ -1,11 +1,12 @@
 //! Batches whose answers are made one by one.
 
-ghost use Rattle.std.specs.Prelude.{◌≡◌, ◌<◌, length, slice_get, slice_index, Some, IfOk, IsOkUnless};
+ghost use Rattle.std.specs.Prelude.{◌≡◌, ◌<◌, length, map, slice_get, slice_index, Some, IfOk, IsOkUnless};
+ghost use Rattle.std.specs.List.{AllByRecursion};
 ghost use Rattle.bz_base.specs.Answer.{in_batch, reading};
 ghost use Rattle.bz_base.specs.Lent.{IsLent};
 ghost use Rattle.bz_base.specs.declared.error.Error.{Error};
 ghost use Rattle.bz_breakpad.specs.Reader.{table_in};
-ghost use Rattle.bz_symbolize.specs.Batch.{batch_by, entry_by};
+ghost use Rattle.bz_symbolize.specs.Batch.{AreAnswersOf, batch_by, entry_by};
 ghost use Rattle.bz_symbolize.specs.Sources.{breakpad_single};
 
 use crate::elf;
@@ -67,6 +68,74 @@ impl<'d> Lookups<'d> {
     {
         entry(alloc, &self.held, &self.opts, self.addrs[index])
     }
+
+    /// The answers at some of the addresses, in their order: what these say is read together, which is
+    /// faster where they are near each other. A refused address is an ignored error.
+    pub fn answers_at(&self, alloc: Global, addrs: &[Addr]) -> Result<Vec<Symbolized<'_>>>
+        ensures answers { IfOk result (λ answers. AreAnswersOf self.now addrs.now (map reading answers.items)) }
+        ensures lent { IfOk result (λ answers. AllByRecursion IsLent answers.items) }
+        ensures memory { IsOkUnless result Error.OutOfMemory }
+    {
+        let answers = entries(alloc, &self.held, &self.opts, addrs)?;
+        Ok(answers)
+    }
+}
+
+// The entries of a batch at addresses, by the version that is held.
+fn entries<'h>(
+    alloc: Global,
+    held: &'h Held<'_>,
+    opts: &FindSymOpts,
+    addrs: &[Addr],
+) -> Result<Vec<Symbolized<'h>>>
+    ensures entries { IfOk result (λ entries. map reading entries.items ≡ map (λ addr. entry_by held.now opts.now addr) addrs.now) }
+    ensures lent { IfOk result (λ entries. AllByRecursion IsLent entries.items) }
+    ensures memory { IsOkUnless result Error.OutOfMemory }
+{
+    match held {
+        Held::Breakpad(file) => {
+            entries_blank::<Brand>(alloc, file.as_ref(), opts, addrs, Blank::new(1))
+        }
+        Held::Gsym(_) | Held::GsymData(_) | Held::Elf(_) => entries_each(alloc, held, opts, addrs),
+    }
+}
+
+// The entries at addresses, one by one.
+fn entries_each<'h>(
+    alloc: Global,
+    held: &'h Held<'_>,
+    opts: &FindSymOpts,
+    addrs: &[Addr],
+) -> Result<Vec<Symbolized<'h>>>
+    ensures entries { IfOk result (λ entries. map reading entries.items ≡ map (λ addr. entry_by held.now opts.now addr) addrs.now) }
+    ensures lent { IfOk result (λ entries. AllByRecursion IsLent entries.items) }
+    ensures memory { IsOkUnless result Error.OutOfMemory }
+{
+    let mut entries = Vec::with_capacity(alloc, addrs.len())?;
+    for addr in addrs {
+        entries.push(entry(alloc, held, opts, *addr)?)?;
+    }
+    Ok(entries)
+}
+
+// The entries of a Breakpad file at addresses, with a count that nobody reads.
+fn entries_blank<'f, L: Ledger>(
+    alloc: Global,
+    file: &'f SymbolFile,
+    opts: &FindSymOpts,
+    addrs: &[Addr],
+    blank: Blank,
+) -> Result<Vec<Symbolized<'f>>>
+    requires name { blank.name ≡ L.name }
+    requires parts { blank.parts ≡ L.parts }
+    requires some { 0 < L.parts }
+    ensures entries { IfOk result (λ entries. map reading entries.items ≡ map (λ addr. in_batch (breakpad_single opts.now (table_in file.now) addr)) addrs.now) }
+    ensures lent { IfOk result (λ entries. AllByRecursion IsLent entries.items) }
+    ensures memory { IsOkUnless result Error.OutOfMemory }
+{
+    let mut steps = Steps::<L>::new(blank);
+    let entries = file.answer_batch(alloc, addrs, opts, &mut steps)?;
+    Ok(entries)
 }
 
 // The entry of a batch at an address, by the version that is held.

@@ -29,8 +29,9 @@ pub record MakesMore (batch : Batch) (old new : Texts) : Type 0 where
   pub first : new.first ≡ old.first
   pub count : length new.parts.items ≡ length old.parts.items
 
--- the index is that of an answer of the batch, and one of so many from the first on
-pub record IsAmong (batch : Batch) (first count index : ℕ) : Type 0 where
-  pub from : first ≤ index
-  pub before : index < first + count
-  pub there : index < length batch.addrs
+-- the entry is an address of the batch with its index, which is one of so many from the first on
+pub record IsEntryAmong (batch : Batch) (first count : ℕ) (entry : ℕ × ℕ) : Type 0 where
+  pub from : first ≤ entry.1
+  pub before : entry.1 < first + count
+  pub there : entry.1 < length batch.addrs
+  pub addr : slice_index batch.addrs entry.1 ≡ entry.0

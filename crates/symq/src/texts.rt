@@ -1,21 +1,24 @@
 //! The texts of answers, made in the order of their addresses: what stands near each other in a file
 //! is read together.
 
-ghost use Rattle.std.specs.Prelude.{◌≡◌, ◌<◌, ◌++◌, length, slice_get, slice_index, string_bytes, All, Some, OnOk, IfOk, IfSome, IsOkUnless};
+ghost use Rattle.std.specs.Prelude.{◌≡◌, ◌<◌, ◌≤◌, ◌++◌, length, map, slice_get, slice_index, string_bytes, All, Some, OnOk, IfOk, IfSome, IsOkUnless};
 ghost use Rattle.std.specs.List.{AllByRecursion};
-ghost use Rattle.bz_base.specs.Answer.{Answer};
+ghost use Rattle.bz_base.specs.Answer.{Answer, reading};
 ghost use Rattle.bz_base.specs.declared.error.Error.{Error};
 ghost use Rattle.bz_symbolize.specs.Batch.{Batch};
 ghost use Rattle.symq.specs.AnswerText.{answer_text};
-ghost use Rattle.symq.specs.Texts.{AreTexts, IsAmong, IsTextOf, MakesMore};
+ghost use Rattle.symq.specs.Texts.{AreTexts, IsEntryAmong, IsTextOf, MakesMore};
 
 use crate::answer::push_answer;
-use bz_base::{Addr, Error, Result};
+use bz_base::{Addr, Error, Result, Symbolized};
 use bz_symbolize::Lookups;
 use std::alloc::Global;
 
 /// So many texts are made at a time. That they are many brings addresses near each other together.
 const AT_A_TIME: usize = 65_536;
+
+/// So many answers are looked up together.
+const TOGETHER: usize = 32;
 
 /// How long the texts grow that are made at a time, in bytes. What is left then isn't made before it
 /// is written.
@@ -85,35 +88,67 @@ impl Texts {
         self.make_in(alloc, lookups, &order)
     }
 
-    // Makes the texts of the answers at these indices, as long as there is room.
+    // Makes the texts of these answers, as long as there is room.
     fn make_in(
         &mut self,
         alloc: Global,
         lookups: &Lookups<'_>,
         order: &[(Addr, usize)],
     ) -> Result<()>
-        requires among { All (λ e. IsAmong lookups.now self.old.first (length self.old.parts.items) e.1) order.now }
+        requires among { All (IsEntryAmong lookups.now self.old.first (length self.old.parts.items)) order.now }
         requires texts { AreTexts lookups.now self.old }
         ensures ok { OnOk result (AreTexts lookups.now self.new) }
         ensures memory { IsOkUnless result Error.OutOfMemory }
     {
-        for (_, index) in order {
-            if self.text.len() > ROOM {
-                break;
-            }
-            self.make_one(alloc, lookups, *index)?;
+        let mut from = 0;
+        while from < order.len() && self.text.len() <= ROOM {
+            let to = order.len().min(from.saturating_add(TOGETHER));
+            self.make_some(alloc, lookups, order, from, to)?;
+            from = to;
         }
         Ok(())
     }
 
-    // Makes the text of the answer at an index.
-    fn make_one(&mut self, alloc: Global, lookups: &Lookups<'_>, index: usize) -> Result<()>
-        requires { IsAmong lookups.now self.old.first (length self.old.parts.items) index }
+    // Makes the texts of some of these answers, which are looked up together.
+    fn make_some(
+        &mut self,
+        alloc: Global,
+        lookups: &Lookups<'_>,
+        order: &[(Addr, usize)],
+        from: usize,
+        to: usize,
+    ) -> Result<()>
+        requires among { All (IsEntryAmong lookups.now self.old.first (length self.old.parts.items)) order.now }
+        requires ascends { from ≤ to }
+        requires within { to ≤ length order.now }
         ensures ok { OnOk result (MakesMore lookups.now self.old self.new) }
         ensures memory { IsOkUnless result Error.OutOfMemory }
     {
+        let addrs = addrs_of(alloc, &order[from..to])?;
+        let answers = lookups.answers_at(alloc, &addrs)?;
+        for place in 0..answers.len() {
+            let (addr, index) = order[from + place];
+            self.make_one(lookups, addr, index, &answers[place])?;
+        }
+        Ok(())
+    }
+
+    // Makes the text of an answer, which is the batch's at an index.
+    fn make_one(
+        &mut self,
+        lookups: &Lookups<'_>,
+        addr: Addr,
+        index: usize,
+        answer: &Symbolized<'_>,
+    ) -> Result<()>
+        requires among { IsEntryAmong lookups.now self.old.first (length self.old.parts.items) (addr, index) }
+        requires answer { slice_get lookups.now.answers index ≡ Some (reading answer.now) }
+        ensures ok { OnOk result (MakesMore lookups.now self.old self.new) }
+        ensures memory { IsOkUnless result Error.OutOfMemory }
+    {
+        let _lookups = lookups;
         let from = self.text.len();
-        push_entry(alloc, &mut self.text, lookups, index)?;
+        push_answer(&mut self.text, addr, answer)?;
         let to = self.text.len();
         self.parts[index - self.first] = Some(TextPart { from, to });
         Ok(())
@@ -123,7 +158,7 @@ impl Texts {
 // The addresses from an index on, as many as are answered at a time, with their indices: in the
 // order of the addresses.
 fn in_order(alloc: Global, lookups: &Lookups<'_>, first: usize) -> Result<Vec<(Addr, usize)>>
-    ensures among { IfOk result (λ order. All (λ e. IsAmong lookups.now first (length order.items) e.1) order.items) }
+    ensures among { IfOk result (λ order. All (IsEntryAmong lookups.now first (length order.items)) order.items) }
     ensures memory { IsOkUnless result Error.OutOfMemory }
 {
     let mut order = entries(alloc, lookups, first)?;
@@ -133,7 +168,7 @@ fn in_order(alloc: Global, lookups: &Lookups<'_>, first: usize) -> Result<Vec<(A
 
 // The addresses from an index on, as many as are answered at a time, with their indices.
 fn entries(alloc: Global, lookups: &Lookups<'_>, first: usize) -> Result<Vec<(Addr, usize)>>
-    ensures among { IfOk result (λ order. AllByRecursion (λ e. IsAmong lookups.now first (length order.items) e.1) order.items) }
+    ensures among { IfOk result (λ order. AllByRecursion (IsEntryAmong lookups.now first (length order.items)) order.items) }
     ensures memory { IsOkUnless result Error.OutOfMemory }
 {
     let end = lookups.len().min(first.saturating_add(AT_A_TIME));
@@ -142,6 +177,18 @@ fn entries(alloc: Global, lookups: &Lookups<'_>, first: usize) -> Result<Vec<(Ad
         entries.push((lookups.addr(index), index))?;
     }
     Ok(entries)
+}
+
+// The addresses of entries, in their order.
+fn addrs_of(alloc: Global, entries: &[(Addr, usize)]) -> Result<Vec<Addr>>
+    ensures addrs { IfOk result (λ addrs. addrs.items ≡ map (λ e. e.0) entries.now) }
+    ensures memory { IsOkUnless result Error.OutOfMemory }
+{
+    let mut addrs = Vec::with_capacity(alloc, entries.len())?;
+    for entry in entries {
+        addrs.push(entry.0)?;
+    }
+    Ok(addrs)
 }
 
 /// Puts the text of the answer at the address of an index to the end of a text.

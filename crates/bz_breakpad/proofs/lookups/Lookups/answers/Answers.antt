@@ -27,15 +27,15 @@ loop-index-preserved c =
     let opts = c.args.opts.now in
     let addrs = c.args.self.now.addrs in
     let index = c.loop-index.index in
-    let found = c.answer.ensures.answer in
+    let found = c.answer_by.ensures.answer in
     record {
       answers = λ t read.
           let same = same_Some found.0 t (sym found.1 ∙ read) in
-          let one = c.in_ok-answer.ensures.entry _ (subst (λ (u : Table). Gives reading (plain u opts (slice_index addrs index)) c.answer.result) same found.2) in
+          let one = c.in_ok-answer.ensures.entry _ (subst (λ (u : Table). Gives reading (plain u opts (slice_index addrs index)) c.answer_by.result) same found.2) in
           ap (map reading) c.in_ok-push.ensures.items
           ∙ map-append reading c.loop-index.answers.items (c.in_ok-answer.answer ∷ [])
           ∙ ap₂ (λ old new. old ++ new ∷ []) (c.loop-index.invariant.answers t read) one
           ∙ sym (map-append (λ addr. in_batch (plain t opts addr)) (take index addrs) (_ ∷ []))
           ∙ sym (ap (map (λ addr. in_batch (plain t opts addr))) (take_more addrs index 0 (omega (arith, ap (λ (v : LookedUp). length v.addrs) c.self.view_is))));
-      lent = rw c.in_ok-push.ensures.items (all_and_one IsLent c.loop-index.answers.items c.in_ok-answer.answer c.loop-index.invariant.lent (c.in_ok-answer.ensures.lent c.answer.ensures.lent));
+      lent = rw c.in_ok-push.ensures.items (all_and_one IsLent c.loop-index.answers.items c.in_ok-answer.answer c.loop-index.invariant.lent (c.in_ok-answer.ensures.lent c.answer_by.ensures.lent));
     }
