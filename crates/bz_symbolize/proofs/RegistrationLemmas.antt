@@ -160,7 +160,10 @@ stays_registered state w p b is_elf answered =
     let kept = ap (λ (c : Cache). map.get c.kept is.0) is.3 ∙ get_inserted stamp_total stamps_apart state.elf.kept is.0 b in
     record {
       stamp = is.0;
+      there = is.1;
+      present = is.2;
+      kept = kept;
       placed = subst (λ (c : Cache). IsAt c w p is.0) (sym is.3) (placed_named state.elf w p b is.0 is.1 is.2);
-      answers = λ calls now present other reach at_stamp.
-          answers_looked now present other b formed (looked_at now.elf present other is.0 b (reached is.0 b calls (state_after state w (Register p b)) now kept reach) elf.format_test formed at_stamp);
+      answers = λ calls now later other reach at_stamp.
+          answers_looked now later other b formed (looked_at now.elf later other is.0 b (reached is.0 b calls (state_after state w (Register p b)) now kept reach) elf.format_test formed at_stamp);
     }

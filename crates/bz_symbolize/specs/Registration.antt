@@ -66,9 +66,12 @@ pub record AnswersElf (state : State) (world : World) (path bytes : List ℕ) : 
 
 -- what comes of a registration that was answered
 pub record StaysRegistered (old : State) (world : World) (path bytes : List ℕ) : Type 0 where
-  -- the stamp that the file had; the path is at it now
+  -- a file was at the path; its stamp keeps the registered bytes, whatever the file's own are, and the path is at that stamp
   pub stamp : Stamp
+  pub there : List ℕ
+  pub present : entry_at world path ≡ Some (Present stamp there)
+  pub kept : map.get (state_after old world (Register path bytes)).elf.kept stamp ≡ Some bytes
   pub placed : IsAt (state_after old world (Register path bytes)).elf world path stamp
   -- as long as the stamp stays kept, over any list of calls, every path that is at it is answered by the registered bytes
-  pub answers : (calls : List (World × Call)) (now : State) (present : World) (other : List ℕ) →
-      MayReachKeeping stamp (state_after old world (Register path bytes)) calls now → IsAt now.elf present other stamp → AnswersElf now present other bytes
+  pub answers : (calls : List (World × Call)) (now : State) (later : World) (other : List ℕ) →
+      MayReachKeeping stamp (state_after old world (Register path bytes)) calls now → IsAt now.elf later other stamp → AnswersElf now later other bytes

@@ -143,11 +143,12 @@ impl Symbolizer {
     }
 
     /// Takes in the file of a resolver as the ELF file at the path, under the path's present stamp,
-    /// without reading the file there: a source at the path is answered by it as long as the path is at
-    /// that stamp. It is refused by `AlreadyExists` where the version in view is kept, that is where the
-    /// path is held in a symbolizer that doesn't look at files anew, or one with the present stamp is
-    /// kept; by `NotFound`, `PermissionDenied` and `ReadFault` as a look at the path is; and by
-    /// `OutOfMemory`. After a refusal the symbolizer is as before.
+    /// without reading the file there. Sources at the path are then answered by the resolver's file,
+    /// as long as the path is at that stamp and this stamp stays kept. It is refused by
+    /// `AlreadyExists` where the version in view is kept: where the path is held by a symbolizer that
+    /// doesn't look at files anew, and where a version with the present stamp is kept; by `NotFound`,
+    /// `PermissionDenied` and `ReadFault` as a look at the path is; and by `OutOfMemory`. After a
+    /// refusal the symbolizer is as before.
     pub fn register_elf_resolver<F: Files>(
         &mut self,
         alloc: Global,
