@@ -84,11 +84,7 @@ fn cut_near(text: &[u8], place: usize) -> Option<usize>
         return None;
     }
     let cut = place + line_feeds(&text[place..]).trailing_zeros() as usize + 1;
-    if is_cut(text, cut) {
-        Some(cut)
-    } else {
-        None
-    }
+    if is_cut(text, cut) { Some(cut) } else { None }
 }
 
 /// Where the second line begins.

@@ -1,15 +1,15 @@
 -- Texts that are made before they are written.
-use Rattle.std.proofs.Common.{◌≡◌, ◌≢◌, ◌⊎◌, ◌+◌, ◌-◌, ◌<◌, ◌≤◌, ℕ, List, [], ◌++◌, length, take, drop, slice_get, slice_index_or, slice_range, string_bytes, Option, Some, None, IfSome, Result, Ok, Err, OnOk, Bor, refl, sym, ap, subst, inl, inr, length-append, ◌∙◌, arith}
-use Rattle.std.specs.List.{slice_set}
+use Rattle.std.proofs.Common.{◌≡◌, ◌≢◌, ◌⊎◌, ◌+◌, ◌-◌, ◌<◌, ◌≤◌, ℕ, List, [], ◌∷◌, ◌++◌, length, map, take, drop, slice_get, slice_index, slice_index_or, All, slice_range, string_bytes, Option, Some, None, IfSome, Result, Ok, Err, OnOk, Bor, refl, sym, ap, subst, inl, inr, length-append, length-drop, length-take, ◌∙◌, arith}
+use Rattle.std.specs.List.{AllByRecursion, slice_set}
 use Rattle.std.specs.Str.Pattern.{GetsRange}
 use Rattle.std.proofs.Math.Seq.{drop-append_seam, take-length}
 use Rattle.std.proofs.lemmas.Bool.{cases_lt}
 use Rattle.std.proofs.lemmas.Grind.{get_or-set_at}
-use Rattle.std.proofs.lemmas.List.{drop-append-le, get_or-set_other, length-drop, take-append-le}
+use Rattle.std.proofs.lemmas.List.{drop-append-le, get_or-drop, get_or-map, get_or-set_other, get_or-take, length-map, take-append-le}
 use Rattle.std.proofs.lemmas.Option.{get_or_from_slice_get}
 use Rattle.bz_base.specs.Answer.{Answer}
-use Rattle.bz_symbolize.specs.Batch.{Batch}
-use Rattle.symq.specs.Texts.{AreTexts, IsTextIn, IsTextOf}
+use Rattle.bz_symbolize.specs.Batch.{AreAnswersOf, Batch}
+use Rattle.symq.specs.Texts.{AreTexts, IsEntryAmong, IsTextIn, IsTextOf}
 use Rattle.symq.specs.declared.texts.TextPart.{TextPart}
 use Rattle.symq.specs.declared.texts.Texts.{Texts}
 
@@ -88,3 +88,31 @@ texts_more batch first index text more parts starts ends grows from before is ar
 pub answered : {A E P : Type 0} (result : Result A E) → P → OnOk result P
 answered (Ok given) holds = holds
 answered (Err e) holds = tt
+
+-- the address at a place of a part of the entries
+pub address_of : (order : List (ℕ × ℕ)) (from to place : ℕ) → from + place < to → to ≤ length order →
+    slice_index (map (λ (e : ℕ × ℕ). e.0) (slice_range order from to)) place ≡ (slice_index_or order (from + place) (0, 0)).0
+address_of order from to place before within =
+    let part = slice_range order from to in
+    let count : length part ≡ to - from = omega (arith, length-take (to - from) (drop from order), length-drop from order) in
+    get_or-map (λ (e : ℕ × ℕ). e.0) part place (0, 0) 0 (omega (arith, count))
+    ∙ ap (λ (e : ℕ × ℕ). e.0) (get_or-take (to - from) (drop from order) place (0, 0) (omega arith) ∙ get_or-drop from order place (0, 0))
+
+-- so many addresses are those of a part of the entries
+pub address_count : (order : List (ℕ × ℕ)) (from to : ℕ) → to ≤ length order → length (map (λ (e : ℕ × ℕ). e.0) (slice_range order from to)) ≡ to - from
+address_count order from to within =
+    length-map (slice_range order from to) (λ (e : ℕ × ℕ). e.0) ∙ omega (arith, length-take (to - from) (drop from order), length-drop from order)
+
+-- an answer at the address of an entry is that of the batch at its index
+pub answer_of : (batch : Batch) (first count : ℕ) (order : List (ℕ × ℕ)) (from to place : ℕ) (answers : List Answer) →
+    AreAnswersOf batch (map (λ (e : ℕ × ℕ). e.0) (slice_range order from to)) answers → All (IsEntryAmong batch first count) order → to ≤ length order → place < length answers →
+    slice_get batch.answers (slice_index_or order (from + place) (0, 0)).1 ≡ slice_get answers place
+answer_of batch first count order from to place answers are among within more =
+    let before : from + place < to = omega (arith, are.count, address_count order from to within) in
+    let entry = among (from + place) (0, 0) (omega arith) in
+    are.alike place (slice_index_or order (from + place) (0, 0)).1 (omega (arith, are.count)) entry.there (entry.addr ∙ sym (address_of order from to place before within))
+
+-- what holds of each and of one more holds of all
+pub all_and_one : {X : Type 0} (P : X → Type 0) (xs : List X) (x : X) → AllByRecursion P xs → P x → AllByRecursion P (xs ++ x ∷ [])
+all_and_one P [] x all one = (one, tt)
+all_and_one P (y ∷ ys) x all one = (all.0, all_and_one P ys x all.1 one)

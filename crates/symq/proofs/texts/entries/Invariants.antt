@@ -1,12 +1,12 @@
 use Rattle.std.proofs.Common.{◌≡◌, ◌+◌, ◌-◌, ◌≤◌, length}
 use Rattle.std.specs.List.{AllByRecursion}
-use Rattle.symq.specs.Texts.{IsAmong}
+use Rattle.symq.specs.Texts.{IsEntryAmong}
 use Rattle.symq.proofs.texts.entries.Given as goal
 
 -- the entries so far are among those up to the end
 abbrev pub invariant-loop-index : goal.invariant-loop-index
 invariant-loop-index l = record {
-  among : AllByRecursion (λ e. IsAmong l.lookups l.first (l.end - l.first) e.1) l.entries.items;
+  among : AllByRecursion (IsEntryAmong l.lookups l.first (l.end - l.first)) l.entries.items;
   count : length l.entries.items + l.first ≡ l.index;
   most : length l.entries.items ≤ l.end - l.first;
 }

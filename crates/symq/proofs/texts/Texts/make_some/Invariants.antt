@@ -1,0 +1,7 @@
+use Rattle.std.proofs.Common.{◌≡◌, length}
+use Rattle.symq.specs.Texts.{AreTexts, MakesMore}
+use Rattle.symq.proofs.texts.Texts.make_some.Given as goal
+
+-- texts more were made, of answers among the same ones
+abbrev pub invariant-loop-place : goal.invariant-loop-place
+invariant-loop-place l = MakesMore l.lookups l.fn.self l.self
