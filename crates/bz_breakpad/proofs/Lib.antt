@@ -27,6 +27,7 @@ pub mod RoleLaws
 pub mod Rows
 pub mod RunGrowLemmas
 pub mod RunLemmas
+pub mod RunStep
 pub mod Runs
 pub mod SeenLaws
 pub mod SortedLemmas

@@ -46,7 +46,7 @@ impl StartText {
     /// Whether the start is seen to be below another one: of texts of as many digits, the greater
     /// start has the greater bytes.
     #[inline(always)]
-    fn is_below(self, other: StartText) -> bool
+    pub(crate) fn is_below(self, other: StartText) -> bool
         ensures { result ≡ true → (start other_start : ℕ) → IsStartText start self → IsStartText other_start other → start < other_start }
     {
         self.digits == other.digits && self.key < other.key

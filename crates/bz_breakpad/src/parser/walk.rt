@@ -9,13 +9,17 @@ ghost use Rattle.bz_breakpad.specs.Refusal.{Refuses};
 ghost use Rattle.bz_breakpad.specs.Says.{module_of};
 ghost use Rattle.bz_breakpad.specs.Told.{context_told, record_told};
 ghost use Rattle.bz_breakpad.specs.Walk.{Context, context_after, free_after, text_at};
-ghost use Rattle.bz_breakpad.specs.Walk.Context.{Outside};
+ghost use Rattle.bz_breakpad.specs.Walk.Context.{InFunc, Outside};
 ghost use Rattle.bz_breakpad.specs.Walked.{IsLineAt, IsMidway, IsRefused, IsStep, IsWalked};
 
 use crate::parser::field::body;
+use crate::parser::lanes::Stops;
+use crate::parser::on_run::next_on_run;
 use crate::parser::plain::plain_line;
 use crate::parser::reading::KeptReading;
 use crate::parser::record::{Context, Range, RecordLine, TopLine, read_record};
+use crate::parser::standing::LinesSoFar;
+use crate::types::Part;
 use bz_base::{Error, Result, next_line};
 use std::alloc::Global;
 
@@ -50,7 +54,7 @@ impl Walk {
         }
     }
 
-    /// Reads the first line of the rest of a text, and returns the rest after it.
+    /// Reads the first line of the rest of a text, and maybe more, and returns the rest after them.
     #[inline(always)]
     pub(crate) fn next<'a>(&mut self, text: &[u8], rest: &'a [u8]) -> Result<&'a [u8]>
         requires midway { IsMidway text.now rest.now self.old }
@@ -65,8 +69,8 @@ impl Walk {
         self.general(text, rest)
     }
 
-    /// Reads the first line of the rest of a text, if it is a line record in its common form, and
-    /// returns the rest after it. None tells nothing.
+    /// Reads the first line of the rest of a text, if it is a line record in its common form, and those
+    /// that go on its run, and returns the rest after them. None tells nothing.
     #[inline(always)]
     fn plain<'a>(&mut self, text: &[u8], rest: &'a [u8]) -> Result<Option<&'a [u8]>>
         requires midway { IsMidway text.now rest.now self.old }
@@ -75,10 +79,10 @@ impl Walk {
         ensures none { IfOk result (λ found. IfNone found (IsMidway text.now rest.now self.new)) }
         ensures refusal { IfErr result (Refuses (reading_in text.now)) }
     {
-        if rest.len() < 32 || !matches!(self.context, Context::InFunc) {
+        if rest.len() < 64 || !matches!(self.context, Context::InFunc) {
             return Ok(None);
         }
-        let Some(line) = plain_line(rest) else {
+        let Some(line) = plain_line(rest, Stops::at_front(rest)) else {
             return Ok(None);
         };
         self.kept
@@ -86,7 +90,43 @@ impl Walk {
             .line(text, text.len() - rest.len(), line)?;
         self.free = false;
         self.count += 1;
-        Ok(Some(&rest[line.len..]))
+        Ok(Some(self.run_on(text, &rest[line.len..])))
+    }
+
+    /// Reads the line records in their common form that go on the run of the last one, and returns the
+    /// rest after them.
+    #[inline(always)]
+    fn run_on<'a>(&mut self, text: &[u8], rest: &'a [u8]) -> &'a [u8]
+        requires midway { IsMidway text.now rest.now self.old }
+        requires in_func { context_told self.old.context ≡ InFunc }
+        requires bound { self.old.free ≡ false }
+        ensures midway { IsMidway text.now result.now self.new }
+        ensures within { length result.now ≤ length rest.now }
+    {
+        let LinesSoFar::Run(run, start) = self.kept.functions.lines else {
+            return rest;
+        };
+        if run.to != text.len() - rest.len() {
+            return rest;
+        }
+        // In registers, and not in the walk, until the run is at its end.
+        let mut left = rest;
+        let mut stops = Stops::none();
+        let mut last = start;
+        let mut count = self.count;
+        while let Some(next) = next_on_run(left, stops, last) {
+            left = &left[next.len..];
+            stops = next.stops;
+            last = next.start;
+            count += 1;
+        }
+        let whole = Part {
+            from: run.from,
+            to: text.len() - left.len(),
+        };
+        self.kept.functions.lines = LinesSoFar::Run(whole, last);
+        self.count = count;
+        left
     }
 
     /// Reads the first line of the rest of a text, in any form, and returns the rest after it.

@@ -9,8 +9,8 @@ returns-clause-plain c =
     let second = c.in_ok-second.ensures in
     let third = c.in_ok-third.ensures in
     let fourth = c.in_ok-fourth.ensures in
-    let len_is : count_trailing_zeros 64 c.line_feeds-end.result + 1 ≡ c.in_ok-fourth.fourth + 1 = omega arith in
-    plain_by_ends c.args.text.now (record { len = count_trailing_zeros 64 c.line_feeds-end.result + 1; start = c.at_front.result })
+    let len_is : count_trailing_zeros 64 c.args.stops.end + 1 ≡ c.in_ok-fourth.fourth + 1 = omega arith in
+    plain_by_ends c.args.text.now (record { len = count_trailing_zeros 64 c.args.stops.end + 1; start = c.at_front.result })
     c.in_ok-first.first c.in_ok-second.second c.in_ok-third.third c.in_ok-fourth.fourth (omega arith) len_is c.at_front.ensures
     first.digits.0 first.digits.2 first.few (omega arith)
     second.digits.0 second.digits.2 (omega (arith, second.few)) (omega arith)
