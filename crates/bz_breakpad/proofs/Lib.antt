@@ -8,6 +8,8 @@ pub mod FoldLaws
 pub mod FormLaws
 pub mod FunctionLemmas
 pub mod GrammarLaws
+pub mod InlineLemmas
+pub mod InlineStep
 pub mod Kept
 pub mod KeptLemmas
 pub mod KeyLemmas

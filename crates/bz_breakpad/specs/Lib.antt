@@ -3,6 +3,7 @@ pub mod Choice
 pub mod Form
 pub mod FunctionKeys
 pub mod Grammar
+pub mod InlineLine
 pub mod Kept
 pub mod Lent
 pub mod Line

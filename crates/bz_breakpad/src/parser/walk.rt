@@ -17,7 +17,7 @@ use crate::parser::lanes::Stops;
 use crate::parser::on_run::next_on_run;
 use crate::parser::plain::plain_line;
 use crate::parser::reading::KeptReading;
-use crate::parser::record::{Context, Range, RecordLine, TopLine, read_record};
+use crate::parser::record::{Context, Range, RecordLine, TopLine, inline_line, read_record};
 use crate::parser::standing::LinesSoFar;
 use crate::types::Part;
 use bz_base::{Error, Result, next_line};
@@ -63,10 +63,36 @@ impl Walk {
         ensures shorter { IfOk result (λ after. length after.now < length rest.now) }
         ensures refusal { IfErr result (Refuses (reading_in text.now)) }
     {
-        if let Some(after) = self.plain(text, rest)? {
-            return Ok(after);
+        let found = if rest[0] == b'I' {
+            self.inline(text, rest)?
+        } else {
+            self.plain(text, rest)?
+        };
+        match found {
+            Some(after) => Ok(after),
+            None => self.general(text, rest),
         }
-        self.general(text, rest)
+    }
+
+    /// Reads the first line of the rest of a text, if it is an INLINE record of one range, and returns
+    /// the rest after it. None tells nothing.
+    fn inline<'a>(&mut self, text: &[u8], rest: &'a [u8]) -> Result<Option<&'a [u8]>>
+        requires midway { IsMidway text.now rest.now self.old }
+        ensures ok { IfOk result (λ found. IfSome found (λ after. IsMidway text.now after.now self.new)) }
+        ensures shorter { IfOk result (λ found. IfSome found (λ after. length after.now < length rest.now)) }
+        ensures none { IfOk result (λ found. IfNone found (IsMidway text.now rest.now self.new)) }
+        ensures refusal { IfErr result (Refuses (reading_in text.now)) }
+    {
+        if !matches!(self.context, Context::InFunc) {
+            return Ok(None);
+        }
+        let Some(line) = inline_line(rest) else {
+            return Ok(None);
+        };
+        self.kept.functions.inline(&line.call, &[line.range])?;
+        self.free = false;
+        self.count += 1;
+        Ok(Some(line.rest))
     }
 
     /// Reads the first line of the rest of a text, if it is a line record in its common form, and those
