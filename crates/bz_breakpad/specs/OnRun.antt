@@ -10,6 +10,7 @@ use Rattle.bz_breakpad.specs.declared.parser.standing.StartText.{StartText}
 pub record IsOnRun (text : List ℕ) (last : StartText) (next : RunLine) : Type 0 where
   pub plain : IsPlainLine text (record { len = next.len; start = Some next.start })
   pub above : (before start : ℕ) → IsStartText before last → IsStartText start next.start → before < start
+  pub digits : next.start.digits ≡ last.digits
   pub some : 0 < next.len
   pub within : next.len ≤ length text
   pub stops : AreStops (drop next.len text) next.stops

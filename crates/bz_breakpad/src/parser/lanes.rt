@@ -1,6 +1,6 @@
 //! Where the digits of fields and the lines end, by one load of 64 bytes.
 
-ghost use Rattle.std.specs.Prelude.{◌≡◌, ◌+◌, ◌==◌, ◌<◌, ◌≤◌, ℕ, List, not, length, map, take, drop, IfSome};
+ghost use Rattle.std.specs.Prelude.{◌≡◌, ◌+◌, ◌==◌, ◌<◌, ◌≤◌, true, ℕ, List, not, length, map, take, drop, IfSome};
 ghost use Rattle.bz_base.specs.Byte.{line_feed};
 ghost use Rattle.bz_base.specs.Number.{digits_len};
 ghost use Rattle.bz_breakpad.specs.Byte.{is_hex, is_decimal};
@@ -57,6 +57,16 @@ impl Stops {
             dec: self.dec >> len,
             end: self.end >> len,
         }
+    }
+
+    /// Whether so many hexadecimal digits stand at the front, and a shown byte ends them.
+    #[inline(always)]
+    pub(crate) fn has_hex(self, text: &[u8], digits: u32) -> bool
+        requires stops { AreStops text.now self }
+        requires few { digits < 64 }
+        ensures { result ≡ true → (digits < length text.now) × (digits_len 16 text.now ≡ digits) }
+    {
+        self.hex.trailing_zeros() == digits
     }
 
     /// Where the one to `most` hexadecimal digits from a place on end, if a shown byte ends them.

@@ -132,7 +132,8 @@ impl Walk {
         let LinesSoFar::Run(run, start) = self.kept.functions.lines else {
             return rest;
         };
-        if run.to != text.len() - rest.len() {
+        // Never so: the run ends here, and its last start has one to eight digits.
+        if run.to != text.len() - rest.len() || start.digits == 0 || start.digits > 8 {
             return rest;
         }
         // In registers, and not in the walk, until the run is at its end.

@@ -12,5 +12,7 @@ loop-next-preserved c =
     rw (take_rest left next.len) (record {
       midway = run_step c.args.text.now left c.args.self.now c.in-Run.run'.from at.count at.last next c.requires.in_func c.requires.bound on at.invariant.midway;
       stops = on.stops;
+      some = omega (arith, on.digits, at.invariant.some);
+      few = omega (arith, on.digits, at.invariant.few);
       within = omega (arith, at.invariant.within, length-drop next.len left);
     })

@@ -1,4 +1,4 @@
-use Rattle.std.proofs.Common.{◌-◌, ◌≤◌, length}
+use Rattle.std.proofs.Common.{◌-◌, ◌<◌, ◌≤◌, length}
 use Rattle.bz_breakpad.specs.Stops.{AreStops}
 use Rattle.bz_breakpad.specs.Walked.{IsMidway}
 use Rattle.bz_breakpad.proofs.RunStep.{running}
@@ -9,6 +9,8 @@ abbrev pub invariant-loop-next : goal.invariant-loop-next
 invariant-loop-next l = record {
   midway : IsMidway l.text l.left (running l.self l.run.from (length l.text - length l.left) l.last l.count);
   stops : AreStops l.left l.stops;
+  some : 0 < l.last.digits;
+  few : l.last.digits ≤ 8;
   within : length l.left ≤ length l.rest;
 }
 
