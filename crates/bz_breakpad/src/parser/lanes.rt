@@ -21,18 +21,6 @@ pub(crate) struct Stops {
 }
 
 impl Stops {
-    /// No byte is shown.
-    #[inline(always)]
-    pub(crate) fn none() -> Stops
-        ensures { (text : List ℕ) → AreStops text result }
-    {
-        Stops {
-            hex: 0,
-            dec: 0,
-            end: 0,
-        }
-    }
-
     /// The first 64 bytes.
     #[inline(always)]
     pub(crate) fn at_front(text: &[u8]) -> Stops

@@ -7,6 +7,7 @@ ghost use Rattle.bz_breakpad.specs.Byte.{is_nothing, is_white};
 ghost use Rattle.bz_breakpad.specs.Reader.{Reading, nothing_read, reading_in};
 ghost use Rattle.bz_breakpad.specs.Refusal.{Refuses};
 ghost use Rattle.bz_breakpad.specs.Says.{module_of};
+ghost use Rattle.bz_breakpad.specs.Stops.{AreStops};
 ghost use Rattle.bz_breakpad.specs.Told.{context_told, record_told};
 ghost use Rattle.bz_breakpad.specs.Walk.{Context, context_after, free_after, text_at};
 ghost use Rattle.bz_breakpad.specs.Walk.Context.{InFunc, Outside};
@@ -63,10 +64,10 @@ impl Walk {
         ensures shorter { IfOk result (λ after. length after.now < length rest.now) }
         ensures refusal { IfErr result (Refuses (reading_in text.now)) }
     {
-        let found = if rest[0] == b'I' {
-            self.inline(text, rest)?
-        } else {
-            self.plain(text, rest)?
+        let found = match rest {
+            [b'I', ..] => self.inline(text, rest)?,
+            [b'F', b'U', ..] => None,
+            _ => self.plain(text, rest)?,
         };
         match found {
             Some(after) => Ok(after),
@@ -108,7 +109,8 @@ impl Walk {
         if rest.len() < 64 || !matches!(self.context, Context::InFunc) {
             return Ok(None);
         }
-        let Some(line) = plain_line(rest, Stops::at_front(rest)) else {
+        let stops = Stops::at_front(rest);
+        let Some(line) = plain_line(rest, stops) else {
             return Ok(None);
         };
         self.kept
@@ -116,14 +118,19 @@ impl Walk {
             .line(text, text.len() - rest.len(), line)?;
         self.free = false;
         self.count += 1;
-        Ok(Some(self.run_on(text, &rest[line.len..])))
+        Ok(Some(self.run_on(
+            text,
+            &rest[line.len..],
+            stops.after(line.len),
+        )))
     }
 
-    /// Reads the line records in their common form that go on the run of the last one, and returns the
-    /// rest after them.
+    /// Reads the line records in their common form that go on the run of the last one, of which bytes
+    /// may be shown, and returns the rest after them.
     #[inline(always)]
-    fn run_on<'a>(&mut self, text: &[u8], rest: &'a [u8]) -> &'a [u8]
+    fn run_on<'a>(&mut self, text: &[u8], rest: &'a [u8], stops: Stops) -> &'a [u8]
         requires midway { IsMidway text.now rest.now self.old }
+        requires stops { AreStops rest.now stops }
         requires in_func { context_told self.old.context ≡ InFunc }
         requires bound { self.old.free ≡ false }
         ensures midway { IsMidway text.now result.now self.new }
@@ -138,7 +145,7 @@ impl Walk {
         }
         // In registers, and not in the walk, until the run is at its end.
         let mut left = rest;
-        let mut stops = Stops::none();
+        let mut stops = stops;
         let mut last = start;
         let mut count = self.count;
         while let Some(next) = next_on_run(left, stops, last) {

@@ -27,3 +27,7 @@ run_on-requires-clause-midway c =
       origins = so_far.origins;
       publics = so_far.publics;
     }))
+
+pub run_on-requires-clause-stops : goal.run_on-requires-clause-stops
+run_on-requires-clause-stops c =
+    rw (take_rest c.args.rest.now c.in-Some.line.len) (c.after.ensures c.args.rest.now c.at_front-stops.ensures)
