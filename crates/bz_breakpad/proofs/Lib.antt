@@ -19,6 +19,7 @@ pub mod ListingLemmas
 pub mod MidwayLemmas
 pub mod NameEnds
 pub mod NameLemmas
+pub mod NestedLemmas
 pub mod Pieces
 pub mod OrderLemmas
 pub mod PlaceLemmas
