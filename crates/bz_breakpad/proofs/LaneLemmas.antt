@@ -2,11 +2,12 @@
 use Rattle.std.proofs.Common.{◌≡◌, ℕ, zero, suc, ◌+◌, ◌-◌, ◌*◌, ◌/◌, ◌%◌, ◌^◌, ◌<◌, ◌≤◌, Bool, true, false, cond, not, List, [], ◌∷◌, map, length, take, drop, get_or, Fits, w8, refl, sym, ap, ap₂, ◌∙◌, arith, inl, inr}
 use Rattle.std.specs.List.{prefix_len}
 use Rattle.std.proofs.lemmas.Bool.{agree_below, agree_below_at, cases_eq, cond-false, ne_eqb}
-use Rattle.std.proofs.lemmas.List.{length-map, length-drop, length-take-le, take-append-drop, drop-take}
+use Rattle.std.proofs.lemmas.List.{length-map, length-drop, length-take-le, take-append-drop}
 use Rattle.std.proofs.lemmas.List.Folds.{prefix_len-append}
 use Rattle.std.proofs.lemmas.Nat.{shr-shr}
 use Rattle.std.proofs.lemmas.Simd.{map-map, mask_l-mod, trailing_mask_l}
 use Rattle.std.proofs.Math.Nat.{div-one, div-le_self}
+use Rattle.std.proofs.Math.Seq.{take-nil}
 use lib.Count.{count_trailing_zeros}
 use lib.Lanes.{mask_l, top}
 
@@ -20,14 +21,14 @@ same_bits g h agree (suc n) (b ∷ text) bytes =
     ap₂ (λ bit bits. bit ∷ bits) (agree_below_at g h 256 b agree (bytes 0)) (same_bits g h agree n text (λ k. bytes (suc k)))
 
 -- the top bits of lanes that are computed from the bytes are those of a test that agrees with them on each byte
-pub bits_are : (test : ℕ → Bool) (text lanes : List ℕ) → 32 ≤ length text → ((k : ℕ) → Fits w8 (get_or text k 0)) →
-    (lane : ℕ → ℕ) → lanes ≡ map lane (take 32 text) → agree_below (λ b. top 7 (lane b)) test 256 ≡ true →
-    mask_l (map (top 7) lanes) % 2 ^ 64 ≡ mask_l (map test (take 32 text))
-bits_are test text lanes room fits lane lanes_are agree =
-    let load = take 32 text in
+pub bits_are : (n : ℕ) (test : ℕ → Bool) (text lanes : List ℕ) → n ≤ 64 → n ≤ length text → ((k : ℕ) → Fits w8 (get_or text k 0)) →
+    (lane : ℕ → ℕ) → lanes ≡ map lane (take n text) → agree_below (λ b. top 7 (lane b)) test 256 ≡ true →
+    mask_l (map (top 7) lanes) % 2 ^ 64 ≡ mask_l (map test (take n text))
+bits_are n test text lanes few room fits lane lanes_are agree =
+    let load = take n text in
     ap (λ l. mask_l (map (top 7) l) % 2 ^ 64) lanes_are
-    ∙ ap (λ l. mask_l l % 2 ^ 64) (map-map (top 7) lane load ∙ same_bits (λ b. top 7 (lane b)) test agree 32 text (λ k. (fits k).fits))
-    ∙ mask_l-mod (map test load) 64 (omega (arith, length-map load test, length-take-le 32 text room))
+    ∙ ap (λ l. mask_l l % 2 ^ 64) (map-map (top 7) lane load ∙ same_bits (λ b. top 7 (lane b)) test agree n text (λ k. (fits k).fits))
+    ∙ mask_l-mod (map test load) 64 (omega (arith, few, length-map load test, length-take-le n text room))
 
 -- without its lowest bit
 half_of : (bit : Bool) (m : ℕ) → (cond bit 1 0 + 2 * m) / 2 ≡ m
@@ -35,7 +36,7 @@ half_of true m = omega arith
 half_of false m = omega arith
 
 -- the bits from a place on
-bits_from : (test : ℕ → Bool) (k : ℕ) (text : List ℕ) → mask_l (map test text) / 2 ^ k ≡ mask_l (map test (drop k text))
+pub bits_from : (test : ℕ → Bool) (k : ℕ) (text : List ℕ) → mask_l (map test text) / 2 ^ k ≡ mask_l (map test (drop k text))
 bits_from test zero text = div-one (mask_l (map test text))
 bits_from test (suc k) [] = omega (arith, div-le_self 0 (2 ^ suc k))
 bits_from test (suc k) (b ∷ text) =
@@ -69,26 +70,38 @@ run_ends p (b ∷ text) some = step (p b) (mask_l (map (λ c. not (p c)) text)) 
   step true m n l ends some = let below = ends (omega arith) in omega arith
   step false m n l ends some = omega arith
 
--- the bytes before the next bit are the run from a place on, and it ends within the load
-pub run_by_bits : (p : ℕ → Bool) (bits from : ℕ) (text : List ℕ) → 32 ≤ length text → from ≤ 32 → bits ≡ mask_l (map (λ b. not (p b)) (take 32 text)) →
+-- what is left of the front of a text is the front of what is left
+pub front_from : (from shown : ℕ) (text : List ℕ) → drop from (take shown text) ≡ take (shown - from) (drop from text)
+front_from zero shown text = let all : shown ≡ shown - 0 = omega arith in ap (λ n. take n text) all
+front_from (suc from) zero text = let none : 0 ≡ 0 - suc from = omega arith in ap (λ n. take n (drop (suc from) text)) none
+front_from (suc from) (suc shown) [] = sym (take-nil (suc shown - suc from))
+front_from (suc from) (suc shown) (b ∷ text) =
+    let less : shown - from ≡ suc shown - suc from = omega arith in
+    front_from from shown text ∙ ap (λ n. take n (drop from text)) less
+
+-- and so are the bits
+pub front_bits : (test : ℕ → Bool) (bits from shown : ℕ) (text : List ℕ) → bits ≡ mask_l (map test (take shown text)) →
+    bits / 2 ^ from ≡ mask_l (map test (take (shown - from) (drop from text)))
+front_bits test bits from shown text are =
+    ap (λ m. m / 2 ^ from) are ∙ bits_from test from (take shown text) ∙ ap (λ l. mask_l (map test l)) (front_from from shown text)
+
+-- the bytes before the next bit are the run from a place on, and a byte that is shown ends it
+pub run_by_bits : (p : ℕ → Bool) (bits from shown : ℕ) (text : List ℕ) → shown ≤ length text → shown ≤ 64 → bits ≡ mask_l (map (λ b. not (p b)) (take shown text)) →
     count_trailing_zeros 64 (bits / 2 ^ from) < 64 →
-    (from + count_trailing_zeros 64 (bits / 2 ^ from) < 32) × (prefix_len p (drop from text) ≡ count_trailing_zeros 64 (bits / 2 ^ from))
+    (from + count_trailing_zeros 64 (bits / 2 ^ from) < length text) × (prefix_len p (drop from text) ≡ count_trailing_zeros 64 (bits / 2 ^ from))
 unfolding count_trailing_zeros
-run_by_bits p bits from text room within load ends =
+run_by_bits p bits from shown text within few load ends =
     let fails : ℕ → Bool = λ b. not (p b) in
-    let n = 32 - from in
+    let n = shown - from in
     let tail = drop from text in
-    let long : length (take n tail) ≡ n = length-take-le n tail (omega (arith, length-drop from text)) in
-    let split : from + n ≡ 32 = omega arith in
-    let here : drop from (take 32 text) ≡ take n tail = ap (λ k. drop from (take k text)) (sym split) ∙ drop-take from n text in
-    let shifted = ap (λ m. m / 2 ^ from) load ∙ bits_from fails from (take 32 text) ∙ ap (λ l. mask_l (map fails l)) here in
-    let counted = ap (count_trailing_zeros 64) shifted in
+    let long : length (take n tail) ≡ n = length-take-le n tail (omega (arith, within, length-drop from text)) in
+    let counted = ap (count_trailing_zeros 64) (front_bits fails bits from shown text load) in
     elim (cases_eq (mask_l (map fails (take n tail))) 0) [
       | inl none ↦ absurd (let all : count_trailing_zeros 64 (bits / 2 ^ from) ≡ 64 = counted ∙ ap (count_trailing_zeros 64) none in omega arith)
       | inr some ↦
-          let run = counted ∙ trailing_mask_l fails 64 (take n tail) (omega (arith, long)) (omega arith) ∙ double_not p (take n tail) in
+          let run = counted ∙ trailing_mask_l fails 64 (take n tail) (omega (arith, few, long)) (omega arith) ∙ double_not p (take n tail) in
           let below = run_ends p (take n tail) (omega arith) in (
-            omega (arith, run, below, long),
-            run_in_front p n tail (omega (arith, length-drop from text)) (omega (arith, run, below, long)) ∙ sym run,
+            omega (arith, within, run, below, long),
+            run_in_front p n tail (omega (arith, within, length-drop from text)) (omega (arith, run, below, long)) ∙ sym run,
           )
     ]

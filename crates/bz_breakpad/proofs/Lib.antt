@@ -8,6 +8,8 @@ pub mod FoldLaws
 pub mod FormLaws
 pub mod FunctionLemmas
 pub mod GrammarLaws
+pub mod InlineLemmas
+pub mod InlineStep
 pub mod Kept
 pub mod KeptLemmas
 pub mod KeyLemmas
@@ -17,6 +19,7 @@ pub mod ListingLemmas
 pub mod MidwayLemmas
 pub mod NameEnds
 pub mod NameLemmas
+pub mod NestedLemmas
 pub mod Pieces
 pub mod OrderLemmas
 pub mod PlaceLemmas
@@ -27,6 +30,7 @@ pub mod RoleLaws
 pub mod Rows
 pub mod RunGrowLemmas
 pub mod RunLemmas
+pub mod RunStep
 pub mod Runs
 pub mod SeenLaws
 pub mod SortedLemmas

@@ -97,7 +97,7 @@ after_space : (f : Form) (text : List ℕ) (value : Value f) → Spells f text v
 after_space f text value is = beside Sep f (space ∷ []) text tt value (record { bytes = (refl, tt); passes = refl; tells = refl }) is
 
 -- a line without a carriage return is its body
-its_body : (line : List ℕ) → HasNo carriage_return line → body_at line ≡ Some line
+pub its_body : (line : List ℕ) → HasNo carriage_return line → body_at line ≡ Some line
 its_body line none = body_again line line (record { ends = []; whole = sym (append-nil line); body_is = passes line none; ends_are = tt }) where
   passes : (text : List ℕ) → HasNo carriage_return text → AllPass (λ b. not (ends_line b)) text
   passes [] none = tt

@@ -24,7 +24,7 @@ use Rattle.bz_breakpad.proofs.MidwayLemmas.{line_front_of, midway_on}
 use Rattle.bz_breakpad.proofs.StepLemmas.{record_read, step_read}
 
 -- a line without white space in front is its own text
-its_text : (free : Bool) (line : List ℕ) → begins_with is_white line ≡ false → text_at free line ≡ line
+pub its_text : (free : Bool) (line : List ℕ) → begins_with is_white line ≡ false → text_at free line ≡ line
 unfolding text_at
 its_text false line solid = refl
 its_text true [] solid = refl

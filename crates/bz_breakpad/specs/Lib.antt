@@ -3,12 +3,14 @@ pub mod Choice
 pub mod Form
 pub mod FunctionKeys
 pub mod Grammar
+pub mod InlineLine
 pub mod Kept
 pub mod Lent
 pub mod Line
 pub mod LineRun
 pub mod LineStarts
 pub mod Names
+pub mod OnRun
 pub mod Plain
 pub mod PlainLine
 pub mod Reader
@@ -18,6 +20,7 @@ pub mod Refusal
 pub mod Says
 pub mod Search
 pub mod Sorted
+pub mod Stops
 pub mod Table
 pub mod Told
 pub mod Version

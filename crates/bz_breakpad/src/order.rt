@@ -1,6 +1,6 @@
 //! Puts the line records and inlined calls of each function in the order in which they are searched.
 
-ghost use Rattle.std.specs.Prelude.{◌≡◌, ◌++◌, ℕ, List, length, slice_range, IfOk, OnOk};
+ghost use Rattle.std.specs.Prelude.{◌≡◌, ◌≤◌, ◌++◌, true, false, ℕ, List, length, slice_range, IfOk, OnOk};
 ghost use Rattle.std.specs.List.{AllByRecursion};
 ghost use Rattle.bz_base.specs.Nearest.{IsTable};
 ghost use Rattle.bz_breakpad.specs.Kept.{FunctionFits, FunctionsFit, IsPart, ReadsLine};
@@ -129,13 +129,42 @@ fn order_inlinees(
     ensures searched { IfOk result (AreInlineesSearched inlinees.now copies.new.items part) }
 {
     let standing = &inlinees[part.from..part.to];
-    if standing.len() < 2 {
+    if stand_nested(standing) {
         return Ok(None);
     }
     room.clear();
     room.extend_from_slice(standing)?;
     sort_nested(room)?;
     Ok(Some(copied(room, copies)?))
+}
+
+/// Whether none of the inlined calls lies before the one in front of it, by depth and start.
+fn stand_nested(calls: &[Inlinee]) -> bool
+    ensures { result ≡ true → IsTable (λ i. i.depth) (λ i. i.addr) calls.now calls.now }
+{
+    let mut depth = 0;
+    let mut addr = 0;
+    for call in calls {
+        if lies_before(call, depth, addr) {
+            return false;
+        }
+        depth = call.depth;
+        addr = call.addr;
+    }
+    true
+}
+
+/// Whether the inlined call lies before one of this depth and start.
+#[inline(always)]
+fn lies_before(call: &Inlinee, depth: u32, addr: u64) -> bool
+    ensures depth { result ≡ false → depth ≤ call.now.depth }
+    ensures start { result ≡ false → depth ≡ call.now.depth → addr ≤ call.now.addr }
+{
+    if call.depth == depth {
+        call.addr < addr
+    } else {
+        call.depth < depth
+    }
 }
 
 /// Adds records to the copies, and tells which part of them they are.

@@ -3,6 +3,7 @@
 pub(crate) mod field;
 pub(crate) mod functions;
 pub(crate) mod lanes;
+pub(crate) mod on_run;
 pub(crate) mod plain;
 pub(crate) mod reading;
 pub(crate) mod record;

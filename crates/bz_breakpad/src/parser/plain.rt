@@ -1,11 +1,16 @@
 //! Line records in their common form, by one load.
 
-ghost use Rattle.std.specs.Prelude.{◌≡◌, ◌<◌, ◌≤◌, ◌==◌, length, map, take, IfSome};
+ghost use Rattle.std.specs.Prelude.{◌≡◌, ◌<◌, ◌≤◌, ◌==◌, Option, length, map, take, IfSome};
+ghost use Rattle.std.specs.Str.Parse.{digits_value};
 ghost use Rattle.bz_base.specs.Byte.{line_feed};
+ghost use Rattle.bz_base.specs.Number.{digits_len};
+ghost use Rattle.bz_breakpad.specs.LineStarts.{IsStartText};
 ghost use Rattle.bz_breakpad.specs.PlainLine.{IsPlainLine};
+ghost use Rattle.bz_breakpad.specs.Stops.{AreStops};
+ghost use Rattle.bz_breakpad.specs.declared.parser.standing.StartText.{StartText};
 ghost use lib.Lanes.{mask_l};
 
-use crate::parser::lanes::{dec_end, dec_stops, hex_end, hex_stops};
+use crate::parser::lanes::Stops;
 use crate::parser::standing::StartText;
 use std::simd::prelude::*;
 
@@ -29,35 +34,51 @@ pub(crate) struct PlainLine {
     pub start: Option<StartText>,
 }
 
-/// The line record of single spaces and few digits at the front. None tells nothing.
+/// The line record of single spaces and few digits at the front, of which bytes are shown. None tells
+/// nothing.
 #[inline(always)]
-pub(crate) fn plain_line(text: &[u8]) -> Option<PlainLine>
-    requires { 32 ≤ length text.now }
+pub(crate) fn plain_line(text: &[u8], stops: Stops) -> Option<PlainLine>
+    requires { AreStops text.now stops }
     ensures plain { IfSome result (IsPlainLine text.now) }
-    ensures within { IfSome result (λ line. (0 < line.len) × (line.len ≤ 32)) }
+    ensures within { IfSome result (λ line. (0 < line.len) × (line.len < 64) × (line.len ≤ length text.now)) }
+{
+    let first = stops.hex_end(text, 0, 16)?;
+    let len = plain_len(text, stops, first)?;
+    Some(PlainLine {
+        len,
+        start: StartText::at_front(text, first),
+    })
+}
+
+/// The length, with its line feed, of the line record of single spaces and few digits at the front,
+/// whose start has so many digits. None tells nothing.
+#[inline(always)]
+pub(crate) fn plain_len(text: &[u8], stops: Stops, first: u32) -> Option<usize>
+    requires stops { AreStops text.now stops }
+    requires digits { digits_len 16 text.now ≡ first }
+    requires some { 0 < first }
+    requires few { first ≤ 16 }
+    requires within { first < length text.now }
+    ensures plain { IfSome result (λ len. (start : Option StartText) → IfSome start (IsStartText (digits_value 16 (take first text.now))) →
+        IsPlainLine text.now (record { len = len; start = start })) }
+    ensures within { IfSome result (λ len. (8 ≤ len) × (len < 64) × (len ≤ length text.now)) }
 {
     // The next line's place hangs on this alone, and not on the fields one after another.
-    let end = line_feeds(text).trailing_zeros();
-    let hex = hex_stops(text);
-    let dec = dec_stops(text);
-    let first = hex_end(text, hex, 0, 16)?;
+    let end = stops.end.trailing_zeros();
     if text[first as usize] != b' ' {
         return None;
     }
-    let second = hex_end(text, hex, first + 1, 8)?;
+    let second = stops.hex_end(text, first + 1, 8)?;
     if text[second as usize] != b' ' {
         return None;
     }
-    let third = dec_end(text, dec, second + 1, 9)?;
+    let third = stops.dec_end(text, second + 1, 9)?;
     if text[third as usize] != b' ' {
         return None;
     }
-    let fourth = dec_end(text, dec, third + 1, 9)?;
+    let fourth = stops.dec_end(text, third + 1, 9)?;
     if text[fourth as usize] != b'\n' || fourth != end {
         return None;
     }
-    Some(PlainLine {
-        len: end as usize + 1,
-        start: StartText::at_front(text, first),
-    })
+    Some(end as usize + 1)
 }

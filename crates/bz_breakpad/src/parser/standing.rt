@@ -31,22 +31,36 @@ impl StartText {
         ensures { IfSome result (IsStartText (digits_value 16 (take digits text.now))) }
     {
         if digits > 8 {
-            return None;
+            None
+        } else {
+            Some(StartText::of_front(text, digits))
         }
+    }
+
+    /// The text of so many digits at the front.
+    #[inline(always)]
+    pub(crate) fn of_front(text: &[u8], digits: u32) -> StartText
+        requires room { 8 ≤ length text.now }
+        requires some { 0 < digits }
+        requires few { digits ≤ 8 }
+        requires digits { digits_len 16 text.now ≡ digits }
+        ensures text { IsStartText (digits_value 16 (take digits text.now)) result }
+        ensures digits { result.digits ≡ digits }
+    {
         let bytes = u64::from_be_bytes([
             text[0], text[1], text[2], text[3], text[4], text[5], text[6], text[7],
         ]);
         let folded = bytes | 0x2020_2020_2020_2020;
-        Some(StartText {
+        StartText {
             digits,
             key: folded >> (64 - 8 * digits),
-        })
+        }
     }
 
     /// Whether the start is seen to be below another one: of texts of as many digits, the greater
     /// start has the greater bytes.
     #[inline(always)]
-    fn is_below(self, other: StartText) -> bool
+    pub(crate) fn is_below(self, other: StartText) -> bool
         ensures { result ≡ true → (start other_start : ℕ) → IsStartText start self → IsStartText other_start other → start < other_start }
     {
         self.digits == other.digits && self.key < other.key

@@ -7,15 +7,20 @@ ghost use Rattle.bz_breakpad.specs.Byte.{is_nothing, is_white};
 ghost use Rattle.bz_breakpad.specs.Reader.{Reading, nothing_read, reading_in};
 ghost use Rattle.bz_breakpad.specs.Refusal.{Refuses};
 ghost use Rattle.bz_breakpad.specs.Says.{module_of};
+ghost use Rattle.bz_breakpad.specs.Stops.{AreStops};
 ghost use Rattle.bz_breakpad.specs.Told.{context_told, record_told};
 ghost use Rattle.bz_breakpad.specs.Walk.{Context, context_after, free_after, text_at};
-ghost use Rattle.bz_breakpad.specs.Walk.Context.{Outside};
+ghost use Rattle.bz_breakpad.specs.Walk.Context.{InFunc, Outside};
 ghost use Rattle.bz_breakpad.specs.Walked.{IsLineAt, IsMidway, IsRefused, IsStep, IsWalked};
 
 use crate::parser::field::body;
+use crate::parser::lanes::Stops;
+use crate::parser::on_run::next_on_run;
 use crate::parser::plain::plain_line;
 use crate::parser::reading::KeptReading;
-use crate::parser::record::{Context, Range, RecordLine, TopLine, read_record};
+use crate::parser::record::{Context, Range, RecordLine, TopLine, inline_line, read_record};
+use crate::parser::standing::LinesSoFar;
+use crate::types::Part;
 use bz_base::{Error, Result, next_line};
 use std::alloc::Global;
 
@@ -50,7 +55,7 @@ impl Walk {
         }
     }
 
-    /// Reads the first line of the rest of a text, and returns the rest after it.
+    /// Reads the first line of the rest of a text, and maybe more, and returns the rest after them.
     #[inline(always)]
     pub(crate) fn next<'a>(&mut self, text: &[u8], rest: &'a [u8]) -> Result<&'a [u8]>
         requires midway { IsMidway text.now rest.now self.old }
@@ -59,14 +64,40 @@ impl Walk {
         ensures shorter { IfOk result (λ after. length after.now < length rest.now) }
         ensures refusal { IfErr result (Refuses (reading_in text.now)) }
     {
-        if let Some(after) = self.plain(text, rest)? {
-            return Ok(after);
+        let found = match rest {
+            [b'I', ..] => self.inline(text, rest)?,
+            [b'F', b'U', ..] => None,
+            _ => self.plain(text, rest)?,
+        };
+        match found {
+            Some(after) => Ok(after),
+            None => self.general(text, rest),
         }
-        self.general(text, rest)
     }
 
-    /// Reads the first line of the rest of a text, if it is a line record in its common form, and
-    /// returns the rest after it. None tells nothing.
+    /// Reads the first line of the rest of a text, if it is an INLINE record of one range, and returns
+    /// the rest after it. None tells nothing.
+    fn inline<'a>(&mut self, text: &[u8], rest: &'a [u8]) -> Result<Option<&'a [u8]>>
+        requires midway { IsMidway text.now rest.now self.old }
+        ensures ok { IfOk result (λ found. IfSome found (λ after. IsMidway text.now after.now self.new)) }
+        ensures shorter { IfOk result (λ found. IfSome found (λ after. length after.now < length rest.now)) }
+        ensures none { IfOk result (λ found. IfNone found (IsMidway text.now rest.now self.new)) }
+        ensures refusal { IfErr result (Refuses (reading_in text.now)) }
+    {
+        if !matches!(self.context, Context::InFunc) {
+            return Ok(None);
+        }
+        let Some(line) = inline_line(rest) else {
+            return Ok(None);
+        };
+        self.kept.functions.inline(&line.call, &[line.range])?;
+        self.free = false;
+        self.count += 1;
+        Ok(Some(line.rest))
+    }
+
+    /// Reads the first line of the rest of a text, if it is a line record in its common form, and those
+    /// that go on its run, and returns the rest after them. None tells nothing.
     #[inline(always)]
     fn plain<'a>(&mut self, text: &[u8], rest: &'a [u8]) -> Result<Option<&'a [u8]>>
         requires midway { IsMidway text.now rest.now self.old }
@@ -75,10 +106,11 @@ impl Walk {
         ensures none { IfOk result (λ found. IfNone found (IsMidway text.now rest.now self.new)) }
         ensures refusal { IfErr result (Refuses (reading_in text.now)) }
     {
-        if rest.len() < 32 || !matches!(self.context, Context::InFunc) {
+        if rest.len() < 64 || !matches!(self.context, Context::InFunc) {
             return Ok(None);
         }
-        let Some(line) = plain_line(rest) else {
+        let stops = Stops::at_front(rest);
+        let Some(line) = plain_line(rest, stops) else {
             return Ok(None);
         };
         self.kept
@@ -86,7 +118,49 @@ impl Walk {
             .line(text, text.len() - rest.len(), line)?;
         self.free = false;
         self.count += 1;
-        Ok(Some(&rest[line.len..]))
+        Ok(Some(self.run_on(
+            text,
+            &rest[line.len..],
+            stops.after(line.len),
+        )))
+    }
+
+    /// Reads the line records in their common form that go on the run of the last one, of which bytes
+    /// may be shown, and returns the rest after them.
+    #[inline(always)]
+    fn run_on<'a>(&mut self, text: &[u8], rest: &'a [u8], stops: Stops) -> &'a [u8]
+        requires midway { IsMidway text.now rest.now self.old }
+        requires stops { AreStops rest.now stops }
+        requires in_func { context_told self.old.context ≡ InFunc }
+        requires bound { self.old.free ≡ false }
+        ensures midway { IsMidway text.now result.now self.new }
+        ensures within { length result.now ≤ length rest.now }
+    {
+        let LinesSoFar::Run(run, start) = self.kept.functions.lines else {
+            return rest;
+        };
+        // Never so: the run ends here, and its last start has one to eight digits.
+        if run.to != text.len() - rest.len() || start.digits == 0 || start.digits > 8 {
+            return rest;
+        }
+        // In registers, and not in the walk, until the run is at its end.
+        let mut left = rest;
+        let mut stops = stops;
+        let mut last = start;
+        let mut count = self.count;
+        while let Some(next) = next_on_run(left, stops, last) {
+            left = &left[next.len..];
+            stops = next.stops;
+            last = next.start;
+            count += 1;
+        }
+        let whole = Part {
+            from: run.from,
+            to: text.len() - left.len(),
+        };
+        self.kept.functions.lines = LinesSoFar::Run(whole, last);
+        self.count = count;
+        left
     }
 
     /// Reads the first line of the rest of a text, in any form, and returns the rest after it.

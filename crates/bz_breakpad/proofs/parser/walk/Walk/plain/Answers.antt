@@ -7,8 +7,8 @@ use Rattle.bz_breakpad.proofs.PlainStep.{plain_on}
 use Rattle.bz_breakpad.proofs.parser.walk.Walk.plain.Goals as goal
 use Rattle.bz_breakpad.proofs.parser.walk.Walk.plain.Goals.{in-InFunc, in_default}
 
-pub returns-clause-ok : goal.returns-clause-ok
-returns-clause-ok c =
+pub run_on-requires-clause-midway : goal.run_on-requires-clause-midway
+run_on-requires-clause-midway c =
     let m = c.requires.midway in
     let bytes = c.args.text.now in
     let rest = c.args.rest.now in
@@ -27,3 +27,7 @@ returns-clause-ok c =
       origins = so_far.origins;
       publics = so_far.publics;
     }))
+
+pub run_on-requires-clause-stops : goal.run_on-requires-clause-stops
+run_on-requires-clause-stops c =
+    rw (take_rest c.args.rest.now c.in-Some.line.len) (c.after.ensures c.args.rest.now c.at_front-stops.ensures)

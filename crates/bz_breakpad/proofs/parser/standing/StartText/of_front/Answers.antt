@@ -1,9 +1,9 @@
 use Rattle.std.proofs.Common.{ℕ, ◌<◌, get_or, arith, ◌∙◌}
 use Rattle.bz_breakpad.proofs.StartLemmas.{loaded, text_is}
-use Rattle.bz_breakpad.proofs.parser.standing.StartText.at_front.Goals as goal
+use Rattle.bz_breakpad.proofs.parser.standing.StartText.of_front.Goals as goal
 
-pub returns : goal.returns
-returns c =
+pub returns-clause-text : goal.returns-clause-text
+returns-clause-text c =
     let text = c.args.text.now in
     let room = c.requires.room in
     let small : (k : ℕ) → get_or text k 0 < 256 = λ k. (c.type_inv.text k).fits in

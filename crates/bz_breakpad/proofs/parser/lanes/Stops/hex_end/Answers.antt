@@ -1,9 +1,10 @@
 use Rattle.std.proofs.Common.{arith}
 use Rattle.bz_breakpad.specs.Byte.{is_hex}
 use Rattle.bz_breakpad.proofs.LaneLemmas.{run_by_bits}
-use Rattle.bz_breakpad.proofs.parser.lanes.hex_end.Goals as goal
+use Rattle.bz_breakpad.proofs.parser.lanes.Stops.hex_end.Goals as goal
 
 pub returns-else-count-most-clause-digits : goal.returns-else-count-most-clause-digits
 returns-else-count-most-clause-digits c =
-    let run = run_by_bits is_hex c.args.stops c.args.from c.args.text.now c.requires.room c.requires.within c.requires.load (omega arith) in
+    let are = c.requires.stops in
+    let run = run_by_bits is_hex c.args.self.hex c.args.from are.shown c.args.text.now are.within are.few are.hex (omega arith) in
     (omega arith, omega (arith, run.0), omega (arith, run.1))
