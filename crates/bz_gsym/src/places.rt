@@ -9,6 +9,8 @@ ghost use Rattle.bz_gsym.specs.JoiningSeen.{IsLentPlaced, placed_seen, told_seen
 ghost use Rattle.bz_gsym.specs.Plain.{placed_of};
 ghost use Rattle.bz_gsym.specs.Refusal.{Refuses, WantsMemory};
 ghost use Rattle.bz_gsym.specs.Seen.{frame_seen, frames_seen, info_seen};
+ghost use Rattle.bz_gsym.specs.Strings.{string_at};
+ghost use Rattle.bz_gsym.specs.Tables.{strings};
 
 use crate::entries::{Told, told_of};
 use crate::linetab::LineTableRow;
@@ -48,17 +50,19 @@ pub(crate) fn placed_of<'a>(
         return Err(Error::InvalidData);
     };
     let told = told_of(alloc, opts, start, addr, info.bytes)?;
-    placed_by(context, alloc, name, &told)
+    placed_by(context, alloc, info.name, name, &told)
 }
 
 /// The name and the place by what is told of the address. Without a line nothing is known beside the
-/// symbol's own name.
+/// symbol's own name, which stands at a place of the string table.
 fn placed_by<'a>(
     context: &GsymContext<'a>,
     alloc: Global,
+    own: u32,
     name: &'a str,
     told: &Told,
 ) -> Result<Placed<'a>>
+    requires { string_at (strings context.now) own ≡ Some name.now }
     ensures ok { IfOk result (λ placed. placed_by context.now name.now (told_seen told.now).row (told_seen told.now).frames ≡ Some (placed_seen placed)) }
     ensures lent { IfOk result IsLentPlaced }
     ensures refusal { IfErr result (Refuses (placed_by context.now name.now (told_seen told.now).row (told_seen told.now).frames)) }
@@ -74,10 +78,22 @@ fn placed_by<'a>(
     let Some((first, calls)) = told.frames.split_first() else {
         return seen_from(context, alloc, name, row, &[]);
     };
-    let Some(name) = context.get_str(first.name as usize) else {
+    let Some(name) = name_at(context, own, name, first.name) else {
         return Err(Error::InvalidData);
     };
     seen_from(context, alloc, name, row, calls)
+}
+
+/// The name at a place of the string table, where one is known. Mostly it is that one.
+#[inline(always)]
+fn name_at<'a>(context: &GsymContext<'a>, known: u32, name: &'a str, place: u32) -> Option<&'a str>
+    requires { string_at (strings context.now) known ≡ Some name.now }
+    ensures { option_map (λ text. text.now) result ≡ string_at (strings context.now) place }
+{
+    if place == known {
+        return Some(name);
+    }
+    context.get_str(place as usize)
 }
 
 /// The code of a line, seen from outside the calls around it.
