@@ -15,6 +15,7 @@ pub mod LineTableLaws
 pub mod LineTableLemmas
 pub mod NumberLemmas
 pub mod PlainTextLemmas
+pub mod ShortLemmas
 pub mod StartLemmas
 pub mod SymbolLemmas
 pub mod TableLemmas

@@ -4,6 +4,7 @@ ghost use Rattle.std.specs.Prelude.{◌≡◌, ◌+◌, ◌<◌, ◌/◌, ◌%�
 ghost use Rattle.bz_base.specs.Cursor.{with_rest};
 ghost use Rattle.bz_gsym.specs.LineTable.{first_state, header_at, line_in, low_half, operated, operator_at, picked, special, states, wrapped};
 
+use crate::short::{read_sleb, read_uleb};
 use bz_base::{Addr, Cursor};
 
 /// The operator that ends the table.
@@ -63,7 +64,7 @@ impl LineTableHeader {
     {
         let min_delta = cursor.read_sleb()?;
         let max_delta = cursor.read_sleb()?;
-        let first_line = cursor.read_uleb()?;
+        let first_line = read_uleb(cursor)?;
         Some(LineTableHeader {
             min_delta,
             max_delta,
@@ -122,15 +123,15 @@ fn operated(
     match operator {
         END_SEQUENCE => Some((RunResult::End, row)),
         SET_FILE => {
-            let file_idx = low_half(ops.read_uleb()?);
+            let file_idx = low_half(read_uleb(ops)?);
             Some((RunResult::Ok, LineTableRow { file_idx, ..row }))
         }
         ADVANCE_PC => {
-            let addr = row.addr.wrapping_add(ops.read_uleb()?);
+            let addr = row.addr.wrapping_add(read_uleb(ops)?);
             Some((RunResult::NewRow, LineTableRow { addr, ..row }))
         }
         ADVANCE_LINE => {
-            let file_line = low_sum(row.file_line, ops.read_sleb()?);
+            let file_line = low_sum(row.file_line, read_sleb(ops)?);
             Some((RunResult::Ok, LineTableRow { file_line, ..row }))
         }
         _ => {

@@ -26,6 +26,8 @@ pub(crate) fn text_at(table: &[u8], place: usize) -> Option<&str>
 }
 
 /// The string in front of the bytes.
+#[cold]
+#[inline(never)]
 fn checked_text(bytes: &[u8]) -> Option<&str>
     ensures { option_map (λ text. text.now) result ≡ string_at bytes.now 0 }
 {
