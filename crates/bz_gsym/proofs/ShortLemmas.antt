@@ -1,55 +1,104 @@
--- LEB128 numbers of two bytes.
-use Rattle.std.proofs.Common.{◌≡◌, ℕ, ℤ, pos, ◌+◌, ◌*◌, ◌%◌, ◌^◌, ◌<◌, ◌≤◌, ◌-ℤ◌, to_z, of_z, List, [], ◌∷◌, length, drop, Option, Some, refl, ap, ◌∙◌, arith}
+-- LEB128 numbers of one or two bytes.
+use Rattle.std.proofs.Common.{◌≡◌, ℕ, zero, suc, ℤ, pos, ◌*ℤ◌, ◌+◌, ◌*◌, ◌/◌, ◌%◌, ◌^◌, ◌<◌, ◌≤◌, ◌-ℤ◌, to_z, of_z, List, [], ◌∷◌, length, drop, Option, Some, min, refl, ap, ◌∙◌, arith, inl, inr}
 use Rattle.std.specs.List.{slice_index}
 use Rattle.std.specs.Int.{w64}
 use Rattle.std.specs.Option.{option_and_then}
+use Rattle.std.proofs.lemmas.Bool.{cases_eq, lt-ltb, le-ltb, le-leb}
 use Rattle.std.proofs.lemmas.Int.{ints}
-use Rattle.std.proofs.lemmas.Bool.{lt-ltb, le-ltb, le-leb}
+use Rattle.std.proofs.lemmas.List.{length-take-le}
 use Rattle.bz_base.specs.Cursor.{with_rest}
 use Rattle.bz_base.specs.Leb128.{low_bits, leb_at, signed, unsigned, uleb_at, sleb_at}
+use Rattle.bz_gsym.specs.Short.{IsShort}
 
--- what is read of two bytes is what their bits are
-module _ (b d : ℕ) (bytes : List ℕ) (marked : 128 ≤ b) (low : d < 128) where
-  read_two : {A : Type 0} (value : ℕ → ℕ → Option A) →
-      option_and_then (λ cut. with_rest (value (length cut.0) (low_bits cut.0)) cut.1) (leb_at (b ∷ d ∷ bytes)) ≡ with_rest (value 2 (b % 128 + 128 * d)) bytes
-  read_two value =
-      let bits : b % 128 + 128 * (d % 128 + 128 * 0) ≡ b % 128 + 128 * d = omega arith in
-      rw (le-ltb b 128 marked, lt-ltb d 128 low, bits) refl
+-- which number lies in front of two bytes that aren't both marked
+module _ (b d : ℕ) (bytes : List ℕ) where
+  one_byte : b < 128 → IsShort (b ∷ d ∷ bytes) b 0
+  one_byte low = record {
+    few = omega arith;
+    within = omega arith;
+    number = rw (lt-ltb b 128 low) refl;
+    bits_are = omega arith;
+    small = omega arith;
+  }
 
-  unsigned_bits : unsigned 2 (b % 128 + 128 * d) ≡ Some (b % 128 + 128 * d)
-  unsigned_bits = rw (lt-ltb (b % 128 + 128 * d) (2 ^ 64) (omega arith)) refl
+  two_bytes : 128 ≤ b → d < 128 → IsShort (b ∷ d ∷ bytes) (b % 128 + 128 * d) 1
+  two_bytes marked low = record {
+    few = omega arith;
+    within = omega arith;
+    number = rw (le-ltb b 128 marked, lt-ltb d 128 low) refl;
+    bits_are = omega arith;
+    small = omega arith;
+  }
 
-  positive_bits : b % 128 + 128 * d < 8192 → signed 2 (b % 128 + 128 * d) ≡ Some (pos (b % 128 + 128 * d))
-  positive_bits upper = rw (lt-ltb (2 * (b % 128 + 128 * d)) 16384 (omega arith), lt-ltb (b % 128 + 128 * d) (2 ^ 63) (omega arith)) refl
+pub short_is : (bytes : List ℕ) (bits marked : ℕ) → 2 ≤ length bytes → slice_index bytes 0 < 256 → min (slice_index bytes 0) (slice_index bytes 1) < 128 →
+    marked ≡ slice_index bytes 0 / 128 → bits ≡ slice_index bytes 0 % 128 + marked * 128 * slice_index bytes 1 → IsShort bytes bits marked
+short_is [] bits marked some fits unmarked count sum = absurd (omega arith)
+short_is (b ∷ []) bits marked some fits unmarked count sum = absurd (omega arith)
+short_is (b ∷ d ∷ bytes) bits marked some fits unmarked count sum =
+    elim (cases_eq (b / 128) 0) [
+      | inl none ↦
+          let marked_is : marked ≡ 0 = omega (arith, count, none) in
+          let bits_is : bits ≡ b = omega (arith, sum, rw marked_is at sum) in
+          rw (marked_is, bits_is) (one_byte b d bytes (omega arith))
+      | inr two ↦
+          let marked_is : marked ≡ 1 = omega (arith, count) in
+          let bits_is : bits ≡ b % 128 + 128 * d = omega (arith, rw marked_is at sum) in
+          rw (marked_is, bits_is) (two_bytes b d bytes (omega arith) (omega arith))
+    ]
 
-  negative_bits : 8192 ≤ b % 128 + 128 * d → signed 2 (b % 128 + 128 * d) ≡ Some (pos (b % 128 + 128 * d) -ℤ pos 16384)
-  negative_bits upper = rw (le-ltb (2 * (b % 128 + 128 * d)) 16384 (omega arith), le-leb 16384 (b % 128 + 128 * d + 2 ^ 63) (omega arith)) refl
+-- what the upper half of the numbers begins at
+pub weight : (marked : ℕ) → marked ≤ 1 → 128 ^ (1 + marked) ≡ 2 * (64 + 8128 * marked)
+weight zero few = refl
+weight (suc zero) few = refl
+weight (suc (suc more)) few = absurd (omega arith)
 
--- the number that two bytes in front have
-abbrev pub two : List ℕ → ℕ
-two bytes = slice_index bytes 0 % 128 + 128 * slice_index bytes 1
+-- what is read of such a number
+module _ (bytes : List ℕ) (bits marked : ℕ) (is : IsShort bytes bits marked) where
+  read_short : {A : Type 0} (value : ℕ → ℕ → Option A) →
+      option_and_then (λ cut. with_rest (value (length cut.0) (low_bits cut.0)) cut.1) (leb_at bytes) ≡ with_rest (value (1 + marked) bits) (drop (1 + marked) bytes)
+  read_short value =
+      rw is.number (rw (length-take-le (1 + marked) bytes (omega (arith, is.within)), is.bits_are) refl)
 
-pub two_unsigned : (bytes : List ℕ) → 2 ≤ length bytes → 128 ≤ slice_index bytes 0 → slice_index bytes 1 < 128 → uleb_at bytes ≡ Some (two bytes, drop 2 bytes)
-unfolding uleb_at
-two_unsigned [] some marked low = absurd (omega arith)
-two_unsigned (b ∷ []) some marked low = absurd (omega arith)
-two_unsigned (b ∷ d ∷ bytes) some marked low = read_two b d bytes marked low unsigned ∙ ap (λ v. with_rest v bytes) (unsigned_bits b d bytes marked low)
+  pub bits_small : bits < 16384
+  bits_small = omega (arith, is.small, is.few, weight marked is.few)
 
-pub two_positive : (bytes : List ℕ) → 2 ≤ length bytes → 128 ≤ slice_index bytes 0 → slice_index bytes 1 < 128 → two bytes < 8192 → sleb_at bytes ≡ Some (pos (two bytes), drop 2 bytes)
-unfolding sleb_at
-two_positive [] some marked low upper = absurd (omega arith)
-two_positive (b ∷ []) some marked low upper = absurd (omega arith)
-two_positive (b ∷ d ∷ bytes) some marked low upper = read_two b d bytes marked low signed ∙ ap (λ v. with_rest v bytes) (positive_bits b d bytes marked low upper)
+  unsigned_bits : unsigned (1 + marked) bits ≡ Some bits
+  unsigned_bits = rw (le-leb (1 + marked) 10 (omega (arith, is.few)), lt-ltb bits (2 ^ 64) (omega (arith, bits_small))) refl
 
-pub two_negative : (bytes : List ℕ) → 2 ≤ length bytes → 128 ≤ slice_index bytes 0 → slice_index bytes 1 < 128 → 8192 ≤ two bytes → sleb_at bytes ≡ Some (pos (two bytes) -ℤ pos 16384, drop 2 bytes)
-unfolding sleb_at
-two_negative [] some marked low upper = absurd (omega arith)
-two_negative (b ∷ []) some marked low upper = absurd (omega arith)
-two_negative (b ∷ d ∷ bytes) some marked low upper = read_two b d bytes marked low signed ∙ ap (λ v. with_rest v bytes) (negative_bits b d bytes marked low upper)
+  positive_bits : bits < 64 + 8128 * marked → signed (1 + marked) bits ≡ Some (pos bits)
+  positive_bits upper =
+      rw (
+        le-leb (1 + marked) 10 (omega (arith, is.few)),
+        weight marked is.few,
+        lt-ltb (2 * bits) (2 * (64 + 8128 * marked)) (omega arith),
+        lt-ltb bits (2 ^ 63) (omega (arith, bits_small)),
+      ) refl
 
--- such a number as a signed one, and that less 16384
+  negative_bits : 64 + 8128 * marked ≤ bits → signed (1 + marked) bits ≡ Some (pos bits -ℤ pos (2 * (64 + 8128 * marked)))
+  negative_bits upper =
+      rw (
+        le-leb (1 + marked) 10 (omega (arith, is.few)),
+        weight marked is.few,
+        le-ltb (2 * bits) (2 * (64 + 8128 * marked)) (omega arith),
+        le-leb (2 * (64 + 8128 * marked)) (bits + 2 ^ 63) (omega (arith, is.few)),
+      ) refl
+
+  pub unsigned_short : uleb_at bytes ≡ Some (bits, drop (1 + marked) bytes)
+  unfolding uleb_at
+  unsigned_short = read_short unsigned ∙ ap (λ v. with_rest v (drop (1 + marked) bytes)) unsigned_bits
+
+  pub positive_short : bits < 64 + 8128 * marked → sleb_at bytes ≡ Some (pos bits, drop (1 + marked) bytes)
+  unfolding sleb_at
+  positive_short upper = read_short signed ∙ ap (λ v. with_rest v (drop (1 + marked) bytes)) (positive_bits upper)
+
+  pub negative_short : 64 + 8128 * marked ≤ bits → sleb_at bytes ≡ Some (pos bits -ℤ pos (2 * (64 + 8128 * marked)), drop (1 + marked) bytes)
+  unfolding sleb_at
+  negative_short upper = read_short signed ∙ ap (λ v. with_rest v (drop (1 + marked) bytes)) (negative_bits upper)
+
+-- such a number as a signed one, and that less twice the half
 pub same_signed : (z : ℤ) (n : ℕ) → z ≡ pos n → n < 65536 → to_z w64 (of_z w64 z) ≡ pos n
 same_signed z n is low = omega (arith, ints)
 
-pub less_signed : (z : ℤ) (n : ℕ) → z ≡ pos n → n < 65536 → to_z w64 (of_z w64 (to_z w64 (of_z w64 z) -ℤ pos 16384)) ≡ pos n -ℤ pos 16384
-less_signed z n is low = omega (arith, ints)
+pub less_signed : (z y : ℤ) (n half : ℕ) → z ≡ pos n → n < 65536 → y ≡ pos half → half < 65536 →
+    to_z w64 (of_z w64 (to_z w64 (of_z w64 z) -ℤ to_z w64 (of_z w64 (pos 2 *ℤ to_z w64 (of_z w64 y))))) ≡ pos n -ℤ pos (2 * half)
+less_signed z y n half is low half_is half_low = omega (arith, ints)

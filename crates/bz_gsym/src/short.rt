@@ -1,8 +1,9 @@
-//! LEB128 numbers, of which those of two bytes are read at once.
+//! LEB128 numbers, of which those of one or two bytes are read without a branch between the two.
 
-ghost use Rattle.std.specs.Prelude.{◌≡◌, ◌<◌, ◌≤◌, drop, length, Some, IfNone, IfSome};
+ghost use Rattle.std.specs.Prelude.{◌≡◌, ◌+◌, ◌<◌, ◌≤◌, drop, length, Some, IfNone, IfSome};
 ghost use Rattle.bz_base.specs.Cursor.{with_rest};
 ghost use Rattle.bz_base.specs.Leb128.{sleb_at, uleb_at};
+ghost use Rattle.bz_gsym.specs.Short.{IsShort};
 
 use bz_base::Cursor;
 
@@ -15,9 +16,9 @@ pub(crate) fn read_uleb(cursor: &mut Cursor<'_>) -> Option<u64>
     ensures shorter { IfSome result (λ _. length cursor.new.left < length cursor.old.left) }
     ensures none { IfNone result (cursor.new ≡ cursor.old) }
 {
-    match two_unsigned(cursor.rest()) {
-        Some(number) => {
-            pass_two(cursor);
+    match short_unsigned(cursor.rest()) {
+        Some((number, len)) => {
+            pass(cursor, len);
             Some(number)
         }
         None => cursor.read_uleb(),
@@ -33,51 +34,78 @@ pub(crate) fn read_sleb(cursor: &mut Cursor<'_>) -> Option<i64>
     ensures shorter { IfSome result (λ _. length cursor.new.left < length cursor.old.left) }
     ensures none { IfNone result (cursor.new ≡ cursor.old) }
 {
-    match two_signed(cursor.rest()) {
-        Some(number) => {
-            pass_two(cursor);
+    match short_signed(cursor.rest()) {
+        Some((number, len)) => {
+            pass(cursor, len);
             Some(number)
         }
         None => cursor.read_sleb(),
     }
 }
 
-/// Leaves two bytes behind.
+/// Leaves so many bytes behind.
 #[tactic(auto, unfolding(bz_base::specs::Cursor::slice_at))]
 #[inline(always)]
-fn pass_two(cursor: &mut Cursor<'_>)
-    requires { 2 ≤ length cursor.old.left }
-    ensures left { cursor.new.left ≡ drop 2 cursor.old.left }
+fn pass(cursor: &mut Cursor<'_>, len: usize)
+    requires { len ≤ length cursor.old.left }
+    ensures left { cursor.new.left ≡ drop len cursor.old.left }
     ensures all { cursor.new.all ≡ cursor.old.all }
 {
-    let _two = cursor.read_slice(2).unwrap();
+    let _passed = cursor.read_slice(len).unwrap();
 }
 
-/// The unsigned number in front of the bytes, if it has two bytes.
-#[inline(always)]
-fn two_unsigned(bytes: &[u8]) -> Option<u64>
-    ensures reads { IfSome result (λ number. uleb_at bytes.now ≡ Some (number, drop 2 bytes.now)) }
-    ensures within { IfSome result (λ _. 2 ≤ length bytes.now) }
-{
-    if bytes.len() < 2 || bytes[0] < 128 || bytes[1] >= 128 {
-        return None;
-    }
-    Some(u64::from(bytes[0] % 128) + 128 * u64::from(bytes[1]))
+/// The bits of a number of one or two bytes.
+#[derive(Drop)]
+struct Short {
+    /// The bits, the least first.
+    bits: u16,
+    /// How many bytes there are before the last: 0 or 1.
+    marked: u8,
 }
 
-/// The signed number in front of the bytes, if it has two bytes.
+/// The unsigned number in front of the bytes and its length, if that is one or two bytes.
 #[inline(always)]
-fn two_signed(bytes: &[u8]) -> Option<i64>
-    ensures reads { IfSome result (λ number. sleb_at bytes.now ≡ Some (number, drop 2 bytes.now)) }
-    ensures within { IfSome result (λ _. 2 ≤ length bytes.now) }
+fn short_unsigned(bytes: &[u8]) -> Option<(u64, usize)>
+    ensures reads { IfSome result (λ read. uleb_at bytes.now ≡ Some (read.0, drop read.1 bytes.now)) }
+    ensures within { IfSome result (λ read. (0 < read.1) × (read.1 ≤ length bytes.now)) }
 {
-    if bytes.len() < 2 || bytes[0] < 128 || bytes[1] >= 128 {
-        return None;
-    }
-    let bits = u16::from(bytes[0] % 128) + 128 * u16::from(bytes[1]);
-    if bits < 8192 {
-        Some(i64::from(bits))
+    let short = front_bits(bytes)?;
+    Some((u64::from(short.bits), 1 + usize::from(short.marked)))
+}
+
+/// The signed number in front of the bytes and its length, if that is one or two bytes.
+#[inline(always)]
+fn short_signed(bytes: &[u8]) -> Option<(i64, usize)>
+    ensures reads { IfSome result (λ read. sleb_at bytes.now ≡ Some (read.0, drop read.1 bytes.now)) }
+    ensures within { IfSome result (λ read. (0 < read.1) × (read.1 ≤ length bytes.now)) }
+{
+    let short = front_bits(bytes)?;
+    let len = 1 + usize::from(short.marked);
+    // The number is negative from this one on.
+    let half = 64 + 8128 * u16::from(short.marked);
+    if short.bits < half {
+        Some((i64::from(short.bits), len))
     } else {
-        Some(i64::from(bits) - 16384)
+        Some((i64::from(short.bits) - 2 * i64::from(half), len))
     }
+}
+
+/// The bits of the number in front of the bytes, if it has one or two bytes.
+#[inline(always)]
+fn front_bits(bytes: &[u8]) -> Option<Short>
+    ensures { IfSome result (λ short. IsShort bytes.now short.bits short.marked) }
+{
+    if bytes.len() < 2 {
+        return None;
+    }
+    let first = bytes[0];
+    let second = bytes[1];
+    if first.min(second) >= 128 {
+        return None;
+    }
+    let marked = first / 128;
+    Some(Short {
+        bits: u16::from(first % 128) + u16::from(marked) * 128 * u16::from(second),
+        marked,
+    })
 }
