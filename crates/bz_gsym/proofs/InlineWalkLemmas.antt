@@ -52,31 +52,42 @@ module _ (addr base : ℕ) (bytes after : List ℕ) where
 pub root-missing : (addr base : ℕ) (bytes : List ℕ) → visit_at addr (Read base) bytes ≡ None → frames_at addr base bytes ≡ None
 root-missing addr base bytes is = frames_at-step addr base bytes ∙ ap (λ o. o >>= walked_root addr) is
 
--- the innermost siblings stand last in the list of the code
-innermost : (xs : List Level) (x : Level) → reverse (xs ++ x ∷ []) ≡ x ∷ reverse xs
+-- where the root has no children, its frame is the whole
+pub root-alone : (addr base : ℕ) (bytes after : List ℕ) (found : Visit) → visit_at addr (Read base) bytes ≡ Some (Some found, after) → found.inside ≡ None →
+    frames_at addr base bytes ≡ Some (with_frame found.frame [])
+root-alone addr base bytes after found is alone =
+    root-node addr base bytes after found is ∙ ap (λ inside. after_front (with_frame found.frame []) (open_frames addr (opened inside []) after)) alone
+    ∙ ap (λ frames. Some frames) (append-nil (with_frame found.frame []))
+
+-- the innermost of the outer siblings stand last in the list of the code
+pub innermost : (xs : List Level) (x : Level) → reverse (xs ++ x ∷ []) ≡ x ∷ reverse xs
 innermost xs x = reverse-append xs (x ∷ [])
 
--- a turn of the loop, which takes the innermost siblings off the list
-module _ (addr : ℕ) (level : Level) (all before : List Level) (front : List Frame) (bytes after : List ℕ) (whole : Option (List Frame))
-    (last : all ≡ before ++ level ∷ []) (kept : after_front front (open_frames addr (reverse all) bytes) ≡ whole) where
-  taken : after_front front (open_frames addr (level ∷ reverse before) bytes) ≡ whole
-  taken = ap (λ levels. after_front front (open_frames addr levels bytes)) (sym (ap reverse last ∙ innermost before level)) ∙ kept
+pub no_outer : (xs : List Level) → length xs ≡ 0 → reverse xs ≡ []
+no_outer [] none = refl
+no_outer (x ∷ xs) none = absurd (omega arith)
 
-  pub turn-node : (found : Visit) (put new : List Level) (more : List Frame) →
-      visit_at addr level bytes ≡ Some (Some found, after) →
-      put ≡ before ++ level ∷ [] →
-      reverse new ≡ opened found.inside (reverse put) →
-      more ≡ front ++ with_frame found.frame [] →
-      after_front more (open_frames addr (reverse new) after) ≡ whole
-  turn-node found put new more is back inside grown =
-      rw (grown, inside, back, innermost before level)
-      (sym (walk-node addr level (reverse before) front bytes after found is) ∙ taken)
-
-  pub turn-end : visit_at addr level bytes ≡ Some (None, after) → after_front front (open_frames addr (reverse before) after) ≡ whole
-  turn-end is = sym (walk-end addr level (reverse before) front bytes after is) ∙ taken
-
+-- a turn of the loop
+module _ (addr : ℕ) (level : Level) (outer : List Level) (front : List Frame) (bytes : List ℕ) (whole : Option (List Frame))
+    (kept : after_front front (open_frames addr (level ∷ outer) bytes) ≡ whole) where
   pub turn-missing : visit_at addr level bytes ≡ None → whole ≡ None
-  turn-missing is = sym taken ∙ walk-missing addr level (reverse before) front bytes is
+  turn-missing is = sym kept ∙ walk-missing addr level outer front bytes is
+
+  module _ (after : List ℕ) where
+    pub turn-node : (found : Visit) (next : Level) (around : List Level) (more : List Frame) → visit_at addr level bytes ≡ Some (Some found, after) →
+        next ∷ around ≡ opened found.inside (level ∷ outer) → more ≡ front ++ with_frame found.frame [] →
+        after_front more (open_frames addr (next ∷ around) after) ≡ whole
+    turn-node found next around more is inside grown =
+        ap (λ levels. after_front more (open_frames addr levels after)) inside
+        ∙ rw grown (sym (walk-node addr level outer front bytes after found is) ∙ kept)
+
+    -- after the end of siblings those around them go on
+    pub turn-end : visit_at addr level bytes ≡ Some (None, after) → (levels : List Level) → outer ≡ levels → after_front front (open_frames addr levels after) ≡ whole
+    turn-end is levels same = ap (λ levels. after_front front (open_frames addr levels after)) (sym same) ∙ sym (walk-end addr level outer front bytes after is) ∙ kept
+
+    -- if there are none, the frames so far are the whole
+    pub turn-over : visit_at addr level bytes ≡ Some (None, after) → outer ≡ [] → whole ≡ Some front
+    turn-over is none = sym (turn-end is [] none) ∙ ap (λ frames. Some frames) (append-nil front)
 
 -- a node or an end takes at least one byte
 visit_next-rest : (addr : ℕ) (level : Level) (head : Option Head × List ℕ) (x : Option Visit × List ℕ) → visit_next addr level head ≡ Some x → length head.1 ≡ length x.1

@@ -14,6 +14,8 @@ pub mod JoiningLemmas
 pub mod LineTableLaws
 pub mod LineTableLemmas
 pub mod NumberLemmas
+pub mod PlainTextLemmas
+pub mod ShortLemmas
 pub mod StartLemmas
 pub mod SymbolLemmas
 pub mod TableLemmas

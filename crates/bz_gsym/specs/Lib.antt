@@ -14,6 +14,7 @@ pub mod Plain
 pub mod Refusal
 pub mod Resolver
 pub mod Seen
+pub mod Short
 pub mod Strings
 pub mod Tables
 pub mod Version

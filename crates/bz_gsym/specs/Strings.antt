@@ -1,11 +1,16 @@
 -- The strings of a GSYM file: texts that end in a zero byte, named by their places in the string table.
-use Rattle.std.specs.Prelude.{◌≡◌, ℕ, ◌==◌, Bool, if◌then◌else◌, List, ◌∷◌, ◌++◌, length, drop, Option, Some, None, option_and_then}
+use Rattle.std.specs.Prelude.{◌≡◌, ℕ, ◌==◌, ◌&&◌, nat_lt, Bool, if◌then◌else◌, List, ◌∷◌, ◌++◌, length, drop, Option, Some, None, option_and_then}
+use Rattle.std.specs.Char.{is_ascii}
 use Rattle.std.specs.List.{list_any, before_first}
 use Rattle.std.specs.Str.{IsUtf8, is_utf8}
 use Rattle.bz_base.specs.Byte.{HasNo, zero_byte}
 
 abbrev pub is_zero : ℕ → Bool
 is_zero byte = byte == zero_byte
+
+-- a byte of a text in ASCII
+abbrev pub is_plain : ℕ → Bool
+is_plain byte = nat_lt zero_byte byte && is_ascii byte
 
 -- the bytes before the first zero byte; none where no zero byte stands
 abbrev pub before_zero : List ℕ → Option (List ℕ)

@@ -1,6 +1,6 @@
 //! The walk over an inline tree.
 
-ghost use Rattle.std.specs.Prelude.{◌≡◌, ◌<◌, ◌++◌, [], Some, None, if◌then◌else◌, length, reverse, option_map, IfSome, IfNone, IfOk, IfErr, OnOk, IsOkUnless};
+ghost use Rattle.std.specs.Prelude.{◌≡◌, ◌<◌, ◌++◌, ◌∷◌, [], Some, None, if◌then◌else◌, length, reverse, option_map, IfSome, IfNone, IfOk, IfErr, OnOk, IsOkUnless};
 ghost use Rattle.bz_base.specs.declared.error.Error.{Error};
 ghost use Rattle.bz_gsym.specs.InlineRanges.{read_at};
 ghost use Rattle.bz_gsym.specs.InlineReader.{frames_at};
@@ -28,6 +28,7 @@ impl InlineInfo {
     /// with all nodes around them, outermost first. The root's offsets count from `base_addr`, the symbol's address.
     /// InvalidData: the tree isn't whole, or a node that is read has a range past 64 bits or a call file past 32 bits; the
     /// nodes that are read are the root and the children of those that have the address inside.
+    #[inline(never)]
     pub fn parse_inline_stack(
         alloc: Global,
         bytes: &[u8],
@@ -42,37 +43,59 @@ impl InlineInfo {
         let Some(root) = visit(&mut cursor, Level::Read(base_addr), lookup_addr) else {
             return Err(Error::InvalidData);
         };
-        let mut nodes = Vec::new(alloc);
         let Some(found) = root else {
             return Ok(frames);
         };
-        keep(&mut frames, &mut nodes, found)?;
-        while let Some(level) = nodes.pop() {
+        keep_frame(&mut frames, found.frame)?;
+        let Some(mut level) = found.inside else {
+            return Ok(frames);
+        };
+        let mut outer = Vec::new(alloc);
+        loop {
             let Some(next) = visit(&mut cursor, level, lookup_addr) else {
                 return Err(Error::InvalidData);
             };
-            let Some(found) = next else {
-                continue;
-            };
-            nodes.push(level)?;
-            keep(&mut frames, &mut nodes, found)?;
+            if let Some(found) = next {
+                level = keep(&mut frames, &mut outer, level, found)?;
+            } else {
+                let Some(around) = outer.pop() else {
+                    return Ok(frames);
+                };
+                level = around;
+            }
         }
-        Ok(frames)
     }
 }
 
-/// Keeps what a node gave.
+/// Keeps what a node among these siblings gave. What is taken next: its children, if it has some, and
+/// else its further siblings.
 #[inline(always)]
-fn keep(frames: &mut Vec<InlineFrame>, nodes: &mut Vec<Level>, found: Visit) -> Result<()>
+fn keep(
+    frames: &mut Vec<InlineFrame>,
+    outer: &mut Vec<Level>,
+    siblings: Level,
+    found: Visit,
+) -> Result<Level>
     ensures frames { OnOk result (frames_seen frames.new.items ≡ frames_seen frames.old.items ++ with_frame (option_map frame_seen found.frame) []) }
-    ensures nodes { OnOk result (reverse nodes.new.items ≡ opened found.inside (reverse nodes.old.items)) }
+    ensures outer { IfOk result (λ next. next ∷ reverse outer.new.items ≡ opened found.inside (siblings ∷ reverse outer.old.items)) }
     ensures memory { IsOkUnless result Error.OutOfMemory }
 {
-    if let Some(frame) = found.frame {
+    keep_frame(frames, found.frame)?;
+    let Some(children) = found.inside else {
+        return Ok(siblings);
+    };
+    outer.push(siblings)?;
+    Ok(children)
+}
+
+/// Keeps a node's frame, if it has one.
+#[inline(always)]
+fn keep_frame(frames: &mut Vec<InlineFrame>, frame: Option<InlineFrame>) -> Result<()>
+    ensures frames { OnOk result (frames_seen frames.new.items ≡ frames_seen frames.old.items ++ with_frame (option_map frame_seen frame) []) }
+    ensures memory { IsOkUnless result Error.OutOfMemory }
+{
+    if let Some(frame) = frame {
         frames.push(frame)?;
-    }
-    if let Some(inner) = found.inside {
-        nodes.push(inner)?;
     }
     Ok(())
 }

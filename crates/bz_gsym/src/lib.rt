@@ -8,6 +8,7 @@ mod linetab;
 mod parser;
 mod places;
 mod resolver;
+mod short;
 mod symbol;
 mod table;
 #[cfg(test)]

@@ -12,6 +12,7 @@ mod data;
 mod head;
 mod number;
 mod starts;
+mod text;
 
 use crate::types::{AddrInfo, FileInfo, Header};
 use bz_base::{Addr, Result};
@@ -21,6 +22,7 @@ use head::{data_table, file_count_place};
 use number::u32_at;
 use starts::{find_start, is_address_size, start_at};
 use std::marker::Model;
+use text::text_at;
 
 /// A GSYM file, of which each table is read where it lies. Contracts see the file's bytes.
 #[derive(Drop)]
@@ -161,18 +163,4 @@ fn info(bytes: &[u8], place: usize) -> Option<AddrInfo<'_>>
         name: u32_at(bytes, place + 4),
         bytes: &bytes[place + 8..],
     })
-}
-
-/// The string at a place of a string table.
-fn text_at(table: &[u8], place: usize) -> Option<&str>
-    ensures { option_map (λ text. text.now) result ≡ string_at table.now place }
-{
-    if place > table.len() {
-        return None;
-    }
-    let text = number::text_before_zero(&table[place..])?;
-    match std::str::from_utf8(text) {
-        Ok(text) => Some(text),
-        Err(_) => None,
-    }
 }

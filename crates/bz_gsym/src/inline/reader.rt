@@ -6,6 +6,7 @@ ghost use Rattle.bz_gsym.specs.InlineReader.{range_at, tail_at};
 ghost use Rattle.bz_gsym.specs.InlineSeen.{span_seen, tail_seen};
 
 use super::node::{Span, Tail};
+use crate::short::read_uleb;
 use bz_base::Cursor;
 
 /// A range: its offset and its size.
@@ -15,8 +16,8 @@ fn range(cursor: &mut Cursor<'_>) -> Option<(u64, u64)>
     ensures some { IfSome result (λ range. range_at cursor.old.left ≡ Some (range, cursor.new.left)) }
     ensures none { IfNone result (range_at cursor.old.left ≡ None) }
 {
-    let offset = cursor.read_uleb()?;
-    let size = cursor.read_uleb()?;
+    let offset = read_uleb(cursor)?;
+    let size = read_uleb(cursor)?;
     Some((offset, size))
 }
 
@@ -74,8 +75,8 @@ pub(crate) fn tail(cursor: &mut Cursor<'_>) -> Option<Tail>
 {
     let flag = cursor.read_u8()?;
     let name = cursor.read_u32()?;
-    let call_file = cursor.read_uleb()?;
-    let call_line = cursor.read_uleb()?;
+    let call_file = read_uleb(cursor)?;
+    let call_line = read_uleb(cursor)?;
     Some(Tail {
         has_children: flag != 0,
         name,

@@ -1,8 +1,8 @@
-use Rattle.std.proofs.Common.{sym}
+use Rattle.std.proofs.Common.{ap, sym, ◌∙◌, reverse, arith}
 use Rattle.bz_gsym.specs.InlineSeen.{visit_seen}
 use Rattle.bz_gsym.specs.Seen.{frames_seen}
 use Rattle.bz_gsym.specs.InlineReader.{frames_at}
-use Rattle.bz_gsym.proofs.InlineWalkLemmas.{root-node, root-end, root-missing, turn-node, turn-end, turn-missing, visit_at-shorter}
+use Rattle.bz_gsym.proofs.InlineWalkLemmas.{innermost, no_outer, root-alone, root-end, root-missing, root-node, turn-end, turn-missing, turn-node, turn-over, visit_at-shorter}
 use Rattle.bz_gsym.proofs.inline.InlineInfo.parse_inline_stack.Goals as goal
 
 pub returns-in_default-clause-refusal : goal.returns-in_default-clause-refusal
@@ -14,33 +14,49 @@ returns-in_default-root-clause-ok c =
     let is = rw (c.new-cursor.ensures.left, c.in_default-root.is) at c.in-Some.ensures.some in
     rw c.new-frames.ensures.items (root-end c.args.lookup_addr c.args.base_addr c.args.bytes.now c.visit.new.cursor.left is)
 
-pub loop-level-init : goal.loop-level-init
-loop-level-init c =
+pub returns-in_default-inside-clause-ok : goal.returns-in_default-inside-clause-ok
+returns-in_default-inside-clause-ok c =
     let is = rw (c.new-cursor.ensures.left, c.in-Some-root.is) at c.in-Some.ensures.some in
-    rw (c.in_ok-keep.ensures.frames, c.in_ok-keep.ensures.nodes, c.new-frames.ensures.items, c.new-nodes.ensures.items)
-    (sym (root-node c.args.lookup_addr c.args.base_addr c.args.bytes.now c.visit.new.cursor.left (visit_seen c.in-Some-root.found) is))
+    rw (c.in_ok-keep_frame.ensures.frames, c.new-frames.ensures.items)
+    (root-alone c.args.lookup_addr c.args.base_addr c.args.bytes.now c.visit.new.cursor.left (visit_seen c.in-Some-root.found) is c.in_default-inside.is)
+
+pub loop-next-init : goal.loop-next-init
+loop-next-init c =
+    let is = rw (c.new-cursor.ensures.left, c.in-Some-root.is) at c.in-Some.ensures.some in
+    rw (c.in_ok-keep_frame.ensures.frames, c.new-frames.ensures.items, c.new-outer.ensures.items)
+    (sym (rw c.in-Some-inside.is at (root-node c.args.lookup_addr c.args.base_addr c.args.bytes.now c.visit.new.cursor.left (visit_seen c.in-Some-root.found) is)))
 
 pub returns-in_default-visit-clause-refusal : goal.returns-in_default-visit-clause-refusal
 returns-in_default-visit-clause-refusal c =
-    turn-missing c.args.lookup_addr c.in-Some-pop.level c.loop-level.nodes.items c.pop.new.self.items (frames_seen c.loop-level.frames.items) c.loop-level.cursor.left c.loop-level.cursor.left
-    (frames_at c.args.lookup_addr c.args.base_addr c.args.bytes.now) c.in-Some-pop.ensures.items c.loop-level.invariant c.in_default-visit.ensures.none
+    let so_far = c.loop-next in
+    turn-missing c.args.lookup_addr so_far.level (reverse so_far.outer.items) (frames_seen so_far.frames.items) so_far.cursor.left
+    (frames_at c.args.lookup_addr c.args.base_addr c.args.bytes.now) so_far.invariant c.in_default-visit.ensures.none
 
-pub loop-level-preserved : goal.loop-level-preserved
-loop-level-preserved c =
+pub loop-next-preserved-in-Some-next : goal.loop-next-preserved-in-Some-next
+loop-next-preserved-in-Some-next c =
+    let so_far = c.loop-next in
     let is = rw c.in-Some-next.is at c.in-Some-visit.ensures.some in
-    turn-node c.args.lookup_addr c.in-Some-pop.level c.loop-level.nodes.items c.pop.new.self.items (frames_seen c.loop-level.frames.items) c.loop-level.cursor.left c.visit-in-Some-pop.new.cursor.left
-    (frames_at c.args.lookup_addr c.args.base_addr c.args.bytes.now) c.in-Some-pop.ensures.items c.loop-level.invariant
-    (visit_seen c.in-Some-next.found) c.push.new.self.items c.keep-in-Some-pop.new.nodes.items (frames_seen c.keep-in-Some-pop.new.frames.items)
-    is c.in_ok-push.ensures.items c.in_ok-keep-2.ensures.nodes c.in_ok-keep-2.ensures.frames
+    turn-node c.args.lookup_addr so_far.level (reverse so_far.outer.items) (frames_seen so_far.frames.items) so_far.cursor.left
+    (frames_at c.args.lookup_addr c.args.base_addr c.args.bytes.now) so_far.invariant c.visit-in-loop-next.new.cursor.left
+    (visit_seen c.in-Some-next.found) c.in_ok-level.level (reverse c.keep.new.outer.items) (frames_seen c.keep.new.frames.items) is c.in_ok-level.ensures.outer c.in_ok-level.ensures.frames
 
-pub loop-level-preserved-in_default-next : goal.loop-level-preserved-in_default-next
-loop-level-preserved-in_default-next c =
+pub returns-in_default-pop-clause-ok : goal.returns-in_default-pop-clause-ok
+returns-in_default-pop-clause-ok c =
+    let so_far = c.loop-next in
     let is = rw c.in_default-next.is at c.in-Some-visit.ensures.some in
-    turn-end c.args.lookup_addr c.in-Some-pop.level c.loop-level.nodes.items c.pop.new.self.items (frames_seen c.loop-level.frames.items) c.loop-level.cursor.left c.visit-in-Some-pop.new.cursor.left
-    (frames_at c.args.lookup_addr c.args.base_addr c.args.bytes.now) c.in-Some-pop.ensures.items c.loop-level.invariant is
+    turn-over c.args.lookup_addr so_far.level (reverse so_far.outer.items) (frames_seen so_far.frames.items) so_far.cursor.left
+    (frames_at c.args.lookup_addr c.args.base_addr c.args.bytes.now) so_far.invariant c.visit-in-loop-next.new.cursor.left is (no_outer so_far.outer.items (omega (arith, so_far.outer.ok, c.in_default-pop.ensures.cases.0)))
 
-pub loop-level-smaller : goal.loop-level-smaller
-loop-level-smaller c = visit_at-shorter c.args.lookup_addr c.in-Some-pop.level c.loop-level.cursor.left _ c.in-Some-visit.ensures.some
+pub loop-next-preserved : goal.loop-next-preserved
+loop-next-preserved c =
+    let so_far = c.loop-next in
+    let is = rw c.in_default-next.is at c.in-Some-visit.ensures.some in
+    turn-end c.args.lookup_addr so_far.level (reverse so_far.outer.items) (frames_seen so_far.frames.items) so_far.cursor.left
+    (frames_at c.args.lookup_addr c.args.base_addr c.args.bytes.now) so_far.invariant c.visit-in-loop-next.new.cursor.left is _
+    (ap reverse c.in-Some-pop.ensures.items ∙ innermost c.pop.new.self.items c.in-Some-pop.around)
 
-pub loop-level-smaller-in_default-next : goal.loop-level-smaller-in_default-next
-loop-level-smaller-in_default-next c = visit_at-shorter c.args.lookup_addr c.in-Some-pop.level c.loop-level.cursor.left _ c.in-Some-visit.ensures.some
+pub loop-next-smaller : goal.loop-next-smaller
+loop-next-smaller c = visit_at-shorter c.args.lookup_addr c.loop-next.level c.loop-next.cursor.left _ c.in-Some-visit.ensures.some
+
+pub loop-next-smaller-in-Some-next : goal.loop-next-smaller-in-Some-next
+loop-next-smaller-in-Some-next c = visit_at-shorter c.args.lookup_addr c.loop-next.level c.loop-next.cursor.left _ c.in-Some-visit.ensures.some

@@ -1,14 +1,14 @@
-use Rattle.std.proofs.Common.{◌≡◌, length, reverse}
+use Rattle.std.proofs.Common.{◌≡◌, ◌∷◌, length, reverse}
 use Rattle.bz_gsym.specs.Seen.{frames_seen}
 use Rattle.bz_gsym.specs.InlineReader.{frames_at}
 use Rattle.bz_gsym.specs.InlineWalk.{open_frames, after_front}
 use Rattle.bz_gsym.proofs.inline.InlineInfo.parse_inline_stack.Given as goal
 
 -- the frames so far, and those of what is left, are those of the whole
-abbrev pub invariant-loop-level : goal.invariant-loop-level
-invariant-loop-level l =
-    after_front (frames_seen l.frames.items) (open_frames l.lookup_addr (reverse l.nodes.items) l.cursor.left)
+abbrev pub invariant-loop-next : goal.invariant-loop-next
+invariant-loop-next l =
+    after_front (frames_seen l.frames.items) (open_frames l.lookup_addr (l.level ∷ reverse l.outer.items) l.cursor.left)
     ≡ frames_at l.lookup_addr l.base_addr l.bytes
 
-abbrev pub decreases-loop-level : goal.decreases-loop-level
-decreases-loop-level l = length l.cursor.left
+abbrev pub decreases-loop-next : goal.decreases-loop-next
+decreases-loop-next l = length l.cursor.left
