@@ -25,7 +25,7 @@ pub enum ErrorKind {
     InvalidData,
     /// A table of mappings without an entry. It isn't given yet.
     UnexpectedEof,
-    /// There is a version already. It isn't given yet.
+    /// There is a version already, where one was to be taken in.
     AlreadyExists,
     /// Looking at a file failed: its count of faults rose.
     ReadFault,
@@ -48,7 +48,7 @@ pub enum Error {
     InvalidData,
     /// A table of mappings without an entry. It isn't given yet.
     UnexpectedEof,
-    /// There is a version already. It isn't given yet.
+    /// There is a version already, where one was to be taken in.
     AlreadyExists,
     /// Looking at a file failed: its count of faults rose.
     ReadFault,
