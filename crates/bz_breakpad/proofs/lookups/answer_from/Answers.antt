@@ -1,4 +1,4 @@
-use Rattle.std.proofs.Common.{Some, Ok, sym, ap, ◌∙◌, arith}
+use Rattle.std.proofs.Common.{Some, None, Ok, sym, ap, ◌∙◌, arith}
 use Rattle.std.proofs.lemmas.Bool.{eqb-false}
 use Rattle.bz_base.specs.Answer.Answer.{Known}
 use Rattle.bz_breakpad.specs.Lent.{function_seen}
@@ -16,3 +16,9 @@ returns-in-Ok-clause-answer c table stands =
     (c.in-Some.ensures.answers bytes table.functions stands.functions)
     ∙ ap (by_place table f c.args.addr) (c.in-Ok.ensures.placed table stands)
     ∙ ap (λ s. Ok (Known s)) (sym (c.symbol.ensures.symbol table (sym stands.module_is)))
+
+pub returns-in-None-clause-answer : goal.returns-in-None-clause-answer
+returns-in-None-clause-answer c table stands =
+    plain-some table c.args.opts.now c.args.addr None
+    (omega (arith, stands.count, c.args.kept.now.code.functions.ok.0, eqb-false _ 0 (sym c.is_empty.ensures ∙ c.if-is_empty.false)))
+    (c.in-None.ensures.answers c.args.bytes.now table.functions stands.functions)
