@@ -1,5 +1,5 @@
 -- The keys by which functions are put in order: a key has a function's start and size, and the function's index.
-use Rattle.std.specs.Prelude.{◌≡◌, ℕ, ◌<◌, List, length, map, None, slice_index_or}
+use Rattle.std.specs.Prelude.{◌≡◌, ◌<◌, List, length, map, None, slice_index_or}
 use Rattle.std.specs.List.{AllByRecursion}
 use Rattle.bz_base.specs.Nearest.{IsTable}
 use Rattle.bz_breakpad.specs.declared.types.FunctionKey.{FunctionKey}

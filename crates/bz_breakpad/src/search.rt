@@ -9,7 +9,6 @@ ghost use Rattle.bz_breakpad.specs.Lent.{lent_function};
 ghost use Rattle.bz_breakpad.specs.Plain.{function_at};
 ghost use Rattle.bz_breakpad.specs.Search.{IsFunction};
 ghost use Rattle.bz_breakpad.specs.Sorted.{starts_of};
-ghost use Rattle.bz_breakpad.specs.Table.{Function};
 
 use crate::types::{FunctionKey, FunctionTable, Inlinee, KeptFunction};
 use bz_base::{Nested, Spanned, covering_at};
@@ -59,8 +58,7 @@ pub(crate) fn function_at(
 ) -> Option<&KeptFunction>
     requires found { IsFound (starts_of code.now) addr place }
     requires keys { AreSortedKeys code.now.functions.items code.now.keys.items }
-    ensures answers { (bytes : List ℕ) (list : List Function) → kept_functions bytes code.now ≡ list →
-        lent_function bytes code.now result ≡ function_at addr list }
+    ensures answers { (bytes : List ℕ) → lent_function bytes code.now result ≡ function_at addr (kept_functions bytes code.now) }
     ensures below { IfSome result (λ f. f.now.start ≤ addr) }
     ensures function { (bytes : List ℕ) → AllByRecursion (IsFunction bytes code.now) code.now.functions.items →
         IfSome result (λ f. IsFunction bytes code.now f.now) }

@@ -1,4 +1,4 @@
-use Rattle.std.proofs.Common.{refl, map, ap, sym, subst, ◌∙◌}
+use Rattle.std.proofs.Common.{refl, map, ap, subst, ◌∙◌}
 use Rattle.std.proofs.lemmas.List.{length-map}
 use Rattle.bz_breakpad.specs.FunctionKeys.{AreSortedKeys}
 use Rattle.bz_breakpad.specs.Lent.{function_seen}

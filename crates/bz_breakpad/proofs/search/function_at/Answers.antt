@@ -2,7 +2,6 @@ use Rattle.std.proofs.Common.{◌≡◌, Some, option_map, sym, subst, ap, ◌�
 use Rattle.std.proofs.lemmas.List.{get_or_default}
 use Rattle.bz_breakpad.specs.FunctionKeys.{keyed, no_function}
 use Rattle.bz_breakpad.specs.Lent.{function_seen}
-use Rattle.bz_breakpad.specs.Plain.{function_at}
 use Rattle.bz_breakpad.specs.Search.{IsFunction}
 use Rattle.bz_breakpad.specs.declared.types.KeptFunction.{KeptFunction}
 use Rattle.bz_breakpad.proofs.KeyLemmas.{answers_by_key, key_among, key_found}
@@ -18,7 +17,7 @@ index-requires c =
     omega (arith, code.functions.ok.0, (key_among functions keys c.args.addr c.in-Some.key.now c.requires.keys found).within)
 
 pub returns-in-Some-clause-answers : goal.returns-in-Some-clause-answers
-returns-in-Some-clause-answers c bytes list is =
+returns-in-Some-clause-answers c bytes =
     let code = c.args.code.now in
     let functions = code.functions.items in
     let keys = code.keys.items in
@@ -28,7 +27,6 @@ returns-in-Some-clause-answers c bytes list is =
     ap (λ f. Some (function_seen bytes code f)) (c.index.ensures ∙ get_or_default functions key.index c.index.result.now no_function among.within ∙ among.is)
     ∙ ap (option_map (λ k. function_seen bytes code (keyed functions k))) found
     ∙ answers_by_key bytes code c.args.addr c.requires.keys
-    ∙ ap (function_at c.args.addr) is
 
 pub returns-in-Some-clause-below : goal.returns-in-Some-clause-below
 returns-in-Some-clause-below c =
@@ -53,10 +51,9 @@ returns-in-Some-clause-function c bytes fits =
     subst (IsFunction bytes code) (sym c.index.ensures) (all_get (IsFunction bytes code) functions key.index c.index.result.now fits among.within)
 
 pub returns-in-None-clause-answers : goal.returns-in-None-clause-answers
-returns-in-None-clause-answers c bytes list is =
+returns-in-None-clause-answers c bytes =
     let code = c.args.code.now in
     let functions = code.functions.items in
     let found = key_found functions code.keys.items c.deref.result.now c.args.addr _ c.requires.keys c.deref.ensures.value c.in-None.ensures.covering in
     ap (option_map (λ k. function_seen bytes code (keyed functions k))) found
     ∙ answers_by_key bytes code c.args.addr c.requires.keys
-    ∙ ap (function_at c.args.addr) is
