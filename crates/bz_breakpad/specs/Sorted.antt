@@ -1,21 +1,23 @@
--- What is kept of a file stands for its table: the functions in the order of start, size and file, and their starts.
+-- What is kept of a file stands for its table: its functions, their keys in the order of start, size and file, and the keys' starts.
 use Rattle.std.specs.Prelude.{◌≡◌, ℕ, List, [], length, map, Option, Some, None, option_map}
 use Rattle.std.specs.List.{AllByRecursion}
-use Rattle.bz_base.specs.Nearest.{IsTable}
 use Rattle.bz_base.specs.Starts.{AreFound}
+use Rattle.bz_breakpad.specs.FunctionKeys.{AreSortedKeys}
 use Rattle.bz_breakpad.specs.Kept.{TableFits, kept_functions, kept_names, kept_public, kept_table, text_at}
 use Rattle.bz_breakpad.specs.Search.{IsFunction}
 use Rattle.bz_breakpad.specs.Reader.{table_in}
 use Rattle.bz_breakpad.specs.Table.{PublicSymbol, Table}
+use Rattle.bz_breakpad.specs.declared.types.FunctionKey.{FunctionKey}
 use Rattle.bz_breakpad.specs.declared.types.FunctionTable.{FunctionTable}
-use Rattle.bz_breakpad.specs.declared.types.KeptFunction.{KeptFunction}
 use Rattle.bz_breakpad.specs.declared.types.KeptTable.{KeptTable}
 
--- the names and PUBLIC records are the table's, the functions are its functions in order, and every part is one of the bytes
+-- the names, functions and PUBLIC records are the table's, the keys are those of the functions in order, and every part is one
+-- of the bytes
 pub record StandsFor (bytes : List ℕ) (table : Table) (kept : KeptTable) : Type 0 where
   pub module_is : option_map (text_at bytes) kept.«module» ≡ table.«module»
   pub count : length table.functions ≡ length kept.code.functions.items
-  pub functions : IsTable (λ f. f.start) (λ f. f.size) table.functions (kept_functions bytes kept.code)
+  pub functions : kept_functions bytes kept.code ≡ table.functions
+  pub keys : AreSortedKeys kept.code.functions.items kept.code.keys.items
   pub files : kept_names bytes kept.files ≡ table.files
   pub origins : kept_names bytes kept.origins ≡ table.origins
   pub publics : map (kept_public bytes) kept.publics.items ≡ table.publics
@@ -28,9 +30,9 @@ pub record IsOrdered (bytes : List ℕ) (old new : KeptTable) : Type 0 where
   pub fits : TableFits bytes new
   pub functions_are : AllByRecursion (IsFunction bytes new.code) new.code.functions.items
 
--- the starts of the functions, in their order
+-- the starts of the functions, in the order of their keys
 abbrev pub starts_of : FunctionTable → List ℕ
-starts_of code = map (λ (f : KeptFunction). f.start) code.functions.items
+starts_of code = map (λ (k : FunctionKey). k.start) code.keys.items
 
 -- the bytes have a table, what is kept stands for it, and the starts are those of its functions
 pub record IsKept (bytes : List ℕ) (kept : KeptTable) (starts : List ℕ) : Type 0 where

@@ -26,7 +26,7 @@ use crate::order::in_order;
 use crate::parser;
 use crate::parser::walk::Walk;
 use crate::search::function_at;
-use crate::sorting::sort_functions;
+use crate::sorting::sorted_keys;
 use crate::types::{KeptTable, PublicSymbol};
 use bz_base::{Addr, Error, FindSymOpts, Result, Starts, Steps, Symbolized, nearest, nearest_each};
 use std::alloc::Global;
@@ -263,13 +263,13 @@ fn ordered(alloc: Global, bytes: &[u8], kept: KeptTable) -> Result<KeptTable>
     })
 }
 
-/// Puts the functions in order, and gives their starts.
+/// Puts the keys of the functions in order, and gives their starts.
 fn sorted(alloc: Global, kept: &mut KeptTable) -> Result<Starts>
     ensures ok { IfOk result (λ starts. ((bytes : List ℕ) → TableFits bytes kept.old → AllByRecursion (IsFunction bytes kept.old.code) kept.old.code.functions.items → StandsFor bytes (kept_table bytes kept.old) kept.new)
         × (starts ≡ starts_of kept.new.code)) }
     ensures memory { IsOkUnless result Error.OutOfMemory }
 {
-    sort_functions(alloc, &mut kept.code.functions)?;
-    let starts = bz_base::starts_of(alloc, &kept.code.functions)?;
+    kept.code.keys = sorted_keys(alloc, &kept.code.functions)?;
+    let starts = bz_base::starts_of(alloc, &kept.code.keys)?;
     Ok(starts)
 }

@@ -108,7 +108,11 @@ impl<'f, 'b> Lookups<'f, 'b> {
         let Some((place, _)) = self.places[index] else {
             return 0;
         };
-        match self.kept.code.functions.get(place) {
+        let code = &self.kept.code;
+        let Some(key) = code.keys.get(place) else {
+            return 0;
+        };
+        match code.functions.get(key.index) {
             Some(function) => match &function.lines {
                 LineRecords::Run(run) => cut_hint(self.bytes, run),
                 LineRecords::Listed(_) => 0,

@@ -44,6 +44,7 @@ pub(crate) fn in_order(
     }
     Ok(FunctionTable {
         functions: code.functions,
+        keys: code.keys,
         lines: code.lines,
         inlinees: code.inlinees,
         line_copies: copies.lines,

@@ -1,23 +1,22 @@
 //! Which function answers for an address.
 
-ghost use Rattle.std.specs.Prelude.{◌≡◌, ◌≤◌, ℕ, List, map, IfSome};
+ghost use Rattle.std.specs.Prelude.{◌≡◌, ◌≤◌, ℕ, List, IfSome};
 ghost use Rattle.std.specs.List.{AllByRecursion};
-ghost use Rattle.bz_base.specs.Nearest.{IsTable};
 ghost use Rattle.bz_base.specs.Starts.{IsFound};
+ghost use Rattle.bz_breakpad.specs.FunctionKeys.{AreSortedKeys};
 ghost use Rattle.bz_breakpad.specs.Kept.{kept_functions};
 ghost use Rattle.bz_breakpad.specs.Lent.{lent_function};
 ghost use Rattle.bz_breakpad.specs.Plain.{function_at};
 ghost use Rattle.bz_breakpad.specs.Search.{IsFunction};
 ghost use Rattle.bz_breakpad.specs.Sorted.{starts_of};
-ghost use Rattle.bz_breakpad.specs.Table.{Function};
 
-use crate::types::{FunctionTable, Inlinee, KeptFunction};
+use crate::types::{FunctionKey, FunctionTable, Inlinee, KeptFunction};
 use bz_base::{Nested, Spanned, covering_at};
 
-impl Spanned for KeptFunction {
-    ghost start = { λ f. f.start };
+impl Spanned for FunctionKey {
+    ghost start = { λ k. k.start };
 
-    ghost size = { λ f. f.size };
+    ghost size = { λ k. k.size };
 
     fn start(&self) -> u64 {
         self.start
@@ -50,19 +49,22 @@ impl Nested for Inlinee {
     }
 }
 
-/// The function that answers for the address, of functions in order and the place that a search
-/// among their starts found.
+/// The function that answers for the address, of functions whose keys are in order and the place
+/// that a search among the keys' starts found.
 pub(crate) fn function_at(
     code: &FunctionTable,
     place: Option<(usize, u64)>,
     addr: u64,
 ) -> Option<&KeptFunction>
-    requires { IsFound (starts_of code.now) addr place }
-    ensures answers { (bytes : List ℕ) (list : List Function) → IsTable (λ f. f.start) (λ f. f.size) list (kept_functions bytes code.now) →
-        lent_function bytes code.now result ≡ function_at addr list }
+    requires found { IsFound (starts_of code.now) addr place }
+    requires keys { AreSortedKeys code.now.functions.items code.now.keys.items }
+    ensures answers { (bytes : List ℕ) → lent_function bytes code.now result ≡ function_at addr (kept_functions bytes code.now) }
     ensures below { IfSome result (λ f. f.now.start ≤ addr) }
-    ensures function { (bytes : List ℕ) (list : List Function) → IsTable (λ f. f.start) (λ f. f.size) list (kept_functions bytes code.now) →
-        AllByRecursion (IsFunction bytes code.now) code.now.functions.items → IfSome result (λ f. IsFunction bytes code.now f.now) }
+    ensures function { (bytes : List ℕ) → AllByRecursion (IsFunction bytes code.now) code.now.functions.items →
+        IfSome result (λ f. IsFunction bytes code.now f.now) }
 {
-    covering_at(&code.functions, place, addr)
+    match covering_at(&code.keys, place, addr) {
+        Some(key) => Some(&code.functions[key.index]),
+        None => None,
+    }
 }

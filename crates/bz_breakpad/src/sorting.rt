@@ -1,54 +1,25 @@
-//! Puts the functions of a file in the order of start and size.
+//! Puts the keys of a file's functions in the order of start and size.
 
-ghost use Rattle.std.specs.Prelude.{◌≡◌, map, length, IfOk, OnOk};
-ghost use Rattle.std.specs.List.{AllByRecursion};
-ghost use Rattle.bz_base.specs.Nearest.{IsTable};
+ghost use Rattle.std.specs.Prelude.{map, IfOk};
 ghost use Rattle.bz_base.specs.Starts.{NeverDescends};
-ghost use Rattle.bz_breakpad.specs.FunctionKeys.{AreKeys, IsKeyAmong, keyed};
+ghost use Rattle.bz_breakpad.specs.FunctionKeys.{AreKeys, AreSortedKeys};
 
-use crate::types::KeptFunction;
-use bz_base::{Spanned, sort_table};
+use crate::types::{FunctionKey, KeptFunction};
+use bz_base::sort_table;
 use std::alloc::{AllocError, Global};
 
-/// By what a function is sorted, and where it stands. Sorting keys moves a fifth of the bytes.
-#[derive(Clone, Copy)]
-pub(crate) struct FunctionKey {
-    /// Where the function starts, relative to the module's base.
-    pub start: u64,
-    /// Its size, in bytes.
-    pub size: u32,
-    /// Its index in the list of functions.
-    pub index: usize,
-}
-
-impl Spanned for FunctionKey {
-    ghost start = { λ k. k.start };
-
-    ghost size = { λ k. k.size };
-
-    fn start(&self) -> u64 {
-        self.start
-    }
-
-    fn size(&self) -> u64 {
-        u64::from(self.size)
-    }
-}
-
-/// Puts the functions in the order of start and size, and leaves those that are alike in both as they
-/// stand.
-pub(crate) fn sort_functions(
+/// The keys of the functions in the order of start and size; those that are alike in both stand as
+/// the functions do. The functions aren't moved: a key has a fifth of a function's bytes.
+pub(crate) fn sorted_keys(
     alloc: Global,
-    functions: &mut Vec<KeptFunction>,
-) -> Result<(), AllocError>
-    ensures table { OnOk result (IsTable (λ f. f.start) (λ f. f.size) functions.old.items functions.new.items) }
-    ensures count { OnOk result (length functions.new.items ≡ length functions.old.items) }
-    ensures ascending { OnOk result (NeverDescends (map (λ f. f.start) functions.new.items)) }
+    functions: &[KeptFunction],
+) -> Result<Vec<FunctionKey>, AllocError>
+    ensures keys { IfOk result (λ keys. AreSortedKeys functions.now keys.items) }
+    ensures ascending { IfOk result (λ keys. NeverDescends (map (λ k. k.start) keys.items)) }
 {
     let mut keys = keys_of(alloc, functions)?;
     sort_table(&mut keys)?;
-    *functions = in_key_order(alloc, functions, &keys)?;
-    Ok(())
+    Ok(keys)
 }
 
 /// The keys of the functions, in their order.
@@ -65,24 +36,4 @@ fn keys_of(alloc: Global, functions: &[KeptFunction]) -> Result<Vec<FunctionKey>
         })?;
     }
     Ok(keys)
-}
-
-/// The functions in the order of these keys.
-fn in_key_order(
-    alloc: Global,
-    functions: &[KeptFunction],
-    keys: &[FunctionKey],
-) -> Result<Vec<KeptFunction>, AllocError>
-    requires { AllByRecursion (IsKeyAmong functions.now) keys.now }
-    ensures { IfOk result (λ sorted. sorted.items ≡ map (keyed functions.now) keys.now) }
-{
-    let mut sorted = Vec::with_capacity(alloc, keys.len())?;
-    for key in keys {
-        sorted.push(KeptFunction {
-            start: key.start,
-            size: key.size,
-            ..functions[key.index]
-        })?;
-    }
-    Ok(sorted)
 }

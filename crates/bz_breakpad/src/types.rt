@@ -44,6 +44,17 @@ pub(crate) struct KeptFunction {
     pub inlinee_order: Option<Part>,
 }
 
+/// By what a function is found, and where it stands.
+#[derive(Clone, Copy)]
+pub(crate) struct FunctionKey {
+    /// Where the function starts, relative to the module's base.
+    pub start: u64,
+    /// Its size, in bytes.
+    pub size: u32,
+    /// Its index in the list of functions.
+    pub index: usize,
+}
+
 /// A PUBLIC record.
 #[derive(Clone, Copy)]
 pub(crate) struct KeptPublic {
@@ -58,8 +69,10 @@ pub(crate) struct KeptPublic {
 /// The FUNC records of a file, with what stands under them.
 #[derive(Drop)]
 pub(crate) struct FunctionTable {
-    /// The functions: in the order of the file as they are read, and then by start and size.
+    /// The functions, in the order of the file.
     pub functions: Vec<KeptFunction>,
+    /// Their keys by start and size, once all are read.
+    pub keys: Vec<FunctionKey>,
     /// Where the line records begin in the file's bytes that are listed, in the order of the file.
     pub lines: Vec<usize>,
     /// The ranges of the INLINE records, in the order of the file.

@@ -38,6 +38,7 @@ impl FunctionsReading {
         FunctionsReading {
             table: FunctionTable {
                 functions: Vec::new(alloc),
+                keys: Vec::new(alloc),
                 lines: Vec::new(alloc),
                 inlinees: Vec::new(alloc),
                 line_copies: Vec::new(alloc),

@@ -50,6 +50,7 @@ returns c =
       fits = rw (i.same_lines, i.same_inlinees) i.fits;
       searched = both_searched bytes (record {
         functions = code.functions;
+        keys = code.keys;
         lines = code.lines;
         inlinees = code.inlinees;
         line_copies = c.loop-index.copies.lines;

@@ -9,7 +9,7 @@ returns-in_ok-push c bytes closed current so_far =
     let table = old.table in
     let line_count : length table.lines.items ≡ c.len.result = omega (arith, c.len.ensures, table.lines.ok.0) in
     let inlinee_count : c.len-function.result ≡ length table.inlinees.items = omega (arith, c.len-function.ensures, table.inlinees.ok.0) in
-    ended_so_far bytes table (record { functions = c.push.new.self; lines = table.lines; inlinees = table.inlinees; line_copies = table.line_copies; inlinee_copies = table.inlinee_copies })
+    ended_so_far bytes table (record { functions = c.push.new.self; keys = table.keys; lines = table.lines; inlinees = table.inlinees; line_copies = table.line_copies; inlinee_copies = table.inlinee_copies })
     c.in-Some.function old.lines c.records-function.result
     (rw inlinee_count at c.in_ok-push.ensures.items) refl refl
     (rw (sym line_count) at (c.records-function.ensures bytes table.lines.items line_count)) closed current
