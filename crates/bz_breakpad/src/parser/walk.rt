@@ -140,7 +140,7 @@ impl Walk {
             return rest;
         };
         // Never so: the run ends here, and its last start has one to eight digits.
-        if run.to != text.len() - rest.len() || start.digits == 0 || start.digits > 8 {
+        if run.to as usize != text.len() - rest.len() || start.digits == 0 || start.digits > 8 {
             return rest;
         }
         // In registers, and not in the walk, until the run is at its end.
@@ -154,9 +154,8 @@ impl Walk {
             last = next.start;
             count += 1;
         }
-        let whole = Part {
-            from: run.from,
-            to: text.len() - left.len(),
+        let Ok(whole) = Part::new(run.from as usize, text.len() - left.len()) else {
+            return rest;
         };
         self.kept.functions.lines = LinesSoFar::Run(whole, last);
         self.count = count;
