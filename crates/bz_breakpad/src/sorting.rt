@@ -10,7 +10,7 @@ use crate::types::KeptFunction;
 use bz_base::{Spanned, sort_table};
 use std::alloc::{AllocError, Global};
 
-/// By what a function is sorted, and where it stands. Sorting keys moves a fifth of the bytes.
+/// By what a function is sorted, and where it stands. Sorting keys moves a fourth of the bytes.
 #[derive(Clone, Copy)]
 pub(crate) struct FunctionKey {
     /// Where the function starts, relative to the module's base.
@@ -18,7 +18,7 @@ pub(crate) struct FunctionKey {
     /// Its size, in bytes.
     pub size: u32,
     /// Its index in the list of functions.
-    pub index: usize,
+    pub index: u32,
 }
 
 impl Spanned for FunctionKey {
@@ -55,13 +55,17 @@ pub(crate) fn sort_functions(
 fn keys_of(alloc: Global, functions: &[KeptFunction]) -> Result<Vec<FunctionKey>, AllocError>
     ensures { IfOk result (λ keys. AreKeys functions.now keys.items) }
 {
+    // So many functions take more than 4 GiB of a file.
+    if functions.len() > u32::MAX as usize {
+        return Err(AllocError);
+    }
     let mut keys = Vec::with_capacity(alloc, functions.len())?;
     for index in 0..functions.len() {
         let function = &functions[index];
         keys.push(FunctionKey {
             start: function.start,
             size: function.size,
-            index,
+            index: index as u32,
         })?;
     }
     Ok(keys)
@@ -81,7 +85,7 @@ fn in_key_order(
         sorted.push(KeptFunction {
             start: key.start,
             size: key.size,
-            ..functions[key.index]
+            ..functions[key.index as usize]
         })?;
     }
     Ok(sorted)
