@@ -1,6 +1,6 @@
 //! Puts the functions of a file in the order of start and size.
 
-ghost use Rattle.std.specs.Prelude.{◌≡◌, map, length, IfOk, OnOk};
+ghost use Rattle.std.specs.Prelude.{◌≡◌, ◌≤◌, true, false, map, length, IfOk, OnOk};
 ghost use Rattle.std.specs.List.{AllByRecursion};
 ghost use Rattle.bz_base.specs.Nearest.{IsTable};
 ghost use Rattle.bz_base.specs.Starts.{NeverDescends};
@@ -45,10 +45,42 @@ pub(crate) fn sort_functions(
     ensures count { OnOk result (length functions.new.items ≡ length functions.old.items) }
     ensures ascending { OnOk result (NeverDescends (map (λ f. f.start) functions.new.items)) }
 {
+    if stand_in_order(functions) {
+        return Ok(());
+    }
     let mut keys = keys_of(alloc, functions)?;
     sort_table(&mut keys)?;
     *functions = in_key_order(alloc, functions, &keys)?;
     Ok(())
+}
+
+/// Whether none of the functions lies before the one in front of it, by start and size.
+fn stand_in_order(functions: &[KeptFunction]) -> bool
+    ensures { result ≡ true → IsTable (λ f. f.start) (λ f. f.size) functions.now functions.now }
+{
+    let mut start = 0;
+    let mut size = 0;
+    for function in functions {
+        if lies_before(function, start, size) {
+            return false;
+        }
+        start = function.start;
+        size = function.size;
+    }
+    true
+}
+
+/// Whether the function lies before one of this start and size.
+#[inline(always)]
+fn lies_before(function: &KeptFunction, start: u64, size: u32) -> bool
+    ensures start { result ≡ false → start ≤ function.now.start }
+    ensures size { result ≡ false → start ≡ function.now.start → size ≤ function.now.size }
+{
+    if function.start == start {
+        function.size < size
+    } else {
+        function.start < start
+    }
 }
 
 /// The keys of the functions, in their order.
