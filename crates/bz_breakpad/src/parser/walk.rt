@@ -118,11 +118,7 @@ impl Walk {
             .line(text, text.len() - rest.len(), line)?;
         self.free = false;
         self.count += 1;
-        Ok(Some(self.run_on(
-            text,
-            &rest[line.len..],
-            stops.after(line.len),
-        )))
+        Ok(Some(self.run_on(text, &rest[line.len..], stops.after(line.len))))
     }
 
     /// Reads the line records in their common form that go on the run of the last one, of which bytes

@@ -1,4 +1,4 @@
-use Rattle.std.proofs.Common.{◌≡◌, List, map, sym, subst, ap₂, ◌∙◌}
+use Rattle.std.proofs.Common.{map, subst, ap₂, ◌∙◌}
 use Rattle.bz_breakpad.specs.FunctionKeys.{AreKeys, IsKeyAmong, keyed}
 use Rattle.bz_breakpad.specs.declared.sorting.FunctionKey.{FunctionKey}
 use Rattle.bz_breakpad.specs.declared.types.KeptFunction.{KeptFunction}

@@ -1,5 +1,5 @@
 use Rattle.std.proofs.Common.{◌≡◌, ℕ, length, ap₂, refl, sym, subst, arith}
-use Rattle.bz_breakpad.specs.Kept.{FunctionsSoFar, LinesFit, LinesFitSoFar, records_of, records_so_far}
+use Rattle.bz_breakpad.specs.Kept.{FunctionsSoFar}
 use Rattle.bz_breakpad.proofs.FunctionLemmas.{ended_so_far}
 use Rattle.bz_breakpad.proofs.parser.functions.FunctionsReading.close.Goals as goal
 
@@ -10,7 +10,7 @@ returns-in_ok-push c bytes closed current so_far =
     let line_count : length table.lines.items ≡ c.len.result = omega (arith, c.len.ensures, table.lines.ok.0) in
     let part = c.in_ok-inlinees.ensures in
     let inlinees : c.in_ok-inlinees.inlinees ≡ record { from = c.in-Some.function.inlinees.from; to = length table.inlinees.items } =
-        ap₂ (λ (from to : ℕ). record { from = from; to = to }) part.from (omega (arith, part.to, c.len-in-Some.ensures, table.inlinees.ok.0)) in
+    ap₂ (λ (from to : ℕ). record { from = from; to = to }) part.from (omega (arith, part.to, c.len-in-Some.ensures, table.inlinees.ok.0)) in
     ended_so_far bytes table (record { functions = c.push.new.self; lines = table.lines; inlinees = table.inlinees; line_copies = table.line_copies; inlinee_copies = table.inlinee_copies })
     c.in-Some.function old.lines c.in_ok-lines.lines
     (rw inlinees at c.in_ok-push.ensures.items) refl refl
