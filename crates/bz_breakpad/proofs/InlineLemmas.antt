@@ -1,17 +1,14 @@
 -- An INLINE record of one range at the front of a text: its call and its range make up its line.
-use Rattle.std.proofs.Common.{◌≡◌, ℕ, ◌≤◌, true, false, List, [], ◌∷◌, ◌++◌, nat_eq, Option, Some, None, refl, sym, ap, subst, ◌∙◌, arith, append_assoc, append-nil}
-use Rattle.std.specs.List.{list_any}
+use Rattle.std.proofs.Common.{◌≡◌, ℕ, ◌≤◌, false, List, [], ◌∷◌, ◌++◌, nat_eq, Some, None, refl, sym, ap, ◌∙◌, arith, append_assoc, append-nil}
 use Rattle.std.specs.Char.{digit_value}
 use Rattle.std.specs.Prelude.{codes}
 use Rattle.std.proofs.lemmas.Bool.{or_from, false_from_ne_true, eqb-true, false≢true}
 use Rattle.std.proofs.lemmas.List.Folds.{list_any-append}
 use Rattle.bz_base.specs.Byte.{line_feed, carriage_return, is_blank, HasNo, begins_with}
-use Rattle.bz_base.specs.Line.{ended}
 use Rattle.bz_base.specs.Number.{number_at}
 use Rattle.bz_base.proofs.ByteLemmas.{HasNo-digits}
 use Rattle.bz_breakpad.specs.Byte.{is_nothing, is_white}
-use Rattle.bz_breakpad.specs.Choice.{one_at}
-use Rattle.bz_breakpad.specs.Form.{AllPass, Form, Piece, Tell, With, told, Value, Spells, IsPiece}
+use Rattle.bz_breakpad.specs.Form.{AllPass, Form, Piece, Tell, With, told, Value, Spells}
 use Rattle.bz_breakpad.specs.Form.Form.{End, Many, ◌·◌}
 use Rattle.bz_breakpad.specs.Form.Piece.{Tag, Opt, Sep, MSep, Gap, Word, Hex, Dec}
 use Rattle.bz_breakpad.specs.InlineLine.{IsInlineLine}
@@ -68,7 +65,7 @@ spells_inline : (call : InlineCall) (range : Range) (front back : List ℕ) → 
 spells_inline call range front back is_call is_range =
     let values = range_told range ∷ [] in
     let ranges : (text : List ℕ) (v : Value End) → Spells End text v → Spells (Many RANGE) (text ++ back) values =
-        λ text v none. (omega arith, (back, [], ap (λ t. t ++ back) none ∙ sym (append-nil back), is_range, refl)) in
+    λ text v none. (omega arith, (back, [], ap (λ t. t ++ back) none ∙ sym (append-nil back), is_range, refl)) in
     grown (Tag (codes "INLINE ")) (Gap · Dec · Sep · Dec · Sep · Dec · Sep · Dec · End) (Gap · Dec · Sep · Dec · Sep · Dec · Sep · Dec · Many RANGE) back _
     (grown Gap (Dec · Sep · Dec · Sep · Dec · Sep · Dec · End) (Dec · Sep · Dec · Sep · Dec · Sep · Dec · Many RANGE) back _
     (grown Dec (Sep · Dec · Sep · Dec · Sep · Dec · End) (Sep · Dec · Sep · Dec · Sep · Dec · Many RANGE) back _
@@ -133,8 +130,8 @@ inline_found text rest back line is_call is_range ends =
     let more = call.1.back ++ range.0 in
     let begins : body ≡ tagged more = ap (λ t. t ++ range.0) (call.1.whole ∙ ap (λ t. t ++ call.1.back) call.1.front_is) ∙ append_assoc (codes "INLINE ") call.1.back range.0 in
     let no : (byte : ℕ) → is_blank byte ≡ false → 16 ≤ digit_value byte → IsClean byte CALL → IsClean byte RANGE → HasNo byte body =
-        λ byte other no_digit clean_call clean_range.
-        both byte call.0 range.0 (none_in byte other no_digit CALL clean_call call.0 _ call.1) (none_in byte other no_digit RANGE clean_range range.0 _ range.1) in
+    λ byte other no_digit clean_call clean_range.
+    both byte call.0 range.0 (none_in byte other no_digit CALL clean_call call.0 _ call.1) (none_in byte other no_digit RANGE clean_range range.0 _ range.1) in
     let reads_it = form_again INLINE refl body (inline_told line.call (line.range ∷ [])) (spells_inline line.call line.range call.0 range.0 call.1 range.1) in
     record {
       line = body;

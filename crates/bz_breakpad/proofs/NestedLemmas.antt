@@ -1,4 +1,4 @@
--- Inlined calls that stand in order of depth and start.
+-- Records that stand in order of two numbers: functions by start and size, inlined calls by depth and start.
 use Rattle.std.proofs.Common.{◌≡◌, ℕ, ◌+◌, ◌<◌, ◌≤◌, List, length, Some, refl, sym, ap, ◌∙◌, arith, inl, inr}
 use Rattle.std.specs.List.{slice_get}
 use Rattle.std.proofs.lemmas.Bool.{cases_lt}

@@ -1,10 +1,7 @@
 -- A line record that goes on a run: the walk is midway still.
-use Rattle.std.proofs.Common.{◌≡◌, ℕ, ◌+◌, ◌-◌, ◌<◌, ◌≤◌, false, List, length, drop, Some, refl, sym, ap, subst, arith, length-drop}
-use Rattle.bz_breakpad.specs.Kept.{IsSoFar}
+use Rattle.std.proofs.Common.{◌≡◌, ℕ, ◌+◌, ◌-◌, false, List, length, drop, Some, refl, subst, arith, length-drop}
 use Rattle.bz_breakpad.specs.Line.{source_line}
-use Rattle.bz_breakpad.specs.LineStarts.{IsStartText}
 use Rattle.bz_breakpad.specs.OnRun.{IsOnRun}
-use Rattle.bz_breakpad.specs.PlainLine.{IsPlainLine}
 use Rattle.bz_breakpad.specs.Told.{context_told}
 use Rattle.bz_breakpad.specs.Walk.Context.{InFunc}
 use Rattle.bz_breakpad.specs.Walked.{IsMidway}

@@ -120,5 +120,5 @@ pub(crate) fn text_of<'a>(bytes: &'a [u8], part: &Part) -> &'a str
     ensures { result.now ≡ text_at bytes.now part.now }
 {
     // The names were found to be UTF-8 when the file was read.
-    unsafe { std::str::from_utf8_unchecked(&bytes[part.from..part.to]) }
+    unsafe { std::str::from_utf8_unchecked(&bytes[part.from as usize..part.to as usize]) }
 }

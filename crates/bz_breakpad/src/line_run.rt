@@ -34,7 +34,7 @@ pub(crate) fn line_in_run(run: &[u8], hint: usize, addr: Addr) -> Option<SourceL
 /// Where a run in a part of the bytes is to be cut first; 0 if that isn't known. Where it is asked of
 /// several runs before any is searched, the processor waits for their bytes at the same time.
 pub(crate) fn cut_hint(bytes: &[u8], run: &Part) -> usize {
-    match bytes.get(run.from..run.to) {
+    match bytes.get(run.from as usize..run.to as usize) {
         Some(text) => cut_near(text, text.len() / 2).unwrap_or(0),
         None => 0,
     }

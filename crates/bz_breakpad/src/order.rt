@@ -100,7 +100,7 @@ fn order_lines(
     ensures more { OnOk result ((more : List ℕ) × (copies.new.items ≡ copies.old.items ++ more)) }
     ensures searched { IfOk result (λ order. AreLinesSearched bytes.now lines.now copies.new.items part order) }
 {
-    let places = &lines[part.from..part.to];
+    let places = &lines[part.from as usize..part.to as usize];
     if starts_ascend(bytes, places) {
         return Ok(None);
     }
@@ -129,7 +129,7 @@ fn order_inlinees(
     ensures more { OnOk result ((more : List KeptInlinee) × (copies.new.items ≡ copies.old.items ++ more)) }
     ensures searched { IfOk result (AreInlineesSearched inlinees.now copies.new.items part) }
 {
-    let standing = &inlinees[part.from..part.to];
+    let standing = &inlinees[part.from as usize..part.to as usize];
     if stand_nested(standing) {
         return Ok(None);
     }
@@ -175,8 +175,5 @@ fn copied<T: Copy>(records: &[T], copies: &mut Vec<T>) -> Result<Part, AllocErro
 {
     let from = copies.len();
     copies.extend_from_slice(records)?;
-    Ok(Part {
-        from,
-        to: copies.len(),
-    })
+    Part::new(from, copies.len())
 }

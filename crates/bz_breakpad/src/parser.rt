@@ -27,6 +27,10 @@ pub(crate) fn read(alloc: Global, text: &[u8]) -> Result<Walk>
     if text.is_empty() {
         return Err(Error::InvalidInput);
     }
+    // Places in the text take four bytes, and there is no memory for greater ones.
+    if text.len() > u32::MAX as usize {
+        return Err(Error::OutOfMemory);
+    }
     let mut walk = Walk::new(alloc);
     let mut rest = text;
     while !rest.is_empty() {

@@ -105,11 +105,13 @@ pub(crate) fn line_of(
     ensures { option_map line_seen result ≡ line_at addr (function_seen bytes.now code.now function.now).lines }
 {
     match function.lines {
-        LineRecords::Run(part) => line_in_run(&bytes[part.from..part.to], hint, addr),
+        LineRecords::Run(part) => {
+            line_in_run(&bytes[part.from as usize..part.to as usize], hint, addr)
+        }
         LineRecords::Listed(part) => {
             let places = match function.line_order {
-                Some(order) => &code.line_copies[order.from..order.to],
-                None => &code.lines[part.from..part.to],
+                Some(order) => &code.line_copies[order.from as usize..order.to as usize],
+                None => &code.lines[part.from as usize..part.to as usize],
             };
             line_covering(bytes, places, addr)
         }
@@ -158,8 +160,11 @@ pub(crate) fn inlinees_searched<'f>(
     ensures { result.now ≡ searched code.now.inlinees.items function.now.inlinees code.now.inlinee_copies.items function.now.inlinee_order }
 {
     match function.inlinee_order {
-        Some(order) => &code.inlinee_copies[order.from..order.to],
-        None => &code.inlinees[function.inlinees.from..function.inlinees.to],
+        Some(order) => &code.inlinee_copies[order.from as usize..order.to as usize],
+        None => {
+            let part = function.inlinees;
+            &code.inlinees[part.from as usize..part.to as usize]
+        }
     }
 }
 

@@ -1,15 +1,35 @@
 //! What is kept of a Breakpad file: numbers, and places in its bytes.
 
+ghost use Rattle.std.specs.Prelude.{◌≡◌, IfOk};
+
 use crate::names::Names;
+use std::alloc::AllocError;
 
 /// A part of the file's bytes or of a table: from the first of its places up to the last, which
-/// isn't in it.
+/// isn't in it. Places take four bytes, since most of what is kept of a file is parts.
 #[derive(Clone, Copy)]
 pub(crate) struct Part {
     /// Where it begins.
-    pub from: usize,
+    pub from: u32,
     /// Where it ends.
-    pub to: usize,
+    pub to: u32,
+}
+
+impl Part {
+    /// The part between two places. Past 4 GiB there is no memory for places.
+    #[inline(always)]
+    pub(crate) fn new(from: usize, to: usize) -> Result<Part, AllocError>
+        ensures from { IfOk result (λ part. part.from ≡ from) }
+        ensures to { IfOk result (λ part. part.to ≡ to) }
+    {
+        if from > u32::MAX as usize || to > u32::MAX as usize {
+            return Err(AllocError);
+        }
+        Ok(Part {
+            from: from as u32,
+            to: to as u32,
+        })
+    }
 }
 
 /// The line records of a function.

@@ -55,8 +55,11 @@ impl FunctionsReading {
             FunctionsSoFar bytes self.old closed current → FunctionsSoFar bytes self.new (closed ++ listed current) None) }
     {
         if let Some(mut function) = self.current {
-            function.lines = self.lines.records(self.table.lines.len());
-            function.inlinees.to = self.table.inlinees.len();
+            let from = function.inlinees.from as usize;
+            let lines = self.lines.records(self.table.lines.len())?;
+            let inlinees = Part::new(from, self.table.inlinees.len())?;
+            function.lines = lines;
+            function.inlinees = inlinees;
             self.table.functions.push(function)?;
             self.current = None;
         }
@@ -64,25 +67,24 @@ impl FunctionsReading {
     }
 
     /// Begins a function, where the one before is at its end.
-    pub(crate) fn begin(&mut self, func: &FuncLine<'_>, name: Part)
-        ensures { (bytes : List ℕ) (closed : List Function) → IsNameAt bytes name func.now.name.now → FunctionsSoFar bytes self.old closed None →
-            FunctionsSoFar bytes self.new closed (Some (function_told func.now)) }
+    pub(crate) fn begin(&mut self, func: &FuncLine<'_>, name: Part) -> Result<(), AllocError>
+        ensures { OnOk result ((bytes : List ℕ) (closed : List Function) → IsNameAt bytes name func.now.name.now → FunctionsSoFar bytes self.old closed None →
+            FunctionsSoFar bytes self.new closed (Some (function_told func.now))) }
     {
-        let inlinees = self.table.inlinees.len();
+        let end = self.table.inlinees.len();
+        let inlinees = Part::new(end, end)?;
         self.current = Some(KeptFunction {
             start: func.start,
             size: func.size,
             parameter_size: func.parameter_size,
             name,
             lines: LineRecords::Run(Part { from: 0, to: 0 }),
-            inlinees: Part {
-                from: inlinees,
-                to: inlinees,
-            },
+            inlinees,
             line_order: None,
             inlinee_order: None,
         });
         self.lines = LinesSoFar::Empty;
+        Ok(())
     }
 
     /// Keeps the line record at a place in the bytes, in its common form.
@@ -98,10 +100,7 @@ impl FunctionsReading {
             drop place bytes.now ≡ rest → FunctionsSoFar bytes.now self.old closed current →
             FunctionsSoFar bytes.now self.new closed (option_map (λ f. with_own f (Line (source_line is.value) ∷ [])) current)) }
     {
-        let part = Part {
-            from: place,
-            to: place + line.len,
-        };
+        let part = Part::new(place, place + line.len)?;
         match self.lines.run_with(part, line.start) {
             Some(lines) => self.lines = lines,
             None => self.list(bytes, place)?,
@@ -165,12 +164,12 @@ fn list_run(places: &mut Vec<usize>, bytes: &[u8], run: Part) -> Result<(), Allo
     ensures { OnOk result ((last : StartText) → IsOpenRunAt bytes.now run last → AreListedTo bytes.now run [] places.old.items places.new.items) }
 {
     // Never so: the run lies in the bytes.
-    if run.from > run.to || run.to > bytes.len() {
+    if run.from > run.to || run.to as usize > bytes.len() {
         return Ok(());
     }
-    let mut rest = &bytes[run.from..run.to];
+    let mut rest = &bytes[run.from as usize..run.to as usize];
     while let Some((_line, after)) = next_line(rest) {
-        places.push(run.to - rest.len())?;
+        places.push(run.to as usize - rest.len())?;
         rest = after;
     }
     Ok(())

@@ -1,6 +1,6 @@
 //! What has been read of a file so far, and one line more.
 
-ghost use Rattle.std.specs.Prelude.{◌≡◌, ◌+◌, ◌∷◌, ◌++◌, [], ℕ, List, length, Some, IfSome, OnOk};
+ghost use Rattle.std.specs.Prelude.{◌≡◌, ◌+◌, ◌∷◌, ◌++◌, [], ℕ, List, length, Some, IfSome, IfOk, OnOk};
 ghost use Rattle.bz_breakpad.specs.Kept.{IsNameAt, IsRecordAt, IsSoFar, PublicsSoFar};
 ghost use Rattle.bz_breakpad.specs.Line.{EndsWith};
 ghost use Rattle.bz_breakpad.specs.Reader.{Reading, nothing_read, with_record};
@@ -52,15 +52,15 @@ impl KeptReading {
     {
         self.functions.close()?;
         match top {
-            TopLine::Module(name) => self.module = Some(name_part(name, end)),
-            TopLine::File(id, path) => self.files.insert(id, name_part(path, end))?,
-            TopLine::InlineOrigin(id, name) => self.origins.insert(id, name_part(name, end))?,
+            TopLine::Module(name) => self.module = Some(name_part(name, end)?),
+            TopLine::File(id, path) => self.files.insert(id, name_part(path, end)?)?,
+            TopLine::InlineOrigin(id, name) => self.origins.insert(id, name_part(name, end)?)?,
             TopLine::Public(public) => keep_public(
                 &mut self.publics,
                 &public,
-                name_part(public.name, end),
+                name_part(public.name, end)?,
             )?,
-            TopLine::Func(func) => self.functions.begin(&func, name_part(func.name, end)),
+            TopLine::Func(func) => self.functions.begin(&func, name_part(func.name, end)?)?,
             TopLine::Info => {}
             TopLine::StackWin => {}
             TopLine::StackCfiInit => {}
@@ -84,7 +84,7 @@ impl KeptReading {
         match inner {
             InnerLine::Code(_) => self.functions.list(bytes, start)?,
             InnerLine::Inline(call) => self.functions.inline(&call, ranges)?,
-            InnerLine::Origin(id, name) => self.origins.insert(id, name_part(name, end))?,
+            InnerLine::Origin(id, name) => self.origins.insert(id, name_part(name, end)?)?,
         }
         Ok(())
     }
@@ -112,14 +112,12 @@ impl KeptReading {
 }
 
 /// The part of the bytes that a name has that ends at a place.
-fn name_part(name: &str, end: usize) -> Part
-    ensures { (bytes body : List ℕ) (start : ℕ) → IsRecordAt bytes start body → end ≡ start + length body → EndsWith body name.now →
-        IsNameAt bytes result name.now }
+fn name_part(name: &str, end: usize) -> Result<Part, AllocError>
+    ensures { IfOk result (λ part. (bytes body : List ℕ) (start : ℕ) → IsRecordAt bytes start body → end ≡ start + length body → EndsWith body name.now →
+        IsNameAt bytes part name.now) }
 {
-    Part {
-        from: end.saturating_sub(name.len()),
-        to: end,
-    }
+    let part = Part::new(end.saturating_sub(name.len()), end)?;
+    Ok(part)
 }
 
 /// Keeps a PUBLIC record.

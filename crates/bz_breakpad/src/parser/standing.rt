@@ -1,7 +1,7 @@
 //! The line records of a function as they are read: a run, as long as the texts of their starts tell
 //! that they stand in order.
 
-ghost use Rattle.std.specs.Prelude.{◌≡◌, ◌<◌, ◌≤◌, ◌+◌, true, ℕ, List, length, take, drop, IfSome};
+ghost use Rattle.std.specs.Prelude.{◌≡◌, ◌<◌, ◌≤◌, ◌+◌, true, ℕ, List, length, take, drop, IfSome, IfOk};
 ghost use Rattle.std.specs.Str.Parse.{digits_value};
 ghost use Rattle.bz_base.specs.Number.{digits_len};
 ghost use Rattle.bz_breakpad.specs.Kept.{IsLonger, LinesFit, LinesFitSoFar, records_of, records_so_far};
@@ -11,6 +11,7 @@ ghost use Rattle.bz_breakpad.specs.PlainLine.{IsPlainLine};
 ghost use Rattle.bz_breakpad.specs.declared.parser.plain.PlainLine.{PlainLine};
 
 use crate::types::{LineRecords, Part};
+use std::alloc::AllocError;
 
 /// The text of a start: one to eight hexadecimal digits.
 #[derive(Clone, Copy)]
@@ -105,14 +106,14 @@ impl LinesSoFar {
     }
 
     /// The line records, where so many places are in the table.
-    pub(crate) fn records(self, count: usize) -> LineRecords
-        ensures { (bytes places : List ℕ) → length places ≡ count → LinesFitSoFar bytes count self →
-            LinesFit bytes count result × (records_of bytes places result ≡ records_so_far bytes places self) }
+    pub(crate) fn records(self, count: usize) -> Result<LineRecords, AllocError>
+        ensures { IfOk result (λ records. (bytes places : List ℕ) → length places ≡ count → LinesFitSoFar bytes count self →
+            LinesFit bytes count records × (records_of bytes places records ≡ records_so_far bytes places self)) }
     {
         match self {
-            LinesSoFar::Empty => LineRecords::Run(Part { from: 0, to: 0 }),
-            LinesSoFar::Run(run, _) => LineRecords::Run(run),
-            LinesSoFar::Listed(from) => LineRecords::Listed(Part { from, to: count }),
+            LinesSoFar::Empty => Ok(LineRecords::Run(Part { from: 0, to: 0 })),
+            LinesSoFar::Run(run, _) => Ok(LineRecords::Run(run)),
+            LinesSoFar::Listed(from) => Ok(LineRecords::Listed(Part::new(from, count)?)),
         }
     }
 }

@@ -118,11 +118,7 @@ impl Walk {
             .line(text, text.len() - rest.len(), line)?;
         self.free = false;
         self.count += 1;
-        Ok(Some(self.run_on(
-            text,
-            &rest[line.len..],
-            stops.after(line.len),
-        )))
+        Ok(Some(self.run_on(text, &rest[line.len..], stops.after(line.len))))
     }
 
     /// Reads the line records in their common form that go on the run of the last one, of which bytes
@@ -140,7 +136,7 @@ impl Walk {
             return rest;
         };
         // Never so: the run ends here, and its last start has one to eight digits.
-        if run.to != text.len() - rest.len() || start.digits == 0 || start.digits > 8 {
+        if run.to as usize != text.len() - rest.len() || start.digits == 0 || start.digits > 8 {
             return rest;
         }
         // In registers, and not in the walk, until the run is at its end.
@@ -154,9 +150,8 @@ impl Walk {
             last = next.start;
             count += 1;
         }
-        let whole = Part {
-            from: run.from,
-            to: text.len() - left.len(),
+        let Ok(whole) = Part::new(run.from as usize, text.len() - left.len()) else {
+            return rest;
         };
         self.kept.functions.lines = LinesSoFar::Run(whole, last);
         self.count = count;

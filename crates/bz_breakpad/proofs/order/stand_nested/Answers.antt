@@ -1,4 +1,3 @@
-use Rattle.std.proofs.Common.{arith}
 use Rattle.std.proofs.lemmas.Option.{slice_get-get_or}
 use Rattle.bz_breakpad.specs.declared.types.Inlinee.{Inlinee as KeptInlinee}
 use Rattle.bz_breakpad.proofs.NestedLemmas.{stand_none, stand_more, standing_table}

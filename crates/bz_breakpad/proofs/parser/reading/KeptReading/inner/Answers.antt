@@ -32,7 +32,7 @@ pub returns-in_ok-insert-in-Origin : goal.returns-in_ok-insert-in-Origin
 returns-in_ok-insert-in-Origin c body reading stands end inner is =
     let bytes = c.args.bytes.now in
     let functions = c.args.self.now.functions in
-    let named = c.name_part.ensures bytes body c.args.start stands end (rw c.in-Origin.is at inner) in
+    let named = c.in_ok-name_part-in-Origin.ensures bytes body c.args.start stands end (rw c.in-Origin.is at inner) in
     let sub = SubOrigin (record { id = c.in-Origin.id; name = c.in-Origin.name.now }) in
     rw c.in-Origin.is (record {
       module_is = is.module_is;
@@ -41,7 +41,7 @@ returns-in_ok-insert-in-Origin c body reading stands end inner is =
           (sym (append-nil functions.table.inlinees.items)) refl refl functions.current reading.closed reading.current is.functions;
       files = is.files;
       origins =
-          names_so_far bytes c.args.self.now.origins c.insert.new.self c.in-Origin.id c.name_part.result c.in-Origin.name.now reading.origins
+          names_so_far bytes c.args.self.now.origins c.insert.new.self c.in-Origin.id c.in_ok-name_part-in-Origin.field-0 c.in-Origin.name.now reading.origins
           c.in_ok-insert-in-Origin.ensures named is.origins;
       publics = is.publics;
     })
