@@ -28,6 +28,7 @@ impl InlineInfo {
     /// with all nodes around them, outermost first. The root's offsets count from `base_addr`, the symbol's address.
     /// InvalidData: the tree isn't whole, or a node that is read has a range past 64 bits or a call file past 32 bits; the
     /// nodes that are read are the root and the children of those that have the address inside.
+    #[inline(never)]
     pub fn parse_inline_stack(
         alloc: Global,
         bytes: &[u8],

@@ -188,6 +188,7 @@ fn low_sum(line: u32, delta: i64) -> u32
 
 /// The state that answers for an address, in the line table of the symbol that begins at `start`.
 /// None: the table's head isn't whole. None inside: no row answers for the address.
+#[inline(never)]
 pub(crate) fn line_in(bytes: &[u8], start: Addr, addr: Addr) -> Option<Option<LineTableRow>>
     ensures { result ≡ line_in start addr bytes.now }
 {
