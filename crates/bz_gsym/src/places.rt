@@ -5,7 +5,7 @@ ghost use Rattle.bz_base.specs.Answer.{Call, call_of, site_of};
 ghost use Rattle.bz_base.specs.Lent.{IsLentCall, IsLentPlace};
 ghost use Rattle.bz_base.specs.declared.types.FindSymOpts.{FindSymOpts};
 ghost use Rattle.bz_gsym.specs.Joining.{at_site, placed_by, seen_from, seen_outside, site_in};
-ghost use Rattle.bz_gsym.specs.JoiningSeen.{IsLentPlaced, placed_seen, told_seen};
+ghost use Rattle.bz_gsym.specs.JoiningSeen.{IsLentPlaced, line_seen, placed_seen, told_seen};
 ghost use Rattle.bz_gsym.specs.Plain.{placed_of};
 ghost use Rattle.bz_gsym.specs.Refusal.{Refuses, WantsMemory};
 ghost use Rattle.bz_gsym.specs.Seen.{frame_seen, frames_seen, info_seen};
@@ -29,6 +29,14 @@ pub(crate) struct Placed<'a> {
     pub code_info: Option<CodeInfo<'a>>,
     /// The calls that were inlined there, the outermost first.
     pub inlined: Vec<InlinedFn<'a>>,
+}
+
+/// A line of a source file. It has a directory, even if that is empty.
+#[derive(Clone, Copy)]
+struct SourceLine<'a> {
+    dir: &'a str,
+    file: &'a str,
+    line: u32,
 }
 
 /// The name and the place of an address in a symbol that begins at `start`, as far as they are asked
@@ -126,46 +134,56 @@ fn seen_from<'a>(
     inlined.reverse();
     Ok(Placed {
         name,
-        code_info: Some(site),
+        code_info: Some(code_info(site)),
         inlined,
     })
 }
 
-/// Code at a place inside a call, seen from outside it: the call with the place, and where the call
+/// Code at a line inside a call, seen from outside it: the call with the line, and where the call
 /// stands. None: a text isn't in the format, or there is no such file.
 fn seen_outside<'a>(
     context: &GsymContext<'a>,
     call: &InlineFrame,
-    inner: CodeInfo<'a>,
-) -> Option<(InlinedFn<'a>, CodeInfo<'a>)>
-    requires { IsLentPlace inner }
+    inner: SourceLine<'a>,
+) -> Option<(InlinedFn<'a>, SourceLine<'a>)>
     ensures seen { (calls : List Call) →
-        option_map (λ seen. (site_of seen.1, call_of seen.0 ∷ calls)) result ≡ seen_outside context.now (frame_seen call.now) (site_of inner.entry, calls) }
-    ensures lent_call { IfSome result (λ seen. IsLentCall seen.0) }
-    ensures lent_place { IfSome result (λ seen. IsLentPlace seen.1) }
+        option_map (λ seen. (line_seen seen.1, call_of seen.0 ∷ calls)) result ≡ seen_outside context.now (frame_seen call.now) (line_seen inner.entry, calls) }
+    ensures lent { IfSome result (λ seen. IsLentCall seen.0) }
 {
     let name = context.get_str(call.name as usize)?;
     let outer = site_in(context, call.call_file, call.call_line)?;
     let call = InlinedFn {
         name: CowStr::Borrowed(name),
-        code_info: Some(inner),
+        code_info: Some(code_info(inner)),
     };
     Some((call, outer))
 }
 
 /// A line of the source file of an index. None: there is no such file, or a text of it isn't in the
 /// format.
-fn site_in<'a>(context: &GsymContext<'a>, file: u32, line: u32) -> Option<CodeInfo<'a>>
-    ensures site { option_map site_of result ≡ site_in context.now file line }
-    ensures lent { IfSome result IsLentPlace }
+fn site_in<'a>(context: &GsymContext<'a>, file: u32, line: u32) -> Option<SourceLine<'a>>
+    ensures { option_map line_seen result ≡ site_in context.now file line }
 {
     let file = context.file_info(file as usize)?;
     let dir = context.get_str(file.directory as usize)?;
     let name = context.get_str(file.filename as usize)?;
-    Some(CodeInfo {
-        dir: Some(CowStr::Borrowed(dir)),
-        file: CowStr::Borrowed(name),
-        line: Some(line),
-        column: None,
+    Some(SourceLine {
+        dir,
+        file: name,
+        line,
     })
+}
+
+/// A line of a source file as a place.
+#[inline(always)]
+fn code_info(at: SourceLine<'_>) -> CodeInfo<'_>
+    ensures place { site_of result ≡ line_seen at.entry }
+    ensures lent { IsLentPlace result }
+{
+    CodeInfo {
+        dir: Some(CowStr::Borrowed(at.dir)),
+        file: CowStr::Borrowed(at.file),
+        line: Some(at.line),
+        column: None,
+    }
 }

@@ -1,9 +1,10 @@
 use Rattle.std.proofs.Common.{◌≡◌, ◌≤◌, Some, length, drop, map}
 use Rattle.std.specs.Prelude.{reverse}
 use Rattle.std.specs.List.{AllByRecursion}
-use Rattle.bz_base.specs.Answer.{call_of, site_of}
-use Rattle.bz_base.specs.Lent.{IsLentCall, IsLentPlace}
+use Rattle.bz_base.specs.Answer.{call_of}
+use Rattle.bz_base.specs.Lent.{IsLentCall}
 use Rattle.bz_gsym.specs.Joining.{seen_from}
+use Rattle.bz_gsym.specs.JoiningSeen.{line_seen}
 use Rattle.bz_gsym.specs.Seen.{frame_seen}
 use Rattle.bz_gsym.proofs.places.seen_from.Given as goal
 
@@ -11,8 +12,7 @@ use Rattle.bz_gsym.proofs.places.seen_from.Given as goal
 abbrev pub invariant-loop-left : goal.invariant-loop-left
 invariant-loop-left l = record {
   within : l.left ≤ length l.calls;
-  seen : seen_from l.context l.fn.row (map frame_seen (drop l.left l.calls)) ≡ Some (site_of l.site, reverse (map call_of l.inlined.items));
-  site : IsLentPlace l.site;
+  seen : seen_from l.context l.fn.row (map frame_seen (drop l.left l.calls)) ≡ Some (line_seen l.site, reverse (map call_of l.inlined.items));
   calls : AllByRecursion IsLentCall l.inlined.items;
 }
 
