@@ -1,7 +1,8 @@
 -- The operators of a line table, one after another, and the states that they come to.
-use Rattle.std.proofs.Common.{◌≡◌, ℕ, ℤ, zero, suc, ◌-◌, ◌<◌, ◌≤◌, Bool, true, false, cond, List, [], ◌∷◌, length, drop, Option, Some, None, IfNone, option_map, nat_lt, nat_eq, refl, sym, ap, ◌∙◌, arith}
+use Rattle.std.proofs.Common.{◌≡◌, ℕ, ℤ, zero, suc, ◌-◌, ◌<◌, ◌≤◌, Bool, true, false, cond, List, [], ◌∷◌, length, drop, Option, Some, None, IfNone, IfSome, option_map, nat_lt, nat_eq, refl, sym, ap, ◌∙◌, arith}
 use Rattle.std.specs.Option.{option_and, option_and_then}
-use Rattle.std.proofs.lemmas.Bool.{le-ltb, lt-ltb}
+use Rattle.std.specs.List.{slice_index}
+use Rattle.std.proofs.lemmas.Bool.{le-ltb, lt-ltb, ne_eqb}
 use Rattle.std.proofs.lemmas.Option.{none-some, same_Some}
 use Rattle.bz_base.specs.Cursor.{Reading, byte_at, with_first, with_rest}
 use Rattle.bz_base.specs.Leb128.{leb_at, low_bits, signed, sleb_at, uleb_at, unsigned}
@@ -103,6 +104,18 @@ module _ (header : LineTableHeader) where
   unfolding operator_at byte_at
   operator-shorter row [] x is = absurd (none-some x is)
   operator-shorter row (operator ∷ bytes) x is = let shorter = operand-shorter row operator bytes x is in omega arith
+
+  -- a special operator in front, which comes to a row if it does something
+  special_does : (row : LineTableRow) (b : ℕ) (bytes : List ℕ) → 4 ≤ b → operator_at header row (b ∷ bytes) ≡ option_map (λ state. ((results.NewRow, state), bytes)) (special header row (b - 4))
+  unfolding operator_at byte_at
+  special_does row b bytes far =
+      rw (ne_eqb b 0 (λ same. omega arith), ne_eqb b 1 (λ same. omega arith), ne_eqb b 2 (λ same. omega arith), ne_eqb b 3 (λ same. omega arith)) refl
+
+  pub special_row : (row : LineTableRow) (bytes : List ℕ) (o : Option LineTableRow) → 0 < length bytes → 4 ≤ slice_index bytes 0 → o ≡ special header row (slice_index bytes 0 - 4) →
+      IfSome o (λ state. operator_at header row bytes ≡ Some ((results.NewRow, state), drop 1 bytes))
+  special_row row [] o some far is = absurd (omega arith)
+  special_row row (b ∷ bytes) None some far is = tt
+  special_row row (b ∷ bytes) (Some state) some far is = special_does row b bytes far ∙ ap (option_map (λ state. ((results.NewRow, state), bytes))) (sym is)
 
   -- no operator is left where no byte is
   none_left : (row : LineTableRow) (bytes : List ℕ) → length bytes ≤ 0 → operator_at header row bytes ≡ None

@@ -1,10 +1,11 @@
 //! The line table of a symbol.
 
-ghost use Rattle.std.specs.Prelude.{◌≡◌, ◌+◌, ◌<◌, ◌/◌, ◌%◌, ◌+ℤ◌, ◌≤◌, pos, drop, length, option_map, IfNone, IfSome};
+ghost use Rattle.std.specs.Prelude.{◌≡◌, ◌+◌, ◌<◌, ◌/◌, ◌%◌, ◌+ℤ◌, ◌≤◌, pos, drop, false, length, option_map, Some, IfNone, IfSome, IsTrue};
 ghost use Rattle.bz_base.specs.Cursor.{with_rest};
-ghost use Rattle.bz_gsym.specs.LineTable.{first_state, header_at, line_in, low_half, operated, operator_at, picked, special, states, wrapped};
+ghost use Rattle.bz_gsym.specs.LineTable.{first_state, header_at, line_in, low_half, operated, operator_at, picked, sought, special, states, wrapped};
+ghost use Rattle.bz_gsym.specs.declared.linetab.RunResult.TheVariants.{NewRow};
 
-use crate::short::{read_sleb, read_uleb};
+use crate::short::{pass, read_sleb, read_uleb};
 use bz_base::{Addr, Cursor};
 
 /// The operator that ends the table.
@@ -217,9 +218,49 @@ fn picked(
                 if addr < row.addr {
                     return last;
                 }
+                if run_rows(&mut row, header, ops, addr) {
+                    return Some(row);
+                }
                 last = Some(row);
             }
         }
     }
     last.and(Some(row))
+}
+
+/// Goes on from a row by the special operators in front. Whether the next one's row lies above the
+/// address, so that this row is the last one up to it.
+#[inline(always)]
+fn run_rows(
+    row: &mut LineTableRow,
+    header: &LineTableHeader,
+    ops: &mut Cursor<'_>,
+    addr: Addr,
+) -> bool
+    ensures ends { IsTrue result → Some row.new ≡ sought addr (Some row.old) row.old (states header.now row.old ops.old.left) }
+    ensures goes_on { result ≡ false → sought addr (Some row.new) row.new (states header.now row.new ops.new.left) ≡ sought addr (Some row.old) row.old (states header.now row.old ops.old.left) }
+    ensures within { length ops.new.left ≤ length ops.old.left }
+{
+    while let Some(state) = next_row(*row, header, ops) {
+        if addr < state.addr {
+            return true;
+        }
+        *row = state;
+        pass(ops, 1);
+    }
+    false
+}
+
+/// The row that the special operator in front of `ops` comes to. None: another one is in front, or none,
+/// or it does nothing.
+#[inline(always)]
+fn next_row(row: LineTableRow, header: &LineTableHeader, ops: &Cursor<'_>) -> Option<LineTableRow>
+    ensures row { IfSome result (λ state. operator_at header.now row ops.now.left ≡ Some ((NewRow, state), drop 1 ops.now.left)) }
+    ensures some { IfSome result (λ state. 0 < length ops.now.left) }
+{
+    let operators = ops.rest();
+    if operators.len() == 0 || operators[0] < FIRST_SPECIAL {
+        return None;
+    }
+    special(row, header, operators[0] - FIRST_SPECIAL)
 }

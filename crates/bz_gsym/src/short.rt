@@ -46,7 +46,7 @@ pub(crate) fn read_sleb(cursor: &mut Cursor<'_>) -> Option<i64>
 /// Leaves so many bytes behind.
 #[tactic(auto, unfolding(bz_base::specs::Cursor::slice_at))]
 #[inline(always)]
-fn pass(cursor: &mut Cursor<'_>, len: usize)
+pub(crate) fn pass(cursor: &mut Cursor<'_>, len: usize)
     requires { len ≤ length cursor.old.left }
     ensures left { cursor.new.left ≡ drop len cursor.old.left }
     ensures all { cursor.new.all ≡ cursor.old.all }

@@ -12,8 +12,16 @@ loop-came-preserved-in-Ok c =
 
 pub loop-came-preserved : goal.loop-came-preserved
 loop-came-preserved c =
-    past_row c.args.header.now c.args.addr c.loop-came.last c.loop-came.row c.run_op.new.row c.loop-came.ops.left c.run_op.new.ops.left (rw c.in-NewRow.is at c.in-Some.ensures.runs) c.if-addr-row.false
+    c.run_rows.ensures.goes_on c.if-run_rows.false
+    ∙ past_row c.args.header.now c.args.addr c.loop-came.last c.loop-came.row c.run_op.new.row c.loop-came.ops.left c.run_op.new.ops.left (rw c.in-NewRow.is at c.in-Some.ensures.runs) c.if-addr-row.false
     ∙ c.loop-came.invariant
+
+pub returns-then-run_rows : goal.returns-then-run_rows
+returns-then-run_rows c =
+    c.run_rows.ensures.ends c.if-run_rows.true
+    ∙ past_row c.args.header.now c.args.addr c.loop-came.last c.loop-came.row c.run_op.new.row c.loop-came.ops.left c.run_op.new.ops.left (rw c.in-NewRow.is at c.in-Some.ensures.runs) c.if-addr-row.false
+    ∙ c.loop-came.invariant
+    ∙ picked_early c.args.addr c.args.first (states c.args.header.now c.args.first c.args.ops.now.left)
 
 pub returns-then-addr-row : goal.returns-then-addr-row
 returns-then-addr-row c =
