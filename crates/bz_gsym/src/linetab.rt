@@ -1,8 +1,8 @@
 //! The line table of a symbol.
 
-ghost use Rattle.std.specs.Prelude.{◌≡◌, ◌+◌, ◌<◌, ◌/◌, ◌%◌, ◌+ℤ◌, ◌≤◌, pos, drop, false, length, option_map, Some, IfNone, IfSome, IsTrue};
+ghost use Rattle.std.specs.Prelude.{◌≡◌, ◌+◌, ◌<◌, ◌/◌, ◌%◌, ◌+ℤ◌, ◌≤◌, pos, drop, false, length, option_map, Some, None, if◌then◌else◌, IfNone, IfSome, IsTrue};
 ghost use Rattle.bz_base.specs.Cursor.{with_rest};
-ghost use Rattle.bz_gsym.specs.LineTable.{first_state, header_at, line_in, low_half, operated, operator_at, picked, sought, special, states, wrapped};
+ghost use Rattle.bz_gsym.specs.LineTable.{first_state, header_at, is_above, line_in, low_half, operated, operator_at, picked, sought, special, states, wrapped};
 ghost use Rattle.bz_gsym.specs.declared.linetab.RunResult.TheVariants.{NewRow};
 
 use crate::short::{pass, read_sleb, read_uleb};
@@ -215,8 +215,8 @@ fn picked(
             RunResult::End => break,
             RunResult::Ok => {}
             RunResult::NewRow => {
-                if addr < row.addr {
-                    return last;
+                if let Some(found) = known_at(row, last, addr) {
+                    return found;
                 }
                 if run_rows(&mut row, header, ops, addr) {
                     return Some(row);
@@ -225,7 +225,30 @@ fn picked(
             }
         }
     }
-    last.and(Some(row))
+    at_end(last, row)
+}
+
+/// What is known at a row: where it lies above the address, the row before it answers, if there is one.
+#[inline(always)]
+fn known_at(
+    row: LineTableRow,
+    last: Option<LineTableRow>,
+    addr: Addr,
+) -> Option<Option<LineTableRow>>
+    ensures { result ≡ (if is_above addr row then Some last else None) }
+{
+    if addr < row.addr {
+        return Some(last);
+    }
+    None
+}
+
+/// What is known at the table's end: its state, if there was a row.
+#[inline(always)]
+fn at_end(last: Option<LineTableRow>, state: LineTableRow) -> Option<LineTableRow>
+    ensures { result ≡ option_map (λ row. state) last }
+{
+    last.and(Some(state))
 }
 
 /// Goes on from a row by the special operators in front. Whether the next one's row lies above the
