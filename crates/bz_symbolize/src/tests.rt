@@ -7,7 +7,7 @@ mod elf;
 mod gsym;
 
 use crate::source::{Breakpad, GsymData, Source};
-use crate::{Builder, Symbolizer};
+use crate::{Builder, Lookups, Symbolizer};
 use bz_base::{Error, Input, Reason, Result, Steps, Symbolized};
 use bz_files::MemFiles;
 use std::alloc::Global;
@@ -20,12 +20,11 @@ const FIRST: &[u8] = b"FUNC 1000 20 0 one\n";
 
 const SECOND: &[u8] = b"FUNC 1000 20 0 two\n";
 
-/// A line record whose file has no FILE record.
-const WITHOUT_ITS_FILE: &[u8] = b"FUNC 1000 10 0 f\n1000 10 5 9\n";
+/// A line record whose file has no FILE record, and a function without line records.
+const WITHOUT_ITS_FILE: &[u8] = b"FUNC 1000 10 0 f\n1000 10 5 9\nFUNC 2000 10 0 g\n";
 
-const ADDRESSES: &[u64] = &[0x1010];
-
-const REFUSED: &[u64] = &[0x1000];
+/// An address before the first function, and one in it.
+const ADDRESSES: Input<&[u64]> = Input::FileOffset(&[0xfff, 0x1010]);
 
 /// Puts a text at `/s.sym`. Says whether memory was left.
 fn put(alloc: Global, files: &mut MemFiles, text: &[u8]) -> bool {
@@ -40,14 +39,6 @@ fn source(alloc: Global) -> Result<Source<'static>> {
     Ok(Source::from(Breakpad::new(String::from_str(alloc, "/s.sym")?)))
 }
 
-/// Whether the first answer is a symbol with the name.
-fn has_name(answers: &[Symbolized<'_>], name: &str) -> bool {
-    if answers.is_empty() {
-        return false;
-    }
-    is_named(&answers[0], name)
-}
-
 /// Whether the answer is a symbol with this name.
 fn is_named(answer: &Symbolized<'_>, name: &str) -> bool {
     match answer.as_sym() {
@@ -56,19 +47,99 @@ fn is_named(answer: &Symbolized<'_>, name: &str) -> bool {
     }
 }
 
-/// Whether the source answers the one address by a symbol with this name.
+/// Whether the answer is that there is no symbol, for this reason.
+fn is_unknown(answer: &Symbolized<'_>, expected: Reason) -> bool {
+    match answer {
+        Symbolized::Sym(_) => false,
+        Symbolized::Unknown(reason) => *reason == expected,
+    }
+}
+
+/// Whether these are two answers, the first one that reason and the second one a symbol with the name.
+fn are_right(answers: &[Symbolized<'_>], reason: Reason, name: &str) -> bool {
+    match answers {
+        [first, second] => is_unknown(first, reason) && is_named(second, name),
+        _ => false,
+    }
+}
+
+/// Whether the batch is answered so.
 fn answers(
     alloc: Global,
     symbolizer: &mut Symbolizer,
     files: &mut MemFiles,
     src: &Source<'_>,
-    name: &str,
+    input: Input<&[u64]>,
+    (reason, name): (Reason, &str),
 ) -> bool {
-    match symbolizer.symbolize(alloc, files, src, Input::FileOffset(ADDRESSES)) {
-        Ok(answers) => has_name(&answers, name),
+    match symbolizer.symbolize(alloc, files, src, input) {
+        Ok(answers) => are_right(answers.as_slice(), reason, name),
         Err(_) => false,
     }
 }
+
+/// Whether the address alone is answered by a symbol with this name.
+fn answers_single(
+    alloc: Global,
+    symbolizer: &mut Symbolizer,
+    files: &mut MemFiles,
+    src: &Source<'_>,
+    input: Input<u64>,
+    name: &str,
+) -> bool {
+    match symbolizer.symbolize_single(alloc, files, src, input) {
+        Ok(answer) => is_named(&answer, name),
+        Err(_) => false,
+    }
+}
+
+/// Whether the address alone is refused so.
+fn is_refused(
+    alloc: Global,
+    symbolizer: &mut Symbolizer,
+    files: &mut MemFiles,
+    src: &Source<'_>,
+    input: Input<u64>,
+    expected: Error,
+) -> bool {
+    match symbolizer.symbolize_single(alloc, files, src, input) {
+        Ok(_) => false,
+        Err(refusal) => refusal == expected,
+    }
+}
+
+/// Whether two addresses that are looked up are answered so, one by one.
+fn looks_up(
+    alloc: Global,
+    symbolizer: &mut Symbolizer,
+    files: &mut MemFiles,
+    src: &Source<'_>,
+    input: Input<Vec<u64>>,
+    (reason, name): (Reason, &str),
+) -> Result<bool> {
+    let lookups = symbolizer.look_up(alloc, files, src, input)?;
+    if lookups.len() != 2 {
+        return Ok(false);
+    }
+    let first = lookups.answer(alloc, 0)?;
+    let second = lookups.answer(alloc, 1)?;
+    Ok(is_unknown(&first, reason) && is_named(&second, name))
+}
+
+/// A symbolizer that doesn't look at files anew, with every feature off.
+fn without_features(alloc: Global) -> Symbolizer {
+    Symbolizer::builder()
+        .enable_auto_reload(false)
+        .enable_code_info(false)
+        .enable_inlined_fns(false)
+        .enable_demangling(false)
+        .set_debug_dirs(Some(Vec::new(alloc)))
+        .build(alloc)
+}
+
+const ONE: (Reason, &str) = (Reason::UnknownAddr, "one");
+
+const TWO: (Reason, &str) = (Reason::UnknownAddr, "two");
 
 /// A file that has changed answers by its present version, or by its first one where files aren't
 /// looked at anew; and after a look that fails the next call answers.
@@ -78,20 +149,15 @@ fn answers_a_file_that_changes(rt: HostRuntime) -> std::result::Result<(), Fail>
     let src = source(alloc)?;
     let mut files = MemFiles::new(alloc, 7);
     let mut anew = Symbolizer::new(alloc);
-    let mut still = Symbolizer::builder()
-        .enable_auto_reload(false)
-        .enable_code_info(false)
-        .enable_inlined_fns(false)
-        .enable_demangling(false)
-        .set_debug_dirs(Some(Vec::new(alloc)))
-        .build(alloc);
+    let mut still = without_features(alloc);
     assert!(rt; put(alloc, &mut files, FIRST));
-    assert!(rt; answers(alloc, &mut anew, &mut files, &src, "one"));
-    assert!(rt; answers(alloc, &mut still, &mut files, &src, "one"));
+    assert!(rt; answers(alloc, &mut anew, &mut files, &src, ADDRESSES, ONE));
+    assert!(rt; answers(alloc, &mut still, &mut files, &src, ADDRESSES, ONE));
     assert!(rt; put(alloc, &mut files, SECOND) && files.fail_call(alloc, 5).is_ok());
-    assert!(rt; !answers(alloc, &mut anew, &mut files, &src, "two") && files.faults() == 1);
-    assert!(rt; answers(alloc, &mut anew, &mut files, &src, "two"));
-    assert!(rt; answers(alloc, &mut still, &mut files, &src, "one"));
+    assert!(rt; !answers(alloc, &mut anew, &mut files, &src, ADDRESSES, TWO));
+    assert!(rt; files.faults() == 1);
+    assert!(rt; answers(alloc, &mut anew, &mut files, &src, ADDRESSES, TWO));
+    assert!(rt; answers(alloc, &mut still, &mut files, &src, ADDRESSES, ONE));
     assert!(rt; files.opens() == 3);
     Ok(())
 }
@@ -105,9 +171,20 @@ fn answers_a_single_address(rt: HostRuntime) -> std::result::Result<(), Fail> {
     let mut symbolizer = Symbolizer::new(alloc);
     assert!(rt; put(alloc, &mut files, FIRST));
     let input = Input::FileOffset(0x1010);
-    let answer = symbolizer.symbolize_single(alloc, &mut files, &src, input)?;
-    assert!(rt; is_named(&answer, "one"));
+    assert!(rt; answers_single(alloc, &mut symbolizer, &mut files, &src, input, "one"));
     Ok(())
+}
+
+/// Whether the batch's one address is 0x1010, and it is answered by `one`, also together with others.
+fn are_answered(alloc: Global, lookups: &Lookups<'_>) -> Result<bool> {
+    if lookups.len() != 1 {
+        return Ok(false);
+    }
+    let answer = lookups.answer(alloc, 0)?;
+    let addrs = [0xfff, lookups.addr(0)];
+    let answers = lookups.answers_at(alloc, &addrs)?;
+    let (reason, name) = ONE;
+    Ok(addrs[1] == 0x1010 && is_named(&answer, name) && are_right(answers.as_slice(), reason, name))
 }
 
 /// A batch that was looked up answers by the version that it found, also after the file has changed.
@@ -118,24 +195,12 @@ fn answers_by_the_version_that_was_found(rt: HostRuntime) -> std::result::Result
     let mut files = MemFiles::new(alloc, 7);
     let mut symbolizer = Symbolizer::new(alloc);
     assert!(rt; put(alloc, &mut files, FIRST));
-    let addrs = Vec::from_slice(alloc, ADDRESSES)?;
+    let addrs = Vec::from_slice(alloc, &[0x1010])?;
     let lookups = symbolizer.look_up(alloc, &mut files, &src, Input::FileOffset(addrs))?;
     assert!(rt; put(alloc, &mut files, SECOND));
-    assert!(rt; answers(alloc, &mut symbolizer, &mut files, &src, "two"));
-    assert!(rt; lookups.len() == 1);
-    if lookups.len() == 1 {
-        let answer = lookups.answer(alloc, 0)?;
-        assert!(rt; lookups.addr(0) == 0x1010 && is_named(&answer, "one"));
-    }
+    assert!(rt; answers(alloc, &mut symbolizer, &mut files, &src, ADDRESSES, TWO));
+    assert!(rt; are_answered(alloc, &lookups)?);
     Ok(())
-}
-
-/// Whether the call is refused as input that isn't valid.
-fn is_refused(answer: Result<Symbolized<'_>>) -> bool {
-    match answer {
-        Err(Error::InvalidInput) => true,
-        _ => false,
-    }
 }
 
 fn counted<L: Ledger>(
@@ -149,10 +214,10 @@ fn counted<L: Ledger>(
     requires some { 0 < L.parts }
 {
     let mut steps = Steps::<L>::new(blank);
-    let input = Input::FileOffset(ADDRESSES);
     let mut symbolizer = Builder::default().build(alloc);
-    let answers = symbolizer.symbolize_counted(alloc, files, src, input, &mut steps)?;
-    Ok(has_name(&answers, "one"))
+    let answers = symbolizer.symbolize_counted(alloc, files, src, ADDRESSES, &mut steps)?;
+    let (reason, name) = ONE;
+    Ok(are_right(answers.as_slice(), reason, name))
 }
 
 #[test]
@@ -165,16 +230,30 @@ fn answers_with_a_count(rt: HostRuntime) -> std::result::Result<(), Fail> {
     Ok(())
 }
 
+/// Whether the source is printed so.
+fn prints(alloc: Global, src: &Source<'_>, expected: &str) -> std::result::Result<bool, Fail> {
+    let text = format!(in alloc; "{src:?}")?;
+    Ok(text.as_str() == expected)
+}
+
 #[test]
 fn prints_a_source_by_its_path(rt: HostRuntime) -> std::result::Result<(), Fail> {
-    let src = source(rt.alloc())?;
-    let text = format!(in rt.alloc(); "{src:?}")?;
-    assert!(rt; text.as_str() == "Breakpad(\"/s.sym\")");
+    let alloc = rt.alloc();
+    assert!(rt; prints(alloc, &source(alloc)?, "Breakpad(\"/s.sym\")")?);
     let src = Source::from(GsymData::new(b"\x01\x02"));
-    let text = format!(in rt.alloc(); "{src:?}")?;
-    assert!(rt; text.as_str() == "GsymData([1, 2])");
+    assert!(rt; prints(alloc, &src, "GsymData([1, 2])")?);
     Ok(())
 }
+
+/// An address before the function whose line names no file, and one in it.
+const PLACELESS: Input<&[u64]> = Input::FileOffset(&[0xfff, 0x1000]);
+
+const F: (Reason, &str) = (Reason::UnknownAddr, "f");
+
+/// An address in that function, and one in the other function.
+const FOLDED: Input<&[u64]> = Input::FileOffset(&[0x1000, 0x2000]);
+
+const G: (Reason, &str) = (Reason::IgnoredError, "g");
 
 /// An address whose place in the source code has no name is refused alone, and is an ignored error
 /// in a batch; without places both answer.
@@ -185,18 +264,20 @@ fn folds_a_refused_address_into_a_batch(rt: HostRuntime) -> std::result::Result<
     let mut files = MemFiles::new(alloc, 7);
     let mut places = Symbolizer::new(alloc);
     let mut names = Symbolizer::builder().enable_code_info(false).build(alloc);
-    let batch = Input::FileOffset(REFUSED);
     let single = Input::FileOffset(0x1000);
     assert!(rt; put(alloc, &mut files, WITHOUT_ITS_FILE));
-    assert!(rt; has_name(&names.symbolize(alloc, &mut files, &src, batch)?, "f"));
+    assert!(rt; answers(alloc, &mut names, &mut files, &src, PLACELESS, F));
+    assert!(rt; answers_single(alloc, &mut names, &mut files, &src, single, "f"));
+    assert!(rt; answers(alloc, &mut places, &mut files, &src, FOLDED, G));
     assert!(rt;
-        is_named(
-            &names.symbolize_single(alloc, &mut files, &src, single)?,
-            "f"
+        is_refused(
+            alloc,
+            &mut places,
+            &mut files,
+            &src,
+            single,
+            Error::InvalidInput
         )
     );
-    let answers = places.symbolize(alloc, &mut files, &src, batch)?;
-    assert!(rt; answers.len() == 1 && answers[0] == Symbolized::Unknown(Reason::IgnoredError));
-    assert!(rt; is_refused(places.symbolize_single(alloc, &mut files, &src, single)));
     Ok(())
 }

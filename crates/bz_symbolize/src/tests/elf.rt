@@ -1,9 +1,9 @@
 //! ELF files.
 
-use super::is_named;
+use super::{answers, looks_up};
 use crate::Symbolizer;
 use crate::source::{Elf, Source};
-use bz_base::{Error, Input, Result, Symbolized};
+use bz_base::{Error, Input, Reason, Result, Sym, Symbolized};
 use bz_elf::ElfResolver;
 use bz_files::MemFiles;
 use std::alloc::Global;
@@ -47,67 +47,135 @@ const E1: [u8; 368] = [
     0x00, 0x00, 0x00, 0x00, 0x00, 0x00, 0x00, 0x00, 0x00, 0x00, 0x00, 0x00, 0x00, 0x00, 0x00, 0x00,
 ];
 
+/// A file without symbols: the front of a head, whose tables are all absent.
+const NO_SYMBOLS: [u8; 64] = [
+    0x7f, 0x45, 0x4c, 0x46, 0x02, 0x01, 0x01, 0x00, 0x00, 0x00, 0x00, 0x00, 0x00, 0x00, 0x00, 0x00,
+    0x00, 0x00, 0x00, 0x00, 0x00, 0x00, 0x00, 0x00, 0x00, 0x00, 0x00, 0x00, 0x00, 0x00, 0x00, 0x00,
+    0x00, 0x00, 0x00, 0x00, 0x00, 0x00, 0x00, 0x00, 0x00, 0x00, 0x00, 0x00, 0x00, 0x00, 0x00, 0x00,
+    0x00, 0x00, 0x00, 0x00, 0x00, 0x00, 0x00, 0x00, 0x00, 0x00, 0x00, 0x00, 0x00, 0x00, 0x00, 0x00,
+];
+
+/// Where the files are, and their bytes; those at `/d` aren't a file.
+const FILES: &[(&str, &[u8])] = &[("/e", &E1), ("/n", &NO_SYMBOLS), ("/d", b"\x7fELF")];
+
+/// The files, and at `/l` the one at `/e` under the same stamp.
+fn files(alloc: Global) -> Result<MemFiles> {
+    let mut files = MemFiles::new(alloc, 7);
+    for (path, bytes) in FILES {
+        files.put(alloc, path, Vec::from_slice(alloc, bytes)?)?;
+    }
+    files.link(alloc, "/l", "/e")?;
+    Ok(files)
+}
+
 /// The ELF file at a path.
 fn source(alloc: Global, path: &str) -> Result<Source<'static>> {
     Ok(Source::from(Elf::new(String::from_str(alloc, path)?)))
 }
 
-/// The file at `/e` and, under the same stamp, at `/l`; one without symbols at `/n`; and at `/d` bytes
-/// that aren't a file.
-fn files(alloc: Global) -> std::result::Result<MemFiles, Fail> {
-    let mut files = MemFiles::new(alloc, 7);
-    files.put(alloc, "/e", Vec::from_slice(alloc, &E1)?)?;
-    files.link(alloc, "/l", "/e")?;
-    let mut bytes = Vec::from_slice(alloc, &E1[..32])?;
-    bytes.extend_from_slice(&[0; 32])?;
-    files.put(alloc, "/n", bytes)?;
-    files.put(alloc, "/d", Vec::from_slice(alloc, &E1[..4])?)?;
-    Ok(files)
+/// What is told of an address.
+enum Told {
+    /// The symbol `f`, 8 bytes past its start, with the path of the file as its module.
+    Symbol,
+    /// Why there is no symbol.
+    Unknown(Reason),
+    /// Why it is refused.
+    Refused(Error),
 }
 
-/// What is told of an address: name, offset and module of its symbol, or why there is none.
-fn told(alloc: Global, answer: Result<Symbolized<'_>>) -> std::result::Result<String, Fail> {
-    let mut text = String::new(alloc);
-    match answer {
-        Err(refusal) => write!(text, "refused: {refusal:?}")?,
-        Ok(Symbolized::Unknown(reason)) => write!(text, "{reason:?}")?,
-        Ok(Symbolized::Sym(symbol)) => {
-            text.push_str(symbol.name.as_str())?;
-            let offset = symbol.offset;
-            write!(text, "+{offset}")?;
-            if let Some(module) = &symbol.module {
-                text.push_str(" ")?;
-                text.push_str(module.as_str())?;
-            }
-        }
-    }
-    Ok(text)
-}
+/// The path of a file, an address, and what is told of it.
+type Row = (&'static str, Input<u64>, Told);
 
-/// A path, an address, and what is told of it.
-const TOLD: [(&str, Input<u64>, &str); 11] = [
-    ("/e", Input::VirtOffset(0x400088), "f+8 /e"),
-    ("/e", Input::FileOffset(0x88), "f+8 /e"),
-    ("/l", Input::VirtOffset(0x400088), "f+8 /l"),
-    ("/e", Input::VirtOffset(0x400090), "UnknownAddr"),
-    ("/e", Input::FileOffset(0x200), "InvalidFileOffset"),
-    ("/e", Input::AbsAddr(0x400088), "refused: Unsupported"),
-    ("/n", Input::VirtOffset(0x400088), "MissingSyms"),
-    ("/n", Input::FileOffset(0x88), "InvalidFileOffset"),
-    ("/d", Input::AbsAddr(0x400088), "refused: InvalidData"),
-    ("/x", Input::AbsAddr(0x400088), "refused: NotFound"),
-    ("/x", Input::VirtOffset(0x400088), "refused: NotFound"),
+const TOLD: &[Row] = &[
+    ("/e", Input::VirtOffset(0x400088), Told::Symbol),
+    ("/e", Input::FileOffset(0x88), Told::Symbol),
+    ("/l", Input::VirtOffset(0x400088), Told::Symbol),
+    (
+        "/e",
+        Input::VirtOffset(0x400090),
+        Told::Unknown(Reason::UnknownAddr),
+    ),
+    (
+        "/e",
+        Input::FileOffset(0x200),
+        Told::Unknown(Reason::InvalidFileOffset),
+    ),
+    (
+        "/e",
+        Input::AbsAddr(0x400088),
+        Told::Refused(Error::Unsupported),
+    ),
+    (
+        "/n",
+        Input::VirtOffset(0x400088),
+        Told::Unknown(Reason::MissingSyms),
+    ),
+    (
+        "/n",
+        Input::FileOffset(0x88),
+        Told::Unknown(Reason::InvalidFileOffset),
+    ),
+    (
+        "/d",
+        Input::AbsAddr(0x400088),
+        Told::Refused(Error::InvalidData),
+    ),
+    (
+        "/x",
+        Input::AbsAddr(0x400088),
+        Told::Refused(Error::NotFound),
+    ),
+    (
+        "/x",
+        Input::VirtOffset(0x400088),
+        Told::Refused(Error::NotFound),
+    ),
 ];
+
+/// Whether the symbol is `f`, 8 bytes past its start, in this module.
+fn is_symbol(symbol: &Sym<'_>, path: &str) -> bool {
+    let Some(module) = &symbol.module else {
+        return false;
+    };
+    symbol.name.as_str() == "f" && symbol.offset == 8 && module.as_str() == path
+}
+
+/// Whether an answer of the file at a path is what is told.
+fn is_told(answer: &Result<Symbolized<'_>>, path: &str, told: &Told) -> bool {
+    match (answer, told) {
+        (Ok(Symbolized::Sym(symbol)), Told::Symbol) => is_symbol(symbol, path),
+        (Ok(Symbolized::Unknown(reason)), Told::Unknown(expected)) => reason == expected,
+        (Err(refusal), Told::Refused(expected)) => refusal == expected,
+        _ => false,
+    }
+}
+
+/// Whether the row's address is answered as it tells.
+fn answers_row(
+    alloc: Global,
+    symbolizer: &mut Symbolizer,
+    files: &mut MemFiles,
+    row: &Row,
+) -> bool {
+    let (path, input, told) = row;
+    let Ok(src) = source(alloc, path) else {
+        return false;
+    };
+    let answer = symbolizer.symbolize_single(alloc, files, &src, *input);
+    is_told(&answer, path, told)
+}
 
 #[test]
 fn answers_elf_addresses_by_their_kind(rt: HostRuntime) -> std::result::Result<(), Fail> {
     let alloc = rt.alloc();
     let mut files = files(alloc)?;
     let mut symbolizer = Symbolizer::new(alloc);
-    for (path, input, expected) in TOLD {
-        let src = source(alloc, path)?;
-        let answer = symbolizer.symbolize_single(alloc, &mut files, &src, input);
-        assert!(rt; told(alloc, answer)?.as_str() == expected, "{expected}");
+    for row in TOLD {
+        let path = row.0;
+        assert!(rt;
+            answers_row(alloc, &mut symbolizer, &mut files, row),
+            "{path}"
+        );
     }
     assert!(rt; files.opens() == 3);
     Ok(())
@@ -115,51 +183,79 @@ fn answers_elf_addresses_by_their_kind(rt: HostRuntime) -> std::result::Result<(
 
 const OFFSETS: &[u64] = &[0x200, 0x88];
 
+const SECOND: (Reason, &str) = (Reason::InvalidFileOffset, "f");
+
 #[test]
 fn answers_batches_of_file_offsets(rt: HostRuntime) -> std::result::Result<(), Fail> {
     let alloc = rt.alloc();
     let mut files = files(alloc)?;
     let mut symbolizer = Symbolizer::new(alloc);
-    let src: Source<'static> = source(alloc, "/e")?;
+    let src = source(alloc, "/e")?;
     let input = Input::FileOffset(OFFSETS);
-    let answers = symbolizer.symbolize(alloc, &mut files, &src, input)?;
-    assert!(rt; answers.len() == 2 && is_named(&answers[1], "f"));
-    let addrs = Vec::from_slice(alloc, &[0x88])?;
-    let lookups = symbolizer.look_up(alloc, &mut files, &src, Input::FileOffset(addrs))?;
-    assert!(rt; lookups.len() == 1);
-    if lookups.len() == 1 {
-        assert!(rt; told(alloc, lookups.answer(alloc, 0))?.as_str() == "f+8 /e");
-    }
+    assert!(rt; answers(alloc, &mut symbolizer, &mut files, &src, input, SECOND));
+    let addrs = Input::FileOffset(Vec::from_slice(alloc, OFFSETS)?);
+    assert!(rt; looks_up(alloc, &mut symbolizer, &mut files, &src, addrs, SECOND)?);
     Ok(())
 }
 
-/// What registering the file of a function at paths, one after the other, is answered. `/d` has other
-/// bytes, and `/l` the stamp of `/e`.
-const REGISTERED: [(&str, Result<()>); 5] = [
-    ("/e", Ok(())),
-    ("/e", Err(Error::AlreadyExists)),
-    ("/l", Err(Error::AlreadyExists)),
-    ("/x", Err(Error::NotFound)),
-    ("/d", Ok(())),
+/// What registering the file of a function at paths, one after the other, is refused by. `/d` has
+/// other bytes, and `/l` the stamp of `/e`.
+const REGISTERED: &[(&str, Option<Error>)] = &[
+    ("/e", None),
+    ("/e", Some(Error::AlreadyExists)),
+    ("/l", Some(Error::AlreadyExists)),
+    ("/x", Some(Error::NotFound)),
+    ("/d", None),
 ];
+
+const UNREAD: &[Row] = &[
+    ("/e", Input::VirtOffset(0x400088), Told::Symbol),
+    ("/l", Input::VirtOffset(0x400088), Told::Symbol),
+    ("/d", Input::VirtOffset(0x400088), Told::Symbol),
+];
+
+/// The resolver of the file of a function.
+fn resolver(alloc: Global) -> Result<Rc<ElfResolver>> {
+    let bytes = Vec::from_slice(alloc, &E1)?;
+    Ok(Rc::new(alloc, ElfResolver::from_bytes(alloc, "/e", bytes)?)?)
+}
+
+/// Whether registering it at the path is refused so.
+fn registers(
+    alloc: Global,
+    symbolizer: &mut Symbolizer,
+    files: &mut MemFiles,
+    resolver: &Rc<ElfResolver>,
+    (path, refusal): &(&str, Option<Error>),
+) -> bool {
+    let Ok(shared) = resolver.clone() else {
+        return false;
+    };
+    match symbolizer.register_elf_resolver(alloc, files, path, shared) {
+        Ok(()) => refusal.is_none(),
+        Err(error) => *refusal == Some(error),
+    }
+}
 
 #[test]
 fn registered_files_answer_unread(rt: HostRuntime) -> std::result::Result<(), Fail> {
     let alloc = rt.alloc();
     let mut files = files(alloc)?;
     let mut symbolizer = Symbolizer::new(alloc);
-    let bytes = Vec::from_slice(alloc, &E1)?;
-    let resolver = Rc::new(alloc, ElfResolver::from_bytes(alloc, "/e", bytes)?)?;
-    for (path, expected) in REGISTERED {
-        let shared = resolver.clone()?;
-        let answer = symbolizer.register_elf_resolver(alloc, &mut files, path, shared);
-        assert!(rt; answer == expected, "{path}");
+    let resolver = resolver(alloc)?;
+    for row in REGISTERED {
+        let path = row.0;
+        assert!(rt;
+            registers(alloc, &mut symbolizer, &mut files, &resolver, row),
+            "{path}"
+        );
     }
-    for (path, expected) in [("/e", "f+8 /e"), ("/l", "f+8 /l"), ("/d", "f+8 /d")] {
-        let src = source(alloc, path)?;
-        let input = Input::VirtOffset(0x400088);
-        let answer = symbolizer.symbolize_single(alloc, &mut files, &src, input);
-        assert!(rt; told(alloc, answer)?.as_str() == expected, "{expected}");
+    for row in UNREAD {
+        let path = row.0;
+        assert!(rt;
+            answers_row(alloc, &mut symbolizer, &mut files, row),
+            "{path}"
+        );
     }
     assert!(rt; files.opens() == 0);
     Ok(())

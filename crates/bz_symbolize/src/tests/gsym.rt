@@ -1,9 +1,9 @@
 //! GSYM, handed in and in a file.
 
-use super::is_named;
+use super::{answers, answers_single, is_refused, is_unknown, looks_up};
 use crate::Symbolizer;
 use crate::source::{GsymData, GsymFile, Source};
-use bz_base::{CodeInfo, Error, Input, Reason, Result, Symbolized};
+use bz_base::{CodeInfo, Error, InlinedFn, Input, Reason, Result, Sym, Symbolized};
 use bz_files::MemFiles;
 use std::alloc::Global;
 use std::test::Fail;
@@ -37,23 +37,19 @@ const CALLS: [u8; 188] = [
     0x00, 0x00, 0x00, 0x00, 0x0e, 0x00, 0x00, 0x00, 0x00, 0x00, 0x00, 0x00,
 ];
 
-const ADDRESSES: &[u64] = &[0x1004, 0xfff];
+/// An address before the first function, and one in it.
+const ADDRESSES: &[u64] = &[0xfff, 0x1004];
 
-/// Whether these are the answers to the addresses.
-fn are_right(answers: &[Symbolized<'_>]) -> bool {
-    if answers.len() != 2 {
-        return false;
-    }
-    is_named(&answers[0], "main") && answers[1] == Symbolized::Unknown(Reason::UnknownAddr)
-}
+const MAIN: (Reason, &str) = (Reason::UnknownAddr, "main");
 
-/// The refusal of a batch of virtual offsets on handed-in bytes, if it is refused.
-fn refusal_of(alloc: Global, symbolizer: &mut Symbolizer, bytes: &[u8]) -> Option<Error> {
+/// Whether the bytes are refused as what isn't GSYM.
+fn is_invalid(alloc: Global, bytes: &[u8]) -> bool {
     let mut files = MemFiles::new(alloc, 7);
+    let mut symbolizer = Symbolizer::new(alloc);
     let src = Source::from(GsymData::new(bytes));
     match symbolizer.symbolize(alloc, &mut files, &src, Input::VirtOffset(ADDRESSES)) {
-        Ok(_) => None,
-        Err(refusal) => Some(refusal),
+        Ok(_) => false,
+        Err(refusal) => refusal == Error::InvalidData,
     }
 }
 
@@ -64,15 +60,10 @@ fn answers_handed_in_bytes(rt: HostRuntime) -> std::result::Result<(), Fail> {
     let mut symbolizer = Symbolizer::new(alloc);
     let src = Source::from(GsymData::new(&CALLS));
     let input = Input::VirtOffset(ADDRESSES);
-    let answers = symbolizer.symbolize(alloc, &mut files, &src, input)?;
-    assert!(rt; are_right(answers.as_slice()));
-    let addrs = Vec::from_slice(alloc, ADDRESSES)?;
-    let lookups = symbolizer.look_up(alloc, &mut files, &src, Input::VirtOffset(addrs))?;
-    if lookups.len() > 0 {
-        assert!(rt; is_named(&lookups.answer(alloc, 0)?, "main"));
-    }
-    let cut = refusal_of(alloc, &mut symbolizer, &CALLS[..47]);
-    assert!(rt; lookups.len() == 2 && cut == Some(Error::InvalidData));
+    assert!(rt; answers(alloc, &mut symbolizer, &mut files, &src, input, MAIN));
+    let addrs = Input::VirtOffset(Vec::from_slice(alloc, ADDRESSES)?);
+    assert!(rt; looks_up(alloc, &mut symbolizer, &mut files, &src, addrs, MAIN)?);
+    assert!(rt; is_invalid(alloc, &CALLS[..47]));
     Ok(())
 }
 
@@ -82,114 +73,160 @@ fn answers_a_gsym_file(rt: HostRuntime) -> std::result::Result<(), Fail> {
     let mut files = MemFiles::new(alloc, 7);
     files.put(alloc, "/m.gsym", Vec::from_slice(alloc, &CALLS)?)?;
     let mut symbolizer = Symbolizer::new(alloc);
-    let src: Source<'static> = Source::from(GsymFile::new(String::from_str(alloc, "/m.gsym")?));
-    let input = Input::VirtOffset(ADDRESSES);
-    let answers = symbolizer.symbolize(alloc, &mut files, &src, input)?;
-    assert!(rt; are_right(answers.as_slice()));
-    let answer = symbolizer.symbolize_single(alloc, &mut files, &src, Input::VirtOffset(0x1004))?;
-    assert!(rt; is_named(&answer, "main") && files.opens() == 1);
-    let other: Result<_> = symbolizer.symbolize_single(
-        alloc,
-        &mut files,
-        &src,
-        Input::FileOffset(4),
+    let src = Source::from(GsymFile::new(String::from_str(alloc, "/m.gsym")?));
+    let batch = Input::VirtOffset(ADDRESSES);
+    assert!(rt; answers(alloc, &mut symbolizer, &mut files, &src, batch, MAIN));
+    let single = Input::VirtOffset(0x1004);
+    assert!(rt; answers_single(alloc, &mut symbolizer, &mut files, &src, single, "main"));
+    assert!(rt; files.opens() == 1);
+    let other = Input::FileOffset(4);
+    assert!(rt;
+        is_refused(
+            alloc,
+            &mut symbolizer,
+            &mut files,
+            &src,
+            other,
+            Error::Unsupported
+        )
     );
-    assert!(rt; other.is_err());
     Ok(())
 }
 
-/// Puts a place in the source code to the end of a text.
-fn push_place(text: &mut String, place: &Option<CodeInfo<'_>>) -> std::result::Result<(), Fail> {
+/// What is told of a symbol: its name, the offset in it, the line of its place, which is in `src/a.c`,
+/// and that of its one inlined call, of `sub`.
+type ToldSymbol = (&'static str, usize, Option<u32>, Option<u32>);
+
+/// Whether the place is that line of `src/a.c`, or there is neither.
+fn is_place(place: &Option<CodeInfo<'_>>, line: Option<u32>) -> bool {
     let Some(place) = place else {
-        text.push_str("-")?;
-        return Ok(());
+        return line.is_none();
     };
-    if let Some(dir) = &place.dir {
-        text.push_str(dir.as_str())?;
-        text.push_str("/")?;
-    }
-    text.push_str(place.file.as_str())?;
-    if let Some(line) = place.line {
-        write!(text, ":{line}")?;
-    }
-    Ok(())
+    let Some(dir) = &place.dir else {
+        return false;
+    };
+    dir.as_str() == "src" && place.file.as_str() == "a.c" && line.is_some() && place.line == line
 }
 
-/// What is told of an address: name, offset and place of its symbol, and its inlined calls.
-fn told(alloc: Global, answer: &Symbolized<'_>) -> std::result::Result<String, Fail> {
-    let mut text = String::new(alloc);
-    match answer {
-        Symbolized::Unknown(reason) => write!(text, "{reason:?}")?,
-        Symbolized::Sym(symbol) => {
-            text.push_str(symbol.name.as_str())?;
-            let offset = symbol.offset;
-            write!(text, "+{offset} ")?;
-            push_place(&mut text, &symbol.code_info)?;
-            for call in &symbol.inlined {
-                text.push_str(", ")?;
-                text.push_str(call.name.as_str())?;
-                text.push_str(" ")?;
-                push_place(&mut text, &call.code_info)?;
-            }
+/// Whether the inlined calls are one of `sub` at that line, or there is neither.
+fn are_calls(calls: &[InlinedFn<'_>], line: Option<u32>) -> bool {
+    match calls {
+        [] => line.is_none(),
+        [call] => {
+            call.name.as_str() == "sub" && line.is_some() && is_place(&call.code_info, line)
         }
+        _ => false,
     }
-    Ok(text)
+}
+
+/// Whether the symbol is what is told.
+fn is_symbol(symbol: &Sym<'_>, told: &ToldSymbol) -> bool {
+    let (name, offset, line, called) = told;
+    symbol.name.as_str() == *name
+        && symbol.offset == *offset
+        && is_place(&symbol.code_info, *line)
+        && are_calls(symbol.inlined.as_slice(), *called)
+}
+
+/// Whether the answer is the symbol that is told, or else that no symbol covers the address.
+fn is_told(answer: &Symbolized<'_>, told: &Option<ToldSymbol>) -> bool {
+    match (answer, told) {
+        (Symbolized::Sym(symbol), Some(told)) => is_symbol(symbol, told),
+        (Symbolized::Unknown(reason), None) => *reason == Reason::UnknownAddr,
+        _ => false,
+    }
 }
 
 /// Whether answers have places, whether they have inlined calls, an address, and what is told of it.
-const TOLD: [(bool, bool, u64, &str); 13] = [
-    (true, true, 0xfff, "UnknownAddr"),
-    (true, true, 0x1000, "main+0 src/a.c:5"),
-    (true, true, 0x1005, "main+5 src/a.c:9, sub src/a.c:5"),
-    (true, true, 0x1009, "main+9 src/a.c:7"),
-    (true, true, 0x100c, "main+12 src/a.c:7"),
-    (true, true, 0x101f, "main+31 src/a.c:10"),
-    (true, true, 0x1020, "UnknownAddr"),
-    (true, true, 0x1040, "sub+0 -"),
-    (true, true, 0x9999, "sub+35161 -"),
-    (true, false, 0x1005, "main+5 src/a.c:5"),
-    (false, true, 0x1005, "main+5 -"),
-    (false, false, 0x1005, "main+5 -"),
-    (false, false, 0x1040, "sub+0 -"),
+type Row = (bool, bool, u64, Option<ToldSymbol>);
+
+const TOLD: &[Row] = &[
+    (true, true, 0xfff, None),
+    (true, true, 0x1000, Some(("main", 0, Some(5), None))),
+    (true, true, 0x1005, Some(("main", 5, Some(9), Some(5)))),
+    (true, true, 0x1009, Some(("main", 9, Some(7), None))),
+    (true, true, 0x100c, Some(("main", 12, Some(7), None))),
+    (true, true, 0x101f, Some(("main", 31, Some(10), None))),
+    (true, true, 0x1020, None),
+    (true, true, 0x1040, Some(("sub", 0, None, None))),
+    (true, true, 0x9999, Some(("sub", 35161, None, None))),
+    (true, false, 0x1005, Some(("main", 5, Some(5), None))),
+    (false, true, 0x1005, Some(("main", 5, None, None))),
+    (false, false, 0x1005, Some(("main", 5, None, None))),
+    (false, false, 0x1040, Some(("sub", 0, None, None))),
 ];
 
-#[test]
-fn tells_places_as_it_is_set(rt: HostRuntime) -> std::result::Result<(), Fail> {
-    let alloc = rt.alloc();
+/// Whether a symbolizer that is set as the row says answers its address as it tells.
+fn answers_row(alloc: Global, (code_info, inlined, addr, told): &Row) -> bool {
     let mut files = MemFiles::new(alloc, 7);
     let src = Source::from(GsymData::new(&CALLS));
-    for (code_info, inlined, addr, expected) in TOLD {
-        let mut symbolizer = Symbolizer::builder()
-            .enable_code_info(code_info)
-            .enable_inlined_fns(inlined)
-            .build(alloc);
-        let input = Input::VirtOffset(addr);
-        let answer = symbolizer.symbolize_single(alloc, &mut files, &src, input)?;
-        assert!(rt; told(alloc, &answer)?.as_str() == expected, "{expected}");
+    let mut symbolizer = Symbolizer::builder()
+        .enable_code_info(*code_info)
+        .enable_inlined_fns(*inlined)
+        .build(alloc);
+    match symbolizer.symbolize_single(alloc, &mut files, &src, Input::VirtOffset(*addr)) {
+        Ok(answer) => is_told(&answer, told),
+        Err(_) => false,
     }
-    Ok(())
+}
+
+#[test]
+fn tells_places_as_it_is_set(rt: HostRuntime) {
+    for row in TOLD {
+        let addr = row.2;
+        assert!(rt; answers_row(rt.alloc(), row), "{addr}");
+    }
+}
+
+/// The file where the inlined call names a file that isn't there.
+fn without_its_file(alloc: Global) -> Result<Vec<u8>> {
+    let mut bytes = Vec::from_slice(alloc, &CALLS[..166])?;
+    bytes.push(2)?;
+    bytes.extend_from_slice(&CALLS[167..])?;
+    Ok(bytes)
 }
 
 const FOLDED: &[u64] = &[0x1005, 0x1009];
+
+/// Whether the batch of an address that is refused and of one that isn't answers so.
+fn folds(
+    alloc: Global,
+    symbolizer: &mut Symbolizer,
+    files: &mut MemFiles,
+    src: &Source<'_>,
+) -> bool {
+    match symbolizer.symbolize(alloc, files, src, Input::VirtOffset(FOLDED)) {
+        Ok(answers) => match answers.as_slice() {
+            [first, second] => {
+                is_unknown(first, Reason::IgnoredError)
+                    && is_told(second, &Some(("main", 9, Some(7), None)))
+            }
+            _ => false,
+        },
+        Err(_) => false,
+    }
+}
 
 /// An address whose inlined call names a file that isn't there is refused alone, and is an ignored
 /// error in a batch; others answer.
 #[test]
 fn folds_a_refused_gsym_address(rt: HostRuntime) -> std::result::Result<(), Fail> {
     let alloc = rt.alloc();
+    let bytes = without_its_file(alloc)?;
     let mut files = MemFiles::new(alloc, 7);
-    let mut bytes = Vec::from_slice(alloc, &CALLS[..166])?;
-    bytes.push(2)?;
-    bytes.extend_from_slice(&CALLS[167..])?;
-    let src = Source::from(GsymData::new(bytes.as_slice()));
     let mut symbolizer = Symbolizer::new(alloc);
-    let batch = Input::VirtOffset(FOLDED);
-    let answers = symbolizer.symbolize(alloc, &mut files, &src, batch)?;
-    for (answer, expected) in answers.iter().zip(["IgnoredError", "main+9 src/a.c:7"]) {
-        assert!(rt; told(alloc, answer)?.as_str() == expected, "{expected}");
-    }
+    let src = Source::from(GsymData::new(bytes.as_slice()));
+    assert!(rt; folds(alloc, &mut symbolizer, &mut files, &src));
     let single = Input::VirtOffset(0x1005);
-    let alone = symbolizer.symbolize_single(alloc, &mut files, &src, single);
-    assert!(rt; answers.len() == 2 && alone.is_err_and(|refusal| refusal == Error::InvalidData));
+    assert!(rt;
+        is_refused(
+            alloc,
+            &mut symbolizer,
+            &mut files,
+            &src,
+            single,
+            Error::InvalidData
+        )
+    );
     Ok(())
 }
