@@ -14,6 +14,7 @@ pub mod Kept
 pub mod KeptLemmas
 pub mod KeyLemmas
 pub mod LaneLemmas
+pub mod LineKeyLemmas
 pub mod LineSearchLemmas
 pub mod ListingLemmas
 pub mod MidwayLemmas

@@ -7,6 +7,7 @@ pub mod InlineLine
 pub mod Kept
 pub mod Lent
 pub mod Line
+pub mod LineKeys
 pub mod LineRun
 pub mod LineStarts
 pub mod Names

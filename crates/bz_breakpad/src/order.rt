@@ -1,16 +1,17 @@
 //! Puts the line records and inlined calls of each function in the order in which they are searched.
 
-ghost use Rattle.std.specs.Prelude.{◌≡◌, ◌≤◌, ◌++◌, true, false, ℕ, List, length, slice_range, IfOk, OnOk};
+ghost use Rattle.std.specs.Prelude.{◌≡◌, ◌≤◌, ◌++◌, true, false, ℕ, List, length, map, slice_range, IfOk, OnOk};
 ghost use Rattle.std.specs.List.{AllByRecursion};
 ghost use Rattle.bz_base.specs.Nearest.{IsTable};
 ghost use Rattle.bz_breakpad.specs.Kept.{FunctionFits, FunctionsFit, IsPart, ReadsLine};
+ghost use Rattle.bz_breakpad.specs.LineKeys.{line_key};
 ghost use Rattle.bz_breakpad.specs.LineStarts.{line_size, line_start};
 ghost use Rattle.bz_breakpad.specs.Search.{AreInlineesSearched, AreLinesSearched, AreRecordsSearched, HasRecords, IsInOrder};
 ghost use Rattle.bz_breakpad.specs.declared.types.Inlinee.{Inlinee as KeptInlinee};
 
 use crate::lines::{span_at, starts_ascend};
 use crate::types::{FunctionTable, Inlinee, KeptFunction, LineRecords, Part};
-use bz_base::sort_nested;
+use bz_base::{Spanned, sort_nested, sort_table};
 use std::alloc::{AllocError, Global};
 
 /// Records in order, of functions whose own don't stand so.
@@ -20,6 +21,32 @@ struct Copies {
     inlinees: Vec<Inlinee>,
     /// Room in which inlined calls are sorted.
     room: Vec<Inlinee>,
+}
+
+/// By what a line record is sorted, and where it begins in the file's bytes. It is read once, and
+/// not at each comparison.
+#[derive(Clone, Copy)]
+pub(crate) struct LineKey {
+    /// Where its code starts, relative to the module's base.
+    pub start: u64,
+    /// The size of its code, in bytes.
+    pub size: u32,
+    /// Where it begins.
+    pub place: usize,
+}
+
+impl Spanned for LineKey {
+    ghost start = { λ k. k.start };
+
+    ghost size = { λ k. k.size };
+
+    fn start(&self) -> u64 {
+        self.start
+    }
+
+    fn size(&self) -> u64 {
+        u64::from(self.size)
+    }
 }
 
 /// The functions, each with its line records and inlined calls in order.
@@ -112,10 +139,37 @@ fn order_lines(
 fn sorted_lines(alloc: Global, bytes: &[u8], places: &[usize]) -> Result<Vec<usize>, AllocError>
     ensures { IfOk result (λ sorted. IsTable (line_start bytes.now) (line_size bytes.now) places.now sorted.items) }
 {
-    let mut sorted = Vec::new(alloc);
-    sorted.extend_from_slice(places)?;
-    sorted.sort_by_key(|place| span_at(bytes, *place))?;
+    let mut keys = line_keys(alloc, bytes, places)?;
+    sort_table(&mut keys)?;
+    let sorted = places_of(alloc, &keys)?;
     Ok(sorted)
+}
+
+/// The keys of the line records at these places, in their order.
+fn line_keys(alloc: Global, bytes: &[u8], places: &[usize]) -> Result<Vec<LineKey>, AllocError>
+    ensures { IfOk result (λ keys. keys.items ≡ map (line_key bytes.now) places.now) }
+{
+    let mut keys = Vec::with_capacity(alloc, places.len())?;
+    for place in places {
+        let (start, size) = span_at(bytes, *place);
+        keys.push(LineKey {
+            start,
+            size,
+            place: *place,
+        })?;
+    }
+    Ok(keys)
+}
+
+/// Where the line records of these keys begin.
+fn places_of(alloc: Global, keys: &[LineKey]) -> Result<Vec<usize>, AllocError>
+    ensures { IfOk result (λ places. places.items ≡ map (λ k. k.place) keys.now) }
+{
+    let mut places = Vec::with_capacity(alloc, keys.len())?;
+    for key in keys {
+        places.push(key.place)?;
+    }
+    Ok(places)
 }
 
 /// Where a part of the inlined calls is in order, if not as it stands.

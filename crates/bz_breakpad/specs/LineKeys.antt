@@ -1,0 +1,8 @@
+-- The keys by which line records are put in order: a key has a record's start and size, and where it begins.
+use Rattle.std.specs.Prelude.{ℕ, List}
+use Rattle.bz_breakpad.specs.LineStarts.{line_size, line_start}
+use Rattle.bz_breakpad.specs.declared.order.LineKey.{LineKey}
+
+-- the key of the line record that begins at a place in the bytes
+abbrev pub line_key : List ℕ → ℕ → LineKey
+line_key bytes place = record { start = line_start bytes place; size = line_size bytes place; place = place }
