@@ -1,5 +1,5 @@
 -- Line records that are put in order by their keys.
-use Rattle.std.proofs.Common.{◌≡◌, ℕ, zero, suc, ◌≤◌, Bool, true, false, cond, ◌&&◌, nat_eq, List, [], ◌∷◌, map, length, Some, refl, sym, ap, ap₂, subst, ◌∙◌, arith}
+use Rattle.std.proofs.Common.{◌≡◌, ℕ, zero, suc, List, [], ◌∷◌, map, Some, refl, sym, ap, subst, ◌∙◌, arith}
 use Rattle.std.specs.List.{AllByRecursion, filter, slice_get}
 use Rattle.std.proofs.lemmas.Option.{none-some, same_Some}
 use Rattle.bz_base.specs.Nearest.{IsTable, has_span}
@@ -54,7 +54,7 @@ pub sorted_by_line_keys : (bytes places new : List ℕ) (keys sorted : List Line
 sorted_by_line_keys bytes places new keys sorted are table new_is =
     let all = keys_same bytes places in
     let read = same_table (λ (k : LineKey). k.start) (λ k. k.size) (λ k. line_start bytes k.place) (λ k. line_size bytes k.place) (map (line_key bytes) places) sorted all
-        (subst (λ (ks : List LineKey). IsTable (λ (k : LineKey). k.start) (λ k. k.size) ks sorted) are table) in
+    (subst (λ (ks : List LineKey). IsTable (λ (k : LineKey). k.start) (λ k. k.size) ks sorted) are table) in
     subst (λ (ps : List ℕ). IsTable (line_start bytes) (line_size bytes) places ps) (sym new_is)
     (subst (λ (ps : List ℕ). IsTable (line_start bytes) (line_size bytes) ps (map (λ (k : LineKey). k.place) sorted)) (keys_places bytes places)
     (table_seen (line_start bytes) (line_size bytes) (λ (k : LineKey). k.place) (map (line_key bytes) places) sorted read))
