@@ -91,28 +91,36 @@ impl<'f, 'b> Lookups<'f, 'b> {
         )
     }
 
-    /// Hints for the answers from an index on.
+    /// Hints for the answers from an index on. All keys are touched before the functions are.
     fn hints(&self, from: usize) -> [usize; TOGETHER] {
+        let mut functions = [usize::MAX; TOGETHER];
+        for place in 0..TOGETHER {
+            functions[place] = self.function_index(from.saturating_add(place));
+        }
         let mut hints = [0; TOGETHER];
         for place in 0..TOGETHER {
-            hints[place] = self.hint(from.saturating_add(place));
+            hints[place] = self.hint(functions[place]);
         }
         hints
     }
 
-    /// A hint for the answer at an index: where the line records of the function there are cut.
-    fn hint(&self, index: usize) -> usize {
+    /// The index of the function for the answer at an index, which is past all if there is none.
+    fn function_index(&self, index: usize) -> usize {
         if index >= self.places.len() {
-            return 0;
+            return usize::MAX;
         }
         let Some((place, _)) = self.places[index] else {
-            return 0;
+            return usize::MAX;
         };
-        let code = &self.kept.code;
-        let Some(key) = code.keys.get(place) else {
-            return 0;
-        };
-        match code.functions.get(key.index) {
+        match self.kept.code.keys.get(place) {
+            Some(key) => key.index,
+            None => usize::MAX,
+        }
+    }
+
+    /// A hint for the answers of a function: where its line records are cut.
+    fn hint(&self, function: usize) -> usize {
+        match self.kept.code.functions.get(function) {
             Some(function) => match &function.lines {
                 LineRecords::Run(run) => cut_hint(self.bytes, run),
                 LineRecords::Listed(_) => 0,
