@@ -56,7 +56,8 @@ impl Model for SymbolFile {
 pub struct SymbolParser;
 
 impl SymbolParser {
-    /// Reads a Breakpad file, and tells how many records it has.
+    /// Reads a Breakpad file, and tells how many records it has. OutOfMemory: memory ran out, or the
+    /// file is longer than 4 GiB, past which places in it can't be kept.
     pub fn run(alloc: Global, bytes: Vec<u8>) -> Result<(SymbolFile, u64)>
         ensures ok { IfOk result (λ read. read.0 ≡ bytes.items) }
         ensures accepted { IfOk result (λ read. (table : Table) × (counted_in bytes.items ≡ Some (table, read.1)) × Accepted bytes.items table read.1) }
@@ -77,7 +78,8 @@ impl SymbolParser {
 }
 
 impl SymbolFile {
-    /// Reads a Breakpad file.
+    /// Reads a Breakpad file. OutOfMemory: memory ran out, or the file is longer than 4 GiB, past which
+    /// places in it can't be kept.
     pub fn from_bytes(alloc: Global, bytes: Vec<u8>) -> Result<SymbolFile>
         ensures ok { IfOk result (λ file. file ≡ bytes.items) }
         ensures accepted { IfOk result (λ file. (table : Table) × (table_in bytes.items ≡ Some table) × IsFile bytes.items table) }

@@ -27,7 +27,7 @@ pub(crate) fn read(alloc: Global, text: &[u8]) -> Result<Walk>
     if text.is_empty() {
         return Err(Error::InvalidInput);
     }
-    // Places in the text take four bytes, and there is no memory for greater ones.
+    // Places in the text are kept in four bytes.
     if text.len() > u32::MAX as usize {
         return Err(Error::OutOfMemory);
     }

@@ -16,7 +16,7 @@ pub(crate) struct Part {
 }
 
 impl Part {
-    /// The part between two places. Past 4 GiB there is no memory for places.
+    /// The part between two places. Places past 4 GiB can't be kept.
     #[inline(always)]
     pub(crate) fn new(from: usize, to: usize) -> Result<Part, AllocError>
         ensures from { IfOk result (λ part. part.from ≡ from) }
