@@ -10,7 +10,6 @@ use crate::program::run;
 use crate::status::Status;
 use bz_files::{MemFiles, MemIn, MemOut};
 use std::alloc::Global;
-use std::process::Abort;
 use std::test::Fail;
 
 const FIRST: &str = "MODULE Linux x86 ffff0000 bar\nFUNC 1000 30 10 another func\n";
@@ -75,114 +74,170 @@ fn over_first<'a>(path: &'a str, input: &'a str, status: Status, written: &'a st
     }
 }
 
-/// How the run ends, and what it writes.
-fn ending(alloc: Global, row: Row<'_>) -> Result<(Status, Vec<u8>), Fail> {
-    let words = vec![in alloc;
-        String::from_str(alloc, row.kind)?,
-        String::from_str(alloc, row.path)?,
-    ]?;
+/// The file of a row.
+fn files_of(alloc: Global, row: &Row<'_>) -> Result<MemFiles, Fail> {
     let mut files = MemFiles::new(alloc, 7);
-    files.put(alloc, row.at, row.file.to_vec(alloc)?)?;
+    files.put(alloc, row.at, Vec::from_slice(alloc, row.file)?)?;
     files.fail_call(alloc, row.faults.0)?;
-    let mut from = MemIn::new(row.input.to_vec(alloc)?);
-    from.fail_call(row.faults.1);
-    let mut to = MemOut::new(alloc);
-    to.fail_call(row.faults.2);
-    let ended = run(alloc, words.as_slice(), &mut from, &mut to, &mut files);
-    Ok((ended, to.written().to_vec(alloc)?))
+    Ok(files)
 }
 
-fn check(rt: &impl Abort, alloc: Global, row: Row<'_>) -> Result<(), Fail> {
-    let (ended, text) = ending(alloc, row)?;
-    let written = row.written;
-    assert!(rt;
-        ended == row.status && text.as_slice() == written.as_bytes(),
-        "{written}"
-    );
-    Ok(())
+/// The input of a row.
+fn input_of(alloc: Global, row: &Row<'_>) -> Result<MemIn, Fail> {
+    let mut input = MemIn::new(Vec::from_slice(alloc, row.input)?);
+    input.fail_call(row.faults.1);
+    Ok(input)
+}
+
+/// The words of a row.
+fn words_of(alloc: Global, row: &Row<'_>) -> Result<Vec<String>, Fail> {
+    let mut words = Vec::new(alloc);
+    words.push(String::from_str(alloc, row.kind)?)?;
+    words.push(String::from_str(alloc, row.path)?)?;
+    Ok(words)
+}
+
+/// How the run of a row ends that writes into the output.
+fn ending(alloc: Global, row: &Row<'_>, output: &mut MemOut) -> Result<Status, Fail> {
+    let words = words_of(alloc, row)?;
+    let mut files = files_of(alloc, row)?;
+    let mut input = input_of(alloc, row)?;
+    output.fail_call(row.faults.2);
+    Ok(run(alloc, words.as_slice(), &mut input, output, &mut files))
+}
+
+/// Whether the run ends as the row says, with what it says as written.
+fn ends_so(alloc: Global, row: &Row<'_>) -> Result<bool, Fail> {
+    let mut output = MemOut::new(alloc);
+    let ended = ending(alloc, row, &mut output)?;
+    Ok(ended == row.status && output.written() == row.written.as_bytes())
+}
+
+/// A file, an input, and what is written.
+type Answered = (&'static str, &'static str, &'static str);
+
+const ANSWERED: &[Answered] = &[
+    (FIRST, ADDRESSES, ANSWERS),
+    (RECORDS, "1010\n0x1030\n", PLACED),
+    (ONE_RETURN, "1010\n0x1030\n", PLACED),
+    (TWO_RETURNS, "1010\n0x1030\n", PLACED),
+    (EVERY_KIND, ADDRESSES, INLINED),
+    (FIRST, "0x1010\r\n\r\n1030", ANSWERS),
+    (
+        "PUBLIC 10 0 p\n",
+        "10\n",
+        "0x10: ? symbolization source has no or no relevant symbols\n",
+    ),
+    (
+        "FUNC 1 2 3 x\nFUNC 1 3 3 y\n",
+        "1\n2\n4\n",
+        "0x1: x+0x0 start 0x1 size 0x2 module - at -\n0x2: y+0x1 start 0x1 size 0x3 module - at -\n0x4: ? address not found in symbolization source\n",
+    ),
+    (
+        "MODULE a b c d\n",
+        "1\n",
+        "0x1: ? symbolization source has no or no relevant symbols\n",
+    ),
+    (
+        "MODULE a b c \nFUNC 0 1 0 \n",
+        "0\n",
+        "0x0: +0x0 start 0x0 size 0x1 module  at -\n",
+    ),
+];
+
+/// Whether the addresses of the input are answered so, of the file.
+fn answers(alloc: Global, (file, input, written): &Answered) -> Result<bool, Fail> {
+    let mut row = over_first("/a.sym", input, Status::Done, written);
+    row.file = file.as_bytes();
+    ends_so(alloc, &row)
 }
 
 /// Each form of an answer's line, and of a file each kind of record.
 #[test]
 fn answers_addresses_in_their_order(rt: HostRuntime) -> Result<(), Fail> {
-    let rows = [
-        (FIRST, ADDRESSES, ANSWERS),
-        (RECORDS, "1010\n0x1030\n", PLACED),
-        (ONE_RETURN, "1010\n0x1030\n", PLACED),
-        (TWO_RETURNS, "1010\n0x1030\n", PLACED),
-        (EVERY_KIND, ADDRESSES, INLINED),
-        (FIRST, "0x1010\r\n\r\n1030", ANSWERS),
-        (
-            "PUBLIC 10 0 p\n",
-            "10\n",
-            "0x10: ? symbolization source has no or no relevant symbols\n",
-        ),
-        (
-            "FUNC 1 2 3 x\nFUNC 1 3 3 y\n",
-            "1\n2\n4\n",
-            "0x1: x+0x0 start 0x1 size 0x2 module - at -\n0x2: y+0x1 start 0x1 size 0x3 module - at -\n0x4: ? address not found in symbolization source\n",
-        ),
-        (
-            "MODULE a b c d\n",
-            "1\n",
-            "0x1: ? symbolization source has no or no relevant symbols\n",
-        ),
-        (
-            "MODULE a b c \nFUNC 0 1 0 \n",
-            "0\n",
-            "0x0: +0x0 start 0x0 size 0x1 module  at -\n",
-        ),
-    ];
-    for (file, input, written) in rows {
-        let mut row = over_first("/a.sym", input, Status::Done, written);
-        row.file = file.as_bytes();
-        check(&rt, rt.alloc(), row)?;
+    for row in ANSWERED {
+        let written = row.2;
+        assert!(rt; answers(rt.alloc(), row)?, "{written}");
     }
     Ok(())
+}
+
+/// How the program is called.
+const USAGE: &str = "usage: symq [OPTION] KIND [ARG]...\n";
+
+/// A path, a file, the calls that fail, how the run ends, and what is written.
+type Ending = (
+    &'static str,
+    &'static str,
+    (u64, u64, u64),
+    Status,
+    &'static str,
+);
+
+const ENDINGS: &[Ending] = &[
+    (
+        "/absent",
+        FIRST,
+        (0, 0, 0),
+        Status::Refused,
+        "refused: NotFound\n",
+    ),
+    ("-", FIRST, (0, 0, 0), Status::Usage, USAGE),
+    (
+        "/a.sym",
+        BLANK_LINE,
+        (0, 0, 0),
+        Status::Refused,
+        "refused: InvalidInput\n",
+    ),
+    ("/a.sym", FIRST, (2, 0, 0), Status::Fault, ""),
+    ("/a.sym", FIRST, (0, 2, 0), Status::Fault, ""),
+    ("/a.sym", FIRST, (0, 0, 1), Status::Fault, ""),
+];
+
+/// Whether a run over a path, with such a file and such faults, ends so.
+fn ends_by(alloc: Global, (path, file, faults, status, written): &Ending) -> Result<bool, Fail> {
+    let mut row = over_first(path, ADDRESSES, *status, written);
+    row.file = file.as_bytes();
+    row.faults = *faults;
+    ends_so(alloc, &row)
 }
 
 /// Each ending but for want of memory, and its text.
 #[test]
 fn ends_by_its_cause(rt: HostRuntime) -> Result<(), Fail> {
-    let usage = "usage: symq [OPTION] KIND [ARG]...\n";
-    for row in [
-        over_first("/absent", ADDRESSES, Status::Refused, "refused: NotFound\n"),
-        over_first("-", ADDRESSES, Status::Usage, usage),
-    ] {
-        check(&rt, rt.alloc(), row)?;
-    }
-    let mut row = over_first(
-        "/a.sym",
-        ADDRESSES,
-        Status::Refused,
-        "refused: InvalidInput\n",
-    );
-    row.file = BLANK_LINE.as_bytes();
-    check(&rt, rt.alloc(), row)?;
-    for faults in [(2, 0, 0), (0, 2, 0), (0, 0, 1)] {
-        let mut row = over_first("/a.sym", ADDRESSES, Status::Fault, "");
-        row.faults = faults;
-        check(&rt, rt.alloc(), row)?;
+    for row in ENDINGS {
+        let written = row.4;
+        assert!(rt; ends_by(rt.alloc(), row)?, "{written}");
     }
     Ok(())
 }
 
+/// An input with a bad line, and what is written.
+const BAD_LINES: &[(&str, &str)] = &[
+    ("10\nxyz\n", "input: line 2\n"),
+    ("\n\n 10\n", "input: line 3\n"),
+    ("0x\n", "input: line 1\n"),
+    ("10\r\r\n", "input: line 1\n"),
+    ("0X10\n", "input: line 1\n"),
+    ("00000000000000010\n", "input: line 1\n"),
+];
+
 /// The first line that is neither empty nor an address is named by its number.
 #[test]
 fn names_the_first_bad_line(rt: HostRuntime) -> Result<(), Fail> {
-    let rows = [
-        ("10\nxyz\n", "input: line 2\n"),
-        ("\n\n 10\n", "input: line 3\n"),
-        ("0x\n", "input: line 1\n"),
-        ("10\r\r\n", "input: line 1\n"),
-        ("0X10\n", "input: line 1\n"),
-        ("00000000000000010\n", "input: line 1\n"),
-    ];
-    for (input, written) in rows {
+    for (input, written) in BAD_LINES {
         let row = over_first("/a.sym", input, Status::Input, written);
-        check(&rt, rt.alloc(), row)?;
+        assert!(rt; ends_so(rt.alloc(), &row)?, "{input}");
     }
     Ok(())
+}
+
+/// Whether a run with the input ends by it, and writes so.
+fn stops_on<'a>(alloc: Global, input: &'a [u8], written: &'a str) -> Result<bool, Fail> {
+    let mut row = over_first("/a.sym", "", Status::Input, written);
+    row.input = input;
+    ends_so(alloc, &row)
 }
 
 /// The longest input is read whole, and one byte more is too long.
@@ -191,13 +246,10 @@ fn reads_the_longest_input(rt: HostRuntime) -> Result<(), Fail> {
     let alloc = rt.alloc();
     let mut input = vec![in alloc; b'\n'; 16_777_215]?;
     input.push(b'x')?;
-    let mut row = over_first("/a.sym", "", Status::Input, "input: line 16777216\n");
-    row.input = input.as_slice();
-    check(&rt, alloc, row)?;
+    assert!(rt; stops_on(alloc, input.as_slice(), "input: line 16777216\n")?);
     input.push(b'\n')?;
-    let mut row = over_first("/a.sym", "", Status::Input, "input: too long\n");
-    row.input = input.as_slice();
-    check(&rt, alloc, row)
+    assert!(rt; stops_on(alloc, input.as_slice(), "input: too long\n")?);
+    Ok(())
 }
 
 /// One function, and more addresses of it than have their answers written at a time.
@@ -215,30 +267,25 @@ fn many_answers(alloc: Global) -> Result<(String, String), Fail> {
     Ok((input, written))
 }
 
-/// Answers that are written in several pieces, whole and in order.
+/// Whether the answers, which are written in several pieces, are written whole and in order; and
+/// where the second piece can't be written, the first one was.
+fn writes_in_pieces<'a>(alloc: Global, input: &'a str, written: &'a str) -> Result<bool, Fail> {
+    let mut row = over_first("/a.sym", input, Status::Done, written);
+    row.file = WIDE.as_bytes();
+    let is_whole = ends_so(alloc, &row)?;
+    row.faults = (0, 0, 2);
+    let mut output = MemOut::new(alloc);
+    let ended = ending(alloc, &row, &mut output)?;
+    let front = output.written();
+    let is_front = !front.is_empty() && front.len() < written.len();
+    Ok(is_whole && ended == Status::Fault && is_front && written.as_bytes().starts_with(front))
+}
+
+/// Answers that are written in several pieces.
 #[test]
 fn writes_many_answers(rt: HostRuntime) -> Result<(), Fail> {
     let alloc = rt.alloc();
     let (input, written) = many_answers(alloc)?;
-    let mut row = over_first("/a.sym", input.as_str(), Status::Done, written.as_str());
-    row.file = WIDE.as_bytes();
-    check(&rt, alloc, row)
-}
-
-/// Where the second piece can't be written, the first one was.
-#[test]
-fn keeps_the_piece_before_a_fault(rt: HostRuntime) -> Result<(), Fail> {
-    let alloc = rt.alloc();
-    let (input, written) = many_answers(alloc)?;
-    let mut row = over_first("/a.sym", input.as_str(), Status::Fault, written.as_str());
-    row.file = WIDE.as_bytes();
-    row.faults = (0, 0, 2);
-    let (ended, front) = ending(alloc, row)?;
-    assert!(rt;
-        ended == Status::Fault
-            && !front.is_empty()
-            && front.len() < written.len()
-            && written.as_str().as_bytes().starts_with(front.as_slice())
-    );
+    assert!(rt; writes_in_pieces(alloc, input.as_str(), written.as_str())?);
     Ok(())
 }

@@ -1,6 +1,6 @@
 //! GSYM files.
 
-use super::{FIRST, Row, check, over_first};
+use super::{USAGE, ends_so, over_first};
 use crate::status::Status;
 use std::alloc::{AllocError, Global};
 use std::test::Fail;
@@ -45,70 +45,89 @@ fn with_calls(alloc: Global) -> Result<Vec<u8>, AllocError> {
     Ok(bytes)
 }
 
-/// A run over a file at `/g`.
-fn over<'a>(file: &'a [u8], input: &'a str, status: Status, written: &'a str) -> Row<'a> {
-    let mut row = over_first("/g", input, status, written);
+/// What is written for the file.
+const LINES_WRITTEN: &str =
+    "0xfff: ? address not found in symbolization source\n0x1000: main+0x0 start 0x1000 size 0x20 module - at src/a.c:5\n0x100c: main+0xc start 0x1000 size 0x20 module - at src/a.c:7\n0x101f: main+0x1f start 0x1000 size 0x20 module - at src/a.c:10\n0x1020: ? address not found in symbolization source\n0x1040: sub+0x0 start 0x1040 size 0x0 module - at -\n0x9999: sub+0x8959 start 0x1040 size 0x0 module - at -\n";
+
+/// What is written for it with that tree.
+const CALLS_WRITTEN: &str =
+    "0x1005: main+0x5 start 0x1000 size 0x20 module - at src/a.c:9\n  sub at src/a.c:5\n0x1009: main+0x9 start 0x1000 size 0x20 module - at src/a.c:7\n";
+
+/// Whether a run over a file at `/g` answers so.
+fn answers<'a>(
+    alloc: Global,
+    file: &'a [u8],
+    input: &'a str,
+    written: &'a str,
+) -> Result<bool, Fail> {
+    let mut row = over_first("/g", input, Status::Done, written);
     row.kind = "gsym";
     row.at = "/g";
     row.file = file;
-    row
+    ends_so(alloc, &row)
 }
 
 /// Symbols with their places, and with an inlined call, in the order of their addresses.
 #[test]
 fn answers_gsym_addresses(rt: HostRuntime) -> Result<(), Fail> {
     let alloc = rt.alloc();
-    let row = over(
-        &LINES,
-        "fff\n1000\n0x100C\n101f\n1020\n1040\n9999\n",
-        Status::Done,
-        "0xfff: ? address not found in symbolization source\n0x1000: main+0x0 start 0x1000 size 0x20 module - at src/a.c:5\n0x100c: main+0xc start 0x1000 size 0x20 module - at src/a.c:7\n0x101f: main+0x1f start 0x1000 size 0x20 module - at src/a.c:10\n0x1020: ? address not found in symbolization source\n0x1040: sub+0x0 start 0x1040 size 0x0 module - at -\n0x9999: sub+0x8959 start 0x1040 size 0x0 module - at -\n",
-    );
-    check(&rt, alloc, row)?;
+    let input = "fff\n1000\n0x100C\n101f\n1020\n1040\n9999\n";
+    assert!(rt; answers(alloc, &LINES, input, LINES_WRITTEN)?);
     let bytes = with_calls(alloc)?;
-    let row = over(
-        bytes.as_slice(),
-        "1005\n1009\n",
-        Status::Done,
-        "0x1005: main+0x5 start 0x1000 size 0x20 module - at src/a.c:9\n  sub at src/a.c:5\n0x1009: main+0x9 start 0x1000 size 0x20 module - at src/a.c:7\n",
-    );
-    check(&rt, alloc, row)
+    assert!(rt; answers(alloc, bytes.as_slice(), "1005\n1009\n", CALLS_WRITTEN)?);
+    Ok(())
+}
+
+/// A kind, a path, the file at `/g`, how the run ends, and what is written.
+type GsymRow = (
+    &'static str,
+    &'static str,
+    &'static [u8],
+    Status,
+    &'static str,
+);
+
+const REFUSED: &[GsymRow] = &[
+    (
+        "gsym",
+        "/g",
+        b"MODULE Linux x86 ffff0000 bar\nFUNC 1000 30 10 another func\n",
+        Status::Refused,
+        "refused: InvalidData\n",
+    ),
+    (
+        "gsym",
+        "/other",
+        &LINES,
+        Status::Refused,
+        "refused: NotFound\n",
+    ),
+    (
+        "breakpad",
+        "/g",
+        &LINES,
+        Status::Refused,
+        "refused: InvalidInput\n",
+    ),
+    ("gsym", "-g", &LINES, Status::Usage, USAGE),
+    ("GSYM", "/g", &LINES, Status::Usage, USAGE),
+];
+
+/// Whether a run ends as the row says.
+fn ends_as(alloc: Global, (kind, path, file, status, written): &GsymRow) -> Result<bool, Fail> {
+    let mut row = over_first(path, "1000\n", *status, written);
+    row.kind = kind;
+    row.at = "/g";
+    row.file = file;
+    ends_so(alloc, &row)
 }
 
 /// How a run ends that answers nothing.
 #[test]
 fn refuses_as_its_kind(rt: HostRuntime) -> Result<(), Fail> {
-    let alloc = rt.alloc();
-    let usage = "usage: symq [OPTION] KIND [ARG]...\n";
-    for (kind, path, file, status, written) in [
-        (
-            "gsym",
-            "/g",
-            FIRST.as_bytes(),
-            Status::Refused,
-            "refused: InvalidData\n",
-        ),
-        (
-            "gsym",
-            "/other",
-            LINES.as_slice(),
-            Status::Refused,
-            "refused: NotFound\n",
-        ),
-        (
-            "breakpad",
-            "/g",
-            LINES.as_slice(),
-            Status::Refused,
-            "refused: InvalidInput\n",
-        ),
-        ("gsym", "-g", LINES.as_slice(), Status::Usage, usage),
-        ("GSYM", "/g", LINES.as_slice(), Status::Usage, usage),
-    ] {
-        let mut row = over(file, "1000\n", status, written);
-        row.kind = kind;
-        row.path = path;
-        check(&rt, alloc, row)?;
+    for row in REFUSED {
+        let written = row.4;
+        assert!(rt; ends_as(rt.alloc(), row)?, "{written}");
     }
     Ok(())
 }

@@ -8,7 +8,6 @@ use bz_symbolize::Symbolizer;
 use bz_symbolize::source::{Breakpad, Source};
 use std::alloc::Global;
 use std::marker::Brand;
-use std::process::Abort;
 use std::sync::ledger::{Blank, Ledger};
 use std::test::Fail;
 
@@ -129,29 +128,42 @@ fn answers_at(
     Ok(symbolizer.symbolize(alloc, files, &src, Input::FileOffset(addrs.as_slice()))?)
 }
 
+/// The numbers of steps in the order in which a factor that has nothing in common with how many there
+/// are gives them, after a first one.
+fn order_by(alloc: Global, factor: u32, first: u32) -> Result<Vec<u32>, Fail> {
+    let mut order = Vec::new(alloc);
+    for step in 0..STEPS {
+        order.push(step.wrapping_mul(factor).wrapping_add(first) % STEPS)?;
+    }
+    Ok(order)
+}
+
+/// Whether the answers are those after these numbers of steps, and the same as the plain ones.
+fn are_steps(answers: &[Symbolized<'_>], order: &[u32], plain: &[Symbolized<'_>]) -> bool {
+    for (step, answer) in order.iter().zip(answers.iter()) {
+        if !is_step(answer, *step) || plain.get(*step as usize) != Some(answer) {
+            return false;
+        }
+    }
+    answers.len() == order.len()
+}
+
+/// Ascending, descending and mixed order, by factor and first number.
+const ORDERS: &[(u32, u32)] = &[(1, 0), (STEPS - 1, STEPS - 1), (1009, 0)];
+
 /// Addresses in ascending, descending and mixed order have the same answers.
 #[test]
 fn answers_in_any_order(rt: HostRuntime) -> Result<(), Fail> {
     let alloc = rt.alloc();
     let mut files = generated_files(alloc, 2000)?;
     let mut symbolizer = Symbolizer::new(alloc);
-    let mut ascending = Vec::new(alloc);
-    let mut descending = Vec::new(alloc);
-    let mut mixed = Vec::new(alloc);
-    for step in 0..STEPS {
-        ascending.push(step)?;
-        descending.push(STEPS - 1 - step)?;
-        // 1009 and the number of steps have no factor in common, so each step comes once.
-        mixed.push(step * 1009 % STEPS)?;
-    }
+    let ascending = order_by(alloc, 1, 0)?;
     let plain = answers_at(alloc, &mut symbolizer, &mut files, ascending.as_slice())?;
-    for order in [ascending, descending, mixed] {
+    for (factor, first) in ORDERS {
+        let order = order_by(alloc, *factor, *first)?;
         let answers = answers_at(alloc, &mut symbolizer, &mut files, order.as_slice())?;
-        assert!(rt; answers.len() == order.len());
-        for (step, answer) in order.iter().zip(answers.iter()) {
-            let same = plain.get(*step as usize) == Some(answer);
-            assert!(rt; same && is_step(answer, *step), "{step}");
-        }
+        let right = are_steps(answers.as_slice(), order.as_slice(), plain.as_slice());
+        assert!(rt; right, "{factor}");
     }
     Ok(())
 }

@@ -1,12 +1,12 @@
 //! A function with calls in calls.
 
-use super::{Row, check};
+use super::{Row, ends_so};
 use crate::status::Status;
 use bz_base::{Error, Input, Reason, Symbolized};
 use bz_files::MemFiles;
 use bz_symbolize::Symbolizer;
 use bz_symbolize::source::{Breakpad, Source};
-use std::process::Abort;
+use std::alloc::Global;
 use std::test::Fail;
 
 /// The line record at 1000 names a file that has no FILE record.
@@ -29,30 +29,46 @@ fn answers_calls_in_calls(rt: HostRuntime) -> Result<(), Fail> {
         status: Status::Done,
         written: ANSWERS,
     };
-    check(&rt, rt.alloc(), row)
+    assert!(rt; ends_so(rt.alloc(), &row)?);
+    Ok(())
 }
 
-/// An answer of a batch is that of its address alone, and where that one is refused an ignored error.
+const ADDRESSES: &[u64] = &[0x1010, 0x1020, 0x1000];
+
+/// Whether an answer of a batch is that of its address alone, and where that one is refused, which is
+/// at 0x1000, an ignored error.
+fn answers_alone(
+    alloc: Global,
+    symbolizer: &mut Symbolizer,
+    files: &mut MemFiles,
+    src: &Source<'_>,
+    (addr, answer): (u64, &Symbolized<'_>),
+) -> bool {
+    match symbolizer.symbolize_single(alloc, files, src, Input::FileOffset(addr)) {
+        Ok(single) => *answer == single && addr != 0x1000,
+        Err(error) => {
+            error == Error::InvalidInput
+                && addr == 0x1000
+                && matches!(answer, Symbolized::Unknown(Reason::IgnoredError))
+        }
+    }
+}
+
 #[test]
 fn answers_alone_as_in_a_batch(rt: HostRuntime) -> Result<(), Fail> {
     let alloc = rt.alloc();
     let src = Source::from(Breakpad::new(String::from_str(alloc, "/n.sym")?));
     let mut files = MemFiles::new(alloc, 7);
-    files.put(alloc, "/n.sym", NESTED.as_bytes().to_vec(alloc)?)?;
+    files.put(alloc, "/n.sym", Vec::from_slice(alloc, NESTED.as_bytes())?)?;
     let mut symbolizer = Symbolizer::new(alloc);
-    let addrs = [0x1010, 0x1020, 0x1000];
-    let batch = symbolizer.symbolize(alloc, &mut files, &src, Input::FileOffset(&addrs))?;
-    assert!(rt; batch.len() == addrs.len());
-    for (addr, answer) in addrs.iter().zip(batch.iter()) {
-        match symbolizer.symbolize_single(alloc, &mut files, &src, Input::FileOffset(*addr)) {
-            Ok(single) => assert!(rt; *answer == single && *addr != 0x1000, "{addr}"),
-            Err(error) => assert!(rt;
-                error == Error::InvalidInput
-                    && *addr == 0x1000
-                    && *answer == Symbolized::Unknown(Reason::IgnoredError),
-                "{addr}"
-            ),
-        }
+    let batch = symbolizer.symbolize(alloc, &mut files, &src, Input::FileOffset(ADDRESSES))?;
+    assert!(rt; batch.len() == ADDRESSES.len());
+    for (addr, answer) in ADDRESSES.iter().zip(batch.iter()) {
+        let entry = (*addr, answer);
+        assert!(rt;
+            answers_alone(alloc, &mut symbolizer, &mut files, &src, entry),
+            "{addr}"
+        );
     }
     Ok(())
 }
