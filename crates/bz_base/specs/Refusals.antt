@@ -19,3 +19,8 @@ abbrev pub IsFailure : Error → Type 0
 IsFailure errors.ReadFault = Unit {0}
 IsFailure errors.OutOfMemory = Unit {0}
 IsFailure _ = ⊥
+
+-- memory runs out only where this holds
+abbrev pub WantsMemory : Type 0 → Error → Type 0
+WantsMemory needed errors.OutOfMemory = needed
+WantsMemory needed _ = Unit {0}

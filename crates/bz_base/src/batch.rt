@@ -1,6 +1,6 @@
 //! What a batch makes of the answer to one of its addresses.
 
-ghost use Rattle.std.specs.Prelude.{◌≡◌, Err, Result, IfOk, IfErr};
+ghost use Rattle.std.specs.Prelude.{◌≡◌, Err, Result, IfOk, IfErr, IsErrOf};
 ghost use Rattle.bz_base.specs.Answer.{Answer, Gives, in_batch, reading};
 ghost use Rattle.bz_base.specs.Lent.{IsLent};
 ghost use Rattle.bz_base.specs.Refusals.{IsFailure};
@@ -16,6 +16,7 @@ pub fn in_batch(answer: Result<Symbolized<'_>>) -> Result<Symbolized<'_>>
     ensures lent { IfOk answer.entry IsLent → IfOk result IsLent }
     ensures refusal { IfErr result (λ e. answer.entry ≡ Err e) }
     ensures failure { IfErr result IsFailure }
+    ensures failed { IfErr answer.entry (λ e. IsFailure e → IsErrOf result e) }
 {
     match answer {
         Ok(answer) => Ok(answer),

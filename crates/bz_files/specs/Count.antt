@@ -13,8 +13,8 @@ counted n = min (n + 1) last_count
 abbrev pub HasRisen : ℕ → ℕ → Type 0
 HasRisen before now = (before < now) ⊎ (last_count ≤ now)
 
--- how a count of faults stands after a call: it never falls, rose where the call failed by a fault, and stands still else
+-- how a count of faults stands after a call: it never falls, is one more where the call failed by a fault, and stands still else
 pub record CountsFaults (before after : ℕ) (failed : Type 0) : Type 0 where
   pub grows : before ≤ after
-  pub fault : failed → HasRisen before after
+  pub fault : failed → after ≡ counted before
   pub steady : failed ⊎ (after ≡ before)

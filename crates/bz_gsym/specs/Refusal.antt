@@ -17,8 +17,3 @@ abbrev pub Refuses : {A : Type 0} → Option A → Error → Type 0
 Refuses read errors.InvalidData = read ≡ None
 Refuses read errors.OutOfMemory = Unit {0}
 Refuses read _ = ⊥
-
--- memory runs out only where this holds
-abbrev pub WantsMemory : Type 0 → Error → Type 0
-WantsMemory needed errors.OutOfMemory = needed
-WantsMemory needed _ = Unit {0}

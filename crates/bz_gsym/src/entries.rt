@@ -1,11 +1,12 @@
 //! What a symbol's data entries say of an address.
 
 ghost use Rattle.std.specs.Prelude.{◌≡◌, Some, IfOk, IfErr, IsTrue, OnOk};
+ghost use Rattle.bz_base.specs.Refusals.{WantsMemory};
 ghost use Rattle.bz_base.specs.declared.types.FindSymOpts.{FindSymOpts};
 ghost use Rattle.bz_gsym.specs.Entries.{entries_in};
 ghost use Rattle.bz_gsym.specs.Joining.{gives_frames, gives_row, told_of, told_with};
 ghost use Rattle.bz_gsym.specs.JoiningSeen.{HasAskedFrames, told_seen};
-ghost use Rattle.bz_gsym.specs.Refusal.{Refuses, WantsMemory};
+ghost use Rattle.bz_gsym.specs.Refusal.{Refuses};
 ghost use Rattle.bz_gsym.specs.Seen.{entry_seen};
 
 use crate::inline::InlineInfo;

@@ -3,11 +3,12 @@
 ghost use Rattle.std.specs.Prelude.{◌≡◌, ◌<◌, ◌∷◌, List, length, option_map, Some, IfOk, IfErr, IfSome};
 ghost use Rattle.bz_base.specs.Answer.{Call, call_of, site_of};
 ghost use Rattle.bz_base.specs.Lent.{IsLentCall, IsLentPlace};
+ghost use Rattle.bz_base.specs.Refusals.{WantsMemory};
 ghost use Rattle.bz_base.specs.declared.types.FindSymOpts.{FindSymOpts};
 ghost use Rattle.bz_gsym.specs.Joining.{at_site, placed_by, seen_from, seen_outside, site_in};
 ghost use Rattle.bz_gsym.specs.JoiningSeen.{IsLentPlaced, line_seen, placed_seen, told_seen};
 ghost use Rattle.bz_gsym.specs.Plain.{placed_of};
-ghost use Rattle.bz_gsym.specs.Refusal.{Refuses, WantsMemory};
+ghost use Rattle.bz_gsym.specs.Refusal.{Refuses};
 ghost use Rattle.bz_gsym.specs.Seen.{frame_seen, frames_seen, info_seen};
 ghost use Rattle.bz_gsym.specs.Strings.{string_at};
 ghost use Rattle.bz_gsym.specs.Tables.{strings};
