@@ -1,6 +1,6 @@
 //! What is kept of a Breakpad file: numbers, and places in its bytes.
 
-ghost use Rattle.std.specs.Prelude.{◌≡◌, IfOk};
+ghost use Rattle.std.specs.Prelude.{◌≡◌, ◌≤◌, IsOk, IfOk};
 
 use crate::names::Names;
 use std::alloc::AllocError;
@@ -21,6 +21,7 @@ impl Part {
     pub(crate) fn new(from: usize, to: usize) -> Result<Part, AllocError>
         ensures from { IfOk result (λ part. part.from ≡ from) }
         ensures to { IfOk result (λ part. part.to ≡ to) }
+        ensures succeeds { from ≤ 4294967295 → to ≤ 4294967295 → IsOk result }
     {
         if from > u32::MAX as usize || to > u32::MAX as usize {
             return Err(AllocError);
