@@ -4,6 +4,7 @@ ghost use Rattle.std.specs.Prelude.{◌≡◌, ◌≤◌, ◌<◌, ◌+◌, ◌-
 ghost use Rattle.std.specs.List.{AllByRecursion};
 ghost use Rattle.bz_base.specs.Answer.{Gives, reading};
 ghost use Rattle.bz_base.specs.Lent.{IsLent};
+ghost use Rattle.bz_base.specs.Refusals.{WantsMemory};
 ghost use Rattle.bz_base.specs.Starts.{AreFew};
 ghost use Rattle.bz_base.specs.declared.error.Error.{Error};
 ghost use Rattle.bz_base.specs.declared.types.FindSymOpts.{FindSymOpts};
@@ -217,6 +218,7 @@ impl SymbolFile {
         ensures answer { (table : Table) × (table_in self.now ≡ Some table) × Gives reading (plain table opts.now addr) result }
         ensures lent { IfOk result IsLent }
         ensures refusal { IfErr result IsAnswerRefusal }
+        ensures memory { IfErr result (WantsMemory (opts.now ≡ FindSymOpts.CodeInfoAndInlined)) }
         ensures more { steps.old ≤ steps.new }
         ensures few { (table : Table) → table_in self.now ≡ Some table → AreFew (steps.new - steps.old) (length table.functions) }
     {

@@ -5,6 +5,7 @@ ghost use Rattle.std.specs.Cow.{cow_str_bytes};
 ghost use Rattle.std.specs.List.{AllByRecursion};
 ghost use Rattle.bz_base.specs.Answer.{Gives, in_batch, reading, symbol_of};
 ghost use Rattle.bz_base.specs.Lent.{IsLent, IsLentSymbol, IsLentText};
+ghost use Rattle.bz_base.specs.Refusals.{WantsMemory};
 ghost use Rattle.bz_base.specs.Starts.{IsFound};
 ghost use Rattle.bz_base.specs.declared.error.Error.{Error};
 ghost use Rattle.bz_base.specs.declared.types.FindSymOpts.{FindSymOpts};
@@ -63,6 +64,7 @@ impl<'f, 'b> Lookups<'f, 'b> {
         ensures answer { (table : Table) × (table_in self.now.bytes ≡ Some table) × Gives reading (plain table opts.now (slice_index self.now.addrs index)) result }
         ensures lent { IfOk result IsLent }
         ensures refusal { IfErr result IsAnswerRefusal }
+        ensures memory { IfErr result (WantsMemory (opts.now ≡ FindSymOpts.CodeInfoAndInlined)) }
     {
         self.answer_by(alloc, index, opts, 0)
     }
@@ -79,6 +81,7 @@ impl<'f, 'b> Lookups<'f, 'b> {
         ensures answer { (table : Table) × (table_in self.now.bytes ≡ Some table) × Gives reading (plain table opts.now (slice_index self.now.addrs index)) result }
         ensures lent { IfOk result IsLent }
         ensures refusal { IfErr result IsAnswerRefusal }
+        ensures memory { IfErr result (WantsMemory (opts.now ≡ FindSymOpts.CodeInfoAndInlined)) }
     {
         answer_from(
             alloc,
@@ -163,6 +166,7 @@ pub(crate) fn answer_from<'a>(
     ensures answer { (table : Table) → StandsFor bytes.now table kept.now → Gives reading (plain table opts.now addr) result }
     ensures lent { IfOk result IsLent }
     ensures refusal { IfErr result IsAnswerRefusal }
+    ensures memory { IfErr result (WantsMemory (opts.now ≡ FindSymOpts.CodeInfoAndInlined)) }
 {
     if kept.code.functions.is_empty() {
         return Ok(Symbolized::Unknown(Reason::MissingSyms));

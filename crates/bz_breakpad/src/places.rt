@@ -1,10 +1,11 @@
 //! Where an address lies in the source code: the line record that answers for it, and the calls
 //! that were inlined around it.
 
-ghost use Rattle.std.specs.Prelude.{◌≡◌, ◌∷◌, List, length, map, option_map, Some, IfOk, IfErr, IfSome};
+ghost use Rattle.std.specs.Prelude.{◌≡◌, ◌<◌, ◌∷◌, List, length, map, option_map, Some, IfOk, IfErr, IfSome};
 ghost use Rattle.std.specs.Cow.{cow_str_bytes};
 ghost use Rattle.bz_base.specs.Answer.{Call, Gives, call_of, site_of};
 ghost use Rattle.bz_base.specs.Lent.{IsLentCall, IsLentPlace, IsLentText};
+ghost use Rattle.bz_base.specs.Refusals.{WantsMemory};
 ghost use Rattle.bz_base.specs.declared.types.FindSymOpts.{FindSymOpts};
 ghost use Rattle.bz_breakpad.specs.Kept.{IsPart, NamesFit, kept_inlinee};
 ghost use Rattle.bz_breakpad.specs.Lent.{IsLentPlaced, function_seen, line_seen, placed_seen};
@@ -48,6 +49,7 @@ pub(crate) fn placed_at<'f>(
         Gives placed_seen (placed_at table opts.now (function_seen bytes.now kept.now.code function.now) addr) result }
     ensures lent { IfOk result IsLentPlaced }
     ensures refusal { IfErr result IsAnswerRefusal }
+    ensures memory { IfErr result (WantsMemory (opts.now ≡ FindSymOpts.CodeInfoAndInlined)) }
 {
     if matches!(opts, FindSymOpts::Basic) {
         return Ok(nowhere(alloc));
@@ -74,6 +76,7 @@ fn placed_on_line<'f>(
         Gives placed_seen (by_seen (seen_from table (calls_asked opts.now addr (function_seen bytes.now kept.now.code function.now).inlinees) (line_seen line))) result }
     ensures lent { IfOk result IsLentPlaced }
     ensures refusal { IfErr result IsAnswerRefusal }
+    ensures memory { IfErr result (WantsMemory (opts.now ≡ FindSymOpts.CodeInfoAndInlined)) }
 {
     let calls = calls_asked(alloc, bytes, &kept.code, opts, function, addr)?;
     let Some(site) = site_in(bytes, kept, line.file, line.line) else {
@@ -128,7 +131,9 @@ fn calls_asked<'f>(
     addr: Addr,
 ) -> std::result::Result<Vec<&'f Inlinee>, AllocError>
     requires { IsFunction bytes.now code.now function.now }
-    ensures { IfOk result (λ calls. map (λ call. kept_inlinee call.now) calls.items ≡ calls_asked opts.now addr (function_seen bytes.now code.now function.now).inlinees) }
+    ensures calls { IfOk result (λ calls. map (λ call. kept_inlinee call.now) calls.items ≡ calls_asked opts.now addr (function_seen bytes.now code.now function.now).inlinees) }
+    ensures asked { IfOk result (λ calls. 0 < length calls.items → opts.now ≡ FindSymOpts.CodeInfoAndInlined) }
+    ensures memory { IfErr result (λ _. opts.now ≡ FindSymOpts.CodeInfoAndInlined) }
 {
     match opts {
         FindSymOpts::CodeInfoAndInlined => calls_around(alloc, bytes, code, function, addr),
@@ -209,6 +214,7 @@ fn seen_outside_all<'f>(
         Gives placed_seen (by_seen (seen_from table (map (λ call. kept_inlinee call.now) calls.now) line)) result }
     ensures lent { IfOk result IsLentPlaced }
     ensures refusal { IfErr result IsAnswerRefusal }
+    ensures memory { IfErr result (WantsMemory (0 < length calls.now)) }
 {
     let mut site = inner;
     let mut inlined = Vec::with_capacity(alloc, calls.len())?;

@@ -1,4 +1,4 @@
-use Rattle.std.proofs.Common.{ap}
+use Rattle.std.proofs.Common.{ap, sym}
 use Rattle.bz_breakpad.specs.Lent.{function_seen, line_seen}
 use Rattle.bz_breakpad.specs.Plain.{by_seen, calls_asked}
 use Rattle.bz_breakpad.proofs.PlacedLemmas.{line_unknown}
@@ -8,3 +8,7 @@ pub returns-in_default-clause-placed : goal.returns-in_default-clause-placed
 returns-in_default-clause-placed c table stands =
     let calls = calls_asked c.args.opts.now c.args.addr (function_seen c.args.bytes.now c.args.kept.now.code c.args.function.now).inlinees in
     ap by_seen (line_unknown table calls (line_seen c.args.line) (c.in_default.ensures.site table stands))
+
+pub returns-clause-placed : goal.returns-clause-placed
+returns-clause-placed c table stands =
+    rw (sym c.in_ok-calls.ensures.calls, sym c.deref.ensures.value) (c.seen_outside_all.ensures.placed table (line_seen c.args.line) stands (c.in-Some.ensures.site table stands))
