@@ -1,12 +1,12 @@
 -- The operators of a line table, one after another, and the states that they come to.
-use Rattle.std.proofs.Common.{◌≡◌, ℕ, ℤ, zero, suc, ◌-◌, ◌<◌, ◌≤◌, Bool, true, false, cond, List, [], ◌∷◌, length, drop, Option, Some, None, IfNone, IfSome, option_map, nat_lt, nat_eq, refl, sym, ap, ◌∙◌, arith}
+use Rattle.std.proofs.Common.{◌≡◌, ℕ, ℤ, zero, suc, ◌-◌, ◌<◌, ◌≤◌, Bool, true, false, cond, List, [], ◌∷◌, length, drop, Option, Some, None, IfNone, IfSome, option_map, unwrap_or, nat_lt, nat_eq, refl, sym, ap, ◌∙◌, arith}
 use Rattle.std.specs.Option.{option_and_then}
 use Rattle.std.specs.List.{slice_index}
 use Rattle.std.proofs.lemmas.Bool.{le-ltb, lt-ltb, ltb-true, ltb-false, ne_eqb}
 use Rattle.std.proofs.lemmas.Option.{none-some, same_Some}
 use Rattle.bz_base.specs.Cursor.{Reading, byte_at, with_first, with_rest}
 use Rattle.bz_base.specs.Leb128.{leb_at, low_bits, signed, sleb_at, uleb_at, unsigned}
-use Rattle.bz_gsym.specs.LineTable.{State, followed, is_above, operated, operator_at, sought, special, states, states_within, with_file, further, lines_on, advance_line, advance_pc, end_sequence, first_special, set_file}
+use Rattle.bz_gsym.specs.LineTable.{State, behind_delta, followed, is_above, operated, operator_at, sought, special, states, states_within, with_file, further, lines_on, advance_line, advance_pc, end_sequence, first_special, set_file}
 use Rattle.bz_gsym.specs.declared.linetab.LineTableHeader.{LineTableHeader}
 use Rattle.bz_gsym.specs.declared.linetab.LineTableRow.{LineTableRow}
 use Rattle.bz_gsym.specs.declared.linetab.RunResult.{RunResult}
@@ -30,6 +30,13 @@ byte_passed o new old none reads = by o old.left reads (same o none) where
 pub if_none : {A : Type 0} {P : Type 0} (o : Option A) → P → IfNone o P
 if_none None is = is
 if_none (Some x) is = tt
+
+-- behind a line delta that is missing lie the same bytes, and behind one that is read those that are left
+pub delta_missing : (bytes : List ℕ) → None ≡ sleb_at bytes → behind_delta bytes ≡ bytes
+delta_missing bytes none = ap (λ (o : Option (ℤ × List ℕ)). unwrap_or (option_map (λ delta. delta.1) o) bytes) (sym none)
+
+pub delta_read : (bytes rest : List ℕ) (delta : ℤ) → Some (delta, rest) ≡ sleb_at bytes → behind_delta bytes ≡ rest
+delta_read bytes rest delta read = ap (λ (o : Option (ℤ × List ℕ)). unwrap_or (option_map (λ d. d.1) o) bytes) (sym read)
 
 -- where a second step gives something, the first did
 then_some : {A B : Type 0} (f : A → Option B) (o : Option A) (y : B) → option_and_then f o ≡ Some y → (x : A) × (o ≡ Some x) × (f x ≡ Some y)

@@ -1,5 +1,5 @@
 -- The line table of a symbol: operators that carry a state from row to row (llvm::gsym::LineTable).
-use Rattle.std.specs.Prelude.{ℕ, zero, suc, ℤ, pos, ◌+◌, ◌-◌, ◌/◌, ◌%◌, ◌^◌, ◌+ℤ◌, ◌-ℤ◌, ◌==◌, nat_lt, int_lt, unsigned_abs, Bool, true, false, if◌then◌else◌, List, [], ◌∷◌, length, map, Option, Some, None, option_map}
+use Rattle.std.specs.Prelude.{ℕ, zero, suc, ℤ, pos, ◌+◌, ◌-◌, ◌/◌, ◌%◌, ◌^◌, ◌+ℤ◌, ◌-ℤ◌, ◌==◌, nat_lt, int_lt, unsigned_abs, Bool, true, false, if◌then◌else◌, List, [], ◌∷◌, length, map, Option, Some, None, option_map, unwrap_or}
 use Rattle.std.specs.Int.{int_rem_euclid}
 use Rattle.std.specs.List.{before_first, filter, last_or, list_any}
 use Rattle.bz_base.specs.Cursor.{byte_at}
@@ -26,6 +26,10 @@ header_at bytes = do
   greatest ← sleb_at least.1
   line ← uleb_at greatest.1
   Some (record { min_delta = least.0; max_delta = greatest.0; first_line = low_half (pos line.0) }, line.1)
+
+-- the bytes behind a line delta in front; all of them where there is none
+abbrev pub behind_delta : List ℕ → List ℕ
+behind_delta bytes = unwrap_or (option_map (λ delta. delta.1) (sleb_at bytes)) bytes
 
 -- the state before the first operator
 abbrev pub first_state : LineTableHeader → ℕ → LineTableRow

@@ -2,7 +2,7 @@
 
 ghost use Rattle.std.specs.Prelude.{◌≡◌, ◌+◌, ◌<◌, ◌/◌, ◌%◌, ◌+ℤ◌, ◌≤◌, pos, drop, false, length, option_map, Some, None, if◌then◌else◌, IfNone, IfSome, IsTrue};
 ghost use Rattle.bz_base.specs.Cursor.{with_rest};
-ghost use Rattle.bz_gsym.specs.LineTable.{first_state, header_at, is_above, line_in, low_half, operated, operator_at, picked, sought, special, states, wrapped};
+ghost use Rattle.bz_gsym.specs.LineTable.{behind_delta, first_state, header_at, is_above, line_in, low_half, operated, operator_at, picked, sought, special, states, wrapped};
 ghost use Rattle.bz_gsym.specs.declared.linetab.RunResult.TheVariants.{NewRow};
 
 use crate::short::{pass, read_sleb, read_uleb};
@@ -57,10 +57,12 @@ pub enum RunResult {
 }
 
 impl LineTableHeader {
-    /// Reads the head of a line table. None: a number is missing.
+    /// Reads the head of a line table. None: a number is missing, and the cursor stands behind those before
+    /// it.
     pub fn parse(cursor: &mut Cursor<'_>) -> Option<LineTableHeader>
         ensures reads { IfSome result (λ header. header_at cursor.old.left ≡ Some (header, cursor.new.left)) }
         ensures none { IfNone result (header_at cursor.old.left ≡ None) }
+        ensures stands { IfNone result (cursor.new.left ≡ behind_delta (behind_delta cursor.old.left)) }
         ensures all { cursor.new.all ≡ cursor.old.all }
     {
         let min_delta = cursor.read_sleb()?;
