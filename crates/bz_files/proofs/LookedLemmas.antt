@@ -1,6 +1,6 @@
 -- Calls that look at files, one after the other.
-use Rattle.std.proofs.Common.{◌≡◌, ◌⊎◌, ◌≤◌, ℕ, inl, inr, ◌∙◌, le_trans, ⊎_elim, subst}
-use Rattle.bz_files.specs.Count.{CountsFaults, HasRisen}
+use Rattle.std.proofs.Common.{◌≡◌, ℕ, inl, inr, ◌∙◌, ap, le_trans, ⊎_elim}
+use Rattle.bz_files.specs.Count.{CountsFaults, counted}
 use Rattle.bz_files.specs.Looked.{Looked}
 use Rattle.bz_files.specs.declared.files.Files.{Ghosts}
 
@@ -12,7 +12,7 @@ stood before after counts = ⊎_elim (λ never. absurd never) (λ same. same) co
 pub counts_then : (a b c : ℕ) (failed : Type 0) → CountsFaults a b ⊥ → CountsFaults b c failed → CountsFaults a c failed
 counts_then a b c failed one two = record {
   grows = le_trans one.grows two.grows;
-  fault = λ fails. subst (λ n. HasRisen n c) (stood a b one) (two.fault fails);
+  fault = λ fails. two.fault fails ∙ ap counted (stood a b one);
   steady = ⊎_elim (λ fails. inl fails) (λ same. inr (same ∙ stood a b one)) two.steady;
 }
 

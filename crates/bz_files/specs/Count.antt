@@ -1,5 +1,5 @@
 -- Counts of 64 bits, which stand still at their end.
-use Rattle.std.specs.Prelude.{◌≡◌, ℕ, ◌+◌, ◌<◌, ◌≤◌, ◌⊎◌, min}
+use Rattle.std.specs.Prelude.{◌≡◌, ℕ, ◌+◌, ◌≤◌, ◌⊎◌, min}
 
 -- the last value of a count
 abbrev pub last_count : ℕ
@@ -8,10 +8,6 @@ last_count = 18446744073709551615
 -- the count after one more
 abbrev pub counted : ℕ → ℕ
 counted n = min (n + 1) last_count
-
--- the count rose, or stands at its last value
-abbrev pub HasRisen : ℕ → ℕ → Type 0
-HasRisen before now = (before < now) ⊎ (last_count ≤ now)
 
 -- how a count of faults stands after a call: it never falls, is one more where the call failed by a fault, and stands still else
 pub record CountsFaults (before after : ℕ) (failed : Type 0) : Type 0 where

@@ -1,7 +1,7 @@
 //! Counts that stand still at their last value.
 
 ghost use Rattle.std.specs.Prelude.{◌≡◌, ◌≤◌};
-ghost use Rattle.bz_files.specs.Count.{HasRisen, counted};
+ghost use Rattle.bz_files.specs.Count.{counted};
 
 use std::marker::Model;
 
@@ -31,7 +31,6 @@ impl Counter {
     pub fn add_one(&mut self)
         ensures counted { self.new ≡ counted self.old }
         ensures grows { self.old ≤ self.new }
-        ensures risen { HasRisen self.old self.new }
     {
         self.count = self.count.saturating_add(1);
     }

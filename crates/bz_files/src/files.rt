@@ -16,7 +16,7 @@ pub enum FileError {
     NotFound,
     /// The file may not be read.
     Denied,
-    /// Looking failed: the count of faults rose.
+    /// Looking failed: the count of faults rose by one.
     Fault,
     /// Memory ran out.
     OutOfMemory,
@@ -27,7 +27,7 @@ pub trait Files {
     /// The worlds to come, the first of them in view; none where nothing is told.
     ghost worlds: { Self → Option (List World) };
 
-    /// How many looks have failed. It never falls, and rises at no other answer than a fault.
+    /// How many looks have failed. It rises by one at a fault, and at no other answer.
     ghost faults: { Self → ℕ };
 
     /// How many files were read.
