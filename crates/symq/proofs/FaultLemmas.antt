@@ -1,7 +1,7 @@
 -- At which side of a run a call failed.
 use Rattle.std.proofs.Common.{◌≡◌, ◌⊎◌, ◌↔◌, ℕ, Option, Some, None, IsSome, refl, ap, inl, inr, arith}
 use Rattle.std.proofs.lemmas.Bool.{false≢true}
-use Rattle.bz_files.specs.Count.{CountsFaults, HasRisen}
+use Rattle.bz_files.specs.Count.{CountsFaults, counted}
 use Rattle.bz_files.specs.Looked.{Looked}
 use Rattle.bz_files.specs.declared.files.Files as files_trait
 use Rattle.bz_files.specs.declared.text.TextIn as input_trait
@@ -106,13 +106,13 @@ module _ {R W F : Type 0} (reads : input_trait.Ghosts R) (writes : output_trait.
 module _ {R W F : Type 0} (reads : input_trait.Ghosts R) (writes : output_trait.Ghosts W) (looks : files_trait.Ghosts F) (status : Status)
     (input_before input_after : R) (output_before output_after : W) (files_before files_after : F)
     (fails : Fails reads writes looks status input_before input_after output_before output_after files_before files_after) where
-  -- a fault comes only where a count rose
-  pub fault_from_fails : status ≡ statuses.Fault → HasRisen (reads.faults input_before) (reads.faults input_after)
-      ⊎ (HasRisen (writes.faults output_before) (writes.faults output_after) ⊎ HasRisen (looks.faults files_before) (looks.faults files_after))
+  -- a fault comes only where one call failed
+  pub fault_from_fails : status ≡ statuses.Fault → (reads.faults input_after ≡ counted (reads.faults input_before))
+      ⊎ ((writes.faults output_after ≡ counted (writes.faults output_before)) ⊎ (looks.faults files_after ≡ counted (looks.faults files_before)))
   fault_from_fails fault = by_side fails.failed refl (fails.fault.0 fault)
     where
-      by_side : (failed : Option Side) → fails.failed ≡ failed → IsSome failed → HasRisen (reads.faults input_before) (reads.faults input_after)
-          ⊎ (HasRisen (writes.faults output_before) (writes.faults output_after) ⊎ HasRisen (looks.faults files_before) (looks.faults files_after))
+      by_side : (failed : Option Side) → fails.failed ≡ failed → IsSome failed → (reads.faults input_after ≡ counted (reads.faults input_before))
+          ⊎ ((writes.faults output_after ≡ counted (writes.faults output_before)) ⊎ (looks.faults files_after ≡ counted (looks.faults files_before)))
       by_side None is some = absurd (false≢true some)
       by_side (Some AtInput) is some = inl (fails.input_faults.fault is)
       by_side (Some AtOutput) is some = inr (inl (fails.output_faults.fault is))

@@ -2,7 +2,7 @@
 use Rattle.std.specs.Prelude.{◌≡◌, ◌≢◌, ◌⊎◌, ◌↔◌, ℕ, ◌+◌, ◌<◌, ◌≤◌, List, [], ◌++◌, length, Option, Some, None, IsSome}
 use Rattle.bz_base.specs.Answer.{Answer}
 use Rattle.bz_base.specs.declared.error.Error.{Error}
-use Rattle.bz_files.specs.Count.{CountsFaults, HasRisen, counted}
+use Rattle.bz_files.specs.Count.{CountsFaults, counted}
 use Rattle.bz_files.specs.Looked.{Looked, ReadsOne}
 use Rattle.bz_files.specs.World.{World, Told, in_view}
 use Rattle.bz_files.specs.declared.files.Files as files_trait
@@ -150,8 +150,8 @@ pub record Runs {R W F : Type 0} (reads : input_trait.Ghosts R) (writes : output
   -- one side at most failed, and files only before the output; a fault comes only where a call failed, and at any other status
   -- none has
   pub fails : Fails reads writes looks ended input_before input_after output_before output_after files_before files_after
-  pub fault : ended ≡ statuses.Fault → HasRisen (reads.faults input_before) (reads.faults input_after)
-      ⊎ (HasRisen (writes.faults output_before) (writes.faults output_after) ⊎ HasRisen (looks.faults files_before) (looks.faults files_after))
+  pub fault : ended ≡ statuses.Fault → (reads.faults input_after ≡ counted (reads.faults input_before))
+      ⊎ ((writes.faults output_after ≡ counted (writes.faults output_before)) ⊎ (looks.faults files_after ≡ counted (looks.faults files_before)))
   pub steady : (ended ≡ statuses.Fault) ⊎ ((reads.faults input_after ≡ reads.faults input_before) × (writes.faults output_after ≡ writes.faults output_before)
       × (looks.faults files_after ≡ looks.faults files_before))
   pub before_output : (looks.faults files_after ≡ looks.faults files_before) ⊎ (output_after ≡ output_before)

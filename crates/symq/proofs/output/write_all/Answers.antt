@@ -5,4 +5,4 @@ use Rattle.symq.proofs.output.write_all.Goals as goal
 -- what was taken joins the front
 pub loop-rest-preserved : goal.loop-rest-preserved
 loop-rest-preserved g c =
-    has_put g.W.TextOut c.in_ok-n.n c.loop-rest.invariant c.loop-rest-test.ensures c.in_ok-n.ensures.puts (search rules)
+    has_put g.W.TextOut _ c.loop-rest.invariant c.loop-rest-test.ensures (search rules) (search rules)
