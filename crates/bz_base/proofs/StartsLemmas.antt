@@ -70,7 +70,7 @@ one_more done count most less =
 
 -- the bound of a batch by search grows with the bound of a search
 pub batch_bound : (count most p starts : ℕ) → 2 ^ most ≤ 2 * starts + 1 → 2 * (2 * starts + 1) < 2 ^ (p + 1) →
-    count * most ≤ count * p
+    count * (most + 1) ≤ count * p
 batch_bound count most p starts needed greatest =
-    let h : most < p + 1 = lesser_exponent most (p + 1) (omega arith) in
+    let h : most + 1 < p + 1 = lesser_exponent (most + 1) (p + 1) (omega (arith, power_more most)) in
     mul-le-mul_left count (omega arith)

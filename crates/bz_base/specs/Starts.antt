@@ -13,6 +13,10 @@ pub record IsPlace (starts : List ℕ) (addr place start : ℕ) : Type 0 where
   pub first : start ≡ addr → (k : ℕ) → k < place → slice_index starts k < addr
   pub last : start < addr → (k : ℕ) → place < k → k < length starts → addr < slice_index starts k
 
+-- the start stands at the place
+abbrev pub IsStart : List ℕ → ℕ × ℕ → Type 0
+IsStart starts x = (x.0 < length starts) × (slice_index starts x.0 ≡ x.1)
+
 -- the search gives that place with its start, or none where each start is above the address
 abbrev pub IsFound : List ℕ → ℕ → Option (ℕ × ℕ) → Type 0
 IsFound starts addr (Some x) = IsPlace starts addr x.0 x.1

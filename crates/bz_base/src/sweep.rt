@@ -1,8 +1,8 @@
 //! The places of a whole batch of addresses, by one pass along the starts or by a search for each.
 
-ghost use Rattle.std.specs.Prelude.{◌≡◌, ℕ, ◌+◌, ◌-◌, ◌*◌, ◌^◌, ◌<◌, ◌≤◌, length, slice_index, slice_index_or, All, Contains, IfOk};
+ghost use Rattle.std.specs.Prelude.{◌≡◌, ℕ, ◌+◌, ◌-◌, ◌*◌, ◌^◌, ◌<◌, ◌≤◌, length, slice_index, slice_index_or, true, All, Contains, IfOk, IfSome};
 ghost use Rattle.std.specs.List.Sorted.{IsNonDecreasingBy};
-ghost use Rattle.bz_base.specs.Starts.{IsFound, AreFound};
+ghost use Rattle.bz_base.specs.Starts.{IsFound, IsPlace, IsStart, AreFound};
 ghost use Rattle.bz_base.specs.Sweep.{IsGap, IsEntry};
 
 use crate::starts::{Probe, Starts, nearest};
@@ -27,7 +27,7 @@ pub fn nearest_each<L: Ledger>(
 {
     let most = most_probes(table.len());
     let swept = addrs.len() as u128 + table.len() as u128;
-    let searched = addrs.len() as u128 * most as u128;
+    let searched = addrs.len() as u128 * (most as u128 + 1);
     if swept <= searched {
         sweep(alloc, table, addrs, steps)
     } else {
@@ -49,7 +49,8 @@ fn most_probes(count: usize) -> u32
     most
 }
 
-/// The places by a search for each address.
+/// The places by a search for each address. Addresses that come in their order mostly have the place
+/// of the one before, which one probe tells.
 fn search_each<L: Ledger>(
     alloc: Global,
     table: &Starts,
@@ -59,13 +60,55 @@ fn search_each<L: Ledger>(
     ensures found { IfOk result (λ places. AreFound table.now addrs.now places.items) }
     ensures count { IfOk result (λ places. length places.items ≡ length addrs.now) }
     ensures more { steps.old ≤ steps.new }
-    ensures cost { (most : ℕ) → length table.now < 2 ^ most → steps.new ≤ steps.old + length addrs.now * most }
+    ensures cost { (most : ℕ) → length table.now < 2 ^ most → steps.new ≤ steps.old + length addrs.now * (most + 1) }
 {
-    let mut places = Vec::new(alloc);
+    let mut places = Vec::with_capacity(alloc, addrs.len())?;
+    let mut last = None;
     for addr in addrs {
-        places.push(nearest(table, *addr, steps))?;
+        last = nearest_from(table, last, *addr, steps);
+        places.push(last)?;
     }
     Ok(places)
+}
+
+/// What `nearest` gives for the address, where another address has this place.
+fn nearest_from<L: Ledger>(
+    table: &Starts,
+    last: Option<(usize, Addr)>,
+    addr: Addr,
+    steps: &mut Steps<L>,
+) -> Option<(usize, Addr)>
+    requires { IfSome last (IsStart table.now) }
+    ensures found { IsFound table.now addr result }
+    ensures start { IfSome result (IsStart table.now) }
+    ensures more { steps.old ≤ steps.new }
+    ensures cost { (most : ℕ) → length table.now < 2 ^ most → steps.new ≤ steps.old + most + 1 }
+{
+    if let Some((place, start)) = last {
+        if answers_too(table, place, start, addr, steps) {
+            return last;
+        }
+    }
+    nearest(table, addr, steps)
+}
+
+/// Whether the start at a place is seen to be the last one below an address too.
+fn answers_too<L: Ledger>(
+    table: &Starts,
+    place: usize,
+    start: Addr,
+    addr: Addr,
+    steps: &mut Steps<L>,
+) -> bool
+    requires { IsStart table.now (place, start) }
+    ensures place { result ≡ true → IsPlace table.now addr place start }
+    ensures more { steps.old ≤ steps.new }
+    ensures cost { steps.new ≤ steps.old + 1 }
+{
+    if start >= addr {
+        return false;
+    }
+    table.len() - place == 1 || addr < table.probe(place + 1, steps)
 }
 
 /// The places by one pass along the starts.

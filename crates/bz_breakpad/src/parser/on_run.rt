@@ -27,8 +27,8 @@ pub(crate) fn next_on_run(text: &[u8], stops: Stops, last: StartText) -> Option<
     requires few { last.digits ≤ 8 }
     ensures { IfSome result (IsOnRun text.now last) }
 {
-    if let Some(next) = shown_on_run(text, stops, last) {
-        return Some(next);
+    if stops.end != 0 {
+        return shown_on_run(text, stops, last);
     }
     if text.len() < 64 {
         return None;
