@@ -39,4 +39,5 @@ pub mod StartLemmas
 pub mod StepLemmas
 pub mod TableLaws
 pub mod Turns
+pub mod ValueLemmas
 pub mod WalkLaws

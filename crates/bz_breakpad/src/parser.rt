@@ -8,6 +8,7 @@ pub(crate) mod plain;
 pub(crate) mod reading;
 pub(crate) mod record;
 pub(crate) mod standing;
+pub(crate) mod values;
 pub(crate) mod walk;
 
 ghost use Rattle.std.specs.Prelude.{◌≡◌, ℕ, List, IfOk, IfErr};
