@@ -3,6 +3,7 @@ pub mod Apart
 pub mod Bytes
 pub mod ChoiceLaws
 pub mod DenseLemmas
+pub mod FieldLemmas
 pub mod FinishLemmas
 pub mod FoldLaws
 pub mod FormLaws

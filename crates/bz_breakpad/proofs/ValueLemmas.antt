@@ -123,11 +123,11 @@ dec_is a b c d e f g h A B C D E F G H v is =
     let s = g + 10 * h in
     let pairs : dec_pairs v ≡ p + 65536 * (q + 65536 * (r + 65536 * s))
     = four_left p q r s (b + 10 * c) (d + 10 * e) (f + 10 * g) h (omega (arith, A, B)) (omega (arith, C, D)) (omega (arith, E, F)) (omega (arith, G, H))
-        (omega (arith, B, C)) (omega (arith, D, E)) (omega (arith, F, G)) (omega (arith, H)) (v + 10 * (v / 256)) (omega (arith, is, up)) in
+    (omega (arith, B, C)) (omega (arith, D, E)) (omega (arith, F, G)) (omega (arith, H)) (v + 10 * (v / 256)) (omega (arith, is, up)) in
     let up_pairs : dec_pairs v / 65536 ≡ q + 65536 * (r + 65536 * s) = omega (arith, pairs, A, B) in
     let fours : dec_fours v ≡ (p + 100 * q) + 4294967296 * (r + 100 * s)
     = two_left (p + 100 * q) (r + 100 * s) (q + 100 * r) s (omega (arith, A, B, C, D)) (omega (arith, E, F, G, H)) (omega (arith, C, D, E, F)) (omega (arith, G, H))
-        (dec_pairs v + 100 * (dec_pairs v / 65536)) (omega (arith, pairs, up_pairs)) in
+    (dec_pairs v + 100 * (dec_pairs v / 65536)) (omega (arith, pairs, up_pairs)) in
     let up_fours : dec_fours v / 4294967296 ≡ r + 100 * s = omega (arith, fours, A, B, C, D) in
     and_mask (dec_fours v + 10000 * (dec_fours v / 4294967296)) 32 ∙ omega (arith, fours, up_fours, A, B, C, D, E, F, G, H)
 
@@ -152,11 +152,11 @@ hex_is a b c d e f g h A B C D E F G H v is =
     let s = g + 16 * h in
     let pairs : hex_pairs v ≡ p + 65536 * (q + 65536 * (r + 65536 * s))
     = four_left p q r s (b + 16 * c) (d + 16 * e) (f + 16 * g) h (omega (arith, A, B)) (omega (arith, C, D)) (omega (arith, E, F)) (omega (arith, G, H))
-        (omega (arith, B, C)) (omega (arith, D, E)) (omega (arith, F, G)) (omega (arith, H)) (v + v / 16) (omega (arith, is, up)) in
+    (omega (arith, B, C)) (omega (arith, D, E)) (omega (arith, F, G)) (omega (arith, H)) (v + v / 16) (omega (arith, is, up)) in
     let up_pairs : hex_pairs v / 256 ≡ 256 * (q + 65536 * (r + 65536 * s)) = omega (arith, pairs, A, B) in
     let fours : hex_fours v ≡ (p + 256 * q) + 4294967296 * (r + 256 * s)
     = two_left (p + 256 * q) (r + 256 * s) (q + 256 * r) s (omega (arith, A, B, C, D)) (omega (arith, E, F, G, H)) (omega (arith, C, D, E, F)) (omega (arith, G, H))
-        (hex_pairs v + hex_pairs v / 256) (omega (arith, pairs, up_pairs)) in
+    (hex_pairs v + hex_pairs v / 256) (omega (arith, pairs, up_pairs)) in
     let up_fours : hex_fours v / 65536 ≡ 65536 * (r + 256 * s) = omega (arith, fours, A, B, C, D) in
     and_mask (hex_fours v + hex_fours v / 65536) 32 ∙ omega (arith, fours, up_fours, A, B, C, D, E, F, G, H)
 

@@ -2,6 +2,7 @@
 
 pub(crate) mod field;
 pub(crate) mod functions;
+pub(crate) mod inline;
 pub(crate) mod lanes;
 pub(crate) mod on_run;
 pub(crate) mod plain;

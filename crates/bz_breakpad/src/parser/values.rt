@@ -21,7 +21,7 @@ fn bytes_front(text: &[u8], count: u32) -> u64
 
 /// The number of so many decimal digits at the front.
 #[inline(always)]
-pub(crate) fn dec_front(text: &[u8], digits: u32) -> u64
+pub(crate) fn dec_front(text: &[u8], digits: u32) -> u32
     requires room { 8 ≤ length text.now }
     requires some { 0 < digits }
     requires few { digits ≤ 8 }
@@ -32,12 +32,12 @@ pub(crate) fn dec_front(text: &[u8], digits: u32) -> u64
     // Neighbours are put together: eight digits to four numbers, to two, to one.
     let pairs = (values + 10 * (values >> 8)) & 0x00ff_00ff_00ff_00ff;
     let fours = (pairs + 100 * (pairs >> 16)) & 0x0000_ffff_0000_ffff;
-    (fours + 10_000 * (fours >> 32)) & 0xffff_ffff
+    ((fours + 10_000 * (fours >> 32)) & 0xffff_ffff) as u32
 }
 
 /// The number of so many hexadecimal digits at the front.
 #[inline(always)]
-pub(crate) fn hex_front(text: &[u8], digits: u32) -> u64
+pub(crate) fn hex_front(text: &[u8], digits: u32) -> u32
     requires room { 8 ≤ length text.now }
     requires some { 0 < digits }
     requires few { digits ≤ 8 }
@@ -50,5 +50,5 @@ pub(crate) fn hex_front(text: &[u8], digits: u32) -> u64
     let values = (bytes & 0x0f0f_0f0f_0f0f_0f0f) + 9 * letters;
     let pairs = (values + (values >> 4)) & 0x00ff_00ff_00ff_00ff;
     let fours = (pairs + (pairs >> 8)) & 0x0000_ffff_0000_ffff;
-    (fours + (fours >> 16)) & 0xffff_ffff
+    ((fours + (fours >> 16)) & 0xffff_ffff) as u32
 }
