@@ -79,7 +79,7 @@ number_solid most value (b ∷ digits) rest is = digit_solid b is.digits.0
 -- A line of four fields.
 
 -- a piece beside a text of the form
-beside : (p : Piece) (f : Form) (front back : List ℕ) (tells : Tell p) (others : Value f) → IsPiece p front tells → Spells f back others →
+pub beside : (p : Piece) (f : Form) (front back : List ℕ) (tells : Tell p) (others : Value f) → IsPiece p front tells → Spells f back others →
     Spells (p · f) (front ++ back) (told p tells others)
 beside p f front back tells others front_is back_is = record {
   front = front;
@@ -93,7 +93,7 @@ beside p f front back tells others front_is back_is = record {
 }
 
 -- a space in front of a text of the form
-after_space : (f : Form) (text : List ℕ) (value : Value f) → Spells f text value → Spells (Sep · f) (space ∷ text) value
+pub after_space : (f : Form) (text : List ℕ) (value : Value f) → Spells f text value → Spells (Sep · f) (space ∷ text) value
 after_space f text value is = beside Sep f (space ∷ []) text tt value (record { bytes = (refl, tt); passes = refl; tells = refl }) is
 
 -- a line without a carriage return is its body
