@@ -1,11 +1,13 @@
 -- A FUNC record in its common form: its tag, three fields and its name make up its line.
-use Rattle.std.proofs.Common.{◌≡◌, ℕ, ◌≤◌, Bool, false, inl, inr, List, [], ◌∷◌, ◌++◌, nat_eq, Some, refl, sym, ap, ◌∙◌, arith, append_assoc}
+use Rattle.std.proofs.Common.{◌≡◌, ℕ, ◌+◌, ◌-◌, ◌<◌, ◌≤◌, Bool, false, inl, inr, List, [], ◌∷◌, ◌++◌, length, take, drop, nat_eq, Some, refl, sym, ap, ◌∙◌, arith, append_assoc}
 use Rattle.std.specs.Char.{digit_value}
+use Rattle.std.specs.List.{slice_index}
 use Rattle.std.specs.Prelude.{codes}
+use Rattle.std.specs.Str.Parse.{digits_value}
 use Rattle.std.proofs.lemmas.List.Folds.{list_any-append}
 use Rattle.bz_base.specs.Byte.{line_feed, carriage_return, space, is_blank, HasNo, begins_with}
 use Rattle.bz_base.specs.Line.{ended}
-use Rattle.bz_base.specs.Number.{IsHex, number_at}
+use Rattle.bz_base.specs.Number.{IsHex, digits_len, number_at}
 use Rattle.bz_base.proofs.ByteLemmas.{HasNo-digits}
 use Rattle.bz_breakpad.specs.Byte.{is_plain}
 use Rattle.bz_breakpad.specs.Form.{AllPass, Value, Spells}
@@ -20,16 +22,20 @@ use Rattle.bz_breakpad.specs.Walk.Record.{Top}
 use Rattle.bz_breakpad.specs.declared.parser.func_line.PlainFunc.{PlainFunc}
 use Rattle.bz_breakpad.proofs.FormLaws.{form_again}
 use Rattle.bz_breakpad.proofs.Pieces.{piece_found}
-use Rattle.bz_breakpad.proofs.PlainLemmas.{after_space, beside, its_body}
+use Rattle.bz_breakpad.proofs.PlainLemmas.{after_space, beside, field, its_body}
 use Rattle.bz_breakpad.proofs.PlainNameLemmas.{none_of, plain_utf8}
 
--- a number and a space are a field
-pub field_found : (text middle rest : List ℕ) (value : ℕ) → Some (value, middle) ≡ piece_at (Hex 8) text → Some (tt, rest) ≡ piece_at (Tag (space ∷ [])) middle →
-    IsSpacedHex text value rest
-field_found text middle rest value is_number is_space =
-    let number = piece_found (Hex 8) text (value, middle) (sym is_number) in
-    let after = piece_found (Tag (space ∷ [])) middle (tt, rest) (sym is_space) in
-    record { digits = number.0; cut = number.2 ∙ ap (λ t. number.0 ++ t) (after.2 ∙ ap (λ t. t ++ rest) after.1); number = number.1 }
+-- a number and a space are a field, where it is known where the digits end
+pub field_found : (text : List ℕ) (from end value : ℕ) → end < length text → from < end → digits_len 16 (drop from text) + from ≡ end → end ≤ from + 8 →
+    slice_index text end ≡ space → value ≡ digits_value 16 (take (end - from) (drop from text)) → IsSpacedHex (drop from text) value (drop (end + 1) text)
+field_found text from end value within some digits few is valued =
+    let f = field 16 8 space from end text within some digits few is in
+    let all : f.digits ≡ take (end - from) (drop from text) = f.digits_are ∙ ap (λ n. take n (drop from text)) (omega (arith, digits)) in
+    record {
+      digits = f.digits;
+      cut = f.whole;
+      number = record { some = f.number.some; few = f.number.few; digits = f.number.digits; valued = valued ∙ ap (digits_value 16) (sym all) };
+    }
 
 -- a line that begins with the tag and a space
 abbrev tagged : List ℕ → List ℕ

@@ -1,13 +1,16 @@
 //! FUNC records in their common form.
 
-ghost use Rattle.std.specs.Prelude.{◌≡◌, ◌≤◌, not, length, map, take, IfSome};
+ghost use Rattle.std.specs.Prelude.{◌≡◌, ◌<◌, ◌≤◌, ◌+◌, not, length, map, take, drop, IfSome};
 ghost use Rattle.std.specs.List.{prefix_len};
 ghost use Rattle.bz_breakpad.specs.Byte.{is_plain};
 ghost use Rattle.bz_breakpad.specs.PlainFunc.{IsPlainFunc, IsPlainName, IsSpacedHex};
+ghost use Rattle.bz_breakpad.specs.Stops.{AreStops};
 ghost use lib.Lanes.{mask_l};
 
-use crate::parser::field::{begins_blank, hex, tag};
+use crate::parser::field::{begins_blank, tag};
+use crate::parser::lanes::Stops;
 use crate::parser::record::FuncLine;
+use crate::parser::values::hex_front;
 use std::simd::prelude::*;
 
 /// A FUNC record in its common form, at the front of a text.
@@ -23,11 +26,15 @@ pub(crate) struct PlainFunc<'a> {
 pub(crate) fn plain_func(text: &[u8]) -> Option<PlainFunc<'_>>
     ensures { IfSome result (IsPlainFunc text.now) }
 {
-    let rest = tag(text, b"FUNC ")?;
-    let (start, rest) = spaced_hex(rest)?;
-    let (size, rest) = spaced_hex(rest)?;
-    let (parameter_size, rest) = spaced_hex(rest)?;
-    let (name, rest) = plain_name(rest)?;
+    let fields = tag(text, b"FUNC ")?;
+    if fields.len() < 72 {
+        return None;
+    }
+    let stops = Stops::at_front(fields);
+    let (start, at) = spaced_hex(fields, stops, 0)?;
+    let (size, at) = spaced_hex(fields, stops, at)?;
+    let (parameter_size, at) = spaced_hex(fields, stops, at)?;
+    let (name, rest) = plain_name(&fields[at as usize..])?;
     let func = FuncLine {
         start: start as u64,
         size,
@@ -37,14 +44,22 @@ pub(crate) fn plain_func(text: &[u8]) -> Option<PlainFunc<'_>>
     Some(PlainFunc { func, rest })
 }
 
-/// The number of the one to eight hexadecimal digits at the front, where a space ends them, and the
-/// text after the space.
-fn spaced_hex(text: &[u8]) -> Option<(u32, &[u8])>
-    ensures { IfSome result (λ read. IsSpacedHex text.now read.0 read.1.now) }
+/// The number of the one to eight hexadecimal digits from a place on, if a shown space ends them, and
+/// the place after the space.
+#[inline(always)]
+fn spaced_hex(text: &[u8], stops: Stops, from: u32) -> Option<(u32, u32)>
+    requires stops { AreStops text.now stops }
+    requires room { 72 ≤ length text.now }
+    requires within { from < 64 }
+    ensures reads { IfSome result (λ read. IsSpacedHex (drop from text.now) read.0 (drop read.1 text.now)) }
+    ensures end { IfSome result (λ read. (read.1 ≤ from + 9) × (read.1 ≤ length text.now)) }
 {
-    let (value, rest) = hex(text, 8)?;
-    let rest = tag(rest, b" ")?;
-    Some((value as u32, rest))
+    let end = stops.hex_end(text, from, 8)?;
+    if text[end as usize] != b' ' {
+        return None;
+    }
+    let value = hex_front(&text[from as usize..], end - from);
+    Some((value, end + 1))
 }
 
 /// The name in ASCII at the front that a line feed ends, and the text after the line feed. None tells
