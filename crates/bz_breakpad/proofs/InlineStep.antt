@@ -20,7 +20,7 @@ use Rattle.bz_breakpad.proofs.PlainStep.{its_text}
 use Rattle.bz_breakpad.proofs.StepLemmas.{record_read, step_read}
 
 -- of a line with something in it and no white space before it there is something left after white space
-some_text : (free : Bool) (line : List ℕ) → begins_with is_white line ≡ false → is_nothing line ≡ false → (free && is_nothing (text_at free line)) ≡ false
+pub some_text : (free : Bool) (line : List ℕ) → begins_with is_white line ≡ false → is_nothing line ≡ false → (free && is_nothing (text_at free line)) ≡ false
 some_text false line solid some = refl
 some_text true line solid some = ap is_nothing (its_text true line solid) ∙ some
 

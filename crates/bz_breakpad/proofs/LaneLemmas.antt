@@ -46,7 +46,7 @@ bits_from test (suc k) (b ∷ text) =
     ap (λ e. n / 2 ^ e) more ∙ sym (shr-shr n 1 k) ∙ ap (λ h. h / 2 ^ k) (half_of (test b) m) ∙ bits_from test k text
 
 -- a run of the bytes that don't fail is one of those that pass
-double_not : (p : ℕ → Bool) (text : List ℕ) → prefix_len (λ b. not (not (p b))) text ≡ prefix_len p text
+pub double_not : (p : ℕ → Bool) (text : List ℕ) → prefix_len (λ b. not (not (p b))) text ≡ prefix_len p text
 double_not p [] = refl
 double_not p (b ∷ text) = step (p b) (prefix_len (λ c. not (not (p c))) text) (prefix_len p text) (double_not p text) where
   step : (test : Bool) (m n : ℕ) → m ≡ n → cond (not (not test)) (1 + m) 0 ≡ cond test (1 + n) 0

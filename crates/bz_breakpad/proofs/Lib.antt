@@ -7,6 +7,8 @@ pub mod FieldLemmas
 pub mod FinishLemmas
 pub mod FoldLaws
 pub mod FormLaws
+pub mod FuncLemmas
+pub mod FuncStep
 pub mod FunctionLemmas
 pub mod GrammarLaws
 pub mod InlineLemmas
@@ -27,6 +29,7 @@ pub mod OrderLemmas
 pub mod PlaceLemmas
 pub mod PlacedLemmas
 pub mod PlainLemmas
+pub mod PlainNameLemmas
 pub mod PlainStep
 pub mod RoleLaws
 pub mod Rows

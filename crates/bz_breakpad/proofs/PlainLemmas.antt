@@ -27,11 +27,11 @@ use Rattle.bz_breakpad.proofs.FormLaws.{form_again}
 -- The digits of a field.
 
 -- one to so many digits stand in front, then the byte, then the rest
-record IsField (base most after : ℕ) (text rest : List ℕ) : Type 0 where
-  digits : List ℕ
-  digits_are : digits ≡ take (digits_len base text) text
-  whole : text ≡ digits ++ after ∷ rest
-  number : IsNumber base most digits (digits_value base digits)
+pub record IsField (base most after : ℕ) (text rest : List ℕ) : Type 0 where
+  pub digits : List ℕ
+  pub digits_are : digits ≡ take (digits_len base text) text
+  pub whole : text ≡ digits ++ after ∷ rest
+  pub number : IsNumber base most digits (digits_value base digits)
 
 -- the byte at a place, and what stands after it
 pub byte_at : (at after : ℕ) (text : List ℕ) → at < length text → slice_index text at ≡ after → drop at text ≡ after ∷ drop (at + 1) text
@@ -39,7 +39,7 @@ byte_at at after text within is =
     drop-cons text at 0 within ∙ ap (λ b. b ∷ drop (suc at) text) is ∙ ap (λ k. after ∷ drop k text) (sym (add-one at))
 
 -- the field from a place on, where it is known where its digits end and which byte stands there
-field : (base most after from end : ℕ) (text : List ℕ) → end < length text → from < end → digits_len base (drop from text) + from ≡ end →
+pub field : (base most after from end : ℕ) (text : List ℕ) → end < length text → from < end → digits_len base (drop from text) + from ≡ end →
     end ≤ from + most → slice_index text end ≡ after → IsField base most after (drop from text) (drop (end + 1) text)
 field base most after from end text room some run few is =
     let tail = drop from text in
@@ -79,7 +79,7 @@ number_solid most value (b ∷ digits) rest is = digit_solid b is.digits.0
 -- A line of four fields.
 
 -- a piece beside a text of the form
-beside : (p : Piece) (f : Form) (front back : List ℕ) (tells : Tell p) (others : Value f) → IsPiece p front tells → Spells f back others →
+pub beside : (p : Piece) (f : Form) (front back : List ℕ) (tells : Tell p) (others : Value f) → IsPiece p front tells → Spells f back others →
     Spells (p · f) (front ++ back) (told p tells others)
 beside p f front back tells others front_is back_is = record {
   front = front;
@@ -93,7 +93,7 @@ beside p f front back tells others front_is back_is = record {
 }
 
 -- a space in front of a text of the form
-after_space : (f : Form) (text : List ℕ) (value : Value f) → Spells f text value → Spells (Sep · f) (space ∷ text) value
+pub after_space : (f : Form) (text : List ℕ) (value : Value f) → Spells f text value → Spells (Sep · f) (space ∷ text) value
 after_space f text value is = beside Sep f (space ∷ []) text tt value (record { bytes = (refl, tt); passes = refl; tells = refl }) is
 
 -- a line without a carriage return is its body

@@ -1,7 +1,7 @@
 -- The bytes of a Breakpad line, by kind.
-use Rattle.std.specs.Prelude.{ℕ, Bool, ◌==◌, ◌||◌, not, true, false, List, [], ◌∷◌}
-use Rattle.std.specs.Char.{is_digit}
-use Rattle.bz_base.specs.Byte.{tab, carriage_return, space, is_blank}
+use Rattle.std.specs.Prelude.{ℕ, Bool, ◌==◌, ◌&&◌, ◌||◌, not, true, false, List, [], ◌∷◌}
+use Rattle.std.specs.Char.{is_ascii, is_digit}
+use Rattle.bz_base.specs.Byte.{tab, line_feed, carriage_return, space, is_blank}
 
 abbrev pub is_space : ℕ → Bool
 is_space b = b == space
@@ -26,6 +26,10 @@ is_solid b = not (is_blank b)
 -- white space within a line
 abbrev pub is_white : ℕ → Bool
 is_white b = is_blank b || b == carriage_return
+
+-- a byte in ASCII that ends no line
+abbrev pub is_plain : ℕ → Bool
+is_plain b = is_ascii b && not (b == line_feed || b == carriage_return)
 
 -- the bytes that end a line
 abbrev pub ends_line : ℕ → Bool

@@ -13,6 +13,7 @@ pub mod LineStarts
 pub mod Names
 pub mod OnRun
 pub mod Plain
+pub mod PlainFunc
 pub mod PlainLine
 pub mod Reader
 pub mod Reads

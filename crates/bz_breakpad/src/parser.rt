@@ -1,6 +1,7 @@
 //! Reads a Breakpad text, line by line.
 
 pub(crate) mod field;
+pub(crate) mod func_line;
 pub(crate) mod functions;
 pub(crate) mod inline;
 pub(crate) mod lanes;

@@ -39,7 +39,7 @@ fn blank_len(text: &[u8]) -> usize
     text.iter().take_while(|b| is_blank(**b)).count()
 }
 
-fn begins_blank(text: &[u8]) -> bool
+pub(crate) fn begins_blank(text: &[u8]) -> bool
     ensures { result ≡ begins_with is_blank text.now }
 {
     match text {

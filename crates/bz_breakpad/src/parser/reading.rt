@@ -112,7 +112,7 @@ impl KeptReading {
 }
 
 /// The part of the bytes that a name has that ends at a place.
-fn name_part(name: &str, end: usize) -> Result<Part, AllocError>
+pub(crate) fn name_part(name: &str, end: usize) -> Result<Part, AllocError>
     ensures { IfOk result (λ part. (bytes body : List ℕ) (start : ℕ) → IsRecordAt bytes start body → end ≡ start + length body → EndsWith body name.now →
         IsNameAt bytes part name.now) }
 {

@@ -14,11 +14,12 @@ ghost use Rattle.bz_breakpad.specs.Walk.Context.{InFunc, Outside};
 ghost use Rattle.bz_breakpad.specs.Walked.{IsLineAt, IsMidway, IsRefused, IsStep, IsWalked};
 
 use crate::parser::field::body;
+use crate::parser::func_line::plain_func;
 use crate::parser::inline::inline_line;
 use crate::parser::lanes::Stops;
 use crate::parser::on_run::next_on_run;
 use crate::parser::plain::plain_line;
-use crate::parser::reading::KeptReading;
+use crate::parser::reading::{KeptReading, name_part};
 use crate::parser::record::{Context, Range, RecordLine, TopLine, read_record};
 use crate::parser::standing::LinesSoFar;
 use crate::types::Part;
@@ -67,7 +68,7 @@ impl Walk {
     {
         let found = match rest {
             [b'I', ..] => self.inline(text, rest)?,
-            [b'F', b'U', ..] => None,
+            [b'F', b'U', ..] => self.func(text, rest)?,
             _ => self.plain(text, rest)?,
         };
         match found {
@@ -93,6 +94,28 @@ impl Walk {
         };
         self.kept.functions.inline(&line.call, &[line.range])?;
         self.free = false;
+        self.count += 1;
+        Ok(Some(line.rest))
+    }
+
+    /// Reads the first line of the rest of a text, if it is a FUNC record in its common form, and
+    /// returns the rest after it. None tells nothing.
+    fn func<'a>(&mut self, text: &[u8], rest: &'a [u8]) -> Result<Option<&'a [u8]>>
+        requires midway { IsMidway text.now rest.now self.old }
+        ensures ok { IfOk result (λ found. IfSome found (λ after. IsMidway text.now after.now self.new)) }
+        ensures shorter { IfOk result (λ found. IfSome found (λ after. length after.now < length rest.now)) }
+        ensures none { IfOk result (λ found. IfNone found (IsMidway text.now rest.now self.new)) }
+        ensures refusal { IfErr result (Refuses (reading_in text.now)) }
+    {
+        let Some(line) = plain_func(rest) else {
+            return Ok(None);
+        };
+        // A line feed stands between the name and the rest.
+        let name = name_part(line.func.name, text.len() - line.rest.len() - 1)?;
+        self.kept.functions.close()?;
+        self.kept.functions.begin(&line.func, name)?;
+        self.context = Context::InFunc;
+        self.free = true;
         self.count += 1;
         Ok(Some(line.rest))
     }
