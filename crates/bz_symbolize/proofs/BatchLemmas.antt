@@ -1,15 +1,12 @@
 -- What a version answers to a batch, in the words of the source's format.
-use Rattle.std.proofs.Common.{◌≡◌, ◌↔◌, ◌<◌, ℕ, List, [], ◌∷◌, ◌++◌, length, map, option_map, Some, slice_get, get_or, Result, Ok, Err, IfOk, ap, sym, ◌∙◌}
+use Rattle.std.proofs.Common.{◌≡◌, ◌↔◌, ◌<◌, ℕ, List, [], ◌∷◌, ◌++◌, length, option_map, Some, slice_get, slice_index, Ok, Err, ap, sym, ◌∙◌}
 use Rattle.std.specs.List.{AllByRecursion}
-use Rattle.std.proofs.lemmas.List.{length-map}
 use Rattle.std.proofs.lemmas.Option.{slice_get-get_or, slice_get-map}
-use Rattle.bz_base.specs.Answer.{Answer, reading}
+use Rattle.bz_base.specs.Answer.{Answer}
 use Rattle.bz_base.specs.InputKind.{AddressKind}
 use Rattle.bz_base.specs.declared.error.Error.{Error}
 use Rattle.bz_base.specs.declared.types.FindSymOpts.{FindSymOpts}
-use Rattle.bz_base.specs.declared.types.Symbolized.{Symbolized}
-use Rattle.bz_symbolize.specs.Batch.{AreAnswersOf, batch_by, entry_by}
-use Rattle.bz_symbolize.specs.declared.held.Held.{Held}
+use Rattle.bz_symbolize.specs.Batch.{Batch, answer_at}
 use Rattle.bz_symbolize.specs.FileCall.{batch_of}
 use Rattle.bz_symbolize.specs.Promise.{IsAnswerOf, IsBreakpadAnswer, IsBreakpadBatch, IsElfAnswer, IsElfBatch, IsGsymAnswer, IsGsymBatch}
 use Rattle.bz_symbolize.specs.declared.source.Source.{Source}
@@ -51,28 +48,11 @@ pub plain_elf : (path bytes : List ℕ) (kind : AddressKind) (addrs : List ℕ) 
 plain_elf path bytes kind addrs answers =
     (elf_answered path bytes kind addrs answers, λ is. record { accepted = is.accepted; served = is.served; plain = ap Ok (sym is.plain) })
 
--- the answer that is read of the address of an index is the batch's of that index
-pub answer_read : (held : Held) (opts : FindSymOpts) (addrs : List ℕ) (i d : ℕ) → i < length addrs → (result : Result Symbolized Error) →
-    IfOk result (λ entry. reading entry ≡ entry_by held opts (get_or addrs i d)) →
-    IfOk result (λ entry. slice_get (batch_by held opts addrs).answers i ≡ Some (reading entry))
-answer_read held opts addrs i d within (Ok entry) is =
-    let single : ℕ → Answer = λ addr. entry_by held opts addr in
-    slice_get-map single addrs i ∙ ap (option_map single) (slice_get-get_or addrs i d within) ∙ ap Some (sym is)
-answer_read held opts addrs i d within (Err e) is = tt
-
--- answers at addresses are those of a batch, wherever that has one of these addresses
-pub answers_found : (held : Held) (opts : FindSymOpts) (addrs asked : List ℕ) (answers : List Answer) → answers ≡ map (λ addr. entry_by held opts addr) asked →
-    AreAnswersOf (batch_by held opts addrs) asked answers
-answers_found held opts addrs asked answers are =
-    let entry = λ (addr : ℕ). entry_by held opts addr in
-    record {
-      count = ap length are ∙ length-map asked entry;
-      alike = λ place index within there same.
-          slice_get-map entry addrs index
-          ∙ ap (option_map entry) (slice_get-get_or addrs index 0 there ∙ ap Some same ∙ sym (slice_get-get_or asked place 0 within))
-          ∙ sym (slice_get-map entry asked place)
-          ∙ sym (ap (λ (list : List Answer). slice_get list place) are);
-    }
+-- the answer of a batch at an index is what its version answers at the address there
+pub answer_there : (batch : Batch) (i : ℕ) → i < length batch.addrs → slice_get batch.answers i ≡ Some (answer_at batch (slice_index batch.addrs i))
+answer_there batch i within =
+    let single = λ (addr : ℕ). answer_at batch addr in
+    ap (λ (list : List Answer). slice_get list i) batch.plain ∙ slice_get-map single batch.addrs i ∙ ap (option_map single) (slice_get-get_or batch.addrs i 0 within)
 
 -- what holds of each and of one more holds of all
 pub all_and_one : {X : Type 0} (P : X → Type 0) (xs : List X) (x : X) → AllByRecursion P xs → P x → AllByRecursion P (xs ++ x ∷ [])

@@ -1,5 +1,5 @@
 -- A batch whose source was looked at.
-use Rattle.std.specs.Prelude.{◌≡◌, ◌<◌, ℕ, List, length, map, slice_get, slice_index, string_bytes}
+use Rattle.std.specs.Prelude.{◌≡◌, ℕ, List, map, string_bytes, refl}
 use Rattle.bz_base.specs.Answer.{Answer, in_batch}
 use Rattle.bz_base.specs.InputKind.{AddressKind, InFile, InTable}
 use Rattle.bz_base.specs.declared.types.FindSymOpts.{FindSymOpts}
@@ -10,29 +10,46 @@ use Rattle.bz_symbolize.specs.declared.held.ElfKind.TheVariants as kinds
 use Rattle.bz_symbolize.specs.declared.held.Held.{Held}
 use Rattle.bz_symbolize.specs.declared.held.Held.TheVariants as helds
 
--- addresses, and the answers of a version of their source to them, in their order
+-- what answers addresses: bytes in a format; of an ELF file also the path that names it, and the kind of the addresses
+pub data Version : Type 0 where
+  BreakpadVersion : List ℕ → Version
+  GsymVersion : List ℕ → Version
+  ElfVersion : List ℕ → List ℕ → AddressKind → Version
+
+-- the entry of a batch at an address, by a version; a refused address is an ignored error
+abbrev pub entry_by : Version → FindSymOpts → ℕ → Answer
+entry_by (BreakpadVersion bytes) opts addr = in_batch (breakpad_single opts (table_in bytes) addr)
+entry_by (GsymVersion bytes) opts addr = in_batch (gsym_single opts bytes addr)
+entry_by (ElfVersion path bytes kind) opts addr = elf_single path bytes kind addr
+
+-- addresses, the version of their source that answers them, how it is asked, and its answers to them, in their order
 pub record Batch : Type 0 where
+  pub version : Version
+  pub opts : FindSymOpts
   pub addrs : List ℕ
   pub answers : List Answer
+  pub plain : answers ≡ map (λ addr. entry_by version opts addr) addrs
 
--- answers at addresses are those of a batch, wherever that has one of these addresses
-pub record AreAnswersOf (batch : Batch) (addrs : List ℕ) (answers : List Answer) : Type 0 where
-  pub count : length answers ≡ length addrs
-  pub alike : (place index : ℕ) → place < length addrs → index < length batch.addrs → slice_index batch.addrs index ≡ slice_index addrs place →
-      slice_get batch.answers index ≡ slice_get answers place
+-- the batch by a version
+abbrev pub batch_by : Version → FindSymOpts → List ℕ → Batch
+batch_by version opts addrs = record { version = version; opts = opts; addrs = addrs; answers = map (λ addr. entry_by version opts addr) addrs; plain = refl }
+
+-- what the version of a batch answers at an address, whether or not the batch has it
+abbrev pub answer_at : Batch → ℕ → Answer
+answer_at batch addr = entry_by batch.version batch.opts addr
+
+-- and at addresses, in their order
+abbrev pub answers_to : List ℕ → Batch → List Answer
+answers_to addrs batch = map (λ addr. answer_at batch addr) addrs
 
 -- the kind of the addresses that an ELF file is asked for
 abbrev pub kind_of : ElfKind → AddressKind
 kind_of kinds.Table = InTable
 kind_of kinds.File = InFile
 
--- the entry of a batch at an address, by the version that is held; a refused address is an ignored error
-abbrev pub entry_by : Held → FindSymOpts → ℕ → Answer
-entry_by (helds.Breakpad file) opts addr = in_batch (breakpad_single opts (table_in file.value) addr)
-entry_by (helds.Gsym table) opts addr = in_batch (gsym_single opts table.value addr)
-entry_by (helds.GsymData context) opts addr = in_batch (gsym_single opts context addr)
-entry_by (helds.Elf elf) opts addr = elf_single (string_bytes elf.path) elf.file.value (kind_of elf.kind) addr
-
--- the batch by the version that is held
-abbrev pub batch_by : Held → FindSymOpts → List ℕ → Batch
-batch_by held opts addrs = record { addrs = addrs; answers = map (λ addr. entry_by held opts addr) addrs }
+-- the version that is held
+abbrev pub version_of : Held → Version
+version_of (helds.Breakpad file) = BreakpadVersion file.value
+version_of (helds.Gsym table) = GsymVersion table.value
+version_of (helds.GsymData context) = GsymVersion context
+version_of (helds.Elf elf) = ElfVersion (string_bytes elf.path) elf.file.value (kind_of elf.kind)

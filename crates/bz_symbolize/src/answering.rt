@@ -1,10 +1,11 @@
 //! How a parsed file answers, whatever its format, and the calls on one file in one cache.
 
-ghost use Rattle.std.specs.Prelude.{◌≡◌, map, IfOk, IfErr, IsOkUnless};
+ghost use Rattle.std.specs.Prelude.{◌≡◌, ℕ, List, map, IfOk, IfErr, IsOkUnless};
 ghost use Rattle.bz_base.specs.Answer.{Gives, reading};
 ghost use Rattle.bz_base.specs.InputKind.{address_kind, payload};
 ghost use Rattle.bz_base.specs.Refusals.{MayRefuse};
 ghost use Rattle.bz_base.specs.declared.error.Error.{Error};
+ghost use Rattle.bz_symbolize.specs.Batch.{answers_to};
 ghost use Rattle.bz_symbolize.specs.FileCall.{Answering, CallsFile, batch_of, batch_query, query_asked, query_given, single_query};
 
 use crate::lookups::Lookups;
@@ -57,6 +58,7 @@ pub trait Answers: Version {
         input: Input<Vec<u64>>,
     ) -> Result<Lookups<'d>>
         ensures answer { Gives (λ lookups. lookups.answers) (query_given answering opts path.now (batch_of (address_kind input) (payload input).items) (Self.bytes_of version.value)) result }
+        ensures every { (others : List ℕ) → Gives (answers_to others) (query_given answering opts path.now (batch_of (address_kind input) others) (Self.bytes_of version.value)) result }
         ensures addrs { IfOk result (λ lookups. lookups.addrs ≡ (payload input).items) }
         ensures refusal { IfErr result MayRefuse };
 }
@@ -110,6 +112,7 @@ pub fn look_up_file<'d, T: Answers + Drop, F: Files>(
     input: Input<Vec<u64>>,
 ) -> Result<Lookups<'d>>
     ensures called { CallsFile F.Files (λ lookups. lookups.answers) (query_asked T.test T.answering opts path.now (batch_of (address_kind input) (payload input).items)) path.now result cache.old cache.new files.old files.new }
+    ensures every { (others : List ℕ) → CallsFile F.Files (answers_to others) (query_asked T.test T.answering opts path.now (batch_of (address_kind input) others)) path.now result cache.old cache.new files.old files.new }
     ensures addrs { IfOk result (λ lookups. lookups.addrs ≡ (payload input).items) }
 {
     if !T::takes(&input) {

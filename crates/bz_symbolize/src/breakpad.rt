@@ -1,11 +1,12 @@
 //! A Breakpad file as one that answers.
 
-ghost use Rattle.std.specs.Prelude.{◌≡◌, ◌<◌, Ok, length, map, slice_index, IfOk, IfErr, IsOkUnless};
+ghost use Rattle.std.specs.Prelude.{◌≡◌, ◌<◌, ℕ, List, Ok, length, map, slice_index, IfOk, IfErr, IsOkUnless};
 ghost use Rattle.bz_base.specs.Answer.{Gives, in_batch, reading};
 ghost use Rattle.bz_base.specs.InputKind.{address_kind, payload};
 ghost use Rattle.bz_base.specs.Refusals.{MayRefuse};
 ghost use Rattle.bz_breakpad.specs.Reader.{table_in};
 ghost use Rattle.bz_breakpad.specs.Refusal.{IsAnswerRefusal};
+ghost use Rattle.bz_symbolize.specs.Batch.{answers_to};
 ghost use Rattle.bz_symbolize.specs.FileCall.{batch_of, query_given};
 ghost use Rattle.bz_symbolize.specs.Sources.{breakpad_answering, breakpad_single};
 
@@ -67,6 +68,7 @@ impl Answers for SymbolFile {
         input: Input<Vec<u64>>,
     ) -> Result<Lookups<'d>>
         ensures answer { Gives (λ lookups. lookups.answers) (query_given breakpad_answering opts path.now (batch_of (address_kind input) (payload input).items) version.value) result }
+        ensures every { (others : List ℕ) → Gives (answers_to others) (query_given breakpad_answering opts path.now (batch_of (address_kind input) others) version.value) result }
         ensures addrs { IfOk result (λ lookups. lookups.addrs ≡ (payload input).items) }
         ensures refusal { IfErr result MayRefuse }
     {

@@ -1,14 +1,14 @@
 //! An ELF file as one that answers.
 
-ghost use Rattle.std.specs.Prelude.{◌≡◌, Ok, Some, map, IfOk, IfErr, IsOkUnless};
+ghost use Rattle.std.specs.Prelude.{◌≡◌, ℕ, List, Ok, Some, map, IfOk, IfErr, IsOkUnless};
 ghost use Rattle.bz_base.specs.Answer.{Gives, reading, resolved_of};
 ghost use Rattle.bz_base.specs.InputKind.{address_kind, payload};
 ghost use Rattle.bz_base.specs.Lent.{IsLent, IsLentResolved};
 ghost use Rattle.bz_base.specs.Refusals.{MayRefuse};
 ghost use Rattle.bz_base.specs.declared.error.Error.{Error};
-ghost use Rattle.bz_symbolize.specs.Batch.{kind_of};
+ghost use Rattle.bz_symbolize.specs.Batch.{ElfVersion, answers_to, batch_by, kind_of};
 ghost use Rattle.bz_symbolize.specs.FileCall.{batch_of, query_given};
-ghost use Rattle.bz_symbolize.specs.Sources.{elf_answering, elf_batch, elf_single, virtual_offset};
+ghost use Rattle.bz_symbolize.specs.Sources.{elf_answering, elf_single, virtual_offset};
 
 use crate::answering::{Answers, owned_answer};
 use crate::held::{ElfKind, Held, HeldElf};
@@ -74,6 +74,7 @@ impl Answers for ElfFile {
         input: Input<Vec<u64>>,
     ) -> Result<Lookups<'d>>
         ensures answer { Gives (λ lookups. lookups.answers) (query_given elf_answering opts path.now (batch_of (address_kind input) (payload input).items) version.value) result }
+        ensures every { (others : List ℕ) → Gives (answers_to others) (query_given elf_answering opts path.now (batch_of (address_kind input) others) version.value) result }
         ensures addrs { IfOk result (λ lookups. lookups.addrs ≡ (payload input).items) }
         ensures refusal { IfErr result MayRefuse }
     {
@@ -96,8 +97,7 @@ fn batch_on<'d>(
     opts: FindSymOpts,
     addrs: Vec<u64>,
 ) -> Result<Lookups<'d>>
-    ensures answers { IfOk result (λ lookups. lookups.answers ≡ elf_batch path.now file.value (kind_of kind) addrs.items) }
-    ensures addrs { IfOk result (λ lookups. lookups.addrs ≡ addrs.items) }
+    ensures batch { IfOk result (λ lookups. lookups ≡ batch_by (ElfVersion path.now file.value (kind_of kind)) opts addrs.items) }
     ensures memory { IsOkUnless result Error.OutOfMemory }
 {
     let path = String::from_str(alloc, path)?;

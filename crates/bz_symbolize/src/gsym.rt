@@ -1,12 +1,13 @@
 //! GSYM as what answers, in a file or handed in.
 
-ghost use Rattle.std.specs.Prelude.{◌≡◌, map, IfOk, IfErr, IsOkUnless};
+ghost use Rattle.std.specs.Prelude.{◌≡◌, ℕ, List, map, IfOk, IfErr, IsOkUnless};
 ghost use Rattle.bz_base.specs.Answer.{Gives, in_batch, reading};
 ghost use Rattle.bz_base.specs.InputKind.{address_kind, payload};
 ghost use Rattle.bz_base.specs.Lent.{IsLent};
 ghost use Rattle.bz_base.specs.Refusals.{MayRefuse};
 ghost use Rattle.bz_base.specs.declared.error.Error.{Error};
 ghost use Rattle.bz_gsym.specs.Refusal.{IsAnswerRefusal};
+ghost use Rattle.bz_symbolize.specs.Batch.{answers_to};
 ghost use Rattle.bz_symbolize.specs.FileCall.{batch_of, batch_query, query_given, single_query};
 ghost use Rattle.bz_symbolize.specs.Sources.{gsym_answering, gsym_handed, gsym_single, handed_answer};
 
@@ -70,6 +71,7 @@ impl Answers for GsymTable {
         input: Input<Vec<u64>>,
     ) -> Result<Lookups<'d>>
         ensures answer { Gives (λ lookups. lookups.answers) (query_given gsym_answering opts path.now (batch_of (address_kind input) (payload input).items) version.value) result }
+        ensures every { (others : List ℕ) → Gives (answers_to others) (query_given gsym_answering opts path.now (batch_of (address_kind input) others) version.value) result }
         ensures addrs { IfOk result (λ lookups. lookups.addrs ≡ (payload input).items) }
         ensures refusal { IfErr result MayRefuse }
     {
@@ -127,6 +129,7 @@ pub(crate) fn look_up_data<'d>(
     input: Input<Vec<u64>>,
 ) -> Result<Lookups<'d>>
     ensures answer { Gives (λ lookups. lookups.answers) (handed_answer (gsym_handed bytes.now) opts (batch_of (address_kind input) (payload input).items)) result }
+    ensures every { (others : List ℕ) → Gives (answers_to others) (handed_answer (gsym_handed bytes.now) opts (batch_of (address_kind input) others)) result }
     ensures addrs { IfOk result (λ lookups. lookups.addrs ≡ (payload input).items) }
     ensures refusal { IfErr result MayRefuse }
 {

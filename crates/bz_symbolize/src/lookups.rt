@@ -1,12 +1,12 @@
 //! Batches whose answers are made one by one.
 
-ghost use Rattle.std.specs.Prelude.{◌≡◌, ◌<◌, length, map, slice_get, slice_index, Some, IfOk, IsOkUnless};
+ghost use Rattle.std.specs.Prelude.{◌≡◌, ◌<◌, length, map, slice_index, IfOk, IsOkUnless};
 ghost use Rattle.std.specs.List.{AllByRecursion};
 ghost use Rattle.bz_base.specs.Answer.{in_batch, reading};
 ghost use Rattle.bz_base.specs.Lent.{IsLent};
 ghost use Rattle.bz_base.specs.declared.error.Error.{Error};
 ghost use Rattle.bz_breakpad.specs.Reader.{table_in};
-ghost use Rattle.bz_symbolize.specs.Batch.{AreAnswersOf, batch_by, entry_by};
+ghost use Rattle.bz_symbolize.specs.Batch.{answer_at, answers_to, batch_by, entry_by, version_of};
 ghost use Rattle.bz_symbolize.specs.Sources.{breakpad_single};
 
 use crate::elf;
@@ -20,7 +20,7 @@ use std::sync::ledger::{Blank, Ledger};
 
 /// Addresses whose source was looked at. Their answers are made one by one, and lend their texts from
 /// the version that the look gave, which stays as long as this does, whatever becomes of the file and
-/// of the symbolizer. Contracts see the addresses, and the answers to all of them.
+/// of the symbolizer. Contracts see the addresses, the version, and its answers.
 #[derive(Drop)]
 pub struct Lookups<'d> {
     held: Held<'d>,
@@ -29,17 +29,17 @@ pub struct Lookups<'d> {
 }
 
 impl<'d> Model for Lookups<'d> {
-    ghost use Rattle.bz_symbolize.specs.Batch.{Batch, batch_by};
+    ghost use Rattle.bz_symbolize.specs.Batch.{Batch, batch_by, version_of};
 
     ghost Value = { Batch };
 
-    ghost view = { λ l. batch_by l.held l.opts l.addrs.items };
+    ghost view = { λ l. batch_by (version_of l.held) l.opts l.addrs.items };
 }
 
 impl<'d> Lookups<'d> {
     // A batch on a version.
     pub(crate) fn new(held: Held<'d>, opts: FindSymOpts, addrs: Vec<u64>) -> Lookups<'d>
-        ensures { result ≡ batch_by held.entry opts addrs.items }
+        ensures { result ≡ batch_by (version_of held.entry) opts addrs.items }
     {
         Lookups { held, opts, addrs }
     }
@@ -62,7 +62,7 @@ impl<'d> Lookups<'d> {
     /// The answer at the address of an index; a refused address is an ignored error.
     pub fn answer(&self, alloc: Global, index: usize) -> Result<Symbolized<'_>>
         requires { index < length self.now.addrs }
-        ensures answer { IfOk result (λ answer. slice_get self.now.answers index ≡ Some (reading answer)) }
+        ensures answer { IfOk result (λ answer. reading answer ≡ answer_at self.now (slice_index self.now.addrs index)) }
         ensures lent { IfOk result IsLent }
         ensures memory { IsOkUnless result Error.OutOfMemory }
     {
@@ -72,7 +72,7 @@ impl<'d> Lookups<'d> {
     /// The answers at some of the addresses, in their order: what these say is read together, which is
     /// faster where they are near each other. A refused address is an ignored error.
     pub fn answers_at(&self, alloc: Global, addrs: &[Addr]) -> Result<Vec<Symbolized<'_>>>
-        ensures answers { IfOk result (λ answers. AreAnswersOf self.now addrs.now (map reading answers.items)) }
+        ensures answers { IfOk result (λ answers. map reading answers.items ≡ answers_to addrs.now self.now) }
         ensures lent { IfOk result (λ answers. AllByRecursion IsLent answers.items) }
         ensures memory { IsOkUnless result Error.OutOfMemory }
     {
@@ -88,7 +88,7 @@ fn entries<'h>(
     opts: &FindSymOpts,
     addrs: &[Addr],
 ) -> Result<Vec<Symbolized<'h>>>
-    ensures entries { IfOk result (λ entries. map reading entries.items ≡ map (λ addr. entry_by held.now opts.now addr) addrs.now) }
+    ensures entries { IfOk result (λ entries. map reading entries.items ≡ map (λ addr. entry_by (version_of held.now) opts.now addr) addrs.now) }
     ensures lent { IfOk result (λ entries. AllByRecursion IsLent entries.items) }
     ensures memory { IsOkUnless result Error.OutOfMemory }
 {
@@ -107,7 +107,7 @@ fn entries_each<'h>(
     opts: &FindSymOpts,
     addrs: &[Addr],
 ) -> Result<Vec<Symbolized<'h>>>
-    ensures entries { IfOk result (λ entries. map reading entries.items ≡ map (λ addr. entry_by held.now opts.now addr) addrs.now) }
+    ensures entries { IfOk result (λ entries. map reading entries.items ≡ map (λ addr. entry_by (version_of held.now) opts.now addr) addrs.now) }
     ensures lent { IfOk result (λ entries. AllByRecursion IsLent entries.items) }
     ensures memory { IsOkUnless result Error.OutOfMemory }
 {
@@ -145,7 +145,7 @@ fn entry<'h>(
     opts: &FindSymOpts,
     addr: Addr,
 ) -> Result<Symbolized<'h>>
-    ensures entry { IfOk result (λ entry. reading entry ≡ entry_by held.now opts.now addr) }
+    ensures entry { IfOk result (λ entry. reading entry ≡ entry_by (version_of held.now) opts.now addr) }
     ensures lent { IfOk result IsLent }
     ensures memory { IsOkUnless result Error.OutOfMemory }
 {

@@ -1,9 +1,10 @@
 //! The symbolizer.
 
-ghost use Rattle.std.specs.Prelude.{◌≡◌, ◌<◌, map, IfOk};
+ghost use Rattle.std.specs.Prelude.{◌≡◌, ◌<◌, ℕ, List, map, IfOk};
 ghost use Rattle.bz_base.specs.Answer.{reading};
 ghost use Rattle.bz_base.specs.InputKind.{address_kind, payload};
 ghost use Rattle.bz_cache.specs.Cache.{new_cache};
+ghost use Rattle.bz_symbolize.specs.Batch.{answers_to};
 ghost use Rattle.bz_symbolize.specs.FileCall.{batch_of, batch_query, single_query};
 ghost use Rattle.bz_symbolize.specs.Promise.{AsksSource, Symbolizes};
 ghost use Rattle.bz_symbolize.specs.Registration.{Registers};
@@ -121,6 +122,8 @@ impl Symbolizer {
         input: Input<Vec<u64>>,
     ) -> Result<Lookups<'d>>
         ensures call { Symbolizes F.Files (λ lookups. lookups.answers) src.now (batch_of (address_kind input) (payload input).items) result self.old self.new files.old files.new }
+        // At any other addresses it answers as the same call with these would have.
+        ensures every { (others : List ℕ) → Symbolizes F.Files (answers_to others) src.now (batch_of (address_kind input) others) result self.old self.new files.old files.new }
         ensures addrs { IfOk result (λ lookups. lookups.addrs ≡ (payload input).items) }
     {
         let opts = self.settings.opts();
@@ -298,6 +301,7 @@ impl Symbolizer {
         input: Input<Vec<u64>>,
     ) -> Result<Lookups<'d>>
         ensures asked { AsksSource F.Files (λ lookups. lookups.answers) src.now opts (batch_of (address_kind input) (payload input).items) result self.old self.new files.old files.new }
+        ensures every { (others : List ℕ) → AsksSource F.Files (answers_to others) src.now opts (batch_of (address_kind input) others) result self.old self.new files.old files.new }
         ensures addrs { IfOk result (λ lookups. lookups.addrs ≡ (payload input).items) }
     {
         match src {

@@ -1,14 +1,16 @@
 -- Texts that are made before they are written.
-use Rattle.std.proofs.Common.{◌≡◌, ◌≢◌, ◌⊎◌, ◌+◌, ◌-◌, ◌<◌, ◌≤◌, ℕ, List, [], ◌∷◌, ◌++◌, length, map, take, drop, slice_get, slice_index, slice_index_or, All, slice_range, string_bytes, Option, Some, None, IfSome, Result, Ok, Err, OnOk, Bor, refl, sym, ap, subst, inl, inr, length-append, length-drop, length-take, ◌∙◌, arith}
+use Rattle.std.proofs.Common.{◌≡◌, ◌≢◌, ◌⊎◌, ◌+◌, ◌-◌, ◌<◌, ◌≤◌, ℕ, List, [], ◌∷◌, ◌++◌, length, map, take, drop, slice_get, slice_index, slice_index_or, All, slice_range, string_bytes, Option, option_map, Some, None, IfSome, Result, Ok, Err, OnOk, Bor, refl, sym, ap, subst, inl, inr, length-append, length-drop, length-take, ◌∙◌, arith}
 use Rattle.std.specs.List.{AllByRecursion, slice_set}
 use Rattle.std.specs.Str.Pattern.{GetsRange}
 use Rattle.std.proofs.Math.Seq.{drop-append_seam, take-length}
 use Rattle.std.proofs.lemmas.Bool.{cases_lt}
 use Rattle.std.proofs.lemmas.Grind.{get_or-set_at}
 use Rattle.std.proofs.lemmas.List.{drop-append-le, get_or-drop, get_or-map, get_or-set_other, get_or-take, length-map, take-append-le}
-use Rattle.std.proofs.lemmas.Option.{get_or_from_slice_get}
+use Rattle.std.proofs.lemmas.Option.{get_or_from_slice_get, slice_get-get_or, slice_get-map}
 use Rattle.bz_base.specs.Answer.{Answer}
-use Rattle.bz_symbolize.specs.Batch.{AreAnswersOf, Batch}
+use Rattle.bz_symbolize.proofs.BatchLemmas.{answer_there}
+use Rattle.bz_symbolize.specs.Batch.{Batch, answer_at, answers_to}
+use Rattle.symq.specs.AnswerText.{answer_text}
 use Rattle.symq.specs.Texts.{AreTexts, IsEntryAmong, IsTextIn, IsTextOf}
 use Rattle.symq.specs.declared.texts.TextPart.{TextPart}
 use Rattle.symq.specs.declared.texts.Texts.{Texts}
@@ -89,6 +91,13 @@ pub answered : {A E P : Type 0} (result : Result A E) → P → OnOk result P
 answered (Ok given) holds = holds
 answered (Err e) holds = tt
 
+-- what was put to the end of a text is the text of the answer at an index
+pub entry_put : {A E : Type 0} (batch : Batch) (index : ℕ) (answer : Answer) (old new : List ℕ) (result : Result A E) → slice_get batch.answers index ≡ Some answer →
+    OnOk result (new ≡ old ++ answer_text (slice_index batch.addrs index) answer) →
+    OnOk result ((answer : Answer) × (slice_get batch.answers index ≡ Some answer) × (new ≡ old ++ answer_text (slice_index batch.addrs index) answer))
+entry_put batch index answer old new (Ok given) there put = (answer, there, put)
+entry_put batch index answer old new (Err e) there put = tt
+
 -- the address at a place of a part of the entries
 pub address_of : (order : List (ℕ × ℕ)) (from to place : ℕ) → from + place < to → to ≤ length order →
     slice_index (map (λ (e : ℕ × ℕ). e.0) (slice_range order from to)) place ≡ (slice_index_or order (from + place) (0, 0)).0
@@ -105,12 +114,19 @@ address_count order from to within =
 
 -- an answer at the address of an entry is that of the batch at its index
 pub answer_of : (batch : Batch) (first count : ℕ) (order : List (ℕ × ℕ)) (from to place : ℕ) (answers : List Answer) →
-    AreAnswersOf batch (map (λ (e : ℕ × ℕ). e.0) (slice_range order from to)) answers → All (IsEntryAmong batch first count) order → to ≤ length order → place < length answers →
+    answers ≡ answers_to (map (λ (e : ℕ × ℕ). e.0) (slice_range order from to)) batch → All (IsEntryAmong batch first count) order → to ≤ length order → place < length answers →
     slice_get batch.answers (slice_index_or order (from + place) (0, 0)).1 ≡ slice_get answers place
 answer_of batch first count order from to place answers are among within more =
-    let before : from + place < to = omega (arith, are.count, address_count order from to within) in
+    let asked = map (λ (e : ℕ × ℕ). e.0) (slice_range order from to) in
+    let single = λ (addr : ℕ). answer_at batch addr in
+    let as_many : length answers ≡ length asked = ap length are ∙ length-map asked single in
+    let before : from + place < to = omega (arith, as_many, address_count order from to within) in
     let entry = among (from + place) (0, 0) (omega arith) in
-    are.alike place (slice_index_or order (from + place) (0, 0)).1 (omega (arith, are.count)) entry.there (entry.addr ∙ sym (address_of order from to place before within))
+    answer_there batch (slice_index_or order (from + place) (0, 0)).1 entry.there
+    ∙ ap (λ (addr : ℕ). Some (single addr)) (entry.addr ∙ sym (address_of order from to place before within))
+    ∙ ap (option_map single) (sym (slice_get-get_or asked place 0 (omega (arith, as_many))))
+    ∙ sym (slice_get-map single asked place)
+    ∙ sym (ap (λ (list : List Answer). slice_get list place) are)
 
 -- what holds of each and of one more holds of all
 pub all_and_one : {X : Type 0} (P : X → Type 0) (xs : List X) (x : X) → AllByRecursion P xs → P x → AllByRecursion P (xs ++ x ∷ [])

@@ -2,14 +2,14 @@ use Rattle.std.proofs.Common.{ℕ, List, ◌∷◌, [], ◌++◌, map, take, ap,
 use Rattle.std.proofs.lemmas.List.{map-append, take_more}
 use Rattle.bz_base.specs.Answer.{Answer, reading}
 use Rattle.bz_base.specs.Lent.{IsLent}
-use Rattle.bz_symbolize.specs.Batch.{entry_by}
+use Rattle.bz_symbolize.specs.Batch.{entry_by, version_of}
 use Rattle.bz_symbolize.proofs.BatchLemmas.{all_and_one}
 use Rattle.bz_symbolize.proofs.lookups.entries_each.Goals as goal
 
 -- the entry that is pushed is the one at the next address
 pub loop-addr-preserved : goal.loop-addr-preserved
 loop-addr-preserved c =
-    let entry = λ (addr : ℕ). entry_by c.args.held.now c.args.opts.now addr in
+    let entry = λ (addr : ℕ). entry_by (version_of c.args.held.now) c.args.opts.now addr in
     record {
       entries =
           ap (map reading) c.in_ok-push.ensures.items

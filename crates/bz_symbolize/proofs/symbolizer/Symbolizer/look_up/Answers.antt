@@ -2,6 +2,7 @@ use Rattle.std.proofs.Common.{ap, ◌∙◌, List}
 use Rattle.bz_base.specs.Answer.{Answer}
 use Rattle.bz_base.specs.InputKind.{address_kind, payload}
 use Rattle.bz_symbolize.proofs.CallLemmas.{promised}
+use Rattle.bz_symbolize.specs.Batch.{answers_to}
 use Rattle.bz_symbolize.specs.State.{State, opts_of}
 use Rattle.bz_symbolize.specs.FileCall.{batch_of}
 use Rattle.bz_symbolize.specs.declared.lookups.Lookups.{Lookups}
@@ -15,3 +16,8 @@ pub returns-clause-call : goal.returns-clause-call
 returns-clause-call g c = promised g.F.Files read c.args.src.now (batch_of (address_kind c.args.input) (payload c.args.input).items) c.look_up_source.result
     c.args.self.now c.look_up_source.new.self c.args.files.now c.look_up_source.new.files
     (rw (c.opts-opts.ensures ∙ ap (λ (s : State). opts_of s.settings) c.self.view_is) at c.look_up_source.ensures.asked)
+
+pub returns-clause-every : goal.returns-clause-every
+returns-clause-every g c others = promised g.F.Files (answers_to others) c.args.src.now (batch_of (address_kind c.args.input) others) c.look_up_source.result
+    c.args.self.now c.look_up_source.new.self c.args.files.now c.look_up_source.new.files
+    (rw (c.opts-opts.ensures ∙ ap (λ (s : State). opts_of s.settings) c.self.view_is) at (c.look_up_source.ensures.every others))

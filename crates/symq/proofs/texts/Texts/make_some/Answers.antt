@@ -2,7 +2,7 @@ use Rattle.std.proofs.Common.{◌≡◌, ◌<◌, ◌∙◌, ℕ, length, map, o
 use Rattle.std.proofs.lemmas.List.{length-map}
 use Rattle.std.proofs.lemmas.Option.{slice_get-get_or, slice_get-map}
 use Rattle.bz_base.specs.Answer.{reading}
-use Rattle.bz_symbolize.specs.Batch.{AreAnswersOf}
+use Rattle.bz_symbolize.specs.Batch.{answers_to}
 use Rattle.symq.proofs.TextsLemmas.{answer_of}
 use Rattle.symq.proofs.texts.Texts.make_some.Goals as goal
 
@@ -14,9 +14,8 @@ make_one-requires-clause-answer c =
     let place = c.loop-place.place in
     let answers = c.in_ok-answers.answers.items in
     let more : place < length answers = search rules in
-    let given : AreAnswersOf batch c.in_ok-addrs.addrs.items (map reading answers) = rw c.deref.ensures.value at c.in_ok-answers.ensures.answers in
-    let are : AreAnswersOf batch (map (λ (e : ℕ × ℕ). e.0) (slice_range order c.args.from c.args.to)) (map reading answers) =
-    subst (λ asked. AreAnswersOf batch asked (map reading answers)) c.in_ok-addrs.ensures.addrs given in
+    let are : map reading answers ≡ answers_to (map (λ (e : ℕ × ℕ). e.0) (slice_range order c.args.from c.args.to)) batch =
+    rw (c.deref.ensures.value, c.in_ok-addrs.ensures.addrs) at c.in_ok-answers.ensures.answers in
     answer_of batch _ _ order c.args.from c.args.to place (map reading answers) are c.requires.among c.requires.within (omega (arith, length-map answers reading))
     ∙ slice_get-map reading answers place
     ∙ ap (option_map reading) (slice_get-get_or answers place c.index.result.now more ∙ ap Some (sym c.index.ensures))
