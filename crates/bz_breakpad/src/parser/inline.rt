@@ -52,7 +52,7 @@ fn hex_from(text: &[u8], stops: Stops, from: u32) -> Option<(u32, u32)>
     Some((value, end))
 }
 
-/// The same after a space at a place.
+/// The number of the decimal digits, and where they end, after a single space at a place.
 #[inline(always)]
 fn dec_after(text: &[u8], stops: Stops, at: u32) -> Option<(u32, u32)>
     requires stops { AreStops text.now stops }
@@ -68,7 +68,7 @@ fn dec_after(text: &[u8], stops: Stops, at: u32) -> Option<(u32, u32)>
     dec_from(text, stops, at + 1)
 }
 
-/// The same after a space at a place.
+/// The number of the hexadecimal digits, and where they end, after a single space at a place.
 #[inline(always)]
 fn hex_after(text: &[u8], stops: Stops, at: u32) -> Option<(u32, u32)>
     requires stops { AreStops text.now stops }
@@ -84,7 +84,9 @@ fn hex_after(text: &[u8], stops: Stops, at: u32) -> Option<(u32, u32)>
     hex_from(text, stops, at + 1)
 }
 
-/// The INLINE record of one range, single spaces and few digits at the front. None tells nothing.
+/// The INLINE record of one range, of single spaces and few digits, at the front, with no white space
+/// at its end. None tells nothing.
+#[inline(always)]
 pub(crate) fn inline_line(text: &[u8]) -> Option<InlineLine<'_>>
     ensures { IfSome result (IsInlineLine text.now) }
 {
