@@ -1,48 +1,60 @@
 //! What a file answers, and what its tables hold.
 
 use crate::tests::{G1, damaged};
-use crate::{GsymContext, GsymResolver, GsymTable, laws, parse_address_data};
+use crate::{AddrInfo, FileInfo, GsymContext, GsymResolver, GsymTable, laws, parse_address_data};
 use bz_base::{Error, ErrorKind, FindSymOpts, Reason, ResolvedSym, Symbolize};
 use bz_cache::FileCache;
 use bz_files::MemFiles;
 use std::alloc::Global;
 use std::test::Fail;
 
-/// A symbol's name, start and size.
-type Told<'a> = (&'a str, u64, Option<usize>);
+/// A symbol's name, start and size; or none where the address is unknown.
+type Told = Option<(&'static str, u64, Option<usize>)>;
 
-/// What is told of an address.
-fn told<'a>(found: &Result<ResolvedSym<'a>, Reason>) -> Result<Told<'a>, Reason> {
-    match found {
-        Ok(symbol) => Ok((symbol.name, symbol.addr, symbol.size)),
-        Err(reason) => Err(*reason),
+/// Whether this is told of an address.
+fn tells(found: &Result<ResolvedSym<'_>, Reason>, told: &Told) -> bool {
+    match (found, told) {
+        (Ok(symbol), Some((name, addr, size))) => {
+            symbol.name == *name && symbol.addr == *addr && symbol.size == *size
+        }
+        (Err(reason), None) => *reason == Reason::UnknownAddr,
+        _ => false,
     }
 }
+
+/// Whether a file tells this of an address.
+fn tells_at(alloc: Global, resolver: &GsymResolver, addr: u64, told: &Told) -> Result<bool, Error> {
+    let found = resolver.find_sym(alloc, addr, &FindSymOpts::Basic)?;
+    Ok(tells(&found, told))
+}
+
+const MAIN: Told = Some(("main", 0x1000, Some(0x20)));
+
+const SUB: Told = Some(("sub", 0x1040, Some(0)));
+
+/// Addresses, and what G1 tells of them.
+const NEAREST: &[(u64, Told)] = &[
+    (0xfff, None),
+    (0x1000, MAIN),
+    (0x100c, MAIN),
+    (0x101f, MAIN),
+    (0x1020, None),
+    (0x1040, SUB),
+    (0x9999, SUB),
+];
 
 #[test]
 fn answers_by_the_nearest_start(rt: HostRuntime) -> Result<(), Fail> {
     let alloc = rt.alloc();
     let resolver = GsymResolver::with_data(alloc, &G1)?;
-    let main = Ok(("main", 0x1000, Some(0x20)));
-    let sub = Ok(("sub", 0x1040, Some(0)));
-    let unknown = Err(Reason::UnknownAddr);
-    for (addr, expected) in [
-        (0xfff, unknown),
-        (0x1000, main),
-        (0x100c, main),
-        (0x101f, main),
-        (0x1020, unknown),
-        (0x1040, sub),
-        (0x9999, sub),
-    ] {
-        let found = resolver.find_sym(alloc, addr, &FindSymOpts::Basic)?;
-        assert_eq!(rt; told(&found), expected, "at {addr}");
+    for (addr, told) in NEAREST {
+        assert!(rt; tells_at(alloc, &resolver, *addr, told)?, "at {addr}");
     }
     Ok(())
 }
 
 /// G1 with other bytes from a place on, and how an address is refused then.
-const REFUSED: [(usize, &[u8], u64); 5] = [
+const REFUSED: &[(usize, &[u8], u64)] = &[
     // The data place lies 7 bytes before the end.
     (56, b"\x8d", 0x1000),
     // The name lies on the last byte of the string table but isn't ended there, lies past it, or
@@ -53,57 +65,93 @@ const REFUSED: [(usize, &[u8], u64); 5] = [
     (98, b"\xff", 0x1040),
 ];
 
+/// Whether an address is refused in such a file.
+fn refuses(alloc: Global, (place, new, addr): &(usize, &[u8], u64)) -> Result<bool, Error> {
+    let bytes = damaged(alloc, &G1, *place, new)?;
+    let resolver = GsymResolver::with_data(alloc, bytes.as_slice())?;
+    match resolver.find_sym(alloc, *addr, &FindSymOpts::Basic) {
+        Ok(_) => Ok(false),
+        Err(error) => Ok(error == Error::InvalidData),
+    }
+}
+
 #[test]
 fn refuses_what_is_outside_the_format(rt: HostRuntime) -> Result<(), Fail> {
-    let alloc = rt.alloc();
-    for (place, new, addr) in REFUSED {
-        let bytes = damaged(alloc, &G1, place, new)?;
-        let resolver = GsymResolver::with_data(alloc, bytes.as_slice())?;
-        let refused = match resolver.find_sym(alloc, addr, &FindSymOpts::Basic) {
-            Ok(_) => false,
-            Err(e) => e == Error::InvalidData,
-        };
-        assert!(rt; refused, "with another byte at {place}");
+    for row in REFUSED {
+        let place = row.0;
+        assert!(rt; refuses(rt.alloc(), row)?, "with another byte at {place}");
     }
-    // An address that no symbol reaches isn't refused for a name.
+    Ok(())
+}
+
+/// An address that no symbol reaches isn't refused for a name.
+#[test]
+fn names_out_of_reach_are_not_read(rt: HostRuntime) -> Result<(), Fail> {
+    let alloc = rt.alloc();
     let bytes = damaged(alloc, &G1, 108, b"\x12")?;
     let resolver = GsymResolver::with_data(alloc, bytes.as_slice())?;
-    let found = resolver.find_sym(alloc, 0x1020, &FindSymOpts::Basic)?;
-    assert_eq!(rt; told(&found), Err(Reason::UnknownAddr));
+    assert!(rt; tells_at(alloc, &resolver, 0x1020, &None)?);
     Ok(())
 }
 
 #[test]
-fn tables_are_read_by_index(rt: HostRuntime) -> Result<(), Fail> {
+fn addresses_are_read_by_index(rt: HostRuntime) -> Result<(), Fail> {
     let context = GsymContext::parse_header(&G1)?;
-    assert_eq!(rt; context.header().num_addrs, 2);
-    assert_eq!(rt; context.addr_at(0), Some(0x1000));
-    assert_eq!(rt; context.addr_at(1), Some(0x1040));
-    assert_eq!(rt; context.addr_at(2), None);
-    let data = context.addr_info(1).map(|info| (info.size, info.name));
-    assert_eq!(rt; data, Some((0, 14)));
+    assert!(rt; context.header().num_addrs == 2);
+    assert!(rt; context.addr_at(0) == Some(0x1000));
+    assert!(rt; context.addr_at(1) == Some(0x1040));
+    assert!(rt; context.addr_at(2) == None);
+    Ok(())
+}
+
+/// Whether a symbol of this size has its name at this place.
+fn is_symbol(info: &Option<AddrInfo<'_>>, size: u32, name: u32) -> bool {
+    match info {
+        Some(info) => info.size == size && info.name == name,
+        None => false,
+    }
+}
+
+/// Whether a file's directory and its name are at these places.
+fn is_file(info: &Option<FileInfo>, directory: u32, filename: u32) -> bool {
+    match info {
+        Some(info) => info.directory == directory && info.filename == filename,
+        None => false,
+    }
+}
+
+#[test]
+fn symbols_and_files_are_read_by_index(rt: HostRuntime) -> Result<(), Fail> {
+    let context = GsymContext::parse_header(&G1)?;
+    assert!(rt; is_symbol(&context.addr_info(1), 0, 14));
     assert!(rt; context.addr_info(2).is_none());
-    let file = context
-        .file_info(1)
-        .map(|file| (file.directory, file.filename));
-    assert_eq!(rt; file, Some((6, 10)));
+    assert!(rt; is_file(&context.file_info(1), 6, 10));
     assert!(rt; context.file_info(2).is_none());
-    for (place, text) in [
-        (0, Some("")),
-        (1, Some("main")),
-        (3, Some("in")),
-        (14, Some("sub")),
-        (17, Some("")),
-        (18, None),
-        (1000, None),
-    ] {
-        assert_eq!(rt; context.get_str(place), text, "at {place}");
+    Ok(())
+}
+
+/// Places in G1's string table, and the strings there.
+const STRINGS: &[(usize, Option<&str>)] = &[
+    (0, Some("")),
+    (1, Some("main")),
+    (3, Some("in")),
+    (14, Some("sub")),
+    (17, Some("")),
+    (18, None),
+    (1000, None),
+];
+
+#[test]
+fn strings_are_read_by_place(rt: HostRuntime) -> Result<(), Fail> {
+    let context = GsymContext::parse_header(&G1)?;
+    for (place, text) in STRINGS {
+        assert!(rt; context.get_str(*place) == *text, "at {place}");
     }
     Ok(())
 }
 
 /// Bytes, and the type and the length of each data entry in front of them.
-const ENTRIES: [(&[u8], &[(u32, usize)]); 7] = [
+const ENTRIES: &[(&[u8], &[(u32, usize)])] = &[
     (b"", &[]),
     (b"\x01\0\0\0\0\0\0\0", &[(1, 0)]),
     (
@@ -119,6 +167,20 @@ const ENTRIES: [(&[u8], &[(u32, usize)]); 7] = [
     (b"\x01\0\0\0\xff\xff\xff\xffa", &[]),
 ];
 
+/// Whether these are the type and the length of each data entry in front of the bytes.
+fn lists(bytes: &[u8], expected: &[(u32, usize)]) -> bool {
+    let mut entries = parse_address_data(bytes);
+    for (typ, len) in expected {
+        let Some(entry) = entries.next() else {
+            return false;
+        };
+        if entry.typ != *typ || entry.bytes.len() != *len {
+            return false;
+        }
+    }
+    entries.next().is_none()
+}
+
 #[test]
 fn data_entries_end_where_the_list_does(rt: HostRuntime) {
     laws::entries_are_exact();
@@ -126,37 +188,62 @@ fn data_entries_end_where_the_list_does(rt: HostRuntime) {
     laws::strings_are_exact();
     laws::the_symbol_that_is_found_answers();
     for (bytes, expected) in ENTRIES {
-        let mut entries = parse_address_data(bytes);
-        for (typ, len) in expected {
-            let entry = entries.next().map(|entry| (entry.typ, entry.bytes.len()));
-            assert_eq!(rt; entry, Some((*typ, *len)));
-        }
-        assert!(rt; entries.next().is_none());
+        assert!(rt; lists(bytes, expected), "{bytes:?}");
     }
+}
+
+/// G1, its front and a path that is denied.
+fn three_files(alloc: Global) -> Result<MemFiles, Error> {
+    let mut files = MemFiles::new(alloc, 0);
+    files.put(alloc, "/g", Vec::from_slice(alloc, &G1)?)?;
+    files.put(alloc, "/cut", Vec::from_slice(alloc, &G1[..47])?)?;
+    files.deny(alloc, "/denied")?;
+    Ok(files)
 }
 
 #[test]
 fn files_are_opened(rt: HostRuntime) -> Result<(), Fail> {
     let alloc = rt.alloc();
-    let mut files = MemFiles::new(alloc, 0);
-    files.put(alloc, "/g", G1.to_vec(alloc)?)?;
-    files.put(alloc, "/cut", G1[..47].to_vec(alloc)?)?;
-    files.deny(alloc, "/denied")?;
+    let mut files = three_files(alloc)?;
     let resolver = GsymResolver::open(alloc, &mut files, "/g")?;
-    let found = resolver.find_sym(alloc, 0x1000, &FindSymOpts::Basic)?;
-    assert_eq!(rt; told(&found), Ok(("main", 0x1000, Some(0x20))));
+    assert!(rt; tells_at(alloc, &resolver, 0x1000, &MAIN)?);
     assert!(rt; format!(in alloc; "{resolver:?}")?.as_str() == "GSYM /g");
+    Ok(())
+}
+
+#[test]
+fn files_without_a_path_are_unknown(rt: HostRuntime) -> Result<(), Fail> {
+    let alloc = rt.alloc();
     let unnamed = GsymResolver::with_data(alloc, &G1)?;
     assert!(rt; format!(in alloc; "{unnamed:?}")?.as_str() == "GSYM <unknown-file>");
+    Ok(())
+}
+
+/// Paths, and how they are refused one after another, with a fault at the last one.
+const UNOPENED: &[(&str, ErrorKind)] = &[
+    ("/absent", ErrorKind::NotFound),
+    ("/denied", ErrorKind::PermissionDenied),
+    ("/cut", ErrorKind::InvalidData),
+    ("/g", ErrorKind::ReadFault),
+];
+
+/// Whether the path is refused so.
+fn is_unopened(alloc: Global, files: &mut MemFiles, (path, kind): &(&str, ErrorKind)) -> bool {
+    match GsymResolver::open(alloc, files, path) {
+        Ok(_) => false,
+        Err(error) => error.kind() == *kind,
+    }
+}
+
+#[test]
+fn files_are_refused(rt: HostRuntime) -> Result<(), Fail> {
+    let alloc = rt.alloc();
+    let mut files = three_files(alloc)?;
+    assert!(rt; GsymResolver::open(alloc, &mut files, "/g").is_ok());
     files.fail_call(alloc, 5)?;
-    for (path, kind) in [
-        ("/absent", ErrorKind::NotFound),
-        ("/denied", ErrorKind::PermissionDenied),
-        ("/cut", ErrorKind::InvalidData),
-        ("/g", ErrorKind::ReadFault),
-    ] {
-        let refused = GsymResolver::open(alloc, &mut files, path).map_err(|e| e.kind());
-        assert!(rt; refused.is_err_and(|given| given == kind), "at {path}");
+    for row in UNOPENED {
+        let path = row.0;
+        assert!(rt; is_unopened(alloc, &mut files, row), "at {path}");
     }
     Ok(())
 }
@@ -164,12 +251,11 @@ fn files_are_opened(rt: HostRuntime) -> Result<(), Fail> {
 #[test]
 fn a_cache_keeps_tables(rt: HostRuntime) -> Result<(), Fail> {
     let alloc = rt.alloc();
-    let mut files = MemFiles::new(alloc, 0);
+    let mut files = three_files(alloc)?;
     let mut cache = FileCache::<GsymTable>::builder().build(alloc);
-    files.put(alloc, "/g", G1.to_vec(alloc)?)?;
     let table = cache.entry(alloc, &mut files, "/g")?;
-    assert_eq!(rt; table.context().find_addr(0x1045), Some(1));
-    files.put(alloc, "/g", G1[..47].to_vec(alloc)?)?;
+    assert!(rt; table.context().find_addr(0x1045) == Some(1));
+    files.put(alloc, "/g", Vec::from_slice(alloc, &G1[..47])?)?;
     assert!(rt; cache.entry(alloc, &mut files, "/g").is_err());
     Ok(())
 }

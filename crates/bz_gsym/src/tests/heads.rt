@@ -3,6 +3,7 @@
 use crate::GsymContext;
 use crate::tests::{G1, damaged};
 use bz_base::Error;
+use std::alloc::{AllocError, Global};
 use std::test::Fail;
 
 /// Whether the bytes are taken; else they are refused as outside the format.
@@ -16,7 +17,7 @@ fn is_taken(bytes: &[u8]) -> Option<bool> {
 
 /// G1 with other bytes from a place on, and whether it is taken then: each field of the head is 0,
 /// its greatest value, the last one that the bytes hold, and one past that.
-const HEADS: [(usize, &[u8], bool); 34] = [
+const HEADS: &[(usize, &[u8], bool)] = &[
     // The magic number.
     (0, b"\0\0\0\0", false),
     (0, b"\xff\xff\xff\xff", false),
@@ -68,15 +69,20 @@ const HEADS: [(usize, &[u8], bool); 34] = [
     (64, b"\x0b\0\0\0", false),
 ];
 
+/// Whether G1 with those bytes is taken as its row says.
+fn is_as_told(
+    alloc: Global,
+    (place, new, taken): &(usize, &[u8], bool),
+) -> Result<bool, AllocError> {
+    let bytes = damaged(alloc, &G1, *place, new)?;
+    Ok(is_taken(bytes.as_slice()) == Some(*taken))
+}
+
 #[test]
 fn heads_are_taken_by_their_tables(rt: HostRuntime) -> Result<(), Fail> {
-    for (place, new, taken) in HEADS {
-        let bytes = damaged(rt.alloc(), &G1, place, new)?;
-        assert_eq!(rt;
-            is_taken(bytes.as_slice()),
-            Some(taken),
-            "at {place}: {new:?}"
-        );
+    for row in HEADS {
+        let (place, new) = (row.0, row.1);
+        assert!(rt; is_as_told(rt.alloc(), row)?, "at {place}: {new:?}");
     }
     Ok(())
 }
@@ -85,6 +91,7 @@ fn heads_are_taken_by_their_tables(rt: HostRuntime) -> Result<(), Fail> {
 fn a_cut_file_is_taken_once_its_tables_are_whole(rt: HostRuntime) {
     // The string table is the last of them, and ends at 102.
     for len in 0..104usize {
-        assert_eq!(rt; is_taken(&G1[..len]), Some(len >= 102), "at {len}");
+        let taken = is_taken(&G1[..len]);
+        assert!(rt; taken == Some(len >= 102), "at {len}");
     }
 }

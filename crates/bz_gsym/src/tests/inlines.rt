@@ -49,8 +49,10 @@ const FAR: &[u8] =
 const RANGES: &[u8] =
     b"\x02\x08\x04\x20\x04\x01\x01\0\0\0\x00\x00\x01\x18\x01\x00\x0e\0\0\0\x01\x09\x01\x19\x01\x00\x02\0\0\0\x01\x06\x00";
 
-/// Trees, addresses, and their frames; or none where the bytes are refused. Each tree's base is 0x1000.
-const TREES: [(&[u8], u64, Option<&[InlineFrame]>); 19] = [
+/// A tree, an address, and its frames; or none where the bytes are refused. Each tree's base is 0x1000.
+type TreeRow<'a> = (&'a [u8], u64, Option<&'static [InlineFrame]>);
+
+const TREES: &[TreeRow<'static>] = &[
     (NESTED, 0x0fff, Some(&[])),
     (NESTED, 0x1003, Some(&[MAIN])),
     (NESTED, 0x1004, Some(&[MAIN, SUB])),
@@ -92,16 +94,22 @@ const TREES: [(&[u8], u64, Option<&[InlineFrame]>); 19] = [
     ),
 ];
 
+/// Whether the bytes give these frames around an address.
+fn gives(alloc: Global, (bytes, addr, expected): &TreeRow<'_>) -> Result<bool, Error> {
+    match InlineInfo::parse_inline_stack(alloc, bytes, 0x1000, *addr) {
+        Ok(frames) => Ok(*expected == Some(frames.as_slice())),
+        Err(Error::InvalidData) => Ok(expected.is_none()),
+        Err(error) => Err(error),
+    }
+}
+
 #[test]
 fn gives_the_frames_around_an_address(rt: HostRuntime) -> Result<(), Fail> {
     laws::trees_are_exact();
     laws::frames_are_the_trees();
-    for (bytes, addr, expected) in TREES {
-        let found = InlineInfo::parse_inline_stack(rt.alloc(), bytes, 0x1000, addr);
-        match expected {
-            Some(frames) => assert_eq!(rt; found?.as_slice(), frames, "at {addr}"),
-            None => assert_eq!(rt; found.err(), Some(Error::InvalidData), "at {addr}"),
-        }
+    for row in TREES {
+        let addr = row.1;
+        assert!(rt; gives(rt.alloc(), row)?, "at {addr}");
     }
     Ok(())
 }
@@ -120,23 +128,37 @@ fn deep(alloc: Global) -> Result<Vec<u8>, AllocError> {
     Ok(bytes)
 }
 
+/// Each frame of that tree.
+const LEVEL: InlineFrame = InlineFrame {
+    name: 1,
+    call_file: 1,
+    call_line: 3,
+};
+
+/// Whether the tree gives so many frames around an address, all alike.
+fn gives_levels(alloc: Global, bytes: &[u8], addr: u64, count: usize) -> Result<bool, Error> {
+    let frames = InlineInfo::parse_inline_stack(alloc, bytes, 0x1000, addr)?;
+    for frame in &frames {
+        if *frame != LEVEL {
+            return Ok(false);
+        }
+    }
+    Ok(frames.len() == count)
+}
+
 #[test]
 fn walks_a_deep_tree(rt: HostRuntime) -> Result<(), Fail> {
-    let level = InlineFrame {
-        name: 1,
-        call_file: 1,
-        call_line: 3,
-    };
+    let bytes = deep(rt.alloc())?;
+    assert!(rt; gives_levels(rt.alloc(), bytes.as_slice(), 0x1005, DEPTH)?);
+    assert!(rt; gives_levels(rt.alloc(), bytes.as_slice(), 0x1020, 0)?);
+    Ok(())
+}
+
+#[test]
+fn a_deep_tree_without_its_end_is_refused(rt: HostRuntime) -> Result<(), Fail> {
     let mut bytes = deep(rt.alloc())?;
-    let frames = InlineInfo::parse_inline_stack(rt.alloc(), &bytes, 0x1000, 0x1005)?;
-    assert_eq!(rt; frames.len(), DEPTH);
-    assert_eq!(rt; frames.iter().all(|found| *found == level), true);
-    let frames = InlineInfo::parse_inline_stack(rt.alloc(), &bytes, 0x1000, 0x1020)?;
-    assert_eq!(rt; frames.len(), 0);
     bytes.pop();
-    for addr in [0x1005, 0x1020] {
-        let short = InlineInfo::parse_inline_stack(rt.alloc(), &bytes, 0x1000, addr);
-        assert_eq!(rt; short.err(), Some(Error::InvalidData));
-    }
+    assert!(rt; gives(rt.alloc(), &(bytes.as_slice(), 0x1005, None))?);
+    assert!(rt; gives(rt.alloc(), &(bytes.as_slice(), 0x1020, None))?);
     Ok(())
 }

@@ -3,7 +3,6 @@
 use crate::linetab::line_in;
 use crate::{LineTableHeader, LineTableRow, RunResult, laws, run_op};
 use bz_base::Cursor;
-use std::test::Fail;
 
 /// Address, file and line of a state.
 type State = (u64, u32, u32);
@@ -24,7 +23,7 @@ const WRAPS: &[u8] = b"\x7c\x0a\x05\x02\xff\xdf\xff\xff\xff\xff\xff\xff\xff\x01\
 
 /// Tables of a symbol at 0x1000, addresses, and the states that answer. The least and the greatest line
 /// delta are mostly -4 and 10, so that there are 15.
-const TABLES: [(&[u8], u64, Answer); 50] = [
+const TABLES: &[(&[u8], u64, Answer)] = &[
     (TABLE, 0xfff, NO_ROW),
     (TABLE, 0x1000, Some(Some((0x1000, 1, 5)))),
     (TABLE, 0x1007, Some(Some((0x1000, 1, 5)))),
@@ -163,17 +162,32 @@ const TABLES: [(&[u8], u64, Answer); 50] = [
     ),
 ];
 
+/// Whether the row has this state.
+fn has_state(row: &Option<LineTableRow>, state: &Option<State>) -> bool {
+    match (row, state) {
+        (Some(row), Some((addr, file, line))) => {
+            row.addr == *addr && row.file_idx == *file && row.file_line == *line
+        }
+        (None, None) => true,
+        _ => false,
+    }
+}
+
+/// Whether the table answers so for an address.
+fn answers(bytes: &[u8], addr: u64, expected: &Answer) -> bool {
+    match (&line_in(bytes, 0x1000, addr), expected) {
+        (Some(row), Some(state)) => has_state(row, state),
+        (None, None) => true,
+        _ => false,
+    }
+}
+
 #[test]
 fn lines_answer_for_addresses(rt: HostRuntime) {
     laws::line_states_go_on();
     laws::lines_are_known_early();
-    for (bytes, addr, expected) in &TABLES {
-        let found = line_in(bytes, 0x1000, *addr).map(|row| row.map(|row| (
-            row.addr,
-            row.file_idx,
-            row.file_line,
-        )));
-        assert_eq!(rt; found, *expected, "at {addr} in {bytes:?}");
+    for (bytes, addr, expected) in TABLES {
+        assert!(rt; answers(bytes, *addr, expected), "at {addr} in {bytes:?}");
     }
 }
 
@@ -181,7 +195,7 @@ fn lines_answer_for_addresses(rt: HostRuntime) {
 /// line and the address then, and how many bytes are left.
 type Run = (i64, i64, &'static [u8], Option<bool>, u32, u64, usize);
 
-const RUNS: [Run; 12] = [
+const RUNS: &[Run] = &[
     (i64::MIN, i64::MAX, b"\x04", Some(true), 5, 0x1000, 0),
     (i64::MIN, i64::MAX, b"\xff", Some(true), 256, 0x1000, 0),
     (1, 0, b"\x04", None, 5, 0x1000, 0),
@@ -204,38 +218,61 @@ const RUNS: [Run; 12] = [
     (-4, 10, b"\x03\x80", None, 5, 0x1000, 1),
 ];
 
-#[test]
-fn operators_run_one_by_one(rt: HostRuntime) -> Result<(), Fail> {
-    for (min_delta, max_delta, bytes, came, line, addr, left) in &RUNS {
-        let header = LineTableHeader {
-            min_delta: *min_delta,
-            max_delta: *max_delta,
-            first_line: 5,
-        };
-        let mut row = LineTableRow::from_header(&header, 0x1000);
-        let mut ops = Cursor::new(bytes);
-        let given = run_op(&mut row, &header, &mut ops).map(|came| matches!(
-            came,
-            RunResult::NewRow
-        ));
-        assert_eq!(rt; given, *came, "at {bytes:?}");
-        assert_eq!(rt; (row.file_line, row.addr), (*line, *addr), "at {bytes:?}");
-        assert_eq!(rt; ops.rest().len(), *left, "at {bytes:?}");
-    }
-    let mut head = Cursor::new(TABLE);
-    let header = LineTableHeader::parse(&mut head).map(|h| (
-        h.min_delta,
-        h.max_delta,
-        h.first_line,
-    ));
-    assert_eq!(rt; header, Some((-4, 10, 5)));
-    let header = LineTableHeader {
-        min_delta: -4,
-        max_delta: 10,
+/// A head with line 5.
+fn head(min_delta: i64, max_delta: i64) -> LineTableHeader {
+    LineTableHeader {
+        min_delta,
+        max_delta,
         first_line: 5,
-    };
+    }
+}
+
+/// Whether an operator gave a row, or none, as expected.
+fn gave(given: &Option<RunResult>, came: &Option<bool>) -> bool {
+    match (given, came) {
+        (Some(given), Some(came)) => matches!(given, RunResult::NewRow) == *came,
+        (None, None) => true,
+        _ => false,
+    }
+}
+
+/// Whether the operator at the front runs as its row says.
+fn runs((min_delta, max_delta, bytes, came, line, addr, left): &Run) -> bool {
+    let header = head(*min_delta, *max_delta);
+    let mut row = LineTableRow::from_header(&header, 0x1000);
+    let mut ops = Cursor::new(bytes);
+    let given = run_op(&mut row, &header, &mut ops);
+    gave(&given, came) && row.file_line == *line && row.addr == *addr && ops.rest().len() == *left
+}
+
+#[test]
+fn operators_run_one_by_one(rt: HostRuntime) {
+    for row in RUNS {
+        let bytes = row.2;
+        assert!(rt; runs(row), "at {bytes:?}");
+    }
+}
+
+#[test]
+fn an_operator_ends_the_table(rt: HostRuntime) {
+    let header = head(-4, 10);
     let mut row = LineTableRow::from_header(&header, 0x1000);
     let ended = run_op(&mut row, &header, &mut Cursor::new(b"\x00"));
     assert!(rt; matches!(ended, Some(RunResult::End)));
-    Ok(())
+}
+
+/// Whether the head has these deltas, and line 5.
+fn has_deltas(header: &Option<LineTableHeader>, min_delta: i64, max_delta: i64) -> bool {
+    match header {
+        Some(header) => {
+            header.min_delta == min_delta && header.max_delta == max_delta && header.first_line == 5
+        }
+        None => false,
+    }
+}
+
+#[test]
+fn heads_are_read(rt: HostRuntime) {
+    let mut head = Cursor::new(TABLE);
+    assert!(rt; has_deltas(&LineTableHeader::parse(&mut head), -4, 10));
 }

@@ -2,9 +2,11 @@
 
 use crate::tests::{G1, damaged};
 use crate::{GsymContext, laws};
+use Answer::{Refused, Symbol, Unknown};
 use bz_base::FindSymOpts::{Basic, CodeInfo, CodeInfoAndInlined};
-use bz_base::{Error, FindSymOpts, Reason, ResolvedSym};
+use bz_base::{Error, FindSymOpts, InlinedFn, Reason, ResolvedSym};
 use std::alloc::{AllocError, Global};
+use std::borrow::CowStr;
 use std::test::Fail;
 
 /// An inline tree as a data entry: `main` from 0x1000 to 0x1020; in it, to 0x1010, a function without a
@@ -26,77 +28,122 @@ fn with_tree(alloc: Global) -> Result<Vec<u8>, AllocError> {
     Ok(all)
 }
 
-/// The text of an answer: its name, and the directory, the file and the line of its place; and the same
-/// of each inlined call.
-fn text_of(alloc: Global, symbol: &ResolvedSym<'_>) -> Result<String, Error> {
-    let mut text = String::new(alloc);
-    text.push_str(symbol.name)?;
-    push_place(&mut text, &symbol.code_info)?;
-    for call in &symbol.inlined {
-        text.push_str("; ")?;
-        text.push_str(call.name.as_str())?;
-        push_place(&mut text, &call.code_info)?;
-    }
-    Ok(text)
+/// A directory, a file and a line; or none.
+type Place = Option<(&'static str, &'static str, u32)>;
+
+/// What is answered: a symbol has a name and a place, and an inlined call with its own, or none.
+enum Answer {
+    Unknown,
+    Refused,
+    Symbol(&'static str, Place, Option<(&'static str, Place)>),
 }
 
-fn push_place(text: &mut String, place: &Option<bz_base::CodeInfo<'_>>) -> Result<(), Error> {
-    let Some(place) = place else {
-        text.push_str(" at -")?;
-        return Ok(());
-    };
-    text.push_str(" at ")?;
-    if let Some(dir) = &place.dir {
-        text.push_str(dir.as_str())?;
+fn is_dir(found: &Option<CowStr<'_>>, dir: &str) -> bool {
+    match found {
+        Some(found) => found.as_str() == dir,
+        None => false,
     }
-    text.push_str("|")?;
-    text.push_str(place.file.as_str())?;
-    if let Some(line) = place.line {
-        write!(text, ":{line}")?;
-    }
-    Ok(())
 }
 
-/// The text of what a file answers.
-fn answer(alloc: Global, bytes: &[u8], addr: u64, opts: &FindSymOpts) -> Result<String, Error> {
-    match GsymContext::parse_header(bytes)?.find_sym(alloc, addr, opts) {
-        Ok(Ok(symbol)) => text_of(alloc, &symbol),
-        Ok(Err(Reason::UnknownAddr)) => Ok(String::from_str(alloc, "?")?),
-        Ok(Err(_)) => Ok(String::from_str(alloc, "another reason")?),
-        Err(Error::InvalidData) => Ok(String::from_str(alloc, "refused")?),
+fn is_place(found: &Option<bz_base::CodeInfo<'_>>, place: &Place) -> bool {
+    match (found, place) {
+        (Some(found), Some((dir, file, line))) => {
+            is_dir(&found.dir, dir) && found.file.as_str() == *file && found.line == Some(*line)
+        }
+        (None, None) => true,
+        _ => false,
+    }
+}
+
+fn are_calls(found: &[InlinedFn<'_>], call: &Option<(&'static str, Place)>) -> bool {
+    match (found, call) {
+        ([found], Some((name, place))) => {
+            found.name.as_str() == *name && is_place(&found.code_info, place)
+        }
+        ([], None) => true,
+        _ => false,
+    }
+}
+
+fn is_symbol(found: &ResolvedSym<'_>, answer: &Answer) -> bool {
+    match answer {
+        Symbol(name, place, call) => {
+            found.name == *name
+                && is_place(&found.code_info, place)
+                && are_calls(found.inlined.as_slice(), call)
+        }
+        _ => false,
+    }
+}
+
+/// Whether this is what is found, or else the reason why nothing is.
+fn is_answer(found: &Result<ResolvedSym<'_>, Reason>, answer: &Answer) -> bool {
+    match found {
+        Ok(found) => is_symbol(found, answer),
+        Err(Reason::UnknownAddr) => matches!(answer, Unknown),
+        Err(_) => false,
+    }
+}
+
+/// Whether a file answers so.
+fn answers(
+    alloc: Global,
+    bytes: &[u8],
+    addr: u64,
+    opts: &FindSymOpts,
+    answer: &Answer,
+) -> Result<bool, Error> {
+    let context = GsymContext::parse_header(bytes)?;
+    match context.find_sym(alloc, addr, opts) {
+        Ok(found) => Ok(is_answer(&found, answer)),
+        Err(Error::InvalidData) => Ok(matches!(answer, Refused)),
         Err(error) => Err(error),
     }
 }
 
 /// Bytes that stand in the file of two functions from a place on, an address, what is asked for, and
 /// the answer.
-type Row = (usize, &'static [u8], u64, FindSymOpts, &'static str);
+type Row = (usize, &'static [u8], u64, FindSymOpts, Answer);
 
-const LINES: [Row; 18] = [
-    (0, b"", 0xfff, CodeInfo, "?"),
-    (0, b"", 0x1000, CodeInfo, "main at src|a.c:5"),
-    (0, b"", 0x1000, CodeInfoAndInlined, "main at src|a.c:5"),
-    (0, b"", 0x1000, Basic, "main at -"),
-    (0, b"", 0x100c, CodeInfo, "main at src|a.c:7"),
-    (0, b"", 0x101f, CodeInfo, "main at src|a.c:10"),
-    (0, b"", 0x1020, CodeInfo, "?"),
-    (0, b"", 0x9999, CodeInfo, "sub at -"),
+const LINE_5: Place = Some(("src", "a.c", 5));
+
+const LINE_7: Place = Some(("src", "a.c", 7));
+
+const LINE_9: Place = Some(("src", "a.c", 9));
+
+const LINE_10: Place = Some(("src", "a.c", 10));
+
+const LINES: &[Row] = &[
+    (0, b"", 0xfff, CodeInfo, Unknown),
+    (0, b"", 0x1000, CodeInfo, Symbol("main", LINE_5, None)),
+    (
+        0,
+        b"",
+        0x1000,
+        CodeInfoAndInlined,
+        Symbol("main", LINE_5, None),
+    ),
+    (0, b"", 0x1000, Basic, Symbol("main", None, None)),
+    (0, b"", 0x100c, CodeInfo, Symbol("main", LINE_7, None)),
+    (0, b"", 0x101f, CodeInfo, Symbol("main", LINE_10, None)),
+    (0, b"", 0x1020, CodeInfo, Unknown),
+    (0, b"", 0x9999, CodeInfo, Symbol("sub", None, None)),
     // The first row lies at 0x1001.
-    (123, b"\x17", 0x1000, CodeInfo, "main at -"),
+    (123, b"\x17", 0x1000, CodeInfo, Symbol("main", None, None)),
     // A line table without rows, or with a first row above the address, and one more.
     (
         112,
         b"\x01\0\0\0\x03\0\0\0\x7c\x0a\x05\x01\0\0\0\x04\0\0\0\x7c\x0a\x09\x08",
         0x1000,
         CodeInfo,
-        "main at src|a.c:9",
+        Symbol("main", LINE_9, None),
     ),
     (
         112,
         b"\x01\0\0\0\x04\0\0\0\x7c\x0a\x05\x17\x01\0\0\0\x04\0\0\0\x7c\x0a\x09\x08",
         0x1000,
         CodeInfo,
-        "main at src|a.c:9",
+        Symbol("main", LINE_9, None),
     ),
     // A line table behind one with a row isn't read, whatever it is.
     (
@@ -104,38 +151,62 @@ const LINES: [Row; 18] = [
         b"\x01\0\0\0\x04\0\0\0\x7c\x0a\x05\x08\x01\0\0\0\x01\0\0\0\x7c\0\0\0",
         0x1000,
         CodeInfo,
-        "main at src|a.c:5",
+        Symbol("main", LINE_5, None),
     ),
     // The head isn't whole; there is no file 2; a directory isn't ended.
-    (116, b"\x02", 0x1000, CodeInfo, "refused"),
-    (116, b"\x02", 0x1000, Basic, "main at -"),
-    (123, b"\x01\x02\x08", 0x1000, CodeInfo, "refused"),
-    (123, b"\x01\x00\x08\x00", 0x1000, CodeInfo, "main at |:5"),
-    (76, b"\x12", 0x1000, CodeInfo, "refused"),
+    (116, b"\x02", 0x1000, CodeInfo, Refused),
+    (116, b"\x02", 0x1000, Basic, Symbol("main", None, None)),
+    (123, b"\x01\x02\x08", 0x1000, CodeInfo, Refused),
+    (
+        123,
+        b"\x01\x00\x08\x00",
+        0x1000,
+        CodeInfo,
+        Symbol("main", Some(("", "", 5)), None),
+    ),
+    (76, b"\x12", 0x1000, CodeInfo, Refused),
     // Entries of another type are passed over.
-    (112, b"\x03", 0x1000, CodeInfoAndInlined, "main at -"),
+    (
+        112,
+        b"\x03",
+        0x1000,
+        CodeInfoAndInlined,
+        Symbol("main", None, None),
+    ),
 ];
 
 /// The same of the file with a tree.
-const CALLS: [Row; 14] = [
+const CALLS: &[Row] = &[
     (
         0,
         b"",
         0x1005,
         CodeInfoAndInlined,
-        "main at src|a.c:9; sub at src|a.c:5",
+        Symbol("main", LINE_9, Some(("sub", LINE_5))),
     ),
-    (0, b"", 0x1009, CodeInfoAndInlined, "main at src|a.c:7"),
-    (0, b"", 0x1005, CodeInfo, "main at src|a.c:5"),
-    (0, b"", 0x1005, Basic, "main at -"),
+    (
+        0,
+        b"",
+        0x1009,
+        CodeInfoAndInlined,
+        Symbol("main", LINE_7, None),
+    ),
+    (0, b"", 0x1005, CodeInfo, Symbol("main", LINE_5, None)),
+    (0, b"", 0x1005, Basic, Symbol("main", None, None)),
     // Without a line there is neither a call nor another name.
-    (123, b"\x27", 0x1000, CodeInfoAndInlined, "main at -"),
+    (
+        123,
+        b"\x27",
+        0x1000,
+        CodeInfoAndInlined,
+        Symbol("main", None, None),
+    ),
     (
         142,
         b"\x0a",
         0x1005,
         CodeInfoAndInlined,
-        "a.c at src|a.c:9; sub at src|a.c:5",
+        Symbol("a.c", LINE_9, Some(("sub", LINE_5))),
     ),
     // The first function's call site doesn't matter; without a name the next one is the first.
     (
@@ -143,33 +214,46 @@ const CALLS: [Row; 14] = [
         b"\x07",
         0x1005,
         CodeInfoAndInlined,
-        "main at src|a.c:9; sub at src|a.c:5",
+        Symbol("main", LINE_9, Some(("sub", LINE_5))),
     ),
-    (142, b"\0", 0x1005, CodeInfoAndInlined, "sub at src|a.c:5"),
+    (
+        142,
+        b"\0",
+        0x1005,
+        CodeInfoAndInlined,
+        Symbol("sub", LINE_5, None),
+    ),
     // Names that aren't ended, and call files that there aren't.
-    (108, b"\x12", 0x1005, CodeInfoAndInlined, "refused"),
-    (142, b"\x12", 0x1005, CodeInfoAndInlined, "refused"),
-    (142, b"\x12", 0x1005, CodeInfo, "main at src|a.c:5"),
-    (162, b"\x12", 0x1005, CodeInfoAndInlined, "refused"),
-    (166, b"\x02", 0x1005, CodeInfoAndInlined, "refused"),
+    (108, b"\x12", 0x1005, CodeInfoAndInlined, Refused),
+    (142, b"\x12", 0x1005, CodeInfoAndInlined, Refused),
+    (142, b"\x12", 0x1005, CodeInfo, Symbol("main", LINE_5, None)),
+    (162, b"\x12", 0x1005, CodeInfoAndInlined, Refused),
+    (166, b"\x02", 0x1005, CodeInfoAndInlined, Refused),
     (
         166,
         b"\x02",
         0x1009,
         CodeInfoAndInlined,
-        "main at src|a.c:7",
+        Symbol("main", LINE_7, None),
     ),
 ];
 
+/// Whether a file answers as the row says.
+fn answers_row(
+    alloc: Global,
+    file: &[u8],
+    (place, new, addr, opts, answer): &Row,
+) -> Result<bool, Error> {
+    let bytes = damaged(alloc, file, *place, new)?;
+    answers(alloc, bytes.as_slice(), *addr, opts, answer)
+}
+
 #[test]
 fn addresses_lie_on_lines(rt: HostRuntime) -> Result<(), Fail> {
-    let alloc = rt.alloc();
-    for (place, new, addr, opts, expected) in &LINES {
-        let bytes = damaged(alloc, &G1, *place, new)?;
-        let given = answer(alloc, bytes.as_slice(), *addr, opts)?;
-        assert_eq!(rt;
-            given.as_str(),
-            *expected,
+    for row in LINES {
+        let (place, addr) = (row.0, row.2);
+        assert!(rt;
+            answers_row(rt.alloc(), &G1, row)?,
             "at {addr} with others at {place}"
         );
     }
@@ -179,14 +263,11 @@ fn addresses_lie_on_lines(rt: HostRuntime) -> Result<(), Fail> {
 #[test]
 fn calls_are_inlined_on_lines(rt: HostRuntime) -> Result<(), Fail> {
     laws::calls_are_rotated();
-    let alloc = rt.alloc();
-    let whole = with_tree(alloc)?;
-    for (place, new, addr, opts, expected) in &CALLS {
-        let bytes = damaged(alloc, whole.as_slice(), *place, new)?;
-        let given = answer(alloc, bytes.as_slice(), *addr, opts)?;
-        assert_eq!(rt;
-            given.as_str(),
-            *expected,
+    let whole = with_tree(rt.alloc())?;
+    for row in CALLS {
+        let (place, addr) = (row.0, row.2);
+        assert!(rt;
+            answers_row(rt.alloc(), whole.as_slice(), row)?,
             "at {addr} with others at {place}"
         );
     }

@@ -2,6 +2,7 @@
 
 use crate::GsymContext;
 use crate::tests::{G1, damaged};
+use bz_base::Error;
 use std::alloc::{AllocError, Global};
 use std::test::Fail;
 
@@ -45,7 +46,7 @@ fn scanned(starts: &[u8], distance: u8) -> Option<usize> {
     below
 }
 
-const STARTS: [&[u8]; 8] = [
+const STARTS: &[&[u8]] = &[
     &[],
     &[0],
     &[5],
@@ -56,34 +57,48 @@ const STARTS: [&[u8]; 8] = [
     &[0, 3, 3, 6, 8, 8, 9, 12, 15],
 ];
 
+const SIZES: &[u8] = &[1, 2, 4, 8];
+
+/// Whether the search finds at each distance from the base address what a scan of the starts finds.
+fn finds_as_scanned(context: &GsymContext<'_>, starts: &[u8]) -> bool {
+    for distance in 0..17u8 {
+        if context.find_addr(0x1000 + u64::from(distance)) != scanned(starts, distance) {
+            return false;
+        }
+    }
+    context.find_addr(0xfff) == None
+}
+
+/// Whether it does so in a file with these starts, each of so many bytes.
+fn finds_in_file(alloc: Global, size: u8, starts: &[u8]) -> Result<bool, Error> {
+    let bytes = file_of(alloc, size, starts)?;
+    let context = GsymContext::parse_header(bytes.as_slice())?;
+    Ok(finds_as_scanned(&context, starts))
+}
+
 #[test]
 fn halving_finds_what_a_scan_finds(rt: HostRuntime) -> Result<(), Fail> {
     for starts in STARTS {
-        for size in [1, 2, 4, 8] {
-            let bytes = file_of(rt.alloc(), size, starts)?;
-            let context = GsymContext::parse_header(bytes.as_slice())?;
-            assert_eq!(rt; context.find_addr(0xfff), None);
-            for distance in 0..17u8 {
-                let found = context.find_addr(0x1000 + u64::from(distance));
-                assert_eq!(rt;
-                    found,
-                    scanned(starts, distance),
-                    "at {distance} of {size} bytes"
-                );
-            }
+        for size in SIZES {
+            assert!(rt;
+                finds_in_file(rt.alloc(), *size, starts)?,
+                "{starts:?} of {size} bytes"
+            );
         }
     }
     Ok(())
 }
 
+const ADDRESSES: &[u64] = &[0, 0x1000, 0x1040, 18446744073709551615];
+
 #[test]
 fn addresses_of_another_size_are_unknown(rt: HostRuntime) -> Result<(), Fail> {
     let bytes = damaged(rt.alloc(), &G1, 6, b"\x03")?;
     let context = GsymContext::parse_header(bytes.as_slice())?;
-    for addr in [0, 0x1000, 0x1040, 18446744073709551615] {
-        assert_eq!(rt; context.find_addr(addr), None);
+    for addr in ADDRESSES {
+        assert!(rt; context.find_addr(*addr) == None);
     }
-    assert_eq!(rt; context.addr_at(0), None);
+    assert!(rt; context.addr_at(0) == None);
     Ok(())
 }
 
@@ -94,18 +109,20 @@ const WRITTEN: [u8; 54] = [
     245, 48, 247, 240, 248, 64, 250, 240, 251, 160, 252, 128, 255,
 ];
 
+/// A file with those starts.
+fn written_file(alloc: Global) -> Result<Vec<u8>, AllocError> {
+    let mut bytes = Vec::from_slice(alloc, b"MYSG\x01\0\x02\0\0\0\0\0\0\0\0\0\x1b\0\0\0")?;
+    bytes.extend_from_slice(&[0; 28])?;
+    bytes.extend_from_slice(&WRITTEN)?;
+    bytes.extend_from_slice(&[0; 114])?;
+    Ok(bytes)
+}
+
 #[test]
 fn finds_the_last_of_a_written_table(rt: HostRuntime) -> Result<(), Fail> {
-    let mut bytes = Vec::from_slice(rt.alloc(), b"MYSG\x01\0\x02\0\0\0\0\0\0\0\0\0\x1b\0\0\0")?;
-    for _ in 0..28 {
-        bytes.push(0)?;
-    }
-    bytes.extend_from_slice(&WRITTEN)?;
-    for _ in 0..114 {
-        bytes.push(0)?;
-    }
+    let bytes = written_file(rt.alloc())?;
     let context = GsymContext::parse_header(bytes.as_slice())?;
-    assert_eq!(rt; context.find_addr(0x10635), Some(26));
-    assert_eq!(rt; context.addr_at(26), Some(0xff80));
+    assert!(rt; context.find_addr(0x10635) == Some(26));
+    assert!(rt; context.addr_at(26) == Some(0xff80));
     Ok(())
 }
