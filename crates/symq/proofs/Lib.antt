@@ -2,11 +2,11 @@ mod AnswerTextLemmas
 mod CommandLemmas
 mod EndLemmas
 mod FaultLemmas
-mod HexLemmas
 mod InputGrammarLemmas
 mod InputTextLemmas
 mod OpenLemmas
 mod OutputLemmas
+mod PieceLemmas
 mod ReplyLemmas
 mod RunLemmas
 mod TextsLemmas

@@ -40,6 +40,10 @@ start_text s = s.name ++ (codes "+" ++ (hex s.offset ++ (codes " start " ++ hex 
 abbrev pub extent_text : Symbol → List ℕ
 extent_text s = codes " size " ++ (size_text s.size ++ (codes " module " ++ module_text s.«module»))
 
+-- +0xOFFSET start 0xSTART size 0xSIZE module
+abbrev pub numbers_text : Symbol → List ℕ
+numbers_text s = codes "+" ++ (hex s.offset ++ (codes " start " ++ (hex s.addr ++ (codes " size " ++ (size_text s.size ++ codes " module ")))))
+
 -- NAME at WHERE, after two spaces
 abbrev pub call_text : Call → List ℕ
 call_text call = codes "  " ++ (call.name ++ end_text call.site)

@@ -8,3 +8,4 @@ pub mod Texts
 pub mod Turns
 pub mod Words
 pub mod Writing
+pub mod Piece

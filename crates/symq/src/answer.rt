@@ -1,13 +1,14 @@
 //! The text of an answer.
 
-ghost use Rattle.std.specs.Prelude.{◌≡◌, ◌++◌, Some, map, option_map, codes, string_bytes, OnOk, IfOk, IsOkUnless};
+ghost use Rattle.std.specs.Prelude.{◌≡◌, ◌+◌, ◌++◌, ◌≤◌, if◌then◌else◌, [], Some, map, option_map, codes, drop, string_bytes, OnOk, IfOk, IsOkUnless};
 ghost use Rattle.std.specs.Cow.{cow_str_bytes};
+ghost use Rattle.std.specs.Str.{IsUtf8};
 ghost use Rattle.bz_base.specs.Answer.{site_of, call_of, symbol_of, reading};
 ghost use Rattle.bz_base.specs.Answer.Answer.{Unknown};
 ghost use Rattle.bz_base.specs.Path.{begins_with_slash, last_byte, path_text, slash_after};
-ghost use Rattle.symq.specs.AnswerText.{size_text, module_text, line_text, place_text, end_text, start_text, extent_text, call_text, calls_text, symbol_text, result_text, answer_text};
+ghost use Rattle.symq.specs.AnswerText.{hex, size_text, module_text, line_text, place_text, end_text, numbers_text, call_text, calls_text, symbol_text, result_text, answer_text};
 
-use crate::hex::push_hex;
+use crate::piece::{ROOM, push_piece, put_hex_after, put_str};
 use bz_base::{CodeInfo, Error, InlinedFn, Reason, Result, Sym, Symbolized};
 use itoa::Buffer;
 use std::alloc::Global;
@@ -28,13 +29,23 @@ pub fn push_answer(text: &mut String, addr: u64, answer: &Symbolized<'_>) -> Res
     ensures ok { OnOk result (string_bytes text.new ≡ string_bytes text.old ++ answer_text addr (reading answer.now)) }
     ensures memory { IsOkUnless result Error.OutOfMemory }
 {
-    text.push_str("0x")?;
-    push_hex(text, addr)?;
-    text.push_str(": ")?;
+    push_addr(text, addr)?;
     match answer {
         Symbolized::Sym(symbol) => push_symbol(text, symbol),
         Symbolized::Unknown(reason) => push_reason(text, *reason),
     }
+}
+
+// 0xADDR:
+fn push_addr(text: &mut String, addr: u64) -> Result<()>
+    ensures ok { OnOk result (string_bytes text.new ≡ string_bytes text.old ++ (hex addr ++ codes ": ")) }
+    ensures memory { IsOkUnless result Error.OutOfMemory }
+{
+    let mut room = [0; ROOM];
+    let at = put_str(": ", &mut room, ROOM);
+    let at = put_hex_after("0x", addr, &mut room, at);
+    push_piece(text, &room, at)?;
+    Ok(())
 }
 
 fn push_reason(text: &mut String, reason: Reason) -> Result<()>
@@ -50,53 +61,47 @@ fn push_symbol(text: &mut String, symbol: &Sym<'_>) -> Result<()>
     ensures ok { OnOk result (string_bytes text.new ≡ string_bytes text.old ++ symbol_text (symbol_of symbol.now)) }
     ensures memory { IsOkUnless result Error.OutOfMemory }
 {
-    push_start(text, symbol)?;
-    push_extent(text, symbol)?;
+    text.push_str(symbol.name.as_str())?;
+    push_numbers(text, symbol)?;
+    push_module(text, &symbol.module)?;
     push_end(text, &symbol.code_info)?;
     push_calls(text, symbol.inlined.as_slice())
 }
 
-// NAME+0xOFFSET start 0xSTART
-fn push_start(text: &mut String, symbol: &Sym<'_>) -> Result<()>
-    ensures ok { OnOk result (string_bytes text.new ≡ string_bytes text.old ++ start_text (symbol_of symbol.now)) }
+// +0xOFFSET start 0xSTART size 0xSIZE module, which stand together in one piece
+fn push_numbers(text: &mut String, symbol: &Sym<'_>) -> Result<()>
+    ensures ok { OnOk result (string_bytes text.new ≡ string_bytes text.old ++ numbers_text (symbol_of symbol.now)) }
     ensures memory { IsOkUnless result Error.OutOfMemory }
 {
-    text.push_str(symbol.name.as_str())?;
-    text.push_str("+0x")?;
-    push_hex(text, symbol.offset as u64)?;
-    text.push_str(" start 0x")?;
-    push_hex(text, symbol.addr)?;
+    let mut room = [0; ROOM];
+    let at = put_str(" module ", &mut room, ROOM);
+    let at = put_size(symbol.size, &mut room, at);
+    let at = put_hex_after(" start 0x", symbol.addr, &mut room, at);
+    let at = put_hex_after("+0x", symbol.offset as u64, &mut room, at);
+    push_piece(text, &room, at)?;
     Ok(())
 }
 
-// size 0xSIZE module MODULE
-fn push_extent(text: &mut String, symbol: &Sym<'_>) -> Result<()>
-    ensures ok { OnOk result (string_bytes text.new ≡ string_bytes text.old ++ extent_text (symbol_of symbol.now)) }
-    ensures memory { IsOkUnless result Error.OutOfMemory }
-{
-    push_size(text, symbol.size)?;
-    push_module(text, &symbol.module)
-}
-
-fn push_size(text: &mut String, size: Option<usize>) -> Result<()>
-    ensures ok { OnOk result (string_bytes text.new ≡ string_bytes text.old ++ (codes " size " ++ size_text size)) }
-    ensures memory { IsOkUnless result Error.OutOfMemory }
+// size 0xSIZE, before a place in a room
+#[inline(always)]
+fn put_size(size: Option<usize>, room: &mut [u8; ROOM], end: usize) -> usize
+    requires fits { 24 ≤ end }
+    requires within { end ≤ 80 }
+    ensures from { result ≤ end }
+    ensures near { end ≤ result + 24 }
+    ensures text { drop result room.new ≡ codes " size " ++ (size_text size ++ drop end room.old) }
+    ensures utf8 { IsUtf8 (drop end room.old) → IsUtf8 (drop result room.new) }
 {
     match size {
-        Some(size) => {
-            text.push_str(" size 0x")?;
-            push_hex(text, size as u64)?
-        }
-        None => text.push_str(" size -")?,
+        Some(size) => put_hex_after(" size 0x", size as u64, room, end),
+        None => put_str(" size -", room, end),
     }
-    Ok(())
 }
 
 fn push_module(text: &mut String, name: &Option<CowStr<'_>>) -> Result<()>
-    ensures ok { OnOk result (string_bytes text.new ≡ string_bytes text.old ++ (codes " module " ++ module_text (option_map cow_str_bytes name.now))) }
+    ensures ok { OnOk result (string_bytes text.new ≡ string_bytes text.old ++ module_text (option_map cow_str_bytes name.now)) }
     ensures memory { IsOkUnless result Error.OutOfMemory }
 {
-    text.push_str(" module ")?;
     match name {
         Some(name) => text.push_str(name.as_str())?,
         None => text.push_str("-")?,
@@ -130,41 +135,39 @@ fn push_end(text: &mut String, place: &Option<CodeInfo<'_>>) -> Result<()>
     ensures memory { IsOkUnless result Error.OutOfMemory }
 {
     text.push_str(" at ")?;
-    push_place(text, place)?;
-    text.push_str("\n")?;
-    Ok(())
-}
-
-fn push_place(text: &mut String, place: &Option<CodeInfo<'_>>) -> Result<()>
-    ensures ok { OnOk result (string_bytes text.new ≡ string_bytes text.old ++ place_text (option_map site_of place.now)) }
-    ensures memory { IsOkUnless result Error.OutOfMemory }
-{
     match place {
         Some(place) => push_site(text, place),
         None => {
-            text.push_str("-")?;
+            text.push_str("-\n")?;
             Ok(())
         }
     }
 }
 
-// The joined path and the line.
+// The joined path and the line, and the end of the answer's line.
 fn push_site(text: &mut String, site: &CodeInfo<'_>) -> Result<()>
-    ensures ok { OnOk result (string_bytes text.new ≡ string_bytes text.old ++ place_text (Some (site_of site.now))) }
+    ensures ok { OnOk result (string_bytes text.new ≡ string_bytes text.old ++ (place_text (Some (site_of site.now)) ++ codes "\n")) }
     ensures memory { IsOkUnless result Error.OutOfMemory }
 {
     push_path(text, &site.dir, site.file.as_str())?;
     push_line(text, site.line)
 }
 
+// :LINE, and the end of the answer's line
 fn push_line(text: &mut String, line: Option<u32>) -> Result<()>
-    ensures ok { OnOk result (string_bytes text.new ≡ string_bytes text.old ++ line_text line) }
+    ensures ok { OnOk result (string_bytes text.new ≡ string_bytes text.old ++ (line_text line ++ codes "\n")) }
     ensures memory { IsOkUnless result Error.OutOfMemory }
 {
-    if let Some(line) = line {
-        let mut digits = Buffer::new();
-        text.push_str(":")?;
-        text.push_str(digits.format(line))?;
+    match line {
+        Some(line) => {
+            let mut digits = Buffer::new();
+            let mut room = [0; ROOM];
+            let at = put_str("\n", &mut room, ROOM);
+            let at = put_str(digits.format(line), &mut room, at);
+            let at = put_str(":", &mut room, at);
+            push_piece(text, &room, at)?;
+        }
+        None => text.push_str("\n")?,
     }
     Ok(())
 }
@@ -189,7 +192,9 @@ fn push_joined(text: &mut String, dir: &str, file: &str) -> Result<()>
 {
     if !begins_with_slash(file) {
         text.push_str(dir)?;
-        text.push_str(slash_after(dir))?;
+        if lacks_slash(dir) {
+            text.push('/')?;
+        }
     }
     text.push_str(file)?;
     Ok(())
@@ -204,12 +209,12 @@ fn begins_with_slash(path: &str) -> bool
     }
 }
 
-// The slash between a directory and a file in it.
-fn slash_after(dir: &str) -> &'static str
-    ensures { result.now ≡ slash_after (last_byte dir.now) }
+// Tells if a slash has to stand between a directory and a file in it.
+fn lacks_slash(dir: &str) -> bool
+    ensures { (if result then codes "/" else []) ≡ slash_after (last_byte dir.now) }
 {
     match dir.as_bytes().last() {
-        Some(last) => if *last == b'/' { "" } else { "/" },
-        None => "",
+        Some(last) => *last != b'/',
+        None => false,
     }
 }

@@ -2,10 +2,10 @@
 #![tactic(auto)]
 
 mod answer;
-mod hex;
 mod input;
 mod laws;
 mod output;
+mod piece;
 mod program;
 mod reply;
 mod status;
