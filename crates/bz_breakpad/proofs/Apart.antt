@@ -87,7 +87,7 @@ closed_follows End is rest stops = stops
 closed_follows (p · f) is rest stops = closed_follows f is rest stops
 closed_follows _ is rest stops = absurd (false≢true is)
 
-hex_no_blank : (b : ℕ) → is_hex b ≡ true → is_blank b ≡ false
+pub hex_no_blank : (b : ℕ) → is_hex b ≡ true → is_blank b ≡ false
 hex_no_blank = other_way is_blank is_hex blank_no_hex
 
 decimal_no_blank : (b : ℕ) → is_decimal b ≡ true → is_blank b ≡ false
@@ -103,11 +103,11 @@ number_begins : (base most value : ℕ) (test : ℕ → Bool) → ((b : ℕ) →
 number_begins base most value test apart [] rest is = absurd (omega (arith, is.some))
 number_begins base most value test apart (b ∷ run) rest is = apart b (lt-ltb (digit_value b) base is.digits.0)
 
-hex_begins : (most : ℕ) (value : ℕ) (test : ℕ → Bool) → ((b : ℕ) → is_hex b ≡ true → test b ≡ false) →
+pub hex_begins : (most : ℕ) (value : ℕ) (test : ℕ → Bool) → ((b : ℕ) → is_hex b ≡ true → test b ≡ false) →
     (run rest : List ℕ) → IsPiece (Hex most) run value → begins_with test (run ++ rest) ≡ false
 hex_begins most value test apart run rest is = number_begins 16 most value test apart run rest is
 
-dec_begins : (value : ℕ) (run rest : List ℕ) → IsPiece Dec run value → begins_with is_blank (run ++ rest) ≡ false
+pub dec_begins : (value : ℕ) (run rest : List ℕ) → IsPiece Dec run value → begins_with is_blank (run ++ rest) ≡ false
 dec_begins value run rest is = number_begins 10 10 value is_blank decimal_no_blank run rest is.number
 
 word_begins : (run rest : List ℕ) → IsPiece Word run tt → begins_with is_blank (run ++ rest) ≡ false

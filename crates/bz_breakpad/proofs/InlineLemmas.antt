@@ -16,7 +16,7 @@ use Rattle.bz_breakpad.specs.Reads.{form_at, piece_at, reads}
 use Rattle.bz_breakpad.specs.Records.{CALL, INLINE, LINE, RANGE}
 use Rattle.bz_breakpad.specs.Told.{call_told, inline_told, range_told}
 use Rattle.bz_breakpad.specs.declared.parser.record.InlineCall.{InlineCall}
-use Rattle.bz_breakpad.specs.declared.parser.record.InlineLine.{InlineLine}
+use Rattle.bz_breakpad.specs.declared.parser.inline.InlineLine.{InlineLine}
 use Rattle.bz_breakpad.specs.declared.parser.record.Range.{Range}
 use Rattle.bz_breakpad.proofs.FormLaws.{found, form_again}
 use Rattle.bz_breakpad.proofs.PlainLemmas.{its_body}
@@ -143,3 +143,18 @@ inline_found text rest back line is_call is_range ends =
       solid = ap (begins_with is_white) begins;
       some = ap is_nothing begins;
     }
+
+-- Pieces read one after another.
+
+pub call_read : (call : InlineCall) (text fields after_depth line after_line file after_file origin rest : List ℕ) →
+    piece_at (Tag (codes "INLINE ")) text ≡ Some (tt, fields) → piece_at Gap fields ≡ Some (tt, fields) → piece_at Dec fields ≡ Some (call.depth, after_depth) →
+    piece_at Sep after_depth ≡ Some (tt, line) → piece_at Dec line ≡ Some (call.line, after_line) →
+    piece_at Sep after_line ≡ Some (tt, file) → piece_at Dec file ≡ Some (call.file, after_file) →
+    piece_at Sep after_file ≡ Some (tt, origin) → piece_at Dec origin ≡ Some (call.origin, rest) →
+    reads CALL text ≡ Some (call_told call, rest)
+call_read call text fields after_depth line after_line file after_file origin rest is_tag no_gap is_depth sep_line is_line sep_file is_file sep_origin is_origin =
+    rw (is_tag, no_gap, is_depth, sep_line, is_line, sep_file, is_file, sep_origin, is_origin) refl
+
+pub range_read : (range : Range) (text addr after_addr size rest : List ℕ) → piece_at Sep text ≡ Some (tt, addr) → piece_at (Hex 16) addr ≡ Some (range.addr, after_addr) →
+    piece_at Sep after_addr ≡ Some (tt, size) → piece_at (Hex 8) size ≡ Some (range.size, rest) → reads RANGE text ≡ Some (range_told range, rest)
+range_read range text addr after_addr size rest sep_addr is_addr sep_size is_size = rw (sep_addr, is_addr, sep_size, is_size) refl

@@ -12,7 +12,7 @@ use Rattle.bz_breakpad.specs.Walk.{Record, record_at, text_at}
 use Rattle.bz_breakpad.specs.Walk.Context.{InFunc}
 use Rattle.bz_breakpad.specs.Walk.Record.{OfFunc}
 use Rattle.bz_breakpad.specs.Walked.{IsMidway, IsStep}
-use Rattle.bz_breakpad.specs.declared.parser.record.InlineLine.{InlineLine}
+use Rattle.bz_breakpad.specs.declared.parser.inline.InlineLine.{InlineLine}
 use Rattle.bz_breakpad.specs.declared.parser.record.InnerLine.TheVariants as inners
 use Rattle.bz_breakpad.specs.declared.parser.walk.Walk.{Walk}
 use Rattle.bz_breakpad.proofs.MidwayLemmas.{midway_on, rest_length}

@@ -3,6 +3,7 @@ pub mod Apart
 pub mod Bytes
 pub mod ChoiceLaws
 pub mod DenseLemmas
+pub mod FieldLemmas
 pub mod FinishLemmas
 pub mod FoldLaws
 pub mod FormLaws
@@ -39,4 +40,5 @@ pub mod StartLemmas
 pub mod StepLemmas
 pub mod TableLaws
 pub mod Turns
+pub mod ValueLemmas
 pub mod WalkLaws

@@ -34,7 +34,7 @@ record IsField (base most after : ℕ) (text rest : List ℕ) : Type 0 where
   number : IsNumber base most digits (digits_value base digits)
 
 -- the byte at a place, and what stands after it
-byte_at : (at after : ℕ) (text : List ℕ) → at < length text → slice_index text at ≡ after → drop at text ≡ after ∷ drop (at + 1) text
+pub byte_at : (at after : ℕ) (text : List ℕ) → at < length text → slice_index text at ≡ after → drop at text ≡ after ∷ drop (at + 1) text
 byte_at at after text within is =
     drop-cons text at 0 within ∙ ap (λ b. b ∷ drop (suc at) text) is ∙ ap (λ k. after ∷ drop k text) (sym (add-one at))
 

@@ -20,7 +20,7 @@ use Rattle.bz_breakpad.specs.declared.parser.standing.StartText.{StartText}
 use Rattle.bz_breakpad.proofs.LineSearchLemmas.{ascend_more}
 
 -- a hexadecimal digit is a byte
-digit_byte : (b : ℕ) → digit_value b < 16 → b < 256
+pub digit_byte : (b : ℕ) → digit_value b < 16 → b < 256
 digit_byte b small =
     elim (cases_lt b 123) [
       | inl below ↦ omega (arith, below)
@@ -87,7 +87,7 @@ texts_order start other_start text other is others same less =
     omega (arith, below, is.spell, others.spell)
 
 -- each of them is a byte
-abbrev AreBytes : List ℕ → Type 0
+abbrev pub AreBytes : List ℕ → Type 0
 AreBytes bytes = AllByRecursion (λ b. b < 256) bytes
 
 -- a letter in lower case is a byte still
@@ -109,7 +109,7 @@ fold_number (b ∷ bytes) m c are =
     ∙ ap (λ n. number_from_digits_after 256 n (map folded bytes)) (or_block 8 m c b 32 are.0 (omega arith))
 
 -- without its last bytes a number is that of the bytes before them
-first_bytes : (bytes : List ℕ) (m : ℕ) → AreBytes bytes → number_from_digits_after 256 m bytes / 2 ^ (8 * length bytes) ≡ m
+pub first_bytes : (bytes : List ℕ) (m : ℕ) → AreBytes bytes → number_from_digits_after 256 m bytes / 2 ^ (8 * length bytes) ≡ m
 first_bytes [] m are = div-one m
 first_bytes (b ∷ bytes) m are =
     let n = number_from_digits_after 256 (m * 256 + b) bytes in
@@ -122,7 +122,7 @@ bytes_are zero text small = tt
 bytes_are (suc n) [] small = tt
 bytes_are (suc n) (b ∷ text) small = (small 0, bytes_are n text (λ k. small (suc k)))
 
-bytes_past : (from n : ℕ) (text : List ℕ) → ((k : ℕ) → get_or text k 0 < 256) → AreBytes (take n (drop from text))
+pub bytes_past : (from n : ℕ) (text : List ℕ) → ((k : ℕ) → get_or text k 0 < 256) → AreBytes (take n (drop from text))
 bytes_past zero n text small = bytes_are n text small
 bytes_past (suc from) n [] small = bytes_are n [] small
 bytes_past (suc from) n (b ∷ text) small = bytes_past from n text (λ k. small (suc k))

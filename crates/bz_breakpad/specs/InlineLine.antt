@@ -8,7 +8,7 @@ use Rattle.bz_breakpad.specs.Told.{inner_told}
 use Rattle.bz_breakpad.specs.Walk.{body_record}
 use Rattle.bz_breakpad.specs.Walk.Context.{InFunc}
 use Rattle.bz_breakpad.specs.Walk.Record.{OfFunc}
-use Rattle.bz_breakpad.specs.declared.parser.record.InlineLine.{InlineLine}
+use Rattle.bz_breakpad.specs.declared.parser.inline.InlineLine.{InlineLine}
 use Rattle.bz_breakpad.specs.declared.parser.record.InnerLine.TheVariants as inners
 
 -- the text begins with such a line, which is this record of a function, and the rest comes after it

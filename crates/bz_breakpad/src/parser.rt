@@ -2,12 +2,14 @@
 
 pub(crate) mod field;
 pub(crate) mod functions;
+pub(crate) mod inline;
 pub(crate) mod lanes;
 pub(crate) mod on_run;
 pub(crate) mod plain;
 pub(crate) mod reading;
 pub(crate) mod record;
 pub(crate) mod standing;
+pub(crate) mod values;
 pub(crate) mod walk;
 
 ghost use Rattle.std.specs.Prelude.{◌≡◌, ℕ, List, IfOk, IfErr};

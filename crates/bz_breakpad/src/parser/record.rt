@@ -1,8 +1,7 @@
 //! The records of a line.
 
-ghost use Rattle.std.specs.Prelude.{◌≡◌, option_map, IfOk, IfSome};
+ghost use Rattle.std.specs.Prelude.{◌≡◌, option_map, IfOk};
 ghost use Rattle.bz_breakpad.specs.Choice.{one_at};
-ghost use Rattle.bz_breakpad.specs.InlineLine.{IsInlineLine};
 ghost use Rattle.bz_breakpad.specs.Reads.{form_at, many_at, piece_at, reads};
 ghost use Rattle.bz_breakpad.specs.Records.{CALL, FILE, FUNC, INFO, INLINE, INLINE_ORIGIN, INNER, INNER_ORIGIN, LINE, MODULE, PUBLIC, RANGE, STACK_CFI, STACK_CFI_INIT, STACK_WIN, TOP};
 ghost use Rattle.bz_breakpad.specs.Walk.{body_record, inner_at};
@@ -157,33 +156,6 @@ fn inline(ranges: &mut Vec<Range>, line: &[u8]) -> Result<Option<InlineCall>, Al
         Some(()) => Ok(Some(call)),
         None => Ok(None),
     }
-}
-
-/// An INLINE record of one range, at the front of a text.
-#[derive(Drop)]
-pub(crate) struct InlineLine<'a> {
-    /// The call.
-    pub call: InlineCall,
-    /// The range of its code.
-    pub range: Range,
-    /// The text after the record's line.
-    pub rest: &'a [u8],
-}
-
-/// The INLINE record of one range at the front, with no white space at its end. None tells nothing.
-pub(crate) fn inline_line(text: &[u8]) -> Option<InlineLine<'_>>
-    ensures { IfSome result (IsInlineLine text.now) }
-{
-    let (call, rest) = call_front(text)?;
-    let (range, rest) = range_front(rest)?;
-    if rest.is_empty() || rest[0] != b'\n' {
-        return None;
-    }
-    Some(InlineLine {
-        call,
-        range,
-        rest: &rest[1..],
-    })
 }
 
 /// A PUBLIC record in the text.

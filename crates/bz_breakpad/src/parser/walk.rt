@@ -14,11 +14,12 @@ ghost use Rattle.bz_breakpad.specs.Walk.Context.{InFunc, Outside};
 ghost use Rattle.bz_breakpad.specs.Walked.{IsLineAt, IsMidway, IsRefused, IsStep, IsWalked};
 
 use crate::parser::field::body;
+use crate::parser::inline::inline_line;
 use crate::parser::lanes::Stops;
 use crate::parser::on_run::next_on_run;
 use crate::parser::plain::plain_line;
 use crate::parser::reading::KeptReading;
-use crate::parser::record::{Context, Range, RecordLine, TopLine, inline_line, read_record};
+use crate::parser::record::{Context, Range, RecordLine, TopLine, read_record};
 use crate::parser::standing::LinesSoFar;
 use crate::types::Part;
 use bz_base::{Error, Result, next_line};
