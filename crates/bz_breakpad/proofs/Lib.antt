@@ -15,6 +15,7 @@ pub mod Kept
 pub mod KeptLemmas
 pub mod KeyLemmas
 pub mod LaneLemmas
+pub mod LineFieldLemmas
 pub mod LineKeyLemmas
 pub mod LineSearchLemmas
 pub mod ListingLemmas
@@ -30,6 +31,7 @@ pub mod PlainLemmas
 pub mod PlainStep
 pub mod RoleLaws
 pub mod Rows
+pub mod RunFrontLemmas
 pub mod RunGrowLemmas
 pub mod RunLemmas
 pub mod RunStep

@@ -1,6 +1,6 @@
 //! The line records at places in a file's bytes, and the search among them.
 
-ghost use Rattle.std.specs.Prelude.{◌≡◌, ◌<◌, ◌≤◌, ◌==◌, not, true, ℕ, Some, List, drop, length, option_map};
+ghost use Rattle.std.specs.Prelude.{◌≡◌, ◌<◌, ◌≤◌, ◌==◌, not, true, ℕ, Some, List, drop, length, option_map, IfSome};
 ghost use Rattle.std.specs.List.{AllByRecursion, prefix_len};
 ghost use Rattle.bz_base.specs.Byte.{line_feed};
 ghost use Rattle.bz_base.specs.Nearest.{IsTable, if_covers, nearest_covering};
@@ -12,6 +12,8 @@ ghost use Rattle.bz_breakpad.specs.Search.{AreSearchable};
 ghost use Rattle.bz_breakpad.specs.Table as tables;
 
 use crate::parser::field::{body, hex};
+use crate::parser::inline::{dec_after, hex_after, hex_from};
+use crate::parser::lanes::Stops;
 use crate::parser::record::code_line;
 use crate::types::SourceLine;
 use bz_base::{Addr, Probe, Steps, covers, nearest};
@@ -34,6 +36,40 @@ pub(crate) fn line_at(bytes: &[u8], place: usize) -> Option<SourceLine>
         return None;
     }
     let text = &bytes[place..];
+    match short_line(text) {
+        Some(line) => Some(line),
+        None => any_line(text),
+    }
+}
+
+/// The line record of single spaces and few digits at the front, by one load. None tells nothing.
+#[inline(always)]
+fn short_line(text: &[u8]) -> Option<SourceLine>
+    ensures { IfSome result (λ line. line_in text.now ≡ Some (line_seen line)) }
+{
+    if text.len() < 72 {
+        return None;
+    }
+    let stops = Stops::at_front(text);
+    let (addr, at) = hex_from(text, stops, 0)?;
+    let (size, at) = hex_after(text, stops, at)?;
+    let (line, at) = dec_after(text, stops, at)?;
+    let (file, at) = dec_after(text, stops, at)?;
+    if text[at as usize] != b'\n' {
+        return None;
+    }
+    Some(SourceLine {
+        addr: u64::from(addr),
+        size,
+        line,
+        file,
+    })
+}
+
+/// The line record that the first line of the text is.
+fn any_line(text: &[u8]) -> Option<SourceLine>
+    ensures { option_map line_seen result ≡ line_in text.now }
+{
     code_line(body(&text[..line_len(text)])?)
 }
 
