@@ -1,13 +1,16 @@
 -- A line record whose fields end at known places: the first line of its text is read as these.
-use Rattle.std.proofs.Common.{◌≡◌, ℕ, List, [], ◌∷◌, ◌++◌, Some, refl, sym, ap, ◌∙◌, arith, append_assoc}
+use Rattle.std.proofs.Common.{◌≡◌, ℕ, ◌-◌, ◌<◌, ◌≤◌, List, [], ◌∷◌, ◌++◌, take, Some, option_map, refl, sym, ap, ◌∙◌, arith, append_assoc}
+use Rattle.std.specs.Str.Parse.{digits_value}
 use Rattle.bz_base.specs.Byte.{line_feed, carriage_return}
 use Rattle.bz_base.specs.Line.{ended}
+use Rattle.bz_base.specs.Number.{digits_len}
 use Rattle.bz_breakpad.specs.Form.{Value}
 use Rattle.bz_breakpad.specs.Form.Piece.{Dec, Hex, Sep}
 use Rattle.bz_breakpad.specs.Line.{line_front, line_in, source_line}
 use Rattle.bz_breakpad.specs.Reads.{piece_at, reads}
 use Rattle.bz_breakpad.specs.Records.{LINE}
 use Rattle.bz_breakpad.specs.Table.{SourceLine}
+use Rattle.bz_breakpad.proofs.FieldLemmas.{hex_read}
 use Rattle.bz_breakpad.proofs.FormLaws.{found, form_again}
 use Rattle.bz_breakpad.proofs.InlineLemmas.{none_in}
 use Rattle.bz_breakpad.proofs.MidwayLemmas.{line_front_of}
@@ -32,3 +35,10 @@ pub line_fields : (line : SourceLine) (text after_start size after_size number a
 line_fields line text after_start size after_size number after_number file after_file back is_start sep_size is_size sep_number is_number sep_file is_file ends =
     line_found text back (line.start, (line.size, (line.line, (line.file, tt))))
     (rw (is_start, sep_size, is_size, sep_number, is_number, sep_file, is_file, ends) refl)
+
+-- the start of few digits
+pub start_read : (text : List ℕ) (digits : ℕ) → digits_len 16 text ≡ digits → 0 < digits → digits ≤ 8 →
+    option_map (λ read. read.0) (piece_at (Hex 16) text) ≡ Some (digits_value 16 (take digits text))
+start_read text digits len some few =
+    let all : digits - 0 ≡ digits = omega arith in
+    ap (option_map (λ read. read.0)) (hex_read text 0 digits some few (omega (arith, len)) 16 (omega arith)) ∙ ap (λ n. Some (digits_value 16 (take n text))) all

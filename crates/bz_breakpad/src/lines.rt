@@ -1,20 +1,23 @@
 //! The line records at places in a file's bytes, and the search among them.
 
-ghost use Rattle.std.specs.Prelude.{◌≡◌, ◌<◌, ◌≤◌, ◌==◌, not, true, ℕ, Some, List, drop, length, option_map, IfSome};
+ghost use Rattle.std.specs.Prelude.{◌≡◌, ◌<◌, ◌≤◌, ◌==◌, not, true, ℕ, Some, List, drop, length, option_map, unwrap_or, IfSome};
 ghost use Rattle.std.specs.List.{AllByRecursion, prefix_len};
 ghost use Rattle.bz_base.specs.Byte.{line_feed};
 ghost use Rattle.bz_base.specs.Nearest.{IsTable, if_covers, nearest_covering};
+ghost use Rattle.bz_breakpad.specs.Form.Piece.{Hex};
 ghost use Rattle.bz_breakpad.specs.Kept.{ReadsLine, kept_lines};
 ghost use Rattle.bz_breakpad.specs.Lent.{line_seen};
 ghost use Rattle.bz_breakpad.specs.Line.{line_in};
 ghost use Rattle.bz_breakpad.specs.LineStarts.{Ascends, line_read, line_size, line_start, line_starts};
+ghost use Rattle.bz_breakpad.specs.Reads.{piece_at};
 ghost use Rattle.bz_breakpad.specs.Search.{AreSearchable};
 ghost use Rattle.bz_breakpad.specs.Table as tables;
 
 use crate::parser::field::{body, hex};
 use crate::parser::inline::{dec_after, hex_after, hex_from};
-use crate::parser::lanes::Stops;
+use crate::parser::lanes::{Stops, short_hex};
 use crate::parser::record::code_line;
+use crate::parser::values::hex_front;
 use crate::types::SourceLine;
 use bz_base::{Addr, Probe, Steps, covers, nearest};
 use std::marker::{Brand, Model};
@@ -82,7 +85,30 @@ pub(crate) fn start_at(bytes: &[u8], place: usize) -> u64
     if place > bytes.len() {
         return 0;
     }
-    match hex(&bytes[place..], 16) {
+    let text = &bytes[place..];
+    match short_start(text) {
+        Some(start) => start,
+        None => any_start(text),
+    }
+}
+
+/// The number of the one to eight hexadecimal digits at the front, by one load. None tells nothing.
+#[inline(always)]
+fn short_start(text: &[u8]) -> Option<u64>
+    ensures { IfSome result (λ start. option_map (λ read. read.0) (piece_at (Hex 16) text.now) ≡ Some start) }
+{
+    if text.len() < 16 {
+        return None;
+    }
+    let digits = short_hex(text)?;
+    Some(u64::from(hex_front(text, digits)))
+}
+
+/// The number of the hexadecimal digits at the front; 0 if there are none.
+fn any_start(text: &[u8]) -> u64
+    ensures { result ≡ unwrap_or (option_map (λ read. read.0) (piece_at (Hex 16) text.now)) 0 }
+{
+    match hex(text, 16) {
         Some((start, _)) => start,
         None => 0,
     }
