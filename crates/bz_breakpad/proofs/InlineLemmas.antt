@@ -87,7 +87,7 @@ no_blank byte other (b ∷ text) blank =
     or_from _ _ (false_from_ne_true (nat_eq b byte) (λ same. false≢true (sym other ∙ ap is_blank (sym (eqb-true b byte same)) ∙ blank.0))) (no_blank byte other text blank.1)
 
 -- forms whose tags don't have the byte, and that have blanks and digits beside them
-abbrev IsClean : ℕ → Form → Type 0
+abbrev pub IsClean : ℕ → Form → Type 0
 IsClean byte End = Unit {0}
 IsClean byte (Tag tag · f) = HasNo byte tag × IsClean byte f
 IsClean byte (Sep · f) = IsClean byte f
@@ -96,7 +96,7 @@ IsClean byte (Hex most · f) = IsClean byte f
 IsClean byte (Dec · f) = IsClean byte f
 IsClean byte _ = ⊥
 
-none_in : (byte : ℕ) → is_blank byte ≡ false → 16 ≤ digit_value byte → (f : Form) → IsClean byte f → (text : List ℕ) (v : Value f) → Spells f text v → HasNo byte text
+pub none_in : (byte : ℕ) → is_blank byte ≡ false → 16 ≤ digit_value byte → (f : Form) → IsClean byte f → (text : List ℕ) (v : Value f) → Spells f text v → HasNo byte text
 none_in byte other no_digit End clean text v is = rw is refl
 none_in byte other no_digit (Tag tag · f) clean text v is =
     rw (is.whole, is.front_is) (both byte tag is.back clean.0 (none_in byte other no_digit f clean.1 is.back is.others is.back_is))

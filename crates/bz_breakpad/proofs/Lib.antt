@@ -17,6 +17,7 @@ pub mod Kept
 pub mod KeptLemmas
 pub mod KeyLemmas
 pub mod LaneLemmas
+pub mod LineFieldLemmas
 pub mod LineKeyLemmas
 pub mod LineSearchLemmas
 pub mod ListingLemmas
@@ -33,6 +34,7 @@ pub mod PlainNameLemmas
 pub mod PlainStep
 pub mod RoleLaws
 pub mod Rows
+pub mod RunFrontLemmas
 pub mod RunGrowLemmas
 pub mod RunLemmas
 pub mod RunStep

@@ -1,5 +1,5 @@
 -- Runs: texts whose lines are line records, of which each starts after the one before it.
-use Rattle.std.specs.Prelude.{◌≡◌, ◌<◌, ◌-◌, ℕ, List, [], ◌∷◌, ◌++◌, length, map, slice_index, IsSome}
+use Rattle.std.specs.Prelude.{◌≡◌, ◌<◌, ◌≤◌, ◌-◌, ℕ, List, [], ◌∷◌, ◌++◌, length, take, drop, map, slice_index, IsSome}
 use Rattle.std.specs.List.{AllByRecursion, filter_map}
 use Rattle.bz_base.specs.Byte.{line_feed}
 use Rattle.bz_base.specs.Line.{all_lines}
@@ -37,3 +37,9 @@ pub record IsCut (text : List ℕ) (cut : ℕ) : Type 0 where
   pub some : 0 < cut
   pub within : cut < length text
   pub behind : slice_index text (cut - 1) ≡ line_feed
+
+-- so many bytes at the front of the text are a run, and each of its lines is the same in the whole text
+pub record IsRunFront (text : List ℕ) (len : ℕ) : Type 0 where
+  pub within : len ≤ length text
+  pub run : IsLineRun (take len text)
+  pub same : (place : ℕ) → place < len → line_in (drop place (take len text)) ≡ line_in (drop place text)

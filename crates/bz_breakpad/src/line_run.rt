@@ -1,34 +1,61 @@
 //! The search in a run: line records that stand one after another in a file, each starting after the
 //! one before it.
 
-ghost use Rattle.std.specs.Prelude.{◌≡◌, ◌≤◌, length, true, option_map, IfSome, IfNone};
+ghost use Rattle.std.specs.Prelude.{◌≡◌, ◌≤◌, ◌<◌, ◌-◌, length, take, slice_index, true, option_map, IfSome, IfNone};
+ghost use Rattle.bz_base.specs.Byte.{line_feed};
 ghost use Rattle.bz_base.specs.Line.{all_lines};
 ghost use Rattle.bz_base.specs.Nearest.{nearest_covering};
+ghost use Rattle.bz_breakpad.specs.Kept.{IsRunAt, text_at};
 ghost use Rattle.bz_breakpad.specs.Lent.{line_seen};
-ghost use Rattle.bz_breakpad.specs.LineRun.{AreLineRecords, IsCut, IsLineRun, lines_in};
+ghost use Rattle.bz_breakpad.specs.LineRun.{IsCut, IsRunFront, lines_in};
 
 use crate::lines::{line_if_covers, start_at};
 use crate::parser::plain::line_feeds;
 use crate::types::{Part, SourceLine};
 use bz_base::{Addr, next_line};
 
-/// The line record of a run that answers for the address. It is the same whatever the hint is: a
-/// place where the run may be cut first, in front of a line.
-pub(crate) fn line_in_run(run: &[u8], hint: usize, addr: Addr) -> Option<SourceLine>
-    requires { IsLineRun run.now }
-    ensures { option_map line_seen result ≡ nearest_covering (λ l. l.start) (λ l. l.size) addr (lines_in run.now) }
+/// The line record of a run in a part of the bytes that answers for the address. It is the same
+/// whatever the hint is: a place where the run may be cut first, in front of a line.
+pub(crate) fn line_in_run(bytes: &[u8], run: &Part, hint: usize, addr: Addr) -> Option<SourceLine>
+    requires { IsRunAt bytes.now run.now }
+    ensures { option_map line_seen result ≡ nearest_covering (λ l. l.start) (λ l. l.size) addr (lines_in (text_at bytes.now run.now)) }
 {
-    let mut rest = run;
+    let text = &bytes[run.from as usize..run.to as usize];
+    // A load of the last line's bytes shows bytes after it, if the line has its end.
+    let more = if ends_line(text) {
+        &bytes[run.from as usize..]
+    } else {
+        text
+    };
+    line_in_front(more, text.len(), hint, addr)
+}
+
+/// Whether the last line has its line feed.
+#[inline(always)]
+fn ends_line(text: &[u8]) -> bool
+    ensures { result ≡ true → (0 < length text.now) × (slice_index text.now (length text.now - 1) ≡ line_feed) }
+{
+    !text.is_empty() && text[text.len() - 1] == b'\n'
+}
+
+/// The line record that answers for the address, of a run that is so many bytes of the text.
+fn line_in_front(text: &[u8], len: usize, hint: usize, addr: Addr) -> Option<SourceLine>
+    requires { IsRunFront text.now len }
+    ensures { option_map line_seen result ≡ nearest_covering (λ l. l.start) (λ l. l.size) addr (lines_in (take len text.now)) }
+{
+    let mut rest = text;
+    let mut len = len;
     let mut hint = hint;
-    while let Some(cut) = cut_by(rest, hint) {
+    while let Some(cut) = cut_by(&rest[..len], hint) {
         hint = 0;
-        rest = if start_at(rest, cut) <= addr {
-            &rest[cut..]
+        if start_at(rest, cut) <= addr {
+            rest = &rest[cut..];
+            len -= cut;
         } else {
-            &rest[..cut]
-        };
+            len = cut;
+        }
     }
-    only_line(rest, addr)
+    only_line(rest, len, addr)
 }
 
 /// Where a run in a part of the bytes is to be cut first; 0 if that isn't known. Where it is asked of
@@ -100,13 +127,14 @@ fn first_cut(text: &[u8]) -> Option<usize>
     }
 }
 
-/// The only line record of a text, if it covers the address.
-fn only_line(text: &[u8], addr: Addr) -> Option<SourceLine>
-    requires only { length (all_lines text.now) ≤ 1 }
-    requires read { AreLineRecords text.now }
-    ensures { option_map line_seen result ≡ nearest_covering (λ l. l.start) (λ l. l.size) addr (lines_in text.now) }
+/// The only line record of a run that is so many bytes of the text, if it covers the address.
+#[inline(always)]
+fn only_line(text: &[u8], len: usize, addr: Addr) -> Option<SourceLine>
+    requires run { IsRunFront text.now len }
+    requires only { length (all_lines (take len text.now)) ≤ 1 }
+    ensures { option_map line_seen result ≡ nearest_covering (λ l. l.start) (λ l. l.size) addr (lines_in (take len text.now)) }
 {
-    if text.is_empty() {
+    if len == 0 {
         None
     } else {
         line_if_covers(text, 0, addr)

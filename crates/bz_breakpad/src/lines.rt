@@ -1,18 +1,23 @@
 //! The line records at places in a file's bytes, and the search among them.
 
-ghost use Rattle.std.specs.Prelude.{◌≡◌, ◌<◌, ◌≤◌, ◌==◌, not, true, ℕ, Some, List, drop, length, option_map};
+ghost use Rattle.std.specs.Prelude.{◌≡◌, ◌<◌, ◌≤◌, ◌==◌, not, true, ℕ, Some, List, drop, length, option_map, unwrap_or, IfSome};
 ghost use Rattle.std.specs.List.{AllByRecursion, prefix_len};
 ghost use Rattle.bz_base.specs.Byte.{line_feed};
 ghost use Rattle.bz_base.specs.Nearest.{IsTable, if_covers, nearest_covering};
+ghost use Rattle.bz_breakpad.specs.Form.Piece.{Hex};
 ghost use Rattle.bz_breakpad.specs.Kept.{ReadsLine, kept_lines};
 ghost use Rattle.bz_breakpad.specs.Lent.{line_seen};
 ghost use Rattle.bz_breakpad.specs.Line.{line_in};
 ghost use Rattle.bz_breakpad.specs.LineStarts.{Ascends, line_read, line_size, line_start, line_starts};
+ghost use Rattle.bz_breakpad.specs.Reads.{piece_at};
 ghost use Rattle.bz_breakpad.specs.Search.{AreSearchable};
 ghost use Rattle.bz_breakpad.specs.Table as tables;
 
 use crate::parser::field::{body, hex};
+use crate::parser::inline::{dec_after, hex_after, hex_from};
+use crate::parser::lanes::{Stops, short_hex};
 use crate::parser::record::code_line;
+use crate::parser::values::hex_front;
 use crate::types::SourceLine;
 use bz_base::{Addr, Probe, Steps, covers, nearest};
 use std::marker::{Brand, Model};
@@ -34,6 +39,40 @@ pub(crate) fn line_at(bytes: &[u8], place: usize) -> Option<SourceLine>
         return None;
     }
     let text = &bytes[place..];
+    match short_line(text) {
+        Some(line) => Some(line),
+        None => any_line(text),
+    }
+}
+
+/// The line record of single spaces and few digits at the front, by one load. None tells nothing.
+#[inline(always)]
+fn short_line(text: &[u8]) -> Option<SourceLine>
+    ensures { IfSome result (λ line. line_in text.now ≡ Some (line_seen line)) }
+{
+    if text.len() < 72 {
+        return None;
+    }
+    let stops = Stops::at_front(text);
+    let (addr, at) = hex_from(text, stops, 0)?;
+    let (size, at) = hex_after(text, stops, at)?;
+    let (line, at) = dec_after(text, stops, at)?;
+    let (file, at) = dec_after(text, stops, at)?;
+    if text[at as usize] != b'\n' {
+        return None;
+    }
+    Some(SourceLine {
+        addr: u64::from(addr),
+        size,
+        line,
+        file,
+    })
+}
+
+/// The line record that the first line of the text is.
+fn any_line(text: &[u8]) -> Option<SourceLine>
+    ensures { option_map line_seen result ≡ line_in text.now }
+{
     code_line(body(&text[..line_len(text)])?)
 }
 
@@ -46,7 +85,30 @@ pub(crate) fn start_at(bytes: &[u8], place: usize) -> u64
     if place > bytes.len() {
         return 0;
     }
-    match hex(&bytes[place..], 16) {
+    let text = &bytes[place..];
+    match short_start(text) {
+        Some(start) => start,
+        None => any_start(text),
+    }
+}
+
+/// The number of the one to eight hexadecimal digits at the front, by one load. None tells nothing.
+#[inline(always)]
+fn short_start(text: &[u8]) -> Option<u64>
+    ensures { IfSome result (λ start. option_map (λ read. read.0) (piece_at (Hex 16) text.now) ≡ Some start) }
+{
+    if text.len() < 16 {
+        return None;
+    }
+    let digits = short_hex(text)?;
+    Some(u64::from(hex_front(text, digits)))
+}
+
+/// The number of the hexadecimal digits at the front; 0 if there are none.
+fn any_start(text: &[u8]) -> u64
+    ensures { result ≡ unwrap_or (option_map (λ read. read.0) (piece_at (Hex 16) text.now)) 0 }
+{
+    match hex(text, 16) {
         Some((start, _)) => start,
         None => 0,
     }

@@ -108,9 +108,7 @@ pub(crate) fn line_of(
     ensures { option_map line_seen result ≡ line_at addr (function_seen bytes.now code.now function.now).lines }
 {
     match function.lines {
-        LineRecords::Run(part) => {
-            line_in_run(&bytes[part.from as usize..part.to as usize], hint, addr)
-        }
+        LineRecords::Run(part) => line_in_run(bytes, &part, hint, addr),
         LineRecords::Listed(part) => {
             let places = match function.line_order {
                 Some(order) => &code.line_copies[order.from as usize..order.to as usize],

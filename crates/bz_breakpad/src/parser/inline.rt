@@ -25,7 +25,7 @@ pub(crate) struct InlineLine<'a> {
 /// The number of the one to eight decimal digits from a place on, and where they end, if a shown byte
 /// ends them.
 #[inline(always)]
-fn dec_from(text: &[u8], stops: Stops, from: u32) -> Option<(u32, u32)>
+pub(crate) fn dec_from(text: &[u8], stops: Stops, from: u32) -> Option<(u32, u32)>
     requires stops { AreStops text.now stops }
     requires room { 72 ≤ length text.now }
     requires within { from < 64 }
@@ -40,7 +40,7 @@ fn dec_from(text: &[u8], stops: Stops, from: u32) -> Option<(u32, u32)>
 /// The number of the one to eight hexadecimal digits from a place on, and where they end, if a shown
 /// byte ends them.
 #[inline(always)]
-fn hex_from(text: &[u8], stops: Stops, from: u32) -> Option<(u32, u32)>
+pub(crate) fn hex_from(text: &[u8], stops: Stops, from: u32) -> Option<(u32, u32)>
     requires stops { AreStops text.now stops }
     requires room { 72 ≤ length text.now }
     requires within { from < 64 }
@@ -54,7 +54,7 @@ fn hex_from(text: &[u8], stops: Stops, from: u32) -> Option<(u32, u32)>
 
 /// The number of the decimal digits, and where they end, after a single space at a place.
 #[inline(always)]
-fn dec_after(text: &[u8], stops: Stops, at: u32) -> Option<(u32, u32)>
+pub(crate) fn dec_after(text: &[u8], stops: Stops, at: u32) -> Option<(u32, u32)>
     requires stops { AreStops text.now stops }
     requires room { 72 ≤ length text.now }
     requires within { at < 63 }
@@ -70,7 +70,7 @@ fn dec_after(text: &[u8], stops: Stops, at: u32) -> Option<(u32, u32)>
 
 /// The number of the hexadecimal digits, and where they end, after a single space at a place.
 #[inline(always)]
-fn hex_after(text: &[u8], stops: Stops, at: u32) -> Option<(u32, u32)>
+pub(crate) fn hex_after(text: &[u8], stops: Stops, at: u32) -> Option<(u32, u32)>
     requires stops { AreStops text.now stops }
     requires room { 72 ≤ length text.now }
     requires within { at < 63 }

@@ -104,6 +104,32 @@ fn hex_stops(text: &[u8]) -> u64
     (no_digit & no_letter).to_bitmask()
 }
 
+/// How many hexadecimal digits stand at the front, if one to eight do.
+#[inline(always)]
+pub(crate) fn short_hex(text: &[u8]) -> Option<u32>
+    requires { 16 ≤ length text.now }
+    ensures { IfSome result (λ digits. (digits_len 16 text.now ≡ digits) × (0 < digits) × (digits ≤ 8)) }
+{
+    let digits = short_hex_stops(text).trailing_zeros();
+    if digits == 0 || digits > 8 {
+        None
+    } else {
+        Some(digits)
+    }
+}
+
+/// A bit for each of the first 16 bytes that is no hexadecimal digit.
+#[inline(always)]
+fn short_hex_stops(text: &[u8]) -> u64
+    requires { 16 ≤ length text.now }
+    ensures { result ≡ mask_l (map (λ b. not (is_hex b)) (take 16 text.now)) }
+{
+    let bytes = u8x16::from_slice(text);
+    let no_digit = (bytes - u8x16::splat(b'0')).simd_ge(u8x16::splat(10));
+    let no_letter = ((bytes | u8x16::splat(0x20)) - u8x16::splat(b'a')).simd_ge(u8x16::splat(6));
+    (no_digit & no_letter).to_bitmask()
+}
+
 /// A bit for each of the first 64 bytes that is no decimal digit.
 #[inline(always)]
 fn dec_stops(text: &[u8]) -> u64

@@ -1,29 +1,24 @@
-use Rattle.std.proofs.Common.{arith, ◌∙◌}
-use Rattle.std.proofs.lemmas.List.{take_rest}
-use Rattle.bz_breakpad.proofs.RunLemmas.{back_decides, back_run, front_decides, front_run, read_at_cut}
+use Rattle.std.proofs.Common.{◌≡◌, ◌-◌, ◌≤◌, length, take, drop, sym, ap, arith, ◌∙◌, length-drop}
+use Rattle.std.specs.Prelude.{slice_index}
+use Rattle.std.proofs.lemmas.List.{length-take-le, take_rest}
+use Rattle.bz_breakpad.proofs.RunFrontLemmas.{run_alone, run_in_front}
+use Rattle.bz_breakpad.proofs.line_run.line_in_run.Goals.{then-ends_line, else-ends_line}
 use Rattle.bz_breakpad.proofs.line_run.line_in_run.Goals as goal
 
-pub start_at-requires : goal.start_at-requires
-start_at-requires c = read_at_cut c.loop-cut.rest.now c.in-Some.cut c.in-Some.ensures.some c.loop-cut.invariant.run
-
-pub loop-cut-preserved-then-start_at-addr : goal.loop-cut-preserved-then-start_at-addr
-loop-cut-preserved-then-start_at-addr c =
-    let rest = c.loop-cut.rest.now in
-    let cut = c.in-Some.cut in
-    let run = c.loop-cut.invariant.run in
-    let is = c.in-Some.ensures.some in
-    rw (take_rest rest cut) (record {
-      run = back_run rest cut is run;
-      same = back_decides rest cut is run c.args.addr (omega arith) ∙ c.loop-cut.invariant.same;
-    })
-
-pub loop-cut-preserved : goal.loop-cut-preserved
-loop-cut-preserved c =
-    let rest = c.loop-cut.rest.now in
-    let cut = c.in-Some.cut in
-    let run = c.loop-cut.invariant.run in
-    let is = c.in-Some.ensures.some in
-    record {
-      run = front_run rest cut is run;
-      same = front_decides rest cut is run c.args.addr (omega arith) ∙ c.loop-cut.invariant.same;
-    }
+pub line_in_front-requires : goal.line_in_front-requires
+line_in_front-requires c =
+    let bytes = c.args.bytes.now in
+    let run = c.args.run.now in
+    let within = c.requires.within in
+    let rest = drop run.from bytes in
+    let n = run.to - run.from in
+    let text = take n rest in
+    let room : n ≤ length rest = omega (arith, within.ordered, within.within, length-drop run.from bytes) in
+    let long : length text ≡ n = length-take-le n rest room in
+    elim c.if-ends_line.branch [
+      | then-ends_line w ↦
+          let ends = c.ends_line.ensures w.if-ends_line.true in
+          rw (w.more-is, take_rest bytes run.from, long)
+          (run_in_front rest n room c.requires.run (omega (arith, ends.0, long)) (ap (λ k. slice_index text (k - 1)) (sym long) ∙ ends.1))
+      | else-ends_line w ↦ rw w.more-is (run_alone text c.requires.run)
+    ]

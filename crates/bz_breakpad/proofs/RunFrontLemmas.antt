@@ -1,0 +1,106 @@
+-- A run at the front of a text: its lines are the same in the whole text, and so are those of its parts.
+use Rattle.std.proofs.Common.{◌≡◌, ℕ, zero, suc, ◌+◌, ◌-◌, ◌<◌, ◌≤◌, true, false, Bool, not, nat_eq, List, [], ◌∷◌, length, take, drop, option_map, Option, IsSome, refl, sym, ap, subst, ◌∙◌, arith, length-drop}
+use Rattle.std.specs.List.{prefix_len}
+use Rattle.std.specs.Prelude.{slice_index, unwrap_or}
+use Rattle.std.proofs.lemmas.List.{drop-drop, get_or-drop, get_or-take, length-take-le, take_all, take-take}
+use Rattle.bz_base.specs.Byte.{line_feed}
+use Rattle.bz_breakpad.specs.Choice.{body_at}
+use Rattle.bz_breakpad.specs.Line.{line_front, line_in, source_line}
+use Rattle.bz_breakpad.specs.LineRun.{IsCut, IsLineRun, IsRunFront}
+use Rattle.bz_breakpad.specs.LineStarts.{line_start, no_line}
+use Rattle.bz_breakpad.specs.Reads.{◌>>=◌, form_at}
+use Rattle.bz_breakpad.specs.Records.{LINE}
+use Rattle.bz_breakpad.specs.Table.{SourceLine}
+use Rattle.bz_breakpad.proofs.LaneLemmas.{front_from}
+use Rattle.bz_breakpad.proofs.RunLemmas.{back_decides, back_run, candidate_in, front_decides, front_run, read_at_cut}
+
+-- the first line is the same in a front that ends with a line feed
+front_same : (n : ℕ) (text : List ℕ) → n < length text → slice_index text n ≡ line_feed → line_front (take (suc n) text) ≡ line_front text
+front_same n [] within is = absurd (omega (arith, within))
+front_same zero (b ∷ text) within is = rw is refl
+front_same (suc n) (b ∷ text) within is = by (nat_eq b line_feed) refl (front_same n text (omega (arith, within)) is) where
+  by : (is_end : Bool) → nat_eq b line_feed ≡ is_end → line_front (take (suc n) text) ≡ line_front text →
+      line_front (take (suc (suc n)) (b ∷ text)) ≡ line_front (b ∷ text)
+  by true test rest = rw test refl
+  by false test rest =
+      let m = prefix_len (λ x. not (nat_eq x line_feed)) text in
+      let more : 1 + m ≡ suc m = omega arith in
+      let k = prefix_len (λ x. not (nat_eq x line_feed)) (take (suc n) text) in
+      let again : 1 + k ≡ suc k = omega arith in
+      rw (test, more, again) (ap (λ r. b ∷ r) rest)
+
+-- so its lines are the same in the whole text
+pub same_in_front : (text : List ℕ) (len : ℕ) → len ≤ length text → slice_index text (len - 1) ≡ line_feed → (place : ℕ) → place < len →
+    line_in (drop place (take len text)) ≡ line_in (drop place text)
+same_in_front text len within ends place before =
+    let n = len - place - 1 in
+    let more : len - place ≡ suc n = omega (arith, before) in
+    let at : slice_index (drop place text) n ≡ line_feed = get_or-drop place text n 0 ∙ ap (slice_index text) (omega (arith, before)) ∙ ends in
+    let same = front_same n (drop place text) (omega (arith, before, within, length-drop place text)) at in
+    ap line_in (front_from place len text ∙ ap (λ k. take k (drop place text)) more)
+    ∙ ap (λ front. option_map source_line (body_at front >>= form_at LINE)) same
+
+-- a run that ends with a line feed, and what comes after it
+pub run_in_front : (text : List ℕ) (len : ℕ) → len ≤ length text → IsLineRun (take len text) → 0 < len → slice_index (take len text) (len - 1) ≡ line_feed → IsRunFront text len
+run_in_front text len within run some ends = record {
+  within = within;
+  run = run;
+  same = same_in_front text len within (sym (get_or-take len text (len - 1) 0 (omega (arith, some))) ∙ ends);
+}
+
+-- a run and nothing after it
+pub run_alone : (text : List ℕ) → IsLineRun text → IsRunFront text (length text)
+run_alone text run =
+    let all : take (length text) text ≡ text = take_all (length text) text (omega arith) in
+    record {
+      within = omega arith;
+      run = subst IsLineRun (sym all) run;
+      same = λ place before. ap (λ t. line_in (drop place t)) all;
+    }
+
+module _ (text : List ℕ) (len : ℕ) (is_front : IsRunFront text len) where
+  abbrev run_text : List ℕ
+  run_text = take len text
+
+  long : length run_text ≡ len
+  long = length-take-le len text is_front.within
+
+  module _ (cut : ℕ) (is : IsCut run_text cut) where
+    -- a line record is read where the run is cut
+    pub read_in_front : IsSome (line_in (drop cut text))
+    read_in_front = subst (λ (o : Option SourceLine). IsSome o) (is_front.same cut (omega (arith, is.within, long))) (read_at_cut run_text cut is is_front.run)
+
+    start_same : line_start run_text cut ≡ line_start text cut
+    start_same = ap (λ o. (unwrap_or o no_line).start) (is_front.same cut (omega (arith, is.within, long)))
+
+    -- the later part
+    pub back_front : IsRunFront (drop cut text) (len - cut)
+    back_front = record {
+      within = omega (arith, is_front.within, length-drop cut text);
+      run = subst IsLineRun (front_from cut len text) (back_run run_text cut is is_front.run);
+      same = λ place before.
+          ap (λ t. line_in (drop place t)) (sym (front_from cut len text))
+          ∙ ap line_in (drop-drop place cut run_text)
+          ∙ is_front.same (cut + place) (omega (arith, before))
+          ∙ ap line_in (sym (drop-drop place cut text));
+    }
+
+    pub back_tries : (addr : ℕ) → line_start text cut ≤ addr → candidate_in addr (take (len - cut) (drop cut text)) ≡ candidate_in addr run_text
+    back_tries addr not_above =
+        ap (candidate_in addr) (sym (front_from cut len text)) ∙ back_decides run_text cut is is_front.run addr (omega (arith, not_above, start_same))
+
+    front_is : take cut run_text ≡ take cut text
+    front_is = take-take cut len text (omega (arith, is.within, long))
+
+    -- the earlier part
+    pub front_front_run : IsRunFront text cut
+    front_front_run = record {
+      within = omega (arith, is.within, long, is_front.within);
+      run = subst IsLineRun front_is (front_run run_text cut is is_front.run);
+      same = same_in_front text cut (omega (arith, is.within, long, is_front.within))
+          (sym (get_or-take len text (cut - 1) 0 (omega (arith, is.some, is.within, long))) ∙ is.behind);
+    }
+
+    pub front_tries : (addr : ℕ) → addr < line_start text cut → candidate_in addr (take cut text) ≡ candidate_in addr run_text
+    front_tries addr above =
+        ap (candidate_in addr) (sym front_is) ∙ front_decides run_text cut is is_front.run addr (omega (arith, above, start_same))
