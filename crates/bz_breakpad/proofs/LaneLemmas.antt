@@ -105,3 +105,19 @@ run_by_bits p bits from shown text within few load ends =
             run_in_front p n tail (omega (arith, within, length-drop from text)) (omega (arith, run, below, long)) ∙ sym run,
           )
     ]
+
+-- a failure of the failures passes
+twice_not : (test : ℕ → Bool) (text : List ℕ) → map (λ b. not (not (test b))) text ≡ map test text
+twice_not test [] = refl
+twice_not test (b ∷ text) = ap₂ (λ bit bits. bit ∷ bits) (twice (test b)) (twice_not test text) where
+  twice : (bit : Bool) → not (not bit) ≡ bit
+  twice true = refl
+  twice false = refl
+
+-- the bytes before the first bit are those before the first byte that passes, which is shown
+pub none_by_bits : (test : ℕ → Bool) (bits shown : ℕ) (text : List ℕ) → shown ≤ length text → shown ≤ 64 → bits ≡ mask_l (map test (take shown text)) →
+    count_trailing_zeros 64 bits < 64 → (count_trailing_zeros 64 bits < length text) × (prefix_len (λ b. not (test b)) text ≡ count_trailing_zeros 64 bits)
+none_by_bits test bits shown text within few load ends =
+    let count : count_trailing_zeros 64 (bits / 2 ^ 0) ≡ count_trailing_zeros 64 bits = ap (count_trailing_zeros 64) (div-one bits) in
+    let run = run_by_bits (λ b. not (test b)) bits 0 shown text within few (load ∙ ap mask_l (sym (twice_not test (take shown text)))) (omega (arith, count, ends)) in
+    (omega (arith, run.0, count), run.1 ∙ count)

@@ -1,9 +1,12 @@
 -- A run at the front of a text: its lines are the same in the whole text, and so are those of its parts.
-use Rattle.std.proofs.Common.{◌≡◌, ℕ, zero, suc, ◌+◌, ◌-◌, ◌<◌, ◌≤◌, true, false, Bool, not, nat_eq, List, [], ◌∷◌, length, take, drop, option_map, Option, IsSome, refl, sym, ap, subst, ◌∙◌, arith, length-drop}
+use Rattle.std.proofs.Common.{◌≡◌, ℕ, zero, suc, ◌+◌, ◌-◌, ◌<◌, ◌≤◌, true, false, Bool, cond, not, nat_eq, List, [], ◌∷◌, length, take, drop, option_map, Option, IsSome, refl, sym, ap, subst, ◌∙◌, arith, length-drop}
 use Rattle.std.specs.List.{prefix_len}
 use Rattle.std.specs.Prelude.{slice_index, unwrap_or}
+use Rattle.std.proofs.lemmas.Bool.{eqb-true}
 use Rattle.std.proofs.lemmas.List.{drop-drop, get_or-drop, get_or-take, length-take-le, take_all, take-take}
+use Rattle.std.proofs.lemmas.List.Sums.{prefix_len_stops}
 use Rattle.bz_base.specs.Byte.{line_feed}
+use Rattle.bz_base.specs.Line.{all_lines, begins_line}
 use Rattle.bz_breakpad.specs.Choice.{body_at}
 use Rattle.bz_breakpad.specs.Line.{line_front, line_in, source_line}
 use Rattle.bz_breakpad.specs.LineRun.{IsCut, IsLineRun, IsRunFront}
@@ -104,3 +107,40 @@ module _ (text : List ℕ) (len : ℕ) (is_front : IsRunFront text len) where
     pub front_tries : (addr : ℕ) → addr < line_start text cut → candidate_in addr (take cut text) ≡ candidate_in addr run_text
     front_tries addr above =
         ap (candidate_in addr) (sym front_is) ∙ front_decides run_text cut is is_front.run addr (omega (arith, above, start_same))
+
+-- Where a run is cut.
+
+-- bytes up to a line feed, and no further, have one line at most
+pub few_lines : (len : ℕ) (text : List ℕ) → len ≤ suc (prefix_len (λ b. not (nat_eq b line_feed)) text) → length (all_lines (take len text)) ≤ 1
+few_lines zero text short = omega arith
+few_lines (suc len) [] short = omega arith
+few_lines (suc len) (b ∷ text) short = by (nat_eq b line_feed) refl (few_lines len text) short where
+  one : (lines : List (List ℕ)) → length lines ≤ 1 → length (begins_line b lines) ≤ 1
+  one [] few = omega arith
+  one (line ∷ lines) few = omega (arith, few)
+
+  by : (is_end : Bool) → nat_eq b line_feed ≡ is_end → (len ≤ suc (prefix_len (λ x. not (nat_eq x line_feed)) text) → length (all_lines (take len text)) ≤ 1) →
+      suc len ≤ suc (cond (not is_end) (1 + prefix_len (λ x. not (nat_eq x line_feed)) text) 0) → length (all_lines (take (suc len) (b ∷ text))) ≤ 1
+  by true is more short =
+      let none : len ≡ 0 = omega (arith, short) in
+      rw (is, none) (omega arith)
+  by false is more short = rw is (one (all_lines (take len text)) (more (omega (arith, short))))
+
+-- behind the first line feed, if bytes come after it
+pub cut_behind : (len : ℕ) (text : List ℕ) → len ≤ length text → (place : ℕ) → 0 < place → place < len → slice_index text (place - 1) ≡ line_feed → IsCut (take len text) place
+cut_behind len text within place some before behind = record {
+  some = some;
+  within = omega (arith, length-take-le len text within, before);
+  behind = get_or-take len text (place - 1) 0 (omega (arith, some, before)) ∙ behind;
+}
+
+pub cut_first : (len : ℕ) (text : List ℕ) → len ≤ length text → (end : ℕ) → end ≡ prefix_len (λ b. not (nat_eq b line_feed)) text → end + 1 < len → IsCut (take len text) (end + 1)
+cut_first len text within end is before =
+    let stops : not (nat_eq (slice_index text (prefix_len (λ b. not (nat_eq b line_feed)) text)) line_feed) ≡ false
+    = prefix_len_stops (λ b. not (nat_eq b line_feed)) text 0 (omega (arith, is, before, within)) in
+    cut_behind len text within (end + 1) (omega arith) before
+    (ap (slice_index text) (omega (arith, is)) ∙ eqb-true _ line_feed (not_false _ stops))
+  where
+    not_false : (bit : Bool) → not bit ≡ false → bit ≡ true
+    not_false true is = refl
+    not_false false is = sym is

@@ -9,10 +9,10 @@ ghost use Rattle.bz_breakpad.specs.Kept.{IsRunAt, text_at};
 ghost use Rattle.bz_breakpad.specs.Lent.{line_seen};
 ghost use Rattle.bz_breakpad.specs.LineRun.{IsCut, IsRunFront, lines_in};
 
-use crate::lines::{line_if_covers, start_at};
+use crate::lines::{line_if_covers, line_len, start_at};
 use crate::parser::plain::line_feeds;
 use crate::types::{Part, SourceLine};
-use bz_base::{Addr, next_line};
+use bz_base::Addr;
 
 /// The line record of a run in a part of the bytes that answers for the address. It is the same
 /// whatever the hint is: a place where the run may be cut first, in front of a line.
@@ -46,7 +46,7 @@ fn line_in_front(text: &[u8], len: usize, hint: usize, addr: Addr) -> Option<Sou
     let mut rest = text;
     let mut len = len;
     let mut hint = hint;
-    while let Some(cut) = cut_by(&rest[..len], hint) {
+    while let Some(cut) = cut_by(rest, len, hint) {
         hint = 0;
         if start_at(rest, cut) <= addr {
             rest = &rest[cut..];
@@ -62,22 +62,23 @@ fn line_in_front(text: &[u8], len: usize, hint: usize, addr: Addr) -> Option<Sou
 /// several runs before any is searched, the processor waits for their bytes at the same time.
 pub(crate) fn cut_hint(bytes: &[u8], run: &Part) -> usize {
     match bytes.get(run.from as usize..run.to as usize) {
-        Some(text) => cut_near(text, text.len() / 2).unwrap_or(0),
+        Some(text) => cut_near(text, text.len(), text.len() / 2).unwrap_or(0),
         None => 0,
     }
 }
 
-/// Where a text is cut in two behind a line feed: by the hint if that is such a place, and else near
-/// the text's middle, or behind its first line. None if the text has one line at most.
+/// Where so many bytes of the text are cut in two behind a line feed: by the hint if that is such a
+/// place, and else near their middle, or behind their first line. None if they have one line at most.
 #[inline(always)]
-fn cut_by(text: &[u8], hint: usize) -> Option<usize>
-    ensures some { IfSome result (IsCut text.now) }
-    ensures none { IfNone result (length (all_lines text.now) ≤ 1) }
+fn cut_by(text: &[u8], len: usize, hint: usize) -> Option<usize>
+    requires { len ≤ length text.now }
+    ensures some { IfSome result (IsCut (take len text.now)) }
+    ensures none { IfNone result (length (all_lines (take len text.now)) ≤ 1) }
 {
-    if is_cut(text, hint) {
+    if is_cut(&text[..len], hint) {
         Some(hint)
     } else {
-        cut_of(text)
+        cut_of(text, len)
     }
 }
 
@@ -89,42 +90,45 @@ fn is_cut(text: &[u8], place: usize) -> bool
     0 < place && place < text.len() && text[place - 1] == b'\n'
 }
 
-/// Where a text is cut in two behind a line feed: near its middle, or else behind its first line.
-/// None if the text has one line at most.
-fn cut_of(text: &[u8]) -> Option<usize>
-    ensures some { IfSome result (IsCut text.now) }
-    ensures none { IfNone result (length (all_lines text.now) ≤ 1) }
+/// Where so many bytes are cut in two behind a line feed: near their middle, or else behind their
+/// first line. None if they have one line at most.
+fn cut_of(text: &[u8], len: usize) -> Option<usize>
+    requires { len ≤ length text.now }
+    ensures some { IfSome result (IsCut (take len text.now)) }
+    ensures none { IfNone result (length (all_lines (take len text.now)) ≤ 1) }
 {
-    match cut_near(text, text.len() / 2) {
+    match cut_near(text, len, len / 2) {
         Some(cut) => Some(cut),
-        None => first_cut(text),
+        None => first_cut(text, len),
     }
 }
 
 /// Where the next line after a place begins, if one load shows it.
 #[inline(always)]
-fn cut_near(text: &[u8], place: usize) -> Option<usize>
-    requires { place ≤ length text.now }
-    ensures { IfSome result (IsCut text.now) }
+fn cut_near(text: &[u8], len: usize, place: usize) -> Option<usize>
+    requires len { len ≤ length text.now }
+    requires place { place ≤ len }
+    ensures { IfSome result (IsCut (take len text.now)) }
 {
     if text.len() - place < 32 {
         return None;
     }
     let cut = place + line_feeds(&text[place..]).trailing_zeros() as usize + 1;
-    if is_cut(text, cut) { Some(cut) } else { None }
+    if is_cut(&text[..len], cut) {
+        Some(cut)
+    } else {
+        None
+    }
 }
 
 /// Where the second line begins.
-fn first_cut(text: &[u8]) -> Option<usize>
-    ensures some { IfSome result (IsCut text.now) }
-    ensures none { IfNone result (length (all_lines text.now) ≤ 1) }
+fn first_cut(text: &[u8], len: usize) -> Option<usize>
+    requires { len ≤ length text.now }
+    ensures some { IfSome result (IsCut (take len text.now)) }
+    ensures none { IfNone result (length (all_lines (take len text.now)) ≤ 1) }
 {
-    let (_line, after) = next_line(text)?;
-    if after.is_empty() {
-        None
-    } else {
-        Some(text.len() - after.len())
-    }
+    let cut = line_len(text) + 1;
+    if cut < len { Some(cut) } else { None }
 }
 
 /// The only line record of a run that is so many bytes of the text, if it covers the address.

@@ -16,19 +16,48 @@ ghost use Rattle.bz_breakpad.specs.Table as tables;
 use crate::parser::field::{body, hex};
 use crate::parser::inline::{dec_after, hex_after, hex_from};
 use crate::parser::lanes::{Stops, short_hex};
+use crate::parser::plain::line_feeds;
 use crate::parser::record::code_line;
 use crate::parser::values::hex_front;
 use crate::types::SourceLine;
 use bz_base::{Addr, Probe, Steps, covers, nearest};
+use memchr::memchr;
 use std::marker::{Brand, Model};
 use std::sync::ledger::{Blank, Ledger};
 
 /// How many bytes stand before the line's end.
-fn line_len(text: &[u8]) -> usize
+pub(crate) fn line_len(text: &[u8]) -> usize
     ensures value { result ≡ prefix_len (λ b. not (b == line_feed)) text.now }
     ensures within { result ≤ length text.now }
 {
-    text.iter().take_while(|b| **b != b'\n').count()
+    match short_len(text) {
+        Some(len) => len,
+        None => any_len(text),
+    }
+}
+
+/// The same, if one load shows the line's end.
+#[inline(always)]
+fn short_len(text: &[u8]) -> Option<usize>
+    ensures value { IfSome result (λ len. len ≡ prefix_len (λ b. not (b == line_feed)) text.now) }
+    ensures within { IfSome result (λ len. len < length text.now) }
+{
+    if text.len() < 32 {
+        return None;
+    }
+    let len = line_feeds(text).trailing_zeros() as usize;
+    if len < 32 { Some(len) } else { None }
+}
+
+/// The same for any text.
+fn any_len(text: &[u8]) -> usize
+    ensures value { result ≡ prefix_len (λ b. not (b == line_feed)) text.now }
+    ensures within { result ≤ length text.now }
+{
+    match memchr(b'\n', text) {
+        Some(len) => len,
+        None => text.len(),
+    }
 }
 
 /// The line record at a place in the bytes, if one begins there.

@@ -1,4 +1,4 @@
-use Rattle.std.proofs.Common.{◌≡◌, Option, IsSome, take, unwrap_or, subst, sym, ap, arith, ◌∙◌}
+use Rattle.std.proofs.Common.{Option, IsSome, take, unwrap_or, subst, sym, ap, arith, ◌∙◌}
 use Rattle.std.proofs.lemmas.List.{length-take-le}
 use Rattle.bz_base.specs.Nearest.{if_covers}
 use Rattle.bz_breakpad.specs.LineStarts.{no_line}

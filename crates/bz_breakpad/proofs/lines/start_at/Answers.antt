@@ -1,8 +1,8 @@
-use Rattle.std.proofs.Common.{◌≡◌, Some, sym, drop, option_map, unwrap_or, arith, ap, ◌∙◌}
+use Rattle.std.proofs.Common.{sym, drop, option_map, unwrap_or, arith, ap, ◌∙◌}
 use Rattle.std.proofs.lemmas.List.{take_rest}
 use Rattle.std.proofs.lemmas.Option.{same_Some}
 use Rattle.bz_breakpad.specs.Form.Piece.{Hex}
-use Rattle.bz_breakpad.specs.LineStarts.{line_start, no_line}
+use Rattle.bz_breakpad.specs.LineStarts.{no_line}
 use Rattle.bz_breakpad.specs.Reads.{piece_at}
 use Rattle.bz_breakpad.proofs.LineSearchLemmas.{past_end, read_there, start_in_front}
 use Rattle.bz_breakpad.proofs.lines.start_at.Goals as goal
