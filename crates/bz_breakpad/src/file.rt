@@ -21,6 +21,7 @@ ghost use Rattle.bz_breakpad.specs.Table.{Table};
 ghost use Rattle.bz_breakpad.specs.Walked.{IsFinished, IsWalked};
 
 use crate::function::{Function, text_of};
+use crate::line_run::Cuts;
 use crate::lookups::{Lookups, answer_from};
 use crate::names::name_of;
 use crate::order::in_order;
@@ -229,7 +230,7 @@ impl SymbolFile {
             &self.table,
             opts,
             place,
-            0,
+            Cuts::unknown(),
             addr,
         )
     }

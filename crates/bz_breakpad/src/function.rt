@@ -9,6 +9,7 @@ ghost use Rattle.bz_breakpad.specs.Lent.{line_seen};
 ghost use Rattle.bz_breakpad.specs.Plain.{calls_around, inlinee_at, line_at};
 ghost use Rattle.bz_breakpad.specs.declared.types.Inlinee.{Inlinee as KeptInlinee};
 
+use crate::line_run::Cuts;
 use crate::places::{calls_around, inlinees_searched, line_of};
 use crate::types::{FunctionTable, Inlinee, KeptFunction, Part, SourceLine};
 use bz_base::{Addr, Error, Result, around_in};
@@ -69,7 +70,7 @@ impl<'a> Function<'a> {
     pub fn find_line(&self, addr: Addr) -> Option<SourceLine>
         ensures { option_map line_seen result ≡ line_at addr self.now.lines }
     {
-        line_of(self.bytes, self.code, self.kept, 0, addr)
+        line_of(self.bytes, self.code, self.kept, Cuts::unknown(), addr)
     }
 
     /// The inlined call of a depth that has an address inside, which is relative to the module's

@@ -9,14 +9,33 @@ ghost use Rattle.bz_breakpad.specs.Kept.{IsRunAt, text_at};
 ghost use Rattle.bz_breakpad.specs.Lent.{line_seen};
 ghost use Rattle.bz_breakpad.specs.LineRun.{IsCut, IsRunFront, lines_in};
 
-use crate::lines::{line_if_covers, line_len, start_at};
+use crate::lines::{line_if_covers, line_len, start_at, start_of};
 use crate::parser::plain::line_feeds;
 use crate::types::{Part, SourceLine};
 use bz_base::Addr;
 
+/// Where a run may be cut first and then, in front of lines; 0 where that isn't known.
+#[derive(Clone, Copy)]
+pub(crate) struct Cuts {
+    /// The first place, from the run's beginning.
+    pub first: usize,
+    /// The second one, from there too.
+    pub second: usize,
+}
+
+impl Cuts {
+    /// Nothing is known.
+    pub(crate) fn unknown() -> Cuts {
+        Cuts {
+            first: 0,
+            second: 0,
+        }
+    }
+}
+
 /// The line record of a run in a part of the bytes that answers for the address. It is the same
-/// whatever the hint is: a place where the run may be cut first, in front of a line.
-pub(crate) fn line_in_run(bytes: &[u8], run: &Part, hint: usize, addr: Addr) -> Option<SourceLine>
+/// whatever the hints are.
+pub(crate) fn line_in_run(bytes: &[u8], run: &Part, hints: Cuts, addr: Addr) -> Option<SourceLine>
     requires { IsRunAt bytes.now run.now }
     ensures { option_map line_seen result ≡ nearest_covering (λ l. l.start) (λ l. l.size) addr (lines_in (text_at bytes.now run.now)) }
 {
@@ -27,7 +46,7 @@ pub(crate) fn line_in_run(bytes: &[u8], run: &Part, hint: usize, addr: Addr) -> 
     } else {
         text
     };
-    line_in_front(more, text.len(), hint, addr)
+    line_in_front(more, text.len(), hints, addr)
 }
 
 /// Whether the last line has its line feed.
@@ -39,18 +58,21 @@ fn ends_line(text: &[u8]) -> bool
 }
 
 /// The line record that answers for the address, of a run that is so many bytes of the text.
-fn line_in_front(text: &[u8], len: usize, hint: usize, addr: Addr) -> Option<SourceLine>
+fn line_in_front(text: &[u8], len: usize, hints: Cuts, addr: Addr) -> Option<SourceLine>
     requires { IsRunFront text.now len }
     ensures { option_map line_seen result ≡ nearest_covering (λ l. l.start) (λ l. l.size) addr (lines_in (take len text.now)) }
 {
     let mut rest = text;
     let mut len = len;
-    let mut hint = hint;
+    let mut hint = hints.first;
+    let mut next = hints.second;
     while let Some(cut) = cut_by(rest, len, hint) {
-        hint = 0;
+        hint = next;
+        next = 0;
         if start_at(rest, cut) <= addr {
             rest = &rest[cut..];
             len -= cut;
+            hint = hint.saturating_sub(cut);
         } else {
             len = cut;
         }
@@ -60,11 +82,32 @@ fn line_in_front(text: &[u8], len: usize, hint: usize, addr: Addr) -> Option<Sou
 
 /// Where a run in a part of the bytes is to be cut first; 0 if that isn't known. Where it is asked of
 /// several runs before any is searched, the processor waits for their bytes at the same time.
-pub(crate) fn cut_hint(bytes: &[u8], run: &Part) -> usize {
+pub(crate) fn first_hint(bytes: &[u8], run: &Part) -> usize {
     match bytes.get(run.from as usize..run.to as usize) {
         Some(text) => cut_near(text, text.len(), text.len() / 2).unwrap_or(0),
         None => 0,
     }
+}
+
+/// Where it is to be cut after that first place, for an address; 0 if that isn't known.
+pub(crate) fn second_hint(bytes: &[u8], run: &Part, first: usize, addr: Addr) -> usize {
+    match bytes.get(run.from as usize..run.to as usize) {
+        Some(text) => second_cut(text, first, addr),
+        None => 0,
+    }
+}
+
+/// The same in the text of a run.
+fn second_cut(text: &[u8], first: usize, addr: Addr) -> usize {
+    if first >= text.len() {
+        return 0;
+    }
+    let middle = if start_of(&text[first..]) <= addr {
+        first + (text.len() - first) / 2
+    } else {
+        first / 2
+    };
+    cut_near(text, text.len(), middle).unwrap_or(0)
 }
 
 /// Where so many bytes of the text are cut in two behind a line feed: by the hint if that is such a

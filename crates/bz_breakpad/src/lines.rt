@@ -114,7 +114,14 @@ pub(crate) fn start_at(bytes: &[u8], place: usize) -> u64
     if place > bytes.len() {
         return 0;
     }
-    let text = &bytes[place..];
+    start_of(&bytes[place..])
+}
+
+/// The number of the hexadecimal digits at the front; 0 if there are none.
+#[inline(always)]
+pub(crate) fn start_of(text: &[u8]) -> u64
+    ensures { result ≡ unwrap_or (option_map (λ read. read.0) (piece_at (Hex 16) text.now)) 0 }
+{
     match short_start(text) {
         Some(start) => start,
         None => any_start(text),
@@ -133,7 +140,7 @@ fn short_start(text: &[u8]) -> Option<u64>
     Some(u64::from(hex_front(text, digits)))
 }
 
-/// The number of the hexadecimal digits at the front; 0 if there are none.
+/// The same, digit by digit.
 fn any_start(text: &[u8]) -> u64
     ensures { result ≡ unwrap_or (option_map (λ read. read.0) (piece_at (Hex 16) text.now)) 0 }
 {

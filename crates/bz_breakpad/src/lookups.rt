@@ -18,10 +18,10 @@ ghost use Rattle.bz_breakpad.specs.Sorted.{StandsFor, starts_of};
 ghost use Rattle.bz_breakpad.specs.Table.{Table};
 
 use crate::function::text_of;
-use crate::line_run::cut_hint;
+use crate::line_run::{Cuts, first_hint, second_hint};
 use crate::places::{Placed, placed_at};
 use crate::search::function_at;
-use crate::types::{KeptFunction, KeptTable, LineRecords};
+use crate::types::{KeptFunction, KeptTable, LineRecords, Part};
 use bz_base::{Error, FindSymOpts, Reason, Result, Sym, Symbolized, in_batch};
 use std::alloc::Global;
 use std::borrow::CowStr;
@@ -66,16 +66,16 @@ impl<'f, 'b> Lookups<'f, 'b> {
         ensures refusal { IfErr result IsAnswerRefusal }
         ensures memory { IfErr result (WantsMemory (opts.now ≡ FindSymOpts.CodeInfoAndInlined)) }
     {
-        self.answer_by(alloc, index, opts, 0)
+        self.answer_by(alloc, index, opts, Cuts::unknown())
     }
 
-    /// The same, with a hint for `line_in_run`.
+    /// The same, with hints for `line_in_run`.
     fn answer_by(
         &self,
         alloc: Global,
         index: usize,
         opts: &FindSymOpts,
-        hint: usize,
+        hints: Cuts,
     ) -> Result<Symbolized<'f>>
         requires { index < length self.now.addrs }
         ensures answer { (table : Table) × (table_in self.now.bytes ≡ Some table) × Gives reading (plain table opts.now (slice_index self.now.addrs index)) result }
@@ -89,20 +89,25 @@ impl<'f, 'b> Lookups<'f, 'b> {
             self.kept,
             opts,
             self.places[index],
-            hint,
+            hints,
             self.addrs[index],
         )
     }
 
-    /// Hints for the answers from an index on. All keys are touched before the functions are.
-    fn hints(&self, from: usize) -> [usize; TOGETHER] {
+    /// Hints for the answers from an index on. What lies far is touched for all of them together: the
+    /// keys, then the functions with the middle of each one's line records, then the middle of a half.
+    fn hints(&self, from: usize) -> [Cuts; TOGETHER] {
         let mut functions = [usize::MAX; TOGETHER];
         for place in 0..TOGETHER {
             functions[place] = self.function_index(from.saturating_add(place));
         }
-        let mut hints = [0; TOGETHER];
+        let mut hints = [Cuts::unknown(); TOGETHER];
         for place in 0..TOGETHER {
-            hints[place] = self.hint(functions[place]);
+            hints[place].first = self.first_hint(functions[place]);
+        }
+        for place in 0..TOGETHER {
+            let index = from.saturating_add(place);
+            hints[place].second = self.second_hint(functions[place], hints[place].first, index);
         }
         hints
     }
@@ -121,14 +126,27 @@ impl<'f, 'b> Lookups<'f, 'b> {
         }
     }
 
-    /// A hint for the answers of a function: where its line records are cut.
-    fn hint(&self, function: usize) -> usize {
-        match self.kept.code.functions.get(function) {
-            Some(function) => match &function.lines {
-                LineRecords::Run(run) => cut_hint(self.bytes, run),
-                LineRecords::Listed(_) => 0,
-            },
+    /// The run of the line records of a function, if they are one.
+    fn run_of(&self, function: usize) -> Option<Part> {
+        match self.kept.code.functions.get(function)?.lines {
+            LineRecords::Run(run) => Some(run),
+            LineRecords::Listed(_) => None,
+        }
+    }
+
+    /// Where the line records of a function are cut first.
+    fn first_hint(&self, function: usize) -> usize {
+        match self.run_of(function) {
+            Some(run) => first_hint(self.bytes, &run),
             None => 0,
+        }
+    }
+
+    /// Where they are cut after that for the answer at an index.
+    fn second_hint(&self, function: usize, first: usize, index: usize) -> usize {
+        match (self.run_of(function), self.addrs.get(index)) {
+            (Some(run), Some(addr)) => second_hint(self.bytes, &run, first, *addr),
+            _ => 0,
         }
     }
 
@@ -139,7 +157,7 @@ impl<'f, 'b> Lookups<'f, 'b> {
         ensures memory { IsOkUnless result Error.OutOfMemory }
     {
         let mut answers = Vec::with_capacity(alloc, self.addrs.len())?;
-        let mut hints = [0; TOGETHER];
+        let mut hints = [Cuts::unknown(); TOGETHER];
         for index in 0..self.addrs.len() {
             if index % TOGETHER == 0 {
                 hints = self.hints(index);
@@ -151,14 +169,14 @@ impl<'f, 'b> Lookups<'f, 'b> {
     }
 }
 
-/// The answer at an address, from the place that a search found. The hint is one for `line_in_run`.
+/// The answer at an address, from the place that a search found. The hints are for `line_in_run`.
 pub(crate) fn answer_from<'a>(
     alloc: Global,
     bytes: &'a [u8],
     kept: &'a KeptTable,
     opts: &FindSymOpts,
     place: Option<(usize, u64)>,
-    hint: usize,
+    hints: Cuts,
     addr: u64,
 ) -> Result<Symbolized<'a>>
     requires found { IsFound (starts_of kept.now.code) addr place }
@@ -172,7 +190,7 @@ pub(crate) fn answer_from<'a>(
         return Ok(Symbolized::Unknown(Reason::MissingSyms));
     }
     match function_at(&kept.code, place, addr) {
-        Some(function) => match placed_at(alloc, bytes, kept, opts, function, hint, addr) {
+        Some(function) => match placed_at(alloc, bytes, kept, opts, function, hints, addr) {
             Ok(placed) => Ok(Symbolized::Sym(symbol(bytes, kept, function, addr, placed))),
             Err(error) => Err(error),
         },

@@ -16,7 +16,7 @@ ghost use Rattle.bz_breakpad.specs.Sorted.{StandsFor};
 ghost use Rattle.bz_breakpad.specs.Table as tables;
 ghost use Rattle.bz_breakpad.specs.Table.{Table};
 
-use crate::line_run::line_in_run;
+use crate::line_run::{Cuts, line_in_run};
 use crate::lines::line_covering;
 use crate::names::name_of;
 use crate::types::{FunctionTable, Inlinee, KeptFunction, KeptTable, LineRecords, SourceLine};
@@ -33,14 +33,14 @@ pub(crate) struct Placed<'f> {
     pub inlined: Vec<InlinedFn<'f>>,
 }
 
-/// Where the address lies, as far as the options ask for it. The hint is one for `line_in_run`.
+/// Where the address lies, as far as the options ask for it. The hints are for `line_in_run`.
 pub(crate) fn placed_at<'f>(
     alloc: Global,
     bytes: &'f [u8],
     kept: &'f KeptTable,
     opts: &FindSymOpts,
     function: &KeptFunction,
-    hint: usize,
+    hints: Cuts,
     addr: Addr,
 ) -> Result<Placed<'f>>
     requires function { IsFunction bytes.now kept.now.code function.now }
@@ -54,7 +54,7 @@ pub(crate) fn placed_at<'f>(
     if matches!(opts, FindSymOpts::Basic) {
         return Ok(nowhere(alloc));
     }
-    match line_of(bytes, &kept.code, function, hint, addr) {
+    match line_of(bytes, &kept.code, function, hints, addr) {
         Some(line) => placed_on_line(alloc, bytes, kept, opts, function, addr, line),
         None => Ok(nowhere(alloc)),
     }
@@ -96,19 +96,19 @@ fn nowhere<'f>(alloc: Global) -> Placed<'f>
     }
 }
 
-/// The line record of the function that answers for the address. The hint is one for `line_in_run`.
+/// The line record of the function that answers for the address. The hints are for `line_in_run`.
 pub(crate) fn line_of(
     bytes: &[u8],
     code: &FunctionTable,
     function: &KeptFunction,
-    hint: usize,
+    hints: Cuts,
     addr: Addr,
 ) -> Option<SourceLine>
     requires { IsFunction bytes.now code.now function.now }
     ensures { option_map line_seen result ≡ line_at addr (function_seen bytes.now code.now function.now).lines }
 {
     match function.lines {
-        LineRecords::Run(part) => line_in_run(bytes, &part, hint, addr),
+        LineRecords::Run(part) => line_in_run(bytes, &part, hints, addr),
         LineRecords::Listed(part) => {
             let places = match function.line_order {
                 Some(order) => &code.line_copies[order.from as usize..order.to as usize],

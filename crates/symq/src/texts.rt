@@ -15,7 +15,7 @@ use bz_symbolize::Lookups;
 use std::alloc::Global;
 
 /// So many texts are made at a time. That they are many brings addresses near each other together.
-const AT_A_TIME: usize = 65_536;
+const AT_A_TIME: usize = 32_768;
 
 /// So many answers are looked up together.
 const TOGETHER: usize = 32;

@@ -1,6 +1,5 @@
 use Rattle.std.proofs.Common.{sym, drop, option_map, unwrap_or, arith, ap, ◌∙◌}
 use Rattle.std.proofs.lemmas.List.{take_rest}
-use Rattle.std.proofs.lemmas.Option.{same_Some}
 use Rattle.bz_breakpad.specs.Form.Piece.{Hex}
 use Rattle.bz_breakpad.specs.LineStarts.{no_line}
 use Rattle.bz_breakpad.specs.Reads.{piece_at}
@@ -10,17 +9,10 @@ use Rattle.bz_breakpad.proofs.lines.start_at.Goals as goal
 pub returns-then-place-bytes : goal.returns-then-place-bytes
 returns-then-place-bytes c = sym (ap (λ o. (unwrap_or o no_line).start) (past_end c.args.bytes.now c.args.place (omega arith)))
 
-pub returns-in-Some : goal.returns-in-Some
-returns-in-Some c =
+pub returns : goal.returns
+returns c =
     let bytes = c.args.bytes.now in
     let place = c.args.place in
     let found = start_in_front (drop place bytes) _ (read_there bytes place c.requires) in
-    same_Some _ _ (sym c.in-Some.ensures ∙ ap (λ t. option_map (λ read. read.0) (piece_at (Hex 16) t)) (take_rest bytes place) ∙ ap (option_map (λ read. read.0)) found.1)
-
-pub returns-in-None : goal.returns-in-None
-returns-in-None c =
-    let bytes = c.args.bytes.now in
-    let place = c.args.place in
-    let found = start_in_front (drop place bytes) _ (read_there bytes place c.requires) in
-    c.any_start.ensures ∙ ap (λ t. unwrap_or (option_map (λ read. read.0) (piece_at (Hex 16) t)) 0) (take_rest bytes place)
+    c.start_of.ensures ∙ ap (λ t. unwrap_or (option_map (λ read. read.0) (piece_at (Hex 16) t)) 0) (take_rest bytes place)
     ∙ ap (λ o. unwrap_or (option_map (λ read. read.0) o) 0) found.1
