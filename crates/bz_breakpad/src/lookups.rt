@@ -134,12 +134,30 @@ impl<'f, 'b> Lookups<'f, 'b> {
         }
     }
 
-    /// Where the line records of a function are cut first.
+    /// Where the line records of a function are cut first. What else an answer reads of the function is
+    /// touched too.
     fn first_hint(&self, function: usize) -> usize {
         match self.run_of(function) {
-            Some(run) => first_hint(self.bytes, &run),
-            None => 0,
+            Some(run) if self.is_usual(function) => first_hint(self.bytes, &run),
+            _ => 0,
         }
+    }
+
+    /// Whether a function has a name, and the first of its inlined calls, if it has some, lies in no
+    /// other.
+    fn is_usual(&self, function: usize) -> bool {
+        let Some(function) = self.kept.code.functions.get(function) else {
+            return false;
+        };
+        let named = match self.bytes.get(function.name.from as usize) {
+            Some(first) => *first != b'\n',
+            None => false,
+        };
+        let outermost = match self.kept.code.inlinees.get(function.inlinees.from as usize) {
+            Some(call) => call.depth == 0,
+            None => true,
+        };
+        named & outermost
     }
 
     /// Where they are cut after that for the answer at an index.

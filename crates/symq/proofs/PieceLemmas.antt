@@ -159,6 +159,11 @@ module _ (bit n : ℕ) (reached : 2 ^ bit ≤ max n 1) where
       let large : 32 ≤ bit → 2 ^ 32 ≤ 2 ^ bit = λ above. pow-le-pow_right (omega arith) {i = 32} {j = bit} above in
       grind (arith, large, reached, small)
 
+  pub count_few : n < 65536 → bit / 4 + 1 ≤ 4
+  count_few small =
+      let large : 16 ≤ bit → 2 ^ 16 ≤ 2 ^ bit = λ above. pow-le-pow_right (omega arith) {i = 16} {j = bit} above in
+      grind (arith, large, reached, small)
+
   pub count_needed : 1 < bit / 4 + 1 → 16 ^ (bit / 4 + 1 - 1) ≤ n
   count_needed some =
       let lower : 2 ^ (4 * (bit / 4 + 1 - 1)) ≤ 2 ^ bit = pow-le-pow_right (omega arith) (omega arith) in

@@ -59,7 +59,9 @@ pub fn put_hex(number: u64, room: &mut [u8; ROOM], end: usize) -> usize
     ensures text { drop result room.new ≡ digits 16 false number ++ drop end room.old }
     ensures utf8 { IsUtf8 (drop end room.old) → IsUtf8 (drop result room.new) }
 {
-    if number < 1 << 32 {
+    if number < 1 << 16 {
+        put_low_digits::<4>(number, room, end);
+    } else if number < 1 << 32 {
         put_low_digits::<8>(number, room, end);
     } else {
         put_low_digits::<16>(number, room, end);
@@ -73,6 +75,7 @@ fn digit_count(number: u64) -> usize
     ensures some { 0 < result }
     ensures few { result ≤ 16 }
     ensures short { number < 4294967296 → result ≤ 8 }
+    ensures shorter { number < 65536 → result ≤ 4 }
     ensures enough { number < 16 ^ result }
     ensures needed { 1 < result → 16 ^ (result - 1) ≤ number }
 {
