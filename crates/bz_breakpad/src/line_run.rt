@@ -14,6 +14,9 @@ use crate::parser::plain::line_feeds;
 use crate::types::{Part, SourceLine};
 use bz_base::Addr;
 
+/// About as long is a line record, in bytes.
+const BEFORE: usize = 16;
+
 /// Where a run may be cut first and then, in front of lines; 0 where that isn't known.
 #[derive(Clone, Copy)]
 pub(crate) struct Cuts {
@@ -80,34 +83,87 @@ fn line_in_front(text: &[u8], len: usize, hints: Cuts, addr: Addr) -> Option<Sou
     only_line(rest, len, addr)
 }
 
-/// Where a run in a part of the bytes is to be cut first; 0 if that isn't known. Where it is asked of
-/// several runs before any is searched, the processor waits for their bytes at the same time.
-pub(crate) fn first_hint(bytes: &[u8], run: &Part) -> usize {
-    match bytes.get(run.from as usize..run.to as usize) {
-        Some(text) => cut_near(text, text.len(), text.len() / 2).unwrap_or(0),
-        None => 0,
+/// Where the line record for an address is likely to stand in a run, as if each byte of code took as
+/// many bytes of text.
+#[derive(Clone, Copy)]
+pub(crate) struct Guess {
+    /// The run, in the file's bytes.
+    pub run: Part,
+    /// How many bytes of text 65536 bytes of code take.
+    pub pace: u64,
+    /// The place of the record, from the run's beginning.
+    pub near: usize,
+}
+
+impl Guess {
+    /// No record.
+    pub(crate) fn none() -> Guess {
+        Guess {
+            run: Part { from: 0, to: 0 },
+            pace: 0,
+            near: 0,
+        }
+    }
+
+    /// The record for the code that lies so far in the function, which has so many bytes.
+    pub(crate) fn at(run: Part, offset: u64, size: u32) -> Guess {
+        let len = run.to.saturating_sub(run.from);
+        let pace = (u64::from(len) << 16) / (u64::from(size) + 1);
+        Guess {
+            run,
+            pace,
+            near: paced(offset, pace).min(len as usize),
+        }
+    }
+
+    /// Where it is in the file's bytes.
+    pub(crate) fn place(&self) -> usize {
+        (self.run.from as usize).saturating_add(self.near)
+    }
+
+    /// Where its run is to be cut for the address: at the line after a place a little before the guess,
+    /// and then as far from there as that line's start is from the address.
+    pub(crate) fn cuts(&self, bytes: &[u8], addr: Addr) -> Cuts {
+        let len = self.run.to.saturating_sub(self.run.from) as usize;
+        let Some(text) = bytes.get(self.run.from as usize..) else {
+            return Cuts::unknown();
+        };
+        if len > text.len() {
+            return Cuts::unknown();
+        }
+        let first = cut_if_near(text, len, self.near.saturating_sub(BEFORE));
+        if first >= len {
+            return Cuts::unknown();
+        }
+        let start = start_of(&text[first..]);
+        let place = if start <= addr {
+            first
+                .saturating_add(paced(addr - start, self.pace))
+                .saturating_add(BEFORE)
+        } else {
+            first
+                .saturating_sub(paced(start - addr, self.pace))
+                .saturating_sub(2 * BEFORE)
+        };
+        Cuts {
+            first,
+            second: cut_if_near(text, len, place),
+        }
     }
 }
 
-/// Where it is to be cut after that first place, for an address; 0 if that isn't known.
-pub(crate) fn second_hint(bytes: &[u8], run: &Part, first: usize, addr: Addr) -> usize {
-    match bytes.get(run.from as usize..run.to as usize) {
-        Some(text) => second_cut(text, first, addr),
-        None => 0,
-    }
+/// How many bytes of text so many bytes of code take.
+fn paced(code: u64, pace: u64) -> usize {
+    (code.saturating_mul(pace) >> 16) as usize
 }
 
-/// The same in the text of a run.
-fn second_cut(text: &[u8], first: usize, addr: Addr) -> usize {
-    if first >= text.len() {
+/// Where the next line after a place within so many bytes of the text begins; 0 if one load doesn't
+/// show it.
+fn cut_if_near(text: &[u8], len: usize, place: usize) -> usize {
+    if len > text.len() || place > len {
         return 0;
     }
-    let middle = if start_of(&text[first..]) <= addr {
-        first + (text.len() - first) / 2
-    } else {
-        first / 2
-    };
-    cut_near(text, text.len(), middle).unwrap_or(0)
+    cut_near(text, len, place).unwrap_or(0)
 }
 
 /// Where so many bytes of the text are cut in two behind a line feed: by the hint if that is such a

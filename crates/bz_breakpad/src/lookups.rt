@@ -18,16 +18,16 @@ ghost use Rattle.bz_breakpad.specs.Sorted.{StandsFor, starts_of};
 ghost use Rattle.bz_breakpad.specs.Table.{Table};
 
 use crate::function::text_of;
-use crate::line_run::{Cuts, first_hint, second_hint};
+use crate::line_run::{Cuts, Guess};
 use crate::places::{Placed, placed_at};
 use crate::search::function_at;
-use crate::types::{KeptFunction, KeptTable, LineRecords, Part};
+use crate::types::{KeptFunction, KeptTable, LineRecords};
 use bz_base::{Error, FindSymOpts, Reason, Result, Sym, Symbolized, in_batch};
 use std::alloc::Global;
 use std::borrow::CowStr;
 use std::marker::Model;
 
-/// For so many answers the first touch of their line records is made together.
+/// For so many answers what lies far is touched together.
 const TOGETHER: usize = 32;
 
 /// Addresses whose functions were looked up in a file. Contracts see the file's bytes and the
@@ -95,19 +95,22 @@ impl<'f, 'b> Lookups<'f, 'b> {
     }
 
     /// Hints for the answers from an index on. What lies far is touched for all of them together: the
-    /// keys, then the functions with the middle of each one's line records, then the middle of a half.
+    /// keys, then the functions, then the text near each one's line record, its name and its calls.
     fn hints(&self, from: usize) -> [Cuts; TOGETHER] {
         let mut functions = [usize::MAX; TOGETHER];
         for place in 0..TOGETHER {
             functions[place] = self.function_index(from.saturating_add(place));
         }
-        let mut hints = [Cuts::unknown(); TOGETHER];
+        let mut seeds = [Seed::none(); TOGETHER];
         for place in 0..TOGETHER {
-            hints[place].first = self.first_hint(functions[place]);
+            seeds[place] = self.seed(functions[place], from.saturating_add(place));
         }
         for place in 0..TOGETHER {
-            let index = from.saturating_add(place);
-            hints[place].second = self.second_hint(functions[place], hints[place].first, index);
+            seeds[place].usual = self.is_usual(&seeds[place]);
+        }
+        let mut hints = [Cuts::unknown(); TOGETHER];
+        for place in 0..TOGETHER {
+            hints[place] = self.cuts(&seeds[place], from.saturating_add(place));
         }
         hints
     }
@@ -126,45 +129,51 @@ impl<'f, 'b> Lookups<'f, 'b> {
         }
     }
 
-    /// The run of the line records of a function, if they are one.
-    fn run_of(&self, function: usize) -> Option<Part> {
-        match self.kept.code.functions.get(function)?.lines {
-            LineRecords::Run(run) => Some(run),
-            LineRecords::Listed(_) => None,
-        }
-    }
-
-    /// Where the line records of a function are cut first. What else an answer reads of the function is
-    /// touched too.
-    fn first_hint(&self, function: usize) -> usize {
-        match self.run_of(function) {
-            Some(run) if self.is_usual(function) => first_hint(self.bytes, &run),
-            _ => 0,
-        }
-    }
-
-    /// Whether a function has a name, and the first of its inlined calls, if it has some, lies in no
-    /// other.
-    fn is_usual(&self, function: usize) -> bool {
-        let Some(function) = self.kept.code.functions.get(function) else {
-            return false;
+    /// What the answer at an index reads of a function that lies elsewhere.
+    fn seed(&self, function: usize, index: usize) -> Seed {
+        let (Some(function), Some(addr)) = (
+            self.kept.code.functions.get(function),
+            self.addrs.get(index),
+        ) else {
+            return Seed::none();
         };
-        let named = match self.bytes.get(function.name.from as usize) {
+        let guess = match function.lines {
+            LineRecords::Run(run) => {
+                Guess::at(run, addr.saturating_sub(function.start), function.size)
+            }
+            LineRecords::Listed(_) => Guess::none(),
+        };
+        Seed {
+            guess,
+            name: function.name.from as usize,
+            inlinees: function.inlinees.from as usize,
+            usual: false,
+        }
+    }
+
+    /// Whether the function has a name, the first of its inlined calls, if it has some, lies in no other,
+    /// and text is where its line record may stand.
+    fn is_usual(&self, seed: &Seed) -> bool {
+        let named = match self.bytes.get(seed.name) {
             Some(first) => *first != b'\n',
             None => false,
         };
-        let outermost = match self.kept.code.inlinees.get(function.inlinees.from as usize) {
+        let outermost = match self.kept.code.inlinees.get(seed.inlinees) {
             Some(call) => call.depth == 0,
             None => true,
         };
-        named & outermost
+        let read = match self.bytes.get(seed.guess.place()) {
+            Some(byte) => *byte != 0,
+            None => false,
+        };
+        named & outermost & read
     }
 
-    /// Where they are cut after that for the answer at an index.
-    fn second_hint(&self, function: usize, first: usize, index: usize) -> usize {
-        match (self.run_of(function), self.addrs.get(index)) {
-            (Some(run), Some(addr)) => second_hint(self.bytes, &run, first, *addr),
-            _ => 0,
+    /// Where the line records are to be cut for the answer at an index.
+    fn cuts(&self, seed: &Seed, index: usize) -> Cuts {
+        match self.addrs.get(index) {
+            Some(addr) if seed.usual => seed.guess.cuts(self.bytes, *addr),
+            _ => Cuts::unknown(),
         }
     }
 
@@ -184,6 +193,31 @@ impl<'f, 'b> Lookups<'f, 'b> {
             answers.push(answer)?;
         }
         Ok(answers)
+    }
+}
+
+/// What an answer reads of its function that lies elsewhere.
+#[derive(Clone, Copy)]
+struct Seed {
+    /// Where its line record is likely to stand.
+    guess: Guess,
+    /// Where the function's name begins.
+    name: usize,
+    /// Where its inlined calls begin.
+    inlinees: usize,
+    /// Whether these were read, and are as usual.
+    usual: bool,
+}
+
+impl Seed {
+    /// Of no function.
+    fn none() -> Seed {
+        Seed {
+            guess: Guess::none(),
+            name: usize::MAX,
+            inlinees: usize::MAX,
+            usual: false,
+        }
     }
 }
 

@@ -1,5 +1,5 @@
 -- A batch whose source was looked at.
-use Rattle.std.specs.Prelude.{◌≡◌, ℕ, List, map, string_bytes, refl}
+use Rattle.std.specs.Prelude.{◌≡◌, ℕ, Bool, true, false, List, map, string_bytes, refl}
 use Rattle.bz_base.specs.Answer.{Answer, in_batch}
 use Rattle.bz_base.specs.InputKind.{AddressKind, InFile, InTable}
 use Rattle.bz_base.specs.declared.types.FindSymOpts.{FindSymOpts}
@@ -21,6 +21,12 @@ abbrev pub entry_by : Version → FindSymOpts → ℕ → Answer
 entry_by (BreakpadVersion bytes) opts addr = in_batch (breakpad_single opts (table_in bytes) addr)
 entry_by (GsymVersion bytes) opts addr = in_batch (gsym_single opts bytes addr)
 entry_by (ElfVersion path bytes kind) opts addr = elf_single path bytes kind addr
+
+-- whether addresses in their order are answered faster by a version; of a Breakpad file, what lies far is read together for some of them
+abbrev pub heeds_order : Version → Bool
+heeds_order (BreakpadVersion _) = false
+heeds_order (GsymVersion _) = true
+heeds_order (ElfVersion _ _ _) = true
 
 -- addresses, the version of their source that answers them, how it is asked, and its answers to them, in their order
 pub record Batch : Type 0 where

@@ -6,7 +6,7 @@ ghost use Rattle.bz_base.specs.Answer.{in_batch, reading};
 ghost use Rattle.bz_base.specs.Lent.{IsLent};
 ghost use Rattle.bz_base.specs.declared.error.Error.{Error};
 ghost use Rattle.bz_breakpad.specs.Reader.{table_in};
-ghost use Rattle.bz_symbolize.specs.Batch.{answer_at, answers_to, batch_by, entry_by, version_of};
+ghost use Rattle.bz_symbolize.specs.Batch.{answer_at, answers_to, batch_by, entry_by, heeds_order, version_of};
 ghost use Rattle.bz_symbolize.specs.Sources.{breakpad_single};
 
 use crate::elf;
@@ -51,6 +51,16 @@ impl<'d> Lookups<'d> {
         self.addrs.len()
     }
 
+    /// Whether answers that are asked for together are found faster in the order of their addresses.
+    pub fn heeds_order(&self) -> bool
+        ensures { result ≡ heeds_order self.now.version }
+    {
+        match self.held {
+            Held::Breakpad(_) => false,
+            Held::Gsym(_) | Held::GsymData(_) | Held::Elf(_) => true,
+        }
+    }
+
     /// The address of an index.
     pub fn addr(&self, index: usize) -> Addr
         requires { index < length self.now.addrs }
@@ -69,8 +79,8 @@ impl<'d> Lookups<'d> {
         entry(alloc, &self.held, &self.opts, self.addrs[index])
     }
 
-    /// The answers at some of the addresses, in their order: what these say is read together, which is
-    /// faster where they are near each other. A refused address is an ignored error.
+    /// The answers at some addresses, in their order: what these say is read together, which is faster
+    /// than one by one. A refused address is an ignored error.
     pub fn answers_at(&self, alloc: Global, addrs: &[Addr]) -> Result<Vec<Symbolized<'_>>>
         ensures answers { IfOk result (λ answers. map reading answers.items ≡ answers_to addrs.now self.now) }
         ensures lent { IfOk result (λ answers. AllByRecursion IsLent answers.items) }

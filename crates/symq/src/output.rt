@@ -67,8 +67,8 @@ fn write_answers<W: TextOut>(
     write_piece(output, &mut piece)
 }
 
-// Puts the text of the answer at the address of the next index to the end of a text. Before the first
-// of those that are made together, their texts are made.
+// Puts the text of the answer at the address of the next index to the end of a text. Where it wasn't
+// made, it is made together with some that follow.
 fn push_next(
     alloc: Global,
     text: &mut String,
@@ -83,7 +83,7 @@ fn push_next(
     ensures texts { OnOk result (AreTexts lookups.now texts.new) }
     ensures memory { IsOkUnless result Error.OutOfMemory }
 {
-    if Texts::begin_at(index) {
+    if texts.end_before(index) {
         texts.make(alloc, lookups, index)?;
     }
     push_text(alloc, text, texts, lookups, index)

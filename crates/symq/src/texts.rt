@@ -1,5 +1,5 @@
-//! The texts of answers, made in the order of their addresses: what stands near each other in a file
-//! is read together.
+//! The texts of answers that are looked up together, in the order of their addresses where that is
+//! faster: what stands near each other in a file is read together then.
 
 ghost use Rattle.std.specs.Prelude.{◌≡◌, ◌<◌, ◌≤◌, ◌++◌, length, map, slice_get, slice_index, string_bytes, All, Some, OnOk, IfOk, IfSome, IsOkUnless};
 ghost use Rattle.std.specs.List.{AllByRecursion};
@@ -14,8 +14,9 @@ use bz_base::{Addr, Error, Result, Symbolized};
 use bz_symbolize::Lookups;
 use std::alloc::Global;
 
-/// So many texts are made at a time. That they are many brings addresses near each other together.
-const AT_A_TIME: usize = 32_768;
+/// So many texts are made at a time in the order of their addresses. That they are many brings addresses
+/// near each other together.
+const IN_ORDER: usize = 32_768;
 
 /// So many answers are looked up together.
 const TOGETHER: usize = 32;
@@ -56,9 +57,12 @@ impl Texts {
         }
     }
 
-    /// Whether the index is the first of those that are made together.
-    pub(crate) fn begin_at(index: usize) -> bool {
-        index % AT_A_TIME == 0
+    /// Whether the index is past those whose texts were made.
+    pub(crate) fn end_before(&self, index: usize) -> bool {
+        match index.checked_sub(self.first) {
+            Some(place) => place >= self.parts.len(),
+            None => true,
+        }
     }
 
     /// The text of the answer at an index, if it was made.
@@ -156,13 +160,15 @@ impl Texts {
 }
 
 // The addresses from an index on, as many as are answered at a time, with their indices: in the
-// order of the addresses.
+// order of the addresses, where that is faster.
 fn in_order(alloc: Global, lookups: &Lookups<'_>, first: usize) -> Result<Vec<(Addr, usize)>>
     ensures among { IfOk result (λ order. All (IsEntryAmong lookups.now first (length order.items)) order.items) }
     ensures memory { IsOkUnless result Error.OutOfMemory }
 {
     let mut order = entries(alloc, lookups, first)?;
-    order.sort_unstable_by_key(|entry| entry.0);
+    if lookups.heeds_order() {
+        order.sort_unstable_by_key(|entry| entry.0);
+    }
     Ok(order)
 }
 
@@ -171,12 +177,21 @@ fn entries(alloc: Global, lookups: &Lookups<'_>, first: usize) -> Result<Vec<(Ad
     ensures among { IfOk result (λ order. AllByRecursion (IsEntryAmong lookups.now first (length order.items)) order.items) }
     ensures memory { IsOkUnless result Error.OutOfMemory }
 {
-    let end = lookups.len().min(first.saturating_add(AT_A_TIME));
+    let end = lookups.len().min(first.saturating_add(at_a_time(lookups)));
     let mut entries = Vec::new(alloc);
     for index in first..end {
         entries.push((lookups.addr(index), index))?;
     }
     Ok(entries)
+}
+
+// How many answers are made at a time.
+fn at_a_time(lookups: &Lookups<'_>) -> usize {
+    if lookups.heeds_order() {
+        IN_ORDER
+    } else {
+        TOGETHER
+    }
 }
 
 // The addresses of entries, in their order.
