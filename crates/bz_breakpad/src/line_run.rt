@@ -121,6 +121,11 @@ impl Guess {
         (self.run.from as usize).saturating_add(self.near)
     }
 
+    /// Where the last byte of its run is in the file's bytes.
+    pub(crate) fn last(&self) -> usize {
+        (self.run.to as usize).saturating_sub(1)
+    }
+
     /// Where its run is to be cut for the address: at the line after a place a little before the guess,
     /// and then as far from there as that line's start is from the address.
     pub(crate) fn cuts(&self, bytes: &[u8], addr: Addr) -> Cuts {

@@ -152,7 +152,7 @@ impl<'f, 'b> Lookups<'f, 'b> {
     }
 
     /// Whether the function has a name, the first of its inlined calls, if it has some, lies in no other,
-    /// and text is where its line record may stand.
+    /// and its line records are text to the end of a line.
     fn is_usual(&self, seed: &Seed) -> bool {
         let named = match self.bytes.get(seed.name) {
             Some(first) => *first != b'\n',
@@ -162,11 +162,15 @@ impl<'f, 'b> Lookups<'f, 'b> {
             Some(call) => call.depth == 0,
             None => true,
         };
-        let read = match self.bytes.get(seed.guess.place()) {
+        let text = match self.bytes.get(seed.guess.place()) {
             Some(byte) => *byte != 0,
             None => false,
         };
-        named & outermost & read
+        let ended = match self.bytes.get(seed.guess.last()) {
+            Some(byte) => *byte == b'\n',
+            None => false,
+        };
+        named & outermost & text & ended
     }
 
     /// Where the line records are to be cut for the answer at an index.
@@ -189,8 +193,10 @@ impl<'f, 'b> Lookups<'f, 'b> {
             if index % TOGETHER == 0 {
                 hints = self.hints(index);
             }
-            let answer = in_batch(self.answer_by(alloc, index, opts, hints[index % TOGETHER]))?;
-            answers.push(answer)?;
+            match self.answer_by(alloc, index, opts, hints[index % TOGETHER]) {
+                Ok(answer) => answers.push_reserved(answer),
+                Err(error) => answers.push_reserved(in_batch(Err(error))?),
+            }
         }
         Ok(answers)
     }

@@ -1,16 +1,41 @@
-use Rattle.std.proofs.Common.{[], ◌∷◌, ◌++◌, arith, ap, ap₂, sym, subst, ◌∙◌, map, take, length}
-use Rattle.std.specs.Prelude.{slice_index}
+use Rattle.std.proofs.Common.{◌≡◌, ◌<◌, ◌+◌, [], ◌∷◌, ◌++◌, ℕ, List, Ok, Some, arith, ap, ap₂, sym, subst, ◌∙◌, map, take, length}
+use Rattle.std.specs.Prelude.{Result, slice_index}
 use Rattle.std.proofs.lemmas.List.{map-append, take_more}
 use Rattle.std.proofs.lemmas.Option.{same_Some}
-use Rattle.bz_base.specs.Answer.{Gives, in_batch, reading}
+use Rattle.bz_base.specs.Answer.{Answer, Gives, in_batch, reading}
 use Rattle.bz_base.specs.Lent.{IsLent}
-use Rattle.bz_breakpad.specs.Plain.{plain}
+use Rattle.bz_base.specs.declared.error.Error.{Error}
+use Rattle.bz_base.specs.declared.types.FindSymOpts.{FindSymOpts}
+use Rattle.bz_base.specs.declared.types.Symbolized.{Symbolized}
+use Rattle.bz_breakpad.specs.Plain.{batch, plain}
 use Rattle.bz_breakpad.specs.Reader.{table_in}
 use Rattle.bz_breakpad.specs.Sorted.{LookedUp}
 use Rattle.bz_breakpad.specs.Table.{Table}
 use Rattle.bz_breakpad.proofs.KeptLemmas.{all_and_one}
 use Rattle.bz_breakpad.proofs.SortedLemmas.{all_taken}
+use Rattle.bz_breakpad.proofs.lookups.Lookups.answers.Goals.{in-Ok, in-Err+in_ok-in_batch-in-Err}
 use Rattle.bz_breakpad.proofs.lookups.Lookups.answers.Goals as goal
+
+-- the answers to one address more
+one_more : (t : Table) (opts : FindSymOpts) (addrs : List ℕ) (index : ℕ) (old : List Symbolized) (entry : Symbolized) → index < length addrs →
+    map reading old ≡ batch t opts (take index addrs) → reading entry ≡ in_batch (plain t opts (slice_index addrs index)) →
+    map reading (old ++ entry ∷ []) ≡ batch t opts (take (index + 1) addrs)
+one_more t opts addrs index old entry within so_far one =
+    map-append reading old (entry ∷ [])
+    ∙ ap₂ (λ front new. front ++ new ∷ []) so_far one
+    ∙ sym (map-append (λ addr. in_batch (plain t opts addr)) (take index addrs) (_ ∷ []))
+    ∙ sym (ap (map (λ addr. in_batch (plain t opts addr))) (take_more addrs index 0 within))
+
+-- an answer is an entry as it stands
+stands : (expected : Result Answer Error) (result : Result Symbolized Error) (answer : Symbolized) → result ≡ Ok answer → Gives reading expected result →
+    reading answer ≡ in_batch expected
+stands expected result answer is gives = ap in_batch (sym (subst (Gives reading expected) is gives))
+
+pub push_reserved-requires : goal.push_reserved-requires
+push_reserved-requires c = omega (arith, c.loop-index.invariant.count, c.loop-index.invariant.room, ap (λ (v : LookedUp). length v.addrs) c.self.view_is)
+
+pub push_reserved-requires-in-Err : goal.push_reserved-requires-in-Err
+push_reserved-requires-in-Err c = omega (arith, c.loop-index.invariant.count, c.loop-index.invariant.room, ap (λ (v : LookedUp). length v.addrs) c.self.view_is)
 
 pub returns-clause-answers : goal.returns-clause-answers
 returns-clause-answers c =
@@ -27,15 +52,25 @@ loop-index-preserved c =
     let opts = c.args.opts.now in
     let addrs = c.args.self.now.addrs in
     let index = c.loop-index.index in
+    let so_far = c.loop-index.invariant in
     let found = c.answer_by.ensures.answer in
-    record {
-      answers = λ t read.
-          let same = same_Some found.0 t (sym found.1 ∙ read) in
-          let one = c.in_ok-answer.ensures.entry _ (subst (λ (u : Table). Gives reading (plain u opts (slice_index addrs index)) c.answer_by.result) same found.2) in
-          ap (map reading) c.in_ok-push.ensures.items
-          ∙ map-append reading c.loop-index.answers.items (c.in_ok-answer.answer ∷ [])
-          ∙ ap₂ (λ old new. old ++ new ∷ []) (c.loop-index.invariant.answers t read) one
-          ∙ sym (map-append (λ addr. in_batch (plain t opts addr)) (take index addrs) (_ ∷ []))
-          ∙ sym (ap (map (λ addr. in_batch (plain t opts addr))) (take_more addrs index 0 (omega (arith, ap (λ (v : LookedUp). length v.addrs) c.self.view_is))));
-      lent = rw c.in_ok-push.ensures.items (all_and_one IsLent c.loop-index.answers.items c.in_ok-answer.answer c.loop-index.invariant.lent (c.in_ok-answer.ensures.lent c.answer_by.ensures.lent));
-    }
+    let within : index < length addrs = omega (arith, ap (λ (v : LookedUp). length v.addrs) c.self.view_is) in
+    let gives : (t : Table) → table_in c.args.self.now.bytes ≡ Some t → Gives reading (plain t opts (slice_index addrs index)) c.answer_by.result = λ t read. subst (λ (u : Table). Gives reading (plain u opts (slice_index addrs index)) c.answer_by.result) (same_Some found.0 t (sym found.1 ∙ read)) found.2 in
+    elim c.match-answer_by.branch [
+      | in-Ok w ↦
+          let entry = w.in-Ok.answer in
+          rw w.answers-is (record {
+            answers = λ t read. rw w.push_reserved.ensures.items (one_more t opts addrs index c.loop-index.answers.items entry within (so_far.answers t read) (stands _ c.answer_by.result entry w.in-Ok.is (gives t read)));
+            lent = rw w.push_reserved.ensures.items (all_and_one IsLent c.loop-index.answers.items entry so_far.lent w.in-Ok.ensures.lent);
+            count = omega (arith, so_far.count, w.push_reserved.ensures.len);
+            room = omega (arith, so_far.room, w.push_reserved.ensures.capacity);
+          })
+      | in-Err+in_ok-in_batch-in-Err w ↦
+          let entry = w.in_ok-in_batch-in-Err.field-0 in
+          rw w.answers-is (record {
+            answers = λ t read. rw w.push_reserved-in-Err.ensures.items (one_more t opts addrs index c.loop-index.answers.items entry within (so_far.answers t read) (w.in_ok-in_batch-in-Err.ensures.entry _ (subst (Gives reading (plain t opts (slice_index addrs index))) w.in-Err.is (gives t read))));
+            lent = rw w.push_reserved-in-Err.ensures.items (all_and_one IsLent c.loop-index.answers.items entry so_far.lent (w.in_ok-in_batch-in-Err.ensures.lent tt));
+            count = omega (arith, so_far.count, w.push_reserved-in-Err.ensures.len);
+            room = omega (arith, so_far.room, w.push_reserved-in-Err.ensures.capacity);
+          })
+    ]

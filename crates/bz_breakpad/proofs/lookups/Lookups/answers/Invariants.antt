@@ -1,5 +1,6 @@
-use Rattle.std.proofs.Common.{◌≡◌, Some, map, take}
+use Rattle.std.proofs.Common.{◌≡◌, ◌≤◌, Some, length, map, take}
 use Rattle.std.specs.List.{AllByRecursion}
+use Rattle.std.specs.Vec.{vec_capacity, vec_len}
 use Rattle.bz_base.specs.Answer.{reading}
 use Rattle.bz_base.specs.Lent.{IsLent}
 use Rattle.bz_breakpad.specs.Plain.{batch}
@@ -7,9 +8,11 @@ use Rattle.bz_breakpad.specs.Reader.{table_in}
 use Rattle.bz_breakpad.specs.Table.{Table}
 use Rattle.bz_breakpad.proofs.lookups.Lookups.answers.Given as goal
 
--- the answers so far are those of the first addresses
+-- the answers so far are those of the first addresses, and there is room for the others
 abbrev pub invariant-loop-index : goal.invariant-loop-index
 invariant-loop-index l = record {
   answers : (t : Table) → table_in l.self.bytes ≡ Some t → map reading l.answers.items ≡ batch t l.opts (take l.index l.self.addrs);
   lent : AllByRecursion IsLent l.answers.items;
+  count : vec_len l.answers ≡ l.index;
+  room : length l.self.addrs ≤ vec_capacity l.answers;
 }
