@@ -97,20 +97,27 @@ impl<'f, 'b> Lookups<'f, 'b> {
     /// Hints for the answers from an index on. What lies far is touched for all of them together: the
     /// keys, then the functions, then the text near each one's line record, its name and its calls.
     fn hints(&self, from: usize) -> [Cuts; TOGETHER] {
-        let mut functions = [usize::MAX; TOGETHER];
+        let mut indices = [usize::MAX; TOGETHER];
         for place in 0..TOGETHER {
-            functions[place] = self.function_index(from.saturating_add(place));
+            indices[place] = self.function_index(from.saturating_add(place));
+        }
+        let mut functions = [None; TOGETHER];
+        for place in 0..TOGETHER {
+            functions[place] = self.kept.code.functions.get(indices[place]).copied();
         }
         let mut seeds = [Seed::none(); TOGETHER];
         for place in 0..TOGETHER {
-            seeds[place] = self.seed(functions[place], from.saturating_add(place));
+            seeds[place] = self.seed(&functions[place], from.saturating_add(place));
         }
+        let mut usual = [false; TOGETHER];
         for place in 0..TOGETHER {
-            seeds[place].usual = self.is_usual(&seeds[place]);
+            usual[place] = self.is_usual(&seeds[place]);
         }
         let mut hints = [Cuts::unknown(); TOGETHER];
         for place in 0..TOGETHER {
-            hints[place] = self.cuts(&seeds[place], from.saturating_add(place));
+            if usual[place] {
+                hints[place] = self.cuts(&seeds[place], from.saturating_add(place));
+            }
         }
         hints
     }
@@ -130,11 +137,8 @@ impl<'f, 'b> Lookups<'f, 'b> {
     }
 
     /// What the answer at an index reads of a function that lies elsewhere.
-    fn seed(&self, function: usize, index: usize) -> Seed {
-        let (Some(function), Some(addr)) = (
-            self.kept.code.functions.get(function),
-            self.addrs.get(index),
-        ) else {
+    fn seed(&self, function: &Option<KeptFunction>, index: usize) -> Seed {
+        let (Some(function), Some(addr)) = (function, self.addrs.get(index)) else {
             return Seed::none();
         };
         let guess = match function.lines {
@@ -147,7 +151,6 @@ impl<'f, 'b> Lookups<'f, 'b> {
             guess,
             name: function.name.from as usize,
             inlinees: function.inlinees.from as usize,
-            usual: false,
         }
     }
 
@@ -176,8 +179,8 @@ impl<'f, 'b> Lookups<'f, 'b> {
     /// Where the line records are to be cut for the answer at an index.
     fn cuts(&self, seed: &Seed, index: usize) -> Cuts {
         match self.addrs.get(index) {
-            Some(addr) if seed.usual => seed.guess.cuts(self.bytes, *addr),
-            _ => Cuts::unknown(),
+            Some(addr) => seed.guess.cuts(self.bytes, *addr),
+            None => Cuts::unknown(),
         }
     }
 
@@ -211,8 +214,6 @@ struct Seed {
     name: usize,
     /// Where its inlined calls begin.
     inlinees: usize,
-    /// Whether these were read, and are as usual.
-    usual: bool,
 }
 
 impl Seed {
@@ -222,7 +223,6 @@ impl Seed {
             guess: Guess::none(),
             name: usize::MAX,
             inlinees: usize::MAX,
-            usual: false,
         }
     }
 }
