@@ -1,3 +1,4 @@
+pub mod AbreastLemmas
 pub mod ByteLemmas
 pub mod ChainLemmas
 pub mod CursorLemmas

@@ -1,5 +1,5 @@
 -- A search that halves what is left takes few probes.
-use Rattle.std.proofs.Common.{◌≡◌, ℕ, suc, ◌+◌, ◌-◌, ◌*◌, ◌^◌, ◌/◌, ◌<◌, ◌≤◌, arith, inl, inr, add-one}
+use Rattle.std.proofs.Common.{◌≡◌, ℕ, suc, ◌+◌, ◌-◌, ◌*◌, ◌^◌, ◌/◌, ◌<◌, ◌≤◌, arith, inl, inr, add-one, ap, ◌∙◌}
 use Rattle.std.proofs.lemmas.Bool.{cases_lt}
 use Rattle.std.proofs.Math.Pow.{pow_mono}
 use Rattle.std.proofs.Math.Nat.{pow-suc, mul_assoc, mul_comm, mul-le-mul_left}
@@ -62,11 +62,15 @@ halved_few count most left some within fits =
     let m : 2 ^ most * 1 ≤ 2 ^ most * left = mul-le-mul_left (2 ^ most) some in
     lesser_exponent most 64 (omega (arith, m))
 
--- one search more costs its bound once more
-pub one_more : (done count most : ℕ) → done < count → done * most + most ≤ count * most
-one_more done count most less =
-    let m : most * (done + 1) ≤ most * count = mul-le-mul_left most (omega arith) in
-    omega (arith, m, mul_comm most (done + 1), mul_comm most count, mul_comm most done)
+-- the bounds of two groups of searches are that of both
+more_searches : (done group most : ℕ) → done * most + group * most ≡ (done + group) * most
+more_searches done group most = omega (arith, mul_comm done most, mul_comm group most, mul_comm (done + group) most)
+
+-- so a group adds its bound to that of the searches before it
+pub group_cost : (done now most : ℕ) → done ≤ now → done * most + (now - done) * most ≡ now * most
+group_cost done now most more =
+    let e : done + (now - done) ≡ now = omega arith in
+    more_searches done (now - done) most ∙ ap (λ (n : ℕ). n * most) e
 
 -- the bound of a batch by search grows with the bound of a search
 pub batch_bound : (count most p starts : ℕ) → 2 ^ most ≤ 2 * starts + 1 → 2 * (2 * starts + 1) < 2 ^ (p + 1) →

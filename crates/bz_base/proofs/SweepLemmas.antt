@@ -2,15 +2,15 @@
 use Rattle.std.proofs.Common.{◌≡◌, ◌≢◌, ℕ, ◌+◌, ◌<◌, ◌⊎◌, inl, inr, List, [], ◌∷◌, ◌++◌, length, All, Contains, Option, None, get_or, take, length-append, refl, sym, ap, subst, ◌∙◌, arith}
 use Rattle.std.specs.List.{slice_index, slice_index_or, slice_set}
 use Rattle.std.proofs.lemmas.Bool.{cases_lt}
-use Rattle.std.proofs.lemmas.List.{get_or-set_other, get_or_append_left}
-use Rattle.std.proofs.Math.Seq.{get_or-append_seam, take-append_seam}
+use Rattle.std.proofs.lemmas.List.{get_or-set_other}
+use Rattle.std.proofs.Math.Seq.{take-append_seam}
 use Rattle.std.proofs.lemmas.Grind.{get_or-set_at}
 use Rattle.std.proofs.lemmas.Option.{slice_get-get_or, get_or_from_slice_get}
 use Rattle.bz_base.specs.Starts.{IsFound, AreFound}
 use Rattle.bz_base.specs.Sweep.{IsEntry}
 
 -- what stands at a place doesn't depend on the default
-any_default : {X : Type 0} (xs : List X) (k : ℕ) (d e : X) → k < length xs → get_or xs k e ≡ get_or xs k d
+pub any_default : {X : Type 0} (xs : List X) (k : ℕ) (d e : X) → k < length xs → get_or xs k e ≡ get_or xs k d
 any_default xs k d e within = get_or_from_slice_get xs k (get_or xs k d) e (slice_get-get_or xs k d within)
 
 module _ (addrs : List ℕ) (entries : List (ℕ × ℕ)) (count : length entries ≡ length addrs) (at : (k : ℕ) → k < length addrs → slice_index_or entries k (0, 0) ≡ (slice_index addrs k, k)) where
@@ -64,21 +64,6 @@ module _ (starts addrs : List ℕ) (order : List (ℕ × ℕ)) (entries : All (I
       let c = each k within in
       let e : entry c.0 ≡ (slice_index addrs k, k) = any_default order c.0 (slice_index addrs k, k) (0, 0) c.1 ∙ c.2 in
       subst (λ x. IsFound starts x.0 (slice_index_or places x.1 None)) e (found c.0 c.1)
-
--- one more address has its place, put at the end
-pub found_more : (starts addrs : List ℕ) (done : ℕ) (places : List (Option (ℕ × ℕ))) (found : Option (ℕ × ℕ)) →
-    length places ≡ done → ((k : ℕ) → k < done → IsFound starts (slice_index addrs k) (slice_index_or places k None)) →
-    IsFound starts (slice_index addrs done) found
-    → (after : List (Option (ℕ × ℕ))) → after ≡ places ++ found ∷ [] → (k : ℕ) → k < done + 1 →
-    IsFound starts (slice_index addrs k) (slice_index_or after k None)
-found_more starts addrs done places found count before now after is k within = elim (cases_lt k done) [
-  | inl less ↦ subst (λ o. IsFound starts (slice_index addrs k) o) (sym (ap (λ l. get_or l k None) is ∙ get_or_append_left places (found ∷ []) None k (omega (arith, count)))) (before k less)
-  | inr not_less ↦
-      let e : length places ≡ k = omega (arith, count) in
-      let d : done ≡ k = omega arith in
-      let read : get_or after k None ≡ found = ap (λ l. get_or l k None) is ∙ ap (λ i. get_or (places ++ found ∷ []) i None) (sym e) ∙ get_or-append_seam places found [] None in
-      subst (λ o. IsFound starts (slice_index addrs k) o) (sym read) (subst (λ i. IsFound starts (slice_index addrs i) found) d now)
-]
 
 -- one put at the end makes the list longer by one
 pub length_pushed : {X : Type 0} (xs after : List X) (x : X) → after ≡ xs ++ x ∷ [] → length after ≡ length xs + 1

@@ -1,3 +1,4 @@
+pub mod Abreast
 pub mod Answer
 pub mod Byte
 pub mod Chain

@@ -13,10 +13,6 @@ pub record IsPlace (starts : List ℕ) (addr place start : ℕ) : Type 0 where
   pub first : start ≡ addr → (k : ℕ) → k < place → slice_index starts k < addr
   pub last : start < addr → (k : ℕ) → place < k → k < length starts → addr < slice_index starts k
 
--- the start stands at the place
-abbrev pub IsStart : List ℕ → ℕ × ℕ → Type 0
-IsStart starts x = (x.0 < length starts) × (slice_index starts x.0 ≡ x.1)
-
 -- the search gives that place with its start, or none where each start is above the address
 abbrev pub IsFound : List ℕ → ℕ → Option (ℕ × ℕ) → Type 0
 IsFound starts addr (Some x) = IsPlace starts addr x.0 x.1
@@ -29,3 +25,7 @@ AreFew probes count = 2 ^ probes ≤ 2 * (2 * count + 1)
 -- the places are found one by one, each for the address that stands at the same index
 abbrev pub AreFound : List ℕ → List ℕ → List (Option (ℕ × ℕ)) → Type 0
 AreFound starts addrs places = (k : ℕ) → k < length addrs → IsFound starts (slice_index addrs k) (slice_index_or places k None)
+
+-- so many places as there are, are found for the first of the addresses
+abbrev pub AreFoundSoFar : List ℕ → List ℕ → List (Option (ℕ × ℕ)) → Type 0
+AreFoundSoFar starts addrs places = (k : ℕ) → k < length places → IsFound starts (slice_index addrs k) (slice_index_or places k None)

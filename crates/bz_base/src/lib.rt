@@ -2,6 +2,7 @@
 //! of a text, the pieces of binary files, and which record of a table answers for an address.
 #![tactic(auto)]
 
+mod abreast;
 mod batch;
 mod chain;
 mod cursor;

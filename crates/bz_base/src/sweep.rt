@@ -1,11 +1,12 @@
 //! The places of a whole batch of addresses, by one pass along the starts or by a search for each.
 
-ghost use Rattle.std.specs.Prelude.{◌≡◌, ℕ, ◌+◌, ◌-◌, ◌*◌, ◌^◌, ◌<◌, ◌≤◌, length, slice_index, slice_index_or, true, All, Contains, IfOk, IfSome};
+ghost use Rattle.std.specs.Prelude.{◌≡◌, ℕ, ◌+◌, ◌-◌, ◌*◌, ◌^◌, ◌<◌, ◌≤◌, length, slice_index, slice_index_or, All, Contains, IfOk};
 ghost use Rattle.std.specs.List.Sorted.{IsNonDecreasingBy};
-ghost use Rattle.bz_base.specs.Starts.{IsFound, IsPlace, IsStart, AreFound};
+ghost use Rattle.bz_base.specs.Starts.{IsFound, AreFound};
 ghost use Rattle.bz_base.specs.Sweep.{IsGap, IsEntry};
 
-use crate::starts::{Probe, Starts, nearest};
+use crate::abreast::search_group;
+use crate::starts::{Probe, Starts};
 use crate::steps::Steps;
 use crate::types::Addr;
 use std::alloc::{AllocError, Global};
@@ -36,7 +37,7 @@ pub fn nearest_each<L: Ledger>(
 }
 
 /// How many probes a search among so many starts takes at most.
-fn most_probes(count: usize) -> u32
+pub(crate) fn most_probes(count: usize) -> u32
     ensures enough { count < 2 ^ result }
     ensures needed { 2 ^ result ≤ 2 * count + 1 }
 {
@@ -49,8 +50,7 @@ fn most_probes(count: usize) -> u32
     most
 }
 
-/// The places by a search for each address. Addresses that come in their order mostly have the place
-/// of the one before, which one probe tells.
+/// The places by a search for each address, many in step.
 fn search_each<L: Ledger>(
     alloc: Global,
     table: &Starts,
@@ -63,52 +63,10 @@ fn search_each<L: Ledger>(
     ensures cost { (most : ℕ) → length table.now < 2 ^ most → steps.new ≤ steps.old + length addrs.now * (most + 1) }
 {
     let mut places = Vec::with_capacity(alloc, addrs.len())?;
-    let mut last = None;
-    for addr in addrs {
-        last = nearest_from(table, last, *addr, steps);
-        places.push(last)?;
+    while places.len() < addrs.len() {
+        search_group(alloc, table, addrs, &mut places, steps)?;
     }
     Ok(places)
-}
-
-/// What `nearest` gives for the address, where another address has this place.
-fn nearest_from<L: Ledger>(
-    table: &Starts,
-    last: Option<(usize, Addr)>,
-    addr: Addr,
-    steps: &mut Steps<L>,
-) -> Option<(usize, Addr)>
-    requires { IfSome last (IsStart table.now) }
-    ensures found { IsFound table.now addr result }
-    ensures start { IfSome result (IsStart table.now) }
-    ensures more { steps.old ≤ steps.new }
-    ensures cost { (most : ℕ) → length table.now < 2 ^ most → steps.new ≤ steps.old + most + 1 }
-{
-    if let Some((place, start)) = last {
-        if answers_too(table, place, start, addr, steps) {
-            return last;
-        }
-    }
-    nearest(table, addr, steps)
-}
-
-/// Whether the start at a place is seen to be the last one below an address too.
-fn answers_too<L: Ledger>(
-    table: &Starts,
-    place: usize,
-    start: Addr,
-    addr: Addr,
-    steps: &mut Steps<L>,
-) -> bool
-    requires { IsStart table.now (place, start) }
-    ensures place { result ≡ true → IsPlace table.now addr place start }
-    ensures more { steps.old ≤ steps.new }
-    ensures cost { steps.new ≤ steps.old + 1 }
-{
-    if start >= addr {
-        return false;
-    }
-    table.len() - place == 1 || addr < table.probe(place + 1, steps)
 }
 
 /// The places by one pass along the starts.
@@ -183,10 +141,10 @@ fn entries(alloc: Global, addrs: &[Addr]) -> Result<Vec<(Addr, usize)>, AllocErr
 
 /// A place among the starts, with the starts beside it.
 #[derive(Clone, Copy)]
-struct Gap {
-    place: usize,
-    below: u64,
-    above: u64,
+pub(crate) struct Gap {
+    pub(crate) place: usize,
+    pub(crate) below: u64,
+    pub(crate) above: u64,
 }
 
 /// The place for an address, onwards from the one for a lesser address.
@@ -212,7 +170,7 @@ fn advance<L: Ledger>(table: &Starts, from: Gap, addr: Addr, steps: &mut Steps<L
 }
 
 /// The place and start that answer for the address.
-fn placed(table: &Starts, gap: Gap, addr: Addr) -> Option<(usize, Addr)>
+pub(crate) fn placed(table: &Starts, gap: Gap, addr: Addr) -> Option<(usize, Addr)>
     requires { IsGap table.now addr gap.place gap.below gap.above }
     ensures { IsFound table.now addr result }
 {

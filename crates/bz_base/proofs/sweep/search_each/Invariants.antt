@@ -1,14 +1,16 @@
-use Rattle.std.proofs.Common.{◌≡◌, ℕ, ◌+◌, ◌*◌, ◌^◌, ◌<◌, ◌≤◌, length, None, IfSome}
-use Rattle.std.specs.Prelude.{slice_index, slice_index_or}
-use Rattle.bz_base.specs.Starts.{IsFound, IsStart}
+use Rattle.std.proofs.Common.{ℕ, ◌+◌, ◌-◌, ◌*◌, ◌^◌, ◌<◌, ◌≤◌, length}
+use Rattle.bz_base.specs.Starts.{AreFoundSoFar}
 use Rattle.bz_base.proofs.sweep.search_each.Given as goal
 
--- the addresses so far have their places, each by one search
-abbrev pub invariant-loop-addr : goal.invariant-loop-addr
-invariant-loop-addr g l = record {
-  found : (k : ℕ) → k < l.addr-index → IsFound l.table (slice_index l.addrs k) (slice_index_or l.places.items k None);
-  start : IfSome l.last (IsStart l.table);
-  count : length l.places.items ≡ l.addr-index;
+-- the addresses of the groups so far have their places, each by one search
+abbrev pub invariant-loop-alloc : goal.invariant-loop-alloc
+invariant-loop-alloc g l = record {
+  found : AreFoundSoFar l.table l.addrs l.places.items;
+  within : length l.places.items ≤ length l.addrs;
   more : l.fn.steps ≤ l.steps;
-  cost : (most : ℕ) → length l.table < 2 ^ most → l.steps ≤ l.fn.steps + l.addr-index * (most + 1);
+  cost : (most : ℕ) → length l.table < 2 ^ most → l.steps ≤ l.fn.steps + length l.places.items * most;
 }
+
+-- the addresses to come
+abbrev pub decreases-loop-alloc : goal.decreases-loop-alloc
+decreases-loop-alloc g l = length l.addrs - length l.places.items
