@@ -13,6 +13,7 @@ pub mod LebLemmas
 pub mod LebSpellingLemmas
 pub mod LebValueLemmas
 pub mod LineLemmas
+pub mod LoadLemmas
 pub mod NearestLemmas
 pub mod NumberLemmas
 pub mod PathLemmas

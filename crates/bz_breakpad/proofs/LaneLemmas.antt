@@ -1,34 +1,16 @@
 -- From the bits of one load to where the digits of a field end.
-use Rattle.std.proofs.Common.{◌≡◌, ℕ, zero, suc, ◌+◌, ◌-◌, ◌*◌, ◌/◌, ◌%◌, ◌^◌, ◌<◌, ◌≤◌, Bool, true, false, cond, not, List, [], ◌∷◌, map, length, take, drop, get_or, Fits, w8, refl, sym, ap, ap₂, ◌∙◌, arith, inl, inr}
+use Rattle.std.proofs.Common.{◌≡◌, ℕ, zero, suc, ◌+◌, ◌-◌, ◌*◌, ◌/◌, ◌^◌, ◌<◌, ◌≤◌, Bool, true, false, cond, not, List, [], ◌∷◌, map, length, take, drop, refl, sym, ap, ap₂, ◌∙◌, arith, inl, inr}
 use Rattle.std.specs.List.{prefix_len}
-use Rattle.std.proofs.lemmas.Bool.{agree_below, agree_below_at, cases_eq, cond-false, ne_eqb}
-use Rattle.std.proofs.lemmas.List.{length-map, length-drop, length-take-le, take-append-drop}
+use Rattle.std.proofs.lemmas.Bool.{cases_eq, cond-false, ne_eqb}
+use Rattle.std.proofs.lemmas.List.{length-drop, length-take-le, take-append-drop}
 use Rattle.std.proofs.lemmas.List.Folds.{prefix_len-append}
 use Rattle.std.proofs.lemmas.Nat.{shr-shr}
-use Rattle.std.proofs.lemmas.Simd.{map-map, mask_l-mod, trailing_mask_l}
+use Rattle.std.proofs.lemmas.Simd.{trailing_mask_l}
 use Rattle.std.proofs.Math.Nat.{div-one, div-le_self}
 use Rattle.std.proofs.Math.Seq.{take-nil}
 use lib.Count.{count_trailing_zeros}
-use lib.Lanes.{mask_l, top}
-
--- two tests that agree on each byte give the same bits
-same_bits : (g h : ℕ → Bool) → agree_below g h 256 ≡ true → (n : ℕ) (text : List ℕ) → ((k : ℕ) → get_or text k 0 < 256) →
-    map g (take n text) ≡ map h (take n text)
-same_bits g h agree zero [] bytes = refl
-same_bits g h agree (suc n) [] bytes = refl
-same_bits g h agree zero (b ∷ text) bytes = refl
-same_bits g h agree (suc n) (b ∷ text) bytes =
-    ap₂ (λ bit bits. bit ∷ bits) (agree_below_at g h 256 b agree (bytes 0)) (same_bits g h agree n text (λ k. bytes (suc k)))
-
--- the top bits of lanes that are computed from the bytes are those of a test that agrees with them on each byte
-pub bits_are : (n : ℕ) (test : ℕ → Bool) (text lanes : List ℕ) → n ≤ 64 → n ≤ length text → ((k : ℕ) → Fits w8 (get_or text k 0)) →
-    (lane : ℕ → ℕ) → lanes ≡ map lane (take n text) → agree_below (λ b. top 7 (lane b)) test 256 ≡ true →
-    mask_l (map (top 7) lanes) % 2 ^ 64 ≡ mask_l (map test (take n text))
-bits_are n test text lanes few room fits lane lanes_are agree =
-    let load = take n text in
-    ap (λ l. mask_l (map (top 7) l) % 2 ^ 64) lanes_are
-    ∙ ap (λ l. mask_l l % 2 ^ 64) (map-map (top 7) lane load ∙ same_bits (λ b. top 7 (lane b)) test agree n text (λ k. (fits k).fits))
-    ∙ mask_l-mod (map test load) 64 (omega (arith, few, length-map load test, length-take-le n text room))
+use lib.Lanes.{mask_l}
+use Rattle.bz_base.proofs.LoadLemmas.{double_not}
 
 -- without its lowest bit
 half_of : (bit : Bool) (m : ℕ) → (cond bit 1 0 + 2 * m) / 2 ≡ m
@@ -44,14 +26,6 @@ bits_from test (suc k) (b ∷ text) =
     let n : ℕ = cond (test b) 1 0 + 2 * m in
     let more : suc k ≡ 1 + k = omega arith in
     ap (λ e. n / 2 ^ e) more ∙ sym (shr-shr n 1 k) ∙ ap (λ h. h / 2 ^ k) (half_of (test b) m) ∙ bits_from test k text
-
--- a run of the bytes that don't fail is one of those that pass
-pub double_not : (p : ℕ → Bool) (text : List ℕ) → prefix_len (λ b. not (not (p b))) text ≡ prefix_len p text
-double_not p [] = refl
-double_not p (b ∷ text) = step (p b) (prefix_len (λ c. not (not (p c))) text) (prefix_len p text) (double_not p text) where
-  step : (test : Bool) (m n : ℕ) → m ≡ n → cond (not (not test)) (1 + m) 0 ≡ cond test (1 + n) 0
-  step true m n same = ap (λ k. 1 + k) same
-  step false m n same = refl
 
 -- a run that ends within the front ends there in the whole
 run_in_front : (p : ℕ → Bool) (n : ℕ) (text : List ℕ) → n ≤ length text → prefix_len p (take n text) < n →

@@ -1,6 +1,6 @@
 -- The line records of a run are listed, and others after them.
-use Rattle.std.proofs.Common.{◌≡◌, ℕ, ◌+◌, ◌-◌, ◌<◌, ◌≤◌, true, false, Bool, cond, not, nat_eq, List, [], ◌∷◌, ◌++◌, length, take, drop, Option, Some, None, option_map, IsSome, refl, sym, ap, subst, ◌∙◌, arith, append_assoc, append-nil, length-append, length-drop}
-use Rattle.std.specs.List.{AllByRecursion, cons_option, filter_map, slice_range}
+use Rattle.std.proofs.Common.{◌≡◌, ℕ, ◌+◌, ◌-◌, ◌<◌, ◌≤◌, true, false, Bool, cond, nat_eq, List, [], ◌∷◌, ◌++◌, length, drop, Option, Some, None, option_map, IsSome, refl, sym, ap, subst, ◌∙◌, arith, append_assoc, append-nil, length-append, length-drop}
+use Rattle.std.specs.List.{AllByRecursion, cons_option, filter_map}
 use Rattle.std.proofs.lemmas.Bool.{false≢true}
 use Rattle.std.proofs.lemmas.List.{drop-drop, length-take-le, take-append-drop}
 use Rattle.std.proofs.lemmas.List.Elements.{filter_map-append}
@@ -8,9 +8,9 @@ use Rattle.std.proofs.Math.Seq.{drop-append_seam}
 use Rattle.bz_base.specs.Byte.{line_feed, HasNo}
 use Rattle.bz_base.specs.Line.{all_lines, before_ended, ended, ended_lines}
 use Rattle.bz_breakpad.specs.Choice.{body_at}
-use Rattle.bz_breakpad.specs.Kept.{AreListed, AreListedTo, IsLonger, IsOpenRunAt, LinesFitSoFar, ReadsLine, kept_lines, records_so_far, text_at}
+use Rattle.bz_breakpad.specs.Kept.{AreListed, AreListedTo, IsLonger, IsOpenRunAt, ReadsLine, kept_lines, records_so_far, text_at}
 use Rattle.bz_breakpad.specs.Line.{line_front, line_in, source_line}
-use Rattle.bz_breakpad.specs.LineRun.{AreLineRecords, lines_in}
+use Rattle.bz_breakpad.specs.LineRun.{lines_in}
 use Rattle.bz_breakpad.specs.Reads.{◌>>=◌, form_at}
 use Rattle.bz_breakpad.specs.Records.{LINE}
 use Rattle.bz_breakpad.specs.Table.{SourceLine}
@@ -20,7 +20,6 @@ use Rattle.bz_breakpad.specs.declared.parser.standing.StartText.{StartText}
 use Rattle.bz_breakpad.specs.declared.types.Part.{Part}
 use Rattle.bz_breakpad.proofs.FunctionLemmas.{lines_more}
 use Rattle.bz_breakpad.proofs.KeptLemmas.{all_beside}
-use Rattle.bz_breakpad.proofs.LineSearchLemmas.{by_read}
 use Rattle.bz_breakpad.proofs.MidwayLemmas.{line_front_of}
 use Rattle.bz_breakpad.proofs.RunLemmas.{front_front}
 

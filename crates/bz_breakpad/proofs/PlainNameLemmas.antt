@@ -1,52 +1,17 @@
 -- A name in ASCII, seen by the bits of loads.
-use Rattle.std.proofs.Common.{◌≡◌, ◌≢◌, ℕ, zero, suc, ◌+◌, ◌<◌, ◌≤◌, Bool, true, false, cond, not, List, [], ◌∷◌, ◌++◌, map, length, take, drop, nat_eq, refl, sym, ap, ◌∙◌, arith}
+use Rattle.std.proofs.Common.{◌≡◌, ℕ, zero, suc, ◌+◌, ◌<◌, ◌≤◌, Bool, true, false, cond, List, [], ◌∷◌, ◌++◌, length, take, drop, nat_eq, refl, sym, ap, ◌∙◌, arith}
 use Rattle.std.specs.List.{prefix_len, slice_index}
 use Rattle.std.specs.Str.{IsAscii, IsUtf8}
 use Rattle.std.proofs.lemmas.Bool.{or_from, false_from_ne_true, eqb-true, false≢true}
-use Rattle.std.proofs.lemmas.List.{length-take, length-take-le, take-append-drop}
-use Rattle.std.proofs.lemmas.Simd.{leading_from_mask_l, trailing_mask_l}
+use Rattle.std.proofs.lemmas.List.{take-append-drop}
 use Rattle.std.proofs.lemmas.Str.{IsUtf8-from_ascii}
-use lib.Count.{count_trailing_zeros}
-use lib.Lanes.{mask_l}
 use Rattle.bz_base.specs.Byte.{line_feed, is_blank, HasNo, begins_with}
 use Rattle.bz_breakpad.specs.Byte.{is_plain}
 use Rattle.bz_breakpad.specs.Form.{AllPass}
 use Rattle.bz_breakpad.specs.PlainFunc.{IsPlainName}
-use Rattle.bz_breakpad.proofs.LaneLemmas.{double_not}
 use Rattle.bz_breakpad.proofs.PlainLemmas.{byte_at}
 
 module _ (p : ℕ → Bool) where
-  -- a run in front is no longer than one in the whole
-  run_in_front : (n : ℕ) (text : List ℕ) → prefix_len p (take n text) ≤ prefix_len p text
-  run_in_front zero text = omega arith
-  run_in_front (suc n) [] = omega arith
-  run_in_front (suc n) (b ∷ text) = step (p b) (prefix_len p (take n text)) (prefix_len p text) (run_in_front n text) where
-    step : (test : Bool) (m n : ℕ) → m ≤ n → cond test (1 + m) 0 ≤ cond test (1 + n) 0
-    step true m n less = omega arith
-    step false m n less = omega arith
-
-  -- a run goes on behind a part of it
-  pub run_goes_on : (n : ℕ) (text : List ℕ) → n ≤ prefix_len p text → prefix_len p text ≡ n + prefix_len p (drop n text)
-  run_goes_on zero text within = omega arith
-  run_goes_on (suc n) [] within = absurd (omega arith)
-  run_goes_on (suc n) (b ∷ text) within = step (p b) (prefix_len p text) (prefix_len p (drop n text)) (run_goes_on n text) within where
-    step : (test : Bool) (m l : ℕ) → (n ≤ m → m ≡ n + l) → suc n ≤ cond test (1 + m) 0 → cond test (1 + m) 0 ≡ suc n + l
-    step true m l same within = omega (arith, same (omega arith))
-    step false m l same within = absurd (omega arith)
-
-  -- the first bit of a load that is set says how far a run goes on at least
-  pub run_by_some : (bits : ℕ) (text : List ℕ) → bits ≡ mask_l (map (λ b. not (p b)) (take 32 text)) → bits ≢ 0 → count_trailing_zeros 64 bits ≤ prefix_len p text
-  unfolding count_trailing_zeros
-  run_by_some bits text load some =
-      let fails : ℕ → Bool = λ b. not (p b) in
-      omega (arith, ap (count_trailing_zeros 64) load ∙ trailing_mask_l fails 64 (take 32 text) (omega (arith, length-take 32 text)) (omega (arith, load)) ∙ double_not p (take 32 text), run_in_front 32 text)
-
-  -- and without one it goes on past the load
-  pub run_by_none : (text : List ℕ) → 32 ≤ length text → mask_l (map (λ b. not (p b)) (take 32 text)) ≡ 0 → 32 ≤ prefix_len p text
-  run_by_none text room none =
-      let fails : ℕ → Bool = λ b. not (p b) in
-      omega (arith, leading_from_mask_l fails (take 32 text) none, double_not p (take 32 text), length-take-le 32 text room, run_in_front 32 text)
-
   -- each byte of a part of a run passes
   run_passes : (n : ℕ) (text : List ℕ) → n ≤ prefix_len p text → AllPass p (take n text)
   run_passes zero text within = tt

@@ -1,6 +1,6 @@
 -- Runs of line records: a run that is cut behind a line feed is two runs, and which of them answers.
 use Rattle.std.proofs.Common.{◌≡◌, ℕ, zero, suc, ◌+◌, ◌-◌, ◌<◌, ◌≤◌, true, false, Bool, cond, not, ◌&&◌, ◌||◌, nat_eq, nat_le, List, [], ◌∷◌, ◌++◌, length, take, drop, map, Option, Some, None, option_and_then, option_map, IsSome, refl, sym, ap, subst, ◌∙◌, arith, inl, inr, length-append, length-drop}
-use Rattle.std.specs.List.{AllByRecursion, cons_option, filter_map, prefix_len, slice_get}
+use Rattle.std.specs.List.{AllByRecursion, cons_option, filter_map, prefix_len}
 use Rattle.std.specs.Prelude.{slice_index}
 use Rattle.std.proofs.lemmas.Bool.{cases_lt, le-ltb, lt-ltb, ne_eqb, le-leb, lt-leb}
 use Rattle.std.proofs.lemmas.List.{length-map, map-append}

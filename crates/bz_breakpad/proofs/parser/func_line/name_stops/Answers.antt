@@ -2,7 +2,7 @@ use Rattle.std.proofs.Common.{ℕ, leb, cond, not, take, bit_or, refl, arith}
 use Rattle.std.proofs.lemmas.List.{length-take-le}
 use Rattle.std.proofs.lemmas.Simd.{zip2_of_maps, zip2_splat, zip2_splat_left}
 use Rattle.bz_breakpad.specs.Byte.{is_plain}
-use Rattle.bz_breakpad.proofs.LaneLemmas.{bits_are}
+use Rattle.bz_base.proofs.LoadLemmas.{bits_are}
 use Rattle.bz_breakpad.proofs.parser.func_line.name_stops.Goals as goal
 
 pub returns : goal.returns

@@ -3,7 +3,7 @@ use Rattle.std.proofs.lemmas.List.{length-drop, take_rest}
 use Rattle.std.proofs.lemmas.List.Sums.{prefix_len-le-length}
 use lib.Lanes.{mask_l}
 use Rattle.bz_breakpad.specs.Byte.{is_plain}
-use Rattle.bz_breakpad.proofs.PlainNameLemmas.{run_by_none, run_by_some, run_goes_on}
+use Rattle.bz_base.proofs.LoadLemmas.{run_by_bits, run_by_none, run_goes_on}
 use Rattle.bz_breakpad.proofs.parser.func_line.plain_len.Goals as goal
 
 pub returns-then-stops-ne0-clause-plain : goal.returns-then-stops-ne0-clause-plain
@@ -11,7 +11,7 @@ returns-then-stops-ne0-clause-plain c =
     let text = c.args.text.now in
     let len = c.loop-len.len in
     let load = c.name_stops-stops.ensures ∙ ap (λ t. mask_l (map (λ b. not (is_plain b)) (take 32 t))) (take_rest text len) in
-    omega (arith, run_goes_on is_plain len text c.loop-len.invariant.plain, run_by_some is_plain c.name_stops-stops.result (drop len text) load c.if-stops-ne0.true)
+    omega (arith, run_goes_on is_plain len text c.loop-len.invariant.plain, run_by_bits is_plain c.name_stops-stops.result (drop len text) load c.if-stops-ne0.true)
 
 pub returns-then-stops-ne0-clause-within : goal.returns-then-stops-ne0-clause-within
 returns-then-stops-ne0-clause-within c = omega (arith, returns-then-stops-ne0-clause-plain c, prefix_len-le-length is_plain c.args.text.now)

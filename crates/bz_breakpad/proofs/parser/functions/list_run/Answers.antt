@@ -1,5 +1,4 @@
 use Rattle.std.proofs.Common.{arith}
-use Rattle.std.proofs.lemmas.List.{length-drop, length-take-le}
 use Rattle.bz_breakpad.proofs.ListingLemmas.{listing_begins, listing_ends, listing_goes_on, run_within}
 use Rattle.bz_breakpad.proofs.parser.functions.list_run.Goals as goal
 

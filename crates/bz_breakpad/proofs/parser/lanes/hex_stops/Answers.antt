@@ -2,7 +2,7 @@ use Rattle.std.proofs.Common.{arith, ℕ, leb, cond, not, take, bit_and, refl}
 use Rattle.std.proofs.lemmas.List.{length-take-le}
 use Rattle.std.proofs.lemmas.Simd.{zip2_splat, zip2_of_maps, splat_is_map}
 use Rattle.bz_breakpad.specs.Byte.{is_hex}
-use Rattle.bz_breakpad.proofs.LaneLemmas.{bits_are}
+use Rattle.bz_base.proofs.LoadLemmas.{bits_are}
 use Rattle.bz_breakpad.proofs.parser.lanes.hex_stops.Goals as goal
 
 pub returns : goal.returns

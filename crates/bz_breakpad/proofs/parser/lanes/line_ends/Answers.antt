@@ -2,7 +2,7 @@ use Rattle.std.proofs.Common.{arith, ℕ, nat_eq, take, refl}
 use Rattle.std.proofs.lemmas.List.{length-take-le}
 use Rattle.std.proofs.lemmas.Simd.{zip2_splat}
 use Rattle.bz_base.specs.Byte.{line_feed}
-use Rattle.bz_breakpad.proofs.LaneLemmas.{bits_are}
+use Rattle.bz_base.proofs.LoadLemmas.{bits_are}
 use Rattle.bz_breakpad.proofs.parser.lanes.line_ends.Goals as goal
 
 pub returns : goal.returns

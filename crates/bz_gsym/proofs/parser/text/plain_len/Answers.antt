@@ -3,7 +3,7 @@ use Rattle.std.proofs.lemmas.List.{length-drop, take_rest}
 use Rattle.std.proofs.lemmas.List.Sums.{prefix_len-le-length}
 use lib.Lanes.{mask_l}
 use Rattle.bz_gsym.specs.Strings.{is_plain}
-use Rattle.bz_gsym.proofs.PlainTextLemmas.{run_by_bits, run_by_none, run_goes_on}
+use Rattle.bz_base.proofs.LoadLemmas.{run_by_bits, run_by_none, run_goes_on}
 use Rattle.bz_gsym.proofs.parser.text.plain_len.Goals as goal
 
 pub returns-then-stops-ne0-clause-plain : goal.returns-then-stops-ne0-clause-plain
