@@ -14,8 +14,8 @@ use crate::parser::plain::line_feeds;
 use crate::types::{Part, SourceLine};
 use bz_base::Addr;
 
-/// About as long is a line record, in bytes.
-const BEFORE: usize = 16;
+/// About how long a line record is, in bytes.
+const LINE_LEN: usize = 16;
 
 /// Where a run may be cut first and then, in front of lines; 0 where that isn't known.
 #[derive(Clone, Copy)]
@@ -136,7 +136,7 @@ impl Guess {
         if len > text.len() {
             return Cuts::unknown();
         }
-        let first = cut_if_near(text, len, self.near.saturating_sub(BEFORE));
+        let first = cut_if_near(text, len, self.near.saturating_sub(LINE_LEN));
         if first >= len {
             return Cuts::unknown();
         }
@@ -144,11 +144,11 @@ impl Guess {
         let place = if start <= addr {
             first
                 .saturating_add(paced(addr - start, self.pace))
-                .saturating_add(BEFORE)
+                .saturating_add(LINE_LEN)
         } else {
             first
                 .saturating_sub(paced(start - addr, self.pace))
-                .saturating_sub(2 * BEFORE)
+                .saturating_sub(2 * LINE_LEN)
         };
         Cuts {
             first,
