@@ -9,7 +9,7 @@ use Rattle.std.specs.Ordering.{nat_cmp, eq_by_cmp}
 use Rattle.std.specs.Cmp.Lexicographic.{slice_cmp, nat_list_cmp_total, nat_list_eq_equiv}
 use Rattle.std.specs.FinMap.{find, get-from_entries, get-insert, get-remove, same_map, nat_cmp-IsAntisymmetric, slice_cmp-IsAntisymmetric}
 use Rattle.std.proofs.lemmas.Map.Text.{btree_map_updates_text, is_eq-slice_cmp}
-use Rattle.bz_files.specs.declared.mem_files.Held.{Held}
+use Rattle.bz_files.specs.declared.worlds.Held.{Held}
 use Rattle.bz_files.specs.World.{entry_at, with_entry, without_entry}
 use Rattle.bz_files.specs.Held.{entry_of, world_of}
 

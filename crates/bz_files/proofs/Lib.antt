@@ -1,4 +1,6 @@
+pub mod EachWorld
+pub mod FreshStamps
 pub mod HeldWorlds
 pub mod LookedLemmas
-pub mod NumberedTexts
 pub mod StampHashing
+pub mod WorldLists

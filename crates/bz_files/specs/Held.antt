@@ -2,8 +2,8 @@
 use Rattle.std.specs.Prelude.{map, String, string_bytes}
 use Rattle.std.specs.BTreeMap.{BTreeMap}
 use Rattle.std.specs.FinMap as finite
-use Rattle.bz_files.specs.declared.mem_files.Held.{Held}
-use Rattle.bz_files.specs.declared.mem_files.Held.TheVariants as held
+use Rattle.bz_files.specs.declared.worlds.Held.{Held}
+use Rattle.bz_files.specs.declared.worlds.Held.TheVariants as held
 use Rattle.bz_files.specs.World.{World, Entry, Denied, Present}
 
 -- the entry that a held file is

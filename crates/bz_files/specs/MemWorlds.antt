@@ -1,5 +1,5 @@
 -- Files in memory as one value: their worlds, what an edit does to the last of them, and what a look leaves.
-use Rattle.std.specs.Prelude.{ℕ, ◌+◌, ◌==◌, pos, Bool, true, false, if◌then◌else◌, List, [], ◌∷◌, Option, Some, None, length, Result, Ok, Err, refl}
+use Rattle.std.specs.Prelude.{ℕ, ◌+◌, ◌==◌, pos, Bool, true, false, if◌then◌else◌, List, [], ◌∷◌, ◌++◌, Option, Some, None, length, Result, Ok, Err, refl}
 use Rattle.std.specs.List.{list_any}
 use Rattle.std.specs.FinMap as map
 use Rattle.std.specs.Coded.{Coded, code_by, coded×, coded_ℕ, coded_list}
@@ -28,6 +28,11 @@ abbrev pub last_world : List World → World
 last_world [] = map.empty
 last_world (world ∷ []) = world
 last_world (world ∷ next ∷ later) = last_world (next ∷ later)
+
+-- the world in view is the first one
+abbrev pub first_world : List World → World
+first_world [] = map.empty
+first_world (world ∷ later) = world
 
 -- the worlds with the last one edited
 abbrev pub on_last : (World → World) → List World → List World
@@ -72,6 +77,10 @@ after_put path bytes files = with_put path bytes (fresh_stamp files.stamps (leng
 -- the files after the path got what is at the old path
 abbrev pub after_link : List ℕ → List ℕ → MemWorlds → MemWorlds
 after_link path old files = record files { worlds = on_last (with_link path old) files.worlds }
+
+-- the files after a copy of the last world was put at the end
+abbrev pub after_schedule : MemWorlds → MemWorlds
+after_schedule files = record files { worlds = files.worlds ++ last_world files.worlds ∷ [] }
 
 -- the next look is one of those that fail
 abbrev pub fails_next : MemWorlds → Bool

@@ -1,14 +1,15 @@
 //! Laws of what a symbolizer knows of files.
 
-ghost use Rattle.std.specs.Prelude.{◌≡◌, ◌↔◌, ℕ, List, Some, IsTrue};
+ghost use Rattle.std.specs.Prelude.{◌≡◌, ◌↔◌, ℕ, List, [], ◌∷◌, ◌++◌, Some, Result, IsTrue};
 ghost use Rattle.std.specs.declared.cmp.Ordering.TheVariants.{Equal};
 ghost use Rattle.bz_files.specs.declared.files.FileError.{FileError};
 ghost use Rattle.bz_files.specs.declared.stamp.Stamp.{Stamp};
 ghost use Rattle.bz_files.specs.declared.text.IoFault.{IoFault};
 ghost use Rattle.bz_files.specs.Agreement.{Agree};
-ghost use Rattle.bz_files.specs.Edits.{Edit, worlds_seen};
-ghost use Rattle.bz_files.specs.MemWorlds.{new_worlds};
+ghost use Rattle.bz_files.specs.Edits.{Agreeing, Edit, after_edit, worlds_seen};
+ghost use Rattle.bz_files.specs.MemWorlds.{MemWorlds, after_look, after_read, new_worlds};
 ghost use Rattle.bz_files.specs.StampOrder.{SameFields, FieldsFit, by_fields};
+ghost use Rattle.bz_files.specs.World.{World, next_worlds};
 
 use crate::files::FileError;
 use crate::stamp::Stamp;
@@ -50,8 +51,25 @@ pub fn clones_never_fail()
     ensures texts { (a : IoFault) → ⟦<IoFault as Clone>⟧.is_infallible a }
 {}
 
-/// Worlds that are made by putting bytes under fresh stamps and by linking alone agree: equal stamps
-/// have equal bytes within each of them and between any two.
+/// New files in memory agree, and each edit that chooses no stamp keeps that: then all worlds that
+/// stand in their list or stood there before agree. `MemFiles::put_as` doesn't keep it.
+pub fn edits_keep_agreement()
+    ensures new { (pid : ℕ) → Agreeing (new_worlds pid).worlds (new_worlds pid) }
+    ensures edit { (seen : List World) (files : MemWorlds) (edit : Edit) → Agreeing seen files → Agreeing (seen ++ (after_edit edit files).worlds) (after_edit edit files) }
+    ensures agree { (seen : List World) (files : MemWorlds) → Agreeing seen files → Agree (seen ++ files.worlds) }
+{}
+
+/// Files in memory that agree still do after the next world came into view, after a look, and after
+/// a look was made to fail. So they do after such calls and edits in any order.
+pub fn looks_keep_agreement<T>()
+    ensures begin { (seen : List World) (files : MemWorlds) → Agreeing seen files → Agreeing seen (record files { worlds = next_worlds files.worlds }) }
+    ensures stat { (seen : List World) (files : MemWorlds) → Agreeing seen files → Agreeing seen (after_look files) }
+    ensures read { (seen : List World) (files : MemWorlds) (result : Result T FileError) → Agreeing seen files → Agreeing seen (after_read result files) }
+    ensures fail_call { (seen : List World) (files : MemWorlds) (n : ℕ) → Agreeing seen files → Agreeing seen (record files { failing = files.failing ++ n ∷ [] }) }
+{}
+
+/// Worlds that are made of an empty one by edits that choose no stamp agree: equal stamps have equal
+/// bytes within each of them and between any two.
 pub fn edited_worlds_agree()
     ensures { (pid : ℕ) (edits : List Edit) → Agree (worlds_seen (new_worlds pid) edits) }
 {}

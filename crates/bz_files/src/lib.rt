@@ -10,6 +10,7 @@ mod real_files;
 mod real_text;
 mod stamp;
 mod text;
+mod worlds;
 
 pub use files::{FileError, Files};
 pub use mem_files::MemFiles;

@@ -1,36 +1,27 @@
 //! Files in memory, whose worlds are told.
 
-ghost use Rattle.std.specs.Prelude.{◌≡◌, ◌+◌, ◌<◌, ◌≤◌, ◌↔◌, [], ◌∷◌, ◌++◌, length, is_some, option_map, IsTrue, IfOk, OnOk, OnErr, IfSome, IsErrOf, IsOkUnless};
-ghost use Rattle.std.specs.FinMap as map;
+ghost use Rattle.std.specs.Prelude.{◌≡◌, ◌<◌, ◌≤◌, ◌↔◌, [], ◌∷◌, ◌++◌, length, is_some, option_map, IsTrue, IfOk, OnOk, OnErr, IfSome, IsErrOf, IsOkUnless};
 ghost use Rattle.bz_files.specs.Count.{CountsFaults};
 ghost use Rattle.bz_files.specs.World.{Denied, Present, entry_at, with_entry, without_entry, in_view, next_worlds, Told, IsAnswer};
-ghost use Rattle.bz_files.specs.MemWorlds.{new_worlds, last_world, on_last, is_version, fresh_stamp, after_put, after_link, fails_next, after_look, after_read};
-ghost use Rattle.bz_files.specs.Held.{entry_of, world_of};
+ghost use Rattle.bz_files.specs.MemWorlds.{new_worlds, last_world, on_last, is_version, fresh_stamp, after_put, after_link, after_schedule, fails_next, after_look, after_read};
+ghost use Rattle.bz_files.specs.Held.{entry_of};
 
 use crate::counter::Counter;
 use crate::files::{FileError, Files};
 use crate::stamp::Stamp;
+use crate::worlds::{Held, Worlds};
 use bz_base::Error;
 use std::alloc::Global;
-use std::collections::BTreeMap;
 use std::marker::Model;
 
 /// The number of the last fresh stamp.
 const LAST_STAMP: u64 = 9223372036854775807;
 
-/// What is held at a path.
-#[derive(Drop)]
-enum Held {
-    /// A file that may not be read.
-    Denied,
-    /// A version of a file.
-    Version(Stamp, Vec<u8>),
-}
-
-/// Files in memory: one world, which edits change, with looks that can be made to fail.
+/// Files in memory: a list of worlds, of which the first is in view and the last is the one that edits
+/// change, with looks that can be made to fail.
 #[derive(Drop)]
 pub struct MemFiles {
-    entries: BTreeMap<String, Held>,
+    worlds: Worlds,
     stamps: u64,
     calls: Counter,
     failing: Vec<u64>,
@@ -40,18 +31,16 @@ pub struct MemFiles {
 }
 
 impl Model for MemFiles {
-    ghost use Rattle.std.specs.Prelude.{[], ◌∷◌, ◌≤◌};
+    ghost use Rattle.std.specs.Prelude.{◌<◌, ◌≤◌, length};
     ghost use Rattle.bz_files.specs.MemWorlds.{MemWorlds, coded_mem_worlds, last_stamp};
 
     ghost Value = { MemWorlds };
 
     ghost coded = { coded_mem_worlds };
 
-    ghost use Rattle.bz_files.specs.Held.{world_of};
+    ghost view = { λ a. record { worlds = a.worlds; stamps = a.stamps; calls = a.calls; failing = a.failing.items; faults = a.faults; opens = a.opens; pid = a.pid } };
 
-    ghost view = { λ a. record { worlds = world_of a.entries ∷ []; stamps = a.stamps; calls = a.calls; failing = a.failing.items; faults = a.faults; opens = a.opens; pid = a.pid } };
-
-    ghost invariant = { λ a. a.stamps ≤ last_stamp };
+    ghost invariant = { λ a. (0 < length a.worlds) × (a.stamps ≤ last_stamp) };
 }
 
 impl MemFiles {
@@ -60,7 +49,7 @@ impl MemFiles {
         ensures { result ≡ new_worlds own_pid }
     {
         MemFiles {
-            entries: BTreeMap::new(alloc),
+            worlds: Worlds::new(alloc),
             stamps: 0,
             calls: Counter::new(),
             failing: Vec::new(alloc),
@@ -80,12 +69,12 @@ impl MemFiles {
         let Some(stamp) = fresh(self.stamps, bytes.len()) else {
             return Ok(None);
         };
-        hold(&mut self.entries, alloc, path, Held::Version(stamp, bytes))?;
+        self.worlds.hold(alloc, path, Held::Version(stamp, bytes))?;
         self.stamps += 1;
         Ok(Some(stamp))
     }
 
-    /// Puts the bytes at the path under this stamp.
+    /// Puts the bytes at the path under this stamp, which other bytes may have or be given too.
     pub fn put_as(
         &mut self,
         alloc: Global,
@@ -97,7 +86,7 @@ impl MemFiles {
         ensures err { OnErr result (self.new ≡ self.old) }
         ensures memory { IsOkUnless result Error.OutOfMemory }
     {
-        hold(&mut self.entries, alloc, path, Held::Version(stamp, bytes))
+        self.worlds.hold(alloc, path, Held::Version(stamp, bytes))
     }
 
     /// Gives the path the stamp and the bytes that are at `old`. Says whether there was such a file.
@@ -107,12 +96,12 @@ impl MemFiles {
         ensures err { OnErr result (self.new ≡ self.old) }
         ensures memory { IsOkUnless result Error.OutOfMemory }
     {
-        let (stamp, bytes) = match look(&self.entries, old) {
+        let (stamp, bytes) = match self.worlds.look_last(old) {
             Some(Held::Version(stamp, bytes)) => (*stamp, Vec::from_slice(alloc, bytes)?),
             Some(Held::Denied) => return Ok(false),
             None => return Ok(false),
         };
-        hold(&mut self.entries, alloc, path, Held::Version(stamp, bytes))?;
+        self.worlds.hold(alloc, path, Held::Version(stamp, bytes))?;
         Ok(true)
     }
 
@@ -121,7 +110,7 @@ impl MemFiles {
         ensures removed { result ≡ is_some (entry_at (last_world self.old.worlds) path.now) }
         ensures after { self.new ≡ record self.old { worlds = on_last (without_entry path.now) self.old.worlds } }
     {
-        clear(&mut self.entries, path)
+        self.worlds.clear(path)
     }
 
     /// Lets a file be at the path that may not be read.
@@ -130,7 +119,17 @@ impl MemFiles {
         ensures err { OnErr result (self.new ≡ self.old) }
         ensures memory { IsOkUnless result Error.OutOfMemory }
     {
-        hold(&mut self.entries, alloc, path, Held::Denied)
+        self.worlds.hold(alloc, path, Held::Denied)
+    }
+
+    /// Puts a copy of the last world at the end of the list: it is the one that edits act on from now
+    /// on, and each `begin` brings the list one world further.
+    pub fn schedule(&mut self, alloc: Global) -> Result<(), Error>
+        ensures ok { OnOk result (self.new ≡ after_schedule self.old) }
+        ensures err { OnErr result (self.new ≡ self.old) }
+        ensures memory { IsOkUnless result Error.OutOfMemory }
+    {
+        self.worlds.schedule()
     }
 
     /// Makes look number `n` fail. Each `stat` and each `read` is a look, counted from 1.
@@ -145,14 +144,16 @@ impl MemFiles {
 
     /// How many looks have failed.
     pub fn faults(&self) -> u64
-        ensures { result ≡ self.now.faults }
+        ensures count { result ≡ self.now.faults }
+        ensures tells { 0 < length self.now.worlds }
     {
         self.faults.get()
     }
 
     /// How many files were read.
     pub fn opens(&self) -> u64
-        ensures { result ≡ self.now.opens }
+        ensures count { result ≡ self.now.opens }
+        ensures tells { 0 < length self.now.worlds }
     {
         self.opens.get()
     }
@@ -162,6 +163,7 @@ impl MemFiles {
         ensures state { self.new ≡ after_look self.old }
         ensures failing { result ≡ fails_next self.old }
         ensures faults { CountsFaults self.old.faults self.new.faults (IsTrue result) }
+        ensures tells { 0 < length self.old.worlds }
     {
         self.calls.add_one();
         let fails = self.failing.contains(&self.calls.get());
@@ -184,10 +186,10 @@ impl Files for MemFiles {
     ghost pid = { λ files. files.pid };
 
     fn begin(&mut self)
-        ensures { self.new ≡ record self.old { worlds = next_worlds self.old.worlds } }
+        ensures state { self.new ≡ record self.old { worlds = next_worlds self.old.worlds } }
+        ensures tells { 0 < length self.old.worlds }
     {
-        // There is one world, and so no next one: a look at it shows that.
-        let _entries = &self.entries;
+        self.worlds.next();
     }
 
     fn own_pid(&self) -> u32 {
@@ -200,11 +202,12 @@ impl Files for MemFiles {
         ensures failing { IsErrOf result FileError.Fault ↔ IsTrue (fails_next self.old) }
         ensures faults { CountsFaults self.old.faults self.new.faults (IsErrOf result FileError.Fault) }
         ensures no_memory { IsErrOf result FileError.OutOfMemory → ⊥ }
+        ensures tells { 0 < length self.old.worlds }
     {
         if self.begin_look() {
             return Err(FileError::Fault);
         }
-        match look(&self.entries, path) {
+        match self.worlds.look(path) {
             Some(Held::Version(stamp, _)) => Ok(*stamp),
             Some(Held::Denied) => Err(FileError::Denied),
             None => Err(FileError::NotFound),
@@ -216,11 +219,12 @@ impl Files for MemFiles {
         ensures state { self.new ≡ after_read result self.old }
         ensures failing { IsErrOf result FileError.Fault ↔ IsTrue (fails_next self.old) }
         ensures faults { CountsFaults self.old.faults self.new.faults (IsErrOf result FileError.Fault) }
+        ensures tells { 0 < length self.old.worlds }
     {
         if self.begin_look() {
             return Err(FileError::Fault);
         }
-        let bytes = copy_of(look(&self.entries, path), alloc)?;
+        let bytes = copy_of(self.worlds.look(path), alloc)?;
         self.opens.add_one();
         Ok(bytes)
     }
@@ -243,37 +247,6 @@ fn fresh(stamps: u64, size: usize) -> Option<Stamp>
         mtime_sec: number as i64,
         mtime_nsec: 0,
     })
-}
-
-/// What is held at the path.
-fn look<'m>(entries: &'m BTreeMap<String, Held>, path: &str) -> Option<&'m Held>
-    ensures { option_map (λ held. entry_of held.now) result ≡ map.get (world_of entries.now) path.now }
-{
-    entries.get(path)
-}
-
-/// Holds this at the path, in place of what was there.
-fn hold(
-    entries: &mut BTreeMap<String, Held>,
-    alloc: Global,
-    path: &str,
-    held: Held,
-) -> Result<(), Error>
-    ensures ok { OnOk result (world_of entries.new ≡ with_entry path.now (entry_of held) (world_of entries.old)) }
-    ensures err { OnErr result (world_of entries.new ≡ world_of entries.old) }
-    ensures memory { IsOkUnless result Error.OutOfMemory }
-{
-    let key = String::from_str(alloc, path)?;
-    entries.insert(key, held)?;
-    Ok(())
-}
-
-/// Takes away what is held at the path, and says whether anything was.
-fn clear(entries: &mut BTreeMap<String, Held>, path: &str) -> bool
-    ensures removed { result ≡ is_some (entry_at (world_of entries.old) path.now) }
-    ensures after { world_of entries.new ≡ without_entry path.now (world_of entries.old) }
-{
-    entries.remove(path).is_some()
 }
 
 /// The bytes of what is held, if they may be read.

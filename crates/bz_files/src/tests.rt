@@ -1,7 +1,13 @@
 //! What no clause says: that the calls succeed, and what real files, readers and writers give.
+
+ghost use Rattle.std.specs.Prelude.{◌≡◌, None, IsTrue};
+ghost use Rattle.bz_files.specs.MemWorlds.{first_world};
+ghost use Rattle.bz_files.specs.World.{entry_at};
+
 use crate::{
     FileError, Files, IoFault, MemFiles, MemIn, MemOut, RealFiles, RealIn, RealOut, TextIn, TextOut,
 };
+use bz_base::Error;
 use std::alloc::Global;
 use std::cell::Cell;
 use std::fs;
@@ -29,6 +35,59 @@ fn memory_files_hold_what_is_put(rt: HostRuntime) -> Result<(), Fail> {
     assert!(rt; files.stat("/b") == Err(FileError::Fault));
     assert!(rt; files.remove("/b") && !files.remove("/b"));
     assert!(rt; files.faults() == 1 && files.opens() == 1 && files.own_pid() == 7);
+    Ok(())
+}
+
+/// What the file at `/a` holds in each world that is scheduled.
+const TEXTS: [&str; 3] = ["one", "two", "three"];
+
+/// Files whose first world is empty.
+fn scheduled(alloc: Global) -> Result<MemFiles, Error> {
+    let mut files = MemFiles::new(alloc, 7);
+    for text in &TEXTS {
+        files.schedule(alloc)?;
+        let bytes = text.as_bytes().to_vec(alloc)?;
+        files.put(alloc, "/a", bytes)?;
+    }
+    Ok(files)
+}
+
+/// Whether the file at `/a` has this text.
+fn has_text(files: &mut MemFiles, alloc: Global, text: &str) -> bool {
+    match files.read(alloc, "/a") {
+        Ok(bytes) => bytes.as_slice() == text.as_bytes(),
+        Err(_) => false,
+    }
+}
+
+/// Whether the scheduled worlds come into view one by one, and the last one stays.
+fn come_in_turn(files: &mut MemFiles, alloc: Global) -> bool {
+    for text in &TEXTS {
+        files.begin();
+        if !has_text(files, alloc, text) {
+            return false;
+        }
+    }
+    files.begin();
+    has_text(files, alloc, "three")
+}
+
+/// Whether nothing is at the path in the world in view. Files in memory always have one.
+fn is_absent(files: &mut MemFiles, path: &str) -> bool
+    ensures { IsTrue result → entry_at (first_world files.old.worlds) path.now ≡ None }
+{
+    matches!(files.stat(path), Err(FileError::NotFound))
+}
+
+#[test]
+fn memory_worlds_come_in_turn(rt: HostRuntime) -> Result<(), Fail> {
+    let alloc = rt.alloc();
+    let mut files = scheduled(alloc)?;
+    let first_is_empty = is_absent(&mut files, "/a");
+    let in_turn = come_in_turn(&mut files, alloc);
+    // The last world is in view now, and it is the one that edits change.
+    let edited = files.remove("/a") && is_absent(&mut files, "/a");
+    assert!(rt; first_is_empty && in_turn && edited);
     Ok(())
 }
 

@@ -1,6 +1,6 @@
 use Rattle.std.proofs.Common.{ap, sym, ◌∙◌, is_some}
 use Rattle.bz_files.proofs.HeldWorlds.{is_some_held, world_cleared}
-use Rattle.bz_files.proofs.mem_files.clear.Goals as goal
+use Rattle.bz_files.proofs.worlds.clear.Goals as goal
 
 -- something was removed exactly where something was in the world
 pub returns-clause-removed : goal.returns-clause-removed

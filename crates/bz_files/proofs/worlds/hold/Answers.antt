@@ -1,7 +1,7 @@
 use Rattle.std.proofs.Common.{◌≡◌, string_bytes}
 use Rattle.std.proofs.lemmas.Result.{IfOk-at_ok}
 use Rattle.bz_files.proofs.HeldWorlds.{world_held}
-use Rattle.bz_files.proofs.mem_files.hold.Goals as goal
+use Rattle.bz_files.proofs.worlds.hold.Goals as goal
 
 -- the key has the path's bytes, so the world has the entry at the path
 pub returns-clause-ok : goal.returns-clause-ok

@@ -1,7 +1,7 @@
 use Rattle.std.proofs.Common.{ap, sym, ◌∙◌, option_map}
 use Rattle.bz_files.specs.Held.{entry_of}
 use Rattle.bz_files.proofs.HeldWorlds.{option_map-now, entry_held}
-use Rattle.bz_files.proofs.mem_files.look.Goals as goal
+use Rattle.bz_files.proofs.worlds.look.Goals as goal
 
 -- what the map holds at the path is what the world has there
 pub returns : goal.returns

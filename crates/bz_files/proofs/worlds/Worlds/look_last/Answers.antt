@@ -1,0 +1,7 @@
+use Rattle.std.proofs.Common.{map}
+use Rattle.bz_files.specs.Held.{world_of}
+use Rattle.bz_files.proofs.WorldLists.{last_at_end}
+use Rattle.bz_files.proofs.worlds.Worlds.look_last.Goals as goal
+
+pub returns : goal.returns
+returns c = rw (← c.self.view_is, last_at_end (map world_of c.self.inside.earlier.items) (world_of c.self.inside.last)) c.look.ensures
