@@ -18,13 +18,8 @@ use Rattle.bz_cache.proofs.FiniteMaps.{remove_cases, remove_absent}
 use Rattle.bz_cache.proofs.Naming.{or_cases, or_left, or_right, paths_apart}
 use Rattle.bz_cache.proofs.Stamps.{stamp_total, stamps_apart}
 
--- a test that holds
-holds : (b : Bool) → T b → b ≡ true
-holds true h = refl
-holds false h = absurd h
-
 -- both parts of a test that holds
-both_hold : (a b : Bool) → T (a && b) → T a × T b
+pub both_hold : (a b : Bool) → T (a && b) → T a × T b
 both_hold true b h = (tt, h)
 both_hold false b h = absurd h
 
@@ -76,11 +71,11 @@ module _ {K X : Type 0} (R : K → K → Ordering) where
       by_test false later rest = or_right (p e.1) (list_any (λ (e : K × X). p e.1) es) (rest later)
 
 -- a stamp that a held path names is named
-is_named-at : (paths : Paths) (q : List ℕ) (e : PathState) (s : Stamp) → map.get paths q ≡ Some e → names e s ≡ true → is_named paths s ≡ true
+pub is_named-at : (paths : Paths) (q : List ℕ) (e : PathState) (s : Stamp) → map.get paths q ≡ Some e → names e s ≡ true → is_named paths s ≡ true
 is_named-at paths q e s has named_s = passing_found (slice_cmp nat_cmp) (λ (x : PathState). names x s) q e (map.entries paths) (sym (get-entries paths q) ∙ has) named_s
 
 -- a stamp that is named is named by a held path
-named_by : (paths : Paths) (s : Stamp) → is_named paths s ≡ true → (q : List ℕ) × (e : PathState) × (map.get paths q ≡ Some e) × (names e s ≡ true)
+pub named_by : (paths : Paths) (s : Stamp) → is_named paths s ≡ true → (q : List ℕ) × (e : PathState) × (map.get paths q ≡ Some e) × (names e s ≡ true)
 named_by paths s named_s = get_passing nat_list_cmp_total paths_apart (λ (e : List ℕ × PathState). names e.1 s) paths named_s
 
 -- what is kept of the versions whose stamps pass
@@ -133,7 +128,11 @@ module _ (test : List ℕ → Option Error) (c : Cache) (p : List ℕ) (consiste
         by_kept s None is = never_kept (is_named c.paths s)
         by_kept s (Some v) is = ap (λ b. cond b (Some v) None) (still_named s (ap is_some is))
 
-    -- forgetting a path that isn't held changes nothing
+    -- taking out a path that isn't held changes nothing
+    pub stays_unheld : record { reload = c.reload; kept = c.kept; paths = map.remove c.paths p } ≡ c
+    stays_unheld = ap (λ (ps : Paths). record { reload = c.reload; kept = c.kept; paths = ps }) paths_stay
+
+    -- nor does forgetting it
     pub evicted_unheld : evicted c p ≡ c
     evicted_unheld = ap (λ (ps : Paths). record { reload = c.reload; kept = map.retain_keys c.kept (is_named ps); paths = ps }) paths_stay ∙ ap (λ (k : Kept). record { reload = c.reload; kept = k; paths = c.paths }) kept_stays
 

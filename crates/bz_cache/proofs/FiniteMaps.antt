@@ -28,6 +28,14 @@ module _ {K X : Type 0} {R : K → K → Ordering} (o : IsTotalOrder R) (apart :
   pub remove_inserted : (m : FinMap R X) (k : K) (v : X) → get m k ≡ None → remove (insert m k v) k ≡ m
   remove_inserted m k v absent = same_map o apart _ _ (λ q. get-remove o (insert m k v) k q ∙ ap (cond (eq_by_cmp R q k) None) (get-insert o m k v q) ∙ again (eq_by_cmp R q k) (Some v) (get m q) None (λ e. sym absent ∙ at_equal m k q e))
 
+  -- a value that is put in again where it was
+  pub insert_removed : (m : FinMap R X) (k : K) (v : X) → get m k ≡ Some v → insert (remove m k) k v ≡ m
+  insert_removed m k v there = same_map o apart _ _ (λ q. get-insert o (remove m k) k v q ∙ ap (cond (eq_by_cmp R q k) (Some v)) (get-remove o m k q) ∙ again (eq_by_cmp R q k) None (get m q) (Some v) (λ e. sym there ∙ at_equal m k q e))
+
+  -- what was taken out isn't there
+  pub get_removed : (m : FinMap R X) (k : K) → get (remove m k) k ≡ None
+  get_removed m k = get-remove o m k k ∙ ap (λ b. cond b None (get m k)) ((eq_by_cmp_equiv o).refl k)
+
   -- a key that isn't there
   pub remove_absent : (m : FinMap R X) (k : K) → get m k ≡ None → remove m k ≡ m
   remove_absent m k absent = same_map o apart _ _ (λ q. get-remove o m k q ∙ over (eq_by_cmp R q k) None (get m q) (λ e. sym absent ∙ at_equal m k q e))

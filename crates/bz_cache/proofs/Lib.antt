@@ -1,4 +1,6 @@
 pub mod CoherenceLaws
+pub mod Counted
+pub mod Counting
 pub mod Evicting
 pub mod FiniteMaps
 pub mod Inserting
@@ -8,6 +10,7 @@ pub mod MapViews
 pub mod Naming
 pub mod Pinning
 pub mod Refusing
+pub mod Releasing
 pub mod Sharing
 pub mod SortedEdits
 pub mod SortedPairs

@@ -8,6 +8,7 @@ use Rattle.std.proofs.lemmas.Bool.{false≢true}
 use Rattle.bz_base.specs.declared.error.Error.{Error}
 use Rattle.bz_files.specs.declared.stamp.Stamp.{Stamp}
 use Rattle.bz_cache.specs.Cache.{Cache, PathState, Kept, Paths, Consistent, new_cache, names, is_among, stamp_cmp, stamp_eq}
+use Rattle.bz_cache.specs.Counts.{names_at}
 use Rattle.bz_cache.specs.Look.{with_earlier, moved, named}
 use Rattle.bz_cache.specs.View.{bytes_at}
 use Rattle.bz_cache.proofs.FiniteMaps.{insert_same, insert_cases, get_inserted, still_there}
@@ -31,7 +32,7 @@ or_left true b e = refl
 or_left false b e = absurd (false≢true e)
 
 -- a stamp is among the stamps that were put after others exactly where it was, or is one of them
-among_push : (stamps : List Stamp) (t s : Stamp) → is_among (stamps ++ t ∷ []) s ≡ (is_among stamps s || stamp_eq t s)
+pub among_push : (stamps : List Stamp) (t s : Stamp) → is_among (stamps ++ t ∷ []) s ≡ (is_among stamps s || stamp_eq t s)
 among_push [] t s = or_false (stamp_eq t s)
   where
     or_false : (b : Bool) → (b || false) ≡ b
@@ -110,6 +111,31 @@ module _ (s : Stamp) where
         | inl current ↦ inl (same_stamp s t current)
         | inr earlier ↦ inr (e, refl, swap_or (is_among e.earlier t) (stamp_eq e.current t) (earlier_only e.earlier e.current t earlier))
       ]
+
+-- so it names what it named, and the stamp
+pub moved_is : (s : Stamp) (o : Option PathState) (t : Stamp) → names (moved s o) t ≡ (names_at o t || stamp_eq s t)
+moved_is s o t = same_test (names (moved s o) t) (names_at o t || stamp_eq s t) to from
+  where
+    same_test : (a b : Bool) → (a ≡ true → b ≡ true) → (b ≡ true → a ≡ true) → a ≡ b
+    same_test true b there back = sym (there refl)
+    same_test false true there back = back refl
+    same_test false false there back = refl
+
+    to : names (moved s o) t ≡ true → (names_at o t || stamp_eq s t) ≡ true
+    to named_t = elim (moved_only s o t named_t) [
+      | inl same ↦ or_right (names_at o t) (stamp_eq s t) (subst (λ (u : Stamp). stamp_eq s u ≡ true) same (stamp_eq_self s))
+      | inr old ↦ or_left (names_at o t) (stamp_eq s t) (ap (λ (x : Option PathState). names_at x t) old.1 ∙ old.2)
+    ]
+
+    keeps : (x : Option PathState) → names_at x t ≡ true → names (moved s x) t ≡ true
+    keeps None named_t = absurd (false≢true named_t)
+    keeps (Some e) named_t = moved_keeps s e t named_t
+
+    from : (names_at o t || stamp_eq s t) ≡ true → names (moved s o) t ≡ true
+    from either = elim (or_cases (names_at o t) (stamp_eq s t) either) [
+      | inl old ↦ keeps o old
+      | inr current ↦ moved_names s o t (same_stamp s t current)
+    ]
 
 module _ (test : List ℕ → Option Error) (c : Cache) (p : List ℕ) (s : Stamp) (v : List ℕ) (consistent : Consistent test c) (formed_v : test v ≡ None) where
   -- a path that names a stamp in the cache before, or else one that does after the look

@@ -1,9 +1,9 @@
 -- Where a key is among pairs in the order of their keys, or where it would go.
-use Rattle.std.proofs.Common.{◌≡◌, ℕ, zero, suc, ◌+◌, ◌<◌, ◌≤◌, true, false, cond, List, [], ◌∷◌, map, length, get_or, Option, option_map, Some, Result, Ok, Err, IfOk, IfErr, sym, ap, ◌∙◌, refl, arith}
+use Rattle.std.proofs.Common.{◌≡◌, ℕ, zero, suc, ◌+◌, ◌<◌, ◌≤◌, true, false, cond, List, [], ◌∷◌, map, length, get_or, set, Option, option_map, Some, Result, Ok, Err, IfOk, IfErr, sym, ap, ◌∙◌, refl, arith}
 use Rattle.std.specs.List.{AllWithin, HoldsAt, insert, slice_get}
 use Rattle.std.specs.List.Sorted.{IsStrictlySortedBy, IsNonDecreasingBy, IsSearchInRange, IsBinarySearchResult}
 use Rattle.std.specs.Cmp.{IsTotalOrder}
-use Rattle.std.specs.Map.{keys_of, values_of, lookup, remove_entry}
+use Rattle.std.specs.Map.{keys_of, values_of, lookup, set_value, remove_entry}
 use Rattle.std.specs.Option.{option_map_or}
 use Rattle.std.proofs.lemmas.List.Edits.{length-insert}
 use Rattle.std.specs.BTreeMap.{is_at, insert_entry}
@@ -12,9 +12,10 @@ use Rattle.std.specs.declared.cmp.Ordering.{Ordering}
 use Rattle.std.specs.declared.cmp.Ordering.TheVariants.{Less, Equal, Greater}
 use Rattle.std.proofs.Math.ListN.{get_or-map}
 use Rattle.std.proofs.lemmas.List.Sorted.{searchable_from_sorted}
+use Rattle.std.proofs.lemmas.Option.{get_or_from_slice_get}
 use Rattle.std.proofs.lemmas.Map.Entries.{length-keys_of}
 use Rattle.std.proofs.lemmas.Map.Keys.{Less-from_sorted, sorted_tail}
-use Rattle.bz_cache.specs.InsertMap.{with_absent, IsKeyAt, IsGapFor}
+use Rattle.bz_cache.specs.InsertMap.{with_absent, with_value, IsKeyAt, IsGapFor}
 
 -- a comparison the other way round
 flipped : {K : Type 0} {cmp : K → K → Ordering} → IsTotalOrder cmp → (a b : K) (r : Ordering) → cmp a b ≡ r → cmp b a ≡ ordering_reverse r
@@ -43,6 +44,7 @@ module _ {K V : Type 0} {cmp : K → K → Ordering} (o : IsTotalOrder cmp) (k :
         there = refl;
         value = ap (λ b. cond b (Some e.1) (lookup (is_at (cmp k)) es)) tie;
         removed = ap (λ b. cond b es (e ∷ remove_entry (is_at (cmp k)) es)) tie;
+        replaced = λ v. ap (λ b. cond b ((e.0, v) ∷ es) (e ∷ set_value (is_at (cmp k)) es v)) tie;
       }
   found_at (e ∷ es) (suc i) sorted in_range ties =
       let rest = found_at es i (sorted_tail cmp e.0 (keys_of es) sorted) (omega arith) ties in
@@ -55,11 +57,12 @@ module _ {K V : Type 0} {cmp : K → K → Ordering} (o : IsTotalOrder cmp) (k :
         there = rest.there;
         value = ap (λ b. cond b (Some e.1) (lookup (is_at (cmp k)) es)) differs ∙ rest.value;
         removed = ap (λ b. cond b es (e ∷ remove_entry (is_at (cmp k)) es)) differs ∙ ap (λ xs. e ∷ xs) rest.removed;
+        replaced = λ v. ap (λ b. cond b ((e.0, v) ∷ es) (e ∷ set_value (is_at (cmp k)) es v)) differs ∙ ap (λ xs. e ∷ xs) (rest.replaced v);
       }
 
   -- a place where the key would go
   gap_at : (es : List (K × V)) (i : ℕ) → i ≤ length es → AllWithin (λ (e : K × V). cmp e.0 k ≡ Less) es 0 i → AllWithin (λ (e : K × V). cmp e.0 k ≡ Greater) es i (length es) → IsGapFor cmp es k i
-  gap_at [] zero in_range before after = record { in_range = in_range; absent = refl; kept = refl; inserted = λ v. refl }
+  gap_at [] zero in_range before after = record { in_range = in_range; absent = refl; kept = refl; not_replaced = λ v. refl; inserted = λ v. refl }
   gap_at [] (suc i) in_range before after = absurd (omega arith)
   gap_at (e ∷ es) zero in_range before after =
       let rest = gap_at es zero (omega arith) (λ j d low high. absurd (omega arith)) (λ j d low high. after (suc j) d (omega arith) (omega arith)) in
@@ -69,6 +72,7 @@ module _ {K V : Type 0} {cmp : K → K → Ordering} (o : IsTotalOrder cmp) (k :
         in_range = in_range;
         absent = ap (λ b. cond b (Some e.1) (lookup (is_at (cmp k)) es)) differs ∙ rest.absent;
         kept = ap (λ b. cond b es (e ∷ remove_entry (is_at (cmp k)) es)) differs ∙ ap (λ xs. e ∷ xs) rest.kept;
+        not_replaced = λ v. ap (λ b. cond b ((e.0, v) ∷ es) (e ∷ set_value (is_at (cmp k)) es v)) differs ∙ ap (λ xs. e ∷ xs) (rest.not_replaced v);
         inserted = λ v. ap (λ r. match_ordering r ((k, v) ∷ e ∷ es) ((e.0, v) ∷ es) (e ∷ insert_entry cmp es k v)) less;
       }
   gap_at (e ∷ es) (suc i) in_range before after =
@@ -79,6 +83,7 @@ module _ {K V : Type 0} {cmp : K → K → Ordering} (o : IsTotalOrder cmp) (k :
         in_range = in_range;
         absent = ap (λ b. cond b (Some e.1) (lookup (is_at (cmp k)) es)) differs ∙ rest.absent;
         kept = ap (λ b. cond b es (e ∷ remove_entry (is_at (cmp k)) es)) differs ∙ ap (λ xs. e ∷ xs) rest.kept;
+        not_replaced = λ v. ap (λ b. cond b ((e.0, v) ∷ es) (e ∷ set_value (is_at (cmp k)) es v)) differs ∙ ap (λ xs. e ∷ xs) (rest.not_replaced v);
         inserted = λ v. ap (λ r. match_ordering r ((k, v) ∷ e ∷ es) ((e.0, v) ∷ es) (e ∷ insert_entry cmp es k v)) greater ∙ ap (λ xs. e ∷ xs) (rest.inserted v);
       }
 
@@ -112,6 +117,15 @@ module _ {K V : Type 0} {cmp : K → K → Ordering} (es : List (K × V)) (k : K
   -- its value is at its place
   pub value_found : (found : IsKeyAt cmp es k i) → slice_get (values_of es) i ≡ Some found.entry.1
   value_found found = slice_get-map (λ (e : K × V). e.1) es i ∙ ap (option_map (λ (e : K × V). e.1)) found.there
+
+  -- the pair that is found there is its own
+  pub pair_found : (found : IsKeyAt cmp es k i) (e : K × V) → e ≡ get_or es i e → e ≡ found.entry
+  pair_found found e is = is ∙ get_or_from_slice_get es i found.entry e found.there
+
+  -- so another value in it is that of the key
+  pub with_replaced : IsKeyAt cmp es k i → (e : K × V) → e ≡ get_or es i e → (v w : V) → w ≡ v → set es i (e.0, w) ≡ with_value cmp es k v
+  with_replaced found e is v w same =
+      ap (λ (p : K × V). set es i (p.0, w)) (pair_found found e is) ∙ ap (λ (x : V). set es i (found.entry.0, x)) same ∙ sym (found.replaced v)
 
   -- where it isn't, its pair goes to the place
   pub with_gap : IsGapFor cmp es k i → (v : V) → insert es i (k, v) ≡ with_absent cmp es k v

@@ -1,5 +1,5 @@
 -- What a file cache keeps: versions by their stamps, and for each held path the stamps that it names.
-use Rattle.std.specs.Prelude.{◌≡◌, ℕ, Bool, true, ◌||◌, List, Option, Some, None, option_map, option_and_then, is_some, IsSome, refl}
+use Rattle.std.specs.Prelude.{◌≡◌, ℕ, Bool, true, false, ◌||◌, List, Option, Some, None, option_map, option_and_then, is_some, IsSome, refl}
 use Rattle.std.specs.List.{list_any}
 use Rattle.std.specs.Option.{option_map_or}
 use Rattle.std.specs.Ordering.{nat_cmp}
@@ -61,6 +61,10 @@ kept_at cache path = option_and_then (λ stamp. map.get cache.kept stamp) (curre
 -- the path is held
 abbrev pub is_held : Cache → List ℕ → Bool
 is_held cache path = is_some (map.get cache.paths path)
+
+-- the path is held and pinned
+abbrev pub is_pinned : Cache → List ℕ → Bool
+is_pinned cache path = option_map_or (λ state. state.pinned) (map.get cache.paths path) false
 
 -- the stamp is kept exactly while some path names it, and every kept version is in the format
 pub record Consistent (test : List ℕ → Option Error) (cache : Cache) : Type 0 where

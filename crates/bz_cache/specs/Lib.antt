@@ -1,5 +1,6 @@
 pub mod Cache
 pub mod Coherence
+pub mod Counts
 pub mod Eviction
 pub mod Format
 pub mod InsertMap

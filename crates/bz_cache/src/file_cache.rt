@@ -2,7 +2,7 @@
 
 ghost use Rattle.std.specs.Prelude.{◌≡◌, ◌≤◌, ◌⊎◌, Option, None, OnOk, OnErr, IfOk, IfErr, IsOk, IsOkUnless, IsErrOf, IsSome, is_some, Some, Bool, true, false};
 ghost use Rattle.std.specs.FinMap as map;
-ghost use Rattle.bz_cache.specs.Cache.{Cache, PathState, Consistent, new_cache, stamp_eq, current_of, is_held, with_pin};
+ghost use Rattle.bz_cache.specs.Cache.{Cache, PathState, Consistent, new_cache, stamp_eq, current_of, is_held, is_pinned, with_pin};
 ghost use Rattle.bz_cache.specs.Eviction.{evicted, evicts};
 ghost use Rattle.bz_files.specs.Looked.{Faulted, Looked, ReadsOne};
 ghost use Rattle.bz_files.specs.World.{Told, in_view, entry_at};
@@ -24,11 +24,12 @@ mod entries;
 mod lookup;
 mod paths;
 
+use entries::KeptVersion;
 use paths::PathEntry;
 
-/// Parsed files, kept by their stamps, and the paths that name these.
+/// Parsed files, kept by their stamps, each with the number of paths that name it, and these paths.
 pub struct FileCache<T: Version + Drop> {
-    entries: BTreeMap<Stamp, Rc<T>>,
+    entries: BTreeMap<Stamp, KeptVersion<T>>,
     paths: BTreeMap<String, PathEntry>,
     reload: bool,
 }
@@ -40,11 +41,13 @@ impl<T: Version + Drop> Model for FileCache<T> {
 
     ghost coded = { coded_cache };
 
-    ghost use Rattle.bz_cache.specs.Store.{kept_of, paths_of};
+    ghost use Rattle.bz_cache.specs.Counts.{HasCounts};
+    ghost use Rattle.bz_cache.specs.Store.{kept_of, counted_of, paths_of};
 
     ghost view = { λ a. record { reload = a.reload; kept = kept_of T.bytes_of a.entries; paths = paths_of a.paths } };
 
-    ghost invariant = { λ a. Consistent T.test (record { reload = a.reload; kept = kept_of T.bytes_of a.entries; paths = paths_of a.paths }) };
+    // The count of a kept version is that of the paths that name its stamp.
+    ghost invariant = { λ a. Consistent T.test (record { reload = a.reload; kept = kept_of T.bytes_of a.entries; paths = paths_of a.paths }) × HasCounts (paths_of a.paths) (counted_of T.bytes_of a.entries) };
 }
 
 impl<T: Version + Drop> Drop for FileCache<T> {
@@ -94,6 +97,16 @@ impl<T: Version + Drop> FileCache<T> {
         paths::set_pinned(&mut self.paths, path, false)
     }
 
+    /// Whether a path is held and pinned.
+    pub fn is_pinned(&self, path: &str) -> bool
+        ensures { result ≡ is_pinned self.now path.now }
+    {
+        match paths::get(&self.paths, path) {
+            Some((_current, pinned)) => pinned,
+            None => false,
+        }
+    }
+
     /// Forgets a path, and with it the versions that no other path names. Says whether a version
     /// was dropped.
     pub fn evict(&mut self, path: &str) -> bool
@@ -101,10 +114,10 @@ impl<T: Version + Drop> FileCache<T> {
         ensures state { self.new ≡ evicted self.old path.now }
         ensures unheld { is_held self.old path.now ≡ false → (result ≡ false) × (self.new ≡ self.old) }
     {
-        paths::remove(&mut self.paths, path);
-        let dropped = entries::has_unnamed(&self.entries, &self.paths);
-        entries::retain_named(&mut self.entries, &self.paths);
-        dropped
+        match paths::remove(&mut self.paths, path) {
+            Some(entry) => entries::release(&mut self.entries, entry),
+            None => false,
+        }
     }
 
     /// How many versions are kept.
@@ -158,7 +171,14 @@ impl<T: Version + Drop> FileCache<T> {
         ensures consistent { OnOk result (Consistent T.test self.new) }
         ensures sure { (e : PathState) → map.get self.old.paths path.now ≡ Some e → stamp_eq e.current stamp ≡ true → IsOk result }
     {
+        let was_named = paths::path_names(&self.paths, path, &stamp);
         paths::update(&mut self.paths, alloc, path, stamp)?;
+        if was_named {
+            return Ok(());
+        }
+        // No count is greater than that of the paths, so one more fits.
+        let _paths = paths::len(&self.paths);
+        entries::raise(&mut self.entries, &stamp);
         Ok(())
     }
 

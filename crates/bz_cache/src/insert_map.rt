@@ -1,15 +1,16 @@
 //! A map that takes in a value where a key is absent.
 
-ghost use Rattle.std.specs.Prelude.{◌≡◌, ◌<◌, ◌≤◌, ℕ, List, [], length, Option, Some, None, OnErr, IfOk, IfErr, IsOkUnless, MatchOption, MatchResult, slice_get, insert, remove, option_copied, ◌⊎◌, Ok, Err};
+ghost use Rattle.std.specs.Prelude.{◌≡◌, ◌<◌, ◌≤◌, ℕ, List, [], length, Option, Some, None, OnErr, IfOk, IfErr, IsOkUnless, MatchOption, MatchResult, slice_get, insert, remove, ok_or, option_copied, ◌⊎◌, Ok, Err};
 ghost use Rattle.std.specs.List.Retain.{IsFiltered};
 ghost use Rattle.std.specs.List.Sorted.{IsStrictlySortedBy};
 ghost use Rattle.std.specs.Map.{keys_of, values_of};
 ghost use Rattle.std.specs.BTreeMap.{insert_entry};
-ghost use Rattle.bz_cache.specs.InsertMap.{CalledAtEntry, value_at, with_absent, without, IsKeyAt, IsGapFor};
+ghost use Rattle.bz_cache.specs.InsertMap.{CalledAtEntry, value_at, with_absent, with_value, without, IsKeyAt, IsGapFor};
 
 use bz_base::{Error, Result};
 use std::alloc::Global;
 use std::marker::Model;
+use std::mem;
 
 /// A map from keys to values.
 #[derive(Drop)]
@@ -59,6 +60,18 @@ impl<K: Ord + Drop, V: Drop> InsertMap<K, V> {
                 Some(value)
             }
             Err(_) => None,
+        }
+    }
+
+    /// Puts a value in place of the one at a key, and returns the former one. Where the key is absent
+    /// the value comes back, and nothing changes.
+    pub fn replace(&mut self, key: &K, value: V) -> std::result::Result<V, V>
+        ensures value { result ≡ ok_or (value_at K.cmp self.old key.now) value }
+        ensures state { self.new ≡ with_value K.cmp self.old key.now value }
+    {
+        match self.find(key) {
+            Ok(at) => Ok(mem::replace(&mut self.pairs[at].1, value)),
+            Err(_) => Err(value),
         }
     }
 

@@ -53,6 +53,60 @@ fn answers(cache: &mut FileCache<Note>, alloc: Global, files: &mut MemFiles, tex
     }
 }
 
+/// Looks at a path whose file changes and changes back. Says whether memory was left.
+fn changes_back(cache: &mut FileCache<Note>, alloc: Global, files: &mut MemFiles) -> Result<bool> {
+    let Some(stamp) = files.put(alloc, "/a", b"V1".to_vec(alloc)?)? else {
+        return Ok(false);
+    };
+    cache.entry(alloc, files, "/a")?;
+    files.put(alloc, "/a", b"V2".to_vec(alloc)?)?;
+    cache.entry(alloc, files, "/a")?;
+    files.put_as(alloc, "/a", stamp, b"V1".to_vec(alloc)?)?;
+    cache.entry(alloc, files, "/a")?;
+    Ok(true)
+}
+
+/// Whether a path that names a stamp twice lets its version go.
+fn lets_go(alloc: Global) -> bool {
+    let mut files = MemFiles::new(alloc, 0);
+    let mut cache = FileCache::<Note>::builder().build(alloc);
+    changes_back(&mut cache, alloc, &mut files) == Ok(true)
+        && cache.entry_count() == 2
+        && cache.evict("/a")
+        && cache.entry_count() == 0
+}
+
+/// Whether two paths of one version keep it until the second one is forgotten.
+fn keeps_for_two(alloc: Global) -> Result<bool> {
+    let mut files = MemFiles::new(alloc, 0);
+    let mut cache = FileCache::<Note>::builder().build(alloc);
+    files.put(alloc, "/a", b"V1".to_vec(alloc)?)?;
+    files.link(alloc, "/b", "/a")?;
+    cache.entry(alloc, &mut files, "/a")?;
+    cache.entry(alloc, &mut files, "/b")?;
+    let counts = cache.entry_count() == 1 && cache.path_count() == 2;
+    let stays = !cache.evict("/a") && cache.entry_count() == 1;
+    let goes = cache.evict("/b") && cache.entry_count() == 0;
+    Ok(counts && stays && goes && !cache.evict("/b") && cache.pin("/b").is_none())
+}
+
+/// Whether a key whose value is refused stays absent.
+fn stays_absent(alloc: Global) -> bool {
+    let mut map = InsertMap::<u32, u32>::new(alloc);
+    let refused = match map.get_or_try_insert(alloc, 31, || Err(Error::Unsupported)) {
+        Ok(_) => false,
+        Err(error) => error == Error::Unsupported,
+    };
+    refused && map.get(&31).is_none()
+}
+
+/// Whether the value at a key is replaced, and none at a key that is absent.
+fn replaces(alloc: Global) -> Result<bool> {
+    let mut map = InsertMap::<u32, u32>::new(alloc);
+    map.get_or_insert(alloc, 1, || 10)?;
+    Ok(map.replace(&1, 11) == Ok(10) && map.replace(&2, 12) == Err(12) && map.len() == 1)
+}
+
 #[test]
 fn a_changed_file_is_read_anew(rt: HostRuntime) {
     let alloc = rt.alloc();
@@ -83,6 +137,7 @@ fn a_fixed_path_keeps_its_version(rt: HostRuntime) -> std::result::Result<(), Fa
     assert!(rt; answers(&mut still, alloc, &mut files, b"V1"));
     assert!(rt; answers(&mut cache, alloc, &mut files, b"V1"));
     assert!(rt; cache.is_kept(&stamp) && cache.pin("/s").is_some());
+    assert!(rt; cache.is_pinned("/s"));
     assert!(rt; put(alloc, &mut files, b"V2"));
     assert!(rt; answers(&mut still, alloc, &mut files, b"V1"));
     assert!(rt; answers(&mut cache, alloc, &mut files, b"V1"));
@@ -111,6 +166,16 @@ fn a_version_is_taken_in_unread(rt: HostRuntime) -> std::result::Result<(), Fail
 }
 
 #[test]
+fn a_path_counts_once_at_a_stamp(rt: HostRuntime) {
+    assert!(rt; lets_go(rt.alloc()));
+}
+
+#[test]
+fn a_value_is_replaced(rt: HostRuntime) {
+    assert!(rt; replaces(rt.alloc()) == Ok(true));
+}
+
+#[test]
 fn absent_keys_get_values(rt: HostRuntime) -> std::result::Result<(), Fail> {
     let alloc = rt.alloc();
     let mut map = InsertMap::<u32, u32>::new(alloc);
@@ -121,4 +186,14 @@ fn absent_keys_get_values(rt: HostRuntime) -> std::result::Result<(), Fail> {
     assert!(rt; map.len() == 1);
     assert!(rt; map.remove(&42) == Some(2));
     Ok(())
+}
+
+#[test]
+fn a_version_stays_while_a_path_names_it(rt: HostRuntime) {
+    assert!(rt; keeps_for_two(rt.alloc()) == Ok(true));
+}
+
+#[test]
+fn a_refused_value_leaves_its_key_absent(rt: HostRuntime) {
+    assert!(rt; stays_absent(rt.alloc()));
 }

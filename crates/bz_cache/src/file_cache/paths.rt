@@ -1,13 +1,10 @@
 //! The held paths, and the stamps that each names.
 
-ghost use Rattle.std.specs.Prelude.{◌≡◌, OnOk, OnErr, IsOk, IsOkUnless, IsSomeAnd, Option, Some, None, option_map, is_some, true};
-ghost use Rattle.std.specs.List.{list_any};
-ghost use Rattle.std.specs.BTreeMap.{values, IsOrdered};
-ghost use Rattle.std.specs.String.{string_cmp};
+ghost use Rattle.std.specs.Prelude.{◌≡◌, ◌<◌, ◌^◌, OnOk, OnErr, IsOk, IsOkUnless, Option, Some, None, option_map, is_some, true};
 ghost use Rattle.std.specs.FinMap as map;
 ghost use Rattle.bz_files.specs.declared.stamp.Stamp.{Stamp};
 ghost use Rattle.bz_cache.specs.Cache.{stamp_eq, is_among, names, with_pinned, PathState};
-ghost use Rattle.bz_cache.specs.Eviction.{is_named};
+ghost use Rattle.bz_cache.specs.Counts.{names_at};
 ghost use Rattle.bz_cache.specs.Look.{with_earlier, moved};
 ghost use Rattle.bz_cache.specs.Store.{paths_of, path_state};
 
@@ -112,28 +109,26 @@ pub fn set_pinned(paths: &mut BTreeMap<String, PathEntry>, path: &str, pinned: b
     Some(())
 }
 
-/// Forgets a path.
-pub fn remove(paths: &mut BTreeMap<String, PathEntry>, path: &str)
-    ensures { paths_of paths.new ≡ map.remove (paths_of paths.old) path.now }
+/// Forgets a path, and returns what was known of it.
+pub fn remove(paths: &mut BTreeMap<String, PathEntry>, path: &str) -> Option<PathEntry>
+    ensures entry { option_map path_state result ≡ map.get (paths_of paths.old) path.now }
+    ensures paths { paths_of paths.new ≡ map.remove (paths_of paths.old) path.now }
 {
-    paths.remove(path);
+    paths.remove(path)
 }
 
-/// Whether some path names the stamp.
-pub fn is_named(paths: &BTreeMap<String, PathEntry>, stamp: &Stamp) -> bool
-    ensures { result ≡ is_named (paths_of paths.now) stamp.now }
+/// Whether the path names the stamp.
+pub fn path_names(paths: &BTreeMap<String, PathEntry>, path: &str, stamp: &Stamp) -> bool
+    ensures { result ≡ names_at (map.get (paths_of paths.now) path.now) stamp.now }
 {
-    some_names(paths, stamp)
+    match paths.get(path) {
+        Some(entry) => names(entry, stamp),
+        None => false,
+    }
 }
 
-fn some_names(paths: &BTreeMap<String, PathEntry>, stamp: &Stamp) -> bool
-    ensures value { result ≡ list_any (λ e. names (path_state e) stamp.now) (values paths.now) }
-    ensures ordered { IsOrdered string_cmp paths.now }
-{
-    paths.values().any(|entry| names(entry, stamp))
-}
-
-fn names(entry: &PathEntry, stamp: &Stamp) -> bool
+/// Whether a path with this entry names the stamp.
+pub fn names(entry: &PathEntry, stamp: &Stamp) -> bool
     ensures { result ≡ names (path_state entry.now) stamp.now }
 {
     entry.current == *stamp || entry.earlier.contains(stamp)
@@ -141,7 +136,8 @@ fn names(entry: &PathEntry, stamp: &Stamp) -> bool
 
 /// How many paths are held.
 pub fn len(paths: &BTreeMap<String, PathEntry>) -> usize
-    ensures { result ≡ map.len (paths_of paths.now) }
+    ensures count { result ≡ map.len (paths_of paths.now) }
+    ensures small { result < 2 ^ 63 }
 {
     paths.len()
 }

@@ -1,20 +1,57 @@
-use Rattle.std.proofs.Common.{◌≡◌, false, sym, subst}
-use Rattle.std.specs.FinMap as map
-use Rattle.bz_cache.specs.Cache.{Cache, is_held}
-use Rattle.bz_cache.specs.Store.{kept_of, paths_of}
-use Rattle.bz_cache.proofs.Evicting.{consistent_evicted, evicted_unheld, evicts_unheld}
-use Rattle.bz_cache.proofs.Looking.{none_of}
+use Rattle.std.proofs.Common.{sym, ◌∙◌, refl}
+use Rattle.std.specs.Cmp.Lexicographic.{nat_list_cmp_total}
+use Rattle.bz_cache.specs.Cache.{Cache}
+use Rattle.bz_cache.specs.Store.{kept_of, counted_of, paths_of, path_state}
+use Rattle.bz_cache.proofs.Counted.{invariant_left, left_evicted, fewer_left}
+use Rattle.bz_cache.proofs.Evicting.{stays_unheld, evicted_unheld, evicts_unheld}
+use Rattle.bz_cache.proofs.FiniteMaps.{remove_absent}
+use Rattle.bz_cache.proofs.Naming.{paths_apart}
+use Rattle.bz_cache.proofs.Stored.{kept_counted}
 use Rattle.bz_cache.proofs.file_cache.FileCache.evict.Goals as goal
 
+-- the path that is forgotten isn't counted any more
 pub invariant_of-self : goal.invariant_of-self
 invariant_of-self g c =
     let old : Cache = record { reload = c.self.inside.reload; kept = kept_of g.T.Version.bytes_of c.self.inside.entries; paths = paths_of c.self.inside.paths } in
-    rw (c.retain_named.ensures, c.remove.ensures) (consistent_evicted g.T.Version.test old c.args.path.now c.self.invariant)
+    let left = c.release.new.entries in
+    invariant_left g.T.Version.test old (counted_of g.T.Version.bytes_of c.self.inside.entries) (kept_counted g.T.Version.bytes_of c.self.inside.entries) c.self.invariant.0 c.self.invariant.1
+    c.args.path.now (path_state c.in-Some.entry) (sym c.in-Some.ensures.entry) (counted_of g.T.Version.bytes_of left) c.release.ensures.counted (kept_of g.T.Version.bytes_of left) (kept_counted g.T.Version.bytes_of left) (paths_of c.remove.new.paths) c.remove.ensures.paths
 
-pub returns-clause-unheld : goal.returns-clause-unheld
-returns-clause-unheld g c = λ unheld.
+pub returns-in-Some-clause-dropped : goal.returns-in-Some-clause-dropped
+returns-in-Some-clause-dropped g c =
     let old : Cache = record { reload = c.self.inside.reload; kept = kept_of g.T.Version.bytes_of c.self.inside.entries; paths = paths_of c.self.inside.paths } in
-    let absent = none_of (map.get old.paths c.args.path.now) (subst (λ (v : Cache). is_held v c.args.path.now ≡ false) (sym c.self.view_is) unheld) in (
-      rw (c.has_unnamed-dropped.ensures, c.remove.ensures) (evicts_unheld g.T.Version.test old c.args.path.now c.self.invariant absent),
-      rw (← c.self.view_is, c.retain_named.ensures, c.remove.ensures) (evicted_unheld g.T.Version.test old c.args.path.now c.self.invariant absent),
+    let left = c.release.new.entries in
+    rw (← c.self.view_is, c.release.ensures.dropped) (
+    fewer_left g.T.Version.test old (counted_of g.T.Version.bytes_of c.self.inside.entries) (kept_counted g.T.Version.bytes_of c.self.inside.entries) c.self.invariant.0 c.self.invariant.1
+    c.args.path.now (path_state c.in-Some.entry) (sym c.in-Some.ensures.entry) (counted_of g.T.Version.bytes_of left) c.release.ensures.counted (kept_of g.T.Version.bytes_of left) (kept_counted g.T.Version.bytes_of left) (paths_of c.remove.new.paths) c.remove.ensures.paths
     )
+
+pub returns-in-Some-clause-state : goal.returns-in-Some-clause-state
+returns-in-Some-clause-state g c =
+    let old : Cache = record { reload = c.self.inside.reload; kept = kept_of g.T.Version.bytes_of c.self.inside.entries; paths = paths_of c.self.inside.paths } in
+    let left = c.release.new.entries in
+    rw (← c.self.view_is) (
+    left_evicted g.T.Version.test old (counted_of g.T.Version.bytes_of c.self.inside.entries) (kept_counted g.T.Version.bytes_of c.self.inside.entries) c.self.invariant.0 c.self.invariant.1
+    c.args.path.now (path_state c.in-Some.entry) (sym c.in-Some.ensures.entry) (counted_of g.T.Version.bytes_of left) c.release.ensures.counted (kept_of g.T.Version.bytes_of left) (kept_counted g.T.Version.bytes_of left) (paths_of c.remove.new.paths) c.remove.ensures.paths
+    )
+
+-- a path that isn't held
+pub invariant_of-self-in-None : goal.invariant_of-self-in-None
+invariant_of-self-in-None g c =
+    rw (c.remove.ensures.paths, remove_absent nat_list_cmp_total paths_apart (paths_of c.self.inside.paths) c.args.path.now (sym c.in-None.ensures.entry)) c.self.invariant
+
+pub returns-in-None-clause-dropped : goal.returns-in-None-clause-dropped
+returns-in-None-clause-dropped g c =
+    let old : Cache = record { reload = c.self.inside.reload; kept = kept_of g.T.Version.bytes_of c.self.inside.entries; paths = paths_of c.self.inside.paths } in
+    rw (← c.self.view_is) (sym (evicts_unheld g.T.Version.test old c.args.path.now c.self.invariant.0 (sym c.in-None.ensures.entry)))
+
+pub returns-in-None-clause-state : goal.returns-in-None-clause-state
+returns-in-None-clause-state g c =
+    let old : Cache = record { reload = c.self.inside.reload; kept = kept_of g.T.Version.bytes_of c.self.inside.entries; paths = paths_of c.self.inside.paths } in
+    let absent = sym c.in-None.ensures.entry in
+    rw (← c.self.view_is, c.remove.ensures.paths) (stays_unheld g.T.Version.test old c.args.path.now c.self.invariant.0 absent ∙ sym (evicted_unheld g.T.Version.test old c.args.path.now c.self.invariant.0 absent))
+
+pub returns-in-None-clause-unheld : goal.returns-in-None-clause-unheld
+returns-in-None-clause-unheld g c = λ _.
+    let old : Cache = record { reload = c.self.inside.reload; kept = kept_of g.T.Version.bytes_of c.self.inside.entries; paths = paths_of c.self.inside.paths } in
+    (refl, rw (← c.self.view_is, c.remove.ensures.paths) (stays_unheld g.T.Version.test old c.args.path.now c.self.invariant.0 (sym c.in-None.ensures.entry)))
