@@ -8,7 +8,7 @@ use Rattle.std.proofs.lemmas.Grind.{get_or-set_at}
 use Rattle.std.proofs.Math.Nat.{mul-le-mul_left}
 use Rattle.bz_base.specs.declared.abreast.Search.{Search}
 use Rattle.bz_base.specs.Abreast.{IsSearch, Halves, Ends, low, high, remaining}
-use Rattle.bz_base.specs.Starts.{NeverDescends, IsFound, AreFoundSoFar}
+use Rattle.bz_base.specs.Starts.{NeverDescends, IsAt, AreFoundSoFar}
 use Rattle.bz_base.proofs.StartsLemmas.{halved_within}
 use Rattle.bz_base.proofs.SweepLemmas.{any_default}
 
@@ -81,7 +81,6 @@ module _ (starts : List ℕ) where
           within = i.within;
           lower = λ k before. i.lower k (omega arith);
           upper = i.upper;
-          below_is = subst (λ (place : ℕ). 0 < place → slice_index starts (place - 1) ≡ slice_index now.beside 1) meet i.below_is;
           above_is = i.above_is;
         };
         addr = is.addr;
@@ -116,11 +115,10 @@ begins starts addr count all sorted = record {
   within = omega (arith, all);
   lower = λ k before. absurd (omega arith);
   upper = λ k after within. absurd (omega (arith, all));
-  below_is = λ before. absurd (omega arith);
   above_is = λ after. absurd (omega (arith, all));
 }
 
-module _ (starts : List ℕ) (searches : List Search) (old places after : List (Option (ℕ × ℕ))) (done : ℕ) (found : Option (ℕ × ℕ)) (count : length places ≡ length old + done) (pushed : after ≡ places ++ found ∷ []) where
+module _ (starts : List ℕ) (searches : List Search) (old places after : List (Option ℕ)) (done : ℕ) (found : Option ℕ) (count : length places ≡ length old + done) (pushed : after ≡ places ++ found ∷ []) where
   -- the places of earlier groups are kept
   pub kept_more : ((k : ℕ) → k < length old → slice_index_or places k None ≡ slice_index_or old k None) →
       (k : ℕ) → k < length old → slice_index_or after k None ≡ slice_index_or old k None
@@ -128,31 +126,31 @@ module _ (starts : List ℕ) (searches : List Search) (old places after : List (
 
   -- and one search more has its place
   pub placed_more : (other : Search) → done < length searches →
-      ((k : ℕ) (default : Search) → k < done → IsFound starts (slice_index_or searches k default).addr (slice_index_or places (length old + k) None)) →
-      IsFound starts (slice_index_or searches done other).addr found → (k : ℕ) (default : Search) → k < done + 1 →
-      IsFound starts (slice_index_or searches k default).addr (slice_index_or after (length old + k) None)
+      ((k : ℕ) (default : Search) → k < done → IsAt starts (slice_index_or searches k default).addr (slice_index_or places (length old + k) None)) →
+      IsAt starts (slice_index_or searches done other).addr found → (k : ℕ) (default : Search) → k < done + 1 →
+      IsAt starts (slice_index_or searches k default).addr (slice_index_or after (length old + k) None)
   placed_more other more before now k default within = elim (cases_lt k done) [
     | inl less ↦
-        subst (IsFound starts (slice_index_or searches k default).addr) (sym (before_end places after found None (length old + k) pushed (omega (arith, count)))) (before k default less)
+        subst (IsAt starts (slice_index_or searches k default).addr) (sym (before_end places after found None (length old + k) pushed (omega (arith, count)))) (before k default less)
     | inr not_less ↦
         let same : done ≡ k = omega arith in
         let search : slice_index_or searches done other ≡ slice_index_or searches k default = any_default searches done default other more ∙ ap (λ i. slice_index_or searches i default) same in
-        subst (IsFound starts (slice_index_or searches k default).addr) (sym (at_the_end places after found None (length old + k) pushed (omega (arith, count))))
-        (subst (λ s. IsFound starts s.addr found) search now)
+        subst (IsAt starts (slice_index_or searches k default).addr) (sym (at_the_end places after found None (length old + k) pushed (omega (arith, count))))
+        (subst (λ s. IsAt starts s.addr found) search now)
   ]
 
 -- after a group each address so far has its place
-pub group_found : (starts addrs : List ℕ) (searches : List Search) (old new : List (Option (ℕ × ℕ))) →
+pub group_found : (starts addrs : List ℕ) (searches : List Search) (old new : List (Option ℕ)) →
     length new ≡ length old + length searches →
     ((k : ℕ) → k < length old → slice_index_or new k None ≡ slice_index_or old k None) →
-    ((k : ℕ) (default : Search) → k < length searches → IsFound starts (slice_index_or searches k default).addr (slice_index_or new (length old + k) None)) →
+    ((k : ℕ) (default : Search) → k < length searches → IsAt starts (slice_index_or searches k default).addr (slice_index_or new (length old + k) None)) →
     ((k : ℕ) (default : Search) → k < length searches → (slice_index_or searches k default).addr ≡ slice_index addrs (length old + k)) →
     AreFoundSoFar starts addrs old → AreFoundSoFar starts addrs new
 group_found starts addrs searches old new count kept found for before k within = elim (cases_lt k (length old)) [
-  | inl earlier ↦ subst (IsFound starts (slice_index addrs k)) (sym (kept k earlier)) (before k earlier)
+  | inl earlier ↦ subst (IsAt starts (slice_index addrs k)) (sym (kept k earlier)) (before k earlier)
   | inr later ↦
       let e : length old + (k - length old) ≡ k = omega arith in
       let less : k - length old < length searches = omega (arith, count) in
-      subst (λ (i : ℕ). IsFound starts (slice_index addrs i) (slice_index_or new i None)) e
-      (subst (λ (a : ℕ). IsFound starts a (slice_index_or new (length old + (k - length old)) None)) (for (k - length old) none less) (found (k - length old) none less))
+      subst (λ (i : ℕ). IsAt starts (slice_index addrs i) (slice_index_or new i None)) e
+      (subst (λ (a : ℕ). IsAt starts a (slice_index_or new (length old + (k - length old)) None)) (for (k - length old) none less) (found (k - length old) none less))
 ]

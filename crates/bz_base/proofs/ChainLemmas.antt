@@ -26,7 +26,7 @@ module _ {X : Type 0} (depth start size : X → ℕ) (records : List X) (addr : 
   chain_end at = refl
 
   -- the chain begins at depth 0
-  pub chain_begins : chain_from depth start size records addr 4294967295 0 ≡ chain depth start size records addr
+  pub chain_begins : chain_from depth start size records addr 4294967296 0 ≡ chain depth start size records addr
   unfolding chain
   chain_begins = refl
 
@@ -68,8 +68,8 @@ module _ {X : Type 0} (depth start size : X → ℕ) (records : List X) (addr : 
     by_link (Some x) found more = (omega arith, found, more)
 
   -- and the whole is a chain
-  pub chain_is : IsChainTo depth start size 4294967295 records addr 0 (chain depth start size records addr)
-  chain_is = subst (IsChainTo depth start size 4294967295 records addr 0) chain_begins (chain_from_is 4294967295 4294967295 0 (omega arith))
+  pub chain_is : IsChainTo depth start size 4294967296 records addr 0 (chain depth start size records addr)
+  chain_is = subst (IsChainTo depth start size 4294967296 records addr 0) chain_begins (chain_from_is 4294967296 4294967296 0 (omega arith))
 
 -- The chain in a table whose view is a table of the list is that of the list.
 module _ {X Y : Type 0} (depth start size : X → ℕ) (view : Y → X) where
@@ -116,4 +116,4 @@ module _ {X Y : Type 0} (depth start size : X → ℕ) (view : Y → X) where
     -- and the same chain
     pub chain_through : map view (chain (λ z. depth (view z)) (λ z. start (view z)) (λ z. size (view z)) table addr) ≡ chain depth start size records addr
     unfolding chain
-    chain_through = chain_from_seen 4294967295 0
+    chain_through = chain_from_seen 4294967296 0

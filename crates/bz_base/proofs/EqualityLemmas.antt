@@ -42,13 +42,13 @@ parts_agree parts whole again test a b agrees = (λ holds. sym (again a) ∙ ap 
 
 -- the parts of a symbol, as one pair
 abbrev SymbolParts : Type 0
-SymbolParts = List ℕ × (Option (List ℕ) × (ℕ × (ℕ × (Option ℕ × (Option Site × List Call)))))
+SymbolParts = List ℕ × (Option (List ℕ) × (ℕ × (ℕ × (Option ℕ × (Option Site × (List Call × Bool))))))
 
 abbrev pub symbol_parts : Symbol → SymbolParts
-symbol_parts s = (s.name, (s.«module», (s.addr, (s.offset, (s.size, (s.site, s.calls))))))
+symbol_parts s = (s.name, (s.«module», (s.addr, (s.offset, (s.size, (s.site, (s.calls, s.public)))))))
 
 abbrev symbol_whole : SymbolParts → Symbol
-symbol_whole (name, (within, (addr, (offset, (size, (site, calls)))))) = record { name = name; «module» = within; addr = addr; offset = offset; size = size; site = site; calls = calls }
+symbol_whole (name, (within, (addr, (offset, (size, (site, (calls, public))))))) = record { name = name; «module» = within; addr = addr; offset = offset; size = size; site = site; calls = calls; public = public }
 
 -- a test of the parts of two symbols is one of the symbols
 pub symbols_agree : (test : Bool) (a b : Symbol) → (IsTrue test ↔ (symbol_parts a ≡ symbol_parts b)) → IsTrue test ↔ (a ≡ b)

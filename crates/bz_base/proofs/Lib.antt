@@ -21,6 +21,7 @@ pub mod PieceLemmas
 pub mod PieceOfBytesLemmas
 pub mod ReadLemmas
 pub mod SortLemmas
+pub mod SortingLaws
 pub mod SplitLemmas
 pub mod StartsLemmas
 pub mod SweepLemmas

@@ -1,8 +1,21 @@
--- A search that halves what is left takes few probes.
+-- A search that halves what is left takes few probes, and sorted numbers never descend.
 use Rattle.std.proofs.Common.{◌≡◌, ℕ, suc, ◌+◌, ◌-◌, ◌*◌, ◌^◌, ◌/◌, ◌<◌, ◌≤◌, arith, inl, inr, add-one, ap, ◌∙◌}
 use Rattle.std.proofs.lemmas.Bool.{cases_lt}
 use Rattle.std.proofs.Math.Pow.{pow_mono}
 use Rattle.std.proofs.Math.Nat.{pow-suc, mul_assoc, mul_comm, mul-le-mul_left}
+use Rattle.std.specs.Prelude.{List}
+use Rattle.std.specs.List.Sorted.{IsNonDecreasing, IsSorted}
+use Rattle.std.specs.Ordering.{nat_cmp}
+use Rattle.std.proofs.lemmas.List.Sorted.{IsNonDecreasingBy-from_sort}
+use Rattle.bz_base.specs.Starts.{NeverDescends}
+
+-- numbers that don't decrease never descend
+pub never_descends : (starts : List ℕ) → IsNonDecreasing starts → NeverDescends starts
+never_descends starts up i j ordered within = up i j 0 ordered within
+
+-- so what a sort of numbers gives never descends
+pub sorted_never_descends : (starts : List ℕ) → IsSorted nat_cmp starts → NeverDescends starts
+sorted_never_descends starts sorted = never_descends starts (IsNonDecreasingBy-from_sort (λ x. x) starts sorted)
 
 -- the next power is twice as great
 power_more : (n : ℕ) → 2 ^ (n + 1) ≡ 2 ^ n * 2

@@ -6,7 +6,7 @@ use Rattle.std.proofs.lemmas.List.{get_or-set_other}
 use Rattle.std.proofs.Math.Seq.{take-append_seam}
 use Rattle.std.proofs.lemmas.Grind.{get_or-set_at}
 use Rattle.std.proofs.lemmas.Option.{slice_get-get_or, get_or_from_slice_get}
-use Rattle.bz_base.specs.Starts.{IsFound, AreFound}
+use Rattle.bz_base.specs.Starts.{IsAt, AreFound}
 use Rattle.bz_base.specs.Sweep.{IsEntry}
 
 -- what stands at a place doesn't depend on the default
@@ -37,12 +37,12 @@ module _ (starts addrs : List ℕ) (order : List (ℕ × ℕ)) (entries : All (I
   entry j = slice_index_or order j (0, 0)
 
   -- the entries so far have their places, each at its index
-  abbrev pub SoFar : ℕ → List (Option (ℕ × ℕ)) → Type 0
-  SoFar done places = (j : ℕ) → j < done → IsFound starts (entry j).0 (slice_index_or places (entry j).1 None)
+  abbrev pub SoFar : ℕ → List (Option ℕ) → Type 0
+  SoFar done places = (j : ℕ) → j < done → IsAt starts (entry j).0 (slice_index_or places (entry j).1 None)
 
   -- one more
-  pub so_far_more : (done : ℕ) (places : List (Option (ℕ × ℕ))) (found : Option (ℕ × ℕ)) → done < length order →
-      length places ≡ length addrs → SoFar done places → IsFound starts (entry done).0 found
+  pub so_far_more : (done : ℕ) (places : List (Option ℕ)) (found : Option ℕ) → done < length order →
+      length places ≡ length addrs → SoFar done places → IsAt starts (entry done).0 found
       → SoFar (done + 1) (slice_set places (entry done).1 found)
   so_far_more done places found more count before now j within = elim (same_or_other (entry j).1 (entry done).1) [
     | inl same ↦
@@ -50,20 +50,20 @@ module _ (starts addrs : List ℕ) (order : List (ℕ × ℕ)) (entries : All (I
         let there = entries j (0, 0) (omega arith) in
         let addr : (entry done).0 ≡ (entry j).0 = sym here.1 ∙ ap (slice_index addrs) (sym same) ∙ there.1 in
         let read : get_or (slice_set places (entry done).1 found) (entry j).1 None ≡ found = get_or-set_at places (entry done).1 (entry j).1 found None same (omega (arith, here.0, count)) in
-        subst (λ o. IsFound starts (entry j).0 o) (sym read) (subst (λ a. IsFound starts a found) addr now)
+        subst (λ o. IsAt starts (entry j).0 o) (sym read) (subst (λ a. IsAt starts a found) addr now)
     | inr other ↦
         let earlier : j < done = elim (cases_lt j done) [ inl less ↦ less | inr not_less ↦ let e : j ≡ done = omega arith in absurd (other (ap (λ i. (entry i).1) e)) ] in
         let read : get_or (slice_set places (entry done).1 found) (entry j).1 None ≡ get_or places (entry j).1 None = get_or-set_other places (entry done).1 (entry j).1 found None other in
-        subst (λ o. IsFound starts (entry j).0 o) (sym read) (before j earlier)
+        subst (λ o. IsAt starts (entry j).0 o) (sym read) (before j earlier)
   ]
 
   -- in the end each address has its place
-  pub all_found : (places : List (Option (ℕ × ℕ))) → ((k : ℕ) → k < length addrs → Contains order (slice_index addrs k, k)) →
+  pub all_found : (places : List (Option ℕ)) → ((k : ℕ) → k < length addrs → Contains order (slice_index addrs k, k)) →
       SoFar (length order) places → AreFound starts addrs places
   all_found places each found k within =
       let c = each k within in
       let e : entry c.0 ≡ (slice_index addrs k, k) = any_default order c.0 (slice_index addrs k, k) (0, 0) c.1 ∙ c.2 in
-      subst (λ x. IsFound starts x.0 (slice_index_or places x.1 None)) e (found c.0 c.1)
+      subst (λ x. IsAt starts x.0 (slice_index_or places x.1 None)) e (found c.0 c.1)
 
 -- one put at the end makes the list longer by one
 pub length_pushed : {X : Type 0} (xs after : List X) (x : X) → after ≡ xs ++ x ∷ [] → length after ≡ length xs + 1

@@ -16,14 +16,13 @@ abbrev pub remaining : Search → ℕ
 remaining search = high search - low search
 
 -- a search that goes on: the starts before low are below the address, and those from high on aren't;
--- the starts beside both are known
+-- the start at high is known
 pub record IsSearch (starts : List ℕ) (search : Search) : Type 0 where
   pub sorted : NeverDescends starts
   pub ordered : low search ≤ high search
   pub within : high search ≤ length starts
   pub lower : (k : ℕ) → k < low search → slice_index starts k < search.addr
   pub upper : (k : ℕ) → high search ≤ k → k < length starts → search.addr ≤ slice_index starts k
-  pub below_is : 0 < low search → slice_index starts (low search - 1) ≡ slice_index search.beside 1
   pub above_is : high search < length starts → slice_index starts (high search) ≡ slice_index search.beside 0
 
 -- the search goes on for the same address, and no more than half of the starts remain
@@ -34,7 +33,7 @@ pub record Halves (starts : List ℕ) (old new : Search) : Type 0 where
 
 -- where nothing remains, the search has its place
 abbrev pub IsAtEnd : List ℕ → Search → Type 0
-IsAtEnd starts search = IsGap starts search.addr (high search) (slice_index search.beside 1) (slice_index search.beside 0)
+IsAtEnd starts search = IsGap starts search.addr (high search) (slice_index search.beside 0)
 
 -- the search has come to its end for the same address
 pub record Ends (starts : List ℕ) (old new : Search) : Type 0 where

@@ -1,5 +1,5 @@
 -- What an answer is as plain data: a text by its bytes, a list by its items, whether borrowed or owned.
-use Rattle.std.specs.Prelude.{◌≡◌, ℕ, List, Option, Some, None, option_map, map, Result, Ok, Err}
+use Rattle.std.specs.Prelude.{◌≡◌, ℕ, Bool, List, Option, Some, None, option_map, map, Result, Ok, Err}
 use Rattle.std.specs.Cow.{cow_str_bytes}
 use Rattle.bz_base.specs.declared.error.Error.{Error}
 use Rattle.bz_base.specs.declared.error.Error.TheVariants as errors
@@ -25,7 +25,8 @@ pub record Call : Type 0 where
   pub name : List ℕ
   pub site : Option Site
 
--- a symbol at an address: its start as the source has it, and how far the address lies past it
+-- a symbol at an address: its start as the source has it, how far the address lies past it, and whether it is that of a PUBLIC
+-- record
 pub record Symbol : Type 0 where
   pub name : List ℕ
   pub «module» : Option (List ℕ)
@@ -34,6 +35,7 @@ pub record Symbol : Type 0 where
   pub size : Option ℕ
   pub site : Option Site
   pub calls : List Call
+  pub public : Bool
 
 -- a symbol as a table gives it
 pub record Resolved : Type 0 where
@@ -66,6 +68,7 @@ symbol_of s = record {
   size = s.size;
   site = option_map site_of s.code_info;
   calls = map call_of s.inlined.items;
+  public = s.public;
 }
 
 abbrev pub resolved_of : ResolvedSym → Resolved

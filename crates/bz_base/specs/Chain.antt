@@ -2,9 +2,9 @@
 use Rattle.std.specs.Prelude.{◌≡◌, ◌⊎◌, ℕ, zero, suc, ◌+◌, ◌<◌, ◌≤◌, Bool, ◌==◌, nat_le, nat_lt, ◌&&◌, List, [], ◌∷◌, Option, Some, None, if◌then◌else◌, slice_get}
 use Rattle.bz_base.specs.Span.{inside}
 
--- the depth at which each chain ends
-abbrev pub last_depth : ℕ
-last_depth = 4294967295
+-- how many depths there are, from 0 on: a chain ends after the last of them
+abbrev pub depths : ℕ
+depths = 4294967296
 
 module _ {X : Type 0} (depth start : X → ℕ) where
   -- the record at a place is the one to try at the depth: of that depth no other start lies nearer below the address, and
@@ -48,7 +48,7 @@ module _ {X : Type 0} (depth start : X → ℕ) where
 
     -- the records around the address, from the outermost on
     unfoldable pub chain : List X → ℕ → List X
-    chain records addr = chain_from records addr last_depth 0
+    chain records addr = chain_from records addr depths 0
 
     -- the records are the ones to try at the depth and at those after it, each with the address inside, and the chain ends
     -- where there is no such record, or at the end of depths

@@ -11,9 +11,11 @@ pub mod Line
 pub mod Nearest
 pub mod Number
 pub mod Path
+pub mod Place
 pub mod ReasonText
 pub mod Refusals
 pub mod Resolution
+pub mod Sorting
 pub mod Span
 pub mod Starts
 pub mod Sweep

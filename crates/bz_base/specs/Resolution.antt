@@ -1,5 +1,5 @@
 -- What a table of symbols answers for an address: the symbol there, or the reason why there is none.
-use Rattle.std.specs.Prelude.{◌≡◌, ℕ, ◌-◌, ◌≤◌, Result, Ok, Err}
+use Rattle.std.specs.Prelude.{◌≡◌, ℕ, false, ◌-◌, ◌≤◌, Result, Ok, Err}
 use Rattle.bz_base.specs.Answer.{Symbol, Resolved, Answer, Known, Unknown, resolved_of}
 use Rattle.bz_base.specs.declared.error.Error.{Error}
 use Rattle.bz_base.specs.declared.error.Error.TheVariants as errors
@@ -22,6 +22,7 @@ symbol_at addr r = record {
   size = r.size;
   site = r.site;
   calls = r.calls;
+  public = false;
 }
 
 -- what was found as the answer for the address

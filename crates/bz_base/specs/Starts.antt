@@ -18,14 +18,23 @@ abbrev pub IsFound : List ℕ → ℕ → Option (ℕ × ℕ) → Type 0
 IsFound starts addr (Some x) = IsPlace starts addr x.0 x.1
 IsFound starts addr None = (k : ℕ) → k < length starts → addr < slice_index starts k
 
+-- a search gives this place, or none where each start is above the address
+abbrev pub IsAt : List ℕ → ℕ → Option ℕ → Type 0
+IsAt starts addr (Some place) = IsPlace starts addr place (slice_index starts place)
+IsAt starts addr None = (k : ℕ) → k < length starts → addr < slice_index starts k
+
+-- so few starts that each place among them can be kept in four bytes
+abbrev pub HaveShortPlaces : List ℕ → Type 0
+HaveShortPlaces starts = length starts < 2 ^ 32
+
 -- so many probes are few enough for a search among so many starts
 abbrev pub AreFew : ℕ → ℕ → Type 0
 AreFew probes count = 2 ^ probes ≤ 2 * (2 * count + 1)
 
 -- the places are found one by one, each for the address that stands at the same index
-abbrev pub AreFound : List ℕ → List ℕ → List (Option (ℕ × ℕ)) → Type 0
-AreFound starts addrs places = (k : ℕ) → k < length addrs → IsFound starts (slice_index addrs k) (slice_index_or places k None)
+abbrev pub AreFound : List ℕ → List ℕ → List (Option ℕ) → Type 0
+AreFound starts addrs places = (k : ℕ) → k < length addrs → IsAt starts (slice_index addrs k) (slice_index_or places k None)
 
 -- so many places as there are, are found for the first of the addresses
-abbrev pub AreFoundSoFar : List ℕ → List ℕ → List (Option (ℕ × ℕ)) → Type 0
-AreFoundSoFar starts addrs places = (k : ℕ) → k < length places → IsFound starts (slice_index addrs k) (slice_index_or places k None)
+abbrev pub AreFoundSoFar : List ℕ → List ℕ → List (Option ℕ) → Type 0
+AreFoundSoFar starts addrs places = (k : ℕ) → k < length places → IsAt starts (slice_index addrs k) (slice_index_or places k None)

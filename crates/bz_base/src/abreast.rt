@@ -3,9 +3,10 @@
 ghost use Rattle.std.specs.Prelude.{◌≡◌, ℕ, ◌+◌, ◌-◌, ◌*◌, ◌^◌, ◌<◌, ◌≤◌, length, slice_index, slice_index_or, All, IfOk, OnOk, None};
 ghost use Rattle.bz_base.specs.Abreast.{IsSearch, Halves, IsAtEnd, Ends, EachBy};
 ghost use Rattle.bz_base.specs.declared.abreast.Search.{Search};
-ghost use Rattle.bz_base.specs.Starts.{IsFound, AreFoundSoFar};
+ghost use Rattle.bz_base.specs.Starts.{IsAt, AreFoundSoFar, HaveShortPlaces};
 
-use crate::starts::{Probe, Starts};
+use crate::place::Place;
+use crate::starts::Starts;
 use crate::steps::Steps;
 use crate::sweep::{Gap, most_probes, placed};
 use crate::types::Addr;
@@ -22,7 +23,8 @@ struct Search {
     addr: Addr,
     /// High, then low: every start before low is below the address, and none from high on is.
     ends: [usize; 2],
-    /// The start at high, then the one before low, where these were probed.
+    /// The start at high, then the one before low, where these were probed. The second is never
+    /// read: it is there so that a probe needs no condition to be written.
     beside: [Addr; 2],
 }
 
@@ -31,11 +33,12 @@ pub(crate) fn search_group<L: Ledger>(
     alloc: Global,
     table: &Starts,
     addrs: &[Addr],
-    places: &mut Vec<Option<(usize, Addr)>>,
+    places: &mut Vec<Place>,
     steps: &mut Steps<L>,
 ) -> Result<(), AllocError>
     requires so_far { AreFoundSoFar table.now addrs.now places.old.items }
     requires some { length places.old.items < length addrs.now }
+    requires short { HaveShortPlaces table.now }
     ensures so_far { OnOk result (AreFoundSoFar table.now addrs.now places.new.items) }
     ensures further { OnOk result (length places.old.items < length places.new.items) }
     ensures within { OnOk result (length places.new.items ≤ length addrs.now) }
@@ -81,17 +84,17 @@ fn begun(
 fn push_found(
     table: &Starts,
     searches: &[Search],
-    places: &mut Vec<Option<(usize, Addr)>>,
+    places: &mut Vec<Place>,
 ) -> Result<(), AllocError>
-    requires { All (IsAtEnd table.now) searches.now }
+    requires ends { All (IsAtEnd table.now) searches.now }
+    requires short { HaveShortPlaces table.now }
     ensures count { OnOk result (length places.new.items ≡ length places.old.items + length searches.now) }
     ensures kept { OnOk result ((k : ℕ) → k < length places.old.items → slice_index_or places.new.items k None ≡ slice_index_or places.old.items k None) }
-    ensures found { OnOk result ((k : ℕ) (default : Search) → k < length searches.now → IsFound table.now (slice_index_or searches.now k default).addr (slice_index_or places.new.items (length places.old.items + k) None)) }
+    ensures found { OnOk result ((k : ℕ) (default : Search) → k < length searches.now → IsAt table.now (slice_index_or searches.now k default).addr (slice_index_or places.new.items (length places.old.items + k) None)) }
 {
     for search in searches {
         let gap = Gap {
             place: search.ends[0],
-            below: search.beside[1],
             above: search.beside[0],
         };
         places.push(placed(table, gap, search.addr))?;

@@ -9,6 +9,9 @@ use crate::table::Spanned;
 use crate::types::Addr;
 use std::alloc::{AllocError, Global};
 
+/// How many depths there are, from 0 on.
+const DEPTHS: u64 = 4_294_967_296;
+
 /// A record with a depth, in records around it.
 pub trait Nested: Spanned {
     /// How many records are around it.
@@ -57,9 +60,9 @@ pub fn chain_in<'t, T: Nested>(
         map (λ r. r.now) found.items ≡ chain T.depth T.start T.size records addr) }
 {
     let mut found = Vec::new(alloc);
-    let mut depth = 0;
-    while depth < u32::MAX {
-        match around_in(table, depth, addr) {
+    let mut depth: u64 = 0;
+    while depth < DEPTHS {
+        match around_in(table, depth as u32, addr) {
             Some(entry) => found.push(entry)?,
             None => return Ok(found),
         }

@@ -2,7 +2,7 @@
 
 ghost use Rattle.std.specs.Prelude.{◌≡◌, ◌↔◌, ◌+◌, ◌≤◌, ℕ, ℤ, true, [], List, Option, None, Some, IsTrue, map, option_and_then, slice_get};
 ghost use Rattle.bz_base.specs.Answer.{site_of, call_of, symbol_of, resolved_of, reading};
-ghost use Rattle.bz_base.specs.Chain.{IsInner, IsChainTo, inner, chain, last_depth};
+ghost use Rattle.bz_base.specs.Chain.{IsInner, IsChainTo, inner, chain, depths};
 ghost use Rattle.bz_base.specs.Cursor.{IsCstr, IsInFront, IsNextAligned, IsSlice, IsWord, cstr_at, padding, slice_at, word_at};
 ghost use Rattle.bz_base.specs.InputKind.{payload, MapsTo};
 ghost use Rattle.bz_base.specs.Leb128.{IsSleb, IsUleb, sleb_at, uleb_at};
@@ -10,6 +10,7 @@ ghost use Rattle.bz_base.specs.Line.{AreEnded, AreLines, all_lines, ended_lines}
 ghost use Rattle.bz_base.specs.Nearest.{IsCandidate, IsNearestCovering, IsTable, candidate, nearest_covering};
 ghost use Rattle.bz_base.specs.Number.{IsAtFront, IsDecimal, IsHex, decimal_at, hex_at, number_at, whole};
 ghost use Rattle.bz_base.specs.Path.{split, IsSplit};
+ghost use Rattle.bz_base.specs.Sorting.{Ascends, sorted};
 ghost use Rattle.bz_base.specs.Span.{covers, Covers};
 ghost use Rattle.bz_base.specs.Starts.{IsFound};
 ghost use Rattle.bz_base.specs.declared.error.Error.{Error};
@@ -88,12 +89,21 @@ pub fn tables_answer_alike<T>()
         option_and_then (λ p. slice_get table p.0) found ≡ candidate start size addr records }
 {}
 
+/// Sorting a list stably by two numbers gives a table of it in order, and each table of it is this
+/// one. What is in order stays as it is.
+pub fn sorted_tables_are_one<T>()
+    ensures table { (first second : T → ℕ) (records : List T) → IsTable first second records (sorted first second records) }
+    ensures ascends { (first second : T → ℕ) (records : List T) → Ascends first second (sorted first second records) }
+    ensures only { (first second : T → ℕ) (records table : List T) → IsTable first second records table → table ≡ sorted first second records }
+    ensures again { (first second : T → ℕ) (records : List T) → Ascends first second records → sorted first second records ≡ records }
+{}
+
 /// At a depth the search gives the record with the nearest start not above an address, and what lies
 /// nearest is what it gives.
 pub fn inner_is_exact<T>()
     ensures is { (depth start : T → ℕ) (records : List T) (at addr : ℕ) (x : T) → inner depth start at addr records ≡ Some x → (place : ℕ) × IsInner depth start records at addr place x }
     ensures only { (depth start : T → ℕ) (records : List T) (at addr place : ℕ) (x : T) → IsInner depth start records at addr place x → inner depth start at addr records ≡ Some x }
-    ensures chain { (depth start size : T → ℕ) (records : List T) (addr : ℕ) → IsChainTo depth start size last_depth records addr 0 (chain depth start size records addr) }
+    ensures chain { (depth start size : T → ℕ) (records : List T) (addr : ℕ) → IsChainTo depth start size depths records addr 0 (chain depth start size records addr) }
 {}
 
 /// Kinds, reasons and refusals are equal exactly where they are the same variant.

@@ -12,6 +12,7 @@ pub mod laws;
 mod leb128;
 mod number;
 mod path;
+mod place;
 mod resolve;
 mod scan;
 mod search;
@@ -29,13 +30,14 @@ pub use error::{Error, ErrorKind, Result};
 pub use input::Input;
 pub use number::{decimal, hex, whole_decimal, whole_hex};
 pub use path::split_source;
+pub use place::Place;
 pub use resolve::{Resolve, Symbolize, TranslateFileOffset};
 pub use scan::nearest_by_scan;
 pub use search::{covers, inside};
 pub use starts::{Probe, Starts, nearest};
 pub use steps::Steps;
 pub use sweep::nearest_each;
-pub use table::{Spanned, covering_at, nearest_covering, sort_table, starts_of};
+pub use table::{Spanned, covering_at, nearest_covering, place_found, sort_table, starts_of};
 pub use text::{first_line, next_line};
 pub use types::{
     Addr, CodeInfo, FindSymOpts, InlinedFn, Reason, ResolvedSym, SrcLang, Sym, SymType, Symbolized,

@@ -50,18 +50,35 @@ impl Starts {
     {
         Starts { starts }
     }
+
+    /// How many starts there are.
+    pub fn len(&self) -> usize
+        ensures value { result ≡ length self.now }
+        ensures never_descends { NeverDescends self.now }
+    {
+        self.starts.len()
+    }
+
+    /// The start at a place, by one step.
+    pub fn probe<L: Ledger>(&self, i: usize, steps: &mut Steps<L>) -> u64
+        requires { i < length self.now }
+        ensures value { result ≡ slice_index self.now i }
+        ensures step { steps.new ≡ steps.old + 1 }
+    {
+        steps.tick();
+        self.starts[i]
+    }
 }
 
 impl Probe for Starts {
     ghost starts = { λ s. s };
 
     fn len(&self) -> usize {
-        self.starts.len()
+        Starts::len(self)
     }
 
     fn probe<L: Ledger>(&self, i: usize, steps: &mut Steps<L>) -> u64 {
-        steps.tick();
-        self.starts[i]
+        Starts::probe(self, i, steps)
     }
 }
 

@@ -2,32 +2,38 @@
 
 ghost use Rattle.std.specs.Prelude.{◌≡◌, ℕ, ◌+◌, ◌-◌, ◌*◌, ◌^◌, ◌<◌, ◌≤◌, length, slice_index, slice_index_or, All, Contains, IfOk};
 ghost use Rattle.std.specs.List.Sorted.{IsNonDecreasingBy};
-ghost use Rattle.bz_base.specs.Starts.{IsFound, AreFound};
+ghost use Rattle.bz_base.specs.Starts.{IsAt, AreFound, HaveShortPlaces};
 ghost use Rattle.bz_base.specs.Sweep.{IsGap, IsEntry};
 
 use crate::abreast::search_group;
-use crate::starts::{Probe, Starts};
+use crate::place::Place;
+use crate::starts::Starts;
 use crate::steps::Steps;
 use crate::types::Addr;
 use std::alloc::{AllocError, Global};
 use std::sync::ledger::Ledger;
 
-/// For each address of the batch what `nearest` gives for it, by a pass along the starts or by a
-/// search for each, whichever has the lesser bound.
+/// For each address of the batch the place that `nearest` gives for it, by a pass along the starts
+/// or by a search for each, whichever has the lesser bound. Want of memory also where there are so
+/// many starts that a place can't be kept in four bytes.
 pub fn nearest_each<L: Ledger>(
     alloc: Global,
     table: &Starts,
     addrs: &[Addr],
     steps: &mut Steps<L>,
-) -> Result<Vec<Option<(usize, Addr)>>, AllocError>
+) -> Result<Vec<Place>, AllocError>
     ensures found { IfOk result (λ places. AreFound table.now addrs.now places.items) }
     ensures count { IfOk result (λ places. length places.items ≡ length addrs.now) }
     ensures more { steps.old ≤ steps.new }
     ensures swept { steps.new - steps.old ≤ length addrs.now + length table.now }
     ensures searched { (p : ℕ) → 2 * (2 * length table.now + 1) < 2 ^ (p + 1) → steps.new - steps.old ≤ length addrs.now * p }
 {
-    let most = most_probes(table.len());
-    let swept = addrs.len() as u128 + table.len() as u128;
+    let count = table.len();
+    if count >= u32::MAX as usize {
+        return Err(AllocError);
+    }
+    let most = most_probes(count);
+    let swept = addrs.len() as u128 + count as u128;
     let searched = addrs.len() as u128 * (most as u128 + 1);
     if swept <= searched {
         sweep(alloc, table, addrs, steps)
@@ -56,7 +62,8 @@ fn search_each<L: Ledger>(
     table: &Starts,
     addrs: &[Addr],
     steps: &mut Steps<L>,
-) -> Result<Vec<Option<(usize, Addr)>>, AllocError>
+) -> Result<Vec<Place>, AllocError>
+    requires short { HaveShortPlaces table.now }
     ensures found { IfOk result (λ places. AreFound table.now addrs.now places.items) }
     ensures count { IfOk result (λ places. length places.items ≡ length addrs.now) }
     ensures more { steps.old ≤ steps.new }
@@ -75,7 +82,8 @@ fn sweep<L: Ledger>(
     table: &Starts,
     addrs: &[Addr],
     steps: &mut Steps<L>,
-) -> Result<Vec<Option<(usize, Addr)>>, AllocError>
+) -> Result<Vec<Place>, AllocError>
+    requires short { HaveShortPlaces table.now }
     ensures found { IfOk result (λ places. AreFound table.now addrs.now places.items) }
     ensures count { IfOk result (λ places. length places.items ≡ length addrs.now) }
     ensures more { steps.old ≤ steps.new }
@@ -83,7 +91,7 @@ fn sweep<L: Ledger>(
 {
     let order = ordered(alloc, addrs)?;
     let mut places = Vec::new(alloc);
-    places.resize(addrs.len(), None)?;
+    places.resize(addrs.len(), Place::none())?;
     sweep_along(table, addrs, &order, &mut places, steps);
     Ok(places)
 }
@@ -93,21 +101,18 @@ fn sweep_along<L: Ledger>(
     table: &Starts,
     addrs: &[Addr],
     order: &[(Addr, usize)],
-    places: &mut [Option<(usize, Addr)>],
+    places: &mut [Place],
     steps: &mut Steps<L>,
 )
     requires entries { All (IsEntry addrs.now) order.now }
     requires ascending { IsNonDecreasingBy (λ e. e.0) order.now }
     requires count { length places.old ≡ length addrs.now }
-    ensures found { (j : ℕ) → j < length order.now → IsFound table.now (slice_index_or order.now j (0, 0)).0 (slice_index_or places.new (slice_index_or order.now j (0, 0)).1 None) }
+    requires short { HaveShortPlaces table.now }
+    ensures found { (j : ℕ) → j < length order.now → IsAt table.now (slice_index_or order.now j (0, 0)).0 (slice_index_or places.new (slice_index_or order.now j (0, 0)).1 None) }
     ensures more { steps.old ≤ steps.new }
     ensures cost { steps.new ≤ steps.old + length order.now + length table.now }
 {
-    let mut gap = Gap {
-        place: 0,
-        below: 0,
-        above: 0,
-    };
+    let mut gap = Gap { place: 0, above: 0 };
     for (_, index) in order {
         let addr = addrs[*index];
         gap = advance(table, gap, addr, steps);
@@ -123,7 +128,7 @@ fn ordered(alloc: Global, addrs: &[Addr]) -> Result<Vec<(Addr, usize)>, AllocErr
     ensures count { IfOk result (λ order. length order.items ≡ length addrs.now) }
 {
     let mut order = entries(alloc, addrs)?;
-    order.sort_by_key(|entry| entry.0)?;
+    order.sort_unstable_by_key(|entry| entry.0);
     Ok(order)
 }
 
@@ -139,11 +144,10 @@ fn entries(alloc: Global, addrs: &[Addr]) -> Result<Vec<(Addr, usize)>, AllocErr
     Ok(order)
 }
 
-/// A place among the starts, with the starts beside it.
+/// A place among the starts, with the start at it.
 #[derive(Clone, Copy)]
 pub(crate) struct Gap {
     pub(crate) place: usize,
-    pub(crate) below: u64,
     pub(crate) above: u64,
 }
 
@@ -151,8 +155,7 @@ pub(crate) struct Gap {
 fn advance<L: Ledger>(table: &Starts, from: Gap, addr: Addr, steps: &mut Steps<L>) -> Gap
     requires within { from.place ≤ length table.now }
     requires lower { (k : ℕ) → k < from.place → slice_index table.now k < addr }
-    requires below { 0 < from.place → slice_index table.now (from.place - 1) ≡ from.below }
-    ensures gap { IsGap table.now addr result.place result.below result.above }
+    ensures gap { IsGap table.now addr result.place result.above }
     ensures more { steps.old ≤ steps.new }
     ensures cost { steps.new + from.place ≤ steps.old + result.place + 1 }
 {
@@ -163,22 +166,22 @@ fn advance<L: Ledger>(table: &Starts, from: Gap, addr: Addr, steps: &mut Steps<L
             gap.above = start;
             return gap;
         }
-        gap.below = start;
         gap.place += 1;
     }
     gap
 }
 
-/// The place and start that answer for the address.
-pub(crate) fn placed(table: &Starts, gap: Gap, addr: Addr) -> Option<(usize, Addr)>
-    requires { IsGap table.now addr gap.place gap.below gap.above }
-    ensures { IsFound table.now addr result }
+/// The place that answers for the address.
+pub(crate) fn placed(table: &Starts, gap: Gap, addr: Addr) -> Place
+    requires gap { IsGap table.now addr gap.place gap.above }
+    requires short { HaveShortPlaces table.now }
+    ensures { IsAt table.now addr result }
 {
     if gap.place < table.len() && gap.above == addr {
-        Some((gap.place, gap.above))
+        Place::at(gap.place)
     } else if gap.place > 0 {
-        Some((gap.place - 1, gap.below))
+        Place::at(gap.place - 1)
     } else {
-        None
+        Place::none()
     }
 }

@@ -2,7 +2,7 @@
 
 ghost use Rattle.std.specs.Prelude.{◌≡◌, ℕ, ◌-◌, ◌≤◌, List, length, map, option_map, OnOk, OnErr, IfOk, IfSome};
 ghost use Rattle.bz_base.specs.Nearest.{IsTable, if_covers, nearest_covering};
-ghost use Rattle.bz_base.specs.Starts.{NeverDescends, IsFound, AreFew};
+ghost use Rattle.bz_base.specs.Starts.{NeverDescends, IsFound, IsAt, AreFew};
 
 use crate::search::covers;
 use crate::starts::{Starts, nearest};
@@ -64,19 +64,27 @@ pub fn nearest_covering<'t, T: Spanned, L: Ledger>(
     ensures more { steps.old ≤ steps.new }
     ensures few { AreFew (steps.new - steps.old) (length table.now) }
 {
-    covering_at(table, nearest(starts, addr, steps), addr)
+    covering_at(table, place_found(nearest(starts, addr, steps)), addr)
+}
+
+/// The place alone of what a search found.
+pub fn place_found(found: Option<(usize, Addr)>) -> Option<usize>
+    ensures value { result ≡ option_map (λ place. place.0) found }
+    ensures at { (starts : List ℕ) (addr : ℕ) → IsFound starts addr found → IsAt starts addr result }
+{
+    found.map(|place| place.0)
 }
 
 /// The record that answers for the address, of a table and the place that a search among its
 /// starts found.
-pub fn covering_at<T: Spanned>(table: &[T], place: Option<(usize, Addr)>, addr: Addr) -> Option<&T>
-    requires { IsFound (map T.start table.now) addr place }
+pub fn covering_at<T: Spanned>(table: &[T], place: Option<usize>, addr: Addr) -> Option<&T>
+    requires { IsAt (map T.start table.now) addr place }
     ensures covering { (records : List T) → IsTable T.start T.size records table.now →
         option_map (λ r. r.now) result ≡ nearest_covering T.start T.size addr records }
     ensures below { IfSome result (λ r. T.start r.now ≤ addr) }
 {
     match place {
-        Some((place, _)) => if_covers(&table[place], addr),
+        Some(place) => if_covers(&table[place], addr),
         None => None,
     }
 }

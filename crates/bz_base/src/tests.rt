@@ -53,6 +53,7 @@ fn answers_are_owned_and_give_their_symbols(rt: HostRuntime) -> Result<(), Fail>
         size: Some(46),
         code_info: Some(place()),
         inlined: vec![in alloc; call]?,
+        public: false,
     };
     let known = Symbolized::Sym(symbol.into_owned(alloc)?);
     assert!(rt; known.as_sym().is_some());

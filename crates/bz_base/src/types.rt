@@ -110,6 +110,8 @@ pub struct Sym<'a> {
     pub code_info: Option<CodeInfo<'a>>,
     /// The calls that were inlined at the address, the outermost first.
     pub inlined: Vec<InlinedFn<'a>>,
+    /// Whether it is the symbol of a PUBLIC record in a Breakpad file.
+    pub public: bool,
 }
 
 /// Why an address has no symbol.
@@ -184,6 +186,7 @@ impl<'a> ResolvedSym<'a> {
             size: self.size,
             code_info: self.code_info,
             inlined: self.inlined,
+            public: false,
         }
     }
 }
@@ -206,6 +209,7 @@ impl Sym<'_> {
             size: self.size,
             code_info,
             inlined,
+            public: self.public,
         })
     }
 }

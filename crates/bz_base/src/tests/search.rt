@@ -3,8 +3,9 @@
 ghost use Rattle.std.specs.Prelude.{◌≡◌, ◌<◌};
 
 use crate::{
-    Nested, Spanned, Steps, chain_in, covering_at, inner_in, nearest, nearest_by_scan,
-    nearest_covering, nearest_each, sort_nested, sort_table, starts_of,
+    Nested, Place, Spanned, Starts, Steps, chain_in, covering_at, inner_in, nearest,
+    nearest_by_scan, nearest_covering, nearest_each, place_found, sort_nested, sort_table,
+    starts_of,
 };
 use std::alloc::{AllocError, Global};
 use std::marker::Brand;
@@ -107,15 +108,37 @@ fn search<L: Ledger>(rt: &impl Abort, blank: Blank, alloc: Global) -> Result<(),
     let addrs = [17, 16, 40, 7, 32, 8, 15, 23, 24];
     let swept = nearest_each(alloc, &starts, &addrs, &mut steps)?;
     let searched = nearest_each(alloc, &starts, &addrs[..1], &mut steps)?;
-    let place = nearest(&starts, 17, &mut steps);
-    assert!(rt; place == Some((4, 16)) && swept[0] == place && searched[0] == place);
+    let place = place_found(nearest(&starts, 17, &mut steps));
+    assert!(rt; place == Some(4) && swept[0].get() == place && searched[0].get() == place);
+    assert!(rt; swept[3].get() == Place::none().get());
     assert!(rt; id_of(covering_at(&table, place, 17)) == 4);
+    search_sorted(rt, alloc, &mut steps)
+}
+
+/// Addresses, and for each the place of its start among the sorted ones, and this start.
+const PLACES: [(u64, usize, u64); 4] = [(10, 0, 10), (15, 1, 10), (20, 2, 20), (99, 3, 20)];
+
+/// Starts that were put in order by std, and none.
+fn search_sorted<L: Ledger>(
+    rt: &impl Abort,
+    alloc: Global,
+    steps: &mut Steps<L>,
+) -> Result<(), AllocError> {
+    let mut numbers = vec![in alloc; 20, 10, 20, 10]?;
+    numbers.sort_unstable();
+    let starts = Starts::from_sorted(numbers);
+    for (addr, place, start) in &PLACES {
+        assert!(rt; nearest(&starts, *addr, steps) == Some((*place, *start)));
+    }
+    assert!(rt; nearest(&starts, 9, steps) == None);
+    let none = Starts::from_sorted(Vec::new(alloc));
+    assert!(rt; none.len() == 0 && nearest(&none, 9, steps) == None);
     Ok(())
 }
 
 #[test]
 fn finds_nearest(rt: HostRuntime) -> Result<(), Fail> {
-    assert!(rt; size_of::<Steps<Brand>>() == 0);
+    assert!(rt; size_of::<Steps<Brand>>() == 0 && size_of::<Place>() == 4);
     search::<Brand>(&rt, Blank::new(1), rt.alloc())?;
     Ok(())
 }

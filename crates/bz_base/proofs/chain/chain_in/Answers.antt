@@ -8,13 +8,13 @@ loop-depth-init g c records is = rw c.new-found.ensures.items (chain_begins g.T.
 
 pub returns-in-None : goal.returns-in-None
 returns-in-None g c records is =
-    chain_done g.T.Nested.depth g.T.Spanned.start g.T.Spanned.size records c.args.addr _ 4294967295 c.loop-depth.depth _ c.loop-depth-test.true (sym (c.in-None.ensures records is)) (c.loop-depth.invariant records is)
+    chain_done g.T.Nested.depth g.T.Spanned.start g.T.Spanned.size records c.args.addr _ 4294967296 c.loop-depth.depth _ c.loop-depth-test.true (sym (c.in-None.ensures records is)) (c.loop-depth.invariant records is)
 
 pub loop-depth-preserved : goal.loop-depth-preserved
 loop-depth-preserved g c records is =
     rw (c.in_ok-push-in-Some.ensures.items, map-append)
-    (chain_more g.T.Nested.depth g.T.Spanned.start g.T.Spanned.size records c.args.addr _ 4294967295 c.loop-depth.depth c.in-Some.entry.now _ c.loop-depth-test.true (sym (c.in-Some.ensures records is)) (c.loop-depth.invariant records is))
+    (chain_more g.T.Nested.depth g.T.Spanned.start g.T.Spanned.size records c.args.addr _ 4294967296 c.loop-depth.depth c.in-Some.entry.now _ c.loop-depth-test.true (sym (c.in-Some.ensures records is)) (c.loop-depth.invariant records is))
 
 pub returns : goal.returns
 returns g c records is =
-    chain_deepest g.T.Nested.depth g.T.Spanned.start g.T.Spanned.size records c.args.addr _ 4294967295 c.loop-depth.depth _ (omega arith) (c.loop-depth.invariant records is)
+    chain_deepest g.T.Nested.depth g.T.Spanned.start g.T.Spanned.size records c.args.addr _ 4294967296 c.loop-depth.depth _ (omega arith) (c.loop-depth.invariant records is)

@@ -20,7 +20,8 @@ returns-clause-symbols c a b =
     (pairs_agree _ _ (search rules)
     (pairs_agree _ _ (sizes_agree a.size b.size)
     (pairs_agree _ _ (options_agree _ site_of (returns-clause-places c) a.code_info b.code_info)
-    (lists_agree _ call_of (returns-clause-calls c) a.inlined.items b.inlined.items)))))))
+    (pairs_agree _ _ (lists_agree _ call_of (returns-clause-calls c) a.inlined.items b.inlined.items)
+    (search rules))))))))
 
 pub returns-clause-resolved : goal.returns-clause-resolved
 returns-clause-resolved c a b =

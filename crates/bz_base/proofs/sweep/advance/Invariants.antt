@@ -7,7 +7,6 @@ abbrev pub invariant-loop-gap : goal.invariant-loop-gap
 invariant-loop-gap g l = record {
   within : l.gap.place ≤ length l.table;
   lower : (k : ℕ) → k < l.gap.place → slice_index l.table k < l.addr;
-  below : 0 < l.gap.place → slice_index l.table (l.gap.place - 1) ≡ l.gap.below;
   more : l.fn.steps ≤ l.steps;
   cost : l.steps + l.fn.from.place ≡ l.fn.steps + l.gap.place;
 }

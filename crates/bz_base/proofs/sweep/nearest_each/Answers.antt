@@ -9,4 +9,4 @@ returns-then-swept-searched-clause-searched g c p greatest =
 pub returns-else-swept-searched-clause-searched : goal.returns-else-swept-searched-clause-searched
 returns-else-swept-searched-clause-searched g c p greatest =
     let m = c.most_probes-most.result in
-    omega (arith, c.search_each.ensures.cost m (subst (λ (n : ℕ). n < 2 ^ m) c.len.ensures.value c.most_probes-most.ensures.enough), batch_bound (length c.args.addrs.now) m p (length c.args.table.now) (omega (arith, c.most_probes-most.ensures.needed)) greatest)
+    omega (arith, c.search_each.ensures.cost m (subst (λ (n : ℕ). n < 2 ^ m) c.len-count.ensures.value c.most_probes-most.ensures.enough), batch_bound (length c.args.addrs.now) m p (length c.args.table.now) (omega (arith, c.most_probes-most.ensures.needed)) greatest)
