@@ -3,6 +3,8 @@ use Rattle.std.proofs.Common.{◌≡◌, ℕ, List, [], ◌∷◌, ◌++◌, len
 use Rattle.std.specs.List.{AllByRecursion}
 use Rattle.bz_breakpad.specs.Grammar.{Accepted}
 use Rattle.bz_breakpad.specs.Kept.{FunctionFits, FunctionsSoFar, TableFits, kept_table}
+use Rattle.bz_breakpad.specs.Publics.{IsPublicTable}
+use Rattle.bz_breakpad.specs.declared.publics.PublicTable.{PublicTable}
 use Rattle.bz_breakpad.specs.Reader.{Reading, counted_in, listed, table_read}
 use Rattle.bz_breakpad.specs.Search.{IsFunction, IsInOrder, IsSearched}
 use Rattle.bz_breakpad.specs.Sorted.{IsKept, IsOrdered, StandsFor, starts_of}
@@ -46,17 +48,18 @@ pub finished_fits : (bytes : List ℕ) (walk : Walk) (table : KeptTable) → Has
 finished_fits bytes walk table read finished = (finished read.reading read.walked).fits
 
 -- what was read and put in order is kept of the bytes
-pub kept_of : (bytes : List ℕ) (walk : Walk) (table ordered sorted : KeptTable) (starts : List ℕ) → HasRead bytes walk → IsFinished bytes walk table →
+pub kept_of : (bytes : List ℕ) (walk : Walk) (table ordered sorted : KeptTable) (starts : List ℕ) (publics : PublicTable) → HasRead bytes walk → IsFinished bytes walk table →
     IsOrdered bytes table ordered →
     (TableFits bytes ordered → AllByRecursion (IsFunction bytes ordered.code) ordered.code.functions.items → StandsFor bytes (kept_table bytes ordered) sorted) →
-    starts ≡ starts_of sorted.code → IsKept bytes sorted starts
-kept_of bytes walk table ordered sorted starts read finished orders sorts starts_are =
+    starts ≡ starts_of sorted.code → IsPublicTable sorted.publics.items publics → IsKept bytes sorted starts publics
+kept_of bytes walk table ordered sorted starts publics read finished orders sorts starts_are publics_are =
     let done = finished read.reading read.walked in
     record {
       table = table_read read.reading;
       read = ap (option_map table_read) read.is;
       stands = subst (λ t. StandsFor bytes t sorted) (orders.is ∙ done.is) (sorts orders.fits orders.functions_are);
       starts_are = starts_are;
+      publics_are = publics_are;
     }
 
 -- functions in order are those that were read, and every part lies in the bytes

@@ -1,4 +1,5 @@
 pub mod AddressLaws
+pub mod AnsweredLemmas
 pub mod Apart
 pub mod Bytes
 pub mod ChoiceLaws
@@ -7,6 +8,7 @@ pub mod FieldLemmas
 pub mod FinishLemmas
 pub mod FoldLaws
 pub mod FormLaws
+pub mod FoundLemmas
 pub mod FuncLemmas
 pub mod FuncStep
 pub mod FunctionLemmas
@@ -25,13 +27,18 @@ pub mod MidwayLemmas
 pub mod NameEnds
 pub mod NameLemmas
 pub mod NestedLemmas
-pub mod Pieces
 pub mod OrderLemmas
+pub mod Pieces
 pub mod PlaceLemmas
 pub mod PlacedLemmas
 pub mod PlainLemmas
 pub mod PlainNameLemmas
 pub mod PlainStep
+pub mod PrintableLaws
+pub mod PrintedLaws
+pub mod ProbeLemmas
+pub mod PublicKeyLemmas
+pub mod PublicLemmas
 pub mod RoleLaws
 pub mod Rows
 pub mod RunFrontLemmas
@@ -47,3 +54,4 @@ pub mod TableLaws
 pub mod Turns
 pub mod ValueLemmas
 pub mod WalkLaws
+pub mod WrittenLaws

@@ -77,12 +77,12 @@ or_none None = refl
 or_none (Some name) = refl
 
 -- each id is above this one
-abbrev AllAbove : ℕ → List (ℕ × List ℕ) → Type 0
+abbrev pub AllAbove : ℕ → List (ℕ × List ℕ) → Type 0
 AllAbove k [] = Unit {0}
 AllAbove k (e ∷ names) = (k < e.0) × AllAbove k names
 
 -- each id is above those before
-abbrev Ascend : List (ℕ × List ℕ) → Type 0
+abbrev pub Ascend : List (ℕ × List ℕ) → Type 0
 Ascend [] = Unit {0}
 Ascend (e ∷ names) = AllAbove e.0 names × Ascend names
 
@@ -103,7 +103,7 @@ above_with j k v (e ∷ names) less above = by (nat_cmp k e.0) (above_with j k v
   by Greater later = (above.0, later)
 
 -- with one more, the ids ascend
-ascend_with : (k : ℕ) (v : List ℕ) (names : List (ℕ × List ℕ)) → Ascend names → Ascend (insert_entry nat_cmp names k v)
+pub ascend_with : (k : ℕ) (v : List ℕ) (names : List (ℕ × List ℕ)) → Ascend names → Ascend (insert_entry nat_cmp names k v)
 ascend_with k v [] ascend = (tt, tt)
 ascend_with k v (e ∷ names) ascend = by (nat_cmp k e.0) refl (ascend_with k v names ascend.1) where
   by : (r : Ordering) → r ≡ nat_cmp k e.0 → Ascend (insert_entry nat_cmp names k v) →

@@ -21,7 +21,7 @@ cfi_context InFunc body is = absurd is
 cfi_context InCfi body is = refl
 
 -- what may stand under a record's owner is what the record sets for the next line
-context_kept : (before : List Role) (text : List ℕ) (r : Record) → IsRecord (under_owner before) text r →
+pub context_kept : (before : List Role) (text : List ℕ) (r : Record) → IsRecord (under_owner before) text r →
     context_after r ≡ under_owner (Is r ∷ before)
 context_kept before text (Top one) is = refl
 context_kept before text (OfFunc one) is = func_context (under_owner before) is.0 one is.2

@@ -1,16 +1,14 @@
 -- The functions in order: each is still one of the file, and what answers is one of them.
-use Rattle.std.proofs.Common.{◌≡◌, ℕ, zero, suc, ◌<◌, Bool, true, false, cond, List, [], ◌∷◌, length, take, Option, Some, None, option_and_then, IfSome, nat_le, Ok, refl, sym, ap, subst, ◌∙◌, arith}
+use Rattle.std.proofs.Common.{◌≡◌, ℕ, zero, suc, ◌+◌, ◌<◌, Bool, true, false, cond, List, [], ◌∷◌, length, take, Option, Some, None, option_and_then, IfSome, nat_le, refl, sym, ap, subst, ◌∙◌, arith}
 use Rattle.std.specs.List.{AllByRecursion, filter, slice_get}
 use Rattle.std.proofs.Math.Seq.{take-length}
 use Rattle.std.proofs.lemmas.Bool.{eq-eqb}
 use Rattle.std.proofs.lemmas.Option.{none-some, same_Some}
-use Rattle.bz_base.specs.Answer.Answer.{Unknown}
 use Rattle.bz_base.specs.Nearest.{IsTable, candidate, comes_first, first_of, has_span, if_covers, nearest_covering}
 use Rattle.bz_base.specs.Span.{covers}
 use Rattle.bz_base.specs.declared.types.FindSymOpts.{FindSymOpts}
-use Rattle.bz_base.specs.declared.types.Reason.TheVariants as reasons
-use Rattle.bz_breakpad.specs.Plain.{function_at, by_function, by_functions, plain}
-use Rattle.bz_breakpad.specs.Table.{Function, Table}
+use Rattle.bz_breakpad.specs.Plain.{function_at, by_function, by_records, plain}
+use Rattle.bz_breakpad.specs.Table.{Function, PublicSymbol, Table}
 
 module _ {X : Type 0} (P : X → Type 0) where
   -- what holds at each place holds of all
@@ -66,20 +64,14 @@ module _ {X : Type 0} (P : X → Type 0) where
     pub nearest_one : (xs : List X) → AllByRecursion P xs → IfSome (nearest_covering start size addr xs) P
     nearest_one xs all = covering_one (candidate start size addr xs) (candidate_one xs all)
 
--- no function in the table
-pub plain-none : (table : Table) (opts : FindSymOpts) (addr : ℕ) → length table.functions ≡ 0 → plain table opts addr ≡ Ok (Unknown reasons.MissingSyms)
-plain-none table opts addr none = by_list table.functions none where
-  by_list : (fs : List Function) → length fs ≡ 0 → by_functions table opts addr fs ≡ Ok (Unknown reasons.MissingSyms)
-  by_list [] none = refl
-  by_list (f ∷ fs) none = absurd (omega arith)
-
--- functions, of which one answers or none does
-pub plain-some : (table : Table) (opts : FindSymOpts) (addr : ℕ) (o : Option Function) → 0 < length table.functions → o ≡ function_at addr table.functions →
-    plain table opts addr ≡ by_function table opts addr o
-plain-some table opts addr o some is = by_list table.functions some is where
-  by_list : (fs : List Function) → 0 < length fs → o ≡ function_at addr fs → by_functions table opts addr fs ≡ by_function table opts addr o
-  by_list [] some is = absurd (omega arith)
-  by_list (f ∷ fs) some is = sym (ap (by_function table opts addr) is)
+-- a table with records, of which a function answers or none does
+pub plain-some : (table : Table) (opts : FindSymOpts) (addr : ℕ) (o : Option Function) → 0 < length table.functions + length table.publics →
+    o ≡ function_at addr table.functions → plain table opts addr ≡ by_function table opts addr o
+plain-some table opts addr o some is = by_list table.functions table.publics some is where
+  by_list : (fs : List Function) (ps : List PublicSymbol) → 0 < length fs + length ps → o ≡ function_at addr fs → by_records table opts addr fs ps ≡ by_function table opts addr o
+  by_list [] [] some is = absurd (omega arith)
+  by_list [] (p ∷ ps) some is = sym (ap (by_function table opts addr) is)
+  by_list (f ∷ fs) ps some is = sym (ap (by_function table opts addr) is)
 
 -- a list is what is taken of it where all is
 pub all_taken : (n : ℕ) (xs : List ℕ) → n ≡ length xs → take n xs ≡ xs

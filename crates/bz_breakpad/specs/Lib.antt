@@ -1,6 +1,7 @@
 pub mod Byte
 pub mod Choice
 pub mod Form
+pub mod Found
 pub mod FunctionKeys
 pub mod Grammar
 pub mod InlineLine
@@ -15,6 +16,8 @@ pub mod OnRun
 pub mod Plain
 pub mod PlainFunc
 pub mod PlainLine
+pub mod Printed
+pub mod Publics
 pub mod Reader
 pub mod Reads
 pub mod Records
@@ -28,3 +31,4 @@ pub mod Told
 pub mod Version
 pub mod Walk
 pub mod Walked
+pub mod Written

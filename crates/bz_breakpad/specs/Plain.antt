@@ -1,5 +1,6 @@
 -- The plain answer of a table at an address, field by field, and the answers to a batch of addresses.
-use Rattle.std.specs.Prelude.{◌≡◌, ℕ, ◌-◌, List, [], ◌∷◌, ◌++◌, map, Option, Some, None, option_map, Result, Ok, Err}
+use Rattle.std.specs.Prelude.{◌≡◌, ℕ, ◌-◌, nat_le, ◌&&◌, Bool, true, false, if◌then◌else◌, List, [], ◌∷◌, ◌++◌, map, Option, Some, None, option_map, Result, Ok, Err}
+use Rattle.std.specs.List.{list_any}
 use Rattle.bz_base.specs.Answer.{Site, Call, Symbol, Answer, in_batch}
 use Rattle.bz_base.specs.Answer.Answer.{Known, Unknown}
 use Rattle.bz_base.specs.Chain.{around, chain, inner}
@@ -12,11 +13,26 @@ use Rattle.bz_base.specs.declared.types.FindSymOpts.TheVariants as asked
 use Rattle.bz_base.specs.declared.types.Reason.TheVariants as reasons
 use Rattle.bz_breakpad.specs.Names.{name_for}
 use Rattle.bz_breakpad.specs.Reads.{◌>>=◌}
-use Rattle.bz_breakpad.specs.Table.{SourceLine, Inlinee, Function, Table}
+use Rattle.bz_breakpad.specs.Table.{SourceLine, Inlinee, Function, PublicSymbol, Table}
 
 -- the function that answers for the address
 abbrev pub function_at : ℕ → List Function → Option Function
 function_at addr functions = nearest_covering (λ f. f.start) (λ f. f.size) addr functions
+
+-- of a PUBLIC record and the one found among those after it, the one that starts nearer below the address, and of equals the
+-- first
+abbrev pub first_public : ℕ → PublicSymbol → Option PublicSymbol → Option PublicSymbol
+first_public addr p None = if nat_le p.start addr then Some p else None
+first_public addr p (Some q) = if nat_le p.start addr && nat_le q.start p.start then Some p else Some q
+
+-- the first of the PUBLIC records that start nearest below the address, or at it
+abbrev pub public_at : ℕ → List PublicSymbol → Option PublicSymbol
+public_at addr [] = None
+public_at addr (p ∷ publics) = first_public addr p (public_at addr publics)
+
+-- one of the starts lies from the first address on, and not above the second
+abbrev pub any_between : ℕ → ℕ → List ℕ → Bool
+any_between from to starts = list_any (λ s. nat_le from s && nat_le s to) starts
 
 -- where an address lies in the source code: the place in the function, and the calls that were inlined there
 pub record Placed : Type 0 where
@@ -95,6 +111,20 @@ symbol_at table f addr placed = record {
   size = Some f.size;
   site = placed.site;
   calls = placed.calls;
+  public = false;
+}
+
+-- the PUBLIC record as the symbol at the address
+abbrev pub public_symbol_at : Table → PublicSymbol → ℕ → Symbol
+public_symbol_at table p addr = record {
+  name = p.name;
+  «module» = table.«module»;
+  addr = p.start;
+  offset = addr - p.start;
+  size = None;
+  site = None;
+  calls = [];
+  public = true;
 }
 
 -- the symbol, or the refusal of the address
@@ -102,19 +132,24 @@ abbrev pub by_place : Table → Function → ℕ → Result Placed Error → Res
 by_place table f addr (Ok placed) = Ok (Known (symbol_at table f addr placed))
 by_place table f addr (Err e) = Err e
 
--- where no function answers
+-- where no function answers: a PUBLIC record does, if no function starts from it on up to the address
+abbrev pub by_public : Table → ℕ → Option PublicSymbol → Answer
+by_public table addr None = Unknown reasons.UnknownAddr
+by_public table addr (Some p) = if any_between p.start addr (map (λ f. f.start) table.functions) then Unknown reasons.UnknownAddr else Known (public_symbol_at table p addr)
+
 abbrev pub by_function : Table → FindSymOpts → ℕ → Option Function → Result Answer Error
-by_function table opts addr None = Ok (Unknown reasons.UnknownAddr)
+by_function table opts addr None = Ok (by_public table addr (public_at addr table.publics))
 by_function table opts addr (Some f) = by_place table f addr (placed_at table opts f addr)
 
--- where there are no functions at all
-abbrev pub by_functions : Table → FindSymOpts → ℕ → List Function → Result Answer Error
-by_functions table opts addr [] = Ok (Unknown reasons.MissingSyms)
-by_functions table opts addr (f ∷ fs) = by_function table opts addr (function_at addr (f ∷ fs))
+-- where there are no functions and PUBLIC records at all
+abbrev pub by_records : Table → FindSymOpts → ℕ → List Function → List PublicSymbol → Result Answer Error
+by_records table opts addr [] [] = Ok (Unknown reasons.MissingSyms)
+by_records table opts addr [] (p ∷ publics) = by_function table opts addr None
+by_records table opts addr (f ∷ fs) publics = by_function table opts addr (function_at addr (f ∷ fs))
 
 -- the answer at one address alone, or its refusal
 abbrev pub plain : Table → FindSymOpts → ℕ → Result Answer Error
-plain table opts addr = by_functions table opts addr table.functions
+plain table opts addr = by_records table opts addr table.functions table.publics
 
 -- the answers to a batch, each at its own address, in the order of the addresses
 abbrev pub batch : Table → FindSymOpts → List ℕ → List Answer

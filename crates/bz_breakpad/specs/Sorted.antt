@@ -1,12 +1,13 @@
 -- What is kept of a file stands for its table: its functions, their keys in the order of start, size and file, and the keys' starts.
 use Rattle.std.specs.Prelude.{◌≡◌, ℕ, List, [], length, map, Option, Some, None, option_map}
 use Rattle.std.specs.List.{AllByRecursion}
-use Rattle.bz_base.specs.Starts.{AreFound}
 use Rattle.bz_breakpad.specs.FunctionKeys.{AreSortedKeys}
 use Rattle.bz_breakpad.specs.Kept.{TableFits, kept_functions, kept_names, kept_public, kept_table, text_at}
+use Rattle.bz_breakpad.specs.Publics.{IsPublicTable}
 use Rattle.bz_breakpad.specs.Search.{IsFunction}
 use Rattle.bz_breakpad.specs.Reader.{table_in}
 use Rattle.bz_breakpad.specs.Table.{PublicSymbol, Table}
+use Rattle.bz_breakpad.specs.declared.publics.PublicTable.{PublicTable}
 use Rattle.bz_breakpad.specs.declared.types.FunctionKey.{FunctionKey}
 use Rattle.bz_breakpad.specs.declared.types.FunctionTable.{FunctionTable}
 use Rattle.bz_breakpad.specs.declared.types.KeptTable.{KeptTable}
@@ -34,23 +35,13 @@ pub record IsOrdered (bytes : List ℕ) (old new : KeptTable) : Type 0 where
 abbrev pub starts_of : FunctionTable → List ℕ
 starts_of code = map (λ (k : FunctionKey). k.start) code.keys.items
 
--- the bytes have a table, what is kept stands for it, and the starts are those of its functions
-pub record IsKept (bytes : List ℕ) (kept : KeptTable) (starts : List ℕ) : Type 0 where
+-- the bytes have a table, what is kept stands for it, and the starts are those of its functions and PUBLIC records
+pub record IsKept (bytes : List ℕ) (kept : KeptTable) (starts : List ℕ) (publics : PublicTable) : Type 0 where
   pub table : Table
   pub read : table_in bytes ≡ Some table
   pub stands : StandsFor bytes table kept
   pub starts_are : starts ≡ starts_of kept.code
-
--- the addresses that are looked up in a file's bytes
-pub record LookedUp : Type 0 where
-  pub bytes : List ℕ
-  pub addrs : List ℕ
-
--- what is kept is of the bytes, and the places are those that a search among the functions' starts finds for the addresses
-pub record AreLookups (bytes : List ℕ) (kept : KeptTable) (addrs : List ℕ) (places : List (Option (ℕ × ℕ))) : Type 0 where
-  pub kept_is : IsKept bytes kept (starts_of kept.code)
-  pub found : AreFound (starts_of kept.code) addrs places
-  pub count : length places ≡ length addrs
+  pub publics_are : IsPublicTable kept.publics.items publics
 
 abbrev pub publics_of : Option Table → List PublicSymbol
 publics_of None = []

@@ -13,6 +13,8 @@ ghost use Rattle.bz_breakpad.specs.Kept.{TableFits, kept_table};
 ghost use Rattle.bz_breakpad.specs.Lent.{lent_public};
 ghost use Rattle.bz_breakpad.specs.Names.{name_for};
 ghost use Rattle.bz_breakpad.specs.Plain.{batch, function_at, plain};
+ghost use Rattle.bz_breakpad.specs.Found.{AreRecordsFor, IsRecordFor};
+ghost use Rattle.bz_breakpad.specs.Publics.{AreFewProbes, AreFewSteps};
 ghost use Rattle.bz_breakpad.specs.Reader.{counted_in, table_in, table_read};
 ghost use Rattle.bz_breakpad.specs.Refusal.{IsAnswerRefusal, Refuses};
 ghost use Rattle.bz_breakpad.specs.Search.{IsFunction};
@@ -20,17 +22,20 @@ ghost use Rattle.bz_breakpad.specs.Sorted.{IsKept, IsOrdered, StandsFor, publics
 ghost use Rattle.bz_breakpad.specs.Table.{Table};
 ghost use Rattle.bz_breakpad.specs.Walked.{IsFinished, IsWalked};
 
+use crate::find::{find_records, record_at};
+use crate::found::FoundRecord;
 use crate::function::{Function, text_of};
 use crate::line_run::Cuts;
-use crate::lookups::{Lookups, answer_from};
+use crate::lookups::{FoundAddrs, answer_from};
 use crate::names::name_of;
 use crate::order::in_order;
 use crate::parser;
 use crate::parser::walk::Walk;
+use crate::publics::{PublicTable, public_table};
 use crate::search::function_at;
 use crate::sorting::sorted_keys;
 use crate::types::{KeptTable, PublicSymbol};
-use bz_base::{Addr, Error, FindSymOpts, Result, Starts, Steps, Symbolized, nearest, nearest_each};
+use bz_base::{Addr, Error, FindSymOpts, Result, Starts, Steps, Symbolized, nearest, place_found};
 use std::alloc::Global;
 use std::marker::Model;
 use std::sync::ledger::Ledger;
@@ -41,6 +46,7 @@ pub struct SymbolFile {
     bytes: Vec<u8>,
     table: KeptTable,
     starts: Starts,
+    publics: PublicTable,
 }
 
 impl Model for SymbolFile {
@@ -51,7 +57,7 @@ impl Model for SymbolFile {
 
     ghost view = { λ file. file.bytes.items };
 
-    ghost invariant = { λ file. IsKept file.bytes.items file.table file.starts };
+    ghost invariant = { λ file. IsKept file.bytes.items file.table file.starts file.publics };
 }
 
 /// Reads Breakpad files.
@@ -70,10 +76,12 @@ impl SymbolParser {
         let read = finished(walk)?;
         let mut table = ordered(alloc, bytes.as_slice(), read)?;
         let starts = sorted(alloc, &mut table)?;
+        let publics = public_table(alloc, &table.publics)?;
         let file = SymbolFile {
             bytes,
             table,
             starts,
+            publics,
         };
         Ok((file, count))
     }
@@ -155,7 +163,7 @@ impl SymbolFile {
         ensures more { steps.old ≤ steps.new }
         ensures few { (table : Table) → table_in self.now ≡ Some table → AreFew (steps.new - steps.old) (length table.functions) }
     {
-        let place = nearest(&self.starts, addr, steps);
+        let place = place_found(nearest(&self.starts, addr, steps));
         let kept = function_at(&self.table.code, place, addr)?;
         Some(Function {
             bytes: self.bytes.as_slice(),
@@ -164,27 +172,77 @@ impl SymbolFile {
         })
     }
 
-    /// Looks the functions of the addresses up, for answers that are made one by one. Addresses are
-    /// relative to the module's base.
-    pub fn look_up<'f, 'b, L: Ledger>(
-        &'f self,
+    /// Which record answers for each of the addresses, which are relative to the module's base.
+    pub fn find_records<L: Ledger>(
+        &self,
         alloc: Global,
-        addrs: &'b [u64],
+        addrs: &[u64],
         steps: &mut Steps<L>,
-    ) -> Result<Lookups<'f, 'b>>
-        ensures ok { IfOk result (λ lookups. lookups ≡ record { bytes = self.now; addrs = addrs.now }) }
+    ) -> Result<Vec<FoundRecord>>
+        ensures records { IfOk result (λ found. (table : Table) → table_in self.now ≡ Some table → AreRecordsFor table addrs.now found.items) }
+        ensures count { IfOk result (λ found. length found.items ≡ length addrs.now) }
         ensures more { steps.old ≤ steps.new }
-        ensures swept { (table : Table) → table_in self.now ≡ Some table → steps.new - steps.old ≤ length addrs.now + length table.functions }
-        ensures searched { (table : Table) (p : ℕ) → table_in self.now ≡ Some table → 2 * (2 * length table.functions + 1) < 2 ^ (p + 1) → steps.new - steps.old ≤ length addrs.now * p }
+        ensures probes { (table : Table) → table_in self.now ≡ Some table → AreFewSteps table (length addrs.now) (steps.new - steps.old) }
         ensures memory { IsOkUnless result Error.OutOfMemory }
     {
-        let places = nearest_each(alloc, &self.starts, addrs, steps)?;
-        Ok(Lookups {
+        find_records(
+            alloc,
+            &self.table,
+            &self.starts,
+            &self.publics,
+            addrs,
+            steps,
+        )
+    }
+
+    /// The answers to addresses whose records were found, in their order, each the file's answer at
+    /// that address alone; an address that is refused is an ignored error. Nothing is searched for among
+    /// functions and PUBLIC records.
+    pub fn answers_by(
+        &self,
+        alloc: Global,
+        addrs: &[u64],
+        found: &[FoundRecord],
+        opts: &FindSymOpts,
+    ) -> Result<Vec<Symbolized<'_>>>
+        requires records { (table : Table) → table_in self.now ≡ Some table → AreRecordsFor table addrs.now found.now }
+        requires count { length found.now ≡ length addrs.now }
+        ensures answers { IfOk result (λ answers. (table : Table) × (table_in self.now ≡ Some table) × (map reading answers.items ≡ batch table opts.now addrs.now)) }
+        ensures lent { IfOk result (λ answers. AllByRecursion IsLent answers.items) }
+        ensures memory { IsOkUnless result Error.OutOfMemory }
+    {
+        let batch = FoundAddrs {
             bytes: self.bytes.as_slice(),
             kept: &self.table,
             addrs,
-            places,
-        })
+            found,
+        };
+        batch.answers(alloc, opts)
+    }
+
+    /// The answer at an address alone whose record was found.
+    pub fn answer_by(
+        &self,
+        alloc: Global,
+        addr: Addr,
+        found: FoundRecord,
+        opts: &FindSymOpts,
+    ) -> Result<Symbolized<'_>>
+        requires record { (table : Table) → table_in self.now ≡ Some table → IsRecordFor table addr found }
+        ensures answer { (table : Table) × (table_in self.now ≡ Some table) × Gives reading (plain table opts.now addr) result }
+        ensures lent { IfOk result IsLent }
+        ensures refusal { IfErr result IsAnswerRefusal }
+        ensures memory { IfErr result (WantsMemory (opts.now ≡ FindSymOpts.CodeInfoAndInlined)) }
+    {
+        answer_from(
+            alloc,
+            self.bytes.as_slice(),
+            &self.table,
+            opts,
+            found,
+            Cuts::unknown(),
+            addr,
+        )
     }
 
     /// The answers to the addresses, in their order, each the file's answer at that address alone;
@@ -200,12 +258,11 @@ impl SymbolFile {
         ensures lent { IfOk result (λ answers. AllByRecursion IsLent answers.items) }
         ensures count { IfOk result (λ answers. length answers.items ≡ length addrs.now) }
         ensures more { steps.old ≤ steps.new }
-        ensures swept { (table : Table) → table_in self.now ≡ Some table → steps.new - steps.old ≤ length addrs.now + length table.functions }
-        ensures searched { (table : Table) (p : ℕ) → table_in self.now ≡ Some table → 2 * (2 * length table.functions + 1) < 2 ^ (p + 1) → steps.new - steps.old ≤ length addrs.now * p }
+        ensures probes { (table : Table) → table_in self.now ≡ Some table → AreFewSteps table (length addrs.now) (steps.new - steps.old) }
         ensures memory { IsOkUnless result Error.OutOfMemory }
     {
-        let lookups = self.look_up(alloc, addrs, steps)?;
-        lookups.answers(alloc, opts)
+        let found = self.find_records(alloc, addrs, steps)?;
+        self.answers_by(alloc, addrs, &found, opts)
     }
 
     /// The answer at an address alone, which is relative to the module's base.
@@ -221,18 +278,10 @@ impl SymbolFile {
         ensures refusal { IfErr result IsAnswerRefusal }
         ensures memory { IfErr result (WantsMemory (opts.now ≡ FindSymOpts.CodeInfoAndInlined)) }
         ensures more { steps.old ≤ steps.new }
-        ensures few { (table : Table) → table_in self.now ≡ Some table → AreFew (steps.new - steps.old) (length table.functions) }
+        ensures probes { (table : Table) → table_in self.now ≡ Some table → AreFewProbes table (steps.new - steps.old) }
     {
-        let place = nearest(&self.starts, addr, steps);
-        answer_from(
-            alloc,
-            self.bytes.as_slice(),
-            &self.table,
-            opts,
-            place,
-            Cuts::unknown(),
-            addr,
-        )
+        let found = record_at(&self.table, &self.starts, &self.publics, addr, steps);
+        self.answer_by(alloc, addr, found, opts)
     }
 }
 

@@ -17,6 +17,8 @@ ghost use Rattle.bz_breakpad.specs.Table.{Function, Named, Table};
 ghost use Rattle.bz_breakpad.specs.declared.types.Inlinee.{Inlinee};
 ghost use Rattle.bz_breakpad.specs.declared.types.PublicSymbol.{PublicSymbol};
 ghost use Rattle.bz_breakpad.specs.declared.types.SourceLine.{SourceLine};
+ghost use Rattle.bz_breakpad.specs.Grammar.{IsFile};
+ghost use Rattle.bz_breakpad.specs.Printed.{IsPrintable, printed};
 
 use crate::types::{Inlinee, PublicSymbol, SourceLine};
 
@@ -70,4 +72,15 @@ pub fn calls_are_rotated()
 /// A symbol's start and offset make up the address that it answers for.
 pub fn answers_lie_at_their_addresses()
     ensures { (table : Table) (opts : FindSymOpts) (addr : ℕ) (s : Symbol) → plain table opts addr ≡ Ok (Known s) → s.addr + s.offset ≡ addr }
+{}
+
+/// The text of a table is a file that says the table, where its numbers and names can stand in
+/// lines and its ids ascend.
+pub fn printed_tables_are_files()
+    ensures { (table : Table) → IsPrintable table → IsFile (printed table) table }
+{}
+
+/// Every file says such a table.
+pub fn tables_of_files_are_printable()
+    ensures { (bytes : List ℕ) (table : Table) → IsFile bytes table → IsPrintable table }
 {}

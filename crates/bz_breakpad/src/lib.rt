@@ -2,6 +2,8 @@
 #![tactic(auto)]
 
 mod file;
+mod find;
+mod found;
 mod function;
 pub mod laws;
 mod line_run;
@@ -11,6 +13,7 @@ mod names;
 mod order;
 mod parser;
 mod places;
+mod publics;
 mod search;
 mod sorting;
 #[cfg(test)]
@@ -19,6 +22,6 @@ mod types;
 mod version;
 
 pub use file::{SymbolFile, SymbolParser};
+pub use found::FoundRecord;
 pub use function::Function;
-pub use lookups::Lookups;
 pub use types::{Inlinee, PublicSymbol, SourceLine};

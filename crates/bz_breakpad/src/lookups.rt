@@ -1,84 +1,80 @@
-//! The answers to addresses whose functions were looked up.
+//! The answers to addresses whose records were found.
 
-ghost use Rattle.std.specs.Prelude.{◌≡◌, ◌<◌, ◌≤◌, map, length, slice_index, option_map, Some, IfOk, IfErr, IfSome, IsOkUnless};
+ghost use Rattle.std.specs.Prelude.{◌≡◌, ◌<◌, ◌≤◌, ◌+◌, ℕ, List, map, length, slice_index, option_map, IfOk, IfErr, IfSome, IsOkUnless};
 ghost use Rattle.std.specs.Cow.{cow_str_bytes};
 ghost use Rattle.std.specs.List.{AllByRecursion};
-ghost use Rattle.bz_base.specs.Answer.{Gives, in_batch, reading, symbol_of};
+ghost use Rattle.bz_base.specs.Answer.{Gives, reading, symbol_of};
 ghost use Rattle.bz_base.specs.Lent.{IsLent, IsLentSymbol, IsLentText};
 ghost use Rattle.bz_base.specs.Refusals.{WantsMemory};
-ghost use Rattle.bz_base.specs.Starts.{IsFound};
 ghost use Rattle.bz_base.specs.declared.error.Error.{Error};
 ghost use Rattle.bz_base.specs.declared.types.FindSymOpts.{FindSymOpts};
-ghost use Rattle.bz_breakpad.specs.Kept.{IsTextAt, text_at};
+ghost use Rattle.bz_base.specs.declared.types.Reason.{Reason};
+ghost use Rattle.bz_breakpad.specs.Found.{AreRecordsFor, IsRecordFor};
+ghost use Rattle.bz_breakpad.specs.Kept.{IsTextAt, kept_public, text_at};
 ghost use Rattle.bz_breakpad.specs.Lent.{IsLentPlaced, function_seen, placed_seen};
-ghost use Rattle.bz_breakpad.specs.Plain.{batch, plain, symbol_at};
-ghost use Rattle.bz_breakpad.specs.Reader.{table_in};
+ghost use Rattle.bz_breakpad.specs.Plain.{batch, plain, public_symbol_at, symbol_at};
 ghost use Rattle.bz_breakpad.specs.Refusal.{IsAnswerRefusal};
-ghost use Rattle.bz_breakpad.specs.Sorted.{StandsFor, starts_of};
+ghost use Rattle.bz_breakpad.specs.Sorted.{StandsFor};
 ghost use Rattle.bz_breakpad.specs.Table.{Table};
 
+use crate::found::FoundRecord;
 use crate::function::text_of;
 use crate::line_run::{Cuts, Guess};
 use crate::places::{Placed, placed_at};
-use crate::search::function_at;
-use crate::types::{KeptFunction, KeptTable, LineRecords};
-use bz_base::{Error, FindSymOpts, Reason, Result, Sym, Symbolized, in_batch};
+use crate::types::{KeptFunction, KeptPublic, KeptTable, LineRecords};
+use bz_base::{Addr, Error, FindSymOpts, Reason, Result, Sym, Symbolized, in_batch};
 use std::alloc::Global;
 use std::borrow::CowStr;
-use std::marker::Model;
 
 /// For so many answers what lies far is touched together.
 const TOGETHER: usize = 32;
 
-/// Addresses whose functions were looked up in a file. Contracts see the file's bytes and the
-/// addresses.
+/// Addresses of a file, and the records that were found for them.
 #[derive(Drop)]
-pub struct Lookups<'f, 'b> {
-    pub(crate) bytes: &'f [u8],
-    pub(crate) kept: &'f KeptTable,
-    pub(crate) addrs: &'b [u64],
-    pub(crate) places: Vec<Option<(usize, u64)>>,
+pub(crate) struct FoundAddrs<'f, 'b> {
+    pub bytes: &'f [u8],
+    pub kept: &'f KeptTable,
+    pub addrs: &'b [Addr],
+    pub found: &'b [FoundRecord],
 }
 
-impl<'f, 'b> Model for Lookups<'f, 'b> {
-    ghost use Rattle.bz_breakpad.specs.Sorted.{AreLookups, LookedUp};
-
-    ghost Value = { LookedUp };
-
-    ghost view = { λ l. record { bytes = l.bytes.now; addrs = l.addrs.now } };
-
-    ghost invariant = { λ l. AreLookups l.bytes.now l.kept.now l.addrs.now l.places.items };
-}
-
-impl<'f, 'b> Lookups<'f, 'b> {
-    /// How many addresses there are.
-    pub fn len(&self) -> usize
-        ensures { result ≡ length self.now.addrs }
+impl<'f, 'b> FoundAddrs<'f, 'b> {
+    /// The answers to all addresses, in their order; an address that is refused is an ignored error.
+    pub fn answers(&self, alloc: Global, opts: &FindSymOpts) -> Result<Vec<Symbolized<'f>>>
+        requires records { (table : Table) × StandsFor self.now.bytes.now table self.now.kept.now × AreRecordsFor table self.now.addrs.now self.now.found.now }
+        requires count { length self.now.found.now ≡ length self.now.addrs.now }
+        ensures answers { IfOk result (λ answers. (table : Table) → StandsFor self.now.bytes.now table self.now.kept.now → AreRecordsFor table self.now.addrs.now self.now.found.now →
+            map reading answers.items ≡ batch table opts.now self.now.addrs.now) }
+        ensures lent { IfOk result (λ answers. AllByRecursion IsLent answers.items) }
+        ensures memory { IsOkUnless result Error.OutOfMemory }
     {
-        self.addrs.len()
+        let mut answers = Vec::with_capacity(alloc, self.addrs.len())?;
+        let mut hints = [Cuts::unknown(); TOGETHER];
+        for index in 0..self.addrs.len() {
+            if index % TOGETHER == 0 {
+                hints = self.hints(index);
+            }
+            match self.answer_at(alloc, index, opts, hints[index % TOGETHER]) {
+                Ok(answer) => answers.push_reserved(answer),
+                Err(error) => answers.push_reserved(in_batch(Err(error))?),
+            }
+        }
+        Ok(answers)
     }
 
-    /// The answer at the address of an index, as at that address alone.
-    pub fn answer(&self, alloc: Global, index: usize, opts: &FindSymOpts) -> Result<Symbolized<'f>>
-        requires { index < length self.now.addrs }
-        ensures answer { (table : Table) × (table_in self.now.bytes ≡ Some table) × Gives reading (plain table opts.now (slice_index self.now.addrs index)) result }
-        ensures lent { IfOk result IsLent }
-        ensures refusal { IfErr result IsAnswerRefusal }
-        ensures memory { IfErr result (WantsMemory (opts.now ≡ FindSymOpts.CodeInfoAndInlined)) }
-    {
-        self.answer_by(alloc, index, opts, Cuts::unknown())
-    }
-
-    /// The same, with hints for `line_in_run`.
-    fn answer_by(
+    /// The answer at the address of an index, with hints for `line_in_run`.
+    fn answer_at(
         &self,
         alloc: Global,
         index: usize,
         opts: &FindSymOpts,
         hints: Cuts,
     ) -> Result<Symbolized<'f>>
-        requires { index < length self.now.addrs }
-        ensures answer { (table : Table) × (table_in self.now.bytes ≡ Some table) × Gives reading (plain table opts.now (slice_index self.now.addrs index)) result }
+        requires records { (table : Table) × StandsFor self.now.bytes.now table self.now.kept.now × AreRecordsFor table self.now.addrs.now self.now.found.now }
+        requires count { length self.now.found.now ≡ length self.now.addrs.now }
+        requires within { index < length self.now.addrs.now }
+        ensures answer { (table : Table) → StandsFor self.now.bytes.now table self.now.kept.now → AreRecordsFor table self.now.addrs.now self.now.found.now →
+            Gives reading (plain table opts.now (slice_index self.now.addrs.now index)) result }
         ensures lent { IfOk result IsLent }
         ensures refusal { IfErr result IsAnswerRefusal }
         ensures memory { IfErr result (WantsMemory (opts.now ≡ FindSymOpts.CodeInfoAndInlined)) }
@@ -88,7 +84,7 @@ impl<'f, 'b> Lookups<'f, 'b> {
             self.bytes,
             self.kept,
             opts,
-            self.places[index],
+            self.found[index],
             hints,
             self.addrs[index],
         )
@@ -122,17 +118,11 @@ impl<'f, 'b> Lookups<'f, 'b> {
         hints
     }
 
-    /// The index of the function for the answer at an index, which is past all if there is none.
+    /// The index of the function that answers at an index, which is past all if there is none.
     fn function_index(&self, index: usize) -> usize {
-        if index >= self.places.len() {
-            return usize::MAX;
-        }
-        let Some((place, _)) = self.places[index] else {
-            return usize::MAX;
-        };
-        match self.kept.code.keys.get(place) {
-            Some(key) => key.index,
-            None => usize::MAX,
+        match self.found.get(index) {
+            Some(FoundRecord::Function(function)) => *function as usize,
+            _ => usize::MAX,
         }
     }
 
@@ -183,26 +173,6 @@ impl<'f, 'b> Lookups<'f, 'b> {
             None => Cuts::unknown(),
         }
     }
-
-    /// The answers to all addresses, in their order; an address that is refused is an ignored error.
-    pub fn answers(&self, alloc: Global, opts: &FindSymOpts) -> Result<Vec<Symbolized<'f>>>
-        ensures answers { IfOk result (λ answers. (table : Table) × (table_in self.now.bytes ≡ Some table) × (map reading answers.items ≡ batch table opts.now self.now.addrs)) }
-        ensures lent { IfOk result (λ answers. AllByRecursion IsLent answers.items) }
-        ensures memory { IsOkUnless result Error.OutOfMemory }
-    {
-        let mut answers = Vec::with_capacity(alloc, self.addrs.len())?;
-        let mut hints = [Cuts::unknown(); TOGETHER];
-        for index in 0..self.addrs.len() {
-            if index % TOGETHER == 0 {
-                hints = self.hints(index);
-            }
-            match self.answer_by(alloc, index, opts, hints[index % TOGETHER]) {
-                Ok(answer) => answers.push_reserved(answer),
-                Err(error) => answers.push_reserved(in_batch(Err(error))?),
-            }
-        }
-        Ok(answers)
-    }
 }
 
 /// What an answer reads of its function that lies elsewhere.
@@ -227,32 +197,74 @@ impl Seed {
     }
 }
 
-/// The answer at an address, from the place that a search found. The hints are for `line_in_run`.
+/// The answer at an address, from the record that was found for it. The hints are for `line_in_run`.
 pub(crate) fn answer_from<'a>(
     alloc: Global,
     bytes: &'a [u8],
     kept: &'a KeptTable,
     opts: &FindSymOpts,
-    place: Option<(usize, u64)>,
+    found: FoundRecord,
     hints: Cuts,
-    addr: u64,
+    addr: Addr,
 ) -> Result<Symbolized<'a>>
-    requires found { IsFound (starts_of kept.now.code) addr place }
-    requires stands { (table : Table) × StandsFor bytes.now table kept.now }
-    ensures answer { (table : Table) → StandsFor bytes.now table kept.now → Gives reading (plain table opts.now addr) result }
+    requires { (table : Table) × StandsFor bytes.now table kept.now × IsRecordFor table addr found }
+    ensures answer { (table : Table) → StandsFor bytes.now table kept.now → IsRecordFor table addr found → Gives reading (plain table opts.now addr) result }
     ensures lent { IfOk result IsLent }
     ensures refusal { IfErr result IsAnswerRefusal }
     ensures memory { IfErr result (WantsMemory (opts.now ≡ FindSymOpts.CodeInfoAndInlined)) }
 {
-    if kept.code.functions.is_empty() {
-        return Ok(Symbolized::Unknown(Reason::MissingSyms));
+    match found {
+        FoundRecord::Function(index) => {
+            let function = &kept.code.functions[index as usize];
+            match placed_at(alloc, bytes, kept, opts, function, hints, addr) {
+                Ok(placed) => Ok(Symbolized::Sym(symbol(bytes, kept, function, addr, placed))),
+                Err(error) => Err(error),
+            }
+        }
+        FoundRecord::Public(index) => {
+            let public = &kept.publics[index as usize];
+            Ok(Symbolized::Sym(public_symbol(alloc, bytes, kept, public, addr)))
+        }
+        FoundRecord::Absent => Ok(Symbolized::Unknown(unanswered(kept))),
     }
-    match function_at(&kept.code, place, addr) {
-        Some(function) => match placed_at(alloc, bytes, kept, opts, function, hints, addr) {
-            Ok(placed) => Ok(Symbolized::Sym(symbol(bytes, kept, function, addr, placed))),
-            Err(error) => Err(error),
-        },
-        None => Ok(Symbolized::Unknown(Reason::UnknownAddr)),
+}
+
+/// Why no record answers for an address.
+fn unanswered(kept: &KeptTable) -> Reason
+    ensures missing { (bytes : List ℕ) (table : Table) → StandsFor bytes table kept.now → length table.functions ≡ 0 → length table.publics ≡ 0 → result ≡ Reason.MissingSyms }
+    ensures unknown { (bytes : List ℕ) (table : Table) → StandsFor bytes table kept.now → 0 < length table.functions + length table.publics → result ≡ Reason.UnknownAddr }
+{
+    if kept.code.functions.is_empty() && kept.publics.is_empty() {
+        Reason::MissingSyms
+    } else {
+        Reason::UnknownAddr
+    }
+}
+
+/// The PUBLIC record as the symbol at the address.
+fn public_symbol<'a>(
+    alloc: Global,
+    bytes: &'a [u8],
+    kept: &'a KeptTable,
+    public: &'a KeptPublic,
+    addr: u64,
+) -> Sym<'a>
+    requires below { public.now.start ≤ addr }
+    requires module_fits { IfSome kept.now.«module» (IsTextAt bytes.now) }
+    requires name_fits { IsTextAt bytes.now public.now.name }
+    ensures symbol { (read : Table) → read.«module» ≡ option_map (text_at bytes.now) kept.now.«module» →
+        symbol_of result ≡ public_symbol_at read (kept_public bytes.now public.now) addr }
+    ensures lent { IsLentSymbol result }
+{
+    Sym {
+        name: CowStr::Borrowed(text_of(bytes, &public.name)),
+        module: module_name(bytes, kept),
+        addr: public.start,
+        offset: (addr - public.start) as usize,
+        size: None,
+        code_info: None,
+        inlined: Vec::new(alloc),
+        public: true,
     }
 }
 
@@ -280,6 +292,7 @@ fn symbol<'a>(
         size: Some(function.size as usize),
         code_info: placed.code_info,
         inlined: placed.inlined,
+        public: false,
     }
 }
 

@@ -1,8 +1,8 @@
 //! Which function answers for an address.
 
-ghost use Rattle.std.specs.Prelude.{◌≡◌, ◌≤◌, ℕ, List, IfSome};
+ghost use Rattle.std.specs.Prelude.{◌≡◌, ℕ, List, IfSome};
 ghost use Rattle.std.specs.List.{AllByRecursion};
-ghost use Rattle.bz_base.specs.Starts.{IsFound};
+ghost use Rattle.bz_base.specs.Starts.{IsAt};
 ghost use Rattle.bz_breakpad.specs.FunctionKeys.{AreSortedKeys};
 ghost use Rattle.bz_breakpad.specs.Kept.{kept_functions};
 ghost use Rattle.bz_breakpad.specs.Lent.{lent_function};
@@ -53,18 +53,17 @@ impl Nested for Inlinee {
 /// that a search among the keys' starts found.
 pub(crate) fn function_at(
     code: &FunctionTable,
-    place: Option<(usize, u64)>,
+    place: Option<usize>,
     addr: u64,
 ) -> Option<&KeptFunction>
-    requires found { IsFound (starts_of code.now) addr place }
+    requires found { IsAt (starts_of code.now) addr place }
     requires keys { AreSortedKeys code.now.functions.items code.now.keys.items }
     ensures answers { (bytes : List ℕ) → lent_function bytes code.now result ≡ function_at addr (kept_functions bytes code.now) }
-    ensures below { IfSome result (λ f. f.now.start ≤ addr) }
     ensures function { (bytes : List ℕ) → AllByRecursion (IsFunction bytes code.now) code.now.functions.items →
         IfSome result (λ f. IsFunction bytes code.now f.now) }
 {
     match covering_at(&code.keys, place, addr) {
-        Some(key) => Some(&code.functions[key.index]),
+        Some(key) => Some(&code.functions[key.index as usize]),
         None => None,
     }
 }

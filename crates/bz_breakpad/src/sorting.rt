@@ -22,17 +22,21 @@ pub(crate) fn sorted_keys(
     Ok(keys)
 }
 
-/// The keys of the functions, in their order.
+/// The keys of the functions, in their order. Want of memory also where there are so many functions
+/// that an index can't be kept in four bytes.
 fn keys_of(alloc: Global, functions: &[KeptFunction]) -> Result<Vec<FunctionKey>, AllocError>
     ensures { IfOk result (λ keys. AreKeys functions.now keys.items) }
 {
+    if functions.len() > u32::MAX as usize {
+        return Err(AllocError);
+    }
     let mut keys = Vec::with_capacity(alloc, functions.len())?;
     for index in 0..functions.len() {
         let function = &functions[index];
         keys.push(FunctionKey {
             start: function.start,
             size: function.size,
-            index,
+            index: index as u32,
         })?;
     }
     Ok(keys)

@@ -73,7 +73,7 @@ pub(crate) struct FunctionKey {
     /// Its size, in bytes.
     pub size: u32,
     /// Its index in the list of functions.
-    pub index: usize,
+    pub index: u32,
 }
 
 /// A PUBLIC record.

@@ -83,7 +83,7 @@ const ROWS: [(&[u8], u64, FindSymOpts, &str); 24] = [
         USUAL,
         0x1020,
         FindSymOpts::CodeInfoAndInlined,
-        "? UnknownAddr",
+        "_start at -",
     ),
     (
         UNKNOWN_FILE,

@@ -1,24 +1,51 @@
-use Rattle.std.proofs.Common.{Some, None, Ok, sym, ap, ◌∙◌, arith}
-use Rattle.std.proofs.lemmas.Bool.{eqb-false}
+use Rattle.std.proofs.Common.{Ok, ap, sym, subst, ◌∙◌, arith}
 use Rattle.bz_base.specs.Answer.Answer.{Known}
+use Rattle.bz_breakpad.specs.Found.{IsRecordFor}
 use Rattle.bz_breakpad.specs.Lent.{function_seen}
-use Rattle.bz_breakpad.specs.Plain.{by_place, function_at}
-use Rattle.bz_breakpad.proofs.SortedLemmas.{plain-some}
+use Rattle.bz_breakpad.specs.Plain.{by_place}
+use Rattle.bz_breakpad.proofs.AnsweredLemmas.{function_answers, function_below, function_kept, public_answers, public_named, public_starts, public_within, refused_as}
 use Rattle.bz_breakpad.proofs.lookups.answer_from.Goals as goal
 
+pub symbol-requires-clause-below : goal.symbol-requires-clause-below
+symbol-requires-clause-below c =
+    let at = c.requires in
+    function_below c.args.bytes.now at.0 c.args.kept.now at.1 c.args.addr c.in-Function.index (subst (IsRecordFor at.0 c.args.addr) c.in-Function.is at.2) c.index-function.result.now c.index-function.ensures
+
+pub symbol-requires-clause-name_fits : goal.symbol-requires-clause-name_fits
+symbol-requires-clause-name_fits c =
+    let at = c.requires in
+    (function_kept c.args.bytes.now at.0 c.args.kept.now at.1 c.args.addr c.in-Function.index (subst (IsRecordFor at.0 c.args.addr) c.in-Function.is at.2) c.index-function.result.now c.index-function.ensures).fits.name
+
+pub index-public-requires : goal.index-public-requires
+index-public-requires c =
+    let at = c.requires in
+    omega (arith, c.args.kept.now.publics.ok.0, public_within c.args.bytes.now at.0 c.args.kept.now at.1 c.args.addr c.in-Public.index (subst (IsRecordFor at.0 c.args.addr) c.in-Public.is at.2))
+
+pub public_symbol-requires-clause-below : goal.public_symbol-requires-clause-below
+public_symbol-requires-clause-below c =
+    let at = c.requires in
+    public_starts c.args.bytes.now at.0 c.args.kept.now at.1 c.args.addr c.in-Public.index (subst (IsRecordFor at.0 c.args.addr) c.in-Public.is at.2) c.index-public.result.now c.index-public.ensures
+
+pub public_symbol-requires-clause-name_fits : goal.public_symbol-requires-clause-name_fits
+public_symbol-requires-clause-name_fits c =
+    let at = c.requires in
+    public_named c.args.bytes.now at.0 c.args.kept.now at.1 c.args.addr c.in-Public.index (subst (IsRecordFor at.0 c.args.addr) c.in-Public.is at.2) c.index-public.result.now c.index-public.ensures
+
 pub returns-in-Ok-clause-answer : goal.returns-in-Ok-clause-answer
-returns-in-Ok-clause-answer c table stands =
-    let bytes = c.args.bytes.now in
-    let code = c.args.kept.now.code in
-    let f = function_seen bytes code c.in-Some.function.now in
-    plain-some table c.args.opts.now c.args.addr (Some f)
-    (omega (arith, stands.count, code.functions.ok.0, eqb-false _ 0 (sym c.is_empty.ensures ∙ c.if-is_empty.false)))
-    (c.in-Some.ensures.answers bytes ∙ ap (function_at c.args.addr) stands.functions)
+returns-in-Ok-clause-answer c table stands record_is =
+    let f = function_seen c.args.bytes.now c.args.kept.now.code c.index-function.result.now in
+    function_answers c.args.bytes.now table c.args.kept.now stands c.args.addr c.in-Function.index (subst (IsRecordFor table c.args.addr) c.in-Function.is record_is) c.index-function.result.now c.index-function.ensures c.args.opts.now
     ∙ ap (by_place table f c.args.addr) (c.in-Ok.ensures.placed table stands)
     ∙ ap (λ s. Ok (Known s)) (sym (c.symbol.ensures.symbol table (sym stands.module_is)))
 
-pub returns-in-None-clause-answer : goal.returns-in-None-clause-answer
-returns-in-None-clause-answer c table stands =
-    plain-some table c.args.opts.now c.args.addr None
-    (omega (arith, stands.count, c.args.kept.now.code.functions.ok.0, eqb-false _ 0 (sym c.is_empty.ensures ∙ c.if-is_empty.false)))
-    (c.in-None.ensures.answers c.args.bytes.now ∙ ap (function_at c.args.addr) stands.functions)
+pub returns-in-Err-clause-answer : goal.returns-in-Err-clause-answer
+returns-in-Err-clause-answer c table stands record_is =
+    let f = function_seen c.args.bytes.now c.args.kept.now.code c.index-function.result.now in
+    refused_as table f c.args.addr _ _ c.in-Err.error
+    (function_answers c.args.bytes.now table c.args.kept.now stands c.args.addr c.in-Function.index (subst (IsRecordFor table c.args.addr) c.in-Function.is record_is) c.index-function.result.now c.index-function.ensures c.args.opts.now)
+    (c.in-Err.ensures.placed table stands) c.in-Err.ensures.refusal
+
+pub returns-in-Public-clause-answer : goal.returns-in-Public-clause-answer
+returns-in-Public-clause-answer c table stands record_is =
+    public_answers c.args.bytes.now table c.args.kept.now stands c.args.addr c.in-Public.index (subst (IsRecordFor table c.args.addr) c.in-Public.is record_is) c.index-public.result.now c.index-public.ensures c.args.opts.now
+    ∙ ap (λ s. Ok (Known s)) (sym (c.public_symbol.ensures.symbol table (sym stands.module_is)))

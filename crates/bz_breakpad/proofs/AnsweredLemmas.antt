@@ -1,0 +1,104 @@
+-- The record that was found for an address: where it is kept, and the answer by it.
+use Rattle.std.proofs.Common.{◌≡◌, ℕ, ◌+◌, ◌<◌, ◌≤◌, Bool, true, false, cond, List, length, map, get_or, Option, Some, None, Result, Ok, Err, refl, sym, ap, subst, ◌∙◌, arith}
+use Rattle.std.specs.List.{slice_get}
+use Rattle.std.proofs.lemmas.Option.{same_Some, slice_get-map, slice_get_read, slice_get_within}
+use Rattle.bz_base.specs.Answer.{Answer, Gives, Symbol, reading}
+use Rattle.bz_base.specs.Answer.Answer.{Known, Unknown}
+use Rattle.bz_base.specs.declared.error.Error.{Error}
+use Rattle.bz_base.specs.declared.error.Error.TheVariants as errors
+use Rattle.bz_base.specs.declared.types.FindSymOpts.{FindSymOpts}
+use Rattle.bz_base.specs.declared.types.Reason.TheVariants as reasons
+use Rattle.bz_breakpad.specs.Found.{IsFunctionFor, IsPublicFor}
+use Rattle.bz_breakpad.specs.Kept.{IsTextAt, kept_public}
+use Rattle.bz_breakpad.specs.Lent.{function_seen, placed_seen}
+use Rattle.bz_breakpad.specs.Plain.{Placed, any_between, by_place, by_public, placed_at, plain, public_at, public_symbol_at}
+use Rattle.bz_breakpad.specs.Refusal.{IsAnswerRefusal}
+use Rattle.bz_breakpad.specs.Search.{IsFunction}
+use Rattle.bz_breakpad.specs.Sorted.{StandsFor}
+use Rattle.bz_breakpad.specs.Table.{Function, PublicSymbol, Table}
+use Rattle.bz_breakpad.specs.declared.types.KeptFunction.{KeptFunction}
+use Rattle.bz_breakpad.specs.declared.types.KeptPublic.{KeptPublic}
+use Rattle.bz_breakpad.specs.declared.types.KeptTable.{KeptTable}
+use Rattle.bz_breakpad.proofs.AddressLaws.{public_below, starts_below}
+use Rattle.bz_breakpad.proofs.OrderLemmas.{all_get}
+use Rattle.bz_breakpad.proofs.PublicLemmas.{some_of}
+use Rattle.bz_breakpad.proofs.SortedLemmas.{plain-some}
+
+-- a PUBLIC record that answers starts at or below the address
+answers_below : (table : Table) (addr : ℕ) (s : Symbol) → by_public table addr (public_at addr table.publics) ≡ Known s → s.addr ≤ addr
+answers_below table addr s is = by_one (public_at addr table.publics) refl is where
+  by_clear : (p : PublicSymbol) → p.start ≤ addr → (between : Bool) → cond {A = Answer} between (Unknown reasons.UnknownAddr) (Known (public_symbol_at table p addr)) ≡ Known s → s.addr ≤ addr
+  by_clear p below true is = cc
+  by_clear p below false is =
+      let same : public_symbol_at table p addr ≡ s = cc in
+      subst (λ (s : Symbol). s.addr ≤ addr) same below
+
+  by_one : (o : Option PublicSymbol) → public_at addr table.publics ≡ o → by_public table addr o ≡ Known s → s.addr ≤ addr
+  by_one None found is = cc
+  by_one (Some p) found is = by_clear p (public_below addr table.publics p found) (any_between p.start addr (map (λ (f : Function). f.start) table.functions)) is
+
+module _ (bytes : List ℕ) (table : Table) (kept : KeptTable) (stands : StandsFor bytes table kept) (addr index : ℕ) where
+  module _ (is : IsFunctionFor table addr index) where
+    kept_there : (f : KeptFunction) × (slice_get kept.code.functions.items index ≡ Some f) × (function_seen bytes kept.code f ≡ is.function)
+    kept_there =
+        some_of (function_seen bytes kept.code) (slice_get kept.code.functions.items index) is.function
+        (sym (slice_get-map (function_seen bytes kept.code) kept.code.functions.items index) ∙ ap (λ fs. slice_get fs index) stands.functions ∙ is.there)
+
+    -- the function of the index is kept
+    pub function_within : index < length kept.code.functions.items
+    function_within = slice_get_within kept.code.functions.items index kept_there.0 kept_there.1
+
+    module _ (f : KeptFunction) (read : f ≡ get_or kept.code.functions.items index f) where
+      seen_as : function_seen bytes kept.code f ≡ is.function
+      seen_as =
+          let there = slice_get_read kept.code.functions.items (length kept.code.functions.items) index f refl function_within read in
+          ap (function_seen bytes kept.code) (same_Some f kept_there.0 (sym there ∙ kept_there.1)) ∙ kept_there.2
+
+      pub function_kept : IsFunction bytes kept.code f
+      function_kept = subst (IsFunction bytes kept.code) (sym read) (all_get (IsFunction bytes kept.code) kept.code.functions.items index f stands.functions_are function_within)
+
+      pub function_below : f.start ≤ addr
+      function_below = subst (λ (g : Function). g.start ≤ addr) (sym seen_as) (starts_below addr table.functions is.function is.answers)
+
+      -- the answer is by it
+      pub function_answers : (opts : FindSymOpts) →
+          plain table opts addr ≡ by_place table (function_seen bytes kept.code f) addr (placed_at table opts (function_seen bytes kept.code f) addr)
+      function_answers opts =
+          let some : 0 < length table.functions + length table.publics = omega (arith, slice_get_within table.functions index is.function is.there) in
+          plain-some table opts addr (Some (function_seen bytes kept.code f)) some (ap Some seen_as ∙ sym is.answers)
+
+  module _ (is : IsPublicFor table addr index) where
+    public_there : (p : KeptPublic) × (slice_get kept.publics.items index ≡ Some p) × (kept_public bytes p ≡ is.public)
+    public_there =
+        some_of (kept_public bytes) (slice_get kept.publics.items index) is.public
+        (sym (slice_get-map (kept_public bytes) kept.publics.items index) ∙ ap (λ ps. slice_get ps index) stands.publics ∙ is.there)
+
+    -- the PUBLIC record of the index is kept
+    pub public_within : index < length kept.publics.items
+    public_within = slice_get_within kept.publics.items index public_there.0 public_there.1
+
+    module _ (p : KeptPublic) (read : p ≡ get_or kept.publics.items index p) where
+      told_as : kept_public bytes p ≡ is.public
+      told_as =
+          let there = slice_get_read kept.publics.items (length kept.publics.items) index p refl public_within read in
+          ap (kept_public bytes) (same_Some p public_there.0 (sym there ∙ public_there.1)) ∙ public_there.2
+
+      pub public_named : IsTextAt bytes p.name
+      public_named = subst (λ (q : KeptPublic). IsTextAt bytes q.name) (sym read) (all_get (λ (q : KeptPublic). IsTextAt bytes q.name) kept.publics.items index p stands.fits.publics public_within)
+
+      pub public_starts : p.start ≤ addr
+      public_starts = subst (λ (q : PublicSymbol). q.start ≤ addr) (sym told_as) (answers_below table addr (public_symbol_at table is.public addr) is.answers)
+
+      -- the answer is by it
+      pub public_answers : (opts : FindSymOpts) → plain table opts addr ≡ Ok (Known (public_symbol_at table (kept_public bytes p) addr))
+      public_answers opts =
+          let some : 0 < length table.functions + length table.publics = omega (arith, slice_get_within table.publics index is.public is.there) in
+          plain-some table opts addr None some (sym is.no_function)
+          ∙ ap Ok (is.answers ∙ ap (λ q. Known (public_symbol_at table q addr)) (sym told_as))
+
+-- where a place is refused, the answer is
+pub refused_as : (table : Table) (f : Function) (addr : ℕ) (expected : Result Answer Error) (placed : Result Placed Error) (e : Error) →
+    expected ≡ by_place table f addr placed → Gives placed_seen placed (Err e) → IsAnswerRefusal e → Gives reading expected (Err e)
+refused_as table f addr expected placed errors.InvalidInput is gives refusal = is ∙ ap (by_place table f addr) gives
+refused_as table f addr expected placed errors.OutOfMemory is gives refusal = tt
+refused_as table f addr expected placed _ is gives refusal = absurd refusal
