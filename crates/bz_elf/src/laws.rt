@@ -1,6 +1,8 @@
 //! What holds of the definitions that the contracts cite.
 
-ghost use Rattle.std.specs.Prelude.{◌≡◌, ◌↔◌, ℕ, List, None, Some, true, drop};
+ghost use Rattle.std.specs.Prelude.{◌≡◌, ◌≤◌, ◌↔◌, ℕ, List, Option, None, Some, Ok, true, drop};
+ghost use Rattle.bz_base.specs.Answer.{Resolved};
+ghost use Rattle.bz_elf.specs.Plain.{plain};
 ghost use Rattle.bz_base.specs.declared.error.Error.{Error};
 ghost use Rattle.bz_elf.specs.Format.{IsFirstFailing, checks, format_test};
 ghost use Rattle.bz_elf.specs.Profile.{IsElf, IsNameAt};
@@ -17,4 +19,9 @@ pub fn files_are_exact()
 /// UTF-8, and it is the one that stands there.
 pub fn names_are_exact()
     ensures { (strings : List ℕ) (place : ℕ) (name : List ℕ) → ((is_name (drop place strings) ≡ true) × (before_zero (drop place strings) ≡ name)) ↔ IsNameAt strings place name }
+{}
+
+/// A symbol that answers an address starts there or before it.
+pub fn answers_start_before()
+    ensures { (module_name : Option (List ℕ)) (bytes : List ℕ) (addr : ℕ) (r : Resolved) → plain module_name bytes addr ≡ Ok r → r.addr ≤ addr }
 {}

@@ -6,7 +6,7 @@ ghost use Rattle.bz_base.specs.Starts.{IsFound, NeverDescends};
 ghost use Rattle.bz_elf.specs.declared.types.SymbolEntry.{SymbolEntry};
 
 use crate::types::SymbolEntry;
-use bz_base::{Addr, Probe, Steps, covering_at, nearest};
+use bz_base::{Addr, Probe, Steps, covering_at, nearest, place_found};
 use std::marker::{Brand, Model};
 use std::sync::ledger::{Blank, Ledger};
 
@@ -57,7 +57,7 @@ pub(crate) fn covering(symbols: &[SymbolEntry], addr: Addr) -> Option<&SymbolEnt
         option_map (λ s. s.now) result ≡ nearest_covering (λ s. s.start) (λ s. s.size) addr records }
     ensures below { IfSome result (λ s. s.now.start ≤ addr) }
 {
-    covering_at(symbols, find(symbols, addr), addr)
+    covering_at(symbols, place_found(find(symbols, addr)), addr)
 }
 
 /// Place and start of the symbol that is to be tried at an address.

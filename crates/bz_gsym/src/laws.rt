@@ -1,6 +1,9 @@
 //! What holds of the definitions that the contracts cite.
 
-ghost use Rattle.std.specs.Prelude.{◌≡◌, ◌↔◌, true, ℕ, List, None, Some, slice_get};
+ghost use Rattle.std.specs.Prelude.{◌≡◌, ◌≤◌, ◌↔◌, true, ℕ, List, None, Some, Ok, slice_get};
+ghost use Rattle.bz_base.specs.Answer.{Resolved};
+ghost use Rattle.bz_base.specs.declared.types.FindSymOpts.{FindSymOpts};
+ghost use Rattle.bz_gsym.specs.Plain.{plain};
 ghost use Rattle.bz_base.specs.Answer.{Call, Site};
 ghost use Rattle.bz_gsym.specs.Plain.{nearest_symbol};
 ghost use Rattle.bz_gsym.specs.Entries.{AreEntries, Entry, entries_in};
@@ -13,6 +16,10 @@ ghost use Rattle.bz_gsym.specs.Strings.{IsString, string_at};
 ghost use Rattle.bz_gsym.specs.Tables.{IsGsym, IsTried, data_places, is_gsym};
 ghost use Rattle.bz_gsym.specs.declared.linetab.LineTableHeader.{LineTableHeader};
 ghost use Rattle.bz_gsym.specs.declared.linetab.LineTableRow.{LineTableRow};
+ghost use Rattle.bz_gsym.specs.declared.types.FileInfo.{FileInfo};
+
+use crate::linetab::LineTableRow;
+use crate::types::FileInfo;
 
 /// The test of a GSYM file says what the relation says.
 pub fn files_are_exact()
@@ -67,4 +74,15 @@ pub fn frames_are_the_trees()
 pub fn calls_are_rotated()
     ensures { (bytes : List ℕ) (row : LineTableRow) (calls : List Frame) (seen : Site × List Call) →
         (seen_from bytes row calls ≡ Some seen) ↔ IsSeen bytes row calls seen }
+{}
+
+/// A symbol that answers an address starts there or before it.
+pub fn answers_start_before()
+    ensures { (bytes : List ℕ) (opts : FindSymOpts) (addr : ℕ) (r : Resolved) → plain bytes opts addr ≡ Ok (Ok r) → r.addr ≤ addr }
+{}
+
+/// A clone of a file or of a row has its fields.
+pub fn clones_are_equal()
+    ensures files { (a b : FileInfo) → ⟦<FileInfo as Clone>⟧.is_clone a b ↔ (a ≡ b) }
+    ensures rows { (a b : LineTableRow) → ⟦<LineTableRow as Clone>⟧.is_clone a b ↔ (a ≡ b) }
 {}

@@ -1,6 +1,7 @@
 //! What answers addresses by a GSYM file.
 
 ghost use Rattle.std.specs.Prelude.{◌≡◌, Some, None, IfOk, IfErr, OnOk};
+ghost use Rattle.bz_base.specs.Lent.{IsLentResolved};
 ghost use Rattle.bz_base.specs.Resolution.{MayGive, StartsBefore, found_of};
 ghost use Rattle.bz_cache.specs.Format.{Comes, IsRefusalBy, MayFail};
 ghost use Rattle.bz_files.specs.Count.{counted};
@@ -78,6 +79,7 @@ impl Symbolize for GsymResolver {
     ) -> Result<std::result::Result<ResolvedSym<'_>, Reason>>
         ensures answer { MayGive found_of (λ answer. answer ≡ plain self.now.bytes opts.now addr) result }
         ensures starts { IfOk result (λ found. StartsBefore addr (found_of found)) }
+        ensures lent { IfOk result (λ found. IfOk found IsLentResolved) }
         ensures refusal { IfErr result (IsAnswerRefusal opts.now) }
     {
         self.table.find_sym(alloc, addr, opts)

@@ -1,6 +1,7 @@
 //! A GSYM file that owns its bytes.
 
 ghost use Rattle.std.specs.Prelude.{◌≡◌, IfOk, IfErr};
+ghost use Rattle.bz_base.specs.Lent.{IsLentResolved};
 ghost use Rattle.bz_base.specs.Resolution.{MayGive, StartsBefore, found_of};
 ghost use Rattle.bz_base.specs.declared.error.Error.{Error};
 ghost use Rattle.bz_gsym.specs.Plain.{plain};
@@ -81,6 +82,7 @@ impl Symbolize for GsymTable {
     ) -> Result<std::result::Result<ResolvedSym<'_>, Reason>>
         ensures answer { MayGive found_of (λ answer. answer ≡ plain self.now opts.now addr) result }
         ensures starts { IfOk result (λ found. StartsBefore addr (found_of found)) }
+        ensures lent { IfOk result (λ found. IfOk found IsLentResolved) }
         ensures refusal { IfErr result (IsAnswerRefusal opts.now) }
     {
         symbol_at(&self.context(), alloc, addr, opts)
