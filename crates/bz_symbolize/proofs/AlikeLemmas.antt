@@ -11,11 +11,11 @@ use Rattle.bz_base.specs.declared.types.FindSymOpts.{FindSymOpts}
 use Rattle.bz_cache.specs.View.{View, Absent, Hidden, Shown}
 use Rattle.bz_symbolize.proofs.Formats.{any_file, on_each}
 use Rattle.bz_symbolize.proofs.PromiseLemmas.{IsFormatOf}
-use Rattle.bz_symbolize.specs.Alike.{batch_in_view, single_in_view, StandsAlone, AreAlike, IsFolded, EntriesStandAlone, OrderMovesAnswers, BatchesFoldRefusals}
+use Rattle.bz_symbolize.specs.Alike.{batch_in_view, single_in_view, StandsAlone, AreAlike, IsFolded, EntriesStandAlone, OrderMovesAnswers, BatchesFoldRefusals, HandedStandAlone, OrderMovesHanded, HandedFold}
 use Rattle.bz_symbolize.specs.FileCall.{batch_of, single_of}
 use Rattle.bz_symbolize.specs.Lookup.{by_view, shown_answer}
 use Rattle.bz_symbolize.specs.Promise.{IsAnswerOf}
-use Rattle.bz_symbolize.specs.Sources.{FileSource, OnFile, asked_of}
+use Rattle.bz_symbolize.specs.Sources.{FileSource, HandedSource, SourceForm, OneFile, Handed, OnFile, OnHanded, OnHandedForm, asked_of, form_of}
 use Rattle.bz_symbolize.specs.declared.source.Source.{Source}
 
 -- an address of some kind
@@ -110,3 +110,28 @@ alike_of source = any_file source (λ file opts kind shown addrs others answers 
 pub folded_of : (source : Source) → OnFile source (BatchesFoldRefusals source)
 folded_of source = on_each (λ (a : Address). single_of a.0 a.1) source (λ file laws opts kind shown addrs answers i addr given there.
     is_folded file opts kind shown addrs answers (answered file opts kind shown addrs answers given) source i addr (laws (kind, addr)) there)
+
+-- bytes that are handed in, as a file that has them
+abbrev as_file : HandedSource → FileSource
+as_file given = record { test = given.test; answering = given.answering; path = []; cache = λ s. s.gsym; with_cache = λ s c. s }
+
+by_handed_form : (form : SourceForm) {Q : HandedSource → Type 0} → ((given : HandedSource) → Q given) → OnHandedForm form Q
+by_handed_form (OneFile file) f = tt
+by_handed_form (Handed given) f = f given
+
+any_handed : (source : Source) {Q : HandedSource → Type 0} → ((given : HandedSource) → Q given) → OnHanded source Q
+any_handed source f = by_handed_form (form_of source) f
+
+pub handed_alone : (source : Source) → OnHanded source HandedStandAlone
+handed_alone source = any_handed source (λ given opts kind addrs answers i addr is there.
+    stands_alone (as_file given) opts kind (Shown given.bytes) addrs answers (answered (as_file given) opts kind (Shown given.bytes) addrs answers is) i addr there)
+
+pub handed_alike : (source : Source) → OnHanded source OrderMovesHanded
+handed_alike source = any_handed source (λ given opts kind addrs others answers other_answers is other_is.
+    are_alike (as_file given) opts kind (Shown given.bytes) addrs answers (answered (as_file given) opts kind (Shown given.bytes) addrs answers is) others other_answers other_is)
+
+pub handed_folded : (source : Source) → OnHanded source HandedFold
+handed_folded source = any_handed source (λ given opts kind addrs answers i addr is there.
+    let by = answered (as_file given) opts kind (Shown given.bytes) addrs answers is in
+    let single = single_by (as_file given) opts kind (Shown given.bytes) addrs answers by addr in
+    entry_by (as_file given) opts kind (Shown given.bytes) addrs answers by i addr there ∙ ap (λ (a : Result Answer Error). Some (in_batch a)) (sym single))

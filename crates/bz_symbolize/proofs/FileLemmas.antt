@@ -100,7 +100,7 @@ module _ (test : List ℕ → Option Error) (c : Cache) (p : List ℕ) where
   reload_entry (Some Denied) = refl
   reload_entry (Some (Present s b)) = reload_test s _ _
 
-  reload_look : (there : Option Entry) → (look test c p there).1.reload ≡ c.reload
+  pub reload_look : (there : Option Entry) → (look test c p there).1.reload ≡ c.reload
   reload_look there = by_fix (fixed c p)
     where
       by_fix : (o : Option Stamp) → (by_fixed test c p there o).1.reload ≡ c.reload

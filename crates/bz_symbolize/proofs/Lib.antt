@@ -4,6 +4,7 @@ pub mod CallLemmas
 pub mod ElfLemmas
 pub mod FileLemmas
 pub mod Formats
+pub mod FoundLemmas
 pub mod GsymLemmas
 pub mod HistoryLemmas
 pub mod LeaveLemmas

@@ -9,7 +9,7 @@ use Rattle.bz_cache.specs.View.{View, Shown}
 use Rattle.bz_symbolize.specs.FileCall.{batch_of, single_of}
 use Rattle.bz_symbolize.specs.Lookup.{shown_answer}
 use Rattle.bz_symbolize.specs.Promise.{IsAnswerOf}
-use Rattle.bz_symbolize.specs.Sources.{FileSource, asked_of}
+use Rattle.bz_symbolize.specs.Sources.{FileSource, HandedSource, asked_of, handed_answer}
 use Rattle.bz_symbolize.specs.declared.source.Source.{Source}
 
 -- what a batch, and what a single address, is answered by what is in view at the file's path: where kept versions cohere with
@@ -54,3 +54,20 @@ OrderMovesAnswers file = (opts : FindSymOpts) (kind : AddressKind) (shown : View
 abbrev pub BatchesFoldRefusals : Source → FileSource → Type 0
 BatchesFoldRefusals source file = (opts : FindSymOpts) (kind : AddressKind) (shown : View) (addrs : List ℕ) (answers : List Answer) (i addr : ℕ) →
     batch_in_view file opts kind shown addrs ≡ Ok answers → slice_get addrs i ≡ Some addr → IsFolded source opts kind shown answers i addr (single_in_view file opts kind shown addr)
+
+-- of bytes that are handed in: every entry of an answered batch stands alone
+abbrev pub HandedStandAlone : HandedSource → Type 0
+HandedStandAlone given = (opts : FindSymOpts) (kind : AddressKind) (addrs : List ℕ) (answers : List Answer) (i addr : ℕ) →
+    handed_answer given opts (batch_of kind addrs) ≡ Ok answers → slice_get addrs i ≡ Some addr →
+    StandsAlone (λ others. handed_answer given opts (batch_of kind others)) answers i addr
+
+-- any two answered batches are alike
+abbrev pub OrderMovesHanded : HandedSource → Type 0
+OrderMovesHanded given = (opts : FindSymOpts) (kind : AddressKind) (addrs others : List ℕ) (answers other_answers : List Answer) →
+    handed_answer given opts (batch_of kind addrs) ≡ Ok answers → handed_answer given opts (batch_of kind others) ≡ Ok other_answers → AreAlike addrs others answers other_answers
+
+-- every entry of an answered batch is that of the single call, a refused address being an ignored error
+abbrev pub HandedFold : HandedSource → Type 0
+HandedFold given = (opts : FindSymOpts) (kind : AddressKind) (addrs : List ℕ) (answers : List Answer) (i addr : ℕ) →
+    handed_answer given opts (batch_of kind addrs) ≡ Ok answers → slice_get addrs i ≡ Some addr →
+    slice_get answers i ≡ Some (in_batch (handed_answer given opts (single_of kind addr)))

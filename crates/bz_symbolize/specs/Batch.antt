@@ -1,5 +1,5 @@
 -- A batch whose source was looked at.
-use Rattle.std.specs.Prelude.{◌≡◌, ℕ, Bool, true, false, List, map, string_bytes, refl}
+use Rattle.std.specs.Prelude.{◌≡◌, ℕ, Bool, true, false, List, map, slice_index, string_bytes, refl}
 use Rattle.bz_base.specs.Answer.{Answer, in_batch}
 use Rattle.bz_base.specs.InputKind.{AddressKind, InFile, InTable}
 use Rattle.bz_base.specs.declared.types.FindSymOpts.{FindSymOpts}
@@ -48,6 +48,10 @@ answer_at batch addr = entry_by batch.version batch.opts addr
 abbrev pub answers_to : List ℕ → Batch → List Answer
 answers_to addrs batch = map (λ addr. answer_at batch addr) addrs
 
+-- and at the addresses of indices, in their order
+abbrev pub answers_there : List ℕ → Batch → List Answer
+answers_there indices batch = map (λ i. answer_at batch (slice_index batch.addrs i)) indices
+
 -- the kind of the addresses that an ELF file is asked for
 abbrev pub kind_of : ElfKind → AddressKind
 kind_of kinds.Table = InTable
@@ -55,7 +59,7 @@ kind_of kinds.File = InFile
 
 -- the version that is held
 abbrev pub version_of : Held → Version
-version_of (helds.Breakpad file) = BreakpadVersion file.value
+version_of (helds.Breakpad found) = BreakpadVersion found.file.value
 version_of (helds.Gsym table) = GsymVersion table.value
 version_of (helds.GsymData context) = GsymVersion context
 version_of (helds.Elf elf) = ElfVersion (string_bytes elf.path) elf.file.value (kind_of elf.kind)

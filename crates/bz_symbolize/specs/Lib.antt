@@ -1,6 +1,8 @@
 pub mod Alike
 pub mod Batch
+pub mod Counted
 pub mod FileCall
+pub mod Found
 pub mod History
 pub mod Lookup
 pub mod Promise

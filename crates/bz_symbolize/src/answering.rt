@@ -1,6 +1,7 @@
 //! How a parsed file answers, whatever its format, and the calls on one file in one cache.
 
-ghost use Rattle.std.specs.Prelude.{◌≡◌, ℕ, List, map, IfOk, IfErr, IsOkUnless};
+ghost use Rattle.std.specs.Prelude.{◌≡◌, ℕ, List, length, map, IfOk, IfErr, IsOkUnless};
+ghost use Rattle.bz_symbolize.specs.Counted.{FileSteps};
 ghost use Rattle.bz_base.specs.Answer.{Gives, reading};
 ghost use Rattle.bz_base.specs.InputKind.{address_kind, payload};
 ghost use Rattle.bz_base.specs.Refusals.{MayRefuse};
@@ -21,6 +22,9 @@ pub trait Answers: Version {
     /// Which kinds of address are taken before a look, which ones are answered, and how.
     ghost answering: { Answering };
 
+    /// How many steps a batch of so many addresses takes on bytes: those before and after.
+    ghost few_steps: { List ℕ → ℕ → ℕ → ℕ → Type 0 };
+
     /// Whether the kind of address is taken before the file is looked at.
     fn takes<A>(input: &Input<A>) -> bool
         ensures { result ≡ answering.takes (address_kind input.now) };
@@ -35,6 +39,7 @@ pub trait Answers: Version {
         steps: &mut Steps<L>,
     ) -> Result<Vec<Symbolized<'static>>>
         ensures answer { Gives (λ answers. map reading answers.items) (query_given answering opts.now path.now (batch_query input.entry) (Self.bytes_of self.now)) result }
+        ensures steps { few_steps (Self.bytes_of self.now) (length (payload input.entry).now) steps.old steps.new }
         ensures refusal { IfErr result MayRefuse };
 
     /// The answer to an address alone, with texts of its own.
@@ -50,16 +55,18 @@ pub trait Answers: Version {
         ensures refusal { IfErr result MayRefuse };
 
     /// The addresses with the version, from which their answers are then made one by one.
-    fn look_up<'d>(
+    fn look_up<'d, L: Ledger>(
         alloc: Global,
         version: Rc<Self>,
         opts: FindSymOpts,
         path: &str,
         input: Input<Vec<u64>>,
+        steps: &mut Steps<L>,
     ) -> Result<Lookups<'d>>
         ensures answer { Gives (λ lookups. lookups.answers) (query_given answering opts path.now (batch_of (address_kind input) (payload input).items) (Self.bytes_of version.value)) result }
         ensures every { (others : List ℕ) → Gives (answers_to others) (query_given answering opts path.now (batch_of (address_kind input) others) (Self.bytes_of version.value)) result }
         ensures addrs { IfOk result (λ lookups. lookups.addrs ≡ (payload input).items) }
+        ensures steps { few_steps (Self.bytes_of version.value) (length (payload input).items) steps.old steps.new }
         ensures refusal { IfErr result MayRefuse };
 }
 
@@ -73,7 +80,8 @@ pub fn answer_file<T: Answers + Drop, F: Files, L: Ledger>(
     input: Input<&[u64]>,
     steps: &mut Steps<L>,
 ) -> Result<Vec<Symbolized<'static>>>
-    ensures { CallsFile F.Files (λ answers. map reading answers.items) (query_asked T.test T.answering opts.now path.now (batch_query input.entry)) path.now result cache.old cache.new files.old files.new }
+    ensures called { CallsFile F.Files (λ answers. map reading answers.items) (query_asked T.test T.answering opts.now path.now (batch_query input.entry)) path.now result cache.old cache.new files.old files.new }
+    ensures steps { FileSteps T.few_steps cache.new path.now (length (payload input.entry).now) steps.old steps.new }
 {
     if !T::takes(&input) {
         return Err(Error::Unsupported);
@@ -103,23 +111,25 @@ pub fn answer_file_at<T: Answers + Drop, F: Files, L: Ledger>(
 
 /// The addresses with the version of the file at the path, from which their answers are then made one
 /// by one.
-pub fn look_up_file<'d, T: Answers + Drop, F: Files>(
+pub fn look_up_file<'d, T: Answers + Drop, F: Files, L: Ledger>(
     cache: &mut FileCache<T>,
     alloc: Global,
     files: &mut F,
     path: &str,
     opts: FindSymOpts,
     input: Input<Vec<u64>>,
+    steps: &mut Steps<L>,
 ) -> Result<Lookups<'d>>
     ensures called { CallsFile F.Files (λ lookups. lookups.answers) (query_asked T.test T.answering opts path.now (batch_of (address_kind input) (payload input).items)) path.now result cache.old cache.new files.old files.new }
     ensures every { (others : List ℕ) → CallsFile F.Files (answers_to others) (query_asked T.test T.answering opts path.now (batch_of (address_kind input) others)) path.now result cache.old cache.new files.old files.new }
     ensures addrs { IfOk result (λ lookups. lookups.addrs ≡ (payload input).items) }
+    ensures steps { FileSteps T.few_steps cache.new path.now (length (payload input).items) steps.old steps.new }
 {
     if !T::takes(&input) {
         return Err(Error::Unsupported);
     }
     let shared = cache.shared(alloc, files, path)?;
-    T::look_up(alloc, shared, opts, path, input)
+    T::look_up(alloc, shared, opts, path, input, steps)
 }
 
 /// The same answer, with texts of its own.

@@ -1,12 +1,14 @@
 //! An ELF file as one that answers.
 
-ghost use Rattle.std.specs.Prelude.{◌≡◌, ℕ, List, Ok, Some, map, IfOk, IfErr, IsOkUnless};
+ghost use Rattle.std.specs.Prelude.{◌≡◌, ℕ, List, Ok, Some, length, map, string_bytes, IfOk, IfErr, IsOkUnless};
+ghost use Rattle.std.specs.List.{AllByRecursion};
 ghost use Rattle.bz_base.specs.Answer.{Gives, reading, resolved_of};
 ghost use Rattle.bz_base.specs.InputKind.{address_kind, payload};
 ghost use Rattle.bz_base.specs.Lent.{IsLent, IsLentResolved};
 ghost use Rattle.bz_base.specs.Refusals.{MayRefuse};
 ghost use Rattle.bz_base.specs.declared.error.Error.{Error};
 ghost use Rattle.bz_symbolize.specs.Batch.{ElfVersion, answers_to, batch_by, kind_of};
+ghost use Rattle.bz_symbolize.specs.Counted.{no_steps};
 ghost use Rattle.bz_symbolize.specs.FileCall.{batch_of, query_given};
 ghost use Rattle.bz_symbolize.specs.Sources.{elf_answering, elf_single, virtual_offset};
 
@@ -24,6 +26,8 @@ use std::sync::ledger::Ledger;
 
 impl Answers for ElfFile {
     ghost answering = { elf_answering };
+
+    ghost few_steps = { no_steps };
 
     fn takes<A>(input: &Input<A>) -> bool {
         // Addresses of a process are refused after the look.
@@ -66,18 +70,21 @@ impl Answers for ElfFile {
         }
     }
 
-    fn look_up<'d>(
+    fn look_up<'d, L: Ledger>(
         alloc: Global,
         version: Rc<ElfFile>,
         opts: FindSymOpts,
         path: &str,
         input: Input<Vec<u64>>,
+        steps: &mut Steps<L>,
     ) -> Result<Lookups<'d>>
         ensures answer { Gives (λ lookups. lookups.answers) (query_given elf_answering opts path.now (batch_of (address_kind input) (payload input).items) version.value) result }
         ensures every { (others : List ℕ) → Gives (answers_to others) (query_given elf_answering opts path.now (batch_of (address_kind input) others) version.value) result }
         ensures addrs { IfOk result (λ lookups. lookups.addrs ≡ (payload input).items) }
+        ensures steps { no_steps version.value (length (payload input).items) steps.old steps.new }
         ensures refusal { IfErr result MayRefuse }
     {
+        let _steps = steps;
         match input {
             Input::VirtOffset(addrs) => {
                 batch_on(alloc, version, path, ElfKind::Table, opts, addrs)
@@ -138,8 +145,34 @@ fn answer_of(
     owned_answer(alloc, answer)
 }
 
+/// The answers at addresses, whose texts are lent.
+pub(crate) fn entries_at<'a>(
+    alloc: Global,
+    elf: &'a HeldElf,
+    addrs: &[Addr],
+) -> Result<Vec<Symbolized<'a>>>
+    ensures entries { IfOk result (λ entries. map reading entries.items ≡ map (λ addr. elf_single (string_bytes elf.now.path) elf.now.file.value (kind_of elf.now.kind) addr) addrs.now) }
+    ensures lent { IfOk result (λ entries. AllByRecursion IsLent entries.items) }
+    ensures memory { IsOkUnless result Error.OutOfMemory }
+{
+    let mut entries = Vec::with_capacity(alloc, addrs.len())?;
+    for addr in addrs {
+        entries.push(entry_at(alloc, elf, *addr)?)?;
+    }
+    Ok(entries)
+}
+
 /// The answer at an address, whose texts are lent.
-pub(crate) fn symbol_at<'a>(
+pub(crate) fn entry_at<'a>(alloc: Global, elf: &'a HeldElf, addr: Addr) -> Result<Symbolized<'a>>
+    ensures entry { IfOk result (λ entry. reading entry ≡ elf_single (string_bytes elf.now.path) elf.now.file.value (kind_of elf.now.kind) addr) }
+    ensures lent { IfOk result IsLent }
+    ensures memory { IsOkUnless result Error.OutOfMemory }
+{
+    symbol_at(alloc, elf.file.as_ref(), elf.path.as_str(), elf.kind, addr)
+}
+
+// The answer of a file at an address, whose texts are lent.
+fn symbol_at<'a>(
     alloc: Global,
     file: &'a ElfFile,
     path: &'a str,

@@ -1,6 +1,7 @@
 //! GSYM as what answers, in a file or handed in.
 
-ghost use Rattle.std.specs.Prelude.{◌≡◌, ℕ, List, map, IfOk, IfErr, IsOkUnless};
+ghost use Rattle.std.specs.Prelude.{◌≡◌, ℕ, List, length, map, IfOk, IfErr, IsOkUnless};
+ghost use Rattle.std.specs.List.{AllByRecursion};
 ghost use Rattle.bz_base.specs.Answer.{Gives, in_batch, reading};
 ghost use Rattle.bz_base.specs.InputKind.{address_kind, payload};
 ghost use Rattle.bz_base.specs.Lent.{IsLent};
@@ -8,6 +9,7 @@ ghost use Rattle.bz_base.specs.Refusals.{MayRefuse};
 ghost use Rattle.bz_base.specs.declared.error.Error.{Error};
 ghost use Rattle.bz_gsym.specs.Refusal.{IsAnswerRefusal};
 ghost use Rattle.bz_symbolize.specs.Batch.{answers_to};
+ghost use Rattle.bz_symbolize.specs.Counted.{no_steps};
 ghost use Rattle.bz_symbolize.specs.FileCall.{batch_of, batch_query, query_given, single_query};
 ghost use Rattle.bz_symbolize.specs.Sources.{gsym_answering, gsym_handed, gsym_single, handed_answer};
 
@@ -22,6 +24,8 @@ use std::sync::ledger::Ledger;
 
 impl Answers for GsymTable {
     ghost answering = { gsym_answering };
+
+    ghost few_steps = { no_steps };
 
     fn takes<A>(input: &Input<A>) -> bool {
         match input {
@@ -63,20 +67,23 @@ impl Answers for GsymTable {
         }
     }
 
-    fn look_up<'d>(
+    fn look_up<'d, L: Ledger>(
         alloc: Global,
         version: Rc<GsymTable>,
         opts: FindSymOpts,
         path: &str,
         input: Input<Vec<u64>>,
+        steps: &mut Steps<L>,
     ) -> Result<Lookups<'d>>
         ensures answer { Gives (λ lookups. lookups.answers) (query_given gsym_answering opts path.now (batch_of (address_kind input) (payload input).items) version.value) result }
         ensures every { (others : List ℕ) → Gives (answers_to others) (query_given gsym_answering opts path.now (batch_of (address_kind input) others) version.value) result }
         ensures addrs { IfOk result (λ lookups. lookups.addrs ≡ (payload input).items) }
+        ensures steps { no_steps version.value (length (payload input).items) steps.old steps.new }
         ensures refusal { IfErr result MayRefuse }
     {
         let _alloc = alloc;
         let _path = path;
+        let _steps = steps;
         match input {
             Input::VirtOffset(addrs) => Ok(Lookups::new(Held::Gsym(version), opts, addrs)),
             Input::AbsAddr(_) | Input::FileOffset(_) => Err(Error::Unsupported),
@@ -185,6 +192,24 @@ fn answer_of(
 {
     let answer = symbol_at(alloc, context, opts, addr)?;
     owned_answer(alloc, answer)
+}
+
+/// The answers at addresses, as entries of a batch, whose texts are lent.
+pub(crate) fn entries_at<'a>(
+    alloc: Global,
+    context: &GsymContext<'a>,
+    opts: &FindSymOpts,
+    addrs: &[Addr],
+) -> Result<Vec<Symbolized<'a>>>
+    ensures entries { IfOk result (λ entries. map reading entries.items ≡ map (λ addr. in_batch (gsym_single opts.now context.now addr)) addrs.now) }
+    ensures lent { IfOk result (λ entries. AllByRecursion IsLent entries.items) }
+    ensures memory { IsOkUnless result Error.OutOfMemory }
+{
+    let mut entries = Vec::with_capacity(alloc, addrs.len())?;
+    for addr in addrs {
+        entries.push(in_batch(symbol_at(alloc, context, opts, *addr))?)?;
+    }
+    Ok(entries)
 }
 
 /// The answer at an address, whose texts are lent.

@@ -1,6 +1,6 @@
 //! The version that a batch is answered by.
 
-use bz_breakpad::SymbolFile;
+use bz_breakpad::{FoundRecord, SymbolFile};
 use bz_elf::ElfFile;
 use bz_gsym::{GsymContext, GsymTable};
 use std::rc::Rc;
@@ -9,13 +9,22 @@ use std::rc::Rc;
 #[derive(Drop)]
 pub(crate) enum Held<'d> {
     /// A Breakpad file.
-    Breakpad(Rc<SymbolFile>),
+    Breakpad(HeldBreakpad),
     /// A GSYM file.
     Gsym(Rc<GsymTable>),
     /// GSYM bytes that were handed in.
     GsymData(GsymContext<'d>),
     /// An ELF file.
     Elf(HeldElf),
+}
+
+/// A Breakpad file, and what was found in it.
+#[derive(Drop)]
+pub(crate) struct HeldBreakpad {
+    /// The file.
+    pub file: Rc<SymbolFile>,
+    /// Which of its records answers for each address of the batch.
+    pub records: Vec<FoundRecord>,
 }
 
 /// An ELF file, and what is asked of it.

@@ -16,13 +16,13 @@ ghost use Rattle.bz_files.specs.World.{World, entry_at};
 ghost use Rattle.bz_elf.specs.Format as elf;
 ghost use Rattle.bz_elf.specs.Profile.{IsElf};
 ghost use Rattle.bz_gsym.specs.Version as gsym;
-ghost use Rattle.bz_symbolize.specs.Alike.{BatchesFoldRefusals, EntriesStandAlone, OrderMovesAnswers};
+ghost use Rattle.bz_symbolize.specs.Alike.{BatchesFoldRefusals, EntriesStandAlone, HandedFold, HandedStandAlone, OrderMovesAnswers, OrderMovesHanded};
 ghost use Rattle.bz_symbolize.specs.FileCall.{batch_of, batch_query, file_answer, query_asked};
 ghost use Rattle.bz_symbolize.specs.History.{Call, Coheres, MayReach, RegistersTruly};
 ghost use Rattle.bz_symbolize.specs.Lookup.{breakpad_answer, elf_answer, fresh_answer, gsym_answer};
 ghost use Rattle.bz_symbolize.specs.Promise.{IsAnswerOf, IsBreakpadAnswer, IsBreakpadBatch, IsElfAnswer, IsElfBatch, IsGsymAnswer, IsGsymBatch};
 ghost use Rattle.bz_symbolize.specs.Registration.{StaysRegistered};
-ghost use Rattle.bz_symbolize.specs.Sources.{OnFile, breakpad_answering, elf_answering, gsym_answering};
+ghost use Rattle.bz_symbolize.specs.Sources.{OnFile, OnHanded, breakpad_answering, elf_answering, gsym_answering};
 ghost use Rattle.bz_symbolize.specs.State.{Settings, State, new_state};
 ghost use Rattle.bz_symbolize.specs.declared.source.Source.{Source};
 
@@ -85,4 +85,11 @@ pub fn batches_are_answered()
         IsGsymAnswer opts bytes (batch_of kind addrs) (Ok answers) ↔ IsGsymBatch opts bytes addrs answers }
     ensures elf { (path bytes : List ℕ) (kind : AddressKind) (addrs : List ℕ) (answers : List Answer) →
         IsElfAnswer path bytes (batch_of kind addrs) (Ok answers) ↔ IsElfBatch path bytes kind addrs answers }
+{}
+
+/// The same three laws of bytes that are handed in.
+pub fn handed_batches_are_alike()
+    ensures alone { (source : Source) → OnHanded source HandedStandAlone }
+    ensures moved { (source : Source) → OnHanded source OrderMovesHanded }
+    ensures folded { (source : Source) → OnHanded source HandedFold }
 {}

@@ -1,24 +1,25 @@
-//! Batches whose answers are made one by one.
+//! Batches whose answers are made one by one, or some at a time.
 
-ghost use Rattle.std.specs.Prelude.{◌≡◌, ◌<◌, length, map, slice_index, IfOk, IsOkUnless};
+ghost use Rattle.std.specs.Prelude.{◌≡◌, ◌<◌, All, length, map, slice_index, IfOk, IsOkUnless};
 ghost use Rattle.std.specs.List.{AllByRecursion};
 ghost use Rattle.bz_base.specs.Answer.{in_batch, reading};
 ghost use Rattle.bz_base.specs.Lent.{IsLent};
 ghost use Rattle.bz_base.specs.declared.error.Error.{Error};
 ghost use Rattle.bz_breakpad.specs.Reader.{table_in};
-ghost use Rattle.bz_symbolize.specs.Batch.{answer_at, answers_to, batch_by, entry_by, heeds_order, version_of};
+ghost use Rattle.bz_symbolize.specs.Batch.{answer_at, answers_there, answers_to, batch_by, entry_by, heeds_order, version_of};
+ghost use Rattle.bz_symbolize.specs.Found.{IsHeldFor};
 ghost use Rattle.bz_symbolize.specs.Sources.{breakpad_single};
 
-use crate::elf;
-use crate::gsym::symbol_at;
 use crate::held::Held;
+use crate::{breakpad, elf, gsym};
 use bz_base::{Addr, Error, FindSymOpts, Result, Steps, Symbolized, in_batch};
 use bz_breakpad::SymbolFile;
 use std::alloc::Global;
 use std::marker::{Brand, Model};
 use std::sync::ledger::{Blank, Ledger};
 
-/// Addresses whose source was looked at. Their answers are made one by one, and lend their texts from
+/// Addresses whose source was looked at, and which were searched for in it. Their answers are made one
+/// by one or some at a time, without a search, and lend their texts from
 /// the version that the look gave, which stays as long as this does, whatever becomes of the file and
 /// of the symbolizer. Contracts see the addresses, the version, and its answers.
 #[derive(Drop)]
@@ -30,15 +31,19 @@ pub struct Lookups<'d> {
 
 impl<'d> Model for Lookups<'d> {
     ghost use Rattle.bz_symbolize.specs.Batch.{Batch, batch_by, version_of};
+    ghost use Rattle.bz_symbolize.specs.Found.{IsHeldFor};
 
     ghost Value = { Batch };
 
     ghost view = { λ l. batch_by (version_of l.held) l.opts l.addrs.items };
+
+    ghost invariant = { λ l. IsHeldFor l.addrs.items l.held };
 }
 
 impl<'d> Lookups<'d> {
     // A batch on a version.
     pub(crate) fn new(held: Held<'d>, opts: FindSymOpts, addrs: Vec<u64>) -> Lookups<'d>
+        requires { IsHeldFor addrs.items held }
         ensures { result ≡ batch_by (version_of held.entry) opts addrs.items }
     {
         Lookups { held, opts, addrs }
@@ -76,11 +81,59 @@ impl<'d> Lookups<'d> {
         ensures lent { IfOk result IsLent }
         ensures memory { IsOkUnless result Error.OutOfMemory }
     {
-        entry(alloc, &self.held, &self.opts, self.addrs[index])
+        let opts = &self.opts;
+        match &self.held {
+            Held::Breakpad(found) => {
+                let file = found.file.as_ref();
+                breakpad::entry_by(alloc, file, opts, &self.addrs, &found.records, index)
+            }
+            Held::Gsym(table) => {
+                in_batch(gsym::symbol_at(alloc, &table.context(), opts, self.addrs[index]))
+            }
+            Held::GsymData(context) => {
+                in_batch(gsym::symbol_at(alloc, context, opts, self.addrs[index]))
+            }
+            Held::Elf(elf) => elf::entry_at(alloc, elf, self.addrs[index]),
+        }
     }
 
-    /// The answers at some addresses, in their order: what these say is read together, which is faster
-    /// than one by one. A refused address is an ignored error.
+    /// The answers at the addresses of some indices, in their order: what these say is read together,
+    /// which is faster than one by one. A refused address is an ignored error.
+    pub fn answers_of(&self, alloc: Global, indices: &[usize]) -> Result<Vec<Symbolized<'_>>>
+        requires { All (λ index. index < length self.now.addrs) indices.now }
+        ensures answers { IfOk result (λ answers. map reading answers.items ≡ answers_there indices.now self.now) }
+        ensures lent { IfOk result (λ answers. AllByRecursion IsLent answers.items) }
+        ensures memory { IsOkUnless result Error.OutOfMemory }
+    {
+        match &self.held {
+            Held::Breakpad(found) => breakpad::entries_by(
+                alloc,
+                found.file.as_ref(),
+                &self.opts,
+                &self.addrs,
+                &found.records,
+                indices,
+            ),
+            Held::Gsym(_) | Held::GsymData(_) | Held::Elf(_) => self.answers_each(alloc, indices),
+        }
+    }
+
+    // The same, one by one.
+    fn answers_each(&self, alloc: Global, indices: &[usize]) -> Result<Vec<Symbolized<'_>>>
+        requires { All (λ index. index < length self.now.addrs) indices.now }
+        ensures answers { IfOk result (λ answers. map reading answers.items ≡ answers_there indices.now self.now) }
+        ensures lent { IfOk result (λ answers. AllByRecursion IsLent answers.items) }
+        ensures memory { IsOkUnless result Error.OutOfMemory }
+    {
+        let mut answers = Vec::with_capacity(alloc, indices.len())?;
+        for index in indices {
+            answers.push(self.answer(alloc, *index)?)?;
+        }
+        Ok(answers)
+    }
+
+    /// The answers at any addresses, in their order, which are searched for now. A refused address is an
+    /// ignored error.
     pub fn answers_at(&self, alloc: Global, addrs: &[Addr]) -> Result<Vec<Symbolized<'_>>>
         ensures answers { IfOk result (λ answers. map reading answers.items ≡ answers_to addrs.now self.now) }
         ensures lent { IfOk result (λ answers. AllByRecursion IsLent answers.items) }
@@ -91,7 +144,7 @@ impl<'d> Lookups<'d> {
     }
 }
 
-// The entries of a batch at addresses, by the version that is held.
+// The entries of a batch at any addresses, by the version that is held.
 fn entries<'h>(
     alloc: Global,
     held: &'h Held<'_>,
@@ -103,29 +156,13 @@ fn entries<'h>(
     ensures memory { IsOkUnless result Error.OutOfMemory }
 {
     match held {
-        Held::Breakpad(file) => {
-            entries_blank::<Brand>(alloc, file.as_ref(), opts, addrs, Blank::new(1))
+        Held::Breakpad(found) => {
+            entries_blank::<Brand>(alloc, found.file.as_ref(), opts, addrs, Blank::new(1))
         }
-        Held::Gsym(_) | Held::GsymData(_) | Held::Elf(_) => entries_each(alloc, held, opts, addrs),
+        Held::Gsym(table) => gsym::entries_at(alloc, &table.context(), opts, addrs),
+        Held::GsymData(context) => gsym::entries_at(alloc, context, opts, addrs),
+        Held::Elf(elf) => elf::entries_at(alloc, elf, addrs),
     }
-}
-
-// The entries at addresses, one by one.
-fn entries_each<'h>(
-    alloc: Global,
-    held: &'h Held<'_>,
-    opts: &FindSymOpts,
-    addrs: &[Addr],
-) -> Result<Vec<Symbolized<'h>>>
-    ensures entries { IfOk result (λ entries. map reading entries.items ≡ map (λ addr. entry_by (version_of held.now) opts.now addr) addrs.now) }
-    ensures lent { IfOk result (λ entries. AllByRecursion IsLent entries.items) }
-    ensures memory { IsOkUnless result Error.OutOfMemory }
-{
-    let mut entries = Vec::with_capacity(alloc, addrs.len())?;
-    for addr in addrs {
-        entries.push(entry(alloc, held, opts, *addr)?)?;
-    }
-    Ok(entries)
 }
 
 // The entries of a Breakpad file at addresses, with a count that nobody reads.
@@ -146,50 +183,4 @@ fn entries_blank<'f, L: Ledger>(
     let mut steps = Steps::<L>::new(blank);
     let entries = file.answer_batch(alloc, addrs, opts, &mut steps)?;
     Ok(entries)
-}
-
-// The entry of a batch at an address, by the version that is held.
-fn entry<'h>(
-    alloc: Global,
-    held: &'h Held<'_>,
-    opts: &FindSymOpts,
-    addr: Addr,
-) -> Result<Symbolized<'h>>
-    ensures entry { IfOk result (λ entry. reading entry ≡ entry_by (version_of held.now) opts.now addr) }
-    ensures lent { IfOk result IsLent }
-    ensures memory { IsOkUnless result Error.OutOfMemory }
-{
-    match held {
-        Held::Breakpad(file) => {
-            entry_blank::<Brand>(alloc, file.as_ref(), opts, addr, Blank::new(1))
-        }
-        Held::Gsym(table) => in_batch(symbol_at(alloc, &table.context(), opts, addr)),
-        Held::GsymData(context) => in_batch(symbol_at(alloc, context, opts, addr)),
-        Held::Elf(elf) => elf::symbol_at(
-            alloc,
-            elf.file.as_ref(),
-            elf.path.as_str(),
-            elf.kind,
-            addr,
-        ),
-    }
-}
-
-// The entry of a Breakpad file, with a count that nobody reads.
-fn entry_blank<'f, L: Ledger>(
-    alloc: Global,
-    file: &'f SymbolFile,
-    opts: &FindSymOpts,
-    addr: Addr,
-    blank: Blank,
-) -> Result<Symbolized<'f>>
-    requires name { blank.name ≡ L.name }
-    requires parts { blank.parts ≡ L.parts }
-    requires some { 0 < L.parts }
-    ensures entry { IfOk result (λ entry. reading entry ≡ in_batch (breakpad_single opts.now (table_in file.now) addr)) }
-    ensures lent { IfOk result IsLent }
-    ensures memory { IsOkUnless result Error.OutOfMemory }
-{
-    let mut steps = Steps::<L>::new(blank);
-    in_batch(file.answer(alloc, addr, opts, &mut steps))
 }

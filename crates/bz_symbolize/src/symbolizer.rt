@@ -1,10 +1,11 @@
 //! The symbolizer.
 
-ghost use Rattle.std.specs.Prelude.{◌≡◌, ◌<◌, ℕ, List, map, IfOk};
+ghost use Rattle.std.specs.Prelude.{◌≡◌, ◌<◌, ℕ, List, length, map, IfOk};
 ghost use Rattle.bz_base.specs.Answer.{reading};
 ghost use Rattle.bz_base.specs.InputKind.{address_kind, payload};
 ghost use Rattle.bz_cache.specs.Cache.{new_cache};
 ghost use Rattle.bz_symbolize.specs.Batch.{answers_to};
+ghost use Rattle.bz_symbolize.specs.Counted.{SourceSteps};
 ghost use Rattle.bz_symbolize.specs.FileCall.{batch_of, batch_query, single_query};
 ghost use Rattle.bz_symbolize.specs.Promise.{AsksSource, Symbolizes};
 ghost use Rattle.bz_symbolize.specs.Registration.{Registers};
@@ -112,22 +113,26 @@ impl Symbolizer {
         self.symbolize_single_blank::<F, Brand>(alloc, files, src, input, Blank::new(1))
     }
 
-    /// The same answers as `symbolize`, made one by one: they lend their texts from the version of the
-    /// file that the call found, so that no list of them and no text of their own is in memory.
-    pub fn look_up<'d, F: Files>(
+    /// The same answers as `symbolize`, made one by one or some at a time: they lend their texts from the
+    /// version of the file that the call found, so that no list of them and no text of their own is in
+    /// memory. The addresses are searched for now, and the steps of this are counted; making the answers
+    /// searches no more.
+    pub fn look_up<'d, F: Files, L: Ledger>(
         &mut self,
         alloc: Global,
         files: &mut F,
         src: &Source<'d>,
         input: Input<Vec<u64>>,
+        steps: &mut Steps<L>,
     ) -> Result<Lookups<'d>>
         ensures call { Symbolizes F.Files (λ lookups. lookups.answers) src.now (batch_of (address_kind input) (payload input).items) result self.old self.new files.old files.new }
         // At any other addresses it answers as the same call with these would have.
         ensures every { (others : List ℕ) → Symbolizes F.Files (answers_to others) src.now (batch_of (address_kind input) others) result self.old self.new files.old files.new }
         ensures addrs { IfOk result (λ lookups. lookups.addrs ≡ (payload input).items) }
+        ensures steps { SourceSteps src.now self.new (length (payload input).items) steps.old steps.new }
     {
         let opts = self.settings.opts();
-        self.look_up_source(alloc, files, src, opts, input)
+        self.look_up_source(alloc, files, src, opts, input, steps)
     }
 
     /// The same answers as `symbolize`, with a count of the steps of their searches.
@@ -139,7 +144,8 @@ impl Symbolizer {
         input: Input<&[u64]>,
         steps: &mut Steps<L>,
     ) -> Result<Vec<Symbolized<'static>>>
-        ensures { Symbolizes F.Files (λ answers. map reading answers.items) src.now (batch_query input.entry) result self.old self.new files.old files.new }
+        ensures call { Symbolizes F.Files (λ answers. map reading answers.items) src.now (batch_query input.entry) result self.old self.new files.old files.new }
+        ensures steps { SourceSteps src.now self.new (length (payload input.entry).now) steps.old steps.new }
     {
         let opts = self.settings.opts();
         self.answer_source(alloc, files, src, &opts, input, steps)
@@ -213,7 +219,8 @@ impl Symbolizer {
         input: Input<&[u64]>,
         steps: &mut Steps<L>,
     ) -> Result<Vec<Symbolized<'static>>>
-        ensures { AsksSource F.Files (λ answers. map reading answers.items) src.now opts.now (batch_query input.entry) result self.old self.new files.old files.new }
+        ensures asked { AsksSource F.Files (λ answers. map reading answers.items) src.now opts.now (batch_query input.entry) result self.old self.new files.old files.new }
+        ensures steps { SourceSteps src.now self.new (length (payload input.entry).now) steps.old steps.new }
     {
         match src {
             Source::Breakpad(source) => answer_file(
@@ -292,17 +299,19 @@ impl Symbolizer {
     }
 
     // The addresses with a version of the source, by its form and format.
-    fn look_up_source<'d, F: Files>(
+    fn look_up_source<'d, F: Files, L: Ledger>(
         &mut self,
         alloc: Global,
         files: &mut F,
         src: &Source<'d>,
         opts: FindSymOpts,
         input: Input<Vec<u64>>,
+        steps: &mut Steps<L>,
     ) -> Result<Lookups<'d>>
         ensures asked { AsksSource F.Files (λ lookups. lookups.answers) src.now opts (batch_of (address_kind input) (payload input).items) result self.old self.new files.old files.new }
         ensures every { (others : List ℕ) → AsksSource F.Files (answers_to others) src.now opts (batch_of (address_kind input) others) result self.old self.new files.old files.new }
         ensures addrs { IfOk result (λ lookups. lookups.addrs ≡ (payload input).items) }
+        ensures steps { SourceSteps src.now self.new (length (payload input).items) steps.old steps.new }
     {
         match src {
             Source::Breakpad(source) => look_up_file(
@@ -312,6 +321,7 @@ impl Symbolizer {
                 source.path.as_str(),
                 opts,
                 input,
+                steps,
             ),
             Source::Gsym(Gsym::File(source)) => look_up_file(
                 &mut self.gsym,
@@ -320,6 +330,7 @@ impl Symbolizer {
                 source.path.as_str(),
                 opts,
                 input,
+                steps,
             ),
             Source::Elf(source) => look_up_file(
                 &mut self.elf,
@@ -328,6 +339,7 @@ impl Symbolizer {
                 source.path.as_str(),
                 opts,
                 input,
+                steps,
             ),
             Source::Gsym(Gsym::Data(source)) => look_up_data(source.bytes, opts, input),
         }

@@ -3,6 +3,7 @@
 ghost use Rattle.std.specs.Prelude.{◌≡◌, ◌<◌};
 
 mod calling;
+mod changes;
 mod elf;
 mod gsym;
 
@@ -108,7 +109,34 @@ fn is_refused(
     }
 }
 
-/// Whether two addresses that are looked up are answered so, one by one.
+/// The addresses, looked up with a count that nobody reads.
+fn look_up<'d>(
+    alloc: Global,
+    symbolizer: &mut Symbolizer,
+    files: &mut MemFiles,
+    src: &Source<'d>,
+    input: Input<Vec<u64>>,
+) -> Result<Lookups<'d>> {
+    look_up_blank::<Brand>(alloc, symbolizer, files, src, input, Blank::new(1))
+}
+
+fn look_up_blank<'d, L: Ledger>(
+    alloc: Global,
+    symbolizer: &mut Symbolizer,
+    files: &mut MemFiles,
+    src: &Source<'d>,
+    input: Input<Vec<u64>>,
+    blank: Blank,
+) -> Result<Lookups<'d>>
+    requires name { blank.name ≡ L.name }
+    requires parts { blank.parts ≡ L.parts }
+    requires some { 0 < L.parts }
+{
+    let mut steps = Steps::<L>::new(blank);
+    symbolizer.look_up(alloc, files, src, input, &mut steps)
+}
+
+/// Whether two addresses that are looked up are answered so, one by one and together.
 fn looks_up(
     alloc: Global,
     symbolizer: &mut Symbolizer,
@@ -117,13 +145,15 @@ fn looks_up(
     input: Input<Vec<u64>>,
     (reason, name): (Reason, &str),
 ) -> Result<bool> {
-    let lookups = symbolizer.look_up(alloc, files, src, input)?;
+    let lookups = look_up(alloc, symbolizer, files, src, input)?;
     if lookups.len() != 2 {
         return Ok(false);
     }
     let first = lookups.answer(alloc, 0)?;
     let second = lookups.answer(alloc, 1)?;
-    Ok(is_unknown(&first, reason) && is_named(&second, name))
+    let both = lookups.answers_of(alloc, &[0, 1])?;
+    let alone = is_unknown(&first, reason) && is_named(&second, name);
+    Ok(alone && are_right(both.as_slice(), reason, name))
 }
 
 /// A symbolizer that doesn't look at files anew, with every feature off.
@@ -196,7 +226,8 @@ fn answers_by_the_version_that_was_found(rt: HostRuntime) -> std::result::Result
     let mut symbolizer = Symbolizer::new(alloc);
     assert!(rt; put(alloc, &mut files, FIRST));
     let addrs = Vec::from_slice(alloc, &[0x1010])?;
-    let lookups = symbolizer.look_up(alloc, &mut files, &src, Input::FileOffset(addrs))?;
+    let input = Input::FileOffset(addrs);
+    let lookups = look_up(alloc, &mut symbolizer, &mut files, &src, input)?;
     assert!(rt; put(alloc, &mut files, SECOND));
     assert!(rt; answers(alloc, &mut symbolizer, &mut files, &src, ADDRESSES, TWO));
     assert!(rt; are_answered(alloc, &lookups)?);

@@ -1,4 +1,4 @@
-use Rattle.std.proofs.Common.{◌≡◌, true, inl, map, Vec, Global, List, rules}
+use Rattle.std.proofs.Common.{◌≡◌, true, inl, inr, map, Vec, Global, List, rules}
 use Rattle.std.proofs.lemmas.Result.{err_from_is_err_and}
 use Rattle.bz_base.specs.Answer.{Answer, reading}
 use Rattle.bz_base.specs.InputKind.{address_kind}
@@ -13,8 +13,8 @@ abbrev read : Vec Symbolized Global → List Answer
 read answers = map reading answers.items
 
 -- the look was refused
-pub returns-in_err-file : goal.returns-in_err-file
-returns-in_err-file g c =
+pub returns-in_err-file-clause-called : goal.returns-in_err-file-clause-called
+returns-in_err-file-clause-called g c =
     let same = err_from_is_err_and c.from_residual.result c.from_residual.ensures.1 in
     let taken : g.T.Answers.answering.takes (address_kind c.args.input) ≡ true = search rules in
     let kept : c.entry.follows.lender-at-none ≡ c.args.cache.now = search rules in
@@ -33,8 +33,8 @@ returns-in_err-file g c =
     }
 
 -- a version answered
-pub returns : goal.returns
-returns g c =
+pub returns-clause-called : goal.returns-clause-called
+returns-clause-called g c =
     let asked = query_asked g.T.Version.test g.T.Answers.answering c.args.opts.now c.args.path.now (batch_query c.args.input) in
     let bytes = g.T.Version.bytes_of c.in_ok-file.file.now in
     let view = in_view (g.F.Files.worlds c.args.files.now) in
@@ -51,3 +51,11 @@ returns g c =
       looked = search rules;
       most = search rules;
     }
+
+-- whose steps are those that its batch took
+pub returns-clause-steps : goal.returns-clause-steps
+returns-clause-steps g c =
+    let bytes = g.T.Version.bytes_of c.in_ok-file.file.now in
+    let view = in_view (g.F.Files.worlds c.args.files.now) in
+    let lent : Lends g.T.Version.test c.args.cache.now c.entry.follows.lender-at-none c.args.path.now bytes view = search rules in
+    inr (bytes, lent.kept.0, c.answers.ensures.steps)

@@ -1,14 +1,16 @@
-use Rattle.std.proofs.Common.{◌≡◌, true, inl, List, Global, rules}
+use Rattle.std.proofs.Common.{◌≡◌, ℕ, Result, true, inl, inr, List, Global, ap, sym, ◌∙◌, rules}
 use Rattle.std.proofs.lemmas.Result.{err_from_is_err_and}
 use Rattle.std.specs.declared.rc.Rc.{Rc}
 use Rattle.bz_base.specs.Answer.{Answer}
 use Rattle.bz_base.specs.InputKind.{address_kind, payload}
 use Rattle.bz_files.specs.World.{in_view}
+use Rattle.bz_base.specs.declared.error.Error.{Error}
+use Rattle.bz_cache.specs.Cache.{Cache}
 use Rattle.bz_cache.specs.Look.{Lends}
 use Rattle.bz_symbolize.specs.Batch.{answers_to}
 use Rattle.bz_symbolize.specs.FileCall.{query_asked, batch_of}
 use Rattle.bz_symbolize.specs.declared.lookups.Lookups.{Lookups}
-use Rattle.bz_symbolize.proofs.FileLemmas.{by_lent, calls_unshared}
+use Rattle.bz_symbolize.proofs.FileLemmas.{by_lent, calls_unshared, reload_look}
 use Rattle.bz_symbolize.proofs.answering.look_up_file.Goals as goal
 
 abbrev read : Lookups → List Answer
@@ -48,7 +50,7 @@ returns-clause-called g c =
       stays = search rules;
       ready = λ fixed taken. by;
       consistent = search rules;
-      reload = search rules;
+      reload = ap (λ (x : Result (List ℕ) Error × Cache). x.1.reload) (sym lent.some.1) ∙ reload_look g.T.Version.test c.args.cache.now c.args.path.now lent.some.0;
       looked = search rules;
       most = search rules;
     }
@@ -68,7 +70,15 @@ returns-clause-every g c others =
       stays = search rules;
       ready = λ fixed taken. by;
       consistent = search rules;
-      reload = search rules;
+      reload = ap (λ (x : Result (List ℕ) Error × Cache). x.1.reload) (sym lent.some.1) ∙ reload_look g.T.Version.test c.args.cache.now c.args.path.now lent.some.0;
       looked = search rules;
       most = search rules;
     }
+
+-- whose steps are those that its search took
+pub returns-clause-steps : goal.returns-clause-steps
+returns-clause-steps g c =
+    let bytes = g.T.Version.bytes_of c.in_ok-shared.shared.value in
+    let view = in_view (g.F.Files.worlds c.args.files.now) in
+    let lent : Lends g.T.Version.test c.args.cache.now c.shared.new.self c.args.path.now bytes view = search rules in
+    inr (bytes, lent.kept.0, c.look_up.ensures.steps)

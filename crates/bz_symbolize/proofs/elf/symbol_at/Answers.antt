@@ -1,4 +1,4 @@
-use Rattle.std.proofs.Common.{◌≡◌, Ok, None, sym}
+use Rattle.std.proofs.Common.{◌≡◌, Ok, None}
 use Rattle.bz_base.specs.Answer.{resolved_of}
 use Rattle.bz_elf.specs.Plain.{plain}
 use Rattle.bz_symbolize.proofs.ElfLemmas.{lent_found}

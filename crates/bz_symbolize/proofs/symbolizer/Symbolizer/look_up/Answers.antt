@@ -21,3 +21,6 @@ pub returns-clause-every : goal.returns-clause-every
 returns-clause-every g c others = promised g.F.Files (answers_to others) c.args.src.now (batch_of (address_kind c.args.input) others) c.look_up_source.result
     c.args.self.now c.look_up_source.new.self c.args.files.now c.look_up_source.new.files
     (rw (c.opts-opts.ensures ∙ ap (λ (s : State). opts_of s.settings) c.self.view_is) at (c.look_up_source.ensures.every others))
+
+pub returns-clause-steps : goal.returns-clause-steps
+returns-clause-steps g c = c.look_up_source.ensures.steps

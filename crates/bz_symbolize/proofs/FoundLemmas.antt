@@ -1,0 +1,38 @@
+-- What was found for the addresses of a batch.
+use Rattle.std.proofs.Common.{◌≡◌, ◌<◌, ◌∙◌, ℕ, Bool, true, false, List, [], ◌∷◌, ◌++◌, length, nat_lt, slice_index, slice_index_or, Some, refl, ap, arith}
+use Rattle.std.proofs.Math.ListN.{get_or-append}
+use Rattle.std.proofs.Math.Seq.{get_or-append_seam}
+use Rattle.std.proofs.lemmas.Bool.{ltb-false, ltb-true}
+use Rattle.std.proofs.lemmas.List.{get_or_default, length-append}
+use Rattle.bz_breakpad.specs.Found.{IsRecordFor}
+use Rattle.bz_breakpad.specs.Reader.{table_in}
+use Rattle.bz_breakpad.specs.Table.{Table}
+use Rattle.bz_breakpad.specs.declared.found.FoundRecord.{FoundRecord}
+use Rattle.bz_breakpad.specs.declared.found.FoundRecord.TheVariants as found
+use Rattle.bz_symbolize.specs.Found.{AreFound}
+
+module _ (bytes addrs : List ℕ) (records : List FoundRecord) (are : AreFound bytes addrs records) (k : ℕ) (within : k < length addrs) (default : FoundRecord) where
+  -- the record of an index answers for the address there
+  pub found_there : (table : Table) → table_in bytes ≡ Some table → IsRecordFor table (slice_index addrs k) (slice_index_or records k default)
+  found_there table is = rw (get_or_default records k default found.Absent (omega (arith, are.count, within))) (are.answer table is k within)
+
+  -- and stands for it behind others
+  pub found_more : (some : List ℕ) (of_some : List FoundRecord) → AreFound bytes some of_some →
+      AreFound bytes (some ++ slice_index addrs k ∷ []) (of_some ++ slice_index_or records k default ∷ [])
+  found_more some of_some so_far = record {
+    count = omega (arith, so_far.count, length-append some (slice_index addrs k ∷ []), length-append of_some (slice_index_or records k default ∷ []));
+    answer = λ table is n before. by_place table is n before (nat_lt n (length some)) refl;
+  }
+    where
+      by_place : (table : Table) → table_in bytes ≡ Some table → (n : ℕ) → n < length (some ++ slice_index addrs k ∷ []) → (b : Bool) → nat_lt n (length some) ≡ b →
+          IsRecordFor table (slice_index (some ++ slice_index addrs k ∷ []) n) (slice_index_or (of_some ++ slice_index_or records k default ∷ []) n found.Absent)
+      by_place table is n before true test =
+          let inside : n < length some = omega (arith, ltb-true n (length some) test) in
+          rw (get_or-append some (slice_index addrs k ∷ []) 0 n inside, get_or-append of_some (slice_index_or records k default ∷ []) found.Absent n (omega (arith, so_far.count, inside)))
+          (so_far.answer table is n inside)
+      by_place table is n before false test =
+          let last : n ≡ length some = omega (arith, ltb-false n (length some) test, before, length-append some (slice_index addrs k ∷ [])) in
+          let behind : n ≡ length of_some = omega (arith, last, so_far.count) in
+          let here = ap (slice_index (some ++ slice_index addrs k ∷ [])) last ∙ get_or-append_seam some (slice_index addrs k) [] 0 in
+          let there = ap (λ m. slice_index_or (of_some ++ slice_index_or records k default ∷ []) m found.Absent) behind ∙ get_or-append_seam of_some (slice_index_or records k default) [] found.Absent in
+          rw (here, there) (found_there table is)
