@@ -1,27 +1,32 @@
 -- What each command is answered: from the symbolizer's promises to the words of commands, and to the causes of refusals.
-use Rattle.std.proofs.Common.{◌≡◌, ℕ, Bool, true, false, List, Option, Some, None, Result, Ok, Err, IfOk, OnOk, refl, sym, ap}
+use Rattle.std.proofs.Common.{◌≡◌, ℕ, Bool, true, false, List, length, Option, Some, None, option_and_then, Result, Ok, Err, IfOk, OnOk, inl, inr, refl, sym, ap, subst, ◌∙◌}
+use Rattle.std.specs.FinMap as map
 use Rattle.bz_base.specs.Answer.{Answer}
 use Rattle.bz_base.specs.InputKind.{InFile, InTable}
 use Rattle.bz_base.specs.declared.error.Error.{Error}
-use Rattle.bz_base.specs.declared.error.Error.TheVariants as errors
 use Rattle.bz_files.specs.Count.{counted}
 use Rattle.bz_files.specs.World.{World, Entry, entry_at}
 use Rattle.bz_files.specs.World.Entry.{Denied, Present}
+use Rattle.bz_files.specs.declared.stamp.Stamp.{Stamp}
+use Rattle.bz_cache.specs.Cache.{Cache, Consistent, current_of, kept_at}
 use Rattle.bz_cache.specs.Format.{Comes}
 use Rattle.bz_cache.specs.Look.{opens_after}
 use Rattle.bz_breakpad.specs.Plain.{batch}
 use Rattle.bz_breakpad.specs.Reader.{table_in}
+use Rattle.bz_breakpad.specs.Grammar.{IsFile}
 use Rattle.bz_breakpad.specs.Table.{Table}
+use Rattle.bz_breakpad.specs.Version as breakpad_version
 use Rattle.bz_elf.specs.Format.{checks, format_test}
 use Rattle.bz_elf.proofs.FormatLemmas.{fails_first, refused_by_first}
 use Rattle.bz_elf.proofs.ProfileLaws.{profile, taken}
 use Rattle.bz_gsym.specs.Tables.{is_gsym}
 use Rattle.bz_gsym.proofs.FormatLemmas.{passed, passes}
+use Rattle.bz_symbolize.specs.Counted.{SourceSteps, breakpad_steps}
 use Rattle.bz_symbolize.specs.FileCall.{batch_of}
 use Rattle.bz_symbolize.specs.Lookup.{answer_of, opens_of, by_table, breakpad_answer, elf_answer, fresh_answer, gsym_answer}
 use Rattle.bz_symbolize.specs.Promise.{AnswersKept}
 use Rattle.bz_symbolize.specs.Sources.{OnFile, elf_batch, form_of, gsym_batch}
-use Rattle.bz_symbolize.specs.State.{State, default_settings, new_state}
+use Rattle.bz_symbolize.specs.State.{State, WellKept, default_settings, new_state}
 use Rattle.bz_symbolize.specs.declared.source.Gsym.TheVariants as gsyms
 use Rattle.bz_symbolize.specs.declared.source.Source.{Source}
 use Rattle.bz_symbolize.specs.declared.source.Source.TheVariants as sources
@@ -29,6 +34,7 @@ use Rattle.bz_symbolize.proofs.BatchLemmas.{batch_answered, elf_answered, gsym_a
 use Rattle.bz_symbolize.proofs.NewLemmas.{new_breakpad, new_elf, new_gsym}
 use Rattle.bz_symbolize.proofs.Tables.{table_found, table_again}
 use Rattle.symq.specs.Commands.{run_opts, IsSourceOf, kind_of, answer_by, answer_to, file_of, HasFile, HasAnswers, AnswersIn, AnswersSome, IsBatch, IsFileCause, IsRefusalOf, IsCause, IsVersion}
+use Rattle.symq.specs.Counted.{AnswersInFew, TakesFew}
 use Rattle.symq.specs.Words.{Command, Breakpad, Gsym, Elf}
 use Rattle.symq.proofs.OpenLemmas.{opened_new}
 
@@ -83,6 +89,60 @@ some_from_kept view (Gsym path) (sources.Elf source) addrs now (Ok given) is kep
 some_from_kept view (Elf path) (sources.Breakpad source) addrs now (Ok given) is kept = absurd is
 some_from_kept view (Elf path) (sources.Gsym source) addrs now (Ok given) is kept = absurd is
 some_from_kept view command source addrs now (Err e) is kept = tt
+
+-- what is kept as one thing is one thing
+same_kept : (a b : List ℕ) → Some a ≡ Some b → a ≡ b
+same_kept a b same = cc same
+
+-- and that in few steps, since the version that was searched is the one that answers
+pub few_from_kept : {A : Type 0} (view : A → List Answer) (command : Command) (source : Source) (addrs : List ℕ) (now : State) (before after : ℕ) (result : Result A Error) →
+    IsSourceOf command source → OnFile source (λ file. IfOk result (λ given. AnswersKept run_opts source file now (batch_of (kind_of command) addrs) (Ok (view given)))) →
+    SourceSteps source now (length addrs) before after → IfOk result (λ given. AnswersInFew command addrs (view given) before after)
+few_from_kept view (Breakpad path) (sources.Breakpad source) addrs now before after (Ok given) is kept (inl none) =
+    (kept.bytes, batch_answered run_opts kept.bytes InFile addrs (view given) kept.answered, inl none)
+few_from_kept view (Breakpad path) (sources.Breakpad source) addrs now before after (Ok given) is kept (inr searched) = (
+  kept.bytes,
+  batch_answered run_opts kept.bytes InFile addrs (view given) kept.answered,
+  subst (λ (bytes : List ℕ). breakpad_steps bytes (length addrs) before after) (same_kept searched.0 kept.bytes (sym searched.1 ∙ kept.kept)) searched.2,
+)
+few_from_kept view (Gsym path) (sources.Gsym (gsyms.File source)) addrs now before after (Ok given) is kept steps = (kept.bytes, gsym_answered run_opts kept.bytes InTable addrs (view given) kept.answered, steps)
+few_from_kept view (Elf path) (sources.Elf source) addrs now before after (Ok given) is kept steps = (kept.bytes, elf_answered path kept.bytes InTable addrs (view given) (rw is at kept.answered), steps)
+few_from_kept view (Breakpad path) (sources.Gsym source) addrs now before after (Ok given) is kept steps = absurd is
+few_from_kept view (Breakpad path) (sources.Elf source) addrs now before after (Ok given) is kept steps = absurd is
+few_from_kept view (Gsym path) (sources.Breakpad source) addrs now before after (Ok given) is kept steps = absurd is
+few_from_kept view (Gsym path) (sources.Gsym (gsyms.Data source)) addrs now before after (Ok given) is kept steps = absurd is
+few_from_kept view (Gsym path) (sources.Elf source) addrs now before after (Ok given) is kept steps = absurd is
+few_from_kept view (Elf path) (sources.Breakpad source) addrs now before after (Ok given) is kept steps = absurd is
+few_from_kept view (Elf path) (sources.Gsym source) addrs now before after (Ok given) is kept steps = absurd is
+few_from_kept view command source addrs now before after (Err e) is kept steps = tt
+
+-- what is kept as a Breakpad file is one
+kept_file : (cache : Cache) (path bytes : List ℕ) → Consistent breakpad_version.format_test cache → kept_at cache path ≡ Some bytes → (table : Table) × IsFile bytes table
+kept_file cache path bytes consistent kept = by_stamp (current_of cache path) kept
+  where
+    by_read : (read : Option Table) → table_in bytes ≡ read → breakpad_version.refusal_of read ≡ None → (table : Table) × IsFile bytes table
+    by_read None is formed = cc
+    by_read (Some table) is formed = (table, table_found bytes table is)
+
+    by_stamp : (stamp : Option Stamp) → option_and_then (λ s. map.get cache.kept s) stamp ≡ Some bytes → (table : Table) × IsFile bytes table
+    by_stamp None is = cc
+    by_stamp (Some stamp) is = by_read (table_in bytes) refl (consistent.formed stamp bytes is)
+
+-- answered or refused, few steps are taken
+pub takes_few : (command : Command) (source : Source) (now : State) (addrs before after : ℕ) → IsSourceOf command source → WellKept now → SourceSteps source now addrs before after →
+    TakesFew command addrs before after
+takes_few (Breakpad path) (sources.Breakpad source) now addrs before after is kept (inl none) = inl none
+takes_few (Breakpad path) (sources.Breakpad source) now addrs before after is kept (inr searched) =
+    inr (searched.0, kept_file now.breakpad _ searched.0 kept.breakpad.consistent searched.1, searched.2)
+takes_few (Gsym path) (sources.Gsym (gsyms.File source)) now addrs before after is kept steps = inl steps
+takes_few (Elf path) (sources.Elf source) now addrs before after is kept steps = inl steps
+takes_few (Breakpad path) (sources.Gsym source) now addrs before after is kept steps = absurd is
+takes_few (Breakpad path) (sources.Elf source) now addrs before after is kept steps = absurd is
+takes_few (Gsym path) (sources.Breakpad source) now addrs before after is kept steps = absurd is
+takes_few (Gsym path) (sources.Gsym (gsyms.Data source)) now addrs before after is kept steps = absurd is
+takes_few (Gsym path) (sources.Elf source) now addrs before after is kept steps = absurd is
+takes_few (Elf path) (sources.Breakpad source) now addrs before after is kept steps = absurd is
+takes_few (Elf path) (sources.Gsym source) now addrs before after is kept steps = absurd is
 
 -- what holds of the file of a command's source holds
 pub of_its_file : (command : Command) (source : Source) (P : Type 0) → IsSourceOf command source → OnFile source (λ file. P) → P

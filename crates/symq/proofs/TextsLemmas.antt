@@ -1,19 +1,18 @@
 -- Texts that are made before they are written.
-use Rattle.std.proofs.Common.{◌≡◌, ◌≢◌, ◌⊎◌, ◌+◌, ◌-◌, ◌<◌, ◌≤◌, ℕ, List, [], ◌∷◌, ◌++◌, length, map, take, drop, slice_get, slice_index, slice_index_or, All, slice_range, string_bytes, Option, option_map, Some, None, IfSome, Result, Ok, Err, OnOk, Bor, refl, sym, ap, subst, inl, inr, length-append, length-drop, length-take, ◌∙◌, arith}
+use Rattle.std.proofs.Common.{◌≡◌, ◌≢◌, ◌⊎◌, ◌+◌, ◌-◌, ◌<◌, ◌≤◌, ℕ, List, [], ◌∷◌, ◌++◌, length, map, drop, slice_get, slice_index, slice_index_or, All, slice_range, Option, option_map, Some, None, IfSome, Result, Ok, Err, OnOk, Bor, sym, ap, subst, inl, inr, length-append, length-drop, length-take, ◌∙◌, arith}
 use Rattle.std.specs.List.{AllByRecursion, slice_set}
 use Rattle.std.specs.Str.Pattern.{GetsRange}
 use Rattle.std.proofs.Math.Seq.{drop-append_seam, take-length}
 use Rattle.std.proofs.lemmas.Bool.{cases_lt}
 use Rattle.std.proofs.lemmas.Grind.{get_or-set_at}
 use Rattle.std.proofs.lemmas.List.{drop-append-le, get_or-drop, get_or-map, get_or-set_other, get_or-take, length-map, take-append-le}
-use Rattle.std.proofs.lemmas.Option.{get_or_from_slice_get, slice_get-get_or, slice_get-map}
+use Rattle.std.proofs.lemmas.Option.{slice_get-get_or, slice_get-map}
 use Rattle.bz_base.specs.Answer.{Answer}
 use Rattle.bz_symbolize.proofs.BatchLemmas.{answer_there}
-use Rattle.bz_symbolize.specs.Batch.{Batch, answer_at, answers_to}
+use Rattle.bz_symbolize.specs.Batch.{Batch, answer_at, answers_there}
 use Rattle.symq.specs.AnswerText.{answer_text}
-use Rattle.symq.specs.Texts.{AreTexts, IsEntryAmong, IsTextIn, IsTextOf}
+use Rattle.symq.specs.Texts.{IsEntryAmong, IsTextIn, IsTextOf}
 use Rattle.symq.specs.declared.texts.TextPart.{TextPart}
-use Rattle.symq.specs.declared.texts.Texts.{Texts}
 
 -- a part of a text is the same part of the text with more behind it
 range_grown : (text more : List ℕ) (from to : ℕ) → from ≤ to → to ≤ length text → slice_range (text ++ more) from to ≡ slice_range text from to
@@ -98,32 +97,39 @@ pub entry_put : {A E : Type 0} (batch : Batch) (index : ℕ) (answer : Answer) (
 entry_put batch index answer old new (Ok given) there put = (answer, there, put)
 entry_put batch index answer old new (Err e) there put = tt
 
--- the address at a place of a part of the entries
-pub address_of : (order : List (ℕ × ℕ)) (from to place : ℕ) → from + place < to → to ≤ length order →
-    slice_index (map (λ (e : ℕ × ℕ). e.0) (slice_range order from to)) place ≡ (slice_index_or order (from + place) (0, 0)).0
-address_of order from to place before within =
+-- the index at a place of a part of the entries
+pub index_of : (order : List (ℕ × ℕ)) (from to place default : ℕ) → from + place < to → to ≤ length order →
+    slice_index_or (map (λ (e : ℕ × ℕ). e.1) (slice_range order from to)) place default ≡ (slice_index_or order (from + place) (0, 0)).1
+index_of order from to place default before within =
     let part = slice_range order from to in
     let count : length part ≡ to - from = omega (arith, length-take (to - from) (drop from order), length-drop from order) in
-    get_or-map (λ (e : ℕ × ℕ). e.0) part place (0, 0) 0 (omega (arith, count))
-    ∙ ap (λ (e : ℕ × ℕ). e.0) (get_or-take (to - from) (drop from order) place (0, 0) (omega arith) ∙ get_or-drop from order place (0, 0))
+    get_or-map (λ (e : ℕ × ℕ). e.1) part place (0, 0) default (omega (arith, count))
+    ∙ ap (λ (e : ℕ × ℕ). e.1) (get_or-take (to - from) (drop from order) place (0, 0) (omega arith) ∙ get_or-drop from order place (0, 0))
 
--- so many addresses are those of a part of the entries
-pub address_count : (order : List (ℕ × ℕ)) (from to : ℕ) → to ≤ length order → length (map (λ (e : ℕ × ℕ). e.0) (slice_range order from to)) ≡ to - from
-address_count order from to within =
-    length-map (slice_range order from to) (λ (e : ℕ × ℕ). e.0) ∙ omega (arith, length-take (to - from) (drop from order), length-drop from order)
+-- so many indices are those of a part of the entries
+pub index_count : (order : List (ℕ × ℕ)) (from to : ℕ) → to ≤ length order → length (map (λ (e : ℕ × ℕ). e.1) (slice_range order from to)) ≡ to - from
+index_count order from to within =
+    length-map (slice_range order from to) (λ (e : ℕ × ℕ). e.1) ∙ omega (arith, length-take (to - from) (drop from order), length-drop from order)
 
--- an answer at the address of an entry is that of the batch at its index
+-- they are indices of the batch
+pub indices_within : (batch : Batch) (first count : ℕ) (order : List (ℕ × ℕ)) (from to : ℕ) → All (IsEntryAmong batch first count) order → to ≤ length order →
+    All (λ i. i < length batch.addrs) (map (λ (e : ℕ × ℕ). e.1) (slice_range order from to))
+indices_within batch first count order from to among within place default more =
+    let before : from + place < to = omega (arith, more, index_count order from to within) in
+    rw (index_of order from to place default before within) (among (from + place) (0, 0) (omega arith)).there
+
+-- an answer at the index of an entry is that of the batch there
 pub answer_of : (batch : Batch) (first count : ℕ) (order : List (ℕ × ℕ)) (from to place : ℕ) (answers : List Answer) →
-    answers ≡ answers_to (map (λ (e : ℕ × ℕ). e.0) (slice_range order from to)) batch → All (IsEntryAmong batch first count) order → to ≤ length order → place < length answers →
+    answers ≡ answers_there (map (λ (e : ℕ × ℕ). e.1) (slice_range order from to)) batch → All (IsEntryAmong batch first count) order → to ≤ length order → place < length answers →
     slice_get batch.answers (slice_index_or order (from + place) (0, 0)).1 ≡ slice_get answers place
 answer_of batch first count order from to place answers are among within more =
-    let asked = map (λ (e : ℕ × ℕ). e.0) (slice_range order from to) in
-    let single = λ (addr : ℕ). answer_at batch addr in
+    let asked = map (λ (e : ℕ × ℕ). e.1) (slice_range order from to) in
+    let single = λ (i : ℕ). answer_at batch (slice_index batch.addrs i) in
     let as_many : length answers ≡ length asked = ap length are ∙ length-map asked single in
-    let before : from + place < to = omega (arith, as_many, address_count order from to within) in
+    let before : from + place < to = omega (arith, as_many, index_count order from to within) in
     let entry = among (from + place) (0, 0) (omega arith) in
     answer_there batch (slice_index_or order (from + place) (0, 0)).1 entry.there
-    ∙ ap (λ (addr : ℕ). Some (single addr)) (entry.addr ∙ sym (address_of order from to place before within))
+    ∙ ap (λ (i : ℕ). Some (single i)) (sym (index_of order from to place 0 before within))
     ∙ ap (option_map single) (sym (slice_get-get_or asked place 0 (omega (arith, as_many))))
     ∙ sym (slice_get-map single asked place)
     ∙ sym (ap (λ (list : List Answer). slice_get list place) are)

@@ -1,5 +1,5 @@
 -- The text of an answer: a line for the symbol, or for the reason why there is none, and a line for each inlined call.
-use Rattle.std.specs.Prelude.{ℕ, false, List, [], ◌∷◌, ◌++◌, flat_map, codes, decimal, Option, Some, None}
+use Rattle.std.specs.Prelude.{ℕ, Bool, true, false, List, [], ◌∷◌, ◌++◌, flat_map, codes, decimal, Option, Some, None}
 use Rattle.std.specs.Fmt.{digits}
 use Rattle.bz_base.specs.Answer.{Site, Call, Symbol, Answer}
 use Rattle.bz_base.specs.Answer.Answer.{Known, Unknown}
@@ -28,9 +28,14 @@ abbrev pub place_text : Option Site → List ℕ
 place_text None = codes "-"
 place_text (Some site) = path_text site.dir site.file ++ line_text site.line
 
+-- how a line ends; that of a PUBLIC record's symbol says so first
+abbrev pub line_end : Bool → List ℕ
+line_end true = codes " public\n"
+line_end false = codes "\n"
+
 -- at WHERE, and the line's end
-abbrev pub end_text : Option Site → List ℕ
-end_text site = codes " at " ++ (place_text site ++ codes "\n")
+abbrev pub end_text : Option Site → Bool → List ℕ
+end_text site public = codes " at " ++ (place_text site ++ line_end public)
 
 -- NAME+0xOFFSET start 0xSTART
 abbrev pub start_text : Symbol → List ℕ
@@ -46,14 +51,14 @@ numbers_text s = codes "+" ++ (hex s.offset ++ (codes " start " ++ (hex s.addr +
 
 -- NAME at WHERE, after two spaces
 abbrev pub call_text : Call → List ℕ
-call_text call = codes "  " ++ (call.name ++ end_text call.site)
+call_text call = codes "  " ++ (call.name ++ end_text call.site false)
 
 -- the lines of the inlined calls, in their order
 abbrev pub calls_text : List Call → List ℕ
 calls_text calls = flat_map call_text calls
 
 abbrev pub symbol_text : Symbol → List ℕ
-symbol_text s = start_text s ++ (extent_text s ++ (end_text s.site ++ calls_text s.calls))
+symbol_text s = start_text s ++ (extent_text s ++ (end_text s.site s.public ++ calls_text s.calls))
 
 abbrev pub result_text : Answer → List ℕ
 result_text (Known s) = symbol_text s

@@ -1,12 +1,12 @@
 //! The text of an answer.
 
-ghost use Rattle.std.specs.Prelude.{◌≡◌, ◌+◌, ◌++◌, ◌≤◌, if◌then◌else◌, [], Some, map, option_map, codes, drop, string_bytes, OnOk, IfOk, IsOkUnless};
+ghost use Rattle.std.specs.Prelude.{◌≡◌, ◌+◌, ◌++◌, ◌≤◌, if◌then◌else◌, [], Some, map, option_map, codes, drop, length, string_bytes, OnOk, IfOk, IsOkUnless};
 ghost use Rattle.std.specs.Cow.{cow_str_bytes};
 ghost use Rattle.std.specs.Str.{IsUtf8};
 ghost use Rattle.bz_base.specs.Answer.{site_of, call_of, symbol_of, reading};
 ghost use Rattle.bz_base.specs.Answer.Answer.{Unknown};
 ghost use Rattle.bz_base.specs.Path.{begins_with_slash, last_byte, path_text, slash_after};
-ghost use Rattle.symq.specs.AnswerText.{hex, size_text, module_text, line_text, place_text, end_text, numbers_text, call_text, calls_text, symbol_text, result_text, answer_text};
+ghost use Rattle.symq.specs.AnswerText.{hex, size_text, module_text, line_text, place_text, end_text, line_end, numbers_text, call_text, calls_text, symbol_text, result_text, answer_text};
 
 use crate::piece::{ROOM, push_piece, put_hex_after, put_str};
 use bz_base::{CodeInfo, Error, InlinedFn, Reason, Result, Sym, Symbolized};
@@ -64,7 +64,7 @@ fn push_symbol(text: &mut String, symbol: &Sym<'_>) -> Result<()>
     text.push_str(symbol.name.as_str())?;
     push_numbers(text, symbol)?;
     push_module(text, &symbol.module)?;
-    push_end(text, &symbol.code_info)?;
+    push_end(text, &symbol.code_info, symbol.public)?;
     push_calls(text, symbol.inlined.as_slice())
 }
 
@@ -126,48 +126,57 @@ fn push_call(text: &mut String, call: &InlinedFn<'_>) -> Result<()>
 {
     text.push_str("  ")?;
     text.push_str(call.name.as_str())?;
-    push_end(text, &call.code_info)
+    push_end(text, &call.code_info, false)
 }
 
 // at WHERE, and the line's end
-fn push_end(text: &mut String, place: &Option<CodeInfo<'_>>) -> Result<()>
-    ensures ok { OnOk result (string_bytes text.new ≡ string_bytes text.old ++ end_text (option_map site_of place.now)) }
+fn push_end(text: &mut String, place: &Option<CodeInfo<'_>>, public: bool) -> Result<()>
+    ensures ok { OnOk result (string_bytes text.new ≡ string_bytes text.old ++ end_text (option_map site_of place.now) public) }
     ensures memory { IsOkUnless result Error.OutOfMemory }
 {
     text.push_str(" at ")?;
     match place {
-        Some(place) => push_site(text, place),
+        Some(place) => push_site(text, place, public),
         None => {
-            text.push_str("-\n")?;
+            text.push_str("-")?;
+            text.push_str(line_end(public))?;
             Ok(())
         }
     }
 }
 
+// How the answer's line ends.
+fn line_end(public: bool) -> &'static str
+    ensures text { result.now ≡ line_end public }
+    ensures short { length result.now ≤ 8 }
+{
+    if public { " public\n" } else { "\n" }
+}
+
 // The joined path and the line, and the end of the answer's line.
-fn push_site(text: &mut String, site: &CodeInfo<'_>) -> Result<()>
-    ensures ok { OnOk result (string_bytes text.new ≡ string_bytes text.old ++ (place_text (Some (site_of site.now)) ++ codes "\n")) }
+fn push_site(text: &mut String, site: &CodeInfo<'_>, public: bool) -> Result<()>
+    ensures ok { OnOk result (string_bytes text.new ≡ string_bytes text.old ++ (place_text (Some (site_of site.now)) ++ line_end public)) }
     ensures memory { IsOkUnless result Error.OutOfMemory }
 {
     push_path(text, &site.dir, site.file.as_str())?;
-    push_line(text, site.line)
+    push_line(text, site.line, public)
 }
 
 // :LINE, and the end of the answer's line
-fn push_line(text: &mut String, line: Option<u32>) -> Result<()>
-    ensures ok { OnOk result (string_bytes text.new ≡ string_bytes text.old ++ (line_text line ++ codes "\n")) }
+fn push_line(text: &mut String, line: Option<u32>, public: bool) -> Result<()>
+    ensures ok { OnOk result (string_bytes text.new ≡ string_bytes text.old ++ (line_text line ++ line_end public)) }
     ensures memory { IsOkUnless result Error.OutOfMemory }
 {
     match line {
         Some(line) => {
             let mut digits = Buffer::new();
             let mut room = [0; ROOM];
-            let at = put_str("\n", &mut room, ROOM);
+            let at = put_str(line_end(public), &mut room, ROOM);
             let at = put_str(digits.format(line), &mut room, at);
             let at = put_str(":", &mut room, at);
             push_piece(text, &room, at)?;
         }
-        None => text.push_str("\n")?,
+        None => text.push_str(line_end(public))?,
     }
     Ok(())
 }

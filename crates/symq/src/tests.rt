@@ -74,10 +74,11 @@ fn over_first<'a>(path: &'a str, input: &'a str, status: Status, written: &'a st
     }
 }
 
-/// The file of a row.
+/// The file of a row, and one that may not be read.
 fn files_of(alloc: Global, row: &Row<'_>) -> Result<MemFiles, Fail> {
     let mut files = MemFiles::new(alloc, 7);
     files.put(alloc, row.at, Vec::from_slice(alloc, row.file)?)?;
+    files.deny(alloc, "/denied")?;
     files.fail_call(alloc, row.faults.0)?;
     Ok(files)
 }
@@ -125,9 +126,20 @@ const ANSWERED: &[Answered] = &[
     (FIRST, "0x1010\r\n\r\n1030", ANSWERS),
     (
         "PUBLIC 10 0 p\n",
+        "10\nf\n",
+        "0x10: p+0x0 start 0x10 size - module - at - public\n0xf: ? address not found in symbolization source\n",
+    ),
+    (
+        "INFO x\n",
         "10\n",
         "0x10: ? symbolization source has no or no relevant symbols\n",
     ),
+    (
+        "FUNC 1000 10 0 f\n\n1000 10 5 1\nFILE 1 a.c\n\n",
+        "1000\n",
+        "0x1000: f+0x0 start 0x1000 size 0x10 module - at a.c:5\n",
+    ),
+    (FIRST, "", ""),
     (
         "FUNC 1 2 3 x\nFUNC 1 3 3 y\n",
         "1\n2\n4\n",
@@ -182,6 +194,13 @@ const ENDINGS: &[Ending] = &[
         Status::Refused,
         "refused: NotFound\n",
     ),
+    (
+        "/denied",
+        FIRST,
+        (0, 0, 0),
+        Status::Refused,
+        "refused: PermissionDenied\n",
+    ),
     ("-", FIRST, (0, 0, 0), Status::Usage, USAGE),
     (
         "/a.sym",
@@ -190,6 +209,7 @@ const ENDINGS: &[Ending] = &[
         Status::Refused,
         "refused: InvalidInput\n",
     ),
+    ("/a.sym", FIRST, (1, 0, 0), Status::Fault, ""),
     ("/a.sym", FIRST, (2, 0, 0), Status::Fault, ""),
     ("/a.sym", FIRST, (0, 2, 0), Status::Fault, ""),
     ("/a.sym", FIRST, (0, 0, 1), Status::Fault, ""),
@@ -238,6 +258,41 @@ fn stops_on<'a>(alloc: Global, input: &'a [u8], written: &'a str) -> Result<bool
     let mut row = over_first("/a.sym", "", Status::Input, written);
     row.input = input;
     ends_so(alloc, &row)
+}
+
+/// Whether a run without words tells how the program is called.
+fn tells_usage(alloc: Global) -> bool {
+    let mut input = MemIn::new(Vec::new(alloc));
+    let mut output = MemOut::new(alloc);
+    let mut files = MemFiles::new(alloc, 7);
+    let ended = run(alloc, &[], &mut input, &mut output, &mut files);
+    ended == Status::Usage && output.written() == USAGE.as_bytes()
+}
+
+/// Without words nothing is looked at, and without addresses the file is.
+#[test]
+fn looks_at_the_file_for_no_addresses(rt: HostRuntime) -> Result<(), Fail> {
+    let alloc = rt.alloc();
+    assert!(rt; tells_usage(alloc));
+    let absent = over_first("/absent", "", Status::Refused, "refused: NotFound\n");
+    assert!(rt; ends_so(alloc, &absent)?);
+    Ok(())
+}
+
+/// Whether a run with an input of empty lines is done, and writes nothing.
+fn skips<'a>(alloc: Global, input: &'a [u8]) -> Result<bool, Fail> {
+    let mut row = over_first("/a.sym", "", Status::Done, "");
+    row.input = input;
+    ends_so(alloc, &row)
+}
+
+/// The longest input may be empty lines alone.
+#[test]
+fn skips_the_longest_input(rt: HostRuntime) -> Result<(), Fail> {
+    let alloc = rt.alloc();
+    let input = vec![in alloc; b'\n'; 16_777_216]?;
+    assert!(rt; skips(alloc, input.as_slice())?);
+    Ok(())
 }
 
 /// The longest input is read whole, and one byte more is too long.

@@ -1,4 +1,4 @@
-//! The texts of answers that are looked up together, in the order of their addresses where that is
+//! The texts of answers that are made together, in the order of their addresses where that is
 //! faster: what stands near each other in a file is read together then.
 
 ghost use Rattle.std.specs.Prelude.{◌≡◌, ◌<◌, ◌≤◌, ◌++◌, length, map, slice_get, slice_index, string_bytes, All, Some, OnOk, IfOk, IfSome, IsOkUnless};
@@ -18,7 +18,7 @@ use std::alloc::Global;
 /// near each other together.
 const IN_ORDER: usize = 32_768;
 
-/// So many answers are looked up together.
+/// So many answers are made together.
 const TOGETHER: usize = 32;
 
 /// How long the texts grow that are made at a time, in bytes. What is left then isn't made before it
@@ -113,7 +113,7 @@ impl Texts {
         Ok(())
     }
 
-    // Makes the texts of some of these answers, which are looked up together.
+    // Makes the texts of some of these answers, which are made together.
     fn make_some(
         &mut self,
         alloc: Global,
@@ -128,8 +128,8 @@ impl Texts {
         ensures ok { OnOk result (MakesMore lookups.now self.old self.new) }
         ensures memory { IsOkUnless result Error.OutOfMemory }
     {
-        let addrs = addrs_of(alloc, &order[from..to])?;
-        let answers = lookups.answers_at(alloc, &addrs)?;
+        let indices = indices_of(alloc, &order[from..to])?;
+        let answers = lookups.answers_of(alloc, &indices)?;
         for place in 0..answers.len() {
             let (addr, index) = order[from + place];
             self.make_one(lookups, addr, index, &answers[place])?;
@@ -194,16 +194,16 @@ fn at_a_time(lookups: &Lookups<'_>) -> usize {
     }
 }
 
-// The addresses of entries, in their order.
-fn addrs_of(alloc: Global, entries: &[(Addr, usize)]) -> Result<Vec<Addr>>
-    ensures addrs { IfOk result (λ addrs. addrs.items ≡ map (λ e. e.0) entries.now) }
+// The indices of entries, in their order.
+fn indices_of(alloc: Global, entries: &[(Addr, usize)]) -> Result<Vec<usize>>
+    ensures indices { IfOk result (λ indices. indices.items ≡ map (λ e. e.1) entries.now) }
     ensures memory { IsOkUnless result Error.OutOfMemory }
 {
-    let mut addrs = Vec::with_capacity(alloc, entries.len())?;
+    let mut indices = Vec::with_capacity(alloc, entries.len())?;
     for entry in entries {
-        addrs.push(entry.0)?;
+        indices.push(entry.1)?;
     }
-    Ok(addrs)
+    Ok(indices)
 }
 
 /// Puts the text of the answer at the address of an index to the end of a text.

@@ -67,6 +67,7 @@ fn prints_place(alloc: Global, (at, text): &(Place, &str)) -> bool {
         size: None,
         code_info: Some(place(at)),
         inlined: Vec::new(alloc),
+        public: false,
     });
     prints(alloc, 1, &answer, text)
 }
@@ -90,6 +91,7 @@ fn placed(alloc: Global) -> Symbolized<'static> {
         size: Some(0x30),
         code_info: Some(place(&(None, "bar.c", Some(7)))),
         inlined: Vec::new(alloc),
+        public: false,
     })
 }
 
@@ -117,6 +119,7 @@ fn called(alloc: Global) -> Result<Symbolized<'static>, Fail> {
         size: Some(46),
         code_info: Some(place(&(Some("/foobar"), "source.c", Some(14)))),
         inlined,
+        public: false,
     }))
 }
 
@@ -130,6 +133,7 @@ fn bare(alloc: Global) -> Symbolized<'static> {
         size: None,
         code_info: None,
         inlined: Vec::new(alloc),
+        public: false,
     })
 }
 

@@ -2,7 +2,7 @@ use Rattle.std.proofs.Common.{List}
 use Rattle.bz_base.specs.Answer.{Answer}
 use Rattle.bz_symbolize.specs.declared.lookups.Lookups.{Lookups}
 use Rattle.symq.specs.Words.{command_of}
-use Rattle.symq.proofs.CommandLemmas.{answer_new, of_its_file, opened_by_command, some_from_kept}
+use Rattle.symq.proofs.CommandLemmas.{answer_new, few_from_kept, of_its_file, opened_by_command, some_from_kept, takes_few}
 use Rattle.symq.proofs.ReplyLemmas.{given_from_ok}
 use Rattle.symq.proofs.program.look_up.Goals as goal
 
@@ -29,3 +29,13 @@ returns-clause-opens g c = record {
       let opened = rw (c.new.ensures, c.input_for.ensures.kind) at ((c.look_up.ensures.call.told world told).opened) in
       given_from_ok c.look_up.result _ (opened_by_command read (command_of c.args.command.now) c.in_ok-src.src c.args.addrs.items world _ _ c.look_up.result c.in_ok-src.ensures.ok (returns-clause-answer g c world told) opened);
 }
+
+-- in few steps
+pub returns-clause-found : goal.returns-clause-found
+returns-clause-found g c =
+    let kept = rw (c.new.ensures, c.input_for.ensures.kind, c.input_for.ensures.addrs) at c.look_up.ensures.call.kept in
+    few_from_kept read (command_of c.args.command.now) c.in_ok-src.src c.args.addrs.items _ _ _ c.look_up.result c.in_ok-src.ensures.ok kept (rw c.input_for.ensures.addrs at c.look_up.ensures.steps)
+
+pub returns-clause-steps : goal.returns-clause-steps
+returns-clause-steps g c =
+    takes_few (command_of c.args.command.now) c.in_ok-src.src _ _ _ _ c.in_ok-src.ensures.ok c.look_up.ensures.call.caches (rw c.input_for.ensures.addrs at c.look_up.ensures.steps)

@@ -1,4 +1,4 @@
-use Rattle.std.proofs.Common.{◌≡◌, ◌+◌, ◌<◌, ◌∙◌, length, slice_index_or, string_bytes, None, Some, subst, sym, rules}
+use Rattle.std.proofs.Common.{◌≡◌, ◌+◌, ◌<◌, ◌∙◌, length, slice_index_or, string_bytes, None, subst, sym, rules}
 use Rattle.std.proofs.lemmas.Option.{get_or_from_slice_get, slice_get-get_or}
 use Rattle.symq.specs.Texts.{IsTextIn}
 use Rattle.symq.proofs.TextsLemmas.{text_got}

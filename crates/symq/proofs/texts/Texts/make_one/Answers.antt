@@ -1,4 +1,4 @@
-use Rattle.std.proofs.Common.{◌≡◌, length, refl, rules}
+use Rattle.std.proofs.Common.{refl, rules}
 use Rattle.std.proofs.Math.ListN.{length-set}
 use Rattle.symq.proofs.TextsLemmas.{texts_more}
 use Rattle.symq.proofs.texts.Texts.make_one.Goals as goal

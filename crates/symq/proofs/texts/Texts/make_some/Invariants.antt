@@ -1,5 +1,4 @@
-use Rattle.std.proofs.Common.{◌≡◌, length}
-use Rattle.symq.specs.Texts.{AreTexts, MakesMore}
+use Rattle.symq.specs.Texts.{MakesMore}
 use Rattle.symq.proofs.texts.Texts.make_some.Given as goal
 
 -- texts more were made, of answers among the same ones
