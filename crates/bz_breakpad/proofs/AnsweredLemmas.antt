@@ -1,7 +1,7 @@
 -- The record that was found for an address: where it is kept, and the answer by it.
 use Rattle.std.proofs.Common.{◌≡◌, ℕ, ◌+◌, ◌<◌, ◌≤◌, Bool, true, false, cond, List, length, map, get_or, Option, Some, None, Result, Ok, Err, refl, sym, ap, subst, ◌∙◌, arith}
-use Rattle.std.specs.List.{slice_get}
-use Rattle.std.proofs.lemmas.Option.{same_Some, slice_get-map, slice_get_read, slice_get_within}
+use Rattle.std.specs.List.{slice_get, slice_index_or}
+use Rattle.std.proofs.lemmas.Option.{get_or_from_slice_get, same_Some, slice_get-map, slice_get_read, slice_get_within}
 use Rattle.bz_base.specs.Answer.{Answer, Gives, Symbol, reading}
 use Rattle.bz_base.specs.Answer.Answer.{Known, Unknown}
 use Rattle.bz_base.specs.declared.error.Error.{Error}
@@ -9,18 +9,20 @@ use Rattle.bz_base.specs.declared.error.Error.TheVariants as errors
 use Rattle.bz_base.specs.declared.types.FindSymOpts.{FindSymOpts}
 use Rattle.bz_base.specs.declared.types.Reason.TheVariants as reasons
 use Rattle.bz_breakpad.specs.Found.{IsFunctionFor, IsPublicFor}
-use Rattle.bz_breakpad.specs.Kept.{IsTextAt, kept_public}
+use Rattle.bz_breakpad.specs.Kept.{IsNested, IsTextAt, kept_functions, kept_public}
 use Rattle.bz_breakpad.specs.Lent.{function_seen, placed_seen}
 use Rattle.bz_breakpad.specs.Plain.{Placed, any_between, by_place, by_public, placed_at, plain, public_at, public_symbol_at}
 use Rattle.bz_breakpad.specs.Refusal.{IsAnswerRefusal}
 use Rattle.bz_breakpad.specs.Search.{IsFunction}
-use Rattle.bz_breakpad.specs.Sorted.{StandsFor}
+use Rattle.bz_breakpad.specs.Reader.{table_in}
+use Rattle.bz_breakpad.specs.Sorted.{StandsFor, function_in, functions_of, no_function}
 use Rattle.bz_breakpad.specs.Table.{Function, PublicSymbol, Table}
 use Rattle.bz_breakpad.specs.declared.types.KeptFunction.{KeptFunction}
 use Rattle.bz_breakpad.specs.declared.types.KeptPublic.{KeptPublic}
 use Rattle.bz_breakpad.specs.declared.types.KeptTable.{KeptTable}
 use Rattle.bz_breakpad.proofs.AddressLaws.{public_below, starts_below}
-use Rattle.bz_breakpad.proofs.OrderLemmas.{all_get}
+use Rattle.bz_breakpad.proofs.AsKept.{answer_same, nested_get}
+use Rattle.bz_breakpad.proofs.KeptLemmas.{all_get}
 use Rattle.bz_breakpad.proofs.PublicLemmas.{some_of}
 use Rattle.bz_breakpad.proofs.SortedLemmas.{plain-some}
 
@@ -39,33 +41,37 @@ answers_below table addr s is = by_one (public_at addr table.publics) refl is wh
 
 module _ (bytes : List ℕ) (table : Table) (kept : KeptTable) (stands : StandsFor bytes table kept) (addr index : ℕ) where
   module _ (is : IsFunctionFor table addr index) where
-    kept_there : (f : KeptFunction) × (slice_get kept.code.functions.items index ≡ Some f) × (function_seen bytes kept.code f ≡ is.function)
+    kept_there : (f : KeptFunction) × (slice_get kept.code.functions.items index ≡ Some f) × IsNested is.function (function_seen bytes kept.code f)
     kept_there =
-        some_of (function_seen bytes kept.code) (slice_get kept.code.functions.items index) is.function
-        (sym (slice_get-map (function_seen bytes kept.code) kept.code.functions.items index) ∙ ap (λ fs. slice_get fs index) stands.functions ∙ is.there)
+        let k = nested_get table.functions (kept_functions bytes kept.code) stands.functions index is.function is.there in
+        let f = some_of (function_seen bytes kept.code) (slice_get kept.code.functions.items index) k.0
+        (sym (slice_get-map (function_seen bytes kept.code) kept.code.functions.items index) ∙ k.1) in
+        (f.0, f.1, subst (IsNested is.function) (sym f.2) k.2)
 
     -- the function of the index is kept
     pub function_within : index < length kept.code.functions.items
     function_within = slice_get_within kept.code.functions.items index kept_there.0 kept_there.1
 
     module _ (f : KeptFunction) (read : f ≡ get_or kept.code.functions.items index f) where
-      seen_as : function_seen bytes kept.code f ≡ is.function
-      seen_as =
+      -- with its calls in order
+      pub function_nested : IsNested is.function (function_seen bytes kept.code f)
+      function_nested =
           let there = slice_get_read kept.code.functions.items (length kept.code.functions.items) index f refl function_within read in
-          ap (function_seen bytes kept.code) (same_Some f kept_there.0 (sym there ∙ kept_there.1)) ∙ kept_there.2
+          subst (λ g. IsNested is.function (function_seen bytes kept.code g)) (same_Some kept_there.0 f (sym kept_there.1 ∙ there)) kept_there.2
 
       pub function_kept : IsFunction bytes kept.code f
-      function_kept = subst (IsFunction bytes kept.code) (sym read) (all_get (IsFunction bytes kept.code) kept.code.functions.items index f stands.functions_are function_within)
+      function_kept = subst (IsFunction bytes kept.code) (sym read) (all_get (IsFunction bytes kept.code) kept.code.functions.items index f stands.fits.functions function_within)
 
       pub function_below : f.start ≤ addr
-      function_below = subst (λ (g : Function). g.start ≤ addr) (sym seen_as) (starts_below addr table.functions is.function is.answers)
+      function_below = omega (arith, starts_below addr table.functions is.function is.answers, ap (λ (g : Function). g.start) function_nested.same)
 
       -- the answer is by it
       pub function_answers : (opts : FindSymOpts) →
           plain table opts addr ≡ by_place table (function_seen bytes kept.code f) addr (placed_at table opts (function_seen bytes kept.code f) addr)
       function_answers opts =
           let some : 0 < length table.functions + length table.publics = omega (arith, slice_get_within table.functions index is.function is.there) in
-          plain-some table opts addr (Some (function_seen bytes kept.code f)) some (ap Some seen_as ∙ sym is.answers)
+          plain-some table opts addr (Some is.function) some (sym is.answers)
+          ∙ answer_same table is.function (function_seen bytes kept.code f) function_nested addr opts
 
   module _ (is : IsPublicFor table addr index) where
     public_there : (p : KeptPublic) × (slice_get kept.publics.items index ≡ Some p) × (kept_public bytes p ≡ is.public)
@@ -95,6 +101,12 @@ module _ (bytes : List ℕ) (table : Table) (kept : KeptTable) (stands : StandsF
           let some : 0 < length table.functions + length table.publics = omega (arith, slice_get_within table.publics index is.public is.there) in
           plain-some table opts addr None some (sym is.no_function)
           ∙ ap Ok (is.answers ∙ ap (λ q. Known (public_symbol_at table q addr)) (sym told_as))
+
+-- the function at an index of a file's list
+pub function_is : (bytes : List ℕ) (table : Table) (index : ℕ) (f : Function) → table_in bytes ≡ Some table → slice_get table.functions index ≡ Some f → function_in bytes index ≡ f
+unfolding function_in
+function_is bytes table index f is there =
+    ap (λ (o : Option Table). slice_index_or (functions_of o) index no_function) is ∙ get_or_from_slice_get table.functions index f no_function there
 
 -- where a place is refused, the answer is
 pub refused_as : (table : Table) (f : Function) (addr : ℕ) (expected : Result Answer Error) (placed : Result Placed Error) (e : Error) →

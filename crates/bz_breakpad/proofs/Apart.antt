@@ -94,7 +94,7 @@ decimal_no_blank : (b : ℕ) → is_decimal b ≡ true → is_blank b ≡ false
 decimal_no_blank = other_way is_blank is_decimal blank_no_decimal
 
 -- a byte that is no digit isn't one of the digits
-other_than : (b : ℕ) → not (is_hex b) ≡ true → (c : ℕ) → is_hex c ≡ true → nat_eq c b ≡ false
+pub other_than : (b : ℕ) → not (is_hex b) ≡ true → (c : ℕ) → is_hex c ≡ true → nat_eq c b ≡ false
 other_than b none c is = false_from_ne_true (nat_eq c b) (λ same. true≢false (sym is ∙ ap is_hex (eqb-true c b same) ∙ not-true (is_hex b) none))
 
 -- a number begins with a digit

@@ -5,56 +5,41 @@ use Rattle.std.proofs.Math.Seq.{get_or-append_seam}
 use Rattle.std.proofs.lemmas.Bool.{cases_lt, eq-eqb, eqb-true, true≢false}
 use Rattle.std.proofs.lemmas.Grind.{get_or-set_at}
 use Rattle.std.proofs.lemmas.List.{get_or-set_other, get_or_append_left, length-append, length-set}
-use Rattle.std.proofs.lemmas.Option.{none-some, same_Some, slice_get-get_or, slice_get-map, slice_get_within}
+use Rattle.std.proofs.lemmas.Option.{none-some, same_Some, slice_get-map, slice_get_read, slice_get_within}
 use Rattle.bz_base.specs.Answer.{Answer}
 use Rattle.bz_base.specs.Answer.Answer.{Known, Unknown}
 use Rattle.bz_base.specs.Nearest.{nearest_covering}
 use Rattle.bz_base.specs.Starts.{IsAt}
 use Rattle.bz_base.specs.declared.types.Reason.TheVariants as reasons
 use Rattle.bz_breakpad.specs.Found.{AreFunctionsFor, AreRecordsFor, AreUncovered, IsFoundOrLeft, IsFunctionFor, IsPublicFor, IsRecordFor, IsUnanswered}
-use Rattle.bz_breakpad.specs.FunctionKeys.{keyed, no_function}
+use Rattle.bz_breakpad.specs.FunctionKeys.{keys_from}
 use Rattle.bz_breakpad.specs.Kept.{kept_public}
-use Rattle.bz_breakpad.specs.Lent.{function_seen}
 use Rattle.bz_breakpad.specs.Plain.{any_between, by_public, function_at, public_at, public_symbol_at}
 use Rattle.bz_breakpad.specs.Publics.{IsPublicTable}
 use Rattle.bz_breakpad.specs.Sorted.{StandsFor, starts_of}
 use Rattle.bz_breakpad.specs.Table.{Table}
 use Rattle.bz_breakpad.specs.declared.found.FoundRecord.{FoundRecord}
 use Rattle.bz_breakpad.specs.declared.found.FoundRecord.TheVariants as found
-use Rattle.bz_breakpad.specs.declared.publics.PublicKey.{PublicKey}
 use Rattle.bz_breakpad.specs.declared.publics.PublicTable.{PublicTable}
 use Rattle.bz_breakpad.specs.declared.types.FunctionKey.{FunctionKey}
 use Rattle.bz_breakpad.specs.declared.types.KeptPublic.{KeptPublic}
 use Rattle.bz_breakpad.specs.declared.types.KeptTable.{KeptTable}
-use Rattle.bz_breakpad.proofs.KeyLemmas.{answers_by_key, key_among}
+use Rattle.bz_breakpad.proofs.KeyLemmas.{answers_by_key, key_tells, told}
 use Rattle.bz_breakpad.proofs.PublicKeyLemmas.{all_at}
-use Rattle.bz_breakpad.proofs.PublicLemmas.{by_between, key_answers, key_at, key_record, key_start, none_answers}
+use Rattle.bz_breakpad.proofs.PublicLemmas.{by_between, first_answers, first_within, none_answers}
 
 module _ (bytes : List ℕ) (table : Table) (kept : KeptTable) (stands : StandsFor bytes table kept) (addr : ℕ) where
   -- the function of the key that covers the address answers for it
-  pub key_for : (key : FunctionKey) → Some key ≡ nearest_covering (λ (k : FunctionKey). k.start) (λ k. k.size) addr kept.code.keys.items → IsFunctionFor table addr key.index
-  key_for key covering =
-      let code = kept.code in
-      let functions = code.functions.items in
-      let among = key_among functions code.keys.items addr key stands.keys covering in
-      record {
-        function = function_seen bytes code (keyed functions key);
-        there =
-            ap (λ fs. slice_get fs key.index) (sym stands.functions)
-            ∙ slice_get-map (function_seen bytes code) functions key.index
-            ∙ ap (option_map (function_seen bytes code)) (slice_get-get_or functions key.index no_function among.within ∙ ap Some among.is);
-        answers =
-            ap (function_at addr) (sym stands.functions)
-            ∙ sym (answers_by_key bytes code addr stands.keys)
-            ∙ ap (option_map (λ k. function_seen bytes code (keyed functions k))) (sym covering);
-      }
+  pub key_for : (key : FunctionKey) → Some key ≡ nearest_covering (λ (k : FunctionKey). k.start) (λ k. k.size) addr (keys_from 0 kept.code.functions.items) → IsFunctionFor table addr key.index
+  key_for key covering = record {
+    function = told table.functions key;
+    there = key_tells bytes kept.code table.functions stands.functions addr key covering;
+    answers = sym (answers_by_key bytes kept.code table.functions stands.functions addr) ∙ ap (option_map (told table.functions)) (sym covering);
+  }
 
   -- and none does where no key covers it
-  pub no_key_for : None ≡ nearest_covering (λ (k : FunctionKey). k.start) (λ k. k.size) addr kept.code.keys.items → function_at addr table.functions ≡ None
-  no_key_for covering =
-      ap (function_at addr) (sym stands.functions)
-      ∙ sym (answers_by_key bytes kept.code addr stands.keys)
-      ∙ ap (option_map (λ k. function_seen bytes kept.code (keyed kept.code.functions.items k))) (sym covering)
+  pub no_key_for : None ≡ nearest_covering (λ (k : FunctionKey). k.start) (λ k. k.size) addr (keys_from 0 kept.code.functions.items) → function_at addr table.functions ≡ None
+  no_key_for covering = sym (answers_by_key bytes kept.code table.functions stands.functions addr) ∙ ap (option_map (told table.functions)) (sym covering)
 
   module _ (no_function : function_at addr table.functions ≡ None) where
     -- where there are no PUBLIC records, none answers
@@ -73,35 +58,31 @@ module _ (bytes : List ℕ) (table : Table) (kept : KeptTable) (stands : StandsF
         no_public = ap (by_public table addr) (ap (public_at addr) (sym stands.publics) ∙ none_answers kept.publics.items publics is addr bytes above);
       }
 
-      module _ (place : ℕ) (at : IsAt publics.starts addr (Some place)) (key : PublicKey) (read : key ≡ get_or publics.keys.items place key) where
-        key_is : slice_get publics.keys.items place ≡ Some key
-        key_is = key_at kept.publics.items publics is addr (place, slice_index publics.starts place) at key read
+      module _ (place : ℕ) (at : IsAt publics.starts addr (Some place)) (index : ℕ) (read : index ≡ get_or publics.indices.items place index)
+          (public : KeptPublic) (public_read : public ≡ get_or kept.publics.items index public) where
+        there : slice_get kept.publics.items index ≡ Some public
+        there =
+            slice_get_read kept.publics.items (length kept.publics.items) index public refl
+            (first_within kept.publics.items publics is addr place (slice_index publics.starts place) at index read) public_read
 
-        one : (p : KeptPublic) × (slice_get kept.publics.items key.index ≡ Some p) × (p.start ≡ slice_index publics.starts place)
-        one = key_record kept.publics.items publics is addr place (slice_index publics.starts place) at key key_is
-
-        start_is : key.start ≡ one.0.start
-        start_is = key_start kept.publics.items publics is addr place (slice_index publics.starts place) at key key_is ∙ sym one.2
-
-        answer_is : (between : Bool) → between ≡ any_between key.start addr (starts_of kept.code) →
-            cond {A = Answer} between (Unknown reasons.UnknownAddr) (Known (public_symbol_at table (kept_public bytes one.0) addr)) ≡ by_public table addr (public_at addr table.publics)
+        answer_is : (between : Bool) → between ≡ any_between public.start addr (starts_of kept.code) →
+            cond {A = Answer} between (Unknown reasons.UnknownAddr) (Known (public_symbol_at table (kept_public bytes public) addr)) ≡ by_public table addr (public_at addr table.publics)
         answer_is between tells =
-            by_between bytes kept table stands addr one.0
-            (sym (key_answers kept.publics.items publics is addr place (slice_index publics.starts place) at key key_is bytes one.0 one.1)) between
-            (tells ∙ ap (λ from. any_between from addr (starts_of kept.code)) start_is)
+            by_between bytes kept table stands addr public
+            (sym (first_answers kept.publics.items publics is addr place (slice_index publics.starts place) at index read bytes public there)) between tells
 
         -- nor where a function starts between
-        pub between_for : true ≡ any_between key.start addr (starts_of kept.code) → IsUnanswered table addr
+        pub between_for : true ≡ any_between public.start addr (starts_of kept.code) → IsUnanswered table addr
         between_for between = record { no_function = no_function; no_public = sym (answer_is true between) }
 
-        -- and else the record of the key does
-        pub public_for : false ≡ any_between key.start addr (starts_of kept.code) → IsPublicFor table addr key.index
+        -- and else the record of the index does
+        pub public_for : false ≡ any_between public.start addr (starts_of kept.code) → IsPublicFor table addr index
         public_for between = record {
-          public = kept_public bytes one.0;
+          public = kept_public bytes public;
           there =
-              ap (λ ps. slice_get ps key.index) (sym stands.publics)
-              ∙ slice_get-map (kept_public bytes) kept.publics.items key.index
-              ∙ ap (option_map (kept_public bytes)) one.1;
+              ap (λ ps. slice_get ps index) (sym stands.publics)
+              ∙ slice_get-map (kept_public bytes) kept.publics.items index
+              ∙ ap (option_map (kept_public bytes)) there;
           no_function = no_function;
           answers = sym (answer_is false between);
         }

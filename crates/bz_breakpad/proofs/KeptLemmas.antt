@@ -1,12 +1,14 @@
 -- What is kept of a file as it is read: one record more leaves what was kept before.
-use Rattle.std.proofs.Common.{◌≡◌, ℕ, Bool, true, false, cond, List, [], ◌∷◌, ◌++◌, map, Some, refl, ap, subst, ◌∙◌}
+use Rattle.std.proofs.Common.{◌≡◌, ℕ, zero, suc, ◌-◌, ◌<◌, ◌≤◌, Bool, true, false, cond, List, [], ◌∷◌, ◌++◌, length, drop, map, get_or, Some, refl, ap, ap₂, subst, ◌∙◌, arith, length-drop}
 use Rattle.std.specs.BTreeMap.{insert_entry}
-use Rattle.std.specs.List.{AllByRecursion}
+use Rattle.std.specs.List.{AllByRecursion, slice_range}
 use Rattle.std.specs.Map.{lookup, values_of}
+use Rattle.std.proofs.Math.Seq.{drop-append_seam}
+use Rattle.std.proofs.lemmas.List.{take-append-le, drop-append-le, take_rest}
 use Rattle.std.specs.Ordering.{nat_cmp}
 use Rattle.std.specs.declared.cmp.Ordering.{Ordering}
 use Rattle.std.specs.declared.cmp.Ordering.TheVariants.{Less, Equal, Greater}
-use Rattle.bz_breakpad.specs.Kept.{IsTextAt, IsNameAt, NamesSoFar, text_at}
+use Rattle.bz_breakpad.specs.Kept.{IsPart, IsTextAt, IsNameAt, NamesSoFar, text_at}
 use Rattle.bz_breakpad.specs.Names.{with_name}
 use Rattle.bz_breakpad.specs.declared.types.Part.{Part}
 
@@ -24,6 +26,30 @@ all_beside P (x ∷ xs) ys all others = (all.0, all_beside P xs ys all.1 others)
 pub all_weaker : {A : Type 0} (P Q : A → Type 0) → ((x : A) → P x → Q x) → (xs : List A) → AllByRecursion P xs → AllByRecursion Q xs
 all_weaker P Q then [] all = tt
 all_weaker P Q then (x ∷ xs) all = (then x all.0, all_weaker P Q then xs all.1)
+
+-- what holds of all of two lists side by side holds of each of them
+pub all_parts : {A : Type 0} (P : A → Type 0) (xs ys : List A) → AllByRecursion P (xs ++ ys) → AllByRecursion P xs × AllByRecursion P ys
+all_parts P [] ys all = (tt, all)
+all_parts P (x ∷ xs) ys all = let rest = all_parts P xs ys all.1 in ((all.0, rest.0), rest.1)
+
+-- what holds of all holds of the one at an index
+pub all_get : {A : Type 0} (P : A → Type 0) (xs : List A) (i : ℕ) (d : A) → AllByRecursion P xs → i < length xs → P (get_or xs i d)
+all_get P [] i d all within = absurd (omega (arith, within))
+all_get P (x ∷ xs) zero d all within = all.0
+all_get P (x ∷ xs) (suc i) d all within = all_get P xs i d all.1 (omega (arith, within))
+
+-- a part of a table is the same where more follows
+pub part_more : {A : Type 0} (xs more : List A) (part : Part) → IsPart (length xs) part →
+    slice_range (xs ++ more) part.from part.to ≡ slice_range xs part.from part.to
+part_more xs more part is =
+    let begins : part.from ≤ length xs = omega (arith, is.ordered, is.within) in
+    let few : part.to - part.from ≤ length (drop part.from xs) = omega (arith, length-drop part.from xs, is.within) in
+    rw (drop-append-le part.from xs more begins) (take-append-le (part.to - part.from) (drop part.from xs) more few)
+
+-- a part that ends where a list does, and begins where one before it does, is what was added
+pub last_part : {A : Type 0} (xs ys whole : List A) (part : Part) → whole ≡ xs ++ ys → part.from ≡ length xs → part.to ≡ length whole → slice_range whole part.from part.to ≡ ys
+last_part xs ys whole part is from to =
+    ap₂ (λ a b. slice_range whole a b) from to ∙ take_rest whole (length xs) ∙ ap (drop (length xs)) is ∙ drop-append_seam xs ys
 
 -- the names after one entry more are the names with one more
 pub names_with : (bytes : List ℕ) (entries : List (ℕ × Part)) (id : ℕ) (part : Part) (name : List ℕ) → text_at bytes part ≡ name →

@@ -1,57 +1,92 @@
--- Functions that are found by their keys, which are put in order.
-use Rattle.std.proofs.Common.{◌≡◌, ℕ, List, length, map, Option, Some, None, option_map, IfSome, refl, sym, subst, ap, ◌∙◌}
-use Rattle.std.proofs.lemmas.List.{length-map}
+-- Functions that are found by their keys, which are put in order: a key tells the file's function at its index.
+use Rattle.std.proofs.Common.{◌≡◌, ℕ, suc, ◌+◌, List, [], ◌∷◌, length, map, Option, Some, option_map, IfSome, refl, sym, subst, ap, ap₂, ◌∙◌, arith}
+use Rattle.std.specs.List.{AllByRecursion, slice_get, slice_index_or}
+use Rattle.std.proofs.lemmas.Option.{get_or_from_slice_get}
 use Rattle.bz_base.specs.Nearest.{IsTable, nearest_covering}
-use Rattle.bz_base.proofs.ViewLemmas.{covering_seen, covering_through, table_itself, table_seen}
-use Rattle.bz_breakpad.specs.FunctionKeys.{AreKeys, AreSortedKeys, IsKeyAmong, keyed}
-use Rattle.bz_breakpad.specs.Kept.{kept_functions}
+use Rattle.bz_base.proofs.ViewLemmas.{covering_seen}
+use Rattle.bz_breakpad.specs.FunctionKeys.{AreSortedKeys, keys_from}
+use Rattle.bz_breakpad.specs.Kept.{AreNested, kept_functions}
 use Rattle.bz_breakpad.specs.Lent.{function_seen}
 use Rattle.bz_breakpad.specs.Plain.{function_at}
 use Rattle.bz_breakpad.specs.Table.{Function}
 use Rattle.bz_breakpad.specs.declared.types.FunctionKey.{FunctionKey}
 use Rattle.bz_breakpad.specs.declared.types.FunctionTable.{FunctionTable}
 use Rattle.bz_breakpad.specs.declared.types.KeptFunction.{KeptFunction}
-use Rattle.bz_breakpad.proofs.SortedLemmas.{all_in_table, nearest_one}
+use Rattle.bz_breakpad.proofs.SortedLemmas.{nearest_one}
 
--- the keys of functions, put in order, are the functions' keys in order
-pub sorted_keys_of : (functions : List KeptFunction) (keys sorted : List FunctionKey) → AreKeys functions keys →
+-- what stands at an index where no function does
+abbrev absent : Function
+absent = record { start = 0; size = 0; parameter_size = 0; name = []; lines = []; inlinees = [] }
+
+-- the function at a key's index, with the key's start and size
+abbrev pub told : List Function → FunctionKey → Function
+told functions key = record (slice_index_or functions key.index absent) { start = key.start; size = key.size }
+
+-- there are as many keys as functions
+pub keys_count : (index : ℕ) (functions : List KeptFunction) → length (keys_from index functions) ≡ length functions
+keys_count index [] = refl
+keys_count index (f ∷ functions) = ap (λ n. suc n) (keys_count (index + 1) functions)
+
+-- the keys of functions, put in order
+pub sorted_keys_of : (functions : List KeptFunction) (keys sorted : List FunctionKey) → keys ≡ keys_from 0 functions →
     IsTable (λ k. k.start) (λ k. k.size) keys sorted → length sorted ≡ length keys → AreSortedKeys functions sorted
 sorted_keys_of functions keys sorted are table count = record {
-  table =
-      subst (λ fs. IsTable (λ (f : KeptFunction). f.start) (λ f. f.size) fs (map (keyed functions) sorted)) are.are
-      (table_seen (λ (f : KeptFunction). f.start) (λ f. f.size) (keyed functions) keys sorted table);
-  among = all_in_table (IsKeyAmong functions) (λ (k : FunctionKey). k.start) (λ k. k.size) keys sorted table are.among;
-  count = count ∙ sym (length-map keys (keyed functions)) ∙ ap length are.are;
+  table = subst (λ (ks : List FunctionKey). IsTable (λ (k : FunctionKey). k.start) (λ k. k.size) ks sorted) are table;
+  count = count ∙ ap length are ∙ keys_count 0 functions;
 }
 
--- what a search among the keys finds is the key that is nearest: keys in order are a table of themselves
+-- what a search among the keys in order finds is the key that is nearest
 pub key_found : (functions : List KeptFunction) (keys lent : List FunctionKey) (addr : ℕ) (found : Option FunctionKey) → AreSortedKeys functions keys →
     lent ≡ keys →
     ((records : List FunctionKey) → IsTable (λ k. k.start) (λ k. k.size) records lent → found ≡ nearest_covering (λ k. k.start) (λ k. k.size) addr records) →
-    found ≡ nearest_covering (λ k. k.start) (λ k. k.size) addr keys
+    found ≡ nearest_covering (λ k. k.start) (λ k. k.size) addr (keys_from 0 functions)
 key_found functions keys lent addr found are same covering =
-    covering keys
-    (subst (λ ks. IsTable (λ (k : FunctionKey). k.start) (λ k. k.size) keys ks) (sym same)
-    (table_itself (λ (f : KeptFunction). f.start) (λ f. f.size) (keyed functions) functions keys are.table))
+    covering (keys_from 0 functions)
+    (subst (λ ks. IsTable (λ (k : FunctionKey). k.start) (λ k. k.size) (keys_from 0 functions) ks) (sym same) are.table)
 
--- the key that is nearest is one of the functions'
-pub key_among : (functions : List KeptFunction) (keys : List FunctionKey) (addr : ℕ) (key : FunctionKey) → AreSortedKeys functions keys →
-    Some key ≡ nearest_covering (λ (k : FunctionKey). k.start) (λ k. k.size) addr keys → IsKeyAmong functions key
-key_among functions keys addr key are is =
-    subst (λ o. IfSome o (IsKeyAmong functions)) (sym is)
-    (nearest_one (IsKeyAmong functions) (λ (k : FunctionKey). k.start) (λ k. k.size) addr keys are.among)
+-- The keys tell the functions, which are kept with their calls in order.
+module _ (bytes : List ℕ) (code : FunctionTable) (functions : List Function) where
+  tell_from : (index : ℕ) (fs : List Function) (kept : List KeptFunction) → AreNested fs (map (function_seen bytes code) kept) →
+      ((i : ℕ) → slice_get functions (index + i) ≡ slice_get fs i) →
+      (map (told functions) (keys_from index kept) ≡ fs) × AllByRecursion (λ k. slice_get functions k.index ≡ Some (told functions k)) (keys_from index kept)
+  tell_from index [] [] are at = (refl, tt)
+  tell_from index [] (k ∷ kept) are at = absurd are
+  tell_from index (f ∷ fs) [] are at = absurd are
+  tell_from index (f ∷ fs) (k ∷ kept) are at =
+      let key : FunctionKey = record { start = k.start; size = k.size; index = index } in
+      let first : index ≡ index + 0 = omega arith in
+      let there : slice_get functions index ≡ Some f = ap (slice_get functions) first ∙ at 0 in
+      let is : told functions key ≡ f
+      = ap (λ (g : Function). record g { start = k.start; size = k.size }) (get_or_from_slice_get functions index f absent there)
+      ∙ ap₂ (λ start size. record f { start = start; size = size }) (ap (λ (g : Function). g.start) are.0.same) (ap (λ (g : Function). g.size) are.0.same) in
+      let more = tell_from (index + 1) fs kept are.1 (λ i. let next : index + 1 + i ≡ index + suc i = omega arith in ap (slice_get functions) next ∙ at (suc i)) in
+      (ap₂ (λ g gs. g ∷ gs) is more.0, (there ∙ ap Some (sym is), more.1))
 
--- the function of the key that is nearest is the one that answers
-pub answers_by_key : (bytes : List ℕ) (code : FunctionTable) (addr : ℕ) → AreSortedKeys code.functions.items code.keys.items →
-    option_map (λ k. function_seen bytes code (keyed code.functions.items k)) (nearest_covering (λ (k : FunctionKey). k.start) (λ k. k.size) addr code.keys.items)
-    ≡ function_at addr (kept_functions bytes code)
-answers_by_key bytes code addr are =
-    let functions = code.functions.items in
-    let keys = code.keys.items in
-    both (nearest_covering (λ (k : FunctionKey). k.start) (λ k. k.size) addr keys)
-    ∙ ap (option_map (function_seen bytes code)) (covering_through (λ (f : KeptFunction). f.start) (λ f. f.size) (keyed functions) functions keys are.table addr)
-    ∙ covering_seen (λ (f : Function). f.start) (λ f. f.size) (function_seen bytes code) addr functions where
-      both : (o : Option FunctionKey) → option_map (λ k. function_seen bytes code (keyed code.functions.items k)) o
-          ≡ option_map (function_seen bytes code) (option_map (keyed code.functions.items) o)
-      both None = refl
-      both (Some k) = refl
+  told_starts : (keys : List FunctionKey) → map (λ (f : Function). f.start) (map (told functions) keys) ≡ map (λ k. k.start) keys
+  told_starts [] = refl
+  told_starts (k ∷ keys) = ap (λ more. k.start ∷ more) (told_starts keys)
+
+  module _ (are : AreNested functions (kept_functions bytes code)) where
+    tell : (map (told functions) (keys_from 0 code.functions.items) ≡ functions)
+        × AllByRecursion (λ k. slice_get functions k.index ≡ Some (told functions k)) (keys_from 0 code.functions.items)
+    tell = tell_from 0 functions code.functions.items are (λ i. let same : 0 + i ≡ i = omega arith in ap (slice_get functions) same)
+
+    -- the function of the key that is nearest is the one that answers
+    pub answers_by_key : (addr : ℕ) →
+        option_map (told functions) (nearest_covering (λ (k : FunctionKey). k.start) (λ k. k.size) addr (keys_from 0 code.functions.items)) ≡ function_at addr functions
+    answers_by_key addr =
+        covering_seen (λ (f : Function). f.start) (λ f. f.size) (told functions) addr (keys_from 0 code.functions.items)
+        ∙ ap (function_at addr) tell.0
+
+    -- and stands at the key's index
+    pub key_tells : (addr : ℕ) (key : FunctionKey) →
+        Some key ≡ nearest_covering (λ (k : FunctionKey). k.start) (λ k. k.size) addr (keys_from 0 code.functions.items) →
+        slice_get functions key.index ≡ Some (told functions key)
+    key_tells addr key is =
+        subst (λ (o : Option FunctionKey). IfSome o (λ k. slice_get functions k.index ≡ Some (told functions k))) (sym is)
+        (nearest_one (λ (k : FunctionKey). slice_get functions k.index ≡ Some (told functions k)) (λ (k : FunctionKey). k.start) (λ k. k.size) addr
+        (keys_from 0 code.functions.items) tell.1)
+
+    -- the keys have the functions' starts
+    pub starts_told : map (λ (k : FunctionKey). k.start) (keys_from 0 code.functions.items) ≡ map (λ (f : Function). f.start) functions
+    starts_told = sym (told_starts (keys_from 0 code.functions.items)) ∙ ap (map (λ (f : Function). f.start)) tell.0

@@ -1,13 +1,53 @@
 -- Line records that are put in order by their keys.
-use Rattle.std.proofs.Common.{◌≡◌, ℕ, zero, suc, List, [], ◌∷◌, map, Some, refl, sym, ap, subst, ◌∙◌, arith}
+use Rattle.std.proofs.Common.{◌≡◌, ℕ, zero, suc, ◌≤◌, List, [], ◌∷◌, ◌++◌, length, map, Some, refl, sym, ap, ap₂, subst, ◌∙◌, arith, inl, inr, length-append}
 use Rattle.std.specs.List.{AllByRecursion, filter, slice_get}
-use Rattle.std.proofs.lemmas.Option.{none-some, same_Some}
+use Rattle.std.proofs.lemmas.Bool.{cases_lt}
+use Rattle.std.proofs.lemmas.List.{length-map}
+use Rattle.std.proofs.lemmas.Option.{none-some, same_Some, slice_get_within}
 use Rattle.bz_base.specs.Nearest.{IsTable, has_span}
+use Rattle.bz_base.specs.Starts.{NeverDescends}
+use Rattle.bz_base.proofs.TableLemmas.{start_at}
 use Rattle.bz_base.proofs.ViewLemmas.{table_seen}
-use Rattle.bz_breakpad.specs.LineKeys.{line_key}
-use Rattle.bz_breakpad.specs.LineStarts.{line_size, line_start}
-use Rattle.bz_breakpad.specs.declared.order.LineKey.{LineKey}
+use Rattle.bz_breakpad.specs.Kept.{AreEnded, IsLineKey, IsOpenRunAt, ReadsLine, kept_lines, text_at}
+use Rattle.bz_breakpad.specs.LineKeys.{places_of}
+use Rattle.bz_breakpad.specs.LineRun.{lines_in}
+use Rattle.bz_breakpad.specs.LineStarts.{Ascends, line_read, line_size, line_start, line_starts}
+use Rattle.bz_breakpad.specs.Table.{SourceLine}
+use Rattle.bz_breakpad.specs.declared.parser.standing.LinesSoFar.TheVariants as sofar
+use Rattle.bz_breakpad.specs.declared.parser.standing.StartText.{StartText}
+use Rattle.bz_breakpad.specs.declared.types.LineKey.{LineKey}
+use Rattle.bz_breakpad.specs.declared.types.LineRecords.TheVariants as records
+use Rattle.bz_breakpad.specs.declared.types.Part.{Part}
+use Rattle.bz_breakpad.proofs.KeptLemmas.{all_weaker, last_part}
+use Rattle.bz_breakpad.proofs.LineSearchLemmas.{read_there}
 use Rattle.bz_breakpad.proofs.SortedLemmas.{all_in_table}
+
+module _ {X : Type 0} (start size : X → ℕ) where
+  -- records of which each starts after the one before it are a table
+  pub ascending_table : (xs : List X) → Ascends (map start xs) → IsTable start size xs xs
+  ascending_table xs ascend = record {
+    starts_ascend = λ i j x y up at_x at_y. elim (cases_lt i j) [
+      | inl below ↦ omega (arith, ascend i j below (omega (arith, slice_get_within xs j y at_y, length-map xs start)), start_at start size xs i x at_x, start_at start size xs j y at_y)
+      | inr above ↦ same_start i j x y (omega (arith, up, above)) at_x at_y
+    ];
+    sizes_ascend = λ i j x y up at_x at_y same. elim (cases_lt i j) [
+      | inl below ↦ absurd (omega (arith, ascend i j below (omega (arith, slice_get_within xs j y at_y, length-map xs start)), start_at start size xs i x at_x, start_at start size xs j y at_y, same))
+      | inr above ↦ same_size i j x y (omega (arith, up, above)) at_x at_y
+    ];
+    alike = λ at length. refl;
+  } where
+    one : (i j : ℕ) (x y : X) → i ≡ j → slice_get xs i ≡ Some x → slice_get xs j ≡ Some y → x ≡ y
+    one i j x y same at_x at_y = same_Some x y (sym at_x ∙ ap (slice_get xs) same ∙ at_y)
+
+    same_start : (i j : ℕ) (x y : X) → i ≡ j → slice_get xs i ≡ Some x → slice_get xs j ≡ Some y → start x ≤ start y
+    same_start i j x y same at_x at_y = omega (arith, ap start (one i j x y same at_x at_y))
+
+    same_size : (i j : ℕ) (x y : X) → i ≡ j → slice_get xs i ≡ Some x → slice_get xs j ≡ Some y → size x ≤ size y
+    same_size i j x y same at_x at_y = omega (arith, ap size (one i j x y same at_x at_y))
+
+  -- a table is one of itself
+  pub itself : (records table : List X) → IsTable start size records table → IsTable start size table table
+  itself records table is = record { starts_ascend = is.starts_ascend; sizes_ascend = is.sizes_ascend; alike = λ at length. refl }
 
 -- what holds of all holds of the one at an index
 all_at : {X : Type 0} (P : X → Type 0) (xs : List X) (i : ℕ) (x : X) → AllByRecursion P xs → slice_get xs i ≡ Some x → P x
@@ -39,22 +79,61 @@ module _ {X : Type 0} (start size start' size' : X → ℕ) where
         alike = λ at long. sym (same_left at long table there) ∙ is.alike at long ∙ same_left at long records all;
       }
 
-keys_same : (bytes : List ℕ) (places : List ℕ) →
-    AllByRecursion (IsSame (λ (k : LineKey). k.start) (λ k. k.size) (λ k. line_start bytes k.place) (λ k. line_size bytes k.place)) (map (line_key bytes) places)
-keys_same bytes [] = tt
-keys_same bytes (p ∷ places) = ((refl, refl), keys_same bytes places)
+module _ (bytes : List ℕ) where
+  -- at the places of keys line records are read
+  keys_read : (keys : List LineKey) → AllByRecursion (IsLineKey bytes) keys → AllByRecursion (ReadsLine bytes) (places_of keys)
+  keys_read [] all = tt
+  keys_read (k ∷ keys) all = (all.0.reads, keys_read keys all.1)
 
-keys_places : (bytes : List ℕ) (places : List ℕ) → map (λ (k : LineKey). k.place) (map (line_key bytes) places) ≡ places
-keys_places bytes [] = refl
-keys_places bytes (p ∷ places) = ap (λ ps. p ∷ ps) (keys_places bytes places)
+  -- and they are these
+  keys_lines : (keys : List LineKey) → AllByRecursion (IsLineKey bytes) keys → kept_lines bytes (places_of keys) ≡ map (λ (k : LineKey). line_read bytes k.place) keys
+  keys_lines [] all = refl
+  keys_lines (k ∷ keys) all = rw (read_there bytes k.place all.0.reads) (ap (λ rest. line_read bytes k.place ∷ rest) (keys_lines keys all.1))
 
--- the places of keys in order are those of the line records in order
-pub sorted_by_line_keys : (bytes places new : List ℕ) (keys sorted : List LineKey) → keys ≡ map (line_key bytes) places →
-    IsTable (λ k. k.start) (λ k. k.size) keys sorted → new ≡ map (λ (k : LineKey). k.place) sorted → IsTable (line_start bytes) (line_size bytes) places new
-sorted_by_line_keys bytes places new keys sorted are table new_is =
-    let all = keys_same bytes places in
-    let read = same_table (λ (k : LineKey). k.start) (λ k. k.size) (λ k. line_start bytes k.place) (λ k. line_size bytes k.place) (map (line_key bytes) places) sorted all
-    (subst (λ (ks : List LineKey). IsTable (λ (k : LineKey). k.start) (λ k. k.size) ks sorted) are table) in
-    subst (λ (ps : List ℕ). IsTable (line_start bytes) (line_size bytes) places ps) (sym new_is)
-    (subst (λ (ps : List ℕ). IsTable (line_start bytes) (line_size bytes) ps (map (λ (k : LineKey). k.place) sorted)) (keys_places bytes places)
-    (table_seen (line_start bytes) (line_size bytes) (λ (k : LineKey). k.place) (map (line_key bytes) places) sorted read))
+  keys_starts : (keys : List LineKey) → AllByRecursion (IsLineKey bytes) keys → map (λ (k : LineKey). k.start) keys ≡ line_starts bytes (places_of keys)
+  keys_starts [] all = refl
+  keys_starts (k ∷ keys) all = ap₂ (λ s rest. s ∷ rest) all.0.start_is (keys_starts keys all.1)
+
+  -- keys in order are still keys
+  pub keys_sorted : (keys sorted : List LineKey) → IsTable (λ k. k.start) (λ k. k.size) keys sorted → AllByRecursion (IsLineKey bytes) keys → AllByRecursion (IsLineKey bytes) sorted
+  keys_sorted keys sorted table all = all_in_table (IsLineKey bytes) (λ (k : LineKey). k.start) (λ k. k.size) keys sorted table all
+
+  -- the line records of keys in order are in order
+  lines_sorted : (keys sorted : List LineKey) → IsTable (λ k. k.start) (λ k. k.size) keys sorted → AllByRecursion (IsLineKey bytes) keys →
+      IsTable (λ l. l.start) (λ l. l.size) (kept_lines bytes (places_of keys)) (kept_lines bytes (places_of sorted))
+  lines_sorted keys sorted table all =
+      let read = same_table (λ (k : LineKey). k.start) (λ k. k.size) (λ k. line_start bytes k.place) (λ k. line_size bytes k.place) keys sorted
+      (all_weaker _ _ (λ (k : LineKey) is. (is.start_is, is.size_is)) keys all) table in
+      rw (keys_lines keys all, keys_lines sorted (keys_sorted keys sorted table all))
+      (table_seen (λ (l : SourceLine). l.start) (λ l. l.size) (λ (k : LineKey). line_read bytes k.place) keys sorted read)
+
+  -- of a function that ends, those that are listed
+  pub listed_ended : (places more_places : List ℕ) (keys sorted : List LineKey) (part : Part) → IsTable (λ k. k.start) (λ k. k.size) keys sorted →
+      NeverDescends (map (λ (k : LineKey). k.start) sorted) → more_places ≡ places ++ places_of sorted → part.from ≡ length places → part.to ≡ length more_places →
+      AllByRecursion (IsLineKey bytes) keys → AreEnded bytes more_places keys sofar.Listed (records.Listed part)
+  listed_ended places more_places keys sorted part table ascend more from to all =
+      let own = last_part places (places_of sorted) more_places part more from to in
+      let still = keys_sorted keys sorted table all in
+      let lines = lines_sorted keys sorted table all in
+      record {
+        fit = record {
+          within = record { ordered = omega (arith, from, to, ap length more, length-append places (places_of sorted)); within = omega (arith, to) };
+          searchable = rw own (record { read = keys_read sorted still; ascend = subst NeverDescends (keys_starts sorted still) ascend });
+          table = rw own (itself (λ (l : SourceLine). l.start) (λ l. l.size) _ _ lines);
+        };
+        table = rw own lines;
+      }
+
+  -- and those of a run
+  pub run_ended : (places : List ℕ) (keys : List LineKey) (run : Part) (last : StartText) → IsOpenRunAt bytes run last → AreEnded bytes places keys (sofar.Run run last) (records.Run run)
+  run_ended places keys run last is = record {
+    fit = record { within = is.within; run = record { read = is.run.read; ascend = is.run.starts.ascend } };
+    table = ascending_table (λ (l : SourceLine). l.start) (λ l. l.size) (lines_in (text_at bytes run)) is.run.starts.ascend;
+  }
+
+  -- and none
+  pub none_ended : (places : List ℕ) (keys : List LineKey) → AreEnded bytes places keys sofar.Empty (records.Run (record { from = 0; to = 0 }))
+  none_ended places keys = record {
+    fit = record { within = record { ordered = omega arith; within = omega arith }; run = record { read = tt; ascend = λ i j below within. absurd (omega (arith, within)) } };
+    table = ascending_table (λ (l : SourceLine). l.start) (λ l. l.size) [] (λ i j below within. absurd (omega (arith, within)));
+  }

@@ -14,12 +14,11 @@ use Rattle.bz_breakpad.specs.Choice.{body_at}
 use Rattle.bz_breakpad.specs.Form.{Value}
 use Rattle.bz_breakpad.specs.Form.Form.{End, ◌·◌}
 use Rattle.bz_breakpad.specs.Form.Piece.{Sep, Hex, Dec}
-use Rattle.bz_breakpad.specs.Kept.{ReadsLine, kept_lines}
+use Rattle.bz_breakpad.specs.Kept.{AreSearchable, ReadsLine, kept_lines}
 use Rattle.bz_breakpad.specs.Line.{line_front, line_in, source_line}
 use Rattle.bz_breakpad.specs.Reads.{◌>>=◌, form_at, piece_at}
 use Rattle.bz_breakpad.specs.Records.{LINE}
 use Rattle.bz_breakpad.specs.LineStarts.{line_read, line_start, line_starts, no_line}
-use Rattle.bz_breakpad.specs.Search.{AreSearchable}
 use Rattle.bz_breakpad.specs.Table.{SourceLine}
 use Rattle.bz_breakpad.proofs.Apart.{sep_front}
 use Rattle.bz_breakpad.proofs.Bytes.{blank_no_hex}
@@ -91,10 +90,6 @@ all_at P (x ∷ xs) (suc i) all within = all_at P xs i all.1 (omega (arith, with
 pub kept_are_read : (bytes places : List ℕ) → AllByRecursion (ReadsLine bytes) places → kept_lines bytes places ≡ map (line_read bytes) places
 kept_are_read bytes [] all = refl
 kept_are_read bytes (place ∷ places) all = rw (read_there bytes place all.0) (ap (λ rest. line_read bytes place ∷ rest) (kept_are_read bytes places all.1))
-
--- the start at an index
-pub start_at_index : (bytes places : List ℕ) (i : ℕ) → i < length places → slice_index (map (line_start bytes) places) i ≡ line_start bytes (slice_index places i)
-start_at_index bytes places i within = get_or-map (line_start bytes) places i 0 0 within
 
 -- the starts of the lines at places
 pub starts_are : (bytes places : List ℕ) → map (λ (l : SourceLine). l.start) (map (line_read bytes) places) ≡ map (line_start bytes) places

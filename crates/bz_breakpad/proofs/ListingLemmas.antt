@@ -2,14 +2,15 @@
 use Rattle.std.proofs.Common.{◌≡◌, ℕ, ◌+◌, ◌-◌, ◌<◌, ◌≤◌, true, false, Bool, cond, nat_eq, List, [], ◌∷◌, ◌++◌, length, drop, Option, Some, None, option_map, IsSome, refl, sym, ap, subst, ◌∙◌, arith, append_assoc, append-nil, length-append, length-drop}
 use Rattle.std.specs.List.{AllByRecursion, cons_option, filter_map}
 use Rattle.std.proofs.lemmas.Bool.{false≢true}
-use Rattle.std.proofs.lemmas.List.{drop-drop, length-take-le, take-append-drop}
+use Rattle.std.proofs.lemmas.List.{drop-drop, length-take-le, map-append, take-append-drop}
 use Rattle.std.proofs.lemmas.List.Elements.{filter_map-append}
 use Rattle.std.proofs.Math.Seq.{drop-append_seam}
 use Rattle.bz_base.specs.Byte.{line_feed, HasNo}
 use Rattle.bz_base.specs.Line.{all_lines, before_ended, ended, ended_lines}
 use Rattle.bz_breakpad.specs.Choice.{body_at}
-use Rattle.bz_breakpad.specs.Kept.{AreListed, AreListedTo, IsLonger, IsOpenRunAt, ReadsLine, kept_lines, records_so_far, text_at}
+use Rattle.bz_breakpad.specs.Kept.{AreListed, AreListedTo, IsLineKey, IsLonger, IsOpenRunAt, ReadsLine, kept_lines, records_so_far, text_at}
 use Rattle.bz_breakpad.specs.Line.{line_front, line_in, source_line}
+use Rattle.bz_breakpad.specs.LineKeys.{line_key, places_of}
 use Rattle.bz_breakpad.specs.LineRun.{lines_in}
 use Rattle.bz_breakpad.specs.Reads.{◌>>=◌, form_at}
 use Rattle.bz_breakpad.specs.Records.{LINE}
@@ -17,9 +18,9 @@ use Rattle.bz_breakpad.specs.Table.{SourceLine}
 use Rattle.bz_breakpad.specs.declared.parser.standing.LinesSoFar.{LinesSoFar}
 use Rattle.bz_breakpad.specs.declared.parser.standing.LinesSoFar.TheVariants as sofar
 use Rattle.bz_breakpad.specs.declared.parser.standing.StartText.{StartText}
+use Rattle.bz_breakpad.specs.declared.types.LineKey.{LineKey}
 use Rattle.bz_breakpad.specs.declared.types.Part.{Part}
-use Rattle.bz_breakpad.proofs.FunctionLemmas.{lines_more}
-use Rattle.bz_breakpad.proofs.KeptLemmas.{all_beside}
+use Rattle.bz_breakpad.proofs.KeptLemmas.{all_and_one}
 use Rattle.bz_breakpad.proofs.MidwayLemmas.{line_front_of}
 use Rattle.bz_breakpad.proofs.RunLemmas.{front_front}
 
@@ -50,18 +51,23 @@ none_ended : (text : List ℕ) → IsSome (ended_lines text) → (0 < length tex
 none_ended [] some none = refl
 none_ended (b ∷ text) some none = absurd (false≢true (rw (none (omega arith)) at some))
 
-module _ (bytes : List ℕ) (run : Part) (places : List ℕ) where
+-- the line record of one key more
+lines_more : (bytes : List ℕ) (keys more_keys : List LineKey) (place : ℕ) → more_keys ≡ keys ++ line_key bytes place ∷ [] →
+    kept_lines bytes (places_of more_keys) ≡ kept_lines bytes (places_of keys) ++ kept_lines bytes (place ∷ [])
+lines_more bytes keys more_keys place more =
+    ap (kept_lines bytes) (ap places_of more ∙ map-append (λ (k : LineKey). k.place) keys (line_key bytes place ∷ []))
+    ∙ filter_map-append (λ p. line_in (drop p bytes)) (places_of keys) (place ∷ [])
+
+module _ (bytes : List ℕ) (run : Part) where
   -- at the front none is listed
-  pub listing_begins : (last : StartText) → IsOpenRunAt bytes run last → AreListedTo bytes run (text_at bytes run) places places
+  pub listing_begins : (last : StartText) → IsOpenRunAt bytes run last → AreListedTo bytes run (text_at bytes run) []
   listing_begins last is =
       let text = text_at bytes run in
       let many = run.to - run.from in
       let long : length text ≡ many = length-take-le many (drop run.from bytes) (omega (arith, length-drop run.from bytes, is.within.within)) in
       let back : run.from + (run.to - run.from) ≡ run.to = omega (arith, is.within.ordered) in
       record {
-        listed = [];
-        places_are = sym (append-nil places);
-        read = tt;
+        fits = tt;
         rest_is =
             ap (λ n. drop n bytes) (omega (arith, long, is.within.ordered))
             ∙ sym (take-append-drop many (drop run.from bytes))
@@ -72,9 +78,8 @@ module _ (bytes : List ℕ) (run : Part) (places : List ℕ) where
       }
 
   -- at the end all are
-  pub listing_ends : (rest more_places : List ℕ) → (0 < length rest → ended_lines rest ≡ None) → AreListedTo bytes run rest places more_places →
-      AreListedTo bytes run [] places more_places
-  listing_ends rest more_places none is = subst (λ r. AreListedTo bytes run r places more_places) (none_ended rest is.ended none) is
+  pub listing_ends : (rest : List ℕ) (keys : List LineKey) → (0 < length rest → ended_lines rest ≡ None) → AreListedTo bytes run rest keys → AreListedTo bytes run [] keys
+  listing_ends rest keys none is = subst (λ r. AreListedTo bytes run r keys) (none_ended rest is.ended none) is
 
   module _ (line after : List ℕ) (none : HasNo line_feed line) where
     abbrev beyond : List ℕ
@@ -89,10 +94,10 @@ module _ (bytes : List ℕ) (run : Part) (places : List ℕ) where
         (ap line_front (sym (in_front after)) ∙ front_front (ended line ++ after) ∙ in_front after)
 
     -- and one more after others
-    pub listing_goes_on : (rest more_places next_places : List ℕ) → rest ≡ ended line ++ after → all_lines rest ≡ line ∷ all_lines after →
+    pub listing_goes_on : (rest : List ℕ) (keys next_keys : List LineKey) → rest ≡ ended line ++ after → all_lines rest ≡ line ∷ all_lines after →
         ended_lines rest ≡ option_map (λ lines. line ∷ lines) (ended_lines after) → length rest ≤ run.to →
-        next_places ≡ more_places ++ (run.to - length rest) ∷ [] → AreListedTo bytes run rest places more_places → AreListedTo bytes run after places next_places
-    listing_goes_on rest more_places next_places whole lines ends within next is =
+        next_keys ≡ keys ++ line_key bytes (run.to - length rest) ∷ [] → AreListedTo bytes run rest keys → AreListedTo bytes run after next_keys
+    listing_goes_on rest keys next_keys whole lines ends within next is =
         let place = run.to - length rest in
         let long : length rest ≡ length (ended line) + length after = ap length whole ∙ length-append (ended line) after in
         let records = subst (AllByRecursion (λ (l : List ℕ). IsSome (line_in l))) lines is.records in
@@ -102,9 +107,7 @@ module _ (bytes : List ℕ) (run : Part) (places : List ℕ) where
         let reads : ReadsLine bytes place = subst (λ (o : Option SourceLine). IsSome o) (sym same) records.0 in
         let start : run.to - length after ≡ place + length (ended line) = omega (arith, long, within) in
         record {
-          listed = is.listed ++ place ∷ [];
-          places_are = next ∙ ap (λ ps. ps ++ place ∷ []) is.places_are ∙ append_assoc places is.listed (place ∷ []);
-          read = all_beside (ReadsLine bytes) is.listed (place ∷ []) is.read (reads, tt);
+          fits = rw next (all_and_one (IsLineKey bytes) keys (line_key bytes place) is.fits (record { reads = reads; start_is = refl; size_is = refl }));
           rest_is =
               ap (λ n. drop n bytes) start
               ∙ sym (drop-drop (length (ended line)) place bytes)
@@ -113,54 +116,33 @@ module _ (bytes : List ℕ) (run : Part) (places : List ℕ) where
           records = records.1;
           ended = one_ended (ended_lines rest) (ended_lines after) line ends is.ended;
           are =
-              ap (λ ls. ls ++ lines_in after) (filter_map-append (λ p. line_in (drop p bytes)) is.listed (place ∷ []))
-              ∙ append_assoc (kept_lines bytes is.listed) (kept_lines bytes (place ∷ [])) (lines_in after)
-              ∙ ap (λ ls. kept_lines bytes is.listed ++ ls) (seen (line_in (drop place bytes)) (line_in line) same ∙ sym (ap (filter_map line_in) lines))
+              ap (λ ls. ls ++ lines_in after) (lines_more bytes keys next_keys place next)
+              ∙ append_assoc (kept_lines bytes (places_of keys)) (kept_lines bytes (place ∷ [])) (lines_in after)
+              ∙ ap (λ ls. kept_lines bytes (places_of keys) ++ ls) (seen (line_in (drop place bytes)) (line_in line) same ∙ sym (ap (filter_map line_in) lines))
               ∙ is.are;
         } where
           seen : (o p : Option SourceLine) → o ≡ p → cons_option o [] ++ lines_in after ≡ cons_option p (lines_in after)
           seen o None is = ap (λ q. cons_option q [] ++ lines_in after) is
           seen o (Some l) is = ap (λ q. cons_option q [] ++ lines_in after) is
 
-  -- so a run's line records are at the end of the places
-  pub run_listed : (more_places : List ℕ) (last : StartText) → AreListedTo bytes run [] places more_places →
-      AreListed bytes places more_places (sofar.Run run last) (length places)
-  run_listed more_places last is = record {
-    listed = is.listed;
-    places_are = is.places_are;
-    read = is.read;
-    within = omega (arith, ap length is.places_are, length-append places is.listed);
-    are = ap (λ ps. kept_lines bytes (drop (length places) ps)) is.places_are
-        ∙ ap (kept_lines bytes) (drop-append_seam places is.listed) ∙ sym (append-nil (kept_lines bytes is.listed)) ∙ is.are;
-  }
+  -- so a run's line records are listed
+  pub run_listed : (keys more_keys : List LineKey) (last : StartText) → AreListedTo bytes run [] more_keys → AreListed bytes keys more_keys (sofar.Run run last)
+  run_listed keys more_keys last is = record { fits = is.fits; are = sym (append-nil (kept_lines bytes (places_of more_keys))) ∙ is.are }
 
--- those that are listed stay so
-pub still_listed : (bytes places : List ℕ) (from : ℕ) → from ≤ length places → AreListed bytes places places (sofar.Listed from) from
-still_listed bytes places from within = record { listed = []; places_are = sym (append-nil places); read = tt; within = within; are = refl }
-
--- and none are listed from the end on
-pub none_listed : (bytes places : List ℕ) → AreListed bytes places places sofar.Empty (length places)
-none_listed bytes places = record {
-  listed = [];
-  places_are = sym (append-nil places);
-  read = tt;
-  within = omega arith;
-  are = ap (kept_lines bytes) (ap (drop (length places)) (sym (append-nil places)) ∙ drop-append_seam places []);
-}
+-- none are listed of none
+pub none_listed : (bytes : List ℕ) (keys : List LineKey) → keys ≡ [] → AreListed bytes keys keys sofar.Empty
+none_listed bytes keys none = record { fits = rw none tt; are = rw none refl }
 
 -- one line record more after those that are listed
-pub listed_longer : (bytes places more_places next_places : List ℕ) (old : LinesSoFar) (from place : ℕ) (line : SourceLine) → AreListed bytes places more_places old from →
-    next_places ≡ more_places ++ place ∷ [] → line_in (drop place bytes) ≡ Some line → IsLonger bytes places next_places old (sofar.Listed from) line
-listed_longer bytes places more_places next_places old from place line is next reads =
+pub listed_longer : (bytes : List ℕ) (keys more_keys next_keys : List LineKey) (old : LinesSoFar) (place : ℕ) (line : SourceLine) → AreListed bytes keys more_keys old →
+    next_keys ≡ more_keys ++ line_key bytes place ∷ [] → line_in (drop place bytes) ≡ Some line → IsLonger bytes keys next_keys old sofar.Listed line
+listed_longer bytes keys more_keys next_keys old place line is next reads =
     let one : kept_lines bytes (place ∷ []) ≡ line ∷ [] = ap (λ (o : Option SourceLine). cons_option o []) reads in
+    let key_is : IsLineKey bytes (line_key bytes place) = record { reads = subst (λ (o : Option SourceLine). IsSome o) (sym reads) refl; start_is = refl; size_is = refl } in
     record {
-      listed = is.listed ++ place ∷ [];
-      places_are = next ∙ ap (λ ps. ps ++ place ∷ []) is.places_are ∙ append_assoc places is.listed (place ∷ []);
-      read = all_beside (ReadsLine bytes) is.listed (place ∷ []) is.read (subst (λ (o : Option SourceLine). IsSome o) (sym reads) refl, tt);
-      fits = omega (arith, is.within, ap length next, length-append more_places (place ∷ []));
+      fits = rw next (all_and_one (IsLineKey bytes) more_keys (line_key bytes place) is.fits key_is);
       are =
-          ap (λ ps. kept_lines bytes (drop from ps)) next
-          ∙ lines_more bytes more_places (place ∷ []) from is.within
+          lines_more bytes more_keys next_keys place next
           ∙ ap (λ ls. ls ++ kept_lines bytes (place ∷ [])) is.are
-          ∙ ap (λ ls. records_so_far bytes places old ++ ls) one;
+          ∙ ap (λ ls. records_so_far bytes keys old ++ ls) one;
     }

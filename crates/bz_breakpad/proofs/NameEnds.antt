@@ -18,6 +18,7 @@ use Rattle.bz_breakpad.specs.declared.parser.record.InnerLine.TheVariants as inn
 use Rattle.bz_breakpad.specs.declared.parser.record.Range.{Range}
 use Rattle.bz_breakpad.specs.declared.parser.record.TopLine.{TopLine}
 use Rattle.bz_breakpad.specs.declared.parser.record.TopLine.TheVariants as tops
+use Rattle.bz_breakpad.proofs.CallLemmas.{call_stands}
 use Rattle.bz_breakpad.proofs.FormLaws.{form_again}
 use Rattle.bz_breakpad.proofs.WalkLaws.{body_found_of}
 
@@ -84,7 +85,7 @@ inner_at_place : (bytes : List ℕ) (start : ℕ) (body : List ℕ) (inner : Inn
     SpellsOne INNER body (inner_told inner ranges) → InnerStands bytes start body inner
 inner_at_place bytes start body (inners.Code l) ranges stands is =
     ap (λ o. option_map source_line (o >>= form_at LINE)) stands.body_is ∙ ap (option_map source_line) (form_again LINE refl body (line_told l) is)
-inner_at_place bytes start body (inners.Inline call) ranges stands is = tt
+inner_at_place bytes start body (inners.Inline call) ranges stands is = call_stands bytes start body call ranges stands is
 inner_at_place bytes start body (inners.Origin id name) ranges stands is = ends INNER_ORIGIN body (id, name.now) name.now is refl
 
 -- what of a record under a FUNC record is kept as a place stands there

@@ -11,32 +11,39 @@ use Rattle.bz_base.specs.Chain.{around, chain, inner}
 use Rattle.bz_base.specs.Nearest.{IsTable}
 use Rattle.bz_base.proofs.ChainLemmas.{chain_through, step_seen}
 use Rattle.bz_base.proofs.ViewLemmas.{table_itself, table_seen}
-use Rattle.bz_breakpad.specs.Kept.{kept_inlinee}
+use Rattle.bz_breakpad.specs.Calls.{call_start}
+use Rattle.bz_breakpad.specs.Kept.{kept_call, kept_inlinee}
 use Rattle.bz_breakpad.specs.Plain.{calls_around, inlinee_at, seen_from, seen_outside, site_in}
 use Rattle.bz_breakpad.specs.Reads.{◌>>=◌}
 use Rattle.bz_breakpad.specs.Table.{Inlinee, SourceLine, Table}
+use Rattle.bz_breakpad.specs.declared.types.CallRange.{CallRange}
 use Rattle.bz_breakpad.specs.declared.types.Inlinee.{Inlinee as KeptInlinee}
 use Rattle.bz_breakpad.proofs.KeptLemmas.{all_and_one}
 
--- the calls around an address, found in order, are those of the file
-pub calls_through : (standing table : List KeptInlinee) → IsTable (λ i. i.depth) (λ i. i.addr) standing table → (addr : ℕ) (found : List (Bor KeptInlinee)) →
-    ((records : List KeptInlinee) → IsTable (λ i. i.depth) (λ i. i.addr) records table → map (λ r. r.now) found ≡ chain (λ i. i.depth) (λ i. i.addr) (λ i. i.size) records addr) →
-    map (λ call. kept_inlinee call.now) found ≡ calls_around addr (map kept_inlinee standing)
-calls_through standing table is addr found finds =
-    let seen = table_seen (λ (i : Inlinee). i.depth) (λ i. i.start) kept_inlinee standing table is in
-    sym (map-map kept_inlinee (λ (r : Bor KeptInlinee). r.now) found)
-    ∙ ap (map kept_inlinee) (finds table (table_itself (λ (i : Inlinee). i.depth) (λ i. i.start) kept_inlinee (map kept_inlinee standing) table seen))
-    ∙ chain_through (λ (i : Inlinee). i.depth) (λ i. i.start) (λ i. i.size) kept_inlinee (map kept_inlinee standing) table seen addr
+module _ (bytes : List ℕ) (standing table : List CallRange) (is : IsTable (λ c. c.depth) call_start standing table) where
+  seen : IsTable (λ i. i.depth) (λ i. i.start) (map (kept_call bytes) standing) (map (kept_call bytes) table)
+  seen = table_seen (λ (i : Inlinee). i.depth) (λ i. i.start) (kept_call bytes) standing table is
 
--- and so is the one of a depth
-pub inlinee_through : (standing table : List KeptInlinee) → IsTable (λ i. i.depth) (λ i. i.addr) standing table → (depth addr : ℕ) (found : Option KeptInlinee) →
-    ((records : List KeptInlinee) → IsTable (λ i. i.depth) (λ i. i.addr) records table →
-    found ≡ around (λ i. i.depth) (λ i. i.addr) (λ i. i.size) addr (inner (λ i. i.depth) (λ i. i.addr) depth addr records)) →
-    option_map kept_inlinee found ≡ inlinee_at depth addr (map kept_inlinee standing)
-inlinee_through standing table is depth addr found finds =
-    let seen = table_seen (λ (i : Inlinee). i.depth) (λ i. i.start) kept_inlinee standing table is in
-    ap (option_map kept_inlinee) (finds table (table_itself (λ (i : Inlinee). i.depth) (λ i. i.start) kept_inlinee (map kept_inlinee standing) table seen))
-    ∙ step_seen (λ (i : Inlinee). i.depth) (λ i. i.start) (λ i. i.size) kept_inlinee (map kept_inlinee standing) table seen addr depth
+  whole : IsTable (λ c. c.depth) call_start table table
+  whole = table_itself (λ (i : Inlinee). i.depth) (λ i. i.start) (kept_call bytes) (map (kept_call bytes) standing) table seen
+
+  -- the calls around an address, found in order, are those of the file
+  pub calls_through : (addr : ℕ) (found : List (Bor CallRange)) →
+      ((records : List CallRange) → IsTable (λ c. c.depth) call_start records table → map (λ r. r.now) found ≡ chain (λ c. c.depth) call_start (λ c. c.size) records addr) →
+      map (λ call. kept_call bytes call.now) found ≡ calls_around addr (map (kept_call bytes) standing)
+  calls_through addr found finds =
+      sym (map-map (kept_call bytes) (λ (r : Bor CallRange). r.now) found)
+      ∙ ap (map (kept_call bytes)) (finds table whole)
+      ∙ chain_through (λ (i : Inlinee). i.depth) (λ i. i.start) (λ i. i.size) (kept_call bytes) (map (kept_call bytes) standing) table seen addr
+
+  -- and so is the one of a depth
+  pub inlinee_through : (depth addr : ℕ) (found : Option KeptInlinee) →
+      ((records : List CallRange) → IsTable (λ c. c.depth) call_start records table →
+      option_map kept_inlinee found ≡ option_map (kept_call bytes) (around (λ c. c.depth) call_start (λ c. c.size) addr (inner (λ c. c.depth) call_start depth addr records))) →
+      option_map kept_inlinee found ≡ inlinee_at depth addr (map (kept_call bytes) standing)
+  inlinee_through depth addr found finds =
+      finds table whole
+      ∙ step_seen (λ (i : Inlinee). i.depth) (λ i. i.start) (λ i. i.size) (kept_call bytes) (map (kept_call bytes) standing) table seen addr depth
 
 none_then : {A B : Type 0} (o : Option A) (f : A → Option B) → o ≡ None → (o >>= f) ≡ None
 none_then None f is = refl

@@ -9,7 +9,6 @@ use Rattle.bz_breakpad.specs.Publics.{AreAddresses, AreProbes, AreProbesOf, IsPu
 use Rattle.bz_breakpad.specs.Reader.{table_in}
 use Rattle.bz_breakpad.specs.Sorted.{IsKept, StandsFor, starts_of}
 use Rattle.bz_breakpad.specs.Table.{PublicSymbol, Table}
-use Rattle.bz_breakpad.specs.declared.publics.PublicKey.{PublicKey}
 use Rattle.bz_breakpad.specs.declared.publics.PublicTable.{PublicTable}
 use Rattle.bz_breakpad.specs.declared.types.FunctionKey.{FunctionKey}
 use Rattle.bz_breakpad.specs.declared.types.KeptPublic.{KeptPublic}
@@ -41,8 +40,7 @@ module _ (bytes : List ℕ) (table : Table) (kept : KeptTable) (stands : StandsF
   addresses_are =
       let P : List PublicSymbol → Type 0 = λ ps. AreAddresses (map (λ (p : PublicSymbol). p.start) ps) publics.starts in
       let Q : List ℕ → Type 0 = λ ss. AreAddresses ss publics.starts in
-      let R : List ℕ → Type 0 = AreAddresses (starts_kept kept.publics.items) in
-      subst P stands.publics (subst Q (sym (seen_publics bytes kept.publics.items)) (subst R (sym publics_are.starts) publics_are.keys.addresses))
+      subst P stands.publics (subst Q (sym (seen_publics bytes kept.publics.items)) publics_are.addresses)
 
   count_is : length starts ≡ length table.functions
   count_is = omega (arith, ap length starts_are, length-map kept.code.keys.items (λ (k : FunctionKey). k.start), stands.keys.count, stands.count)
@@ -72,11 +70,11 @@ module _ (bytes : List ℕ) (table : Table) (kept : KeptTable) (stands : StandsF
       sum = sum;
       functions_few = subst (IsEnough first) count_is few;
       publics_few = more;
-      none = λ no_address. absurd (address kept.publics.items some publics_are.keys.addresses.each no_address);
+      none = λ no_address. absurd (address kept.publics.items some publics_are.addresses.each no_address);
     } where
       address : (ps : List KeptPublic) → 0 < length ps →
-          ((i s : ℕ) → slice_get (starts_kept ps) i ≡ Some s → (k : ℕ) × (slice_get (map (λ (k : PublicKey). k.start) publics.keys.items) k ≡ Some s)) → length publics.starts ≡ 0 → ⊥
+          ((i s : ℕ) → slice_get (starts_kept ps) i ≡ Some s → (k : ℕ) × (slice_get publics.starts k ≡ Some s)) → length publics.starts ≡ 0 → ⊥
       address [] some each no_address = omega arith
       address (p ∷ ps) some each no_address =
           let at = each 0 p.start refl in
-          omega (arith, slice_get_within (map (λ (k : PublicKey). k.start) publics.keys.items) at.0 p.start at.1, ap length publics_are.starts)
+          omega (arith, slice_get_within publics.starts at.0 p.start at.1)

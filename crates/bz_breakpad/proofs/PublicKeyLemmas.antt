@@ -1,15 +1,19 @@
 -- The keys of PUBLIC records in order, without those that start where the key before does, are those of the first record at
 -- each address.
-use Rattle.std.proofs.Common.{◌≡◌, ◌⊎◌, inl, inr, ℕ, zero, suc, ◌+◌, ◌<◌, ◌≤◌, Bool, true, false, cond, nat_eq, List, [], ◌∷◌, ◌++◌, length, map, option_map, Option, Some, None, refl, sym, ap, subst, ◌∙◌, arith, append_assoc}
-use Rattle.std.specs.List.{AllByRecursion, slice_get, slice_index}
-use Rattle.std.proofs.lemmas.Bool.{eqb-true, eq-eqb, true≢false}
-use Rattle.std.proofs.lemmas.Option.{none-some, same_Some, slice_get-map}
+use Rattle.std.proofs.Common.{◌≡◌, ◌⊎◌, inl, inr, ℕ, zero, suc, ◌+◌, ◌<◌, ◌≤◌, ◌==◌, Bool, true, false, cond, nat_eq, get_or, List, [], ◌∷◌, ◌++◌, drop, length, map, option_map, Option, Some, None, Result, Ok, Err, refl, sym, ap, subst, ◌∙◌, arith, append_assoc}
+use Rattle.std.specs.Prelude.{IfOk}
+use Rattle.std.specs.List.{AllByRecursion, dedup, dedup_from, slice_get, slice_index}
+use Rattle.std.proofs.lemmas.Bool.{cases_lt, eqb-true, eq-eqb, true≢false}
+use Rattle.std.proofs.lemmas.Option.{get_or_from_slice_get, none-some, same_Some, slice_get-get_or, slice_get-map}
+use Rattle.std.proofs.lemmas.List.{append-nil, drop_all, length-map}
 use Rattle.bz_base.specs.Nearest.{IsTable}
 use Rattle.bz_base.specs.Starts.{NeverDescends}
 use Rattle.bz_base.proofs.TableLemmas.{in_table}
 use Rattle.bz_breakpad.specs.LineStarts.{Ascends}
-use Rattle.bz_breakpad.specs.Publics.{ArePublicKeys, firsts_after, is_last, keys_from}
+use Rattle.bz_breakpad.specs.Publics.{AreAddresses, ArePublicKeys, IsFirst, IsPublicTable, firsts_after, is_last, keys_from, starts_kept}
 use Rattle.bz_breakpad.specs.declared.publics.PublicKey.{PublicKey}
+use Rattle.bz_breakpad.specs.declared.publics.PublicTable.{PublicTable}
+use Rattle.bz_breakpad.specs.declared.types.KeptPublic.{KeptPublic}
 use Rattle.bz_breakpad.proofs.SortedLemmas.{all_in_table}
 
 -- Keys in order.
@@ -33,6 +37,22 @@ up_from (k ∷ keys) at = (up_all k keys (λ i l there. at 0 (suc i) k l (omega 
 
 -- Those that stay.
 
+-- a key doesn't stay where it starts like the one that stayed
+abbrev pub starts_alike : PublicKey → PublicKey → Bool
+starts_alike next kept = next.start == kept.start
+
+firsts_from : (k : PublicKey) (keys : List PublicKey) → dedup_from starts_alike k keys ≡ k ∷ firsts_after (Some k.start) keys
+firsts_from k [] = refl
+firsts_from k (l ∷ keys) = by (l.start == k.start) (firsts_from k keys) (firsts_from l keys) where
+  by : (b : Bool) → dedup_from starts_alike k keys ≡ k ∷ firsts_after (Some k.start) keys → dedup_from starts_alike l keys ≡ l ∷ firsts_after (Some l.start) keys →
+      cond b (dedup_from starts_alike k keys) (k ∷ dedup_from starts_alike l keys) ≡ k ∷ cond b (firsts_after (Some k.start) keys) (l ∷ firsts_after (Some l.start) keys)
+  by true skipped later = skipped
+  by false skipped later = ap (λ more. k ∷ more) later
+
+firsts_are : (keys : List PublicKey) → dedup starts_alike keys ≡ firsts_after None keys
+firsts_are [] = refl
+firsts_are (k ∷ keys) = firsts_from k keys
+
 -- all start from the last one on
 abbrev AreFrom : Option ℕ → List PublicKey → Type 0
 AreFrom None keys = Unit {0}
@@ -54,10 +74,10 @@ from_rest (Some last) k keys from = from.1
 -- a start that isn't the last is above it
 above_last : (last : Option ℕ) (k : PublicKey) (keys : List PublicKey) → AreFrom last (k ∷ keys) → is_last last k.start ≡ false → IsAbove last k
 above_last None k keys from isnt = tt
-above_last (Some last) k keys from isnt = by (nat_eq last k.start) refl where
-  by : (b : Bool) → nat_eq last k.start ≡ b → last < k.start
+above_last (Some last) k keys from isnt = by (nat_eq k.start last) refl where
+  by : (b : Bool) → nat_eq k.start last ≡ b → last < k.start
   by true is = absurd (true≢false (sym is ∙ isnt))
-  by false is = other (λ (same : last ≡ k.start). true≢false (sym (eq-eqb last k.start same) ∙ is)) where
+  by false is = other (λ (same : last ≡ k.start). true≢false (sym (eq-eqb k.start last (sym same)) ∙ is)) where
     other : (last ≡ k.start → ⊥) → last < k.start
     other apart = omega (arith, from.0)
 
@@ -120,7 +140,7 @@ firsts_least last (k ∷ keys) up from =
       skip : (last : Option ℕ) → is_last last k.start ≡ true → AllByRecursion (IsAbove last) (firsts_after last keys) → AllByRecursion (IsLeast keys) (firsts_after last keys) →
           AllByRecursion (IsLeast (k ∷ keys)) (firsts_after last keys)
       skip None is above all = absurd (true≢false (sym is))
-      skip (Some at) is above all = least_skipped at k keys (firsts_after (Some at) keys) (eqb-true at k.start is) above all
+      skip (Some at) is above all = least_skipped at k keys (firsts_after (Some at) keys) (sym (eqb-true k.start at is)) above all
 
       by : (b : Bool) → is_last last k.start ≡ b → AllByRecursion (IsLeast keys) (firsts_after last keys) → AllByRecursion (IsLeast keys) (firsts_after (Some k.start) keys) →
           AllByRecursion (IsLeast (k ∷ keys)) (cond b (firsts_after last keys) (k ∷ firsts_after (Some k.start) keys))
@@ -139,7 +159,7 @@ firsts_have last [] = tt
 firsts_have last (k ∷ keys) = by (is_last last k.start) refl (firsts_have last keys) (firsts_have (Some k.start) keys) where
   is_it : (last : Option ℕ) → is_last last k.start ≡ true → last ≡ Some k.start
   is_it None is = absurd (true≢false (sym is))
-  is_it (Some at) is = ap Some (eqb-true at k.start is)
+  is_it (Some at) is = ap Some (sym (eqb-true k.start at is))
 
   by : (b : Bool) → is_last last k.start ≡ b → AllByRecursion (λ l. (last ≡ Some l.start) ⊎ HasStart (firsts_after last keys) l.start) keys →
       AllByRecursion (λ l. (Some k.start ≡ Some l.start) ⊎ HasStart (firsts_after (Some k.start) keys) l.start) keys →
@@ -210,9 +230,9 @@ key_there first (t ∷ starts) (suc i) s there = key_there (suc first) starts i 
 
 -- Together.
 
-pub public_keys_are : (starts : List ℕ) (sorted : List PublicKey) → IsTable (λ k. k.start) (λ k. k.index) (keys_from 0 starts) sorted →
+first_keys_are : (starts : List ℕ) (sorted : List PublicKey) → IsTable (λ k. k.start) (λ k. k.index) (keys_from 0 starts) sorted →
     ArePublicKeys starts (firsts_after None sorted)
-public_keys_are starts sorted is =
+first_keys_are starts sorted is =
     let up = up_from sorted (λ i j k l less at_k at_l. record { starts = is.starts_ascend i j k l less at_k at_l; indices = is.sizes_ascend i j k l less at_k at_l }) in
     let firsts = firsts_after None sorted in
     let there = firsts_all (λ k. slice_get starts k.index ≡ Some k.start) None sorted
@@ -241,3 +261,84 @@ public_keys_are starts sorted is =
             omega (arith, l.size_is);
       };
     }
+
+-- keys of starts that never descend are in order
+key_of : (first : ℕ) (starts : List ℕ) (i : ℕ) (k : PublicKey) → slice_get (keys_from first starts) i ≡ Some k →
+    (i < length starts) × (k.start ≡ slice_index starts i) × (k.index ≡ first + i)
+key_of first [] i k there = absurd (none-some k there)
+key_of first (s ∷ starts) zero k there =
+    let same = same_Some (record { start = s; index = first }) k there in
+    (omega arith, sym (ap (λ (k : PublicKey). k.start) same), sym (ap (λ (k : PublicKey). k.index) same) ∙ omega arith)
+key_of first (s ∷ starts) (suc i) k there =
+    let later = key_of (suc first) starts i k there in
+    (omega (arith, later.0), later.1, later.2 ∙ omega arith)
+
+keys_in_order : (starts : List ℕ) → NeverDescends starts → IsTable (λ k. k.start) (λ k. k.index) (keys_from 0 starts) (keys_from 0 starts)
+keys_in_order starts never = record {
+  starts_ascend = λ i j k l less at_k at_l.
+      let one = key_of 0 starts i k at_k in
+      let other = key_of 0 starts j l at_l in
+      let up : slice_index starts i ≤ slice_index starts j = never i j less other.0 in
+      omega (arith, one.1, other.1);
+  sizes_ascend = λ i j k l less at_k at_l same. omega (arith, (key_of 0 starts i k at_k).2, (key_of 0 starts j l at_l).2);
+  alike = λ at length. refl;
+}
+
+-- and are those of the first record at each address without any sort
+pub keys_are_in_order : (starts : List ℕ) → NeverDescends starts → ArePublicKeys starts (firsts_after None (keys_from 0 starts))
+keys_are_in_order starts never = first_keys_are starts (keys_from 0 starts) (keys_in_order starts never)
+
+pub public_keys_are : (starts : List ℕ) (sorted : List PublicKey) → IsTable (λ k. k.start) (λ k. k.index) (keys_from 0 starts) sorted →
+    ArePublicKeys starts (dedup starts_alike sorted)
+public_keys_are starts sorted is = subst (ArePublicKeys starts) (sym (firsts_are sorted)) (first_keys_are starts sorted is)
+
+-- The table of the keys.
+
+public_table_is : (publics : List KeptPublic) (keys : List PublicKey) (table : PublicTable) → ArePublicKeys (starts_kept publics) keys →
+    table.indices.items ≡ map (λ k. k.index) keys → table.starts ≡ map (λ k. k.start) keys → IsPublicTable publics table
+public_table_is publics keys table are indices starts = record {
+  addresses = subst (AreAddresses (starts_kept publics)) (sym starts) are.addresses;
+  count = omega (arith, ap length indices, ap length starts, length-map keys (λ (k : PublicKey). k.index), length-map keys (λ (k : PublicKey). k.start));
+  firsts = λ k start index at_start at_index.
+      let start_of = some_of (λ (k : PublicKey). k.start) (slice_get keys k) start (sym (slice_get-map (λ (k : PublicKey). k.start) keys k) ∙ sym (ap (λ ss. slice_get ss k) starts) ∙ at_start) in
+      let index_of = some_of (λ (k : PublicKey). k.index) (slice_get keys k) index (sym (slice_get-map (λ (k : PublicKey). k.index) keys k) ∙ sym (ap (λ is. slice_get is k) indices) ∙ at_index) in
+      let same : start_of.0 ≡ index_of.0 = same_Some start_of.0 index_of.0 (sym start_of.1 ∙ index_of.1) in
+      let first : IsFirst (starts_kept publics) start_of.0.start start_of.0.index = are.firsts k start_of.0 start_of.1 in
+      subst (λ i. IsFirst (starts_kept publics) start i) (ap (λ (k : PublicKey). k.index) same ∙ index_of.2) (subst (λ s. IsFirst (starts_kept publics) s start_of.0.index) start_of.2 first);
+}
+
+pub if_table_is : {E : Type 0} (publics : List KeptPublic) (keys : List PublicKey) (result : Result PublicTable E) → ArePublicKeys (starts_kept publics) keys →
+    IfOk result (λ table. table.indices.items ≡ map (λ k. k.index) keys) → IfOk result (λ table. table.starts ≡ map (λ k. k.start) keys) → IfOk result (IsPublicTable publics)
+if_table_is publics keys (Ok table) are indices starts = public_table_is publics keys table are indices starts
+if_table_is publics keys (Err e) are indices starts = tt
+
+-- Starts that are seen to never descend, one by one.
+
+-- the start of the record at an index
+pub start_read : (publics : List KeptPublic) (i : ℕ) (d : KeptPublic) → i < length publics → slice_index (starts_kept publics) i ≡ (get_or publics i d).start
+start_read publics i d within =
+    get_or_from_slice_get (starts_kept publics) i (get_or publics i d).start 0
+    (slice_get-map (λ (q : KeptPublic). q.start) publics i ∙ ap (option_map (λ (q : KeptPublic). q.start)) (slice_get-get_or publics i d within))
+
+module _ (starts : List ℕ) (i last : ℕ) (below : (k : ℕ) → k < i → slice_index starts k ≤ last) (from : last ≤ slice_index starts i) where
+  pub below_more : (k : ℕ) → k < i + 1 → slice_index starts k ≤ slice_index starts i
+  below_more k less = elim (cases_lt k i) [
+    | inl lower ↦ omega (arith, below k lower)
+    | inr not_lower ↦ let same : k ≡ i = omega arith in omega (arith, ap (slice_index starts) same)
+  ]
+
+  pub up_more : ((j k : ℕ) → j ≤ k → k < i → slice_index starts j ≤ slice_index starts k) → (j k : ℕ) → j ≤ k → k < i + 1 → slice_index starts j ≤ slice_index starts k
+  up_more up j k less within = elim (cases_lt k i) [
+    | inl lower ↦ up j k less lower
+    | inr not_lower ↦ let same : k ≡ i = omega arith in omega (arith, below_more j (omega arith), ap (slice_index starts) same)
+  ]
+
+-- the starts of a table in order, once every record has been looked at
+pub whole_starts_never : (publics : List KeptPublic) (starts : List ℕ) (index : ℕ) (last : Option ℕ) → NeverDescends (starts_kept publics) → length publics ≤ index →
+    starts ++ map (λ k. k.start) (firsts_after last (keys_from index (starts_kept (drop index publics)))) ≡ map (λ k. k.start) (firsts_after None (keys_from 0 (starts_kept publics))) →
+    NeverDescends starts
+whole_starts_never publics starts index last never past are =
+    let none = drop_all index publics past in
+    let whole : starts ++ [] ≡ map (λ (k : PublicKey). k.start) (firsts_after None (keys_from 0 (starts_kept publics)))
+    = sym (ap (λ (ps : List KeptPublic). starts ++ map (λ (k : PublicKey). k.start) (firsts_after last (keys_from index (starts_kept ps)))) none) ∙ are in
+    subst NeverDescends (sym whole ∙ append-nil starts) (ascends_never (map (λ (k : PublicKey). k.start) (firsts_after None (keys_from 0 (starts_kept publics)))) (keys_are_in_order (starts_kept publics) never).addresses.ascend)

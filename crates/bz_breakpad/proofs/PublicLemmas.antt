@@ -3,7 +3,6 @@ use Rattle.std.proofs.Common.{◌≡◌, inl, inr, ℕ, zero, suc, ◌<◌, ◌�
 use Rattle.std.specs.List.{list_any, slice_get, slice_index}
 use Rattle.std.proofs.lemmas.Bool.{cases_lt, le-leb, leb-true, and_parts, true≢false}
 use Rattle.std.proofs.lemmas.Option.{get_or_from_slice_get, none-some, same_Some, slice_get-map, slice_get_read, slice_get_within}
-use Rattle.std.proofs.lemmas.List.{length-map}
 use Rattle.bz_base.specs.Answer.{Answer}
 use Rattle.bz_base.specs.Answer.Answer.{Known, Unknown}
 use Rattle.bz_base.specs.Nearest.{IsTable, has_span}
@@ -11,19 +10,18 @@ use Rattle.bz_base.specs.declared.types.Reason.TheVariants as reasons
 use Rattle.bz_base.specs.Starts.{IsFound, NeverDescends}
 use Rattle.bz_base.proofs.FilterLemmas.{first_in_list, some_pass}
 use Rattle.bz_base.proofs.TableLemmas.{in_table, record_at, spans_same, start_at, starts_same}
-use Rattle.bz_breakpad.specs.FunctionKeys.{AreSortedKeys, keyed}
-use Rattle.bz_breakpad.specs.Kept.{kept_function, kept_functions, kept_public}
+use Rattle.bz_breakpad.specs.FunctionKeys.{AreSortedKeys, keys_from}
+use Rattle.bz_breakpad.specs.Kept.{kept_public}
 use Rattle.bz_breakpad.specs.Plain.{any_between, by_public, first_public, public_at, public_symbol_at}
-use Rattle.bz_breakpad.specs.Publics.{IsPublicTable, starts_kept}
+use Rattle.bz_breakpad.specs.Publics.{IsFirst, IsPublicTable, starts_kept}
 use Rattle.bz_breakpad.specs.Sorted.{StandsFor, starts_of}
 use Rattle.bz_breakpad.specs.Table.{Function, PublicSymbol, Table}
 use Rattle.bz_breakpad.specs.declared.types.FunctionKey.{FunctionKey}
 use Rattle.bz_breakpad.specs.declared.types.FunctionTable.{FunctionTable}
-use Rattle.bz_breakpad.specs.declared.types.KeptFunction.{KeptFunction}
-use Rattle.bz_breakpad.specs.declared.publics.PublicKey.{PublicKey}
 use Rattle.bz_breakpad.specs.declared.publics.PublicTable.{PublicTable}
 use Rattle.bz_breakpad.specs.declared.types.KeptPublic.{KeptPublic}
 use Rattle.bz_breakpad.specs.declared.types.KeptTable.{KeptTable}
+use Rattle.bz_breakpad.proofs.KeyLemmas.{starts_told}
 
 -- The record that is found.
 
@@ -115,77 +113,71 @@ of_kept : (bytes : List ℕ) (publics : List KeptPublic) (i : ℕ) (p : PublicSy
     (q : KeptPublic) × (slice_get publics i ≡ Some q) × (kept_public bytes q ≡ p)
 of_kept bytes publics i p there = some_of (kept_public bytes) (slice_get publics i) p (sym (slice_get-map (kept_public bytes) publics i) ∙ there)
 
--- a start above the one at a place stands after it, and else not
+-- a start at a place
 index_at : (starts : List ℕ) (i s : ℕ) → slice_get starts i ≡ Some s → slice_index starts i ≡ s
 index_at starts i s there = get_or_from_slice_get starts i s 0 there
 
+start_at_place : (starts : List ℕ) (i s : ℕ) → i < length starts → slice_index starts i ≡ s → slice_get starts i ≡ Some s
+start_at_place [] i s within is = absurd (omega arith)
+start_at_place (t ∷ starts) zero s within is = ap Some is
+start_at_place (t ∷ starts) (suc i) s within is = start_at_place starts i s (omega arith) is
+
 module _ (publics : List KeptPublic) (table : PublicTable) (is : IsPublicTable publics table) (addr : ℕ) where
-  addresses : List ℕ
-  addresses = map (λ (k : PublicKey). k.start) table.keys.items
-
   -- a record has its address among the addresses
-  address_of : (i : ℕ) (q : KeptPublic) → slice_get publics i ≡ Some q → (k : ℕ) × (slice_get (map (λ (k : PublicKey). k.start) table.keys.items) k ≡ Some q.start)
-  address_of i q there = is.keys.addresses.each i q.start (start_there publics i q there)
-
-  -- the key at the place that a search found
-  pub key_at : (found : ℕ × ℕ) → IsFound table.starts addr (Some found) → (key : PublicKey) → key ≡ get_or table.keys.items found.0 key →
-      slice_get table.keys.items found.0 ≡ Some key
-  key_at found finds key read =
-      slice_get_read table.keys.items (length table.keys.items) found.0 key refl
-      (omega (arith, finds.within, ap length is.starts, length-map table.keys.items (λ (k : PublicKey). k.start))) read
+  address_of : (i : ℕ) (q : KeptPublic) → slice_get publics i ≡ Some q → (k : ℕ) × (slice_get table.starts k ≡ Some q.start)
+  address_of i q there = is.addresses.each i q.start (start_there publics i q there)
 
   module _ (place start : ℕ) (found : IsFound table.starts addr (Some (place, start))) where
-    found_at : IsFound (map (λ (k : PublicKey). k.start) table.keys.items) addr (Some (place, start))
-    found_at = subst (λ starts. IsFound starts addr (Some (place, start))) is.starts found
-
     -- no record starts nearer below the address
     nearest_start : (i : ℕ) (q : KeptPublic) → slice_get publics i ≡ Some q → q.start ≤ addr → q.start ≤ start
     nearest_start i q there below =
         let at = address_of i q there in
-        let starts = map (λ (k : PublicKey). k.start) table.keys.items in
-        let here : slice_index starts at.0 ≡ q.start = index_at starts at.0 q.start at.1 in
-        let within : at.0 < length starts = slice_get_within starts at.0 q.start at.1 in
+        let here : slice_index table.starts at.0 ≡ q.start = index_at table.starts at.0 q.start at.1 in
+        let within : at.0 < length table.starts = slice_get_within table.starts at.0 q.start at.1 in
         elim (cases_lt place at.0) [
           | inl after ↦
-              let more : slice_index starts place < slice_index starts at.0 = is.keys.addresses.ascend place at.0 after within in
+              let more : slice_index table.starts place < slice_index table.starts at.0 = is.addresses.ascend place at.0 after within in
               elim (cases_lt start addr) [
-                | inl less ↦ absurd (omega (arith, found_at.last less at.0 after within))
-                | inr above ↦ omega (arith, found_at.start_is)
+                | inl less ↦ absurd (omega (arith, found.last less at.0 after within))
+                | inr above ↦ omega (arith, found.start_is)
               ]
           | inr before ↦
               elim (cases_lt at.0 place) [
-                | inl less ↦ omega (arith, is.keys.addresses.ascend at.0 place less found_at.within, found_at.start_is)
-                | inr above ↦ let same : at.0 ≡ place = omega arith in omega (arith, ap (slice_index starts) same, found_at.start_is)
+                | inl less ↦ omega (arith, is.addresses.ascend at.0 place less found.within, found.start_is)
+                | inr above ↦ let same : at.0 ≡ place = omega arith in omega (arith, ap (slice_index table.starts) same, found.start_is)
               ]
         ]
 
-    module _ (key : PublicKey) (key_is : slice_get table.keys.items place ≡ Some key) where
-      pub key_start : key.start ≡ start
-      key_start = sym (index_at (map (λ (k : PublicKey). k.start) table.keys.items) place key.start (slice_get-map (λ (k : PublicKey). k.start) table.keys.items place ∙ ap (option_map (λ (k : PublicKey). k.start)) key_is)) ∙ found_at.start_is
+    module _ (index : ℕ) (read : index ≡ get_or table.indices.items place index) where
+      -- the index at the place that a search found is that of the first record at the address there
+      first_there : IsFirst (starts_kept publics) start index
+      first_there =
+          is.firsts place start index (start_at_place table.starts place start found.within found.start_is)
+          (slice_get_read table.indices.items (length table.indices.items) place index refl (omega (arith, found.within, is.count)) read)
 
-      pub key_record : (p : KeptPublic) × (slice_get publics key.index ≡ Some p) × (p.start ≡ start)
-      key_record =
-          let at = of_start publics key.index key.start (is.keys.firsts place key key_is).there in
-          (at.0, at.1, at.2 ∙ key_start)
+      first_record : (p : KeptPublic) × (slice_get publics index ≡ Some p) × (p.start ≡ start)
+      first_record = of_start publics index start first_there.there
 
-      -- the record of the key is found
-      pub key_answers : (bytes : List ℕ) (p : KeptPublic) → slice_get publics key.index ≡ Some p →
-          public_at addr (map (kept_public bytes) publics) ≡ Some (kept_public bytes p)
-      key_answers bytes p there =
-          let at = key_record in
+      pub first_within : index < length publics
+      first_within = slice_get_within publics index first_record.0 first_record.1
+
+      -- and that record is found
+      pub first_answers : (bytes : List ℕ) (p : KeptPublic) → slice_get publics index ≡ Some p → public_at addr (map (kept_public bytes) publics) ≡ Some (kept_public bytes p)
+      first_answers bytes p there =
+          let at = first_record in
           let same : at.0 ≡ p = same_Some at.0 p (sym at.1 ∙ there) in
           let start_is : p.start ≡ start = ap (λ (q : KeptPublic). q.start) (sym same) ∙ at.2 in
-          public_again addr (map (kept_public bytes) publics) key.index (kept_public bytes p)
-          (slice_get-map (kept_public bytes) publics key.index ∙ ap (option_map (kept_public bytes)) there)
-          (omega (arith, found_at.not_above))
+          public_again addr (map (kept_public bytes) publics) index (kept_public bytes p)
+          (slice_get-map (kept_public bytes) publics index ∙ ap (option_map (kept_public bytes)) there)
+          (omega (arith, found.not_above))
           (λ i q at_q below.
           let r = of_kept bytes publics i q at_q in
           let near : r.0.start ≤ start = nearest_start i r.0 r.1 (omega (arith, ap (λ (x : PublicSymbol). x.start) r.2)) in
           omega (arith, ap (λ (x : PublicSymbol). x.start) r.2))
           (λ i q at_q alike.
           let r = of_kept bytes publics i q at_q in
-          let starts : r.0.start ≡ key.start = ap (λ (x : PublicSymbol). x.start) r.2 ∙ alike ∙ start_is ∙ sym key_start in
-          (is.keys.firsts place key key_is).first i (start_there publics i r.0 r.1 ∙ ap Some starts))
+          let starts : r.0.start ≡ start = ap (λ (x : PublicSymbol). x.start) r.2 ∙ alike ∙ start_is in
+          first_there.first i (start_there publics i r.0 r.1 ∙ ap Some starts))
 
   -- where none is found, all start above the address
   pub none_answers : (bytes : List ℕ) → IsFound table.starts addr None → public_at addr (map (kept_public bytes) publics) ≡ None
@@ -193,9 +185,8 @@ module _ (publics : List KeptPublic) (table : PublicTable) (is : IsPublicTable p
       public_none addr (map (kept_public bytes) publics) (λ i q at_q.
       let r = of_kept bytes publics i q at_q in
       let at = address_of i r.0 r.1 in
-      let starts = map (λ (k : PublicKey). k.start) table.keys.items in
-      let above : addr < slice_index starts at.0 = (subst (λ s. IsFound s addr None) is.starts found) at.0 (slice_get_within starts at.0 r.0.start at.1) in
-      omega (arith, index_at starts at.0 r.0.start at.1, ap (λ (x : PublicSymbol). x.start) r.2))
+      let above : addr < slice_index table.starts at.0 = found at.0 (slice_get_within table.starts at.0 r.0.start at.1) in
+      omega (arith, index_at table.starts at.0 r.0.start at.1, ap (λ (x : PublicSymbol). x.start) r.2))
 
 -- Whether a start lies between.
 
@@ -244,11 +235,7 @@ module _ (from addr : ℕ) (starts : List ℕ) (up : NeverDescends starts) where
     test s = nat_le from s && nat_le s addr
 
     here : slice_get starts place ≡ Some start
-    here = slice_get_at starts place start found.within found.start_is where
-      slice_get_at : (xs : List ℕ) (i x : ℕ) → i < length xs → slice_index xs i ≡ x → slice_get xs i ≡ Some x
-      slice_get_at [] i x within is = absurd (omega arith)
-      slice_get_at (y ∷ xs) zero x within is = ap Some is
-      slice_get_at (y ∷ xs) (suc i) x within is = slice_get_at xs i x (omega arith) is
+    here = start_at_place starts place start found.within found.start_is
 
     by : (b : Bool) → nat_le from start ≡ b → b ≡ list_any (λ s. nat_le from s && nat_le s addr) starts
     by true is =
@@ -292,28 +279,18 @@ table_never start size records table is i j up within =
     let ordered : start x.0 ≤ start y.0 = is.starts_ascend i j x.0 y.0 up x.1 y.1 in
     omega (arith, start_at start size table i x.0 x.1, start_at start size table j y.0 y.1)
 
-keyed_starts : (functions : List KeptFunction) (keys : List FunctionKey) → map (λ (f : KeptFunction). f.start) (map (keyed functions) keys) ≡ map (λ k. k.start) keys
-keyed_starts functions [] = refl
-keyed_starts functions (k ∷ keys) = ap (λ more. k.start ∷ more) (keyed_starts functions keys)
+-- the starts of the keys in order never descend
+pub keys_never : (code : FunctionTable) → AreSortedKeys code.functions.items code.keys.items → NeverDescends (starts_of code)
+keys_never code are = table_never (λ (k : FunctionKey). k.start) (λ k. k.size) (keys_from 0 code.functions.items) code.keys.items are.table
 
-seen_starts : (bytes : List ℕ) (code : FunctionTable) (functions : List KeptFunction) →
-    map (λ (f : Function). f.start) (map (kept_function bytes code.lines.items code.inlinees.items) functions) ≡ map (λ f. f.start) functions
-seen_starts bytes code [] = refl
-seen_starts bytes code (f ∷ functions) = ap (λ more. f.start ∷ more) (seen_starts bytes code functions)
-
-module _ (bytes : List ℕ) (code : FunctionTable) (are : AreSortedKeys code.functions.items code.keys.items) where
-  -- the starts of the keys never descend
-  pub keys_never : NeverDescends (starts_of code)
-  keys_never = subst NeverDescends (keyed_starts code.functions.items code.keys.items)
-      (table_never (λ (f : KeptFunction). f.start) (λ f. f.size) code.functions.items (map (keyed code.functions.items) code.keys.items) are.table)
-
-  -- and one of them lies between where a function starts there
-  pub between_keys : (from addr : ℕ) → any_between from addr (starts_of code) ≡ any_between from addr (map (λ (f : Function). f.start) (kept_functions bytes code))
-  between_keys from addr =
-      let test = λ (s : ℕ). nat_le from s && nat_le s addr in
-      ap (list_any test) (sym (keyed_starts code.functions.items code.keys.items))
-      ∙ any_in_table (λ (f : KeptFunction). f.start) (λ f. f.size) code.functions.items (map (keyed code.functions.items) code.keys.items) are.table test
-      ∙ ap (list_any test) (sym (seen_starts bytes code code.functions.items))
+-- and one of them lies between where a function starts there
+pub between_keys : (bytes : List ℕ) (kept : KeptTable) (table : Table) → StandsFor bytes table kept → (from addr : ℕ) →
+    any_between from addr (starts_of kept.code) ≡ any_between from addr (map (λ (f : Function). f.start) table.functions)
+between_keys bytes kept table stands from addr =
+    let code = kept.code in
+    let test = λ (s : ℕ). nat_le from s && nat_le s addr in
+    any_in_table (λ (k : FunctionKey). k.start) (λ k. k.size) (keys_from 0 code.functions.items) code.keys.items stands.keys.table test
+    ∙ ap (list_any test) (starts_told bytes code table.functions stands.functions)
 
 -- a PUBLIC record answers where no function starts between
 pub by_between : (bytes : List ℕ) (kept : KeptTable) (table : Table) → StandsFor bytes table kept → (addr : ℕ) (public : KeptPublic) →
@@ -321,8 +298,6 @@ pub by_between : (bytes : List ℕ) (kept : KeptTable) (table : Table) → Stand
     cond {A = Answer} between (Unknown reasons.UnknownAddr) (Known (public_symbol_at table (kept_public bytes public) addr)) ≡ by_public table addr (public_at addr table.publics)
 by_between bytes kept table stands addr public found between is =
     let tells : between ≡ any_between public.start addr (map (λ (f : Function). f.start) table.functions)
-    = is
-    ∙ between_keys bytes kept.code stands.keys public.start addr
-    ∙ ap (λ fs. any_between public.start addr (map (λ (f : Function). f.start) fs)) stands.functions in
+    = is ∙ between_keys bytes kept table stands public.start addr in
     ap (λ (b : Bool). cond {A = Answer} b (Unknown reasons.UnknownAddr) (Known (public_symbol_at table (kept_public bytes public) addr))) tells
     ∙ ap (by_public table addr) (found ∙ ap (public_at addr) stands.publics)

@@ -19,7 +19,8 @@ use Rattle.bz_breakpad.specs.Reads.{◌>>=◌, form_at}
 use Rattle.bz_breakpad.specs.Records.{LINE}
 use Rattle.bz_breakpad.specs.Table.{SourceLine}
 use Rattle.bz_breakpad.proofs.LineSearchLemmas.{read_there}
-use Rattle.bz_breakpad.proofs.OrderLemmas.{all_parts, ascending_table}
+use Rattle.bz_breakpad.proofs.KeptLemmas.{all_parts}
+use Rattle.bz_breakpad.proofs.LineKeyLemmas.{ascending_table}
 
 -- Lines.
 

@@ -3,23 +3,28 @@ use Rattle.std.specs.Prelude.{◌≡◌, ◌≤◌, ◌-◌, ℕ, List, [], ◌�
 use Rattle.std.specs.List.{AllByRecursion, filter_map}
 use Rattle.std.specs.Map.{values_of}
 use Rattle.bz_base.specs.Line.{ended_lines}
+use Rattle.bz_base.specs.Nearest.{IsTable}
+use Rattle.bz_base.specs.Starts.{NeverDescends}
+use Rattle.bz_breakpad.specs.Calls.{call_read, call_start}
 use Rattle.bz_breakpad.specs.Choice.{body_at}
 use Rattle.bz_breakpad.specs.Line.{line_front, line_in}
+use Rattle.bz_breakpad.specs.LineKeys.{places_of}
 use Rattle.bz_breakpad.specs.LineRun.{AreLineRecords, IsLineRun, IsOpenRun, lines_in}
+use Rattle.bz_breakpad.specs.LineStarts.{line_size, line_start, line_starts}
 use Rattle.bz_breakpad.specs.Reader.{Reading}
 use Rattle.bz_breakpad.specs.Table.{SourceLine, Inlinee, Function, PublicSymbol, Table}
 use Rattle.bz_breakpad.specs.declared.parser.functions.FunctionsReading.{FunctionsReading}
 use Rattle.bz_breakpad.specs.declared.parser.standing.LinesSoFar.{LinesSoFar}
 use Rattle.bz_breakpad.specs.declared.parser.standing.LinesSoFar.TheVariants as sofar
-use Rattle.bz_breakpad.specs.declared.parser.record.InlineCall.{InlineCall}
-use Rattle.bz_breakpad.specs.declared.parser.record.Range.{Range}
 use Rattle.bz_breakpad.specs.declared.parser.reading.KeptReading.{KeptReading}
 use Rattle.bz_breakpad.specs.declared.parser.standing.StartText.{StartText}
+use Rattle.bz_breakpad.specs.declared.types.CallRange.{CallRange}
 use Rattle.bz_breakpad.specs.declared.types.FunctionTable.{FunctionTable}
 use Rattle.bz_breakpad.specs.declared.types.KeptFunction.{KeptFunction}
 use Rattle.bz_breakpad.specs.declared.types.Inlinee.{Inlinee as KeptInlinee}
 use Rattle.bz_breakpad.specs.declared.types.KeptPublic.{KeptPublic}
 use Rattle.bz_breakpad.specs.declared.types.KeptTable.{KeptTable}
+use Rattle.bz_breakpad.specs.declared.types.LineKey.{LineKey}
 use Rattle.bz_breakpad.specs.declared.types.LineRecords.{LineRecords}
 use Rattle.bz_breakpad.specs.declared.types.LineRecords.TheVariants as records
 use Rattle.bz_breakpad.specs.declared.types.Part.{Part}
@@ -49,16 +54,11 @@ kept_inlinee i = record {
   origin = i.origin_id;
 }
 
--- an inlined call as it is kept
-abbrev pub inlinee_kept : InlineCall → Range → KeptInlinee
-inlinee_kept call r = record {
-  depth = call.depth;
-  addr = r.addr;
-  size = r.size;
-  call_file = call.file;
-  call_line = call.line;
-  origin_id = call.origin;
-}
+-- the inlined call of a range, with what its record says
+abbrev pub kept_call : List ℕ → CallRange → Inlinee
+kept_call bytes c =
+    let call = call_read bytes c.place in
+    record { depth = c.depth; start = call_start c; size = c.size; call_line = call.1.0; call_file = call.1.1.0; origin = call.1.1.1.0 }
 
 -- the line records that begin at these places
 abbrev pub kept_lines : List ℕ → List ℕ → List SourceLine
@@ -68,40 +68,61 @@ kept_lines bytes places = filter_map (λ place. line_in (drop place bytes)) plac
 abbrev pub ReadsLine : List ℕ → ℕ → Type 0
 ReadsLine bytes place = IsSome (line_in (drop place bytes))
 
+-- at each place a line record is read, and their starts never descend
+pub record AreSearchable (bytes places : List ℕ) : Type 0 where
+  pub read : AllByRecursion (ReadsLine bytes) places
+  pub ascend : NeverDescends (line_starts bytes places)
+
+-- the key is that of a line record
+pub record IsLineKey (bytes : List ℕ) (key : LineKey) : Type 0 where
+  pub reads : ReadsLine bytes key.place
+  pub start_is : key.start ≡ line_start bytes key.place
+  pub size_is : key.size ≡ line_size bytes key.place
+
 -- the line records of a function: those of a run in the bytes, or those at a part of the places
 abbrev pub records_of : List ℕ → List ℕ → LineRecords → List SourceLine
 records_of bytes places (records.Run part) = lines_in (text_at bytes part)
 records_of bytes places (records.Listed part) = kept_lines bytes (slice_range places part.from part.to)
 
--- the line records that have been read of a function, where the places end with those of its own
-abbrev pub records_so_far : List ℕ → List ℕ → LinesSoFar → List SourceLine
-records_so_far bytes places sofar.Empty = []
-records_so_far bytes places (sofar.Run part last) = lines_in (text_at bytes part)
-records_so_far bytes places (sofar.Listed from) = kept_lines bytes (drop from places)
+-- the line records that have been read of a function
+abbrev pub records_so_far : List ℕ → List LineKey → LinesSoFar → List SourceLine
+records_so_far bytes keys sofar.Empty = []
+records_so_far bytes keys (sofar.Run part last) = lines_in (text_at bytes part)
+records_so_far bytes keys sofar.Listed = kept_lines bytes (places_of keys)
 
 -- a function with its line records and inlined calls
-abbrev pub function_of : List ℕ → KeptFunction → List SourceLine → List KeptInlinee → Function
+abbrev pub function_of : List ℕ → KeptFunction → List SourceLine → List CallRange → Function
 function_of bytes f lines inlinees = record {
   start = f.start;
   size = f.size;
   parameter_size = f.parameter_size;
   name = text_at bytes f.name;
   lines = lines;
-  inlinees = map kept_inlinee inlinees;
+  inlinees = map (kept_call bytes) inlinees;
 }
 
 -- a function, with its parts of the tables of places and inlined calls
-abbrev pub kept_function : List ℕ → List ℕ → List KeptInlinee → KeptFunction → Function
+abbrev pub kept_function : List ℕ → List ℕ → List CallRange → KeptFunction → Function
 kept_function bytes places inlinees f =
     function_of bytes f (records_of bytes places f.lines) (slice_range inlinees f.inlinees.from f.inlinees.to)
 
 abbrev pub kept_functions : List ℕ → FunctionTable → List Function
 kept_functions bytes t = map (kept_function bytes t.lines.items t.inlinees.items) t.functions.items
 
--- a function whose records are being read: its inlined calls end where the table does
-abbrev pub current_function : List ℕ → FunctionTable → LinesSoFar → KeptFunction → Function
-current_function bytes t lines f =
-    function_of bytes f (records_so_far bytes t.lines.items lines) (drop f.inlinees.from t.inlinees.items)
+-- a function whose records are being read, with the keys of those that are listed, and its inlined calls
+abbrev pub current_function : List ℕ → List LineKey → LinesSoFar → List CallRange → KeptFunction → Function
+current_function bytes keys lines calls f = function_of bytes f (records_so_far bytes keys lines) calls
+
+-- a function as it is kept: its line records stand by start and size, and its inlined calls by depth and start
+pub record IsNested (f kept : Function) : Type 0 where
+  pub same : kept ≡ record f { lines = kept.lines; inlinees = kept.inlinees }
+  pub lines : IsTable (λ l. l.start) (λ l. l.size) f.lines kept.lines
+  pub calls : IsTable (λ i. i.depth) (λ i. i.start) f.inlinees kept.inlinees
+
+abbrev pub AreNested : List Function → List Function → Type 0
+AreNested [] [] = Unit {0}
+AreNested (f ∷ functions) (k ∷ kept) = IsNested f k × AreNested functions kept
+AreNested _ _ = ⊥
 
 -- the names of ids
 abbrev pub kept_names : List ℕ → List (ℕ × Part) → List (ℕ × List ℕ)
@@ -120,6 +141,11 @@ kept_table bytes t = record {
   publics = map (kept_public bytes) t.publics.items;
 }
 
+-- the table as it is kept: the records of each function are in order
+pub record IsNestedTable (table kept : Table) : Type 0 where
+  pub functions : AreNested table.functions kept.functions
+  pub same : kept ≡ record table { functions = kept.functions }
+
 -- the part lies in a table of so many records
 pub record IsPart (count : ℕ) (part : Part) : Type 0 where
   pub ordered : part.from ≤ part.to
@@ -130,61 +156,68 @@ pub record IsRunAt (bytes : List ℕ) (part : Part) : Type 0 where
   pub within : IsPart (length bytes) part
   pub run : IsLineRun (text_at bytes part)
 
--- line records are a run in the bytes, or a part of so many places
-abbrev pub LinesFit : List ℕ → ℕ → LineRecords → Type 0
-LinesFit bytes count (records.Run part) = IsRunAt bytes part
-LinesFit bytes count (records.Listed part) = IsPart count part
+-- the line records at a part of the places stand by start and size
+pub record AreLinesAt (bytes places : List ℕ) (part : Part) : Type 0 where
+  pub within : IsPart (length places) part
+  pub searchable : AreSearchable bytes (slice_range places part.from part.to)
+  pub table : IsTable (λ l. l.start) (λ l. l.size) (kept_lines bytes (slice_range places part.from part.to)) (kept_lines bytes (slice_range places part.from part.to))
+
+-- line records are a run in the bytes, or those at a part of the places
+abbrev pub LinesFit : List ℕ → List ℕ → LineRecords → Type 0
+LinesFit bytes places (records.Run part) = IsRunAt bytes part
+LinesFit bytes places (records.Listed part) = AreLinesAt bytes places part
 
 -- a run that may go on stands at the part of the bytes
 pub record IsOpenRunAt (bytes : List ℕ) (part : Part) (last : StartText) : Type 0 where
   pub within : IsPart (length bytes) part
   pub run : IsOpenRun (text_at bytes part) last
 
--- and those that have been read so far
-abbrev pub LinesFitSoFar : List ℕ → ℕ → LinesSoFar → Type 0
-LinesFitSoFar bytes count sofar.Empty = Unit {0}
-LinesFitSoFar bytes count (sofar.Run part last) = IsOpenRunAt bytes part last
-LinesFitSoFar bytes count (sofar.Listed from) = from ≤ count
+-- and those that have been read so far, with the keys of those that are listed
+abbrev pub LinesFitSoFar : List ℕ → List LineKey → LinesSoFar → Type 0
+LinesFitSoFar bytes keys sofar.Empty = keys ≡ []
+LinesFitSoFar bytes keys (sofar.Run part last) = IsOpenRunAt bytes part last × (keys ≡ [])
+LinesFitSoFar bytes keys sofar.Listed = AllByRecursion (IsLineKey bytes) keys
 
--- one line record more has been read: it goes on the run, or places are listed
-pub record IsLonger (bytes places more_places : List ℕ) (old new : LinesSoFar) (line : SourceLine) : Type 0 where
-  pub listed : List ℕ
-  pub places_are : more_places ≡ places ++ listed
-  pub read : AllByRecursion (ReadsLine bytes) listed
-  pub fits : LinesFitSoFar bytes (length more_places) new
-  pub are : records_so_far bytes more_places new ≡ records_so_far bytes places old ++ line ∷ []
+-- one line record more has been read: it goes on the run, or is listed
+pub record IsLonger (bytes : List ℕ) (keys more_keys : List LineKey) (old new : LinesSoFar) (line : SourceLine) : Type 0 where
+  pub fits : LinesFitSoFar bytes more_keys new
+  pub are : records_so_far bytes more_keys new ≡ records_so_far bytes keys old ++ line ∷ []
 
--- the line records so far are the last of the places, from a place of the table on
-pub record AreListed (bytes places more_places : List ℕ) (old : LinesSoFar) (from : ℕ) : Type 0 where
-  pub listed : List ℕ
-  pub places_are : more_places ≡ places ++ listed
-  pub read : AllByRecursion (ReadsLine bytes) listed
-  pub within : from ≤ length more_places
-  pub are : kept_lines bytes (drop from more_places) ≡ records_so_far bytes places old
+-- the line records so far are listed
+pub record AreListed (bytes : List ℕ) (keys more_keys : List LineKey) (old : LinesSoFar) : Type 0 where
+  pub fits : AllByRecursion (IsLineKey bytes) more_keys
+  pub are : kept_lines bytes (places_of more_keys) ≡ records_so_far bytes keys old
+
+-- the line records of a function that ends are in order
+pub record AreEnded (bytes places : List ℕ) (keys : List LineKey) (old : LinesSoFar) (lines : LineRecords) : Type 0 where
+  pub fit : LinesFit bytes places lines
+  pub table : IsTable (λ l. l.start) (λ l. l.size) (records_so_far bytes keys old) (records_of bytes places lines)
 
 -- the line records of a run are listed, up to a rest of it
-pub record AreListedTo (bytes : List ℕ) (run : Part) (rest places more_places : List ℕ) : Type 0 where
-  pub listed : List ℕ
-  pub places_are : more_places ≡ places ++ listed
-  pub read : AllByRecursion (ReadsLine bytes) listed
+pub record AreListedTo (bytes : List ℕ) (run : Part) (rest : List ℕ) (keys : List LineKey) : Type 0 where
+  pub fits : AllByRecursion (IsLineKey bytes) keys
   pub rest_is : drop (run.to - length rest) bytes ≡ rest ++ drop run.to bytes
   pub records : AreLineRecords rest
   pub ended : IsSome (ended_lines rest)
-  pub are : kept_lines bytes listed ++ lines_in rest ≡ lines_in (text_at bytes run)
+  pub are : kept_lines bytes (places_of keys) ++ lines_in rest ≡ lines_in (text_at bytes run)
 
--- a function's name is a text, its line records fit, and its inlined calls lie in their table
-pub record FunctionFits (bytes : List ℕ) (line_count inlinee_count : ℕ) (f : KeptFunction) : Type 0 where
+-- the inlined calls at a part of their table stand by depth and start
+pub record AreCallsAt (inlinees : List CallRange) (part : Part) : Type 0 where
+  pub within : IsPart (length inlinees) part
+  pub table : IsTable (λ c. c.depth) call_start (slice_range inlinees part.from part.to) (slice_range inlinees part.from part.to)
+
+-- a function's name is a text, and its line records and inlined calls stand in order
+pub record FunctionFits (bytes places : List ℕ) (calls : List CallRange) (f : KeptFunction) : Type 0 where
   pub name : IsTextAt bytes f.name
-  pub lines : LinesFit bytes line_count f.lines
-  pub inlinees : IsPart inlinee_count f.inlinees
+  pub lines : LinesFit bytes places f.lines
+  pub inlinees : AreCallsAt calls f.inlinees
 
 -- the same for a function whose records are being read
-pub record CurrentFits (bytes : List ℕ) (inlinee_count : ℕ) (f : KeptFunction) : Type 0 where
+pub record CurrentFits (bytes : List ℕ) (f : KeptFunction) : Type 0 where
   pub name : IsTextAt bytes f.name
-  pub inlinees : f.inlinees.from ≤ inlinee_count
 
 abbrev pub FunctionsFit : List ℕ → FunctionTable → Type 0
-FunctionsFit bytes t = AllByRecursion (FunctionFits bytes (length t.lines.items) (length t.inlinees.items)) t.functions.items
+FunctionsFit bytes t = AllByRecursion (FunctionFits bytes t.lines.items t.inlinees.items) t.functions.items
 
 abbrev pub NamesFit : List ℕ → List (ℕ × Part) → Type 0
 NamesFit bytes names = AllByRecursion (IsTextAt bytes) (values_of names)
@@ -196,19 +229,17 @@ PublicsFit bytes publics = AllByRecursion (λ p. IsTextAt bytes p.name) publics
 pub record TableFits (bytes : List ℕ) (t : KeptTable) : Type 0 where
   pub module_fits : IfSome t.«module» (IsTextAt bytes)
   pub functions : FunctionsFit bytes t.code
-  pub lines_read : AllByRecursion (ReadsLine bytes) t.code.lines.items
   pub files : NamesFit bytes t.files
   pub origins : NamesFit bytes t.origins
   pub publics : PublicsFit bytes t.publics.items
 
 -- the functions whose records are at their end, and the one whose records are being read
 pub record FunctionsSoFar (bytes : List ℕ) (f : FunctionsReading) (closed : List Function) (current : Option Function) : Type 0 where
-  pub closed_are : kept_functions bytes f.table ≡ closed
-  pub current_is : option_map (current_function bytes f.table f.lines) f.current ≡ current
+  pub closed_are : AreNested closed (kept_functions bytes f.table)
+  pub current_is : option_map (current_function bytes f.listed.items f.lines f.calls.items) f.current ≡ current
   pub closed_fit : FunctionsFit bytes f.table
-  pub lines_read : AllByRecursion (ReadsLine bytes) f.table.lines.items
-  pub current_fits : IfSome f.current (CurrentFits bytes (length f.table.inlinees.items))
-  pub lines_fit : LinesFitSoFar bytes (length f.table.lines.items) f.lines
+  pub current_fits : IfSome f.current (CurrentFits bytes)
+  pub lines_fit : LinesFitSoFar bytes f.listed.items f.lines
 
 -- the part holds the name
 pub record IsNameAt (bytes : List ℕ) (part : Part) (name : List ℕ) : Type 0 where

@@ -1,7 +1,6 @@
 -- What answers lend of a file.
-use Rattle.std.specs.Prelude.{ℕ, List, Option, map, option_map, IfSome}
+use Rattle.std.specs.Prelude.{ℕ, List, map, option_map, IfSome}
 use Rattle.std.specs.List.{AllByRecursion}
-use Rattle.std.specs.Borrow.{Bor}
 use Rattle.bz_base.specs.Answer.{call_of, site_of}
 use Rattle.bz_base.specs.Lent.{IsLentCall, IsLentPlace}
 use Rattle.bz_breakpad.specs.Kept.{kept_function}
@@ -17,10 +16,6 @@ use Rattle.bz_breakpad.specs.declared.types.SourceLine.{SourceLine}
 -- a function of the table
 abbrev pub function_seen : List ℕ → FunctionTable → KeptFunction → Function
 function_seen bytes code f = kept_function bytes code.lines.items code.inlinees.items f
-
--- a function of the table that is lent, if there is one
-abbrev pub lent_function : List ℕ → FunctionTable → Option (Bor KeptFunction) → Option Function
-lent_function bytes code o = option_map (λ f. function_seen bytes code f.now) o
 
 -- a line record as the table has it
 abbrev pub line_seen : SourceLine → tables.SourceLine

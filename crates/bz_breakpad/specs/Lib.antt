@@ -1,10 +1,10 @@
 pub mod Byte
+pub mod Calls
 pub mod Choice
 pub mod Form
 pub mod Found
 pub mod FunctionKeys
 pub mod Grammar
-pub mod InlineLine
 pub mod Kept
 pub mod Lent
 pub mod Line
@@ -12,12 +12,11 @@ pub mod LineKeys
 pub mod LineRun
 pub mod LineStarts
 pub mod Names
-pub mod OnRun
 pub mod Plain
-pub mod PlainFunc
-pub mod PlainLine
 pub mod Printed
 pub mod Publics
+pub mod Quick
+pub mod QuickLine
 pub mod Reader
 pub mod Reads
 pub mod Records

@@ -4,6 +4,7 @@ use Rattle.bz_breakpad.specs.Form.Form.{Many}
 use Rattle.std.specs.Prelude.{◌≡◌, ℕ, List, drop, map, Option, Some, None}
 use Rattle.bz_breakpad.specs.Records.{CALL, FUNC, INLINE, INNER, LINE, PUBLIC, RANGE, TOP}
 use Rattle.bz_breakpad.specs.declared.parser.record.InlineCall.{InlineCall}
+use Rattle.bz_breakpad.specs.Calls.{call_in}
 use Rattle.bz_breakpad.specs.Choice.{One}
 use Rattle.bz_breakpad.specs.Line.{EndsWith, line_in, source_line}
 use Rattle.bz_breakpad.specs.Says.{function_in}
@@ -76,7 +77,7 @@ top_name _ = None
 -- what of a record under a FUNC record is kept as a place stands there in the bytes
 abbrev pub InnerStands : List ℕ → ℕ → List ℕ → InnerLine → Type 0
 InnerStands bytes start body (inners.Code l) = line_in (drop start bytes) ≡ Some (source_line (line_told l))
-InnerStands bytes start body (inners.Inline call) = Unit {0}
+InnerStands bytes start body (inners.Inline call) = call_in (drop start bytes) ≡ Some (call_told call)
 InnerStands bytes start body (inners.Origin id name) = EndsWith body name.now
 
 abbrev pub public_symbol : PublicLine → PublicSymbol

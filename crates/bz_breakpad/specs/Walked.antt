@@ -3,7 +3,7 @@ use Rattle.std.specs.Prelude.{◌≡◌, ◌≤◌, ◌-◌, ℕ, List, ◌∷�
 use Rattle.bz_base.specs.Line.{ended_lines}
 use Rattle.bz_base.specs.declared.error.Error.{Error}
 use Rattle.bz_base.specs.declared.error.Error.TheVariants as errors
-use Rattle.bz_breakpad.specs.Kept.{IsSoFar, TableFits, kept_table}
+use Rattle.bz_breakpad.specs.Kept.{IsNestedTable, IsSoFar, TableFits, kept_table}
 use Rattle.bz_breakpad.specs.Line.{line_front}
 use Rattle.bz_breakpad.specs.Reader.{Reading, lines_read, reading_in, table_read}
 use Rattle.bz_breakpad.specs.Reads.{◌>>=◌}
@@ -59,7 +59,7 @@ pub record HasRead (bytes : List ℕ) (walk : Walk) : Type 0 where
 
 -- the table has what the walk has read, and every part is one of the bytes
 pub record IsFinishedAs (bytes : List ℕ) (table : KeptTable) (reading : Reading) : Type 0 where
-  pub is : kept_table bytes table ≡ table_read reading
+  pub is : IsNestedTable (table_read reading) (kept_table bytes table)
   pub fits : TableFits bytes table
 
 abbrev pub IsFinished : List ℕ → Walk → KeptTable → Type 0

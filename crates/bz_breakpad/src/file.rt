@@ -9,7 +9,7 @@ ghost use Rattle.bz_base.specs.Starts.{AreFew};
 ghost use Rattle.bz_base.specs.declared.error.Error.{Error};
 ghost use Rattle.bz_base.specs.declared.types.FindSymOpts.{FindSymOpts};
 ghost use Rattle.bz_breakpad.specs.Grammar.{Accepted, IsFile};
-ghost use Rattle.bz_breakpad.specs.Kept.{TableFits, kept_table};
+ghost use Rattle.bz_breakpad.specs.Kept.{IsNestedTable, TableFits, kept_table};
 ghost use Rattle.bz_breakpad.specs.Lent.{lent_public};
 ghost use Rattle.bz_breakpad.specs.Names.{name_for};
 ghost use Rattle.bz_breakpad.specs.Plain.{batch, function_at, plain};
@@ -17,22 +17,19 @@ ghost use Rattle.bz_breakpad.specs.Found.{AreRecordsFor, IsRecordFor};
 ghost use Rattle.bz_breakpad.specs.Publics.{AreFewProbes, AreFewSteps};
 ghost use Rattle.bz_breakpad.specs.Reader.{counted_in, table_in, table_read};
 ghost use Rattle.bz_breakpad.specs.Refusal.{IsAnswerRefusal, Refuses};
-ghost use Rattle.bz_breakpad.specs.Search.{IsFunction};
-ghost use Rattle.bz_breakpad.specs.Sorted.{IsKept, IsOrdered, StandsFor, publics_in, starts_of};
+ghost use Rattle.bz_breakpad.specs.Sorted.{IsKept, StandsFor, publics_in, starts_of};
 ghost use Rattle.bz_breakpad.specs.Table.{Table};
 ghost use Rattle.bz_breakpad.specs.Walked.{IsFinished, IsWalked};
 
-use crate::find::{find_records, record_at};
+use crate::find::{find_records, function_index, record_at};
 use crate::found::FoundRecord;
 use crate::function::{Function, text_of};
 use crate::line_run::Cuts;
 use crate::lookups::{FoundAddrs, answer_from};
 use crate::names::name_of;
-use crate::order::in_order;
 use crate::parser;
 use crate::parser::walk::Walk;
 use crate::publics::{PublicTable, public_table};
-use crate::search::function_at;
 use crate::sorting::sorted_keys;
 use crate::types::{KeptTable, PublicSymbol};
 use bz_base::{Addr, Error, FindSymOpts, Result, Starts, Steps, Symbolized, nearest, place_found};
@@ -73,8 +70,7 @@ impl SymbolParser {
     {
         let walk = parser::read(alloc, bytes.as_slice())?;
         let count = walk.count as u64;
-        let read = finished(walk)?;
-        let mut table = ordered(alloc, bytes.as_slice(), read)?;
+        let mut table = finished(walk)?;
         let starts = sorted(alloc, &mut table)?;
         let publics = public_table(alloc, &table.publics)?;
         let file = SymbolFile {
@@ -164,11 +160,12 @@ impl SymbolFile {
         ensures few { (table : Table) → table_in self.now ≡ Some table → AreFew (steps.new - steps.old) (length table.functions) }
     {
         let place = place_found(nearest(&self.starts, addr, steps));
-        let kept = function_at(&self.table.code, place, addr)?;
+        let index = function_index(&self.table, place, addr)?;
         Some(Function {
             bytes: self.bytes.as_slice(),
             code: &self.table.code,
-            kept,
+            kept: &self.table.code.functions[index as usize],
+            index,
         })
     }
 
@@ -294,23 +291,7 @@ fn finished(walk: Walk) -> Result<KeptTable>
     kept.functions.close()?;
     Ok(KeptTable {
         module: kept.module,
-        code: kept.functions.table,
-        files: kept.files,
-        origins: kept.origins,
-        publics: kept.publics,
-    })
-}
-
-/// The records of a file, with those of each function in order.
-fn ordered(alloc: Global, bytes: &[u8], kept: KeptTable) -> Result<KeptTable>
-    requires { TableFits bytes.now kept }
-    ensures ok { IfOk result (IsOrdered bytes.now kept) }
-    ensures memory { IsOkUnless result Error.OutOfMemory }
-{
-    let code = in_order(alloc, bytes, kept.code)?;
-    Ok(KeptTable {
-        module: kept.module,
-        code,
+        code: kept.functions.into_table(),
         files: kept.files,
         origins: kept.origins,
         publics: kept.publics,
@@ -319,7 +300,7 @@ fn ordered(alloc: Global, bytes: &[u8], kept: KeptTable) -> Result<KeptTable>
 
 /// Puts the keys of the functions in order, and gives their starts.
 fn sorted(alloc: Global, kept: &mut KeptTable) -> Result<Starts>
-    ensures ok { IfOk result (λ starts. ((bytes : List ℕ) → TableFits bytes kept.old → AllByRecursion (IsFunction bytes kept.old.code) kept.old.code.functions.items → StandsFor bytes (kept_table bytes kept.old) kept.new)
+    ensures ok { IfOk result (λ starts. ((bytes : List ℕ) (table : Table) → IsNestedTable table (kept_table bytes kept.old) → TableFits bytes kept.old → StandsFor bytes table kept.new)
         × (starts ≡ starts_of kept.new.code)) }
     ensures memory { IsOkUnless result Error.OutOfMemory }
 {

@@ -169,7 +169,7 @@ fn with_publics(
 
 /// The index of the function that answers for the address, from the place that a search among the
 /// functions' starts found.
-fn function_index(kept: &KeptTable, place: Option<usize>, addr: Addr) -> Option<u32>
+pub(crate) fn function_index(kept: &KeptTable, place: Option<usize>, addr: Addr) -> Option<u32>
     requires { IsAt (starts_of kept.now.code) addr place }
     ensures { (bytes : List ℕ) (table : Table) → StandsFor bytes table kept.now → IsFunctionOr table addr result }
 {
@@ -196,11 +196,12 @@ fn public_record(
     let Some(public_place) = public_place else {
         return FoundRecord::Absent;
     };
-    let key = publics.keys[public_place];
-    if starts_between(&kept.code, key.start, place) {
+    let index = publics.indices[public_place];
+    let start = kept.publics[index as usize].start;
+    if starts_between(&kept.code, start, place) {
         FoundRecord::Absent
     } else {
-        FoundRecord::Public(key.index)
+        FoundRecord::Public(index)
     }
 }
 

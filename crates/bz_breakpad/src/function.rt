@@ -4,14 +4,16 @@ ghost use Rattle.std.specs.Prelude.{◌≡◌, List, map, option_map, IfOk, IsOk
 ghost use Rattle.bz_base.specs.Chain.{around, inner};
 ghost use Rattle.bz_base.specs.Nearest.{IsTable};
 ghost use Rattle.bz_base.specs.declared.error.Error.{Error};
-ghost use Rattle.bz_breakpad.specs.Kept.{IsTextAt, kept_inlinee, text_at};
+ghost use Rattle.bz_breakpad.specs.Calls.{call_start};
+ghost use Rattle.bz_breakpad.specs.Kept.{IsTextAt, kept_call, kept_inlinee, text_at};
 ghost use Rattle.bz_breakpad.specs.Lent.{line_seen};
 ghost use Rattle.bz_breakpad.specs.Plain.{calls_around, inlinee_at, line_at};
-ghost use Rattle.bz_breakpad.specs.declared.types.Inlinee.{Inlinee as KeptInlinee};
+ghost use Rattle.bz_breakpad.specs.declared.types.CallRange.{CallRange};
 
+use crate::calls::inlinee_of;
 use crate::line_run::Cuts;
-use crate::places::{calls_around, inlinees_searched, line_of};
-use crate::types::{FunctionTable, Inlinee, KeptFunction, Part, SourceLine};
+use crate::places::{calls_around, inlinees_of, line_of};
+use crate::types::{CallRange, FunctionTable, Inlinee, KeptFunction, Part, SourceLine};
 use bz_base::{Addr, Error, Result, around_in};
 use std::alloc::Global;
 use std::marker::Model;
@@ -23,18 +25,19 @@ pub struct Function<'a> {
     pub(crate) bytes: &'a [u8],
     pub(crate) code: &'a FunctionTable,
     pub(crate) kept: &'a KeptFunction,
+    /// Its index in the file, whose order of calls contracts see.
+    pub(crate) index: u32,
 }
 
 impl<'a> Model for Function<'a> {
-    ghost use Rattle.bz_breakpad.specs.Lent.{function_seen};
-    ghost use Rattle.bz_breakpad.specs.Search.{IsFunction};
+    ghost use Rattle.bz_breakpad.specs.Sorted.{IsKeptFunction, function_in};
     ghost use Rattle.bz_breakpad.specs.Table as tables;
 
     ghost Value = { tables.Function };
 
-    ghost view = { λ f. function_seen f.bytes.now f.code.now f.kept.now };
+    ghost view = { λ f. function_in f.bytes.now f.index };
 
-    ghost invariant = { λ f. IsFunction f.bytes.now f.code.now f.kept.now };
+    ghost invariant = { λ f. IsKeptFunction f.bytes.now f.code.now f.kept.now f.index };
 }
 
 impl<'a> Function<'a> {
@@ -78,7 +81,7 @@ impl<'a> Function<'a> {
     pub fn find_inlinee_at_depth(&self, depth: u32, addr: Addr) -> Option<Inlinee>
         ensures { option_map kept_inlinee result ≡ inlinee_at depth addr self.now.inlinees }
     {
-        inlinee_at(inlinees_searched(self.code, self.kept), depth, addr)
+        inlinee_at(self.bytes, inlinees_of(self.code, self.kept), depth, addr)
     }
 
     /// The inlined calls around an address, which is relative to the module's base, the outermost
@@ -87,30 +90,30 @@ impl<'a> Function<'a> {
         ensures calls { IfOk result (λ calls. map kept_inlinee calls.items ≡ calls_around addr self.now.inlinees) }
         ensures memory { IsOkUnless result Error.OutOfMemory }
     {
-        let lent = calls_around(alloc, self.bytes, self.code, self.kept, addr)?;
-        copies_of(alloc, &lent)
+        let ranges = calls_around(alloc, self.bytes, self.code, self.kept, addr)?;
+        inlinees_at(alloc, self.bytes, &ranges)
     }
 }
 
-/// The inlined call of a depth that has the address inside, of calls in order.
-fn inlinee_at(inlinees: &[Inlinee], depth: u32, addr: Addr) -> Option<Inlinee>
-    ensures { (records : List KeptInlinee) → IsTable (λ i. i.depth) (λ i. i.addr) records inlinees.now →
-        result ≡ around (λ i. i.depth) (λ i. i.addr) (λ i. i.size) addr (inner (λ i. i.depth) (λ i. i.addr) depth addr records) }
+/// The inlined call of a depth that has the address inside, of ranges in order.
+fn inlinee_at(bytes: &[u8], ranges: &[CallRange], depth: u32, addr: Addr) -> Option<Inlinee>
+    ensures { (records : List CallRange) → IsTable (λ c. c.depth) call_start records ranges.now →
+        option_map kept_inlinee result ≡ option_map (kept_call bytes.now) (around (λ c. c.depth) call_start (λ c. c.size) addr (inner (λ c. c.depth) call_start depth addr records)) }
 {
-    match around_in(inlinees, depth, addr) {
-        Some(inlinee) => Some(*inlinee),
+    match around_in(ranges, depth, addr) {
+        Some(range) => Some(inlinee_of(bytes, range)),
         None => None,
     }
 }
 
-/// The inlined calls, without the loan.
-fn copies_of(alloc: Global, lent: &[&Inlinee]) -> Result<Vec<Inlinee>>
-    ensures calls { IfOk result (λ calls. calls.items ≡ map (λ call. call.now) lent.now) }
+/// The inlined calls of ranges, with what their records say.
+fn inlinees_at(alloc: Global, bytes: &[u8], ranges: &[&CallRange]) -> Result<Vec<Inlinee>>
+    ensures calls { IfOk result (λ calls. map kept_inlinee calls.items ≡ map (λ range. kept_call bytes.now range.now) ranges.now) }
     ensures memory { IsOkUnless result Error.OutOfMemory }
 {
-    let mut calls = Vec::with_capacity(alloc, lent.len())?;
-    for call in lent {
-        calls.push(**call)?;
+    let mut calls = Vec::with_capacity(alloc, ranges.len())?;
+    for range in ranges {
+        calls.push(inlinee_of(bytes, range))?;
     }
     Ok(calls)
 }

@@ -1,6 +1,7 @@
 //! Breakpad symbol files: their grammar, the table that one holds, and its answers.
 #![tactic(auto)]
 
+mod calls;
 mod file;
 mod find;
 mod found;
@@ -10,14 +11,11 @@ mod line_run;
 mod lines;
 mod lookups;
 mod names;
-mod order;
 mod parser;
 mod places;
 mod publics;
 mod search;
 mod sorting;
-#[cfg(test)]
-mod tests;
 mod types;
 mod version;
 

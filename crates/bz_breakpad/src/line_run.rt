@@ -10,7 +10,7 @@ ghost use Rattle.bz_breakpad.specs.Lent.{line_seen};
 ghost use Rattle.bz_breakpad.specs.LineRun.{IsCut, IsRunFront, lines_in};
 
 use crate::lines::{line_if_covers, line_len, start_at, start_of};
-use crate::parser::plain::line_feeds;
+use crate::parser::line::line_feeds;
 use crate::types::{Part, SourceLine};
 use bz_base::Addr;
 

@@ -1,26 +1,26 @@
 //! The line records at places in a file's bytes, and the search among them.
 
-ghost use Rattle.std.specs.Prelude.{◌≡◌, ◌<◌, ◌≤◌, ◌==◌, not, true, ℕ, Some, List, drop, length, option_map, unwrap_or, IfSome};
-ghost use Rattle.std.specs.List.{AllByRecursion, prefix_len};
+ghost use Rattle.std.specs.Prelude.{◌≡◌, ◌<◌, ◌≤◌, ◌==◌, not, ℕ, Some, List, drop, length, option_map, unwrap_or, IfSome};
+ghost use Rattle.std.specs.List.{prefix_len};
 ghost use Rattle.bz_base.specs.Byte.{line_feed};
 ghost use Rattle.bz_base.specs.Nearest.{IsTable, if_covers, nearest_covering};
 ghost use Rattle.bz_breakpad.specs.Form.Piece.{Hex};
-ghost use Rattle.bz_breakpad.specs.Kept.{ReadsLine, kept_lines};
+ghost use Rattle.bz_breakpad.specs.Kept.{AreSearchable, ReadsLine, kept_lines};
 ghost use Rattle.bz_breakpad.specs.Lent.{line_seen};
 ghost use Rattle.bz_breakpad.specs.Line.{line_in};
-ghost use Rattle.bz_breakpad.specs.LineStarts.{Ascends, line_read, line_size, line_start, line_starts};
+ghost use Rattle.bz_breakpad.specs.LineKeys.{line_key};
+ghost use Rattle.bz_breakpad.specs.LineStarts.{line_read, line_start, line_starts};
 ghost use Rattle.bz_breakpad.specs.Reads.{piece_at};
-ghost use Rattle.bz_breakpad.specs.Search.{AreSearchable};
 ghost use Rattle.bz_breakpad.specs.Table as tables;
 
 use crate::parser::field::{body, hex};
-use crate::parser::inline::{dec_after, hex_after, hex_from};
-use crate::parser::lanes::{Stops, short_hex};
-use crate::parser::plain::line_feeds;
+use crate::parser::lanes::few_hex;
+use crate::parser::line::{line_ends, line_feeds};
+use crate::parser::quick::Shown;
 use crate::parser::record::code_line;
 use crate::parser::values::hex_front;
-use crate::types::SourceLine;
-use bz_base::{Addr, Probe, Steps, covers, nearest};
+use crate::types::{LineKey, SourceLine};
+use bz_base::{Addr, Probe, Spanned, Steps, covers, nearest};
 use memchr::memchr;
 use std::marker::{Brand, Model};
 use std::sync::ledger::{Blank, Ledger};
@@ -30,7 +30,7 @@ pub(crate) fn line_len(text: &[u8]) -> usize
     ensures value { result ≡ prefix_len (λ b. not (b == line_feed)) text.now }
     ensures within { result ≤ length text.now }
 {
-    match short_len(text) {
+    match quick_len(text) {
         Some(len) => len,
         None => any_len(text),
     }
@@ -38,7 +38,7 @@ pub(crate) fn line_len(text: &[u8]) -> usize
 
 /// The same, if one load shows the line's end.
 #[inline(always)]
-fn short_len(text: &[u8]) -> Option<usize>
+fn quick_len(text: &[u8]) -> Option<usize>
     ensures value { IfSome result (λ len. len ≡ prefix_len (λ b. not (b == line_feed)) text.now) }
     ensures within { IfSome result (λ len. len < length text.now) }
 {
@@ -68,33 +68,25 @@ pub(crate) fn line_at(bytes: &[u8], place: usize) -> Option<SourceLine>
         return None;
     }
     let text = &bytes[place..];
-    match short_line(text) {
+    match quick_line(text) {
         Some(line) => Some(line),
         None => any_line(text),
     }
 }
 
-/// The line record of single spaces and few digits at the front, by one load. None tells nothing.
+/// The line record at the front, the quick way.
 #[inline(always)]
-fn short_line(text: &[u8]) -> Option<SourceLine>
+fn quick_line(text: &[u8]) -> Option<SourceLine>
     ensures { IfSome result (λ line. line_in text.now ≡ Some (line_seen line)) }
 {
-    if text.len() < 72 {
-        return None;
-    }
-    let stops = Stops::at_front(text);
-    let (addr, at) = hex_from(text, stops, 0)?;
-    let (size, at) = hex_after(text, stops, at)?;
-    let (line, at) = dec_after(text, stops, at)?;
-    let (file, at) = dec_after(text, stops, at)?;
-    if text[at as usize] != b'\n' {
-        return None;
-    }
+    let shown = Shown::at_front(text)?;
+    let start = shown.hex_end(0, 8)?;
+    let ends = line_ends(shown, start)?;
     Some(SourceLine {
-        addr: u64::from(addr),
-        size,
-        line,
-        file,
+        addr: u64::from(shown.hex(0, start)),
+        size: shown.hex(start + 1, ends.size),
+        line: shown.dec(ends.size + 1, ends.line),
+        file: shown.dec(ends.line + 1, ends.file),
     })
 }
 
@@ -122,25 +114,25 @@ pub(crate) fn start_at(bytes: &[u8], place: usize) -> u64
 pub(crate) fn start_of(text: &[u8]) -> u64
     ensures { result ≡ unwrap_or (option_map (λ read. read.0) (piece_at (Hex 16) text.now)) 0 }
 {
-    match short_start(text) {
+    match quick_start(text) {
         Some(start) => start,
         None => any_start(text),
     }
 }
 
-/// The number of the one to eight hexadecimal digits at the front, by one load. None tells nothing.
+/// The number of the one to eight hexadecimal digits at the front, the quick way.
 #[inline(always)]
-fn short_start(text: &[u8]) -> Option<u64>
+fn quick_start(text: &[u8]) -> Option<u64>
     ensures { IfSome result (λ start. option_map (λ read. read.0) (piece_at (Hex 16) text.now) ≡ Some start) }
 {
     if text.len() < 16 {
         return None;
     }
-    let digits = short_hex(text)?;
+    let digits = few_hex(text)?;
     Some(u64::from(hex_front(text, digits)))
 }
 
-/// The same, digit by digit.
+/// The same of any text.
 fn any_start(text: &[u8]) -> u64
     ensures { result ≡ unwrap_or (option_map (λ read. read.0) (piece_at (Hex 16) text.now)) 0 }
 {
@@ -150,40 +142,29 @@ fn any_start(text: &[u8]) -> u64
     }
 }
 
-/// Start and size of the line record at a place; zeros where none is.
-pub(crate) fn span_at(bytes: &[u8], place: usize) -> (u64, u32)
-    ensures { result ≡ (line_start bytes.now place, line_size bytes.now place) }
+impl Spanned for LineKey {
+    ghost start = { λ k. k.start };
+
+    ghost size = { λ k. k.size };
+
+    fn start(&self) -> u64 {
+        self.start
+    }
+
+    fn size(&self) -> u64 {
+        u64::from(self.size)
+    }
+}
+
+/// The key of the line record at a place; one of zeros where none is.
+pub(crate) fn line_key(bytes: &[u8], place: usize) -> LineKey
+    ensures { result ≡ line_key bytes.now place }
 {
-    match line_at(bytes, place) {
+    let (start, size) = match line_at(bytes, place) {
         Some(line) => (line.addr, line.size),
         None => (0, 0),
-    }
-}
-
-/// Whether each of the line records at these places starts after the one before it.
-pub(crate) fn starts_ascend(bytes: &[u8], places: &[usize]) -> bool
-    requires { AllByRecursion (ReadsLine bytes.now) places.now }
-    ensures { result ≡ true → Ascends (line_starts bytes.now places.now) }
-{
-    let mut last = None;
-    for place in places {
-        let start = start_at(bytes, *place);
-        if !comes_after(start, last) {
-            return false;
-        }
-        last = Some(start);
-    }
-    true
-}
-
-/// Whether a start lies after the one before it, if there is one.
-fn comes_after(start: u64, last: Option<u64>) -> bool
-    ensures { result ≡ true → (before : ℕ) → last ≡ Some before → before < start }
-{
-    match last {
-        Some(last) => last < start,
-        None => true,
-    }
+    };
+    LineKey { start, size, place }
 }
 
 /// The starts of the line records at places in the bytes.
@@ -196,7 +177,7 @@ struct LineStarts<'a> {
 impl<'a> Model for LineStarts<'a> {
     ghost use Rattle.std.specs.Prelude.{ℕ, List};
     ghost use Rattle.bz_breakpad.specs.LineStarts.{line_starts};
-    ghost use Rattle.bz_breakpad.specs.Search.{AreSearchable};
+    ghost use Rattle.bz_breakpad.specs.Kept.{AreSearchable};
 
     ghost Value = { List ℕ };
 

@@ -1,12 +1,13 @@
 //! Reads a Breakpad text, line by line.
 
 pub(crate) mod field;
-pub(crate) mod func_line;
+pub(crate) mod func;
 pub(crate) mod functions;
 pub(crate) mod inline;
 pub(crate) mod lanes;
+pub(crate) mod line;
 pub(crate) mod on_run;
-pub(crate) mod plain;
+pub(crate) mod quick;
 pub(crate) mod reading;
 pub(crate) mod record;
 pub(crate) mod standing;

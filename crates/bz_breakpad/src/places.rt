@@ -1,25 +1,26 @@
 //! Where an address lies in the source code: the line record that answers for it, and the calls
 //! that were inlined around it.
 
-ghost use Rattle.std.specs.Prelude.{◌≡◌, ◌<◌, ◌∷◌, List, length, map, option_map, Some, IfOk, IfErr, IfSome};
+ghost use Rattle.std.specs.Prelude.{◌≡◌, ◌<◌, ◌∷◌, List, length, map, option_map, slice_range, Some, IfOk, IfErr, IfSome};
 ghost use Rattle.std.specs.Cow.{cow_str_bytes};
 ghost use Rattle.bz_base.specs.Answer.{Call, Gives, call_of, site_of};
 ghost use Rattle.bz_base.specs.Lent.{IsLentCall, IsLentPlace, IsLentText};
 ghost use Rattle.bz_base.specs.Refusals.{WantsMemory};
 ghost use Rattle.bz_base.specs.declared.types.FindSymOpts.{FindSymOpts};
-ghost use Rattle.bz_breakpad.specs.Kept.{IsPart, NamesFit, kept_inlinee};
+ghost use Rattle.bz_breakpad.specs.Kept.{AreCallsAt, NamesFit, kept_call};
 ghost use Rattle.bz_breakpad.specs.Lent.{IsLentPlaced, function_seen, line_seen, placed_seen};
 ghost use Rattle.bz_breakpad.specs.Plain.{by_seen, calls_asked, calls_around, line_at, nowhere, placed_at, seen_from, seen_outside, site_in};
 ghost use Rattle.bz_breakpad.specs.Refusal.{IsAnswerRefusal};
-ghost use Rattle.bz_breakpad.specs.Search.{AreInlineesSearched, IsFunction, searched};
+ghost use Rattle.bz_breakpad.specs.Search.{IsFunction};
 ghost use Rattle.bz_breakpad.specs.Sorted.{StandsFor};
 ghost use Rattle.bz_breakpad.specs.Table as tables;
 ghost use Rattle.bz_breakpad.specs.Table.{Table};
 
+use crate::calls::call_at;
 use crate::line_run::{Cuts, line_in_run};
 use crate::lines::line_covering;
 use crate::names::name_of;
-use crate::types::{FunctionTable, Inlinee, KeptFunction, KeptTable, LineRecords, SourceLine};
+use crate::types::{CallRange, FunctionTable, KeptFunction, KeptTable, LineRecords, SourceLine};
 use bz_base::{Addr, CodeInfo, Error, FindSymOpts, InlinedFn, Result, chain_in, split_source};
 use std::alloc::{AllocError, Global};
 use std::borrow::CowStr;
@@ -110,10 +111,7 @@ pub(crate) fn line_of(
     match function.lines {
         LineRecords::Run(part) => line_in_run(bytes, &part, hints, addr),
         LineRecords::Listed(part) => {
-            let places = match function.line_order {
-                Some(order) => &code.line_copies[order.from as usize..order.to as usize],
-                None => &code.lines[part.from as usize..part.to as usize],
-            };
+            let places = &code.lines[part.from as usize..part.to as usize];
             line_covering(bytes, places, addr)
         }
     }
@@ -127,9 +125,9 @@ fn calls_asked<'f>(
     opts: &FindSymOpts,
     function: &KeptFunction,
     addr: Addr,
-) -> std::result::Result<Vec<&'f Inlinee>, AllocError>
+) -> std::result::Result<Vec<&'f CallRange>, AllocError>
     requires { IsFunction bytes.now code.now function.now }
-    ensures calls { IfOk result (λ calls. map (λ call. kept_inlinee call.now) calls.items ≡ calls_asked opts.now addr (function_seen bytes.now code.now function.now).inlinees) }
+    ensures calls { IfOk result (λ calls. map (λ call. kept_call bytes.now call.now) calls.items ≡ calls_asked opts.now addr (function_seen bytes.now code.now function.now).inlinees) }
     ensures asked { IfOk result (λ calls. 0 < length calls.items → opts.now ≡ FindSymOpts.CodeInfoAndInlined) }
     ensures memory { IfErr result (λ _. opts.now ≡ FindSymOpts.CodeInfoAndInlined) }
 {
@@ -146,29 +144,20 @@ pub(crate) fn calls_around<'f>(
     code: &'f FunctionTable,
     function: &KeptFunction,
     addr: Addr,
-) -> std::result::Result<Vec<&'f Inlinee>, AllocError>
+) -> std::result::Result<Vec<&'f CallRange>, AllocError>
     requires { IsFunction bytes.now code.now function.now }
-    ensures { IfOk result (λ calls. map (λ call. kept_inlinee call.now) calls.items ≡ calls_around addr (function_seen bytes.now code.now function.now).inlinees) }
+    ensures { IfOk result (λ calls. map (λ call. kept_call bytes.now call.now) calls.items ≡ calls_around addr (function_seen bytes.now code.now function.now).inlinees) }
 {
-    chain_in(alloc, inlinees_searched(code, function), addr)
+    chain_in(alloc, inlinees_of(code, function), addr)
 }
 
-/// The inlined calls of a function, in the order in which they are searched.
-pub(crate) fn inlinees_searched<'f>(
-    code: &'f FunctionTable,
-    function: &KeptFunction,
-) -> &'f [Inlinee]
-    requires part { IsPart (length code.now.inlinees.items) function.now.inlinees }
-    requires searched { AreInlineesSearched code.now.inlinees.items code.now.inlinee_copies.items function.now.inlinees function.now.inlinee_order }
-    ensures { result.now ≡ searched code.now.inlinees.items function.now.inlinees code.now.inlinee_copies.items function.now.inlinee_order }
+/// The inlined calls of a function, by depth and start.
+pub(crate) fn inlinees_of<'f>(code: &'f FunctionTable, function: &KeptFunction) -> &'f [CallRange]
+    requires { AreCallsAt code.now.inlinees.items function.now.inlinees }
+    ensures { result.now ≡ slice_range code.now.inlinees.items function.now.inlinees.from function.now.inlinees.to }
 {
-    match function.inlinee_order {
-        Some(order) => &code.inlinee_copies[order.from as usize..order.to as usize],
-        None => {
-            let part = function.inlinees;
-            &code.inlinees[part.from as usize..part.to as usize]
-        }
-    }
+    let part = function.inlinees;
+    &code.inlinees[part.from as usize..part.to as usize]
 }
 
 /// A line of the file of an id; none if the id or its name's file isn't known.
@@ -202,14 +191,14 @@ fn seen_outside_all<'f>(
     alloc: Global,
     bytes: &'f [u8],
     kept: &'f KeptTable,
-    calls: &[&Inlinee],
+    calls: &[&CallRange],
     inner: CodeInfo<'f>,
 ) -> Result<Placed<'f>>
     requires files { NamesFit bytes.now kept.now.files }
     requires origins { NamesFit bytes.now kept.now.origins }
     requires lent { IsLentPlace inner }
     ensures placed { (table : Table) (line : tables.SourceLine) → StandsFor bytes.now table kept.now → Some (site_of inner.entry) ≡ site_in table line.file line.line →
-        Gives placed_seen (by_seen (seen_from table (map (λ call. kept_inlinee call.now) calls.now) line)) result }
+        Gives placed_seen (by_seen (seen_from table (map (λ call. kept_call bytes.now call.now) calls.now) line)) result }
     ensures lent { IfOk result IsLentPlaced }
     ensures refusal { IfErr result IsAnswerRefusal }
     ensures memory { IfErr result (WantsMemory (0 < length calls.now)) }
@@ -238,19 +227,20 @@ fn seen_outside_all<'f>(
 fn seen_outside<'f>(
     bytes: &'f [u8],
     kept: &'f KeptTable,
-    call: &Inlinee,
+    range: &CallRange,
     inner: CodeInfo<'f>,
 ) -> Option<(InlinedFn<'f>, CodeInfo<'f>)>
     requires files { NamesFit bytes.now kept.now.files }
     requires origins { NamesFit bytes.now kept.now.origins }
     requires lent { IsLentPlace inner }
     ensures seen { (table : Table) (calls : List Call) → StandsFor bytes.now table kept.now →
-        option_map (λ seen. (site_of seen.1, call_of seen.0 ∷ calls)) result ≡ seen_outside table (kept_inlinee call.now) (site_of inner.entry, calls) }
+        option_map (λ seen. (site_of seen.1, call_of seen.0 ∷ calls)) result ≡ seen_outside table (kept_call bytes.now range.now) (site_of inner.entry, calls) }
     ensures lent_call { IfSome result (λ seen. IsLentCall seen.0) }
     ensures lent_place { IfSome result (λ seen. IsLentPlace seen.1) }
 {
-    let name = name_of(bytes, &kept.origins, call.origin_id)?;
-    let outer = site_in(bytes, kept, call.call_file, call.call_line)?;
+    let record = call_at(bytes, range.place as usize);
+    let name = name_of(bytes, &kept.origins, record.origin)?;
+    let outer = site_in(bytes, kept, record.file, record.line)?;
     let call = InlinedFn {
         name: CowStr::Borrowed(name),
         code_info: Some(inner),

@@ -1,8 +1,8 @@
 //! Puts the keys of a file's functions in the order of start and size.
 
-ghost use Rattle.std.specs.Prelude.{map, IfOk};
+ghost use Rattle.std.specs.Prelude.{◌≡◌, map, IfOk};
 ghost use Rattle.bz_base.specs.Starts.{NeverDescends};
-ghost use Rattle.bz_breakpad.specs.FunctionKeys.{AreKeys, AreSortedKeys};
+ghost use Rattle.bz_breakpad.specs.FunctionKeys.{AreSortedKeys, keys_from};
 
 use crate::types::{FunctionKey, KeptFunction};
 use bz_base::sort_table;
@@ -25,7 +25,7 @@ pub(crate) fn sorted_keys(
 /// The keys of the functions, in their order. Want of memory also where there are so many functions
 /// that an index can't be kept in four bytes.
 fn keys_of(alloc: Global, functions: &[KeptFunction]) -> Result<Vec<FunctionKey>, AllocError>
-    ensures { IfOk result (λ keys. AreKeys functions.now keys.items) }
+    ensures { IfOk result (λ keys. keys.items ≡ keys_from 0 functions.now) }
 {
     if functions.len() > u32::MAX as usize {
         return Err(AllocError);

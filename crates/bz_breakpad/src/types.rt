@@ -58,11 +58,6 @@ pub(crate) struct KeptFunction {
     pub lines: LineRecords,
     /// Its inlined calls, in the table of all of them.
     pub inlinees: Part,
-    /// The places of its line records in order, in the table of copies, if they are listed and
-    /// don't stand in order in the file.
-    pub line_order: Option<Part>,
-    /// Its inlined calls in order, in the table of copies, if they don't stand in order in the file.
-    pub inlinee_order: Option<Part>,
 }
 
 /// By what a function is found, and where it stands.
@@ -74,6 +69,35 @@ pub(crate) struct FunctionKey {
     pub size: u32,
     /// Its index in the list of functions.
     pub index: u32,
+}
+
+/// By what a line record is put in order, and where it begins in the file's bytes. It is read once, and
+/// not at each comparison.
+#[derive(Clone, Copy)]
+pub(crate) struct LineKey {
+    /// Where its code starts, relative to the module's base.
+    pub start: u64,
+    /// The size of its code, in bytes.
+    pub size: u32,
+    /// Where it begins.
+    pub place: usize,
+}
+
+/// A range of an INLINE record: by what its call is found, and where the record stands, which says the
+/// rest. There are more of these than of anything else that is kept, so the start is cut in halves:
+/// whole it would take four bytes more, for its alignment.
+#[derive(Clone, Copy)]
+pub(crate) struct CallRange {
+    /// The upper half of where its code starts, relative to the module's base.
+    pub high: u32,
+    /// The lower half.
+    pub low: u32,
+    /// The size of its code, in bytes.
+    pub size: u32,
+    /// How many inlined calls it lies inside.
+    pub depth: u32,
+    /// Where the record begins in the file's bytes.
+    pub place: u32,
 }
 
 /// A PUBLIC record.
@@ -94,14 +118,11 @@ pub(crate) struct FunctionTable {
     pub functions: Vec<KeptFunction>,
     /// Their keys by start and size, once all are read.
     pub keys: Vec<FunctionKey>,
-    /// Where the line records begin in the file's bytes that are listed, in the order of the file.
+    /// Where the line records begin in the file's bytes that are listed: those of each function by
+    /// start and size.
     pub lines: Vec<usize>,
-    /// The ranges of the INLINE records, in the order of the file.
-    pub inlinees: Vec<Inlinee>,
-    /// Such places by start and size, of the functions whose own don't stand so.
-    pub line_copies: Vec<usize>,
-    /// Ranges by depth and start, of the functions whose own don't stand so.
-    pub inlinee_copies: Vec<Inlinee>,
+    /// The ranges of the INLINE records: those of each function by depth and start.
+    pub inlinees: Vec<CallRange>,
 }
 
 /// The records of a file.

@@ -1,21 +1,25 @@
 //! The FUNC records that have been read, with what stands under them.
 
 ghost use Rattle.std.specs.Prelude.{◌≡◌, ◌+◌, ◌≤◌, ◌∷◌, ◌++◌, [], ℕ, List, Option, None, Some, length, drop, map, option_map, IfOk, OnOk};
-ghost use Rattle.bz_breakpad.specs.Kept.{AreListed, AreListedTo, FunctionsSoFar, IsLonger, IsNameAt, IsOpenRunAt, LinesFitSoFar, inlinee_kept};
+ghost use Rattle.bz_breakpad.specs.Calls.{call_in, range_kept};
+ghost use Rattle.bz_breakpad.specs.Kept.{AreEnded, AreListed, AreListedTo, FunctionsSoFar, IsLonger, IsNameAt, IsOpenRunAt, LinesFitSoFar};
 ghost use Rattle.bz_breakpad.specs.Line.{line_in, source_line};
-ghost use Rattle.bz_breakpad.specs.PlainLine.{IsPlainLine};
+ghost use Rattle.bz_breakpad.specs.LineKeys.{places_of};
+ghost use Rattle.bz_breakpad.specs.QuickLine.{IsQuickLine};
 ghost use Rattle.bz_breakpad.specs.Reader.{listed};
 ghost use Rattle.bz_breakpad.specs.Says.{with_own};
 ghost use Rattle.bz_breakpad.specs.Says.Sub.{Inline, Line};
 ghost use Rattle.bz_breakpad.specs.Table.{Function, SourceLine};
-ghost use Rattle.bz_breakpad.specs.Told.{function_told, inlinees_told};
+ghost use Rattle.bz_breakpad.specs.Told.{call_told, function_told, inlinees_told};
+ghost use Rattle.bz_breakpad.specs.declared.parser.standing.LinesSoFar.{LinesSoFar};
 ghost use Rattle.bz_breakpad.specs.declared.parser.standing.StartText.{StartText};
 
-use crate::parser::plain::PlainLine;
+use crate::lines::line_key;
+use crate::parser::line::QuickLine;
 use crate::parser::record::{FuncLine, InlineCall, Range};
 use crate::parser::standing::LinesSoFar;
-use crate::types::{FunctionTable, Inlinee, KeptFunction, LineRecords, Part};
-use bz_base::next_line;
+use crate::types::{CallRange, FunctionTable, KeptFunction, LineKey, LineRecords, Part};
+use bz_base::{next_line, sort_nested, sort_table};
 use std::alloc::{AllocError, Global};
 
 /// The functions that have been read, up to the end of a line.
@@ -23,11 +27,14 @@ use std::alloc::{AllocError, Global};
 pub(crate) struct FunctionsReading {
     /// Those whose records are at their end.
     pub table: FunctionTable,
-    /// The one whose records are being read, without its line records. Its inlined calls end where
-    /// the table does.
+    /// The one whose records are being read, without its line records and inlined calls.
     pub current: Option<KeptFunction>,
     /// Its line records.
     pub lines: LinesSoFar,
+    /// The keys of those that are listed, in the order of the file.
+    pub listed: Vec<LineKey>,
+    /// Its inlined calls.
+    pub calls: Vec<CallRange>,
 }
 
 impl FunctionsReading {
@@ -41,12 +48,19 @@ impl FunctionsReading {
                 keys: Vec::new(alloc),
                 lines: Vec::new(alloc),
                 inlinees: Vec::new(alloc),
-                line_copies: Vec::new(alloc),
-                inlinee_copies: Vec::new(alloc),
             },
             current: None,
             lines: LinesSoFar::Empty,
+            listed: Vec::new(alloc),
+            calls: Vec::new(alloc),
         }
+    }
+
+    /// Those whose records are at their end.
+    pub(crate) fn into_table(self) -> FunctionTable
+        ensures { result ≡ self.table }
+    {
+        self.table
     }
 
     /// Ends the function whose records are being read.
@@ -55,8 +69,10 @@ impl FunctionsReading {
             FunctionsSoFar bytes self.old closed current → FunctionsSoFar bytes self.new (closed ++ listed current) None) }
     {
         if let Some(mut function) = self.current {
-            let from = function.inlinees.from as usize;
-            let lines = self.lines.records(self.table.lines.len())?;
+            let from = self.table.inlinees.len();
+            let lines = ended_lines(self.lines, &mut self.listed, &mut self.table.lines)?;
+            sort_nested(&mut self.calls)?;
+            self.table.inlinees.extend_from_slice(&self.calls)?;
             let inlinees = Part::new(from, self.table.inlinees.len())?;
             function.lines = lines;
             function.inlinees = inlinees;
@@ -71,32 +87,30 @@ impl FunctionsReading {
         ensures { OnOk result ((bytes : List ℕ) (closed : List Function) → IsNameAt bytes name func.now.name.now → FunctionsSoFar bytes self.old closed None →
             FunctionsSoFar bytes self.new closed (Some (function_told func.now))) }
     {
-        let end = self.table.inlinees.len();
-        let inlinees = Part::new(end, end)?;
         self.current = Some(KeptFunction {
             start: func.start,
             size: func.size,
             parameter_size: func.parameter_size,
             name,
             lines: LineRecords::Run(Part { from: 0, to: 0 }),
-            inlinees,
-            line_order: None,
-            inlinee_order: None,
+            inlinees: Part { from: 0, to: 0 },
         });
         self.lines = LinesSoFar::Empty;
+        self.listed.clear();
+        self.calls.clear();
         Ok(())
     }
 
-    /// Keeps the line record at a place in the bytes, in its common form.
+    /// Keeps the line record at a place in the bytes, if it is read quickly.
     #[inline(always)]
     pub(crate) fn line(
         &mut self,
         bytes: &[u8],
         place: usize,
-        line: PlainLine,
+        line: QuickLine,
     ) -> Result<(), AllocError>
         requires { place + line.len ≤ length bytes.now }
-        ensures { OnOk result ((closed : List Function) (current : Option Function) (rest : List ℕ) (is : IsPlainLine rest line) →
+        ensures { OnOk result ((closed : List Function) (current : Option Function) (rest : List ℕ) (is : IsQuickLine rest line) →
             drop place bytes.now ≡ rest → FunctionsSoFar bytes.now self.old closed current →
             FunctionsSoFar bytes.now self.new closed (option_map (λ f. with_own f (Line (source_line is.value) ∷ [])) current)) }
     {
@@ -108,60 +122,97 @@ impl FunctionsReading {
         Ok(())
     }
 
-    /// Keeps the line record at a place in the bytes, in the table of places.
+    /// Keeps the line record at a place in the bytes, in the list.
     #[inline(never)]
     pub(crate) fn list(&mut self, bytes: &[u8], place: usize) -> Result<(), AllocError>
         ensures { OnOk result ((closed : List Function) (current : Option Function) (line : SourceLine) → line_in (drop place bytes.now) ≡ Some line →
             FunctionsSoFar bytes.now self.old closed current →
             FunctionsSoFar bytes.now self.new closed (option_map (λ f. with_own f (Line line ∷ [])) current)) }
     {
-        self.lines = listed_with(self.lines, &mut self.table.lines, bytes, place)?;
+        list_with(self.lines, &mut self.listed, bytes, place)?;
+        self.lines = LinesSoFar::Listed;
         Ok(())
     }
 
-    /// Keeps an inlined call for each of the ranges.
-    pub(crate) fn inline(&mut self, call: &InlineCall, ranges: &[Range]) -> Result<(), AllocError>
-        ensures { OnOk result ((bytes : List ℕ) (closed : List Function) (current : Option Function) → FunctionsSoFar bytes self.old closed current →
+    /// Keeps an inlined call for each of the ranges of the INLINE record at a place in the bytes.
+    pub(crate) fn inline(
+        &mut self,
+        call: &InlineCall,
+        ranges: &[Range],
+        place: usize,
+    ) -> Result<(), AllocError>
+        ensures { OnOk result ((bytes : List ℕ) (closed : List Function) (current : Option Function) → call_in (drop place bytes) ≡ Some (call_told call.now) →
+            FunctionsSoFar bytes self.old closed current →
             FunctionsSoFar bytes self.new closed (option_map (λ f. with_own f (Inline (inlinees_told call.now ranges.now) ∷ [])) current)) }
     {
-        keep_inlinees(&mut self.table.inlinees, call, ranges)?;
+        keep_ranges(&mut self.calls, call.depth, ranges, place)?;
         Ok(())
     }
 }
 
-/// The line records so far and the one at a place, in the table of places.
-fn listed_with(
+/// The line records of a function that ends. Those that are listed stand in the table of places then,
+/// by start and size.
+fn ended_lines(
     lines: LinesSoFar,
+    keys: &mut Vec<LineKey>,
     places: &mut Vec<usize>,
-    bytes: &[u8],
-    place: usize,
-) -> Result<LinesSoFar, AllocError>
-    ensures { IfOk result (λ new. (line : SourceLine) → line_in (drop place bytes.now) ≡ Some line → LinesFitSoFar bytes.now (length places.old.items) lines →
-        IsLonger bytes.now places.old.items places.new.items lines new line) }
+) -> Result<LineRecords, AllocError>
+    ensures more { OnOk result ((more : List ℕ) × (places.new.items ≡ places.old.items ++ more)) }
+    ensures fit { OnOk result ((bytes : List ℕ) → LinesFitSoFar bytes keys.old.items lines → LinesFitSoFar bytes keys.new.items lines) }
+    ensures ended { IfOk result (λ records. (bytes : List ℕ) → LinesFitSoFar bytes keys.old.items lines →
+        AreEnded bytes places.new.items keys.old.items lines records) }
 {
-    let from = listed(lines, places, bytes)?;
-    places.push(place)?;
-    Ok(LinesSoFar::Listed(from))
-}
-
-/// Lists the line records so far, if they aren't, and tells from where on.
-fn listed(lines: LinesSoFar, places: &mut Vec<usize>, bytes: &[u8]) -> Result<usize, AllocError>
-    ensures { IfOk result (λ from. LinesFitSoFar bytes.now (length places.old.items) lines → AreListed bytes.now places.old.items places.new.items lines from) }
-{
-    let end = places.len();
     match lines {
-        LinesSoFar::Empty => Ok(end),
-        LinesSoFar::Run(run, _) => {
-            list_run(places, bytes, run)?;
-            Ok(end)
+        LinesSoFar::Empty => Ok(LineRecords::Run(Part { from: 0, to: 0 })),
+        LinesSoFar::Run(run, _) => Ok(LineRecords::Run(run)),
+        LinesSoFar::Listed => {
+            sort_table(keys)?;
+            let from = places.len();
+            keep_places(places, keys)?;
+            Ok(LineRecords::Listed(Part::new(from, places.len())?))
         }
-        LinesSoFar::Listed(from) => Ok(from),
     }
 }
 
-/// Lists the places of a run's line records.
-fn list_run(places: &mut Vec<usize>, bytes: &[u8], run: Part) -> Result<(), AllocError>
-    ensures { OnOk result ((last : StartText) → IsOpenRunAt bytes.now run last → AreListedTo bytes.now run [] places.old.items places.new.items) }
+/// Adds the places of the keys' line records.
+fn keep_places(places: &mut Vec<usize>, keys: &[LineKey]) -> Result<(), AllocError>
+    ensures { OnOk result (places.new.items ≡ places.old.items ++ places_of keys.now) }
+{
+    for key in keys {
+        places.push(key.place)?;
+    }
+    Ok(())
+}
+
+/// Lists the line records so far and the one at a place.
+fn list_with(
+    lines: LinesSoFar,
+    keys: &mut Vec<LineKey>,
+    bytes: &[u8],
+    place: usize,
+) -> Result<(), AllocError>
+    ensures { OnOk result ((line : SourceLine) → line_in (drop place bytes.now) ≡ Some line → LinesFitSoFar bytes.now keys.old.items lines →
+        IsLonger bytes.now keys.old.items keys.new.items lines LinesSoFar.Listed line) }
+{
+    list_all(lines, keys, bytes)?;
+    keys.push(line_key(bytes, place))?;
+    Ok(())
+}
+
+/// Lists the line records so far, if they aren't.
+fn list_all(lines: LinesSoFar, keys: &mut Vec<LineKey>, bytes: &[u8]) -> Result<(), AllocError>
+    ensures { OnOk result (LinesFitSoFar bytes.now keys.old.items lines → AreListed bytes.now keys.old.items keys.new.items lines) }
+{
+    match lines {
+        LinesSoFar::Empty => Ok(()),
+        LinesSoFar::Run(run, _) => list_run(keys, bytes, run),
+        LinesSoFar::Listed => Ok(()),
+    }
+}
+
+/// Lists a run's line records.
+fn list_run(keys: &mut Vec<LineKey>, bytes: &[u8], run: Part) -> Result<(), AllocError>
+    ensures { OnOk result ((last : StartText) → IsOpenRunAt bytes.now run last → keys.old.items ≡ [] → AreListedTo bytes.now run [] keys.new.items) }
 {
     // Never so: the run lies in the bytes.
     if run.from > run.to || run.to as usize > bytes.len() {
@@ -169,41 +220,40 @@ fn list_run(places: &mut Vec<usize>, bytes: &[u8], run: Part) -> Result<(), Allo
     }
     let mut rest = &bytes[run.from as usize..run.to as usize];
     while let Some((_line, after)) = next_line(rest) {
-        places.push(run.to as usize - rest.len())?;
+        keys.push(line_key(bytes, run.to as usize - rest.len()))?;
         rest = after;
     }
     Ok(())
 }
 
-/// Keeps an inlined call for each of the ranges.
-fn keep_inlinees(
-    inlinees: &mut Vec<Inlinee>,
-    call: &InlineCall,
+/// Keeps an inlined call for each of the ranges of the INLINE record at a place. Places past 4 GiB
+/// can't be kept.
+fn keep_ranges(
+    calls: &mut Vec<CallRange>,
+    depth: u32,
     ranges: &[Range],
+    place: usize,
 ) -> Result<(), AllocError>
-    ensures { OnOk result (inlinees.new.items ≡ inlinees.old.items ++ map (inlinee_kept call.now) ranges.now) }
+    ensures { OnOk result (calls.new.items ≡ calls.old.items ++ map (range_kept depth place) ranges.now) }
 {
+    if place > u32::MAX as usize {
+        return Err(AllocError);
+    }
     for range in ranges {
-        keep_inlinee(inlinees, call, range)?;
+        calls.push(call_range(depth, range, place as u32))?;
     }
     Ok(())
 }
 
-/// Keeps the inlined call of a range.
-fn keep_inlinee(
-    inlinees: &mut Vec<Inlinee>,
-    call: &InlineCall,
-    range: &Range,
-) -> Result<(), AllocError>
-    ensures { OnOk result (inlinees.new.items ≡ inlinees.old.items ++ inlinee_kept call.now range.now ∷ []) }
+/// What is kept of a range of the INLINE record at a place.
+fn call_range(depth: u32, range: &Range, place: u32) -> CallRange
+    ensures { result ≡ range_kept depth place range.now }
 {
-    inlinees.push(Inlinee {
-        depth: call.depth,
-        addr: range.addr,
+    CallRange {
+        high: (range.addr / 4_294_967_296) as u32,
+        low: (range.addr % 4_294_967_296) as u32,
         size: range.size,
-        call_file: call.file,
-        call_line: call.line,
-        origin_id: call.origin,
-    })?;
-    Ok(())
+        depth,
+        place,
+    }
 }

@@ -1,124 +1,122 @@
-//! INLINE records in their common form, by one load.
+//! INLINE records, the quick way.
 
-ghost use Rattle.std.specs.Prelude.{◌≡◌, ◌<◌, ◌≤◌, ◌+◌, ℕ, Some, length, drop, IfSome};
-ghost use Rattle.bz_breakpad.specs.Form.Piece.{Dec, Hex, Sep};
-ghost use Rattle.bz_breakpad.specs.InlineLine.{IsInlineLine};
-ghost use Rattle.bz_breakpad.specs.Reads.{piece_at};
+ghost use Rattle.std.specs.Prelude.{◌≡◌, ◌<◌, ◌∷◌, Some, length, IfSome, IfOk};
+ghost use Rattle.bz_base.specs.Byte.{line_feed};
+ghost use Rattle.bz_breakpad.specs.Quick.{AreInTurn, IsQuick};
+ghost use Rattle.bz_breakpad.specs.Reads.{reads};
+ghost use Rattle.bz_breakpad.specs.Records.{CALL, RANGE};
 ghost use Rattle.bz_breakpad.specs.Stops.{AreStops};
+ghost use Rattle.bz_breakpad.specs.Told.{call_told, inner_told, range_told, ranges_told};
+ghost use Rattle.bz_breakpad.specs.Walk.Context.{InFunc};
+ghost use Rattle.bz_breakpad.specs.Walk.Record.{OfFunc};
+ghost use Rattle.bz_breakpad.specs.declared.parser.record.InnerLine.TheVariants as inners;
 
 use crate::parser::field::tag;
-use crate::parser::lanes::Stops;
+use crate::parser::quick::Shown;
 use crate::parser::record::{InlineCall, Range};
-use crate::parser::values::{dec_front, hex_front};
+use std::alloc::AllocError;
 
-/// An INLINE record of one range, at the front of a text.
-#[derive(Drop)]
-pub(crate) struct InlineLine<'a> {
-    /// The call.
-    pub call: InlineCall,
-    /// The range of its code.
-    pub range: Range,
-    /// The text after the record's line.
-    pub rest: &'a [u8],
-}
-
-/// The number of the one to eight decimal digits from a place on, and where they end, if a shown byte
-/// ends them.
+/// The call of the INLINE record at the front, and what comes after it.
 #[inline(always)]
-pub(crate) fn dec_from(text: &[u8], stops: Stops, from: u32) -> Option<(u32, u32)>
-    requires stops { AreStops text.now stops }
-    requires room { 72 ≤ length text.now }
-    requires within { from < 64 }
-    ensures reads { IfSome result (λ read. piece_at Dec (drop from text.now) ≡ Some (read.0, drop read.1 text.now)) }
-    ensures end { IfSome result (λ read. (from < read.1) × (read.1 ≤ from + 8) × (read.1 < length text.now)) }
-{
-    let end = stops.dec_end(text, from, 8)?;
-    let value = dec_front(&text[from as usize..], end - from);
-    Some((value, end))
-}
-
-/// The number of the one to eight hexadecimal digits from a place on, and where they end, if a shown
-/// byte ends them.
-#[inline(always)]
-pub(crate) fn hex_from(text: &[u8], stops: Stops, from: u32) -> Option<(u32, u32)>
-    requires stops { AreStops text.now stops }
-    requires room { 72 ≤ length text.now }
-    requires within { from < 64 }
-    ensures reads { IfSome result (λ read. (most : ℕ) → 8 ≤ most → piece_at (Hex most) (drop from text.now) ≡ Some (read.0, drop read.1 text.now)) }
-    ensures end { IfSome result (λ read. (from < read.1) × (read.1 ≤ from + 8) × (read.1 < length text.now)) }
-{
-    let end = stops.hex_end(text, from, 8)?;
-    let value = hex_front(&text[from as usize..], end - from);
-    Some((value, end))
-}
-
-/// The number of the decimal digits, and where they end, after a single space at a place.
-#[inline(always)]
-pub(crate) fn dec_after(text: &[u8], stops: Stops, at: u32) -> Option<(u32, u32)>
-    requires stops { AreStops text.now stops }
-    requires room { 72 ≤ length text.now }
-    requires within { at < 63 }
-    ensures space { IfSome result (λ _. piece_at Sep (drop at text.now) ≡ Some (tt, drop (at + 1) text.now)) }
-    ensures reads { IfSome result (λ read. piece_at Dec (drop (at + 1) text.now) ≡ Some (read.0, drop read.1 text.now)) }
-    ensures end { IfSome result (λ read. (read.1 ≤ at + 9) × (read.1 < length text.now)) }
-{
-    if text[at as usize] != b' ' {
-        return None;
-    }
-    dec_from(text, stops, at + 1)
-}
-
-/// The number of the hexadecimal digits, and where they end, after a single space at a place.
-#[inline(always)]
-pub(crate) fn hex_after(text: &[u8], stops: Stops, at: u32) -> Option<(u32, u32)>
-    requires stops { AreStops text.now stops }
-    requires room { 72 ≤ length text.now }
-    requires within { at < 63 }
-    ensures space { IfSome result (λ _. piece_at Sep (drop at text.now) ≡ Some (tt, drop (at + 1) text.now)) }
-    ensures reads { IfSome result (λ read. (most : ℕ) → 8 ≤ most → piece_at (Hex most) (drop (at + 1) text.now) ≡ Some (read.0, drop read.1 text.now)) }
-    ensures end { IfSome result (λ read. (read.1 ≤ at + 9) × (read.1 < length text.now)) }
-{
-    if text[at as usize] != b' ' {
-        return None;
-    }
-    hex_from(text, stops, at + 1)
-}
-
-/// The INLINE record of one range, of single spaces and few digits, at the front, with no white space
-/// at its end. None tells nothing.
-#[inline(always)]
-pub(crate) fn inline_line(text: &[u8]) -> Option<InlineLine<'_>>
-    ensures { IfSome result (IsInlineLine text.now) }
+pub(crate) fn call_line(text: &[u8]) -> Option<(InlineCall, Shown<'_>)>
+    ensures reads { IfSome result (λ read. reads CALL text.now ≡ Some (call_told read.0, read.1.text.now)) }
+    ensures stops { IfSome result (λ read. AreStops read.1.text.now read.1.stops) }
 {
     let fields = tag(text, b"INLINE ")?;
-    if fields.len() < 72 {
-        return None;
-    }
-    let stops = Stops::at_front(fields);
-    // The next line's place hangs on this alone, and not on the fields one after another.
-    let end = stops.end.trailing_zeros();
-    let (depth, at) = dec_from(fields, stops, 0)?;
-    let (line, at) = dec_after(fields, stops, at)?;
-    let (file, at) = dec_after(fields, stops, at)?;
-    let (origin, at) = dec_after(fields, stops, at)?;
-    let (addr, at) = hex_after(fields, stops, at)?;
-    let (size, at) = hex_after(fields, stops, at)?;
-    if fields[at as usize] != b'\n' || at != end {
-        return None;
-    }
+    let shown = Shown::at_front(fields)?;
+    let depth = shown.dec_end(0)?;
+    let line = shown.dec_after(depth)?;
+    let file = shown.dec_after(line)?;
+    let origin = shown.dec_after(file)?;
     let call = InlineCall {
-        depth,
-        line,
-        file,
-        origin,
+        depth: shown.dec(0, depth),
+        line: shown.dec(depth + 1, line),
+        file: shown.dec(line + 1, file),
+        origin: shown.dec(file + 1, origin),
     };
+    Some((call, shown.after(origin)))
+}
+
+/// The range at the front, as far as its bytes are shown, and what comes after it.
+#[inline(always)]
+fn shown_range(shown: Shown<'_>) -> Option<(Range, Shown<'_>)>
+    requires { AreStops shown.text.now shown.stops }
+    ensures reads { IfSome result (λ read. reads RANGE shown.entry.text.now ≡ Some (range_told read.0, read.1.text.now)) }
+    ensures stops { IfSome result (λ read. AreStops read.1.text.now read.1.stops) }
+{
+    if shown.text.len() < 72 {
+        return None;
+    }
+    let addr = shown.hex_after(0)?;
+    let size = shown.hex_after(addr)?;
     let range = Range {
-        addr: u64::from(addr),
-        size,
+        addr: u64::from(shown.hex(1, addr)),
+        size: shown.hex(addr + 1, size),
     };
-    Some(InlineLine {
-        call,
-        range,
-        rest: &fields[end as usize + 1..],
-    })
+    Some((range, shown.after(size)))
+}
+
+/// The range at the front, and what comes after it.
+#[inline(always)]
+fn next_range(shown: Shown<'_>) -> Option<(Range, Shown<'_>)>
+    requires { AreStops shown.text.now shown.stops }
+    ensures reads { IfSome result (λ read. reads RANGE shown.entry.text.now ≡ Some (range_told read.0, read.1.text.now)) }
+    ensures stops { IfSome result (λ read. AreStops read.1.text.now read.1.stops) }
+{
+    if let Some(read) = shown_range(shown) {
+        return Some(read);
+    }
+    // The load before showed a part of it.
+    shown_range(Shown::at_front(shown.text)?)
+}
+
+/// The text after the line feed, if it begins with one.
+#[inline(always)]
+fn after_line_feed(text: &[u8]) -> Option<&[u8]>
+    ensures { IfSome result (λ rest. text.now ≡ line_feed ∷ rest.now) }
+{
+    match text {
+        [b'\n', rest @ ..] => Some(rest),
+        _ => None,
+    }
+}
+
+/// Reads the ranges up to the line feed at their end, and returns the text after it.
+#[inline(always)]
+fn shown_ranges<'a>(
+    ranges: &mut Vec<Range>,
+    shown: Shown<'a>,
+) -> Result<Option<&'a [u8]>, AllocError>
+    requires { AreStops shown.text.now shown.stops }
+    ensures ranges { IfOk result (λ found. IfSome found (λ rest. AreInTurn RANGE shown.entry.text.now (ranges_told ranges.new.items) (line_feed ∷ rest.now))) }
+    ensures some { IfOk result (λ found. IfSome found (λ _. 0 < length ranges.new.items)) }
+{
+    ranges.clear();
+    let mut left = shown;
+    while let Some((range, after)) = next_range(left) {
+        ranges.push(range)?;
+        if let Some(rest) = after_line_feed(after.text) {
+            return Ok(Some(rest));
+        }
+        left = after;
+    }
+    Ok(None)
+}
+
+/// The INLINE record at the front with no white space at its end, and the text after its line. Its
+/// ranges are read beside it.
+#[inline(always)]
+pub(crate) fn inline_line<'a>(
+    ranges: &mut Vec<Range>,
+    text: &'a [u8],
+) -> Result<Option<(InlineCall, &'a [u8])>, AllocError>
+    ensures { IfOk result (λ found. IfSome found (λ read. IsQuick InFunc text.now (OfFunc (inner_told (inners.Inline read.0) ranges.new.items)) read.1.now)) }
+{
+    let Some((call, shown)) = call_line(text) else {
+        return Ok(None);
+    };
+    match shown_ranges(ranges, shown)? {
+        Some(rest) => Ok(Some((call, rest))),
+        None => Ok(None),
+    }
 }

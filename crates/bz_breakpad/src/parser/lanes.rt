@@ -1,10 +1,9 @@
 //! Where the digits of fields and the lines end, by one load of 64 bytes.
 
-ghost use Rattle.std.specs.Prelude.{◌≡◌, ◌+◌, ◌==◌, ◌<◌, ◌≤◌, true, ℕ, List, not, length, map, take, drop, IfSome};
+ghost use Rattle.std.specs.Prelude.{◌≡◌, ◌==◌, ◌<◌, ◌≤◌, ℕ, List, not, length, map, take, drop, IfSome};
 ghost use Rattle.bz_base.specs.Byte.{line_feed};
-ghost use Rattle.bz_base.specs.Number.{digits_len};
 ghost use Rattle.bz_breakpad.specs.Byte.{is_hex, is_decimal};
-ghost use Rattle.bz_breakpad.specs.Stops.{AreStops};
+ghost use Rattle.bz_breakpad.specs.Stops.{AreDigits, AreStops};
 ghost use lib.Lanes.{mask_l};
 
 use std::simd::prelude::*;
@@ -46,50 +45,6 @@ impl Stops {
             end: self.end >> len,
         }
     }
-
-    /// Whether so many hexadecimal digits stand at the front, and a shown byte ends them.
-    #[inline(always)]
-    pub(crate) fn has_hex(self, text: &[u8], digits: u32) -> bool
-        requires stops { AreStops text.now self }
-        requires few { digits < 64 }
-        ensures { result ≡ true → (digits < length text.now) × (digits_len 16 text.now ≡ digits) }
-    {
-        self.hex.trailing_zeros() == digits
-    }
-
-    /// Where the one to `most` hexadecimal digits from a place on end, if a shown byte ends them.
-    #[inline(always)]
-    pub(crate) fn hex_end(self, text: &[u8], from: u32, most: u32) -> Option<u32>
-        requires stops { AreStops text.now self }
-        requires within { from < 64 }
-        requires few { most < 64 }
-        ensures digits { IfSome result (λ end. (from < end) × (end < length text.now) × (digits_len 16 (drop from text.now) + from ≡ end)) }
-        ensures few { IfSome result (λ end. end ≤ from + most) }
-    {
-        let count = (self.hex >> from).trailing_zeros();
-        if count == 0 || count > most {
-            None
-        } else {
-            Some(from + count)
-        }
-    }
-
-    /// Where the one to `most` decimal digits from a place on end, if a shown byte ends them.
-    #[inline(always)]
-    pub(crate) fn dec_end(self, text: &[u8], from: u32, most: u32) -> Option<u32>
-        requires stops { AreStops text.now self }
-        requires within { from < 64 }
-        requires few { most < 64 }
-        ensures digits { IfSome result (λ end. (from < end) × (end < length text.now) × (digits_len 10 (drop from text.now) + from ≡ end)) }
-        ensures few { IfSome result (λ end. end ≤ from + most) }
-    {
-        let count = (self.dec >> from).trailing_zeros();
-        if count == 0 || count > most {
-            None
-        } else {
-            Some(from + count)
-        }
-    }
 }
 
 /// A bit for each of the first 64 bytes that is no hexadecimal digit.
@@ -106,11 +61,11 @@ fn hex_stops(text: &[u8]) -> u64
 
 /// How many hexadecimal digits stand at the front, if one to eight do.
 #[inline(always)]
-pub(crate) fn short_hex(text: &[u8]) -> Option<u32>
+pub(crate) fn few_hex(text: &[u8]) -> Option<u32>
     requires { 16 ≤ length text.now }
-    ensures { IfSome result (λ digits. (digits_len 16 text.now ≡ digits) × (0 < digits) × (digits ≤ 8)) }
+    ensures { IfSome result (AreDigits 16 8 text.now 0) }
 {
-    let digits = short_hex_stops(text).trailing_zeros();
+    let digits = few_hex_stops(text).trailing_zeros();
     if digits == 0 || digits > 8 {
         None
     } else {
@@ -120,7 +75,7 @@ pub(crate) fn short_hex(text: &[u8]) -> Option<u32>
 
 /// A bit for each of the first 16 bytes that is no hexadecimal digit.
 #[inline(always)]
-fn short_hex_stops(text: &[u8]) -> u64
+fn few_hex_stops(text: &[u8]) -> u64
     requires { 16 ≤ length text.now }
     ensures { result ≡ mask_l (map (λ b. not (is_hex b)) (take 16 text.now)) }
 {

@@ -1,14 +1,15 @@
 //! Line records that go on a run.
 
-ghost use Rattle.std.specs.Prelude.{◌≡◌, ◌<◌, ◌≤◌, IfSome};
-ghost use Rattle.bz_breakpad.specs.OnRun.{IsOnRun};
+ghost use Rattle.std.specs.Prelude.{◌<◌, ◌≤◌, IfSome};
+ghost use Rattle.bz_breakpad.specs.QuickLine.{IsOnRun};
 ghost use Rattle.bz_breakpad.specs.Stops.{AreStops};
 
 use crate::parser::lanes::Stops;
-use crate::parser::plain::plain_len;
+use crate::parser::line::record_len;
+use crate::parser::quick::Shown;
 use crate::parser::standing::StartText;
 
-/// A line record in its common form that goes on a run.
+/// A line record that goes on a run.
 #[derive(Clone, Copy)]
 pub(crate) struct RunLine {
     /// Its length, with its line feed.
@@ -19,42 +20,44 @@ pub(crate) struct RunLine {
     pub stops: Stops,
 }
 
-/// The line record at the front, if it goes on a run with this last start. None tells nothing.
+/// The line record at the front, if it goes on a run with this last start.
 #[inline(always)]
-pub(crate) fn next_on_run(text: &[u8], stops: Stops, last: StartText) -> Option<RunLine>
-    requires stops { AreStops text.now stops }
+pub(crate) fn next_on_run(shown: Shown<'_>, last: StartText) -> Option<RunLine>
+    requires stops { AreStops shown.text.now shown.stops }
     requires some { 0 < last.digits }
     requires few { last.digits ≤ 8 }
-    ensures { IfSome result (IsOnRun text.now last) }
+    ensures { IfSome result (IsOnRun shown.entry.text.now last) }
 {
-    if stops.end != 0 {
-        return shown_on_run(text, stops, last);
+    if shown.stops.end != 0 {
+        return shown_on_run(shown, last);
     }
+    let text = shown.text;
     if text.len() < 64 {
         return None;
     }
-    shown_on_run(text, Stops::at_front(text), last)
+    let stops = Stops::at_front(text);
+    shown_on_run(Shown { text, stops }, last)
 }
 
 /// The same, as far as its bytes are shown.
 #[inline(always)]
-fn shown_on_run(text: &[u8], stops: Stops, last: StartText) -> Option<RunLine>
-    requires stops { AreStops text.now stops }
+fn shown_on_run(shown: Shown<'_>, last: StartText) -> Option<RunLine>
+    requires stops { AreStops shown.text.now shown.stops }
     requires some { 0 < last.digits }
     requires few { last.digits ≤ 8 }
-    ensures { IfSome result (IsOnRun text.now last) }
+    ensures { IfSome result (IsOnRun shown.entry.text.now last) }
 {
-    if stops.end == 0 || !stops.has_hex(text, last.digits) {
+    if shown.stops.end == 0 || !shown.has_hex(last.digits) {
         return None;
     }
-    let len = plain_len(text, stops, last.digits)?;
-    let start = StartText::of_front(text, last.digits);
+    let len = record_len(shown, last.digits)?;
+    let start = StartText::of_front(shown.text, last.digits);
     if !last.is_below(start) {
         return None;
     }
     Some(RunLine {
         len,
         start,
-        stops: stops.after(len),
+        stops: shown.stops.after(len),
     })
 }

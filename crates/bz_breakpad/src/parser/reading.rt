@@ -83,7 +83,7 @@ impl KeptReading {
     {
         match inner {
             InnerLine::Code(_) => self.functions.list(bytes, start)?,
-            InnerLine::Inline(call) => self.functions.inline(&call, ranges)?,
+            InnerLine::Inline(call) => self.functions.inline(&call, ranges, start)?,
             InnerLine::Origin(id, name) => self.origins.insert(id, name_part(name, end)?)?,
         }
         Ok(())

@@ -101,7 +101,7 @@ pub(crate) struct InlineCall {
 }
 
 /// The call in an INLINE record, and the text after it.
-fn call_front(line: &[u8]) -> Option<(InlineCall, &[u8])>
+pub(crate) fn call_front(line: &[u8]) -> Option<(InlineCall, &[u8])>
     ensures { option_map (λ read. (call_told read.0, read.1.now)) result ≡ reads CALL line.now }
 {
     let (depth, rest) = dec(gap(tag(line, b"INLINE ")?))?;

@@ -1,17 +1,17 @@
 //! The line records of a function as they are read: a run, as long as the texts of their starts tell
 //! that they stand in order.
 
-ghost use Rattle.std.specs.Prelude.{◌≡◌, ◌<◌, ◌≤◌, ◌+◌, true, ℕ, List, length, take, drop, IfSome, IfOk};
+ghost use Rattle.std.specs.Prelude.{◌≡◌, ◌<◌, ◌≤◌, ◌+◌, true, ℕ, List, length, take, drop, IfSome};
 ghost use Rattle.std.specs.Str.Parse.{digits_value};
 ghost use Rattle.bz_base.specs.Number.{digits_len};
-ghost use Rattle.bz_breakpad.specs.Kept.{IsLonger, LinesFit, LinesFitSoFar, records_of, records_so_far};
+ghost use Rattle.bz_breakpad.specs.Kept.{IsLonger, LinesFitSoFar};
 ghost use Rattle.bz_breakpad.specs.Line.{source_line};
 ghost use Rattle.bz_breakpad.specs.LineStarts.{IsStartText};
-ghost use Rattle.bz_breakpad.specs.PlainLine.{IsPlainLine};
-ghost use Rattle.bz_breakpad.specs.declared.parser.plain.PlainLine.{PlainLine};
+ghost use Rattle.bz_breakpad.specs.QuickLine.{IsQuickLine};
+ghost use Rattle.bz_breakpad.specs.declared.parser.line.QuickLine.{QuickLine};
+ghost use Rattle.bz_breakpad.specs.declared.types.LineKey.{LineKey};
 
-use crate::types::{LineRecords, Part};
-use std::alloc::AllocError;
+use crate::types::Part;
 
 /// The text of a start: one to eight hexadecimal digits.
 #[derive(Clone, Copy)]
@@ -76,17 +76,17 @@ pub(crate) enum LinesSoFar {
     /// They stand one after another in this part of the file's bytes, and each starts after the one
     /// before it; the text of the last start.
     Run(Part, StartText),
-    /// They are the last of the table of places, from here on.
-    Listed(usize),
+    /// Their keys are listed.
+    Listed,
 }
 
 impl LinesSoFar {
-    /// With the line record in a part of the bytes, in its common form, if they are a run with it.
+    /// With the line record in a part of the bytes, if they are a run with it.
     /// None if that isn't known.
     #[inline(always)]
     pub(crate) fn run_with(self, part: Part, start: Option<StartText>) -> Option<LinesSoFar>
-        ensures { IfSome result (λ more. (bytes places : List ℕ) (rest : List ℕ) (line : PlainLine) (is : IsPlainLine rest line) → drop part.from bytes ≡ rest →
-            part.to ≡ part.from + line.len → start ≡ line.start → LinesFitSoFar bytes (length places) self → IsLonger bytes places places self more (source_line is.value)) }
+        ensures { IfSome result (λ more. (bytes : List ℕ) (keys : List LineKey) (rest : List ℕ) (line : QuickLine) (is : IsQuickLine rest line) → drop part.from bytes ≡ rest →
+            part.to ≡ part.from + line.len → start ≡ line.start → LinesFitSoFar bytes keys self → IsLonger bytes keys keys self more (source_line is.value)) }
     {
         let Some(start) = start else {
             return None;
@@ -101,19 +101,7 @@ impl LinesSoFar {
                 Some(LinesSoFar::Run(whole, start))
             }
             LinesSoFar::Run(_, _) => None,
-            LinesSoFar::Listed(_) => None,
-        }
-    }
-
-    /// The line records, where so many places are in the table.
-    pub(crate) fn records(self, count: usize) -> Result<LineRecords, AllocError>
-        ensures { IfOk result (λ records. (bytes places : List ℕ) → length places ≡ count → LinesFitSoFar bytes count self →
-            LinesFit bytes count records × (records_of bytes places records ≡ records_so_far bytes places self)) }
-    {
-        match self {
-            LinesSoFar::Empty => Ok(LineRecords::Run(Part { from: 0, to: 0 })),
-            LinesSoFar::Run(run, _) => Ok(LineRecords::Run(run)),
-            LinesSoFar::Listed(from) => Ok(LineRecords::Listed(Part::new(from, count)?)),
+            LinesSoFar::Listed => None,
         }
     }
 }

@@ -14,11 +14,12 @@ ghost use Rattle.bz_breakpad.specs.Walk.Context.{InFunc, Outside};
 ghost use Rattle.bz_breakpad.specs.Walked.{IsLineAt, IsMidway, IsRefused, IsStep, IsWalked};
 
 use crate::parser::field::body;
-use crate::parser::func_line::plain_func;
+use crate::parser::func::{cfi_line, func_line};
 use crate::parser::inline::inline_line;
 use crate::parser::lanes::Stops;
+use crate::parser::line::quick_line;
 use crate::parser::on_run::next_on_run;
-use crate::parser::plain::plain_line;
+use crate::parser::quick::Shown;
 use crate::parser::reading::{KeptReading, name_part};
 use crate::parser::record::{Context, Range, RecordLine, TopLine, read_record};
 use crate::parser::standing::LinesSoFar;
@@ -69,7 +70,8 @@ impl Walk {
         let found = match rest {
             [b'I', ..] => self.inline(text, rest)?,
             [b'F', b'U', ..] => self.func(text, rest)?,
-            _ => self.plain(text, rest)?,
+            [b'S', ..] => self.cfi(text, rest),
+            _ => self.lines(text, rest)?,
         };
         match found {
             Some(after) => Ok(after),
@@ -77,8 +79,8 @@ impl Walk {
         }
     }
 
-    /// Reads the first line of the rest of a text, if it is an INLINE record of one range, and returns
-    /// the rest after it. None tells nothing.
+    /// Reads the first line of the rest of a text quickly, if it is an INLINE record, and returns the
+    /// rest after it.
     fn inline<'a>(&mut self, text: &[u8], rest: &'a [u8]) -> Result<Option<&'a [u8]>>
         requires midway { IsMidway text.now rest.now self.old }
         ensures ok { IfOk result (λ found. IfSome found (λ after. IsMidway text.now after.now self.new)) }
@@ -86,20 +88,40 @@ impl Walk {
         ensures none { IfOk result (λ found. IfNone found (IsMidway text.now rest.now self.new)) }
         ensures refusal { IfErr result (Refuses (reading_in text.now)) }
     {
-        if !matches!(self.context, Context::InFunc) {
-            return Ok(None);
-        }
-        let Some(line) = inline_line(rest) else {
+        let Context::InFunc = self.context else {
             return Ok(None);
         };
-        self.kept.functions.inline(&line.call, &[line.range])?;
+        let Some((call, after)) = inline_line(&mut self.ranges, rest)? else {
+            return Ok(None);
+        };
+        self.kept
+            .functions
+            .inline(&call, self.ranges.as_slice(), text.len() - rest.len())?;
         self.free = false;
         self.count += 1;
-        Ok(Some(line.rest))
+        Ok(Some(after))
     }
 
-    /// Reads the first line of the rest of a text, if it is a FUNC record in its common form, and
-    /// returns the rest after it. None tells nothing.
+    /// Reads the first line of the rest of a text quickly, if it is a STACK CFI record under another, and
+    /// returns the rest after it.
+    #[inline(always)]
+    fn cfi<'a>(&mut self, text: &[u8], rest: &'a [u8]) -> Option<&'a [u8]>
+        requires midway { IsMidway text.now rest.now self.old }
+        ensures some { IfSome result (λ after. IsMidway text.now after.now self.new) }
+        ensures shorter { IfSome result (λ after. length after.now < length rest.now) }
+        ensures none { IfNone result (IsMidway text.now rest.now self.new) }
+    {
+        let Context::InCfi = self.context else {
+            return None;
+        };
+        let after = cfi_line(rest)?;
+        self.free = false;
+        self.count += 1;
+        Some(after)
+    }
+
+    /// Reads the first line of the rest of a text quickly, if it is a FUNC record, and returns the rest
+    /// after it.
     fn func<'a>(&mut self, text: &[u8], rest: &'a [u8]) -> Result<Option<&'a [u8]>>
         requires midway { IsMidway text.now rest.now self.old }
         ensures ok { IfOk result (λ found. IfSome found (λ after. IsMidway text.now after.now self.new)) }
@@ -107,34 +129,37 @@ impl Walk {
         ensures none { IfOk result (λ found. IfNone found (IsMidway text.now rest.now self.new)) }
         ensures refusal { IfErr result (Refuses (reading_in text.now)) }
     {
-        let Some(line) = plain_func(rest) else {
+        let Some((func, after)) = func_line(rest) else {
             return Ok(None);
         };
         // A line feed stands between the name and the rest.
-        let name = name_part(line.func.name, text.len() - line.rest.len() - 1)?;
+        let name = name_part(func.name, text.len() - after.len() - 1)?;
         self.kept.functions.close()?;
-        self.kept.functions.begin(&line.func, name)?;
+        self.kept.functions.begin(&func, name)?;
         self.context = Context::InFunc;
         self.free = true;
         self.count += 1;
-        Ok(Some(line.rest))
+        Ok(Some(after))
     }
 
-    /// Reads the first line of the rest of a text, if it is a line record in its common form, and those
-    /// that go on its run, and returns the rest after them. None tells nothing.
+    /// Reads the first line of the rest of a text quickly, if it is a line record, and those that go on
+    /// its run, and returns the rest after them.
     #[inline(always)]
-    fn plain<'a>(&mut self, text: &[u8], rest: &'a [u8]) -> Result<Option<&'a [u8]>>
+    fn lines<'a>(&mut self, text: &[u8], rest: &'a [u8]) -> Result<Option<&'a [u8]>>
         requires midway { IsMidway text.now rest.now self.old }
         ensures ok { IfOk result (λ found. IfSome found (λ after. IsMidway text.now after.now self.new)) }
         ensures shorter { IfOk result (λ found. IfSome found (λ after. length after.now < length rest.now)) }
         ensures none { IfOk result (λ found. IfNone found (IsMidway text.now rest.now self.new)) }
         ensures refusal { IfErr result (Refuses (reading_in text.now)) }
     {
-        if rest.len() < 64 || !matches!(self.context, Context::InFunc) {
+        let Context::InFunc = self.context else {
+            return Ok(None);
+        };
+        if rest.len() < 64 {
             return Ok(None);
         }
         let stops = Stops::at_front(rest);
-        let Some(line) = plain_line(rest, stops) else {
+        let Some(line) = quick_line(Shown { text: rest, stops }) else {
             return Ok(None);
         };
         self.kept
@@ -145,8 +170,8 @@ impl Walk {
         Ok(Some(self.run_on(text, &rest[line.len..], stops.after(line.len))))
     }
 
-    /// Reads the line records in their common form that go on the run of the last one, of which bytes
-    /// may be shown, and returns the rest after them.
+    /// Reads the line records quickly that go on the run of the last one, of which bytes may be shown, and
+    /// returns the rest after them.
     #[inline(always)]
     fn run_on<'a>(&mut self, text: &[u8], rest: &'a [u8], stops: Stops) -> &'a [u8]
         requires midway { IsMidway text.now rest.now self.old }
@@ -168,7 +193,7 @@ impl Walk {
         let mut stops = stops;
         let mut last = start;
         let mut count = self.count;
-        while let Some(next) = next_on_run(left, stops, last) {
+        while let Some(next) = next_on_run(Shown { text: left, stops }, last) {
             left = &left[next.len..];
             stops = next.stops;
             last = next.start;

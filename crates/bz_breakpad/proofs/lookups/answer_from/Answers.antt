@@ -14,7 +14,7 @@ symbol-requires-clause-below c =
 pub symbol-requires-clause-name_fits : goal.symbol-requires-clause-name_fits
 symbol-requires-clause-name_fits c =
     let at = c.requires in
-    (function_kept c.args.bytes.now at.0 c.args.kept.now at.1 c.args.addr c.in-Function.index (subst (IsRecordFor at.0 c.args.addr) c.in-Function.is at.2) c.index-function.result.now c.index-function.ensures).fits.name
+    (function_kept c.args.bytes.now at.0 c.args.kept.now at.1 c.args.addr c.in-Function.index (subst (IsRecordFor at.0 c.args.addr) c.in-Function.is at.2) c.index-function.result.now c.index-function.ensures).name
 
 pub index-public-requires : goal.index-public-requires
 index-public-requires c =

@@ -3,16 +3,16 @@ use Rattle.std.specs.Prelude.{reverse}
 use Rattle.std.specs.Borrow.{Bor}
 use Rattle.bz_base.specs.Answer.{Call, call_of, site_of}
 use Rattle.bz_base.specs.Lent.{IsLentCall}
-use Rattle.bz_breakpad.specs.Kept.{kept_inlinee}
+use Rattle.bz_breakpad.specs.Kept.{kept_call}
 use Rattle.bz_breakpad.specs.Plain.{by_seen}
-use Rattle.bz_breakpad.specs.declared.types.Inlinee.{Inlinee as KeptInlinee}
+use Rattle.bz_breakpad.specs.declared.types.CallRange.{CallRange}
 use Rattle.bz_breakpad.proofs.KeptLemmas.{all_and_one}
 use Rattle.bz_breakpad.proofs.PlacedLemmas.{all_reversed, map_reversed, reverse_one, seen_none, seen_step}
 use Rattle.bz_breakpad.proofs.places.seen_outside_all.Goals as goal
 
 pub returns-in_default-clause-placed : goal.returns-in_default-clause-placed
 returns-in_default-clause-placed c table line stands known =
-    let view = λ (call : Bor KeptInlinee). kept_inlinee call.now in
+    let view = λ (call : Bor CallRange). kept_call c.args.bytes.now call.now in
     let calls = c.args.calls.now in
     let inlined = reverse (map call_of c.loop-left.inlined.items) in
     let none = c.in_default.ensures.seen table inlined stands in
@@ -21,7 +21,7 @@ returns-in_default-clause-placed c table line stands known =
 
 pub loop-left-preserved : goal.loop-left-preserved
 loop-left-preserved c =
-    let view = λ (call : Bor KeptInlinee). kept_inlinee call.now in
+    let view = λ (call : Bor CallRange). kept_call c.args.bytes.now call.now in
     let calls = c.args.calls.now in
     let old = c.loop-left.inlined.items in
     let inlined = reverse (map call_of old) in

@@ -3,7 +3,7 @@ use Rattle.std.specs.Prelude.{reverse}
 use Rattle.std.specs.List.{AllByRecursion}
 use Rattle.bz_base.specs.Answer.{call_of, site_of}
 use Rattle.bz_base.specs.Lent.{IsLentCall, IsLentPlace}
-use Rattle.bz_breakpad.specs.Kept.{kept_inlinee}
+use Rattle.bz_breakpad.specs.Kept.{kept_call}
 use Rattle.bz_breakpad.specs.Plain.{seen_from, site_in}
 use Rattle.bz_breakpad.specs.Sorted.{StandsFor}
 use Rattle.bz_breakpad.specs.Table.{SourceLine, Table}
@@ -14,7 +14,7 @@ abbrev pub invariant-loop-left : goal.invariant-loop-left
 invariant-loop-left l = record {
   within : l.left ≤ length l.calls;
   seen : (table : Table) (line : SourceLine) → StandsFor l.bytes table l.kept → Some (site_of l.fn.inner) ≡ site_in table line.file line.line →
-      seen_from table (map (λ call. kept_inlinee call.now) (drop l.left l.calls)) line ≡ Some (site_of l.site, reverse (map call_of l.inlined.items));
+      seen_from table (map (λ call. kept_call l.bytes call.now) (drop l.left l.calls)) line ≡ Some (site_of l.site, reverse (map call_of l.inlined.items));
   site : IsLentPlace l.site;
   calls : AllByRecursion IsLentCall l.inlined.items;
 }

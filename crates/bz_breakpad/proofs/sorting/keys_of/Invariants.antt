@@ -1,8 +1,7 @@
-use Rattle.std.proofs.Common.{◌≡◌, map, take}
-use Rattle.std.specs.List.{AllByRecursion}
-use Rattle.bz_breakpad.specs.FunctionKeys.{IsKeyAmong, keyed}
+use Rattle.std.proofs.Common.{◌≡◌, ◌++◌, drop}
+use Rattle.bz_breakpad.specs.FunctionKeys.{keys_from}
 use Rattle.bz_breakpad.proofs.sorting.keys_of.Given as goal
 
--- the keys so far are those of the functions before the index
+-- the keys so far, and then those from the index on
 abbrev pub invariant-loop-index : goal.invariant-loop-index
-invariant-loop-index l = (map (keyed l.functions) l.keys.items ≡ take l.index l.functions) × AllByRecursion (IsKeyAmong l.functions) l.keys.items
+invariant-loop-index l = l.keys.items ++ keys_from l.index (drop l.index l.functions) ≡ keys_from 0 l.functions

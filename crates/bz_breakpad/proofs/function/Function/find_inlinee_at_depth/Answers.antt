@@ -1,9 +1,11 @@
 use Rattle.std.proofs.Common.{ap, subst, sym, ◌∙◌}
 use Rattle.std.specs.List.{slice_range}
 use Rattle.bz_base.specs.Nearest.{IsTable}
+use Rattle.bz_breakpad.specs.Calls.{call_start}
 use Rattle.bz_breakpad.specs.Plain.{inlinee_at}
 use Rattle.bz_breakpad.specs.Table.{Function}
-use Rattle.bz_breakpad.specs.declared.types.Inlinee.{Inlinee as KeptInlinee}
+use Rattle.bz_breakpad.specs.declared.types.CallRange.{CallRange}
+use Rattle.bz_breakpad.proofs.AsKept.{inlinee_same}
 use Rattle.bz_breakpad.proofs.PlacedLemmas.{inlinee_through}
 use Rattle.bz_breakpad.proofs.function.Function.find_inlinee_at_depth.Goals as goal
 
@@ -11,6 +13,7 @@ pub returns : goal.returns
 returns c =
     let function = c.self.inside.kept.now in
     let standing = slice_range c.self.inside.code.now.inlinees.items function.inlinees.from function.inlinees.to in
-    let table = subst (λ items. IsTable (λ (i : KeptInlinee). i.depth) (λ i. i.addr) standing items) (sym c.inlinees_searched.ensures) c.self.invariant.searched.inlinees.table in
-    inlinee_through standing c.inlinees_searched.result.now table c.args.depth c.args.addr c.inlinee_at.result c.inlinee_at.ensures
+    let table = subst (λ items. IsTable (λ (r : CallRange). r.depth) call_start standing items) (sym c.inlinees_of.ensures) c.self.invariant.kept_as.inlinees.table in
+    inlinee_through c.self.inside.bytes.now standing c.inlinees_of.result.now table c.args.depth c.args.addr c.inlinee_at.result c.inlinee_at.ensures
+    ∙ inlinee_same _ _ c.self.invariant.nested.calls c.args.addr c.args.depth
     ∙ ap (λ (f : Function). inlinee_at c.args.depth c.args.addr f.inlinees) c.self.view_is

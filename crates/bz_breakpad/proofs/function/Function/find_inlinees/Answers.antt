@@ -1,20 +1,21 @@
-use Rattle.std.proofs.Common.{List, map, ap, ◌∙◌}
+use Rattle.std.proofs.Common.{List, map, sym, ap, ◌∙◌}
 use Rattle.std.specs.Borrow.{Bor}
 use Rattle.std.proofs.lemmas.Result.{IfOk-weaker}
-use Rattle.std.proofs.lemmas.Simd.{map-map}
-use Rattle.bz_breakpad.specs.Kept.{kept_inlinee}
+use Rattle.bz_breakpad.specs.Kept.{kept_call}
 use Rattle.bz_breakpad.specs.Plain.{calls_around}
 use Rattle.bz_breakpad.specs.Table.{Function}
-use Rattle.bz_breakpad.specs.declared.types.Inlinee.{Inlinee as KeptInlinee}
+use Rattle.bz_breakpad.specs.declared.types.CallRange.{CallRange}
+use Rattle.bz_breakpad.proofs.AsKept.{calls_same}
 use Rattle.bz_breakpad.proofs.function.Function.find_inlinees.Goals as goal
 
 pub returns-clause-calls : goal.returns-clause-calls
 returns-clause-calls c =
-    IfOk-weaker c.copies_of.result _ _
+    let bytes = c.self.inside.bytes.now in
+    IfOk-weaker c.inlinees_at.result _ _
     (λ calls are.
-    ap (map kept_inlinee) are
-    ∙ ap (λ (lent : List (Bor KeptInlinee)). map kept_inlinee (map (λ call. call.now) lent)) c.deref.ensures.value
-    ∙ map-map kept_inlinee (λ (call : Bor KeptInlinee). call.now) c.in_ok-lent.lent.items
-    ∙ c.in_ok-lent.ensures
+    are
+    ∙ ap (λ (lent : List (Bor CallRange)). map (λ call. kept_call bytes call.now) lent) c.deref.ensures.value
+    ∙ c.in_ok-ranges.ensures
+    ∙ sym (calls_same _ _ c.self.invariant.nested.calls c.args.addr)
     ∙ ap (λ (f : Function). calls_around c.args.addr f.inlinees) c.self.view_is)
-    c.copies_of.ensures.calls
+    c.inlinees_at.ensures.calls

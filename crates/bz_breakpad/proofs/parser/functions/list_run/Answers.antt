@@ -5,7 +5,7 @@ use Rattle.bz_breakpad.proofs.parser.functions.list_run.Goals as goal
 pub loop-line-init : goal.loop-line-init
 loop-line-init c = record {
   within = run_within c.args.bytes.now c.args.run (omega arith);
-  listed = λ last is. listing_begins c.args.bytes.now c.args.run c.args.places.now.items last is;
+  listed = λ last is none. rw none (listing_begins c.args.bytes.now c.args.run last is);
 }
 
 pub loop-line-preserved : goal.loop-line-preserved
@@ -14,11 +14,11 @@ loop-line-preserved c =
     let cut = c.in-Some.ensures in
     record {
       within = omega (arith, at.invariant.within, cut.shorter);
-      listed = λ last is.
-          listing_goes_on c.args.bytes.now c.args.run c.args.places.now.items c.in-Some._line.now c.in-Some.after.now cut.no_line_feed at.rest.now at.places.items c.push.new.self.items
-          cut.whole cut.all cut.some at.invariant.within c.in_ok-push.ensures.items (at.invariant.listed last is);
+      listed = λ last is none.
+          listing_goes_on c.args.bytes.now c.args.run c.in-Some._line.now c.in-Some.after.now cut.no_line_feed at.rest.now at.keys.items c.push.new.self.items
+          cut.whole cut.all cut.some at.invariant.within (rw c.line_key.ensures at c.in_ok-push.ensures.items) (at.invariant.listed last is none);
     }
 
 pub returns : goal.returns
-returns c last is =
-    listing_ends c.args.bytes.now c.args.run c.args.places.now.items c.loop-line.rest.now c.loop-line.places.items c.in_default.ensures.unended (c.loop-line.invariant.listed last is)
+returns c last is none =
+    listing_ends c.args.bytes.now c.args.run c.loop-line.rest.now c.loop-line.keys.items c.in_default.ensures.unended (c.loop-line.invariant.listed last is none)

@@ -1,4 +1,4 @@
-use Rattle.std.proofs.Common.{◌≤◌, length}
+use Rattle.std.proofs.Common.{◌≡◌, ◌≤◌, [], length}
 use Rattle.bz_breakpad.specs.Kept.{AreListedTo, IsOpenRunAt}
 use Rattle.bz_breakpad.specs.declared.parser.standing.StartText.{StartText}
 use Rattle.bz_breakpad.proofs.parser.functions.list_run.Given as goal
@@ -7,7 +7,7 @@ use Rattle.bz_breakpad.proofs.parser.functions.list_run.Given as goal
 abbrev pub invariant-loop-line : goal.invariant-loop-line
 invariant-loop-line l = record {
   within : length l.rest ≤ l.run.to;
-  listed : (last : StartText) → IsOpenRunAt l.bytes l.run last → AreListedTo l.bytes l.run l.rest l.fn.places.items l.places.items;
+  listed : (last : StartText) → IsOpenRunAt l.bytes l.run last → l.fn.keys.items ≡ [] → AreListedTo l.bytes l.run l.rest l.keys.items;
 }
 
 -- it gets shorter

@@ -1,16 +1,20 @@
-use Rattle.std.proofs.Common.{[], ◌∷◌, map, refl}
-use Rattle.bz_breakpad.specs.Kept.{inlinee_kept}
+use Rattle.std.proofs.Common.{[], ◌∷◌, ◌++◌, map, refl, sym, ap, append-nil, ◌∙◌}
+use Rattle.std.proofs.lemmas.List.{map-append}
+use Rattle.bz_breakpad.specs.Calls.{range_kept}
+use Rattle.bz_breakpad.specs.Kept.{kept_call}
 use Rattle.bz_breakpad.specs.Says.Sub.{Inline}
 use Rattle.bz_breakpad.specs.Told.{inlinees_told}
-use Rattle.bz_breakpad.proofs.FunctionLemmas.{same_so_far, inlinees_say}
+use Rattle.bz_breakpad.proofs.CallLemmas.{ranges_say}
+use Rattle.bz_breakpad.proofs.FunctionLemmas.{same_so_far}
 use Rattle.bz_breakpad.proofs.parser.functions.FunctionsReading.inline.Goals as goal
 
 pub returns : goal.returns
-returns c bytes closed current so_far =
-    let old = c.args.self.now in
-    let table = old.table in
+returns c bytes closed current reads so_far =
     let call = c.args.call.now in
     let ranges = c.args.ranges.now in
-    same_so_far bytes table (record { functions = table.functions; keys = table.keys; lines = table.lines; inlinees = c.keep_inlinees.new.inlinees; line_copies = table.line_copies; inlinee_copies = table.inlinee_copies })
-    old.lines (map (inlinee_kept call) ranges) (Inline (inlinees_told call ranges) ∷ []) refl refl c.in_ok-keep_inlinees.ensures
-    refl (inlinees_say call ranges) old.current closed current so_far
+    let told = inlinees_told call ranges in
+    let before = c.args.self.now.calls.items in
+    same_so_far bytes c.args.self.now _ (Inline told ∷ []) refl refl refl refl refl
+    (ap (map (kept_call bytes)) c.in_ok-keep_ranges.ensures
+    ∙ map-append (kept_call bytes) before (map (range_kept call.depth c.args.place) ranges)
+    ∙ ap (λ calls. map (kept_call bytes) before ++ calls) (ranges_say bytes call c.args.place reads ranges ∙ sym (append-nil told))) closed current so_far

@@ -1,4 +1,5 @@
-use Rattle.std.proofs.Common.{[], ◌∷◌, refl, sym, append-nil}
+use Rattle.std.proofs.Common.{[], ◌∷◌, map, refl, sym, append-nil}
+use Rattle.bz_breakpad.specs.Kept.{kept_call}
 use Rattle.bz_breakpad.specs.Line.{source_line}
 use Rattle.bz_breakpad.specs.Says.Sub.{SubOrigin}
 use Rattle.bz_breakpad.specs.Told.{line_told}
@@ -22,7 +23,7 @@ pub returns-in_ok-inline-in-Inline : goal.returns-in_ok-inline-in-Inline
 returns-in_ok-inline-in-Inline c body reading stands end inner is =
     rw (c.in-Inline.is, told_said c.in-Inline.call c.args.ranges.now) (record {
       module_is = is.module_is;
-      functions = c.in_ok-inline-in-Inline.ensures c.args.bytes.now reading.closed reading.current is.functions;
+      functions = c.in_ok-inline-in-Inline.ensures c.args.bytes.now reading.closed reading.current (rw c.in-Inline.is at inner) is.functions;
       files = is.files;
       origins = is.origins;
       publics = is.publics;
@@ -37,8 +38,8 @@ returns-in_ok-insert-in-Origin c body reading stands end inner is =
     rw c.in-Origin.is (record {
       module_is = is.module_is;
       functions =
-          same_so_far bytes functions.table functions.table functions.lines [] (sub ∷ []) refl refl
-          (sym (append-nil functions.table.inlinees.items)) refl refl functions.current reading.closed reading.current is.functions;
+          same_so_far bytes functions functions (sub ∷ []) refl refl refl refl refl
+          (sym (append-nil (map (kept_call bytes) functions.calls.items))) reading.closed reading.current is.functions;
       files = is.files;
       origins =
           names_so_far bytes c.args.self.now.origins c.insert.new.self c.in-Origin.id c.in_ok-name_part-in-Origin.field-0 c.in-Origin.name.now reading.origins

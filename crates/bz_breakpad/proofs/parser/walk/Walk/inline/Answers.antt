@@ -1,11 +1,12 @@
-use Rattle.std.proofs.Common.{◌≡◌, [], ◌∷◌, refl, sym, ap, ◌∙◌}
-use Rattle.std.proofs.lemmas.Bool.{false≢true}
-use Rattle.bz_breakpad.specs.Told.{context_told}
+use Rattle.std.proofs.Common.{◌≡◌, ◌-◌, length, refl, ap}
+use Rattle.bz_breakpad.specs.Told.{context_told, inner_told}
 use Rattle.bz_breakpad.specs.Walk.Context.{InFunc}
+use Rattle.bz_breakpad.specs.Walk.Record.{OfFunc}
+use Rattle.bz_breakpad.specs.declared.parser.record.InnerLine.TheVariants as inners
 use Rattle.bz_breakpad.proofs.FunctionLemmas.{told_said}
-use Rattle.bz_breakpad.proofs.InlineStep.{inline_on, inline_shorter}
+use Rattle.bz_breakpad.proofs.NameEnds.{inner_stands}
+use Rattle.bz_breakpad.proofs.QuickStep.{quick_on, quick_shorter, quick_stands}
 use Rattle.bz_breakpad.proofs.parser.walk.Walk.inline.Goals as goal
-use Rattle.bz_breakpad.proofs.parser.walk.Walk.inline.Goals.{in-InFunc, in_default}
 
 pub returns-clause-ok : goal.returns-clause-ok
 returns-clause-ok c =
@@ -13,19 +14,24 @@ returns-clause-ok c =
     let bytes = c.args.text.now in
     let rest = c.args.rest.now in
     let old = c.args.self.now in
-    let line = c.in-Some.line in
-    let in_func : context_told old.context ≡ InFunc = elim c.match-matches.branch [
-      | in-InFunc w ↦ ap context_told w.in-InFunc.is
-      | in_default w ↦ absurd (false≢true (sym w.matches-is ∙ c.if-not-matches.false))
-    ] in
+    let call = c.in-Some.call in
+    let ranges = c.inline_line.new.ranges.items in
+    let in_func : context_told old.context ≡ InFunc = ap context_told c.in-InFunc.is in
     let so_far = m.walked.so_far in
-    inline_on rest line c.in-Some.ensures bytes old _ m in_func in_func refl refl (rw (told_said line.call (line.range ∷ [])) (record {
+    let p = rw c.in-Some.is at c.in_ok-call.ensures in
+    let record_is = OfFunc (inner_told (inners.Inline call) ranges) in
+    let after = c.in-Some.after.now in
+    let stands = quick_stands InFunc rest record_is after p bytes m.within m.rest_is in
+    let reads = inner_stands bytes (length bytes - length rest) p.line InFunc (inners.Inline call) ranges stands p.reads in
+    quick_on InFunc rest record_is after p bytes old _ m refl in_func in_func refl refl
+    (rw (told_said call ranges) (record {
       module_is = so_far.module_is;
-      functions = c.in_ok-inline.ensures bytes m.reading.closed m.reading.current so_far.functions;
+      functions = rw c.as_slice.ensures.value at (c.in_ok-inline.ensures bytes m.reading.closed m.reading.current reads so_far.functions);
       files = so_far.files;
       origins = so_far.origins;
       publics = so_far.publics;
     }))
 
 pub returns-clause-shorter : goal.returns-clause-shorter
-returns-clause-shorter c = inline_shorter c.args.rest.now c.in-Some.line c.in-Some.ensures
+returns-clause-shorter c =
+    quick_shorter InFunc c.args.rest.now (OfFunc (inner_told (inners.Inline c.in-Some.call) c.inline_line.new.ranges.items)) c.in-Some.after.now (rw c.in-Some.is at c.in_ok-call.ensures)

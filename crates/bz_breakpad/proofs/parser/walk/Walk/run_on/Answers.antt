@@ -1,6 +1,6 @@
 use Rattle.std.proofs.Common.{arith, length-drop}
 use Rattle.std.proofs.lemmas.List.{take_rest}
-use Rattle.bz_breakpad.proofs.RunStep.{run_step}
+use Rattle.bz_breakpad.proofs.LineRecordLemmas.{run_step}
 use Rattle.bz_breakpad.proofs.parser.walk.Walk.run_on.Goals as goal
 
 pub loop-next-preserved : goal.loop-next-preserved

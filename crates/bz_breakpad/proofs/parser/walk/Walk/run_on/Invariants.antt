@@ -1,7 +1,7 @@
 use Rattle.std.proofs.Common.{◌-◌, ◌<◌, ◌≤◌, length}
 use Rattle.bz_breakpad.specs.Stops.{AreStops}
 use Rattle.bz_breakpad.specs.Walked.{IsMidway}
-use Rattle.bz_breakpad.proofs.RunStep.{running}
+use Rattle.bz_breakpad.proofs.LineRecordLemmas.{running}
 use Rattle.bz_breakpad.proofs.parser.walk.Walk.run_on.Given as goal
 
 -- the walk would be midway if it ended the run here

@@ -1,0 +1,22 @@
+use Rattle.std.proofs.Common.{◌≡◌, refl, ap}
+use Rattle.bz_breakpad.specs.Told.{context_told}
+use Rattle.bz_breakpad.specs.Walk.Context.{InCfi}
+use Rattle.bz_breakpad.specs.Walk.Record.{OfCfi}
+use Rattle.bz_breakpad.proofs.QuickStep.{quick_on, quick_shorter}
+use Rattle.bz_breakpad.proofs.parser.walk.Walk.cfi.Goals as goal
+
+pub returns-clause-some : goal.returns-clause-some
+returns-clause-some c =
+    let m = c.requires.midway in
+    let old = c.args.self.now in
+    let in_cfi : context_told old.context ≡ InCfi = ap context_told c.in-InCfi.is in
+    quick_on InCfi c.args.rest.now OfCfi c.in_ok-after.after.now c.in_ok-after.ensures c.args.text.now old _ m refl in_cfi in_cfi refl refl (record {
+      module_is = m.walked.so_far.module_is;
+      functions = m.walked.so_far.functions;
+      files = m.walked.so_far.files;
+      origins = m.walked.so_far.origins;
+      publics = m.walked.so_far.publics;
+    })
+
+pub returns-clause-shorter : goal.returns-clause-shorter
+returns-clause-shorter c = quick_shorter InCfi c.args.rest.now OfCfi c.in_ok-after.after.now c.in_ok-after.ensures
