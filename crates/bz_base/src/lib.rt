@@ -42,6 +42,3 @@ pub use text::{first_line, next_line};
 pub use types::{
     Addr, CodeInfo, FindSymOpts, InlinedFn, Reason, ResolvedSym, SrcLang, Sym, SymType, Symbolized,
 };
-
-#[cfg(test)]
-mod tests;

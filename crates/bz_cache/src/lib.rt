@@ -11,6 +11,3 @@ pub use builder::CacheBuilder;
 pub use file_cache::FileCache;
 pub use insert_map::InsertMap;
 pub use version::Version;
-
-#[cfg(test)]
-mod tests;

@@ -6,8 +6,6 @@ pub mod laws;
 mod parser;
 mod resolver;
 mod search;
-#[cfg(test)]
-mod tests;
 mod types;
 
 pub use file::ElfFile;

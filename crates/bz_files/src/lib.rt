@@ -19,6 +19,3 @@ pub use real_files::RealFiles;
 pub use real_text::{RealIn, RealOut};
 pub use stamp::Stamp;
 pub use text::{IoFault, TextIn, TextOut};
-
-#[cfg(test)]
-mod tests;

@@ -11,8 +11,6 @@ mod resolver;
 mod short;
 mod symbol;
 mod table;
-#[cfg(test)]
-mod tests;
 mod types;
 
 pub use inline::InlineInfo;

@@ -12,8 +12,6 @@ mod lookups;
 mod settings;
 pub mod source;
 mod symbolizer;
-#[cfg(test)]
-mod tests;
 
 pub use builder::Builder;
 pub use lookups::Lookups;

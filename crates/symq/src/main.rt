@@ -1,22 +1,8 @@
 //! Symbolizes addresses: the answers of a symbol file to the addresses on standard input.
 #![tactic(auto)]
 
-mod answer;
-mod input;
-mod laws;
-mod output;
-mod piece;
-mod program;
-mod reply;
-mod status;
-#[cfg(test)]
-mod tests;
-mod texts;
-mod words;
-
 use bz_files::{RealFiles, RealIn, RealOut};
-use program::run;
-use status::Status;
+use bz_symq::{Status, run};
 use std::process::ExitCode;
 use std::{env, io};
 

@@ -1,5 +1,0 @@
-use Rattle.bz_base.proofs.StartsLemmas.{sorted_never_descends}
-use Rattle.bz_base.proofs.tests.search.search_sorted.Goals as goal
-
-pub from_sorted-starts-requires : goal.from_sorted-starts-requires
-from_sorted-starts-requires g c = sorted_never_descends _ c.sort_unstable.ensures.sorted

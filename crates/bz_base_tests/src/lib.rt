@@ -1,0 +1,20 @@
+//! Tests of bz_base, over what it makes public: that the calls succeed, and answers that were worked
+//! out by hand.
+#![tactic(auto)]
+
+#[cfg(test)]
+mod answers;
+#[cfg(test)]
+mod chain;
+#[cfg(test)]
+mod cursor;
+#[cfg(test)]
+mod nearest;
+#[cfg(test)]
+mod path;
+#[cfg(test)]
+mod resolve;
+#[cfg(test)]
+mod samples;
+#[cfg(test)]
+mod text;

@@ -1,0 +1,19 @@
+//! Tests of bz_breakpad, over what it makes public.
+#![tactic(auto)]
+
+#[cfg(test)]
+mod answers;
+#[cfg(test)]
+mod files;
+#[cfg(test)]
+mod found;
+#[cfg(test)]
+mod functions;
+#[cfg(test)]
+mod lines;
+#[cfg(test)]
+mod names;
+#[cfg(test)]
+mod places;
+#[cfg(test)]
+mod texts;

@@ -1,0 +1,214 @@
+//! Versions of files in memory.
+
+ghost use Rattle.std.specs.Prelude.{◌≡◌, ◌==◌, Some, None, cond, true, false, slice_get};
+ghost use Rattle.std.specs.Option.{option_map_or};
+ghost use Rattle.bz_base.specs.declared.error.Error.TheVariants.{InvalidInput};
+ghost use Rattle.bz_cache.specs.Format.{refused_by};
+
+use bz_base::{Error, Result};
+use bz_cache::{FileCache, Version};
+use bz_files::{Files, MemFiles};
+use std::alloc::Global;
+use std::rc::Rc;
+
+/// A text that begins with a `V`.
+#[derive(Drop)]
+struct Note {
+    bytes: Vec<u8>,
+    ghost formed: { option_map_or (λ first. first == 86) (slice_get bytes.items 0) false ≡ true },
+}
+
+impl Version for Note {
+    ghost bytes_of = { λ note. note.bytes.items };
+
+    ghost test = { λ bytes. cond (option_map_or (λ first. first == 86) (slice_get bytes 0) false) None (Some InvalidInput) };
+
+    fn parse(_alloc: Global, bytes: Vec<u8>) -> Result<Note> {
+        match bytes.first() {
+            Some(b'V') => Ok(Note { bytes }),
+            _ => Err(Error::InvalidInput),
+        }
+    }
+
+    fn formed(&self) {
+        let _bytes = &self.bytes;
+    }
+
+    ghost refusals = { λ bytes e. refused_by (option_map_or (λ first. first == 86) (slice_get bytes 0) false) InvalidInput e tt };
+}
+
+/// Puts a text at `/s`. Says whether memory was left.
+fn put(alloc: Global, files: &mut MemFiles, text: &[u8]) -> bool {
+    match text.to_vec(alloc) {
+        Ok(bytes) => files.put(alloc, "/s", bytes).is_ok(),
+        Err(_) => false,
+    }
+}
+
+/// Whether the cache answers the text at `/s`.
+fn answers(cache: &mut FileCache<Note>, alloc: Global, files: &mut MemFiles, text: &[u8]) -> bool {
+    match cache.entry(alloc, files, "/s") {
+        Ok(note) => note.bytes.as_slice() == text,
+        Err(_) => false,
+    }
+}
+
+/// Whether a file is read once where it has changed, and refused where a look fails.
+fn reads_anew(cache: &mut FileCache<Note>, alloc: Global, files: &mut MemFiles) -> bool {
+    put(alloc, files, b"V1")
+        && answers(cache, alloc, files, b"V1")
+        && put(alloc, files, b"V2")
+        && answers(cache, alloc, files, b"V2")
+        && answers(cache, alloc, files, b"V2")
+        && !answers(cache, alloc, files, b"V2")
+        && files.faults() == 1
+        && answers(cache, alloc, files, b"V2")
+        && files.opens() == 2
+}
+
+#[test]
+fn a_changed_file_is_read_anew(rt: HostRuntime) {
+    let mut files = MemFiles::new(rt.alloc(), 0);
+    let mut cache = FileCache::<Note>::builder().build(rt.alloc());
+    // A version is looked at twice, for its stamp and its bytes, and once where it is kept.
+    let fails = files.fail_call(rt.alloc(), 6).is_ok();
+    let anew = reads_anew(&mut cache, rt.alloc(), &mut files);
+    assert!(rt; fails && anew);
+}
+
+/// Whether a version with the stamp of the file at `/s` is kept.
+fn is_kept(cache: &FileCache<Note>, files: &mut MemFiles) -> bool {
+    match files.stat("/s") {
+        Ok(stamp) => cache.is_kept(&stamp),
+        Err(_) => false,
+    }
+}
+
+/// Whether a changed file is still answered by its first version.
+fn stays(cache: &mut FileCache<Note>, alloc: Global, files: &mut MemFiles) -> bool {
+    put(alloc, files, b"V2") && answers(cache, alloc, files, b"V1")
+}
+
+/// Whether a path answers by its first version from when it is pinned.
+fn stays_pinned(cache: &mut FileCache<Note>, alloc: Global, files: &mut MemFiles) -> bool {
+    put(alloc, files, b"V1")
+        && answers(cache, alloc, files, b"V1")
+        && is_kept(cache, files)
+        && cache.pin("/s").is_some()
+        && cache.is_pinned("/s")
+        && stays(cache, alloc, files)
+}
+
+/// Whether it is looked at anew from when it is unpinned, and then let go with both versions.
+fn goes_unpinned(cache: &mut FileCache<Note>, alloc: Global, files: &mut MemFiles) -> bool {
+    cache.unpin("/s").is_some()
+        && answers(cache, alloc, files, b"V2")
+        && cache.entry_count() == 2
+        && cache.path_count() == 1
+        && cache.evict("/s")
+        && cache.entry_count() == 0
+}
+
+#[test]
+fn a_pinned_path_keeps_its_version(rt: HostRuntime) {
+    let mut files = MemFiles::new(rt.alloc(), 0);
+    let mut cache = FileCache::<Note>::builder().build(rt.alloc());
+    let stays = stays_pinned(&mut cache, rt.alloc(), &mut files);
+    let goes = goes_unpinned(&mut cache, rt.alloc(), &mut files);
+    assert!(rt; stays && goes);
+}
+
+#[test]
+fn a_path_keeps_its_version_where_nothing_is_reloaded(rt: HostRuntime) {
+    let mut files = MemFiles::new(rt.alloc(), 0);
+    let mut cache = FileCache::<Note>::builder()
+        .enable_auto_reload(false)
+        .build(rt.alloc());
+    let held = put(rt.alloc(), &mut files, b"V1")
+        && answers(&mut cache, rt.alloc(), &mut files, b"V1")
+        && stays(&mut cache, rt.alloc(), &mut files);
+    assert!(rt; held);
+}
+
+/// Takes in a note as that of the file at `/s`.
+fn take_in(cache: &mut FileCache<Note>, alloc: Global, files: &mut MemFiles) -> Result<()> {
+    let note = Note::parse(alloc, b"V1".to_vec(alloc)?)?;
+    let note = Rc::new(alloc, note)?;
+    cache.insert_value(alloc, files, "/s", note)
+}
+
+/// Whether a note is taken in once where a file is, which isn't read.
+fn takes_in_once(cache: &mut FileCache<Note>, alloc: Global, files: &mut MemFiles) -> bool {
+    take_in(cache, alloc, files) == Err(Error::NotFound)
+        && put(alloc, files, b"not a note")
+        && take_in(cache, alloc, files) == Ok(())
+        && answers(cache, alloc, files, b"V1")
+        && files.opens() == 0
+        && take_in(cache, alloc, files) == Err(Error::AlreadyExists)
+}
+
+#[test]
+fn a_version_is_taken_in_unread(rt: HostRuntime) {
+    let mut files = MemFiles::new(rt.alloc(), 0);
+    let mut cache = FileCache::<Note>::builder().build(rt.alloc());
+    let taken = takes_in_once(&mut cache, rt.alloc(), &mut files);
+    assert!(rt; taken);
+}
+
+/// Looks at a path whose file changes and changes back. Says whether there was a stamp for it.
+fn changes_back(cache: &mut FileCache<Note>, alloc: Global, files: &mut MemFiles) -> Result<bool> {
+    let Some(stamp) = files.put(alloc, "/a", b"V1".to_vec(alloc)?)? else {
+        return Ok(false);
+    };
+    cache.entry(alloc, files, "/a")?;
+    files.put(alloc, "/a", b"V2".to_vec(alloc)?)?;
+    cache.entry(alloc, files, "/a")?;
+    files.put_as(alloc, "/a", stamp, b"V1".to_vec(alloc)?)?;
+    cache.entry(alloc, files, "/a")?;
+    Ok(true)
+}
+
+/// Whether a path that names a stamp twice lets its version go.
+fn lets_go(alloc: Global) -> bool {
+    let mut files = MemFiles::new(alloc, 0);
+    let mut cache = FileCache::<Note>::builder().build(alloc);
+    changes_back(&mut cache, alloc, &mut files) == Ok(true)
+        && cache.entry_count() == 2
+        && cache.evict("/a")
+        && cache.entry_count() == 0
+}
+
+#[test]
+fn a_path_counts_once_at_a_stamp(rt: HostRuntime) {
+    assert!(rt; lets_go(rt.alloc()));
+}
+
+/// Looks at two paths of one file.
+fn look_at_two(cache: &mut FileCache<Note>, alloc: Global, files: &mut MemFiles) -> Result<()> {
+    files.put(alloc, "/a", b"V1".to_vec(alloc)?)?;
+    files.link(alloc, "/b", "/a")?;
+    cache.entry(alloc, files, "/a")?;
+    cache.entry(alloc, files, "/b")?;
+    Ok(())
+}
+
+/// Whether the one version stays until both paths are forgotten.
+fn stays_for_two(cache: &mut FileCache<Note>) -> bool {
+    cache.entry_count() == 1
+        && cache.path_count() == 2
+        && !cache.evict("/a")
+        && cache.entry_count() == 1
+        && cache.evict("/b")
+        && cache.entry_count() == 0
+        && !cache.evict("/b")
+        && cache.pin("/b").is_none()
+}
+
+#[test]
+fn a_version_stays_while_a_path_names_it(rt: HostRuntime) {
+    let mut files = MemFiles::new(rt.alloc(), 0);
+    let mut cache = FileCache::<Note>::builder().build(rt.alloc());
+    let looked = look_at_two(&mut cache, rt.alloc(), &mut files).is_ok();
+    let stays = stays_for_two(&mut cache);
+    assert!(rt; looked && stays);
+}

@@ -1,0 +1,116 @@
+//! Which names are taken: UTF-8 that a zero byte ends, wherever in the strings it begins.
+
+use crate::heads::is_refused_as;
+use crate::made::{add_function, with_symbols};
+use bz_base::{Error, FindSymOpts, Symbolize};
+use bz_elf::{ElfFile, laws};
+use std::alloc::{AllocError, Global};
+use std::test::Fail;
+
+/// A file with these strings, and with functions of one byte each, from the address 0 on, that have their
+/// names at these places.
+fn with_names(alloc: Global, strings: &[u8], places: &[u32]) -> Result<Vec<u8>, AllocError> {
+    let mut symbols = Vec::new(alloc);
+    for (i, place) in places.iter().enumerate() {
+        add_function(&mut symbols, *place, i as u64, 1)?;
+    }
+    with_symbols(alloc, symbols.as_slice(), strings)
+}
+
+/// Strings that are UTF-8.
+const TEXT: &[u8] = b"\0a\xc3\xa9b\0\xe2\x82\xac\0cd";
+
+/// Strings that aren't: at 3 stands a byte that is in no character, at 8 the first of two, and at 17
+/// a later one.
+const MIXED: &[u8] = b"\0ab\xffc\0d\0\xc3\0\xe2\x82\xace\0f\0\x80";
+
+/// Strings, places of names in them, and the names.
+const NAMES: &[(&[u8], &[u32], &[&str])] = &[
+    (
+        TEXT,
+        &[0, 1, 2, 4, 5, 6, 9],
+        &["", "aéb", "éb", "b", "", "€", ""],
+    ),
+    // In the order of the file, whatever the order of the places.
+    (TEXT, &[9, 4, 1, 4], &["", "b", "aéb", "b"]),
+    (b"abc\0", &[3, 2, 1, 0], &["", "c", "bc", "abc"]),
+    (b"\0", &[0], &[""]),
+    // What is named is UTF-8, though what lies beside it isn't.
+    (MIXED, &[4, 6, 10, 14], &["c", "d", "€e", ""]),
+    (
+        MIXED,
+        &[13, 10, 15, 16, 9, 0, 5, 7],
+        &["e", "€e", "f", "", "", "", "", ""],
+    ),
+    (b"\xff\0", &[1], &[""]),
+];
+
+/// Strings, and places of names of which the last is none.
+const NO_NAMES: &[(&[u8], &[u32])] = &[
+    // Within a character, behind the last zero byte, at the end and past it.
+    (TEXT, &[1, 3]),
+    (TEXT, &[7]),
+    (TEXT, &[6, 8]),
+    (TEXT, &[10]),
+    (TEXT, &[12]),
+    (TEXT, &[13]),
+    (TEXT, &[u32::MAX]),
+    // No UTF-8 from there on, also where it lies in front of a name that is good.
+    (MIXED, &[1]),
+    (MIXED, &[4, 2]),
+    (MIXED, &[4, 3]),
+    (MIXED, &[8]),
+    (MIXED, &[10, 11]),
+    (MIXED, &[10, 12]),
+    (MIXED, &[15, 17]),
+    (MIXED, &[15, 18]),
+    // No zero byte.
+    (b"ab", &[0]),
+    (b"", &[0]),
+];
+
+/// Whether the function at an address has this name.
+fn is_named(alloc: Global, file: &ElfFile, addr: u64, name: &str) -> bool {
+    match file.find_sym(alloc, addr, &FindSymOpts::Basic) {
+        Ok(Ok(symbol)) => symbol.name == name,
+        _ => false,
+    }
+}
+
+/// Whether the functions of the file have these names.
+fn has_names(alloc: Global, bytes: Vec<u8>, names: &[&str]) -> bool {
+    let Ok(file) = ElfFile::from_bytes(alloc, bytes) else {
+        return false;
+    };
+    for (i, name) in names.iter().enumerate() {
+        if !is_named(alloc, &file, i as u64, name) {
+            return false;
+        }
+    }
+    true
+}
+
+#[test]
+fn names_stand_where_characters_begin(rt: HostRuntime) -> Result<(), Fail> {
+    laws::names_are_exact();
+    for (strings, places, names) in NAMES {
+        let bytes = with_names(rt.alloc(), strings, places)?;
+        assert!(rt;
+            has_names(rt.alloc(), bytes, names),
+            "{names:?} in {strings:?}"
+        );
+    }
+    Ok(())
+}
+
+#[test]
+fn no_name_stands_elsewhere(rt: HostRuntime) -> Result<(), Fail> {
+    for (strings, places) in NO_NAMES {
+        let bytes = with_names(rt.alloc(), strings, places)?;
+        assert!(rt;
+            is_refused_as(rt.alloc(), bytes, Some(Error::InvalidData)),
+            "{places:?} in {strings:?}"
+        );
+    }
+    Ok(())
+}

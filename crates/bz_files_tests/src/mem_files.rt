@@ -1,0 +1,106 @@
+//! Files in memory.
+
+ghost use Rattle.std.specs.Prelude.{◌≡◌, None, IsTrue};
+ghost use Rattle.bz_files.specs.MemWorlds.{first_world};
+ghost use Rattle.bz_files.specs.World.{entry_at};
+
+use bz_base::Error;
+use bz_files::{FileError, Files, MemFiles, Stamp};
+use std::alloc::Global;
+use std::test::Fail;
+
+/// Whether the file at `/a` has this text.
+fn has_text(files: &mut MemFiles, alloc: Global, text: &str) -> bool {
+    match files.read(alloc, "/a") {
+        Ok(bytes) => bytes.as_slice() == text.as_bytes(),
+        Err(_) => false,
+    }
+}
+
+/// Puts a text at `/a`, the same file at `/b`, and then another text at `/a` under the same stamp.
+/// Gives this stamp.
+fn put_two(files: &mut MemFiles, alloc: Global) -> Result<Option<Stamp>, Error> {
+    let Some(stamp) = files.put(alloc, "/a", b"one".to_vec(alloc)?)? else {
+        return Ok(None);
+    };
+    let linked = files.link(alloc, "/b", "/a")?;
+    files.put_as(alloc, "/a", stamp, b"two".to_vec(alloc)?)?;
+    Ok(if linked { Some(stamp) } else { None })
+}
+
+/// Whether the looks answer by what was put, and the fourth one fails.
+fn answers_in_turn(files: &mut MemFiles, alloc: Global, stamp: Stamp) -> bool {
+    files.stat("/b") == Ok(stamp)
+        && has_text(files, alloc, "two")
+        && files.stat("/c") == Err(FileError::Denied)
+        && files.stat("/b") == Err(FileError::Fault)
+}
+
+/// Whether what is at a path is taken away once, and all that happened is counted.
+fn removes_and_counts(files: &mut MemFiles) -> bool {
+    let removed = files.remove("/b") && !files.remove("/b");
+    removed && files.faults() == 1 && files.opens() == 1 && files.own_pid() == 7
+}
+
+/// Whether files hold what is put, one that may not be read, and a look that fails.
+fn holds(files: &mut MemFiles, alloc: Global) -> Result<bool, Error> {
+    let Some(stamp) = put_two(files, alloc)? else {
+        return Ok(false);
+    };
+    files.deny(alloc, "/c")?;
+    files.fail_call(alloc, 4)?;
+    Ok(answers_in_turn(files, alloc, stamp) && removes_and_counts(files))
+}
+
+#[test]
+fn memory_files_hold_what_is_put(rt: HostRuntime) {
+    let mut files = MemFiles::new(rt.alloc(), 7);
+    files.begin();
+    let held = holds(&mut files, rt.alloc());
+    assert!(rt; held == Ok(true));
+}
+
+/// What the file at `/a` holds in each world that is scheduled.
+const TEXTS: [&str; 3] = ["one", "two", "three"];
+
+/// Files whose first world is empty.
+fn scheduled(alloc: Global) -> Result<MemFiles, Error> {
+    let mut files = MemFiles::new(alloc, 7);
+    for text in &TEXTS {
+        files.schedule(alloc)?;
+        let bytes = text.as_bytes().to_vec(alloc)?;
+        files.put(alloc, "/a", bytes)?;
+    }
+    Ok(files)
+}
+
+/// Whether the scheduled worlds come into view one by one, and the last one stays.
+fn come_in_turn(files: &mut MemFiles, alloc: Global) -> bool {
+    for text in &TEXTS {
+        files.begin();
+        if !has_text(files, alloc, text) {
+            return false;
+        }
+    }
+    files.begin();
+    has_text(files, alloc, "three")
+}
+
+/// Whether nothing is at the path in the world in view. Files in memory always have one.
+fn is_absent(files: &mut MemFiles, path: &str) -> bool
+    ensures { IsTrue result → entry_at (first_world files.old.worlds) path.now ≡ None }
+{
+    matches!(files.stat(path), Err(FileError::NotFound))
+}
+
+#[test]
+fn memory_worlds_come_in_turn(rt: HostRuntime) -> Result<(), Fail> {
+    let alloc = rt.alloc();
+    let mut files = scheduled(alloc)?;
+    let first_is_empty = is_absent(&mut files, "/a");
+    let in_turn = come_in_turn(&mut files, alloc);
+    // The last world is in view now, and it is the one that edits change.
+    let edited = files.remove("/a") && is_absent(&mut files, "/a");
+    assert!(rt; first_is_empty && in_turn && edited);
+    Ok(())
+}

@@ -1,0 +1,100 @@
+//! Readers and writers of the system.
+
+use bz_files::{IoFault, RealIn, RealOut, TextIn, TextOut};
+use std::alloc::Global;
+use std::io::{self, ErrorKind, Read, Write};
+
+/// Whether a text comes in pieces of three bytes, and then ends.
+fn comes_in_pieces() -> bool {
+    let mut piece = [0u8; 3];
+    let mut input = RealIn::new(b"abcd".as_slice());
+    input.take(&mut piece) == Ok(3)
+        && piece == *b"abc"
+        && input.take(&mut piece) == Ok(1)
+        && piece == *b"dbc"
+        && input.take(&mut piece) == Ok(0)
+        && input.faults() == 0
+}
+
+/// Whether a text goes in pieces.
+fn goes_in_pieces(alloc: Global) -> bool {
+    let mut written = Vec::new(alloc);
+    let mut output = RealOut::new(&mut written);
+    let put = output.put(b"abc") == Ok(3) && output.put(b"de") == Ok(2) && output.faults() == 0;
+    put && written.as_slice() == b"abcde".as_slice()
+}
+
+#[test]
+fn real_texts_go_in_pieces(rt: HostRuntime) {
+    assert!(rt; comes_in_pieces());
+    assert!(rt; goes_in_pieces(rt.alloc()));
+}
+
+/// A reader and writer that fails at its first call, and then serves.
+#[derive(Drop)]
+struct FailsOnce {
+    failed: bool,
+}
+
+impl Read for FailsOnce {
+    fn read(&mut self, piece: &mut [u8]) -> io::Result<usize> {
+        if !self.failed {
+            self.failed = true;
+            return Err(io::Error::from(ErrorKind::BrokenPipe));
+        }
+        match piece.first_mut() {
+            Some(byte) => {
+                *byte = b'a';
+                Ok(1)
+            }
+            None => Ok(0),
+        }
+    }
+}
+
+impl Write for FailsOnce {
+    fn write(&mut self, piece: &[u8]) -> io::Result<usize> {
+        if !self.failed {
+            self.failed = true;
+            return Err(io::Error::from(ErrorKind::BrokenPipe));
+        }
+        Ok(piece.len())
+    }
+
+    fn flush(&mut self) -> io::Result<()> {
+        Ok(())
+    }
+}
+
+/// Whether the first piece is a fault that is counted, and the next one comes.
+fn comes_after_a_fault() -> bool {
+    let mut piece = [0u8; 3];
+    let mut input = RealIn::new(FailsOnce { failed: false });
+    input.take(&mut piece) == Err(IoFault::Fault)
+        && input.take(&mut piece) == Ok(1)
+        && piece == *b"a\0\0"
+        && input.faults() == 1
+}
+
+/// Whether the first piece is a fault that is counted, and the next one goes.
+fn goes_after_a_fault() -> bool {
+    let mut output = RealOut::new(FailsOnce { failed: false });
+    output.put(b"abc") == Err(IoFault::Fault) && output.put(b"abc") == Ok(3) && output.faults() == 1
+}
+
+/// Whether a writer over an array takes nothing once it is full.
+fn goes_while_there_is_room() -> bool {
+    let mut room = [0u8; 2];
+    let mut full = RealOut::new(room.as_mut_slice());
+    full.put(b"abc") == Ok(2)
+        && full.put(b"c") == Err(IoFault::Fault)
+        && full.put(b"") == Ok(0)
+        && full.faults() == 1
+}
+
+#[test]
+fn real_texts_fail(rt: HostRuntime) {
+    assert!(rt; comes_after_a_fault());
+    assert!(rt; goes_after_a_fault());
+    assert!(rt; goes_while_there_is_room());
+}

@@ -1,0 +1,89 @@
+//! Which heads are taken.
+
+use bz_base::Error;
+use bz_gsym::{GsymContext, laws};
+use bz_samples::{GSYM_LINES, damaged};
+use std::test::Fail;
+
+/// Whether the bytes are taken as is expected, or else refused as outside the format.
+fn is_taken_as(bytes: &[u8], expected: bool) -> bool {
+    match GsymContext::parse_header(bytes) {
+        Ok(_) => expected,
+        Err(error) => !expected && error == Error::InvalidData,
+    }
+}
+
+/// Bytes that stand in the file from a place on, and whether it is taken then: each field of the head is
+/// 0, its greatest value, the last one that the bytes hold, and one past that.
+const HEADS: &[(usize, &[u8], bool)] = &[
+    // The magic number.
+    (0, b"\0\0\0\0", false),
+    (0, b"\xff\xff\xff\xff", false),
+    (0, b"\x4e\x59\x53\x47", false),
+    (0, b"\x47\x53\x59\x4d", false),
+    // The version.
+    (4, b"\0\0", false),
+    (4, b"\xff\xff", false),
+    (4, b"\x02\0", false),
+    // The size of addresses: at 0 the bytes at 56 are a count of 104 files.
+    (6, b"\0", false),
+    (6, b"\xff", false),
+    (6, b"\x03", true),
+    (6, b"\x2c", true),
+    (6, b"\x2d", false),
+    // The size of the build id.
+    (7, b"\0", true),
+    (7, b"\xff", true),
+    // The base address.
+    (8, b"\0\0\0\0\0\0\0\0", true),
+    (8, b"\xff\xff\xff\xff\xff\xff\xff\xff", true),
+    // The count of addresses: with 12 of them the starts descend, as the strings are among them.
+    (16, b"\0\0\0\0", true),
+    (16, b"\xff\xff\xff\xff", false),
+    (16, b"\x03\0\0\0", true),
+    (16, b"\x0c\0\0\0", false),
+    (16, b"\x0d\0\0\0", false),
+    // The place of the string table.
+    (20, b"\0\0\0\0", true),
+    (20, b"\xff\xff\xff\xff", false),
+    (20, b"\x82\0\0\0", true),
+    (20, b"\x83\0\0\0", false),
+    // The size of the string table.
+    (24, b"\0\0\0\0", true),
+    (24, b"\xff\xff\xff\xff", false),
+    (24, b"\x40\0\0\0", true),
+    (24, b"\x41\0\0\0", false),
+    // The build id.
+    (
+        28,
+        b"\xff\xff\xff\xff\xff\xff\xff\xff\xff\xff\xff\xff\xff\xff\xff\xff\xff\xff\xff\xff",
+        true,
+    ),
+    // The first start above the second, and both alike.
+    (48, b"\x50\0\0\0", false),
+    (48, b"\x40\0\0\0", true),
+    // The count of files: the most that the bytes hold, and one more.
+    (64, b"\x0a\0\0\0", true),
+    (64, b"\x0b\0\0\0", false),
+];
+
+#[test]
+fn heads_are_taken_by_their_tables(rt: HostRuntime) -> Result<(), Fail> {
+    laws::files_are_exact();
+    for (place, new, taken) in HEADS {
+        let bytes = damaged(rt.alloc(), &GSYM_LINES, *place, new)?;
+        assert!(rt;
+            is_taken_as(bytes.as_slice(), *taken),
+            "at {place}: {new:?}"
+        );
+    }
+    Ok(())
+}
+
+#[test]
+fn a_cut_file_is_taken_once_its_tables_are_whole(rt: HostRuntime) {
+    // The string table is the last of them, and ends at 102.
+    for len in 0..104usize {
+        assert!(rt; is_taken_as(&GSYM_LINES[..len], len >= 102), "at {len}");
+    }
+}

@@ -1,0 +1,19 @@
+//! Tests of bz_gsym, over what it makes public.
+#![tactic(auto)]
+
+#[cfg(test)]
+mod heads;
+#[cfg(test)]
+mod inlines;
+#[cfg(test)]
+mod lines;
+#[cfg(test)]
+mod places;
+#[cfg(test)]
+mod resolvers;
+#[cfg(test)]
+mod searches;
+#[cfg(test)]
+mod symbols;
+#[cfg(test)]
+mod tables;

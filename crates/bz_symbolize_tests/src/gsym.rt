@@ -1,0 +1,237 @@
+//! GSYM, handed in and in a file.
+
+use crate::asking::{Expected, answers, answers_single, is_refused, is_unknown, looks_up, put};
+use bz_base::{CodeInfo, Error, InlinedFn, Input, Reason, Result, Sym, Symbolized};
+use bz_files::MemFiles;
+use bz_samples::{GSYM_CALLS, damaged};
+use bz_symbolize::Symbolizer;
+use bz_symbolize::source::{GsymData, GsymFile, Source};
+use std::alloc::Global;
+
+/// An address before the first function, and one in it.
+const ADDRESSES: &[u64] = &[0xfff, 0x1004];
+
+const MAIN: Expected = (Reason::UnknownAddr, "main");
+
+/// Whether the addresses, looked up, are answered as expected.
+fn looks_addresses_up(
+    alloc: Global,
+    symbolizer: &mut Symbolizer,
+    files: &mut MemFiles,
+    src: &Source<'_>,
+) -> bool {
+    match Vec::from_slice(alloc, ADDRESSES) {
+        Ok(addrs) => {
+            let input = Input::VirtOffset(addrs);
+            looks_up(alloc, symbolizer, files, src, input, MAIN)
+        }
+        Err(_) => false,
+    }
+}
+
+/// Whether the bytes answer the addresses, at once and looked up.
+fn answers_data(alloc: Global, bytes: &[u8]) -> bool {
+    let mut files = MemFiles::new(alloc, 7);
+    let mut symbolizer = Symbolizer::new(alloc);
+    let src = Source::from(GsymData::new(bytes));
+    let input = Input::VirtOffset(ADDRESSES);
+    answers(alloc, &mut symbolizer, &mut files, &src, input, MAIN)
+        && looks_addresses_up(alloc, &mut symbolizer, &mut files, &src)
+}
+
+/// Whether the bytes are refused as what isn't GSYM.
+fn is_invalid(alloc: Global, bytes: &[u8]) -> bool {
+    let mut files = MemFiles::new(alloc, 7);
+    let mut symbolizer = Symbolizer::new(alloc);
+    let src = Source::from(GsymData::new(bytes));
+    match symbolizer.symbolize(alloc, &mut files, &src, Input::VirtOffset(ADDRESSES)) {
+        Ok(_) => false,
+        Err(refusal) => refusal == Error::InvalidData,
+    }
+}
+
+#[test]
+fn answers_handed_in_bytes(rt: HostRuntime) {
+    assert!(rt; answers_data(rt.alloc(), &GSYM_CALLS));
+    assert!(rt; is_invalid(rt.alloc(), &GSYM_CALLS[..47]));
+}
+
+/// The GSYM file at `/m.gsym`.
+fn source(alloc: Global) -> Result<Source<'static>> {
+    Ok(Source::from(GsymFile::new(String::from_str(alloc, "/m.gsym")?)))
+}
+
+/// Whether the file answers a batch and a single address, is read once, and refuses another kind of
+/// address.
+fn answers_file(
+    alloc: Global,
+    symbolizer: &mut Symbolizer,
+    files: &mut MemFiles,
+    src: &Source<'_>,
+) -> bool {
+    let batch = Input::VirtOffset(ADDRESSES);
+    let single = Input::VirtOffset(0x1004);
+    let other = Input::FileOffset(4);
+    answers(alloc, symbolizer, files, src, batch, MAIN)
+        && answers_single(alloc, symbolizer, files, src, single, "main")
+        && files.opens() == 1
+        && is_refused(alloc, symbolizer, files, src, other, Error::Unsupported)
+}
+
+/// Whether this is so of the file of the calls.
+fn answers_calls(alloc: Global) -> bool {
+    let Ok(src) = source(alloc) else {
+        return false;
+    };
+    let mut files = MemFiles::new(alloc, 7);
+    let mut symbolizer = Symbolizer::new(alloc);
+    put(alloc, &mut files, "/m.gsym", &GSYM_CALLS)
+        && answers_file(alloc, &mut symbolizer, &mut files, &src)
+}
+
+#[test]
+fn answers_a_gsym_file(rt: HostRuntime) {
+    assert!(rt; answers_calls(rt.alloc()));
+}
+
+/// What is told of an address: the name of its symbol, which is empty where no symbol covers it, the
+/// offset in the symbol, the line of its place, which is in `src/a.c`, and that of its one inlined
+/// call, of `sub`.
+type Told = (&'static str, usize, Option<u32>, Option<u32>);
+
+/// Whether the place is that line of `src/a.c`, or there is neither.
+fn is_place(place: &Option<CodeInfo<'_>>, line: Option<u32>) -> bool {
+    let Some(place) = place else {
+        return line.is_none();
+    };
+    let Some(dir) = &place.dir else {
+        return false;
+    };
+    dir.as_str() == "src" && place.file.as_str() == "a.c" && line.is_some() && place.line == line
+}
+
+/// Whether the inlined call is of `sub` at that line.
+fn is_call(call: &InlinedFn<'_>, line: Option<u32>) -> bool {
+    call.name.as_str() == "sub" && line.is_some() && is_place(&call.code_info, line)
+}
+
+/// Whether the inlined calls are one of `sub` at that line, or there is neither.
+fn are_calls(calls: &[InlinedFn<'_>], line: Option<u32>) -> bool {
+    match calls {
+        [] => line.is_none(),
+        [call] => is_call(call, line),
+        _ => false,
+    }
+}
+
+/// Whether the symbol is what is told.
+fn is_symbol(symbol: &Sym<'_>, told: &Told) -> bool {
+    symbol.name.as_str() == told.0
+        && symbol.offset == told.1
+        && is_place(&symbol.code_info, told.2)
+        && are_calls(symbol.inlined.as_slice(), told.3)
+}
+
+/// Whether the answer is the symbol that is told, or else that no symbol covers the address.
+fn is_told(answer: &Symbolized<'_>, told: &Told) -> bool {
+    match answer {
+        Symbolized::Sym(symbol) => is_symbol(symbol, told),
+        Symbolized::Unknown(reason) => told.0 == "" && *reason == Reason::UnknownAddr,
+    }
+}
+
+/// Whether answers have places, whether they have inlined calls, an address, and what is told of it.
+type Row = (bool, bool, u64, Told);
+
+const UNCOVERED: Told = ("", 0, None, None);
+
+const TOLD: [Row; 13] = [
+    (true, true, 0xfff, UNCOVERED),
+    (true, true, 0x1000, ("main", 0, Some(5), None)),
+    (true, true, 0x1005, ("main", 5, Some(9), Some(5))),
+    (true, true, 0x1009, ("main", 9, Some(7), None)),
+    (true, true, 0x100c, ("main", 12, Some(7), None)),
+    (true, true, 0x101f, ("main", 31, Some(10), None)),
+    (true, true, 0x1020, UNCOVERED),
+    (true, true, 0x1040, ("sub", 0, None, None)),
+    (true, true, 0x9999, ("sub", 35161, None, None)),
+    (true, false, 0x1005, ("main", 5, Some(5), None)),
+    (false, true, 0x1005, ("main", 5, None, None)),
+    (false, false, 0x1005, ("main", 5, None, None)),
+    (false, false, 0x1040, ("sub", 0, None, None)),
+];
+
+/// Whether a symbolizer that is set as the row says answers its address as it tells.
+fn answers_row(alloc: Global, row: &Row) -> bool {
+    let mut files = MemFiles::new(alloc, 7);
+    let src = Source::from(GsymData::new(&GSYM_CALLS));
+    let mut symbolizer = Symbolizer::builder()
+        .enable_code_info(row.0)
+        .enable_inlined_fns(row.1)
+        .build(alloc);
+    match symbolizer.symbolize_single(alloc, &mut files, &src, Input::VirtOffset(row.2)) {
+        Ok(answer) => is_told(&answer, &row.3),
+        Err(_) => false,
+    }
+}
+
+#[test]
+fn tells_places_as_it_is_set(rt: HostRuntime) {
+    for row in &TOLD {
+        let addr = row.2;
+        assert!(rt; answers_row(rt.alloc(), row), "{addr}");
+    }
+}
+
+/// An address in the inlined call, and one behind it.
+const FOLDED: &[u64] = &[0x1005, 0x1009];
+
+/// What is told of the address behind the call.
+const BEHIND: Told = ("main", 9, Some(7), None);
+
+/// Whether the first answer is an ignored error, and the second one as told.
+fn are_folded(answers: &[Symbolized<'_>]) -> bool {
+    match answers {
+        [first, second] => is_unknown(first, Reason::IgnoredError) && is_told(second, &BEHIND),
+        _ => false,
+    }
+}
+
+/// Whether the batch of an address that is refused and of one that isn't answers so.
+fn folds(
+    alloc: Global,
+    symbolizer: &mut Symbolizer,
+    files: &mut MemFiles,
+    src: &Source<'_>,
+) -> bool {
+    match symbolizer.symbolize(alloc, files, src, Input::VirtOffset(FOLDED)) {
+        Ok(answers) => are_folded(answers.as_slice()),
+        Err(_) => false,
+    }
+}
+
+/// Whether the bytes answer the batch so, and refuse its first address alone.
+fn refuses_alone(alloc: Global, bytes: &[u8]) -> bool {
+    let mut files = MemFiles::new(alloc, 7);
+    let mut symbolizer = Symbolizer::new(alloc);
+    let src = Source::from(GsymData::new(bytes));
+    let single = Input::VirtOffset(0x1005);
+    let refusal = Error::InvalidData;
+    folds(alloc, &mut symbolizer, &mut files, &src)
+        && is_refused(alloc, &mut symbolizer, &mut files, &src, single, refusal)
+}
+
+/// Whether this is so where the inlined call names a file that isn't there.
+fn refuses_without_its_file(alloc: Global) -> bool {
+    match damaged(alloc, &GSYM_CALLS, 166, &[2]) {
+        Ok(bytes) => refuses_alone(alloc, bytes.as_slice()),
+        Err(_) => false,
+    }
+}
+
+/// An address whose inlined call names a file that isn't there is refused alone, and is an ignored
+/// error in a batch; others answer.
+#[test]
+fn folds_a_refused_gsym_address(rt: HostRuntime) {
+    assert!(rt; refuses_without_its_file(rt.alloc()));
+}

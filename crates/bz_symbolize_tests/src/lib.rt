@@ -1,0 +1,17 @@
+//! Tests of bz_symbolize, over what it makes public.
+#![tactic(auto)]
+
+#[cfg(test)]
+mod asking;
+#[cfg(test)]
+mod breakpad;
+#[cfg(test)]
+mod calling;
+#[cfg(test)]
+mod changes;
+#[cfg(test)]
+mod elf;
+#[cfg(test)]
+mod gsym;
+#[cfg(test)]
+mod lookups;

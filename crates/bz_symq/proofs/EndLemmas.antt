@@ -1,0 +1,134 @@
+-- What a run promises, from what its reply is, what the reply came to, and how the run ended.
+use Rattle.std.proofs.Common.{◌≡◌, ◌⊎◌, ◌↔◌, List, [], Option, Some, Ok, Err, refl, sym, ap, subst, ◌∙◌, inl, inr, append-nil, ℕ}
+use Rattle.bz_base.specs.declared.error.Error.{Error}
+use Rattle.bz_files.specs.Looked.{Faulted}
+use Rattle.bz_files.specs.World.{Told, in_view}
+use Rattle.bz_files.specs.declared.files.Files as files_trait
+use Rattle.bz_files.specs.declared.text.TextIn as input_trait
+use Rattle.bz_files.specs.declared.text.TextOut as output_trait
+use Rattle.bz_symq.specs.Outcome.{Outcome, run_outcome}
+use Rattle.bz_symq.specs.Reply.{outcome_of, IsDoneReply, RepliesToWords}
+use Rattle.bz_symq.specs.Run.{Ends, Fails, IsNoFailure, IsOrFails, Runs}
+use Rattle.bz_symq.specs.Turns.{FailsAtOne, ReadsOneFor, TakesTurns}
+use Rattle.bz_symq.specs.Writing.{Finishes}
+use Rattle.bz_symq.specs.declared.reply.Reply.{Reply}
+use Rattle.bz_symq.specs.declared.status.Status.{Status}
+use Rattle.bz_symq.specs.declared.status.Status.TheVariants as statuses
+use Rattle.bz_symq.proofs.FaultLemmas.{before_from_fails, fails_after, fails_as, fails_before, fault_from_fails, steady_from_fails}
+use Rattle.bz_symq.proofs.RunLemmas.{answerable_is_done, done_from_ends, refusable_is_refused, refused_from_ends}
+
+-- a run that ended by no failure ended by its reply's status
+status_from : (expected ended status : Status) → IsNoFailure status → IsOrFails expected ended → ended ≡ status → expected ≡ status
+status_from expected ended status no_failure (inl same) is = sym same ∙ is
+status_from expected ended status no_failure (inr (inl fault)) is = absurd (no_failure.0 (sym is ∙ fault))
+status_from expected ended status no_failure (inr (inr memory)) is = absurd (no_failure.1 (sym is ∙ memory))
+
+-- the statuses that aren't failures
+done_no_failure : IsNoFailure statuses.Done
+done_no_failure = (λ other. cc, λ other. cc)
+
+refused_no_failure : IsNoFailure statuses.Refused
+refused_no_failure = (λ other. cc, λ other. cc)
+
+usage_no_failure : IsNoFailure statuses.Usage
+usage_no_failure = (λ other. cc, λ other. cc)
+
+input_no_failure : IsNoFailure statuses.Input
+input_no_failure = (λ other. cc, λ other. cc)
+
+-- the run failed
+abbrev IsFailure : Status → Type 0
+IsFailure ended = (ended ≡ statuses.Fault) ⊎ (ended ≡ statuses.Memory)
+
+-- and then its status is no other
+never : (ended status : Status) → IsNoFailure status → IsFailure ended → ended ≡ status → ⊥
+never ended status no_failure (inl fault) is = no_failure.0 (sym is ∙ fault)
+never ended status no_failure (inr memory) is = no_failure.1 (sym is ∙ memory)
+
+-- and it has written a front, if only the empty one
+failed_ends : (expected : Outcome) (old : List ℕ) (ended : Status) (new : Option (List ℕ)) → IsFailure ended → new ≡ Some old → Ends expected old ended new
+failed_ends expected old ended new (inl fault) unwritten = rw fault ([], expected.text, refl, unwritten ∙ ap Some (sym (append-nil old)))
+failed_ends expected old ended new (inr memory) unwritten = rw memory ([], expected.text, refl, unwritten ∙ ap Some (sym (append-nil old)))
+
+module _ {R W F : Type 0} (reads : input_trait.Ghosts R) (writes : output_trait.Ghosts W) (looks : files_trait.Ghosts F) (words : List (List ℕ)) (ended : Status)
+    (input_before input_after : R) (output_before output_after : W) (files_before files_after : F) where
+  -- a reply was given, and its writing ended the run
+  pub runs_with_reply : (reply : Reply) → RepliesToWords words (reads.left input_before) (in_view (looks.worlds files_before)) (Ok reply) →
+      TakesTurns reads looks words (Ok reply) input_before input_after files_before files_after → ReadsOneFor looks (IsDoneReply (Ok reply)) files_before files_after →
+      FailsAtOne reads looks (Faulted (Ok reply)) input_before input_after files_before files_after → Finishes writes (outcome_of reply) ended output_before output_after →
+      Runs reads writes looks words ended input_before input_after output_before output_after files_before files_after
+  runs_with_reply reply given turns opens counts finished = record {
+    ends = ends;
+    status = status;
+    done = λ done text left world seen old written. done_from_ends _ _ _ _ _ (rw done at (ends text left world seen old written));
+    answered = λ done text left old written. given.answered text left (by_reply statuses.Done done_no_failure done) old _ ((rw done at (finished.ends old written)).1);
+    refused = λ refused text left world seen old written. refused_from_ends _ _ _ _ _ (rw refused at (ends text left world seen old written));
+    usage = (λ usage. given.usage.0 (by_reply statuses.Usage usage_no_failure usage), λ none. rw (given.usage.1 none) at finished.status);
+    input = λ text left. (
+      λ bad. (given.input text left).0 (by_reply statuses.Input input_no_failure bad),
+      λ bad. rw ((given.input text left).1 bad) at finished.status,
+    );
+    complete = λ text left world seen is. rw (answerable_is_done words text world is) at (status text left world seen);
+    refuses = λ text left world seen is. rw (refusable_is_refused words text world is) at (status text left world seen);
+    unread = turns.unread;
+    unlooked = turns.unlooked;
+    read = λ _. turns.read;
+    bounded = turns.bounded;
+    order = inr turns.read;
+    silent = λ text left world seen nothing. finished.silent (ap (λ (o : Outcome). o.text) (given.reply text left world seen) ∙ nothing);
+    most = opens.most;
+    opened = λ world seen done. opens.opened world seen (by_reply statuses.Done done_no_failure done);
+    fails = fails;
+    fault = fault_from_fails _ _ _ _ _ _ _ _ _ _ fails;
+    steady = steady_from_fails _ _ _ _ _ _ _ _ _ _ fails;
+    before_output = before_from_fails _ _ _ _ _ _ _ _ _ _ fails;
+  }
+    where
+      by_reply : (status : Status) → IsNoFailure status → ended ≡ status → reply.status ≡ status
+      by_reply other no_failure is = status_from reply.status ended other no_failure finished.status is
+
+      ends : Told (reads.left input_before) (λ text. Told (in_view (looks.worlds files_before)) (λ world. Told (writes.written output_before) (λ old.
+          Ends (run_outcome words text world) old ended (writes.written output_after))))
+      ends text left world seen old written = subst (λ expected. Ends expected old ended (writes.written output_after)) (given.reply text left world seen) (finished.ends old written)
+
+      status : Told (reads.left input_before) (λ text. Told (in_view (looks.worlds files_before)) (λ world. IsOrFails (run_outcome words text world).status ended))
+      status text left world seen = subst (λ (expected : Outcome). IsOrFails expected.status ended) (given.reply text left world seen) finished.status
+
+      fails : Fails reads writes looks ended input_before input_after output_before output_after files_before files_after
+      fails = fails_after reads writes looks ended _ _ _ _ _ _ (Faulted (Ok reply)) (λ fault. fault) counts finished.counts
+
+  -- no reply was given, and nothing was written
+  pub runs_without_reply : (e : Error) → IsFailure ended → (Faulted {A = Reply} (Err e) ↔ (ended ≡ statuses.Fault)) → TakesTurns reads looks words (Err e) input_before input_after files_before files_after →
+      ReadsOneFor looks (IsDoneReply (Err e)) files_before files_after → FailsAtOne reads looks (Faulted {A = Reply} (Err e)) input_before input_after files_before files_after →
+      output_after ≡ output_before →
+      Runs reads writes looks words ended input_before input_after output_before output_after files_before files_after
+  runs_without_reply e failed same_fault turns opens counts unwritten = record {
+    ends = λ text left world seen old written. failed_ends _ old ended _ failed (ap writes.written unwritten ∙ written);
+    status = λ text left world seen. inr failed;
+    done = λ done. absurd (never ended statuses.Done done_no_failure failed done);
+    answered = λ done. absurd (never ended statuses.Done done_no_failure failed done);
+    refused = λ refused. absurd (never ended statuses.Refused refused_no_failure failed refused);
+    usage = (λ usage. absurd (never ended statuses.Usage usage_no_failure failed usage), λ none. inr failed);
+    input = λ text left. (λ bad. absurd (never ended statuses.Input input_no_failure failed bad), λ bad. inr failed);
+    complete = λ text left world seen is. inr failed;
+    refuses = λ text left world seen is. inr failed;
+    unread = turns.unread;
+    unlooked = turns.unlooked;
+    read = λ no_failure. absurd (never ended ended no_failure failed refl);
+    bounded = turns.bounded;
+    order = by_order turns.order;
+    silent = λ text left world seen nothing. unwritten;
+    most = opens.most;
+    opened = λ world seen done. absurd (never ended statuses.Done done_no_failure failed done);
+    fails = fails;
+    fault = fault_from_fails _ _ _ _ _ _ _ _ _ _ fails;
+    steady = steady_from_fails _ _ _ _ _ _ _ _ _ _ fails;
+    before_output = before_from_fails _ _ _ _ _ _ _ _ _ _ fails;
+  }
+    where
+      fails : Fails reads writes looks ended input_before input_after output_before output_after files_before files_after
+      fails = fails_before reads writes looks ended _ _ _ _ _ _ (fails_as reads looks same_fault.0 same_fault.1 counts) unwritten
+
+      by_order : {P : Type 0} → (files_after ≡ files_before) ⊎ P → ((files_after ≡ files_before) × (output_after ≡ output_before)) ⊎ P
+      by_order (inl unlooked) = inl (unlooked, unwritten)
+      by_order (inr read) = inr read

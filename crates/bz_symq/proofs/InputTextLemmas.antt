@@ -1,0 +1,56 @@
+-- The input, piece by piece.
+use Rattle.std.proofs.Common.{◌≡◌, ℕ, ◌+◌, ◌≤◌, List, [], ◌∷◌, ◌++◌, length, drop, Option, Some, Result, Ok, Err, refl, sym, ap, ◌∙◌, arith}
+use Rattle.std.proofs.lemmas.List.{length-drop, nil_from_length}
+use Rattle.std.proofs.Math.Seq.{drop-append_seam, drop-append-add}
+use Rattle.bz_files.specs.World.{Told}
+use Rattle.bz_symq.specs.InputText.{Moves, MovesAtMost, greatest_input, room_after, left_over, in_front}
+
+-- an empty front changes nothing
+pub front_none : (read : Result (List ℕ) ℕ) → in_front [] read ≡ read
+front_none (Ok addrs) = refl
+front_none (Err n) = refl
+
+-- what lies past a front is what follows it
+drop_front : (front rest text : List ℕ) (n : ℕ) → text ≡ front ++ rest → length front ≡ n → rest ≡ drop n text
+drop_front front rest text n whole counted = rw (whole, ← counted) (sym (drop-append_seam front rest))
+
+-- where so many bytes have been moved, what lies past them is left
+pub left_past : (before after : Option (List ℕ)) (front text : List ℕ) (n : ℕ) → Moves before after front → length front ≡ n → before ≡ Some text →
+    after ≡ Some (drop n text)
+left_past before after front text n moves counted told =
+    let moved = moves text told in
+    moved.2 ∙ ap Some (drop_front front moved.0 text n moved.1 counted)
+
+-- two texts that are empty together
+nothing_in : (front rest : List ℕ) → [] ≡ front ++ rest → (front ≡ []) × (rest ≡ [])
+nothing_in [] [] none = (refl, refl)
+nothing_in [] (b ∷ bs) none = cc
+nothing_in (b ∷ bs) rest none = cc
+
+-- where nothing was left, what was read is the whole, and nothing is left
+pub read_whole : (first second third : Option (List ℕ)) (front piece text : List ℕ) → Moves first second front → Moves second third piece →
+    Told second (λ rest. rest ≡ []) → first ≡ Some text → (front ++ piece ≡ text) × (third ≡ Some [])
+read_whole first second third front piece text before more end told =
+    let so_far = before text told in
+    let next = more so_far.0 so_far.2 in
+    let empty = end so_far.0 so_far.2 in
+    let none = nothing_in piece next.0 (sym empty ∙ next.1) in
+    (ap (λ bytes. front ++ bytes) (none.0 ∙ sym empty) ∙ sym so_far.1, next.2 ∙ ap Some none.1)
+
+-- what fits the room after a front stays within the greatest length and one byte
+pub moves_within : (first second third : Option (List ℕ)) (front : List ℕ) (n : ℕ) → n ≡ length front → n ≤ greatest_input + 1 → Moves first second front →
+    MovesAtMost (room_after n) second third → MovesAtMost (greatest_input + 1) first third
+moves_within first second third front n counted few before more = λ text told.
+    let so_far = before text told in
+    let next = more so_far.0 so_far.2 in
+    let past = drop-append-add front so_far.0 next.0 in
+    (length front + next.0, omega (arith, next.1, counted, few), next.2 ∙ ap Some (sym past ∙ ap (drop (length front + next.0)) (sym so_far.1)))
+
+-- an input that was read to its end, and isn't too long, has left what lies past the greatest length: nothing
+pub left_at_end : (text : List ℕ) → length text ≤ greatest_input → [] ≡ left_over text
+left_at_end text short = sym (nil_from_length (left_over text) (omega (arith, length-drop (greatest_input + 1) text)))
+
+-- so where an input that isn't too long was read to its end
+pub over_at_end : (before after : Option (List ℕ)) (bytes : List ℕ) → length bytes ≤ greatest_input → Told before (λ text. bytes ≡ text) →
+    Told before (λ text. after ≡ Some []) → Told before (λ text. after ≡ Some (left_over text))
+over_at_end before after bytes short whole end = λ text told. end text told ∙ ap Some (left_at_end text (rw (whole text told) at short))

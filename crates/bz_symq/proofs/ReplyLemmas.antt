@@ -1,0 +1,116 @@
+-- What the reply to the words is.
+use Rattle.std.proofs.Common.{◌≡◌, ◌≢◌, ◌↔◌, ℕ, ◌<◌, ◌≤◌, List, ◌++◌, length, Option, Some, None, Result, Ok, Err, IfOk, IsOk, OnOk, IsErr, refl, ap, subst, ◌∙◌, inl, inr}
+use Rattle.std.proofs.lemmas.Bool.{false≢true, le-ltb, lt-ltb}
+use Rattle.bz_base.specs.Answer.{Answer}
+use Rattle.bz_base.specs.declared.error.Error.{Error}
+use Rattle.bz_base.specs.declared.error.Error.TheVariants as errors
+use Rattle.bz_cache.specs.Format.{Comes}
+use Rattle.bz_files.specs.World.{World, Told}
+use Rattle.bz_symq.specs.InputText.{addresses_in, greatest_input}
+use Rattle.bz_symq.specs.Outcome.{Outcome, by_addresses, by_answer, run_outcome, too_long}
+use Rattle.bz_symq.specs.Reply.{outcome_of, IsInputReply, IsInputStatus, IsRunReply, Replies, RepliesTo, RepliesToWords}
+use Rattle.bz_symq.specs.Run.{IsBadInput, IsNoFailure}
+use Rattle.bz_symq.specs.Words.{Command, command_in}
+use Rattle.bz_symq.specs.declared.reply.Reply.{Reply}
+use Rattle.bz_symq.specs.declared.status.Status.{Status}
+use Rattle.bz_symq.specs.declared.status.Status.TheVariants as statuses
+use Rattle.bz_symq.proofs.InputGrammarLemmas.{addresses_found}
+use Rattle.bz_symq.proofs.RunLemmas.{bad_from_read, err_from_bad}
+
+-- where a call was refused, the reply to the refusal is the reply to the call
+pub replies_refused : {A : Type 0} (view : A → List Answer) (addrs : List ℕ) (expected : Result (List Answer) Error) (error : Error) (result : Result Reply Error) →
+    Comes view expected (Err error) → RepliesTo error result → Replies (by_answer addrs expected) result
+replies_refused view addrs expected errors.ReadFault result comes is = rw is tt
+replies_refused view addrs expected errors.OutOfMemory result comes is = rw is tt
+replies_refused view addrs expected _ (Ok reply) comes is = rw comes is
+replies_refused view addrs expected _ (Err e) comes is = rw is tt
+
+-- what holds holds wherever a reply is given
+pub given_always : {A B : Type 0} {P : Type 0} (result : Result A B) → P → IfOk result (λ _. P)
+given_always (Ok given) holds = holds
+given_always (Err e) holds = tt
+
+-- what holds of an answered call holds where the call was answered
+pub given_from_ok : {A B : Type 0} (result : Result A B) (P : Type 0) → OnOk result P → IsOk result → P
+given_from_ok (Ok given) P holds is = holds
+given_from_ok (Err e) P holds is = absurd (false≢true is)
+
+-- the status of a reply to an input is no failure
+no_failure_from : (read : Result (List ℕ) ℕ) (status : Status) → IsInputStatus read status → IsNoFailure status
+no_failure_from (Err n) status is = (λ other. cc, λ other. cc)
+no_failure_from (Ok addrs) status (inl is) = (λ other. cc, λ other. cc)
+no_failure_from (Ok addrs) status (inr is) = (λ other. cc, λ other. cc)
+
+-- and not that of words that are no command
+never_usage : (read : Result (List ℕ) ℕ) (status : Status) → IsInputStatus read status → status ≢ statuses.Usage
+never_usage (Err n) status is other = cc
+never_usage (Ok addrs) status (inl is) other = cc
+never_usage (Ok addrs) status (inr is) other = cc
+
+-- and that of a bad input exactly where the input isn't read
+input_iff : (read : Result (List ℕ) ℕ) (status : Status) → IsInputStatus read status → (status ≡ statuses.Input) ↔ IsErr read
+input_iff (Err n) status is = (λ _. refl, λ _. is)
+input_iff (Ok addrs) status (inl is) = (λ other. cc, λ err. absurd (false≢true err))
+input_iff (Ok addrs) status (inr is) = (λ other. cc, λ err. absurd (false≢true err))
+
+-- words that give a command aren't without one
+no_none : (words : List (List ℕ)) (command : Command) → command_in words ≡ Some command → command_in words ≡ None → ⊥
+no_none words command is none = cc
+
+module _ (words : List (List ℕ)) (command : Command) (input : List ℕ) (command_is : command_in words ≡ Some command) (short : length input ≤ greatest_input) where
+  -- the addresses that a reply answers are those that the run is asked for
+  run_from_input : (reply : Reply) → IsInputReply command input reply → IsRunReply words input reply
+  run_from_input reply answered = λ done old new written.
+      let given = answered done in
+      record {
+        command = command;
+        addrs = given.0;
+        answers = given.2.answers;
+        asks = record { command_is = command_is; short = short; input_is = addresses_found input given.0 given.1 };
+        answers_are = given.2.answers_are;
+        written = written ∙ ap (λ text. Some (old ++ text)) given.2.text_is;
+      }
+
+  -- a reply's status is that of a bad input exactly where the input is one
+  bad_iff : (status : Status) → IsInputStatus (addresses_in input) status → (status ≡ statuses.Input) ↔ IsBadInput words input
+  bad_iff status is =
+      let read = input_iff (addresses_in input) status is in (
+        λ at. bad_from_read words command input command_is short (addresses_in input) refl (read.0 at),
+        λ bad. read.1 (err_from_bad words command input command_is short bad),
+      )
+
+  -- an input that isn't too long is replied to by what is read of it
+  outcome_read : (text : List ℕ) (world : World) → input ≡ text → by_addresses command world (addresses_in input) ≡ run_outcome words text world
+  outcome_read text world same = rw (← same, command_is, le-ltb _ _ short) refl
+
+  -- so the reply to it is the reply to the words
+  pub words_from_input : (left : Option (List ℕ)) (seen : Option World) (result : Result Reply Error) → Told left (λ text. input ≡ text) →
+      Told seen (λ world. Replies (by_addresses command world (addresses_in input)) result) → IfOk result (λ given. IsInputReply command input given) →
+      IfOk result (λ given. IsInputStatus (addresses_in input) given.status) → RepliesToWords words left seen result
+  words_from_input left seen (Ok reply) whole replies answered status = record {
+    reply = λ text told world sees. subst (λ expected. Replies expected (Ok reply)) (outcome_read text world (whole text told)) (replies world sees);
+    answered = λ text told. rw (← whole text told) (run_from_input reply answered);
+    no_failure = no_failure_from (addresses_in input) reply.status status;
+    usage = (λ is. absurd (never_usage (addresses_in input) reply.status status is), λ none. absurd (no_none words command command_is none));
+    input = λ text told. rw (← whole text told) (bad_iff reply.status status);
+  }
+  words_from_input left seen (Err e) whole replies answered status = record {
+    reply = λ text told world sees. subst (λ expected. Replies expected (Err e)) (outcome_read text world (whole text told)) (replies world sees);
+    answered = λ text told. tt;
+    no_failure = tt;
+    usage = tt;
+    input = λ text told. tt;
+  }
+
+-- the reply to an input that is too long
+pub words_from_long : (words : List (List ℕ)) (command : Command) → command_in words ≡ Some command → (left : Option (List ℕ)) (seen : Option World) (reply : Reply) →
+    Told left (λ text. greatest_input < length text) → outcome_of reply ≡ too_long → RepliesToWords words left seen (Ok reply)
+words_from_long words command command_is left seen reply long is =
+    let status : reply.status ≡ statuses.Input = ap (λ (o : Outcome). o.status) is in
+    record {
+      reply = λ text told world sees. rw (command_is, lt-ltb _ _ (long text told)) is;
+      answered = λ text told done. cc;
+      no_failure = (λ other. cc, λ other. cc);
+      usage = (λ other. cc, λ none. absurd (no_none words command command_is none));
+      input = λ text told. (λ _. (command, command_is, inl (long text told)), λ _. status);
+    }

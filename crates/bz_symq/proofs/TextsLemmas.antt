@@ -1,0 +1,140 @@
+-- Texts that are made before they are written.
+use Rattle.std.proofs.Common.{◌≡◌, ◌≢◌, ◌⊎◌, ◌+◌, ◌-◌, ◌<◌, ◌≤◌, ℕ, List, [], ◌∷◌, ◌++◌, length, map, drop, slice_get, slice_index, slice_index_or, All, slice_range, Option, option_map, Some, None, IfSome, Result, Ok, Err, OnOk, Bor, sym, ap, subst, inl, inr, length-append, length-drop, length-take, ◌∙◌, arith}
+use Rattle.std.specs.List.{AllByRecursion, slice_set}
+use Rattle.std.specs.Str.Pattern.{GetsRange}
+use Rattle.std.proofs.Math.Seq.{drop-append_seam, take-length}
+use Rattle.std.proofs.lemmas.Bool.{cases_lt}
+use Rattle.std.proofs.lemmas.Grind.{get_or-set_at}
+use Rattle.std.proofs.lemmas.List.{drop-append-le, get_or-drop, get_or-map, get_or-set_other, get_or-take, length-map, take-append-le}
+use Rattle.std.proofs.lemmas.Option.{slice_get-get_or, slice_get-map}
+use Rattle.bz_base.specs.Answer.{Answer}
+use Rattle.bz_symbolize.proofs.BatchLemmas.{answer_there}
+use Rattle.bz_symbolize.specs.Batch.{Batch, answer_at, answers_there}
+use Rattle.bz_symq.specs.AnswerText.{answer_text}
+use Rattle.bz_symq.specs.Texts.{IsEntryAmong, IsTextIn, IsTextOf}
+use Rattle.bz_symq.specs.declared.texts.TextPart.{TextPart}
+
+-- a part of a text is the same part of the text with more behind it
+range_grown : (text more : List ℕ) (from to : ℕ) → from ≤ to → to ≤ length text → slice_range (text ++ more) from to ≡ slice_range text from to
+range_grown text more from to ascends within =
+    rw (drop-append-le from text more (omega arith)) (take-append-le (to - from) (drop from text) more (omega (arith, length-drop from text)))
+
+-- the text behind is a part of the whole
+range_behind : (text more : List ℕ) → slice_range (text ++ more) (length text) (length (text ++ more)) ≡ more
+range_behind text more =
+    let count : length (text ++ more) - length text ≡ length more = omega (arith, length-append text more) in
+    rw (count, drop-append_seam text more) (take-length more)
+
+-- what is read at a part is the text of its answer
+pub text_got : (batch : Batch) (index : ℕ) (text : List ℕ) (part : TextPart) (got : Option (Bor (List ℕ))) → IsTextIn batch index text part →
+    GetsRange text part.from part.to got → IfSome got (λ t. IsTextOf batch index t.now)
+text_got batch index text part None is gets = tt
+text_got batch index text part (Some t) is gets = subst (IsTextOf batch index) (sym gets.0) is.is
+
+-- two numbers are the same or not
+same_or_other : (m n : ℕ) → (m ≡ n) ⊎ (m ≢ n)
+same_or_other m n = elim (cases_lt m n) [
+  | inl below ↦ inr (λ e. omega arith)
+  | inr above ↦ elim (cases_lt n m) [ inl below ↦ inr (λ e. omega arith) | inr same ↦ inl (omega arith) ]
+]
+
+-- a text that was made stays when another one is put behind
+text_kept : (batch : Batch) (index : ℕ) (text more : List ℕ) (part : TextPart) → IsTextIn batch index text part → IsTextIn batch index (text ++ more) part
+text_kept batch index text more part is = record {
+  ascends = is.ascends;
+  within = omega (arith, is.within, length-append text more);
+  is = subst (IsTextOf batch index) (sym (range_grown text more part.from part.to is.ascends is.within)) is.is;
+}
+
+-- the text of the answer, put behind, is told by the part behind
+text_added : (batch : Batch) (index : ℕ) (text more : List ℕ) → IsTextOf batch index more →
+    IsTextIn batch index (text ++ more) (record { from = length text; to = length (text ++ more) })
+text_added batch index text more is = record {
+  ascends = omega (arith, length-append text more);
+  within = omega arith;
+  is = subst (IsTextOf batch index) (sym (range_behind text more)) is;
+}
+
+-- what is told at a place after the part of one more answer is written there
+texts_with : (batch : Batch) (first index : ℕ) (text more : List ℕ) (parts : List (Option TextPart)) → first ≤ index → index < first + length parts →
+    IsTextOf batch index more →
+    ((place : ℕ) (part : TextPart) → slice_index_or parts place None ≡ Some part → IsTextIn batch (first + place) text part) →
+    (place : ℕ) (part : TextPart) → slice_index_or (slice_set parts (index - first) (Some (record { from = length text; to = length (text ++ more) }))) place None ≡ Some part →
+    IsTextIn batch (first + place) (text ++ more) part
+texts_with batch first index text more parts from before is are place part told = elim (same_or_other place (index - first)) [
+  | inl same ↦
+      let added : Option TextPart = Some (record { from = length text; to = length (text ++ more) }) in
+      let read : slice_index_or (slice_set parts (index - first) added) place None ≡ added =
+      get_or-set_at parts (index - first) place added None same (omega (arith, from, before)) in
+      let at : first + place ≡ index = omega (arith, from, same) in
+      subst (λ o. IsTextIn batch (first + place) (text ++ more) o) (some_same (sym read ∙ told)) (subst (λ i. IsTextIn batch i (text ++ more) (record { from = length text; to = length (text ++ more) })) (sym at) (text_added batch index text more is))
+  | inr other ↦
+      let read : slice_index_or (slice_set parts (index - first) (Some (record { from = length text; to = length (text ++ more) }))) place None ≡ slice_index_or parts place None =
+      get_or-set_other parts (index - first) place _ None other in
+      text_kept batch (first + place) text more part (are place part (sym read ∙ told))
+]
+  where
+    some_same : {a b : TextPart} → Some a ≡ Some b → a ≡ b
+    some_same e = cc e
+
+-- each text is that of its answer after one more was put behind
+pub texts_more : (batch : Batch) (first index : ℕ) (text more : List ℕ) (parts : List (Option TextPart)) {start end : ℕ} {grown : List ℕ} →
+    start ≡ length text → end ≡ length grown → grown ≡ text ++ more → first ≤ index → index < first + length parts → IsTextOf batch index more →
+    ((place : ℕ) (part : TextPart) → slice_index_or parts place None ≡ Some part → IsTextIn batch (first + place) text part) →
+    (place : ℕ) (part : TextPart) → slice_index_or (slice_set parts (index - first) (Some (record { from = start; to = end }))) place None ≡ Some part →
+    IsTextIn batch (first + place) grown part
+texts_more batch first index text more parts starts ends grows from before is are = rw (starts, ends, grows) (texts_with batch first index text more parts from before is are)
+
+-- what holds in any case holds of an answered call
+pub answered : {A E P : Type 0} (result : Result A E) → P → OnOk result P
+answered (Ok given) holds = holds
+answered (Err e) holds = tt
+
+-- what was put to the end of a text is the text of the answer at an index
+pub entry_put : {A E : Type 0} (batch : Batch) (index : ℕ) (answer : Answer) (old new : List ℕ) (result : Result A E) → slice_get batch.answers index ≡ Some answer →
+    OnOk result (new ≡ old ++ answer_text (slice_index batch.addrs index) answer) →
+    OnOk result ((answer : Answer) × (slice_get batch.answers index ≡ Some answer) × (new ≡ old ++ answer_text (slice_index batch.addrs index) answer))
+entry_put batch index answer old new (Ok given) there put = (answer, there, put)
+entry_put batch index answer old new (Err e) there put = tt
+
+-- the index at a place of a part of the entries
+pub index_of : (order : List (ℕ × ℕ)) (from to place default : ℕ) → from + place < to → to ≤ length order →
+    slice_index_or (map (λ (e : ℕ × ℕ). e.1) (slice_range order from to)) place default ≡ (slice_index_or order (from + place) (0, 0)).1
+index_of order from to place default before within =
+    let part = slice_range order from to in
+    let count : length part ≡ to - from = omega (arith, length-take (to - from) (drop from order), length-drop from order) in
+    get_or-map (λ (e : ℕ × ℕ). e.1) part place (0, 0) default (omega (arith, count))
+    ∙ ap (λ (e : ℕ × ℕ). e.1) (get_or-take (to - from) (drop from order) place (0, 0) (omega arith) ∙ get_or-drop from order place (0, 0))
+
+-- so many indices are those of a part of the entries
+pub index_count : (order : List (ℕ × ℕ)) (from to : ℕ) → to ≤ length order → length (map (λ (e : ℕ × ℕ). e.1) (slice_range order from to)) ≡ to - from
+index_count order from to within =
+    length-map (slice_range order from to) (λ (e : ℕ × ℕ). e.1) ∙ omega (arith, length-take (to - from) (drop from order), length-drop from order)
+
+-- they are indices of the batch
+pub indices_within : (batch : Batch) (first count : ℕ) (order : List (ℕ × ℕ)) (from to : ℕ) → All (IsEntryAmong batch first count) order → to ≤ length order →
+    All (λ i. i < length batch.addrs) (map (λ (e : ℕ × ℕ). e.1) (slice_range order from to))
+indices_within batch first count order from to among within place default more =
+    let before : from + place < to = omega (arith, more, index_count order from to within) in
+    rw (index_of order from to place default before within) (among (from + place) (0, 0) (omega arith)).there
+
+-- an answer at the index of an entry is that of the batch there
+pub answer_of : (batch : Batch) (first count : ℕ) (order : List (ℕ × ℕ)) (from to place : ℕ) (answers : List Answer) →
+    answers ≡ answers_there (map (λ (e : ℕ × ℕ). e.1) (slice_range order from to)) batch → All (IsEntryAmong batch first count) order → to ≤ length order → place < length answers →
+    slice_get batch.answers (slice_index_or order (from + place) (0, 0)).1 ≡ slice_get answers place
+answer_of batch first count order from to place answers are among within more =
+    let asked = map (λ (e : ℕ × ℕ). e.1) (slice_range order from to) in
+    let single = λ (i : ℕ). answer_at batch (slice_index batch.addrs i) in
+    let as_many : length answers ≡ length asked = ap length are ∙ length-map asked single in
+    let before : from + place < to = omega (arith, as_many, index_count order from to within) in
+    let entry = among (from + place) (0, 0) (omega arith) in
+    answer_there batch (slice_index_or order (from + place) (0, 0)).1 entry.there
+    ∙ ap (λ (i : ℕ). Some (single i)) (sym (index_of order from to place 0 before within))
+    ∙ ap (option_map single) (sym (slice_get-get_or asked place 0 (omega (arith, as_many))))
+    ∙ sym (slice_get-map single asked place)
+    ∙ sym (ap (λ (list : List Answer). slice_get list place) are)
+
+-- what holds of each and of one more holds of all
+pub all_and_one : {X : Type 0} (P : X → Type 0) (xs : List X) (x : X) → AllByRecursion P xs → P x → AllByRecursion P (xs ++ x ∷ [])
+all_and_one P [] x all one = (one, tt)
+all_and_one P (y ∷ ys) x all one = (all.0, all_and_one P ys x all.1 one)

@@ -1,0 +1,76 @@
+-- What a run writes and ends with where nothing fails: a function of words, input and world.
+use Rattle.std.specs.Prelude.{ℕ, Bool, true, false, nat_lt, List, ◌++◌, length, codes, decimal, Option, Some, None, Result, Ok, Err}
+use Rattle.bz_base.specs.Answer.{Answer}
+use Rattle.bz_base.specs.ErrorNames.{name_of}
+use Rattle.bz_base.specs.declared.error.Error.{Error}
+use Rattle.bz_files.specs.World.{World}
+use Rattle.bz_symq.specs.AnswerText.{answer_texts}
+use Rattle.bz_symq.specs.Commands.{answer_to}
+use Rattle.bz_symq.specs.InputText.{addresses_in, greatest_input}
+use Rattle.bz_symq.specs.Words.{Command, command_in}
+use Rattle.bz_symq.specs.declared.status.Status.{Status}
+use Rattle.bz_symq.specs.declared.status.Status.TheVariants as statuses
+
+-- the number that the program ends with
+abbrev pub code_of : Status → ℕ
+code_of statuses.Done = 0
+code_of statuses.Refused = 1
+code_of statuses.Usage = 2
+code_of statuses.Input = 3
+code_of statuses.Fault = 4
+code_of statuses.Memory = 5
+
+-- the line that goes to standard error, without its end: where reading or writing failed, or memory ran out
+abbrev pub message_of : Status → Option (List ℕ)
+message_of statuses.Fault = Some (codes "symq: reading or writing failed")
+message_of statuses.Memory = Some (codes "symq: out of memory")
+message_of _ = None
+
+-- a status, and all that is written to standard output
+pub record Outcome : Type 0 where
+  pub status : Status
+  pub text : List ℕ
+
+-- where the words give no command
+abbrev pub usage : Outcome
+usage = record { status = statuses.Usage; text = codes "usage: symq [OPTION] KIND [ARG]...\n" }
+
+-- a refusal is written by its name
+abbrev pub refused : Error → Outcome
+refused e = record { status = statuses.Refused; text = codes "refused: " ++ (name_of e ++ codes "\n") }
+
+-- the answers' texts, or the refusal
+abbrev pub by_answer : List ℕ → Result (List Answer) Error → Outcome
+by_answer addrs (Ok answers) = record { status = statuses.Done; text = answer_texts addrs answers }
+by_answer addrs (Err e) = refused e
+
+-- an input with a line that isn't well formed is named by the number of the first such line, in decimal
+abbrev pub bad_line : ℕ → Outcome
+bad_line n = record { status = statuses.Input; text = codes "input: line " ++ (decimal n ++ codes "\n") }
+
+-- a bad line is named, and addresses are answered by the command's source
+abbrev pub by_addresses : Command → World → Result (List ℕ) ℕ → Outcome
+by_addresses command world (Err n) = bad_line n
+by_addresses command world (Ok addrs) = by_answer addrs (answer_to command addrs world)
+
+-- an input that is too long is named as such
+abbrev pub too_long : Outcome
+too_long = record { status = statuses.Input; text = codes "input: too long\n" }
+
+-- and that before its lines are read
+abbrev pub by_length : Command → List ℕ → World → Bool → Outcome
+by_length command input world true = too_long
+by_length command input world false = by_addresses command world (addresses_in input)
+
+-- the whole input comes first, then the source
+abbrev pub outcome : Command → List ℕ → World → Outcome
+outcome command input world = by_length command input world (nat_lt greatest_input (length input))
+
+-- by the command, if there is one
+abbrev pub by_command : Option Command → List ℕ → World → Outcome
+by_command None input world = usage
+by_command (Some command) input world = outcome command input world
+
+-- and before both the words
+abbrev pub run_outcome : List (List ℕ) → List ℕ → World → Outcome
+run_outcome words input world = by_command (command_in words) input world

@@ -1,0 +1,80 @@
+-- What a run is about to end with and write.
+use Rattle.std.specs.Prelude.{◌≡◌, ◌⊎◌, ◌↔◌, ℕ, List, ◌++◌, Option, Some, None, Result, Ok, Err, IfOk}
+use Rattle.std.specs.Cow.{cow_str_bytes}
+use Rattle.bz_base.specs.Answer.{Answer}
+use Rattle.bz_base.specs.declared.error.Error.{Error}
+use Rattle.bz_base.specs.declared.error.Error.TheVariants as errors
+use Rattle.bz_files.specs.World.{World, Told}
+use Rattle.bz_symq.specs.AnswerText.{answer_texts}
+use Rattle.bz_symq.specs.Commands.{AnswersSome}
+use Rattle.bz_symq.specs.InputText.{addresses_in}
+use Rattle.bz_symq.specs.Outcome.{Outcome, refused, run_outcome}
+use Rattle.bz_symq.specs.Run.{IsBadInput, IsNoFailure, IsSomeDone}
+use Rattle.bz_symq.specs.Words.{Command, command_in}
+use Rattle.bz_symq.specs.declared.reply.Reply.{Reply}
+use Rattle.bz_symq.specs.declared.reply.Said.{Said}
+use Rattle.bz_symq.specs.declared.reply.Said.TheVariants as saids
+use Rattle.bz_symq.specs.declared.status.Status.{Status}
+use Rattle.bz_symq.specs.declared.status.Status.TheVariants as statuses
+
+-- the text that is said
+abbrev pub text_of : Said → List ℕ
+text_of (saids.Text text) = cow_str_bytes text
+text_of (saids.Answers lookups) = answer_texts lookups.addrs lookups.answers
+
+-- the outcome that a reply is
+abbrev pub outcome_of : Reply → Outcome
+outcome_of reply = record { status = reply.status; text = text_of reply.said }
+
+-- the reply is the expected one; or a fault or want of memory came in its place
+abbrev pub Replies : Outcome → Result Reply Error → Type 0
+Replies expected (Ok reply) = outcome_of reply ≡ expected
+Replies expected (Err errors.ReadFault) = Unit {0}
+Replies expected (Err errors.OutOfMemory) = Unit {0}
+Replies expected (Err _) = ⊥
+
+-- a refusal is answered by its name, unless memory runs out; a fault and want of memory stay what they are
+abbrev pub RepliesTo : Error → Result Reply Error → Type 0
+RepliesTo errors.ReadFault result = result ≡ Err errors.ReadFault
+RepliesTo errors.OutOfMemory result = result ≡ Err errors.OutOfMemory
+RepliesTo refusal (Ok reply) = outcome_of reply ≡ refused refusal
+RepliesTo refusal (Err e) = e ≡ errors.OutOfMemory
+
+-- the text is that of answers to the addresses, by some bytes in the format of the command's source
+pub record IsBatchText (command : Command) (addrs text : List ℕ) : Type 0 where
+  pub answers : List Answer
+  pub answers_are : AnswersSome command addrs answers
+  pub text_is : text ≡ answer_texts addrs answers
+
+-- a reply that the run is done has such a text
+abbrev pub IsBatchReply : Command → List ℕ → Reply → Type 0
+IsBatchReply command addrs reply = reply.status ≡ statuses.Done → IsBatchText command addrs (text_of reply.said)
+
+-- and its addresses are those of the input
+abbrev pub IsInputReply : Command → List ℕ → Reply → Type 0
+IsInputReply command input reply = reply.status ≡ statuses.Done → (addrs : List ℕ) × (addresses_in input ≡ Ok addrs) × IsBatchText command addrs (text_of reply.said)
+
+-- and once it is written, the run has answered
+abbrev pub IsRunReply : List (List ℕ) → List ℕ → Reply → Type 0
+IsRunReply words input reply = reply.status ≡ statuses.Done → (old : List ℕ) (new : Option (List ℕ)) → new ≡ Some (old ++ text_of reply.said) → IsSomeDone words input old new
+
+-- the call was answered by a reply that the run is done
+abbrev pub IsDoneReply : Result Reply Error → Type 0
+IsDoneReply (Ok reply) = reply.status ≡ statuses.Done
+IsDoneReply (Err e) = ⊥
+
+-- the statuses of replies to what was read of an input: a line isn't well formed, or its addresses are answered or refused
+abbrev pub IsInputStatus : Result (List ℕ) ℕ → Status → Type 0
+IsInputStatus (Err n) status = status ≡ statuses.Input
+IsInputStatus (Ok addrs) status = (status ≡ statuses.Done) ⊎ (status ≡ statuses.Refused)
+
+-- a reply to the words was to be made, with what was left of the input and the world in view
+pub record RepliesToWords (words : List (List ℕ)) (left : Option (List ℕ)) (seen : Option World) (result : Result Reply Error) : Type 0 where
+  -- it is the outcome of the run
+  pub reply : Told left (λ text. Told seen (λ world. Replies (run_outcome words text world) result))
+  -- and whatever the files tell, answers are those that the run was asked for
+  pub answered : Told left (λ text. IfOk result (λ given. IsRunReply words text given))
+  pub no_failure : IfOk result (λ given. IsNoFailure given.status)
+  -- the words alone decide on status 2, and words and input alone on status 3
+  pub usage : IfOk result (λ given. (given.status ≡ statuses.Usage) ↔ (command_in words ≡ None))
+  pub input : Told left (λ text. IfOk result (λ given. (given.status ≡ statuses.Input) ↔ IsBadInput words text))

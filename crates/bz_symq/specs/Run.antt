@@ -1,0 +1,157 @@
+-- What a run of the program promises: what it writes and ends with, and what it does to its input, its output and the files.
+use Rattle.std.specs.Prelude.{◌≡◌, ◌≢◌, ◌⊎◌, ◌↔◌, ℕ, ◌+◌, ◌<◌, ◌≤◌, List, [], ◌++◌, length, Option, Some, None, IsSome}
+use Rattle.bz_base.specs.Answer.{Answer}
+use Rattle.bz_base.specs.declared.error.Error.{Error}
+use Rattle.bz_files.specs.Count.{CountsFaults, counted}
+use Rattle.bz_files.specs.Looked.{Looked, ReadsOne}
+use Rattle.bz_files.specs.World.{World, Told, in_view}
+use Rattle.bz_files.specs.declared.files.Files as files_trait
+use Rattle.bz_files.specs.declared.text.TextIn as input_trait
+use Rattle.bz_files.specs.declared.text.TextOut as output_trait
+use Rattle.bz_symq.specs.AnswerText.{answer_texts}
+use Rattle.bz_symq.specs.Commands.{HasAnswers, AnswersIn, AnswersSome, IsCause}
+use Rattle.bz_symq.specs.InputText.{AreAddresses, HasBadLine, greatest_input, left_over, MovesAtMost}
+use Rattle.bz_symq.specs.Outcome.{Outcome, refused, run_outcome}
+use Rattle.bz_symq.specs.Words.{Command, command_in}
+use Rattle.bz_symq.specs.declared.status.Status.{Status}
+use Rattle.bz_symq.specs.declared.status.Status.TheVariants as statuses
+
+-- a front of the text was written after what stood there
+abbrev pub WritesFront : List ℕ → List ℕ → Option (List ℕ) → Type 0
+WritesFront text old new = (front : List ℕ) × (rest : List ℕ) × (text ≡ front ++ rest) × (new ≡ Some (old ++ front))
+
+-- the run ends as the outcome says and has written its text; or it failed and has written a front of that text
+abbrev pub Ends : Outcome → List ℕ → Status → Option (List ℕ) → Type 0
+Ends expected old statuses.Fault new = WritesFront expected.text old new
+Ends expected old statuses.Memory new = WritesFront expected.text old new
+Ends expected old status new = (expected.status ≡ status) × (new ≡ Some (old ++ expected.text))
+
+-- the run ends with the status, or it failed
+abbrev pub IsOrFails : Status → Status → Type 0
+IsOrFails expected status = (status ≡ expected) ⊎ ((status ≡ statuses.Fault) ⊎ (status ≡ statuses.Memory))
+
+-- the status is one of those that a run ends with where nothing failed
+abbrev pub IsNoFailure : Status → Type 0
+IsNoFailure status = (status ≢ statuses.Fault) × (status ≢ statuses.Memory)
+
+-- the words give the command, and the input is the addresses
+pub record Asks (words : List (List ℕ)) (input : List ℕ) (command : Command) (addrs : List ℕ) : Type 0 where
+  pub command_is : command_in words ≡ Some command
+  pub short : length input ≤ greatest_input
+  pub input_is : AreAddresses input addrs
+
+-- the run is asked for addresses of a source that has answers: a file in its format
+pub record IsAnswerable (words : List (List ℕ)) (input : List ℕ) (world : World) : Type 0 where
+  pub command : Command
+  pub addrs : List ℕ
+  pub asks : Asks words input command addrs
+  pub answerable : HasAnswers command world
+
+-- the run was asked for addresses of a source that has answers: the texts of its plain answers at the addresses, in their
+-- order, are what was written
+pub record IsDone (words : List (List ℕ)) (input : List ℕ) (world : World) (old : List ℕ) (new : Option (List ℕ)) : Type 0 where
+  pub command : Command
+  pub addrs : List ℕ
+  pub answers : List Answer
+  pub asks : Asks words input command addrs
+  pub answers_are : AnswersIn command world addrs answers
+  pub written : new ≡ Some (old ++ answer_texts addrs answers)
+
+-- the run was asked for addresses, and whatever the files tell, the texts of the plain answers of some bytes in the format of
+-- its source, at the addresses, in their order, are what was written
+pub record IsSomeDone (words : List (List ℕ)) (input old : List ℕ) (new : Option (List ℕ)) : Type 0 where
+  pub command : Command
+  pub addrs : List ℕ
+  pub answers : List Answer
+  pub asks : Asks words input command addrs
+  pub answers_are : AnswersSome command addrs answers
+  pub written : new ≡ Some (old ++ answer_texts addrs answers)
+
+-- the run is asked for addresses of a source that has no answers
+pub record IsRefusable (words : List (List ℕ)) (input : List ℕ) (world : World) : Type 0 where
+  pub command : Command
+  pub addrs : List ℕ
+  pub refusal : Error
+  pub asks : Asks words input command addrs
+  pub cause : IsCause command world refusal
+
+-- the run was asked for addresses of a source that has no answers: the refusal is what was written
+pub record IsRefused (words : List (List ℕ)) (input : List ℕ) (world : World) (old : List ℕ) (new : Option (List ℕ)) : Type 0 where
+  pub refusable : IsRefusable words input world
+  pub written : new ≡ Some (old ++ (refused refusable.refusal).text)
+
+-- the words are a command, and the input is too long for it, or has a line that isn't well formed
+abbrev pub IsBadInput : List (List ℕ) → List ℕ → Type 0
+IsBadInput words input =
+    (command : Command) × (command_in words ≡ Some command)
+    × ((greatest_input < length input) ⊎ HasBadLine input)
+
+-- the input that a command asks for was read: to its end, or to the byte that makes it too long
+abbrev pub IsReadWhole : List (List ℕ) → Option (List ℕ) → Option (List ℕ) → Type 0
+IsReadWhole words before after = (command : Command) → command_in words ≡ Some command → Told before (λ text. after ≡ Some (left_over text))
+
+-- the sides of a run: what it reads, what it looks at and what it writes to
+pub data Side : Type 0 where
+  AtInput : Side
+  AtFiles : Side
+  AtOutput : Side
+
+-- at which side a call failed, if one did, in a run that ends by a fault exactly then. At that side the count of faults rose, at
+-- the others it stands still: no failed call is hidden behind another status.
+pub record Fails {R W F : Type 0} (reads : input_trait.Ghosts R) (writes : output_trait.Ghosts W) (looks : files_trait.Ghosts F) (status : Status)
+    (input_before input_after : R) (output_before output_after : W) (files_before files_after : F) : Type 0 where
+  pub failed : Option Side
+  pub fault : (status ≡ statuses.Fault) ↔ IsSome failed
+  pub input_faults : CountsFaults (reads.faults input_before) (reads.faults input_after) (failed ≡ Some AtInput)
+  pub output_faults : CountsFaults (writes.faults output_before) (writes.faults output_after) (failed ≡ Some AtOutput)
+  -- no other world of files comes into view
+  pub files : Looked looks files_before files_after (failed ≡ Some AtFiles)
+  -- files are looked at only while the output is as it was, so they fail only then
+  pub untouched : failed ≡ Some AtFiles → output_after ≡ output_before
+
+-- all that a run promises
+pub record Runs {R W F : Type 0} (reads : input_trait.Ghosts R) (writes : output_trait.Ghosts W) (looks : files_trait.Ghosts F) (words : List (List ℕ)) (ended : Status)
+    (input_before input_after : R) (output_before output_after : W) (files_before files_after : F) : Type 0 where
+  -- what was written is the outcome's text, or a front of it where the run failed; and the run ends as the outcome, if it
+  -- doesn't fail
+  pub ends : Told (reads.left input_before) (λ text. Told (in_view (looks.worlds files_before)) (λ world. Told (writes.written output_before) (λ old.
+      Ends (run_outcome words text world) old ended (writes.written output_after))))
+  pub status : Told (reads.left input_before) (λ text. Told (in_view (looks.worlds files_before)) (λ world.
+      IsOrFails (run_outcome words text world).status ended))
+  -- status 0 means that the input was addresses of a source that has answers, and that these are what was written
+  pub done : ended ≡ statuses.Done → Told (reads.left input_before) (λ text. Told (in_view (looks.worlds files_before)) (λ world.
+      Told (writes.written output_before) (λ old. IsDone words text world old (writes.written output_after))))
+  -- and whatever the files tell, that they are those of some bytes in the format of the source
+  pub answered : ended ≡ statuses.Done → Told (reads.left input_before) (λ text. Told (writes.written output_before) (λ old.
+      IsSomeDone words text old (writes.written output_after)))
+  -- status 1 means that the input was addresses of a source that has no answers, and that its refusal is what was written
+  pub refused : ended ≡ statuses.Refused → Told (reads.left input_before) (λ text. Told (in_view (looks.worlds files_before)) (λ world.
+      Told (writes.written output_before) (λ old. IsRefused words text world old (writes.written output_after))))
+  -- the words alone decide on status 2, and words and input alone on status 3
+  pub usage : (ended ≡ statuses.Usage → command_in words ≡ None) × (command_in words ≡ None → IsOrFails statuses.Usage ended)
+  pub input : Told (reads.left input_before) (λ text. (ended ≡ statuses.Input → IsBadInput words text) × (IsBadInput words text → IsOrFails statuses.Input ended))
+  -- a source that has answers is answered, unless something fails or memory runs out
+  pub complete : Told (reads.left input_before) (λ text. Told (in_view (looks.worlds files_before)) (λ world. IsAnswerable words text world → IsOrFails statuses.Done ended))
+  -- a source that has none is refused, unless something fails or memory runs out
+  pub refuses : Told (reads.left input_before) (λ text. Told (in_view (looks.worlds files_before)) (λ world. IsRefusable words text world → IsOrFails statuses.Refused ended))
+  -- the words come first, then the input: what a run doesn't come to, it leaves alone
+  pub unread : command_in words ≡ None → (input_after ≡ input_before) × (files_after ≡ files_before)
+  pub unlooked : Told (reads.left input_before) (λ text. IsBadInput words text → files_after ≡ files_before)
+  -- a run that doesn't fail has read the input, and no run reads on past the byte that makes it too long
+  pub read : IsNoFailure ended → IsReadWhole words (reads.left input_before) (reads.left input_after)
+  pub bounded : MovesAtMost (greatest_input + 1) (reads.left input_before) (reads.left input_after)
+  -- until the input is read, no file is looked at and nothing is written
+  pub order : ((files_after ≡ files_before) × (output_after ≡ output_before)) ⊎ IsReadWhole words (reads.left input_before) (reads.left input_after)
+  -- where there is nothing to write, the output is left alone
+  pub silent : Told (reads.left input_before) (λ text. Told (in_view (looks.worlds files_before)) (λ world. (run_outcome words text world).text ≡ [] → output_after ≡ output_before))
+  -- one file at most is read, and where answers were written one was
+  pub most : ReadsOne looks files_before files_after
+  pub opened : Told (in_view (looks.worlds files_before)) (λ world. ended ≡ statuses.Done → looks.opens files_after ≡ counted (looks.opens files_before))
+  -- one side at most failed, and files only before the output; a fault comes only where a call failed, and at any other status
+  -- none has
+  pub fails : Fails reads writes looks ended input_before input_after output_before output_after files_before files_after
+  pub fault : ended ≡ statuses.Fault → (reads.faults input_after ≡ counted (reads.faults input_before))
+      ⊎ ((writes.faults output_after ≡ counted (writes.faults output_before)) ⊎ (looks.faults files_after ≡ counted (looks.faults files_before)))
+  pub steady : (ended ≡ statuses.Fault) ⊎ ((reads.faults input_after ≡ reads.faults input_before) × (writes.faults output_after ≡ writes.faults output_before)
+      × (looks.faults files_after ≡ looks.faults files_before))
+  pub before_output : (looks.faults files_after ≡ looks.faults files_before) ⊎ (output_after ≡ output_before)

@@ -1,0 +1,35 @@
+-- What a reply comes to of words, input and files, and in which turn.
+use Rattle.std.specs.Prelude.{◌≡◌, ◌⊎◌, ℕ, ◌+◌, List, None, Result, IfOk}
+use Rattle.bz_base.specs.declared.error.Error.{Error}
+use Rattle.bz_files.specs.Count.{CountsFaults, counted}
+use Rattle.bz_files.specs.Looked.{Looked, ReadsOne}
+use Rattle.bz_files.specs.World.{Told, in_view}
+use Rattle.bz_files.specs.declared.files.Files as files_trait
+use Rattle.bz_files.specs.declared.text.TextIn as input_trait
+use Rattle.bz_symq.specs.InputText.{greatest_input, MovesAtMost}
+use Rattle.bz_symq.specs.Run.{IsBadInput, IsReadWhole}
+use Rattle.bz_symq.specs.Words.{command_in}
+use Rattle.bz_symq.specs.declared.reply.Reply.{Reply}
+
+-- a reply was to be made: the words come first, then the input, then the files
+pub record TakesTurns {R F : Type 0} (reads : input_trait.Ghosts R) (looks : files_trait.Ghosts F) (words : List (List ℕ)) (result : Result Reply Error)
+    (input_before input_after : R) (files_before files_after : F) : Type 0 where
+  -- what isn't come to is left alone
+  pub unread : command_in words ≡ None → (input_after ≡ input_before) × (files_after ≡ files_before)
+  pub unlooked : Told (reads.left input_before) (λ text. IsBadInput words text → files_after ≡ files_before)
+  -- a reply that is given has read the input, and none reads on past the byte that makes it too long
+  pub read : IfOk result (λ given. IsReadWhole words (reads.left input_before) (reads.left input_after))
+  pub bounded : MovesAtMost (greatest_input + 1) (reads.left input_before) (reads.left input_after)
+  -- until the input is read, no file is looked at
+  pub order : (files_after ≡ files_before) ⊎ IsReadWhole words (reads.left input_before) (reads.left input_after)
+
+-- one file at most was read, and where answers were given one was
+pub record ReadsOneFor {F : Type 0} (looks : files_trait.Ghosts F) (answered : Type 0) (before after : F) : Type 0 where
+  pub most : ReadsOne looks before after
+  pub opened : Told (in_view (looks.worlds before)) (λ world. answered → looks.opens after ≡ counted (looks.opens before))
+
+-- one side at most failed: the input, and then the files are as they were; or the files, and no call of the input failed
+abbrev pub FailsAtOne : {R F : Type 0} → input_trait.Ghosts R → files_trait.Ghosts F → Type 0 → R → R → F → F → Type 0
+FailsAtOne reads looks failed input_before input_after files_before files_after =
+    ((files_after ≡ files_before) × CountsFaults (reads.faults input_before) (reads.faults input_after) failed)
+    ⊎ ((reads.faults input_after ≡ reads.faults input_before) × Looked looks files_before files_after failed)

@@ -1,0 +1,132 @@
+//! The input: lines, each empty or an address.
+
+ghost use Rattle.std.specs.Prelude.{◌≡◌, ◌+◌, ◌<◌, ◌≤◌, ◌++◌, [], ℕ, List, Option, Some, None, Ok, Err, length, drop, vec_len, IfOk, IsErrOf};
+ghost use Rattle.bz_files.specs.Count.{CountsFaults};
+ghost use Rattle.bz_files.specs.World.{Told};
+ghost use Rattle.bz_symq.specs.InputText.{address_in, addresses_in, content_of, greatest_input, left_over, room_after, Moves, MovesAtMost};
+ghost use Rattle.bz_symq.specs.declared.input.BadInput.TheVariants.{OutOfMemory};
+
+use bz_base::{first_line, whole_hex};
+use bz_files::{IoFault, TextIn};
+use std::alloc::{AllocFailed, Global};
+
+/// The greatest length of an input, in bytes.
+const GREATEST_INPUT: usize = 16_777_216;
+
+/// How many bytes are asked for at a time.
+const PIECE: usize = 16_384;
+
+/// Why the input wasn't read to its end.
+#[derive(Clone, Copy, Debug, PartialEq, Eq)]
+pub enum ReadStop {
+    /// It is longer than any input.
+    TooLong,
+    /// Reading failed.
+    Fault,
+    /// Memory ran out.
+    Memory,
+}
+
+/// Why the input gives no addresses.
+#[derive(Clone, Copy, Debug, PartialEq, Eq)]
+pub enum BadInput {
+    /// The number of the first line that isn't well formed. All lines count, from 1.
+    Line(u64),
+    /// Memory ran out.
+    OutOfMemory,
+}
+
+impl<T: Drop> From<AllocFailed<T>> for BadInput {
+    ghost from_gives = { λ _ e. e ≡ OutOfMemory };
+
+    fn from(_failed: AllocFailed<T>) -> BadInput {
+        BadInput::OutOfMemory
+    }
+}
+
+/// The whole input. Of one that is too long, one byte past the greatest length is read.
+pub fn read_input<R: TextIn>(alloc: Global, input: &mut R) -> std::result::Result<Vec<u8>, ReadStop>
+    ensures whole { Told (R.left input.old) (λ text. IfOk result (λ bytes. bytes.items ≡ text)) }
+    ensures short { IfOk result (λ bytes. vec_len bytes ≤ greatest_input) }
+    ensures long { Told (R.left input.old) (λ text. IsErrOf result ReadStop.TooLong → greatest_input < length text) }
+    ensures end { Told (R.left input.old) (λ text. IfOk result (λ bytes. R.left input.new ≡ Some [])) }
+    ensures past { Told (R.left input.old) (λ text. IsErrOf result ReadStop.TooLong → R.left input.new ≡ Some (left_over text)) }
+    ensures bounded { MovesAtMost (greatest_input + 1) (R.left input.old) (R.left input.new) }
+    ensures faults { CountsFaults (R.faults input.old) (R.faults input.new) (IsErrOf result ReadStop.Fault) }
+{
+    let mut all = Vec::new(alloc);
+    while all.len() <= GREATEST_INPUT {
+        if read_piece(input, &mut all)? == 0 {
+            return Ok(all);
+        }
+    }
+    Err(ReadStop::TooLong)
+}
+
+// Reads the next piece to the end of what was read, and says how many bytes it has.
+fn read_piece<R: TextIn>(input: &mut R, all: &mut Vec<u8>) -> std::result::Result<usize, ReadStop>
+    requires { vec_len all.old ≤ greatest_input }
+    ensures piece { IfOk result (λ n. (front : List ℕ) × (length front ≡ n) × (all.new.items ≡ all.old.items ++ front) × Moves (R.left input.old) (R.left input.new) front) }
+    ensures end { Told (R.left input.old) (λ text. IfOk result (λ n. n ≡ 0 → text ≡ [])) }
+    ensures bounded { MovesAtMost (room_after (vec_len all.old)) (R.left input.old) (R.left input.new) }
+    ensures few { IfOk result (λ n. vec_len all.new ≤ greatest_input + 1) }
+    ensures grown { IfOk result (λ n. vec_len all.new ≡ vec_len all.old + n) }
+    ensures faults { CountsFaults (R.faults input.old) (R.faults input.new) (IsErrOf result ReadStop.Fault) }
+    ensures never_long { IsErrOf result ReadStop.TooLong → ⊥ }
+{
+    let mut piece = [0u8; PIECE];
+    let room = PIECE.min(GREATEST_INPUT + 1 - all.len());
+    match input.take(&mut piece[..room]) {
+        Ok(n) => match all.extend_from_slice(&piece[..n]) {
+            Ok(()) => Ok(n),
+            Err(_) => Err(ReadStop::Memory),
+        },
+        Err(IoFault::Fault) => Err(ReadStop::Fault),
+        Err(IoFault::OutOfMemory) => Err(ReadStop::Memory),
+    }
+}
+
+/// The addresses that the lines of the input say: one on each line, or none where it is empty.
+pub fn read_addrs(alloc: Global, text: &[u8]) -> std::result::Result<Vec<u64>, BadInput>
+    ensures ok { IfOk result (λ addrs. addresses_in text.now ≡ Ok addrs.items) }
+    ensures line { (n : ℕ) → IsErrOf result (BadInput.Line n) → addresses_in text.now ≡ Err n }
+{
+    let mut all = Vec::new(alloc);
+    let mut rest = text;
+    let mut number = 0;
+    while let Some((line, after)) = first_line(rest) {
+        number += 1;
+        let content = content(line);
+        if !content.is_empty() {
+            let Some(addr) = address(content) else {
+                return Err(BadInput::Line(number));
+            };
+            all.push(addr)?;
+        }
+        rest = after;
+    }
+    Ok(all)
+}
+
+// The line without the one carriage return that may end it.
+fn content(line: &[u8]) -> &[u8]
+    ensures { result.now ≡ content_of line.now }
+{
+    if line.ends_with(b"\r") {
+        &line[..line.len() - 1]
+    } else {
+        line
+    }
+}
+
+// The address that the text spells: `0x` or nothing, then hexadecimal digits.
+fn address(text: &[u8]) -> Option<u64>
+    ensures { result ≡ address_in text.now }
+{
+    let digits = if text.starts_with(b"0x") {
+        &text[2..]
+    } else {
+        text
+    };
+    whole_hex(digits, 16)
+}

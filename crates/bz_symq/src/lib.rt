@@ -1,0 +1,17 @@
+//! The program's parts: its words and input, one run of it, and the texts that it writes.
+#![tactic(auto)]
+
+mod answer;
+mod input;
+pub mod laws;
+mod output;
+mod piece;
+mod program;
+mod reply;
+mod status;
+mod texts;
+mod words;
+
+pub use answer::answer_text;
+pub use program::{run, run_counted};
+pub use status::Status;

@@ -1,0 +1,213 @@
+//! One run of the program.
+
+ghost use Rattle.std.specs.Prelude.{◌≡◌, ◌⊎◌, ◌↔◌, ◌<◌, length, map, string_bytes, IfOk, Ok, IsErr, IsOk, IsOkUnless};
+ghost use Rattle.bz_base.specs.InputKind.{address_kind, payload};
+ghost use Rattle.bz_files.specs.Looked.{Faulted, Looked};
+ghost use Rattle.bz_files.specs.World.{Told, in_view};
+ghost use Rattle.bz_cache.specs.Format.{Comes};
+ghost use Rattle.bz_symq.specs.Commands.{answer_to, kind_of, AnswersSome, IsSourceOf};
+ghost use Rattle.bz_symq.specs.Counted.{AnswersInFew, InputTakesFew, RunTakesFew, TakesFew};
+ghost use Rattle.bz_symq.specs.InputText.{addresses_in};
+ghost use Rattle.bz_symq.specs.Outcome.{by_answer, by_addresses};
+ghost use Rattle.bz_symq.specs.Reply.{IsBatchReply, IsDoneReply, IsInputReply, IsInputStatus, Replies, RepliesToWords};
+ghost use Rattle.bz_symq.specs.Run.{Runs};
+ghost use Rattle.bz_symq.specs.Turns.{FailsAtOne, ReadsOneFor, TakesTurns};
+ghost use Rattle.bz_symq.specs.Words.{command_in, command_of};
+
+use crate::input::{self, BadInput, ReadStop};
+use crate::output::finish;
+use crate::reply::{Reply, Said, bad_line, refusal, stored_reply};
+use crate::status::Status;
+use crate::words::{self, Command};
+use bz_base::{Error, Input, Result, Steps};
+use bz_files::{Files, TextIn, TextOut};
+use bz_symbolize::source::{Breakpad, Elf, GsymFile, Source};
+use bz_symbolize::{Lookups, Symbolizer};
+use std::alloc::Global;
+use std::marker::Brand;
+use std::sync::ledger::{Blank, Ledger};
+
+/// Reads the words and the whole input, looks at the source, and writes the answers.
+pub fn run<R: TextIn, W: TextOut, F: Files>(
+    alloc: Global,
+    words: &[String],
+    input: &mut R,
+    output: &mut W,
+    files: &mut F,
+) -> Status
+    ensures { Runs R.TextIn W.TextOut F.Files (map string_bytes words.now) result input.old input.new output.old output.new files.old files.new }
+{
+    run_blank::<R, W, F, Brand>(alloc, words, input, output, files, Blank::new(1))
+}
+
+// The run, with a count that begins with it.
+fn run_blank<R: TextIn, W: TextOut, F: Files, L: Ledger>(
+    alloc: Global,
+    words: &[String],
+    input: &mut R,
+    output: &mut W,
+    files: &mut F,
+    blank: Blank,
+) -> Status
+    requires name { blank.name ≡ L.name }
+    requires parts { blank.parts ≡ L.parts }
+    requires some { 0 < L.parts }
+    ensures { Runs R.TextIn W.TextOut F.Files (map string_bytes words.now) result input.old input.new output.old output.new files.old files.new }
+{
+    let mut steps = Steps::<L>::new(blank);
+    run_counted(alloc, words, input, output, files, &mut steps)
+}
+
+/// The same, with a count of the steps of its searches.
+pub fn run_counted<R: TextIn, W: TextOut, F: Files, L: Ledger>(
+    alloc: Global,
+    words: &[String],
+    input: &mut R,
+    output: &mut W,
+    files: &mut F,
+    steps: &mut Steps<L>,
+) -> Status
+    ensures run { Runs R.TextIn W.TextOut F.Files (map string_bytes words.now) result input.old input.new output.old output.new files.old files.new }
+    ensures steps { RunTakesFew (command_in (map string_bytes words.now)) (R.left input.old) steps.old steps.new }
+{
+    match reply_to_words(alloc, words, input, files, steps) {
+        Ok(reply) => finish(alloc, output, &reply),
+        Err(error) => failed(error),
+    }
+}
+
+// How a run without a reply ends: by a fault, or nothing else is left than want of memory.
+fn failed(error: Error) -> Status
+    ensures failure { (result ≡ Status.Fault) ⊎ (result ≡ Status.Memory) }
+    ensures fault { (error ≡ Error.ReadFault) ↔ (result ≡ Status.Fault) }
+{
+    match error {
+        Error::ReadFault => Status::Fault,
+        _ => Status::Memory,
+    }
+}
+
+// What the run ends with and writes, before any of it is written.
+fn reply_to_words<R: TextIn, F: Files, L: Ledger>(
+    alloc: Global,
+    words: &[String],
+    input: &mut R,
+    files: &mut F,
+    steps: &mut Steps<L>,
+) -> Result<Reply>
+    ensures reply { RepliesToWords (map string_bytes words.now) (R.left input.old) (in_view (F.worlds files.old)) result }
+    ensures turns { TakesTurns R.TextIn F.Files (map string_bytes words.now) result input.old input.new files.old files.new }
+    ensures opens { ReadsOneFor F.Files (IsDoneReply result) files.old files.new }
+    ensures fails { FailsAtOne R.TextIn F.Files (Faulted result) input.old input.new files.old files.new }
+    ensures steps { RunTakesFew (command_in (map string_bytes words.now)) (R.left input.old) steps.old steps.new }
+{
+    let Some(command) = words::command_in(words) else {
+        return Ok(stored_reply(Status::Usage, "usage: symq [OPTION] KIND [ARG]...\n"));
+    };
+    match input::read_input(alloc, input) {
+        Ok(text) => reply_to_input(alloc, &command, text, files, steps),
+        Err(ReadStop::TooLong) => Ok(stored_reply(Status::Input, "input: too long\n")),
+        Err(ReadStop::Fault) => Err(Error::ReadFault),
+        Err(ReadStop::Memory) => Err(Error::OutOfMemory),
+    }
+}
+
+// The input's text is let go before the source is looked at.
+fn reply_to_input<F: Files, L: Ledger>(
+    alloc: Global,
+    command: &Command<'_>,
+    text: Vec<u8>,
+    files: &mut F,
+    steps: &mut Steps<L>,
+) -> Result<Reply>
+    ensures reply { Told (in_view (F.worlds files.old)) (λ world. Replies (by_addresses (command_of command.now) world (addresses_in text.items)) result) }
+    ensures answered { IfOk result (λ given. IsInputReply (command_of command.now) text.items given) }
+    ensures status { IfOk result (λ given. IsInputStatus (addresses_in text.items) given.status) }
+    ensures unlooked { IsErr (addresses_in text.items) → files.new ≡ files.old }
+    ensures opens { ReadsOneFor F.Files (IsDoneReply result) files.old files.new }
+    ensures files { Looked F.Files files.old files.new (Faulted result) }
+    ensures steps { InputTakesFew (command_of command.now) (addresses_in text.items) steps.old steps.new }
+{
+    let read = input::read_addrs(alloc, text.as_slice());
+    drop(text);
+    match read {
+        Ok(addrs) => reply_to_batch(alloc, command, addrs, files, steps),
+        Err(BadInput::Line(number)) => bad_line(alloc, number),
+        Err(BadInput::OutOfMemory) => Err(Error::OutOfMemory),
+    }
+}
+
+fn reply_to_batch<F: Files, L: Ledger>(
+    alloc: Global,
+    command: &Command<'_>,
+    addrs: Vec<u64>,
+    files: &mut F,
+    steps: &mut Steps<L>,
+) -> Result<Reply>
+    ensures reply { Told (in_view (F.worlds files.old)) (λ world. Replies (by_answer addrs.items (answer_to (command_of command.now) addrs.items world)) result) }
+    ensures answered { IfOk result (λ given. IsBatchReply (command_of command.now) addrs.items given) }
+    ensures status { IfOk result (λ given. IsInputStatus (Ok addrs.items) given.status) }
+    ensures opens { ReadsOneFor F.Files (IsDoneReply result) files.old files.new }
+    ensures files { Looked F.Files files.old files.new (Faulted result) }
+    ensures steps { TakesFew (command_of command.now) (length addrs.items) steps.old steps.new }
+{
+    match look_up(alloc, command, addrs, files, steps) {
+        Ok(lookups) => Ok(Reply {
+            status: Status::Done,
+            said: Said::Answers(lookups),
+        }),
+        Err(error) => refusal(alloc, error),
+    }
+}
+
+// The command's source, looked at for the addresses, which are searched for in it.
+fn look_up<F: Files, L: Ledger>(
+    alloc: Global,
+    command: &Command<'_>,
+    addrs: Vec<u64>,
+    files: &mut F,
+    steps: &mut Steps<L>,
+) -> Result<Lookups<'static>>
+    ensures answer { Told (in_view (F.worlds files.old)) (λ world. Comes (λ lookups. lookups.answers) (answer_to (command_of command.now) addrs.items world) result) }
+    ensures answered { IfOk result (λ lookups. AnswersSome (command_of command.now) addrs.items lookups.answers) }
+    ensures addrs { IfOk result (λ lookups. lookups.addrs ≡ addrs.items) }
+    ensures opens { ReadsOneFor F.Files (IsOk result) files.old files.new }
+    ensures files { Looked F.Files files.old files.new (Faulted result) }
+    ensures found { IfOk result (λ lookups. AnswersInFew (command_of command.now) addrs.items lookups.answers steps.old steps.new) }
+    ensures steps { TakesFew (command_of command.now) (length addrs.items) steps.old steps.new }
+{
+    let src = source(alloc, command)?;
+    Symbolizer::new(alloc).look_up(alloc, files, &src, input_for(command, addrs), steps)
+}
+
+// The source that the command asks.
+fn source(alloc: Global, command: &Command<'_>) -> Result<Source<'static>>
+    ensures ok { IfOk result (λ src. IsSourceOf (command_of command.now) src) }
+    ensures memory { IsOkUnless result Error.OutOfMemory }
+{
+    match command {
+        Command::Breakpad(path) => {
+            let path = String::from_str(alloc, path)?;
+            Ok(Source::from(Breakpad::new(path)))
+        }
+        Command::Gsym(path) => {
+            let path = String::from_str(alloc, path)?;
+            Ok(Source::from(GsymFile::new(path)))
+        }
+        Command::Elf(path) => {
+            let path = String::from_str(alloc, path)?;
+            Ok(Source::from(Elf::new(path)))
+        }
+    }
+}
+
+// The addresses, as the source of the command takes them.
+fn input_for(command: &Command<'_>, addrs: Vec<u64>) -> Input<Vec<u64>>
+    ensures kind { address_kind result ≡ kind_of (command_of command.now) }
+    ensures addrs { payload result ≡ addrs }
+{
+    match command {
+        Command::Breakpad(_) => Input::FileOffset(addrs),
+        Command::Gsym(_) | Command::Elf(_) => Input::VirtOffset(addrs),
+    }
+}

@@ -1,0 +1,71 @@
+//! What a run is about to end with and write.
+
+ghost use Rattle.std.specs.Prelude.{◌≡◌, ◌↔◌, IfOk, IsOkUnless};
+ghost use Rattle.bz_files.specs.Looked.{Faulted};
+ghost use Rattle.bz_symq.specs.Outcome.{bad_line};
+ghost use Rattle.bz_symq.specs.Reply.{outcome_of, RepliesTo};
+
+use crate::status::Status;
+use bz_base::{Error, Result};
+use bz_symbolize::Lookups;
+use std::alloc::Global;
+use std::borrow::CowStr;
+
+/// What a run ends with and writes, if nothing fails.
+#[derive(Drop)]
+pub struct Reply {
+    /// How the run ends.
+    pub status: Status,
+    /// All that it writes.
+    pub said: Said,
+}
+
+/// What a run writes.
+#[derive(Drop)]
+pub enum Said {
+    /// A text.
+    Text(CowStr<'static>),
+    /// The texts of the answers at the addresses, which are made, answer by answer, as they are written.
+    Answers(Lookups<'static>),
+}
+
+/// A reply whose text is always the same.
+pub fn stored_reply(status: Status, text: &'static str) -> Reply
+    ensures { outcome_of result ≡ record { status = status; text = text.now } }
+{
+    Reply {
+        status,
+        said: Said::Text(CowStr::Borrowed(text)),
+    }
+}
+
+/// The reply to an input whose first line that isn't well formed has this number.
+pub fn bad_line(alloc: Global, number: u64) -> Result<Reply>
+    ensures reply { IfOk result (λ given. outcome_of given ≡ bad_line number) }
+    ensures memory { IsOkUnless result Error.OutOfMemory }
+{
+    let text = format!(in alloc; "input: line {number}\n")?;
+    Ok(Reply {
+        status: Status::Input,
+        said: Said::Text(CowStr::Owned(text)),
+    })
+}
+
+/// The reply to a refused call; a failure stays one, and so ends the run by status 4 or 5.
+pub fn refusal(alloc: Global, error: Error) -> Result<Reply>
+    ensures reply { RepliesTo error result }
+    ensures status { IfOk result (λ given. given.status ≡ Status.Refused) }
+    ensures fault { Faulted result ↔ (error ≡ Error.ReadFault) }
+{
+    match error {
+        Error::ReadFault => Err(Error::ReadFault),
+        Error::OutOfMemory => Err(Error::OutOfMemory),
+        _ => {
+            let text = format!(in alloc; "refused: {error}\n")?;
+            Ok(Reply {
+                status: Status::Refused,
+                said: Said::Text(CowStr::Owned(text)),
+            })
+        }
+    }
+}

@@ -1,6 +1,0 @@
-use Rattle.symq.proofs.OutputLemmas.{finishes_whole}
-use Rattle.symq.proofs.output.finish.Goals as goal
-
--- the text was written
-pub returns-in-Ok : goal.returns-in-Ok
-returns-in-Ok g c = finishes_whole g.W.TextOut c.requires.no_failure c.in-Ok.ensures

@@ -1,0 +1,81 @@
+//! How a run ends, and what is written where nothing is answered.
+
+use crate::runs::{ADDRESSES, FIRST, USAGE, ends_so, over_first};
+use bz_files::{MemFiles, MemIn, MemOut};
+use bz_symq::{Status, run};
+use std::alloc::Global;
+
+/// A blank line after a line record.
+const BLANK_LINE: &str = "FUNC 1000 10 0 f\n1000 10 5 1\n\nFILE 1 a.c\n";
+
+/// A path, a file, the calls that fail, how the run ends, and what is written.
+type Ending = (
+    &'static str,
+    &'static str,
+    (u64, u64, u64),
+    Status,
+    &'static str,
+);
+
+const ENDINGS: &[Ending] = &[
+    (
+        "/absent",
+        FIRST,
+        (0, 0, 0),
+        Status::Refused,
+        "refused: NotFound\n",
+    ),
+    (
+        "/denied",
+        FIRST,
+        (0, 0, 0),
+        Status::Refused,
+        "refused: PermissionDenied\n",
+    ),
+    ("-", FIRST, (0, 0, 0), Status::Usage, USAGE),
+    (
+        "/a.sym",
+        BLANK_LINE,
+        (0, 0, 0),
+        Status::Refused,
+        "refused: InvalidInput\n",
+    ),
+    ("/a.sym", FIRST, (1, 0, 0), Status::Fault, ""),
+    ("/a.sym", FIRST, (2, 0, 0), Status::Fault, ""),
+    ("/a.sym", FIRST, (0, 2, 0), Status::Fault, ""),
+    ("/a.sym", FIRST, (0, 0, 1), Status::Fault, ""),
+];
+
+/// Whether a run over a path, with such a file and such faults, ends so.
+fn ends_by(alloc: Global, (path, file, faults, status, written): &Ending) -> bool {
+    let mut row = over_first(path, ADDRESSES, *status, written);
+    row.file = file.as_bytes();
+    row.faults = *faults;
+    ends_so(alloc, &row)
+}
+
+/// Each ending but for want of memory, and its text.
+#[test]
+fn ends_by_its_cause(rt: HostRuntime) {
+    for row in ENDINGS {
+        let written = row.4;
+        assert!(rt; ends_by(rt.alloc(), row), "{written}");
+    }
+}
+
+/// Whether a run without words tells how the program is called.
+fn tells_usage(alloc: Global) -> bool {
+    let mut input = MemIn::new(Vec::new(alloc));
+    let mut output = MemOut::new(alloc);
+    let mut files = MemFiles::new(alloc, 7);
+    let ended = run(alloc, &[], &mut input, &mut output, &mut files);
+    ended == Status::Usage && output.written() == USAGE.as_bytes()
+}
+
+/// Without words nothing is looked at, and without addresses the file is.
+#[test]
+fn looks_at_the_file_for_no_addresses(rt: HostRuntime) {
+    let absent = over_first("/absent", "", Status::Refused, "refused: NotFound\n");
+    assert!(rt; tells_usage(rt.alloc()));
+    assert!(rt; ends_so(rt.alloc(), &absent));
+}

@@ -1,0 +1,23 @@
+//! Tests of the program's parts, over what they and the libraries below make public.
+#![tactic(auto)]
+
+#[cfg(test)]
+mod answers;
+#[cfg(test)]
+mod elf;
+#[cfg(test)]
+mod endings;
+#[cfg(test)]
+mod gsym;
+#[cfg(test)]
+mod inputs;
+#[cfg(test)]
+mod many;
+#[cfg(test)]
+mod nested;
+#[cfg(test)]
+mod outputs;
+#[cfg(test)]
+mod runs;
+#[cfg(test)]
+mod texts;
