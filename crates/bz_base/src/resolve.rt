@@ -9,7 +9,8 @@ ghost use Rattle.bz_base.specs.declared.types.FindSymOpts.{FindSymOpts};
 ghost use Rattle.bz_base.specs.declared.types.Reason.{Reason};
 
 use crate::error::Result;
-use crate::types::{Addr, FindSymOpts, Reason, ResolvedSym};
+use crate::types::{FindSymOpts, Reason, ResolvedSym};
+use bz_search::Addr;
 use std::alloc::Global;
 
 /// A table of symbols.

@@ -3,19 +3,16 @@
 ghost use Rattle.std.specs.Prelude.{◌≡◌, ◌≤◌, ◌++◌, ◌∷◌, [], Some, IfOk, IfSome, IsOkUnless, map, option_map, option_copied};
 ghost use Rattle.std.specs.Cow.{cow_str_bytes};
 ghost use Rattle.bz_base.specs.Answer.{site_of, call_of, resolved_of, symbol_of, sym_in};
-ghost use Rattle.bz_base.specs.Byte.{zero_byte};
+ghost use Rattle.bz_text.specs.Byte.{zero_byte};
 ghost use Rattle.bz_base.specs.Lent.{IsLentResolved, IsLentSymbol, IsLentText};
 ghost use Rattle.bz_base.specs.ReasonText.{text_of};
 ghost use Rattle.bz_base.specs.Resolution.{symbol_at};
 
 use crate::error::{Error, Result};
+use bz_search::Addr;
 use std::alloc::Global;
 use std::borrow::CowStr;
 use std::fmt;
-
-/// An address, or an offset in a file: it is relative to what its [`Input`](crate::Input) says, and in a
-/// symbol to what the source counts from.
-pub type Addr = u64;
 
 /// What a symbol names.
 #[derive(Clone, Copy, Debug, Default, PartialEq, Eq, Hash)]

@@ -1,8 +1,0 @@
-use Rattle.std.proofs.Common.{refl, arith}
-use Rattle.bz_base.specs.declared.number.TheConstants.{DIGITS}
-use Rattle.bz_base.proofs.DigitLemmas.{agree_below, table_value}
-use Rattle.bz_base.proofs.number.digit.Goals as goal
-
-pub returns : goal.returns
-unfolding agree_below
-returns c = table_value DIGITS c.args.byte (omega arith) refl

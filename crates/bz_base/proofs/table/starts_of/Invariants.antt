@@ -1,5 +1,0 @@
-use Rattle.std.proofs.Common.{◌≡◌, map, take}
-use Rattle.bz_base.proofs.table.starts_of.Given as goal
-
-abbrev pub invariant-loop-record : goal.invariant-loop-record
-invariant-loop-record g l = l.starts.items ≡ map g.T.Spanned.start (take l.record-index l.table)

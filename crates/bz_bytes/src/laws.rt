@@ -1,0 +1,21 @@
+//! What holds of this crate's definitions.
+
+ghost use Rattle.std.specs.Prelude.{◌≡◌, ◌↔◌, ◌+◌, ℕ, ℤ, List, Some};
+ghost use Rattle.bz_bytes.specs.Cursor.{IsCstr, IsInFront, IsNextAligned, IsSlice, IsWord, cstr_at, padding, slice_at, word_at};
+ghost use Rattle.bz_bytes.specs.Leb128.{IsSleb, IsUleb, sleb_at, uleb_at};
+
+/// The pieces that are read from the front of bytes are those that lie there: slices, words with the
+/// least byte first, and texts that a zero byte ends. What is passed over to align a place leads to
+/// the first one after it.
+pub fn pieces_are_exact()
+    ensures slice { (count : ℕ) (bytes slice rest : List ℕ) → (slice_at count bytes ≡ Some (slice, rest)) ↔ IsInFront (IsSlice count slice) bytes rest }
+    ensures word { (size : ℕ) (bytes : List ℕ) (value : ℕ) (rest : List ℕ) → (word_at size bytes ≡ Some (value, rest)) ↔ IsInFront (IsWord size value) bytes rest }
+    ensures cstr { (bytes text rest : List ℕ) → (cstr_at bytes ≡ Some (text, rest)) ↔ IsInFront (IsCstr text) bytes rest }
+    ensures aligned { (place aligned : ℕ) → (aligned ≡ place + padding place) ↔ IsNextAligned place aligned }
+{}
+
+/// The LEB128 numbers that are read from the front of bytes are those that are spelled there.
+pub fn lebs_are_exact()
+    ensures unsigned { (bytes : List ℕ) (value : ℕ) (rest : List ℕ) → (uleb_at bytes ≡ Some (value, rest)) ↔ IsInFront (IsUleb value) bytes rest }
+    ensures signed { (bytes : List ℕ) (value : ℤ) (rest : List ℕ) → (sleb_at bytes ≡ Some (value, rest)) ↔ IsInFront (IsSleb value) bytes rest }
+{}

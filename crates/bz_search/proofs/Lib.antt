@@ -1,0 +1,12 @@
+pub mod AbreastLemmas
+pub mod ChainLemmas
+pub mod FilterLemmas
+pub mod InnerLemmas
+pub mod InnerTableLemmas
+pub mod NearestLemmas
+pub mod SortLemmas
+pub mod SortingLaws
+pub mod StartsLemmas
+pub mod SweepLemmas
+pub mod TableLemmas
+pub mod ViewLemmas

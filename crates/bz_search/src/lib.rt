@@ -1,0 +1,22 @@
+//! Which record of a table answers for an address.
+#![tactic(auto)]
+
+mod abreast;
+mod chain;
+pub mod laws;
+mod place;
+mod scan;
+mod search;
+mod starts;
+mod steps;
+mod sweep;
+mod table;
+
+pub use chain::{Nested, around_in, chain_in, inner_in, sort_nested};
+pub use place::Place;
+pub use scan::nearest_by_scan;
+pub use search::{Addr, covers, inside};
+pub use starts::{Probe, Starts, nearest};
+pub use steps::Steps;
+pub use sweep::nearest_each;
+pub use table::{Spanned, covering_at, nearest_covering, place_found, sort_table, starts_of};

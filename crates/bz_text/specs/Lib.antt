@@ -1,0 +1,4 @@
+pub mod Byte
+pub mod Line
+pub mod Number
+pub mod Path
