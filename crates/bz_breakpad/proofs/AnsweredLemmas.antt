@@ -9,22 +9,23 @@ use Rattle.bz_base.specs.declared.error.Error.TheVariants as errors
 use Rattle.bz_base.specs.declared.types.FindSymOpts.{FindSymOpts}
 use Rattle.bz_base.specs.declared.types.Reason.TheVariants as reasons
 use Rattle.bz_breakpad.specs.Found.{IsFunctionFor, IsPublicFor}
-use Rattle.bz_breakpad.specs.Kept.{IsNested, IsTextAt, kept_functions, kept_public}
-use Rattle.bz_breakpad.specs.Lent.{function_seen, placed_seen}
-use Rattle.bz_breakpad.specs.Plain.{Placed, any_between, by_place, by_public, placed_at, plain, public_at, public_symbol_at}
-use Rattle.bz_breakpad.specs.Refusal.{IsAnswerRefusal}
-use Rattle.bz_breakpad.specs.Search.{IsFunction}
-use Rattle.bz_breakpad.specs.Reader.{table_in}
-use Rattle.bz_breakpad.specs.Sorted.{StandsFor, function_in, functions_of, no_function}
-use Rattle.bz_breakpad.specs.Table.{Function, PublicSymbol, Table}
-use Rattle.bz_breakpad.specs.declared.types.KeptFunction.{KeptFunction}
-use Rattle.bz_breakpad.specs.declared.types.KeptPublic.{KeptPublic}
-use Rattle.bz_breakpad.specs.declared.types.KeptTable.{KeptTable}
+use Rattle.bz_breakpad_table.specs.Kept.{IsNested, IsTextAt, kept_functions, kept_public, function_seen}
+use Rattle.bz_breakpad.specs.Lent.{placed_seen}
+use Rattle.bz_breakpad.specs.Plain.{Placed, any_between, by_place, by_public, placed_at, plain, public_at, public_symbol_at, IsAnswerRefusal}
+use Rattle.bz_breakpad_table.specs.Search.{IsFunction}
+use Rattle.bz_breakpad_lines.specs.Reader.{table_in}
+use Rattle.bz_breakpad_table.specs.Sorted.{StandsFor}
+use Rattle.bz_breakpad.specs.Indexed.{function_in, no_function, functions_of}
+use Rattle.bz_breakpad_lines.specs.Table.{Function, PublicSymbol, Table}
+use Rattle.bz_breakpad_table.specs.declared.types.KeptFunction.{KeptFunction}
+use Rattle.bz_breakpad_table.specs.declared.types.KeptPublic.{KeptPublic}
+use Rattle.bz_breakpad_table.specs.declared.types.KeptTable.{KeptTable}
 use Rattle.bz_breakpad.proofs.AddressLaws.{public_below, starts_below}
-use Rattle.bz_breakpad.proofs.AsKept.{answer_same, nested_get}
-use Rattle.bz_breakpad.proofs.KeptLemmas.{all_get}
+use Rattle.bz_breakpad.proofs.AsKept.{answer_same}
+use Rattle.bz_breakpad_table.proofs.NestedLemmas.{nested_get}
+use Rattle.bz_breakpad_table.proofs.KeptLemmas.{all_get}
 use Rattle.bz_breakpad.proofs.PublicLemmas.{some_of}
-use Rattle.bz_breakpad.proofs.SortedLemmas.{plain-some}
+use Rattle.bz_breakpad.proofs.PlainLemmas.{plain-some}
 
 -- a PUBLIC record that answers starts at or below the address
 answers_below : (table : Table) (addr : ℕ) (s : Symbol) → by_public table addr (public_at addr table.publics) ≡ Known s → s.addr ≤ addr

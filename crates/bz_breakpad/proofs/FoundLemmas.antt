@@ -12,20 +12,20 @@ use Rattle.bz_base.specs.Nearest.{nearest_covering}
 use Rattle.bz_base.specs.Starts.{IsAt}
 use Rattle.bz_base.specs.declared.types.Reason.TheVariants as reasons
 use Rattle.bz_breakpad.specs.Found.{AreFunctionsFor, AreRecordsFor, AreUncovered, IsFoundOrLeft, IsFunctionFor, IsPublicFor, IsRecordFor, IsUnanswered}
-use Rattle.bz_breakpad.specs.FunctionKeys.{keys_from}
-use Rattle.bz_breakpad.specs.Kept.{kept_public}
+use Rattle.bz_breakpad_table.specs.FunctionKeys.{keys_from}
+use Rattle.bz_breakpad_table.specs.Kept.{kept_public}
 use Rattle.bz_breakpad.specs.Plain.{any_between, by_public, function_at, public_at, public_symbol_at}
-use Rattle.bz_breakpad.specs.Publics.{IsPublicTable}
-use Rattle.bz_breakpad.specs.Sorted.{StandsFor, starts_of}
-use Rattle.bz_breakpad.specs.Table.{Table}
+use Rattle.bz_breakpad_table.specs.Publics.{IsPublicTable}
+use Rattle.bz_breakpad_table.specs.Sorted.{StandsFor, starts_of}
+use Rattle.bz_breakpad_lines.specs.Table.{Table}
 use Rattle.bz_breakpad.specs.declared.found.FoundRecord.{FoundRecord}
 use Rattle.bz_breakpad.specs.declared.found.FoundRecord.TheVariants as found
-use Rattle.bz_breakpad.specs.declared.publics.PublicTable.{PublicTable}
-use Rattle.bz_breakpad.specs.declared.types.FunctionKey.{FunctionKey}
-use Rattle.bz_breakpad.specs.declared.types.KeptPublic.{KeptPublic}
-use Rattle.bz_breakpad.specs.declared.types.KeptTable.{KeptTable}
+use Rattle.bz_breakpad_table.specs.declared.publics.PublicTable.{PublicTable}
+use Rattle.bz_breakpad_table.specs.declared.types.FunctionKey.{FunctionKey}
+use Rattle.bz_breakpad_table.specs.declared.types.KeptPublic.{KeptPublic}
+use Rattle.bz_breakpad_table.specs.declared.types.KeptTable.{KeptTable}
 use Rattle.bz_breakpad.proofs.KeyLemmas.{answers_by_key, key_tells, told}
-use Rattle.bz_breakpad.proofs.PublicKeyLemmas.{all_at}
+use Rattle.bz_breakpad_table.proofs.PublicKeyLemmas.{all_at}
 use Rattle.bz_breakpad.proofs.PublicLemmas.{by_between, first_answers, first_within, none_answers}
 
 module _ (bytes : List ℕ) (table : Table) (kept : KeptTable) (stands : StandsFor bytes table kept) (addr : ℕ) where

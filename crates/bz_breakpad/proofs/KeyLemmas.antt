@@ -1,18 +1,17 @@
 -- Functions that are found by their keys, which are put in order: a key tells the file's function at its index.
-use Rattle.std.proofs.Common.{◌≡◌, ℕ, suc, ◌+◌, List, [], ◌∷◌, length, map, Option, Some, option_map, IfSome, refl, sym, subst, ap, ap₂, ◌∙◌, arith}
+use Rattle.std.proofs.Common.{◌≡◌, ℕ, suc, ◌+◌, List, [], ◌∷◌, map, Option, Some, option_map, IfSome, refl, sym, subst, ap, ap₂, ◌∙◌, arith}
 use Rattle.std.specs.List.{AllByRecursion, slice_get, slice_index_or}
 use Rattle.std.proofs.lemmas.Option.{get_or_from_slice_get}
 use Rattle.bz_base.specs.Nearest.{IsTable, nearest_covering}
 use Rattle.bz_base.proofs.ViewLemmas.{covering_seen}
-use Rattle.bz_breakpad.specs.FunctionKeys.{AreSortedKeys, keys_from}
-use Rattle.bz_breakpad.specs.Kept.{AreNested, kept_functions}
-use Rattle.bz_breakpad.specs.Lent.{function_seen}
+use Rattle.bz_breakpad_table.specs.FunctionKeys.{AreSortedKeys, keys_from}
+use Rattle.bz_breakpad_table.specs.Kept.{AreNested, kept_functions, function_seen}
 use Rattle.bz_breakpad.specs.Plain.{function_at}
-use Rattle.bz_breakpad.specs.Table.{Function}
-use Rattle.bz_breakpad.specs.declared.types.FunctionKey.{FunctionKey}
-use Rattle.bz_breakpad.specs.declared.types.FunctionTable.{FunctionTable}
-use Rattle.bz_breakpad.specs.declared.types.KeptFunction.{KeptFunction}
-use Rattle.bz_breakpad.proofs.SortedLemmas.{nearest_one}
+use Rattle.bz_breakpad_lines.specs.Table.{Function}
+use Rattle.bz_breakpad_table.specs.declared.types.FunctionKey.{FunctionKey}
+use Rattle.bz_breakpad_table.specs.declared.types.FunctionTable.{FunctionTable}
+use Rattle.bz_breakpad_table.specs.declared.types.KeptFunction.{KeptFunction}
+use Rattle.bz_breakpad_table.proofs.SortedLemmas.{nearest_one}
 
 -- what stands at an index where no function does
 abbrev absent : Function
@@ -21,19 +20,6 @@ absent = record { start = 0; size = 0; parameter_size = 0; name = []; lines = []
 -- the function at a key's index, with the key's start and size
 abbrev pub told : List Function → FunctionKey → Function
 told functions key = record (slice_index_or functions key.index absent) { start = key.start; size = key.size }
-
--- there are as many keys as functions
-pub keys_count : (index : ℕ) (functions : List KeptFunction) → length (keys_from index functions) ≡ length functions
-keys_count index [] = refl
-keys_count index (f ∷ functions) = ap (λ n. suc n) (keys_count (index + 1) functions)
-
--- the keys of functions, put in order
-pub sorted_keys_of : (functions : List KeptFunction) (keys sorted : List FunctionKey) → keys ≡ keys_from 0 functions →
-    IsTable (λ k. k.start) (λ k. k.size) keys sorted → length sorted ≡ length keys → AreSortedKeys functions sorted
-sorted_keys_of functions keys sorted are table count = record {
-  table = subst (λ (ks : List FunctionKey). IsTable (λ (k : FunctionKey). k.start) (λ k. k.size) ks sorted) are table;
-  count = count ∙ ap length are ∙ keys_count 0 functions;
-}
 
 -- what a search among the keys in order finds is the key that is nearest
 pub key_found : (functions : List KeptFunction) (keys lent : List FunctionKey) (addr : ℕ) (found : Option FunctionKey) → AreSortedKeys functions keys →

@@ -11,14 +11,15 @@ use Rattle.bz_base.specs.Chain.{around, chain, inner}
 use Rattle.bz_base.specs.Nearest.{IsTable}
 use Rattle.bz_base.proofs.ChainLemmas.{chain_through, step_seen}
 use Rattle.bz_base.proofs.ViewLemmas.{table_itself, table_seen}
-use Rattle.bz_breakpad.specs.Calls.{call_start}
-use Rattle.bz_breakpad.specs.Kept.{kept_call, kept_inlinee}
+use Rattle.bz_breakpad_table.specs.CallRanges.{call_start}
+use Rattle.bz_breakpad_table.specs.Kept.{kept_call}
+use Rattle.bz_breakpad.specs.Lent.{kept_inlinee}
 use Rattle.bz_breakpad.specs.Plain.{calls_around, inlinee_at, seen_from, seen_outside, site_in}
-use Rattle.bz_breakpad.specs.Reads.{◌>>=◌}
-use Rattle.bz_breakpad.specs.Table.{Inlinee, SourceLine, Table}
-use Rattle.bz_breakpad.specs.declared.types.CallRange.{CallRange}
+use Rattle.bz_breakpad_lines.specs.Reads.{◌>>=◌}
+use Rattle.bz_breakpad_lines.specs.Table.{Inlinee, SourceLine, Table}
+use Rattle.bz_breakpad_table.specs.declared.types.CallRange.{CallRange}
 use Rattle.bz_breakpad.specs.declared.types.Inlinee.{Inlinee as KeptInlinee}
-use Rattle.bz_breakpad.proofs.KeptLemmas.{all_and_one}
+use Rattle.bz_breakpad_table.proofs.KeptLemmas.{all_and_one}
 
 module _ (bytes : List ℕ) (standing table : List CallRange) (is : IsTable (λ c. c.depth) call_start standing table) where
   seen : IsTable (λ i. i.depth) (λ i. i.start) (map (kept_call bytes) standing) (map (kept_call bytes) table)

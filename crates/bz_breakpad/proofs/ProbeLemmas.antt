@@ -4,15 +4,16 @@ use Rattle.std.specs.List.{slice_get}
 use Rattle.std.proofs.Math.Nat.{mul-le-mul_left}
 use Rattle.std.proofs.lemmas.List.{length-map}
 use Rattle.std.proofs.lemmas.Option.{same_Some, slice_get_within}
-use Rattle.bz_breakpad.specs.Kept.{kept_public}
-use Rattle.bz_breakpad.specs.Publics.{AreAddresses, AreProbes, AreProbesOf, IsPublicTable, starts_kept}
-use Rattle.bz_breakpad.specs.Reader.{table_in}
-use Rattle.bz_breakpad.specs.Sorted.{IsKept, StandsFor, starts_of}
-use Rattle.bz_breakpad.specs.Table.{PublicSymbol, Table}
-use Rattle.bz_breakpad.specs.declared.publics.PublicTable.{PublicTable}
-use Rattle.bz_breakpad.specs.declared.types.FunctionKey.{FunctionKey}
-use Rattle.bz_breakpad.specs.declared.types.KeptPublic.{KeptPublic}
-use Rattle.bz_breakpad.specs.declared.types.KeptTable.{KeptTable}
+use Rattle.bz_breakpad_table.specs.Kept.{kept_public}
+use Rattle.bz_breakpad_table.specs.Publics.{AreAddresses, IsPublicTable, starts_kept}
+use Rattle.bz_breakpad.specs.Probes.{AreProbesOf, AreProbes}
+use Rattle.bz_breakpad_lines.specs.Reader.{table_in}
+use Rattle.bz_breakpad_table.specs.Sorted.{IsKept, StandsFor, starts_of}
+use Rattle.bz_breakpad_lines.specs.Table.{PublicSymbol, Table}
+use Rattle.bz_breakpad_table.specs.declared.publics.PublicTable.{PublicTable}
+use Rattle.bz_breakpad_table.specs.declared.types.FunctionKey.{FunctionKey}
+use Rattle.bz_breakpad_table.specs.declared.types.KeptPublic.{KeptPublic}
+use Rattle.bz_breakpad_table.specs.declared.types.KeptTable.{KeptTable}
 
 seen_publics : (bytes : List ℕ) (publics : List KeptPublic) → map (λ (p : PublicSymbol). p.start) (map (kept_public bytes) publics) ≡ starts_kept publics
 seen_publics bytes [] = refl

@@ -10,17 +10,17 @@ use Rattle.bz_base.specs.declared.types.Reason.TheVariants as reasons
 use Rattle.bz_base.specs.Starts.{IsFound, NeverDescends}
 use Rattle.bz_base.proofs.FilterLemmas.{first_in_list, some_pass}
 use Rattle.bz_base.proofs.TableLemmas.{in_table, record_at, spans_same, start_at, starts_same}
-use Rattle.bz_breakpad.specs.FunctionKeys.{AreSortedKeys, keys_from}
-use Rattle.bz_breakpad.specs.Kept.{kept_public}
+use Rattle.bz_breakpad_table.specs.FunctionKeys.{AreSortedKeys, keys_from}
+use Rattle.bz_breakpad_table.specs.Kept.{kept_public}
 use Rattle.bz_breakpad.specs.Plain.{any_between, by_public, first_public, public_at, public_symbol_at}
-use Rattle.bz_breakpad.specs.Publics.{IsFirst, IsPublicTable, starts_kept}
-use Rattle.bz_breakpad.specs.Sorted.{StandsFor, starts_of}
-use Rattle.bz_breakpad.specs.Table.{Function, PublicSymbol, Table}
-use Rattle.bz_breakpad.specs.declared.types.FunctionKey.{FunctionKey}
-use Rattle.bz_breakpad.specs.declared.types.FunctionTable.{FunctionTable}
-use Rattle.bz_breakpad.specs.declared.publics.PublicTable.{PublicTable}
-use Rattle.bz_breakpad.specs.declared.types.KeptPublic.{KeptPublic}
-use Rattle.bz_breakpad.specs.declared.types.KeptTable.{KeptTable}
+use Rattle.bz_breakpad_table.specs.Publics.{IsFirst, IsPublicTable, starts_kept}
+use Rattle.bz_breakpad_table.specs.Sorted.{StandsFor, starts_of}
+use Rattle.bz_breakpad_lines.specs.Table.{Function, PublicSymbol, Table}
+use Rattle.bz_breakpad_table.specs.declared.types.FunctionKey.{FunctionKey}
+use Rattle.bz_breakpad_table.specs.declared.types.FunctionTable.{FunctionTable}
+use Rattle.bz_breakpad_table.specs.declared.publics.PublicTable.{PublicTable}
+use Rattle.bz_breakpad_table.specs.declared.types.KeptPublic.{KeptPublic}
+use Rattle.bz_breakpad_table.specs.declared.types.KeptTable.{KeptTable}
 use Rattle.bz_breakpad.proofs.KeyLemmas.{starts_told}
 
 -- The record that is found.

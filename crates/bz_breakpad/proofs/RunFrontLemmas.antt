@@ -7,15 +7,15 @@ use Rattle.std.proofs.lemmas.List.{drop-drop, get_or-drop, get_or-take, length-t
 use Rattle.std.proofs.lemmas.List.Sums.{prefix_len_stops}
 use Rattle.bz_base.specs.Byte.{line_feed}
 use Rattle.bz_base.specs.Line.{all_lines, begins_line}
-use Rattle.bz_breakpad.specs.Choice.{body_at}
-use Rattle.bz_breakpad.specs.Line.{line_front, line_in, source_line}
-use Rattle.bz_breakpad.specs.LineRun.{IsCut, IsLineRun, IsRunFront}
-use Rattle.bz_breakpad.specs.LineStarts.{line_start, no_line}
-use Rattle.bz_breakpad.specs.Reads.{◌>>=◌, form_at}
-use Rattle.bz_breakpad.specs.Records.{LINE}
-use Rattle.bz_breakpad.specs.Table.{SourceLine}
-use Rattle.bz_breakpad.proofs.LaneLemmas.{front_from}
-use Rattle.bz_breakpad.proofs.RunLemmas.{back_decides, back_run, candidate_in, front_decides, front_run, read_at_cut}
+use Rattle.bz_breakpad_lines.specs.Choice.{body_at}
+use Rattle.bz_breakpad_lines.specs.Line.{line_front, line_in, source_line}
+use Rattle.bz_breakpad_table.specs.LineRun.{IsCut, IsLineRun, IsRunFront}
+use Rattle.bz_breakpad_lines.specs.LineStarts.{line_start, no_line}
+use Rattle.bz_breakpad_lines.specs.Reads.{◌>>=◌, form_at}
+use Rattle.bz_breakpad_lines.specs.Records.{LINE}
+use Rattle.bz_breakpad_lines.specs.Table.{SourceLine}
+use Rattle.bz_breakpad_lines.proofs.LaneLemmas.{front_from}
+use Rattle.bz_breakpad_table.proofs.RunLemmas.{back_decides, back_run, candidate_in, front_decides, front_run, read_at_cut}
 
 -- the first line is the same in a front that ends with a line feed
 front_same : (n : ℕ) (text : List ℕ) → n < length text → slice_index text n ≡ line_feed → line_front (take (suc n) text) ≡ line_front text

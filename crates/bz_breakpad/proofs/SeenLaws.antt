@@ -1,10 +1,10 @@
 -- What is seen from outside inlined calls, in whole lists.
 use Rattle.std.proofs.Common.{◌≡◌, ℕ, List, [], ◌∷◌, ◌++◌, map, Option, Some, None, option_map, refl, sym, ap, subst, ◌∙◌}
 use Rattle.bz_base.specs.Answer.{Call, Site}
-use Rattle.bz_breakpad.specs.Names.{name_for}
+use Rattle.bz_breakpad_lines.specs.Names.{name_for}
 use Rattle.bz_breakpad.specs.Plain.{IsSeen, seen_from, seen_outside, site_in}
-use Rattle.bz_breakpad.specs.Reads.{◌>>=◌}
-use Rattle.bz_breakpad.specs.Table.{Inlinee, SourceLine, Table}
+use Rattle.bz_breakpad_lines.specs.Reads.{◌>>=◌}
+use Rattle.bz_breakpad_lines.specs.Table.{Inlinee, SourceLine, Table}
 
 module _ (table : Table) (line : SourceLine) where
   -- where the line's own place is known, the code lies there, inside no call

@@ -4,7 +4,7 @@ use Rattle.std.specs.List.{AllByRecursion}
 use Rattle.bz_base.specs.Answer.Answer.{Known, Unknown}
 use Rattle.bz_base.specs.declared.types.Reason.TheVariants as reasons
 use Rattle.bz_breakpad.specs.Plain.{by_public, function_at, public_at, public_symbol_at}
-use Rattle.bz_breakpad.specs.Table.{Function, PublicSymbol, Table}
+use Rattle.bz_breakpad_lines.specs.Table.{Function, PublicSymbol, Table}
 use Rattle.bz_breakpad.specs.declared.found.FoundRecord.{FoundRecord}
 use Rattle.bz_breakpad.specs.declared.found.FoundRecord.TheVariants as found
 

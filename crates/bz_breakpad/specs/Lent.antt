@@ -1,25 +1,14 @@
 -- What answers lend of a file.
-use Rattle.std.specs.Prelude.{ℕ, List, map, option_map, IfSome}
+use Rattle.std.specs.Prelude.{map, option_map, IfSome}
 use Rattle.std.specs.List.{AllByRecursion}
 use Rattle.bz_base.specs.Answer.{call_of, site_of}
 use Rattle.bz_base.specs.Lent.{IsLentCall, IsLentPlace}
-use Rattle.bz_breakpad.specs.Kept.{kept_function}
 use Rattle.bz_breakpad.specs.Plain.{Placed}
 use Rattle.bz_breakpad.specs.declared.places.Placed as places
-use Rattle.bz_breakpad.specs.Table.{Function}
-use Rattle.bz_breakpad.specs.Table as tables
-use Rattle.bz_breakpad.specs.declared.types.FunctionTable.{FunctionTable}
-use Rattle.bz_breakpad.specs.declared.types.KeptFunction.{KeptFunction}
+use Rattle.bz_breakpad_lines.specs.Table as tables
 use Rattle.bz_breakpad.specs.declared.types.PublicSymbol.{PublicSymbol}
-use Rattle.bz_breakpad.specs.declared.types.SourceLine.{SourceLine}
-
--- a function of the table
-abbrev pub function_seen : List ℕ → FunctionTable → KeptFunction → Function
-function_seen bytes code f = kept_function bytes code.lines.items code.inlinees.items f
-
--- a line record as the table has it
-abbrev pub line_seen : SourceLine → tables.SourceLine
-line_seen l = record { start = l.addr; size = l.size; line = l.line; file = l.file }
+use Rattle.bz_breakpad_lines.specs.Table.{Inlinee}
+use Rattle.bz_breakpad.specs.declared.types.Inlinee.{Inlinee as KeptInlinee}
 
 -- a PUBLIC record that is lent
 abbrev pub lent_public : PublicSymbol → tables.PublicSymbol
@@ -33,3 +22,13 @@ placed_seen p = record { site = option_map site_of p.code_info; calls = map call
 pub record IsLentPlaced (p : places.Placed) : Type 0 where
   pub site : IfSome p.code_info IsLentPlace
   pub calls : AllByRecursion IsLentCall p.inlined.items
+
+abbrev pub kept_inlinee : KeptInlinee → Inlinee
+kept_inlinee i = record {
+  depth = i.depth;
+  start = i.addr;
+  size = i.size;
+  call_line = i.call_line;
+  call_file = i.call_file;
+  origin = i.origin_id;
+}

@@ -11,9 +11,9 @@ use Rattle.bz_base.specs.declared.error.Error.TheVariants as errors
 use Rattle.bz_base.specs.declared.types.FindSymOpts.{FindSymOpts}
 use Rattle.bz_base.specs.declared.types.FindSymOpts.TheVariants as asked
 use Rattle.bz_base.specs.declared.types.Reason.TheVariants as reasons
-use Rattle.bz_breakpad.specs.Names.{name_for}
-use Rattle.bz_breakpad.specs.Reads.{◌>>=◌}
-use Rattle.bz_breakpad.specs.Table.{SourceLine, Inlinee, Function, PublicSymbol, Table}
+use Rattle.bz_breakpad_lines.specs.Names.{name_for}
+use Rattle.bz_breakpad_lines.specs.Reads.{◌>>=◌}
+use Rattle.bz_breakpad_lines.specs.Table.{SourceLine, Inlinee, Function, PublicSymbol, Table}
 
 -- the function that answers for the address
 abbrev pub function_at : ℕ → List Function → Option Function
@@ -154,3 +154,9 @@ plain table opts addr = by_records table opts addr table.functions table.publics
 -- the answers to a batch, each at its own address, in the order of the addresses
 abbrev pub batch : Table → FindSymOpts → List ℕ → List Answer
 batch table opts addrs = map (λ addr. in_batch (plain table opts addr)) addrs
+
+-- an answer is refused by these alone
+abbrev pub IsAnswerRefusal : Error → Type 0
+IsAnswerRefusal errors.InvalidInput = Unit {0}
+IsAnswerRefusal errors.OutOfMemory = Unit {0}
+IsAnswerRefusal _ = ⊥

@@ -4,8 +4,8 @@ use Rattle.std.proofs.Common.{subst}
 use Rattle.bz_base.specs.Refusals.{IsFormatRefusal}
 use Rattle.bz_base.specs.declared.error.Error.{Error}
 use Rattle.bz_base.specs.declared.error.Error.TheVariants as errors
-use Rattle.bz_breakpad.specs.Reader.{table_in}
-use Rattle.bz_breakpad.specs.Table.{Table}
+use Rattle.bz_breakpad_lines.specs.Reader.{table_in}
+use Rattle.bz_breakpad_lines.specs.Table.{Table}
 
 -- bytes with a table are in the format
 abbrev pub refusal_of : Option Table → Option Error

@@ -1,6 +1,6 @@
 //! A parsed Breakpad file.
 
-ghost use Rattle.std.specs.Prelude.{◌≡◌, ◌≤◌, ◌<◌, ◌+◌, ◌-◌, ◌*◌, ◌^◌, ℕ, List, map, length, option_map, Option, Some, slice_get, IfOk, IfErr, IsOkUnless};
+ghost use Rattle.std.specs.Prelude.{◌≡◌, ◌≤◌, ◌<◌, ◌-◌, ℕ, List, map, length, option_map, Option, Some, slice_get, IfOk, IfErr, IsOkUnless};
 ghost use Rattle.std.specs.List.{AllByRecursion};
 ghost use Rattle.bz_base.specs.Answer.{Gives, reading};
 ghost use Rattle.bz_base.specs.Lent.{IsLent};
@@ -8,31 +8,26 @@ ghost use Rattle.bz_base.specs.Refusals.{WantsMemory};
 ghost use Rattle.bz_base.specs.Starts.{AreFew};
 ghost use Rattle.bz_base.specs.declared.error.Error.{Error};
 ghost use Rattle.bz_base.specs.declared.types.FindSymOpts.{FindSymOpts};
-ghost use Rattle.bz_breakpad.specs.Grammar.{Accepted, IsFile};
-ghost use Rattle.bz_breakpad.specs.Kept.{IsNestedTable, TableFits, kept_table};
-ghost use Rattle.bz_breakpad.specs.Lent.{lent_public};
-ghost use Rattle.bz_breakpad.specs.Names.{name_for};
-ghost use Rattle.bz_breakpad.specs.Plain.{batch, function_at, plain};
 ghost use Rattle.bz_breakpad.specs.Found.{AreRecordsFor, IsRecordFor};
-ghost use Rattle.bz_breakpad.specs.Publics.{AreFewProbes, AreFewSteps};
-ghost use Rattle.bz_breakpad.specs.Reader.{counted_in, table_in, table_read};
-ghost use Rattle.bz_breakpad.specs.Refusal.{IsAnswerRefusal, Refuses};
-ghost use Rattle.bz_breakpad.specs.Sorted.{IsKept, StandsFor, publics_in, starts_of};
-ghost use Rattle.bz_breakpad.specs.Table.{Table};
-ghost use Rattle.bz_breakpad.specs.Walked.{IsFinished, IsWalked};
+ghost use Rattle.bz_breakpad.specs.Indexed.{publics_in};
+ghost use Rattle.bz_breakpad.specs.Lent.{lent_public};
+ghost use Rattle.bz_breakpad.specs.Plain.{batch, function_at, plain, IsAnswerRefusal};
+ghost use Rattle.bz_breakpad.specs.Probes.{AreFewProbes, AreFewSteps};
+ghost use Rattle.bz_breakpad_lines.specs.Grammar.{Accepted, IsFile};
+ghost use Rattle.bz_breakpad_lines.specs.Names.{name_for};
+ghost use Rattle.bz_breakpad_lines.specs.Reader.{counted_in, table_in};
+ghost use Rattle.bz_breakpad_lines.specs.Table.{Table};
+ghost use Rattle.bz_breakpad_table.specs.Refusal.{Refuses};
+ghost use Rattle.bz_breakpad_table.specs.Sorted.{IsKept};
 
 use crate::find::{find_records, function_index, record_at};
 use crate::found::FoundRecord;
-use crate::function::{Function, text_of};
+use crate::function::Function;
 use crate::line_run::Cuts;
 use crate::lookups::{FoundAddrs, answer_from};
-use crate::names::name_of;
-use crate::parser;
-use crate::parser::walk::Walk;
-use crate::publics::{PublicTable, public_table};
-use crate::sorting::sorted_keys;
-use crate::types::{KeptTable, PublicSymbol};
+use crate::types::PublicSymbol;
 use bz_base::{Addr, Error, FindSymOpts, Result, Starts, Steps, Symbolized, nearest, place_found};
+use bz_breakpad_table::{KeptTable, PublicTable, name_of, read_table, text_of};
 use std::alloc::Global;
 use std::marker::Model;
 use std::sync::ledger::Ledger;
@@ -48,7 +43,7 @@ pub struct SymbolFile {
 
 impl Model for SymbolFile {
     ghost use Rattle.std.specs.Prelude.{ℕ, List};
-    ghost use Rattle.bz_breakpad.specs.Sorted.{IsKept};
+    ghost use Rattle.bz_breakpad_table.specs.Sorted.{IsKept};
 
     ghost Value = { List ℕ };
 
@@ -68,18 +63,14 @@ impl SymbolParser {
         ensures accepted { IfOk result (λ read. (table : Table) × (counted_in bytes.items ≡ Some (table, read.1)) × Accepted bytes.items table read.1) }
         ensures refusal { IfErr result (Refuses (table_in bytes.items)) }
     {
-        let walk = parser::read(alloc, bytes.as_slice())?;
-        let count = walk.count as u64;
-        let mut table = finished(walk)?;
-        let starts = sorted(alloc, &mut table)?;
-        let publics = public_table(alloc, &table.publics)?;
+        let read = read_table(alloc, bytes.as_slice())?;
         let file = SymbolFile {
             bytes,
-            table,
-            starts,
-            publics,
+            table: read.table,
+            starts: read.starts,
+            publics: read.publics,
         };
-        Ok((file, count))
+        Ok((file, read.count))
     }
 }
 
@@ -280,31 +271,4 @@ impl SymbolFile {
         let found = record_at(&self.table, &self.starts, &self.publics, addr, steps);
         self.answer_by(alloc, addr, found, opts)
     }
-}
-
-/// The records of a file that was read to its end.
-fn finished(walk: Walk) -> Result<KeptTable>
-    ensures ok { IfOk result (λ table. (bytes : List ℕ) → IsFinished bytes walk table) }
-    ensures memory { IsOkUnless result Error.OutOfMemory }
-{
-    let mut kept = walk.kept;
-    kept.functions.close()?;
-    Ok(KeptTable {
-        module: kept.module,
-        code: kept.functions.into_table(),
-        files: kept.files,
-        origins: kept.origins,
-        publics: kept.publics,
-    })
-}
-
-/// Puts the keys of the functions in order, and gives their starts.
-fn sorted(alloc: Global, kept: &mut KeptTable) -> Result<Starts>
-    ensures ok { IfOk result (λ starts. ((bytes : List ℕ) (table : Table) → IsNestedTable table (kept_table bytes kept.old) → TableFits bytes kept.old → StandsFor bytes table kept.new)
-        × (starts ≡ starts_of kept.new.code)) }
-    ensures memory { IsOkUnless result Error.OutOfMemory }
-{
-    kept.code.keys = sorted_keys(alloc, &kept.code.functions)?;
-    let starts = bz_base::starts_of(alloc, &kept.code.keys)?;
-    Ok(starts)
 }

@@ -6,16 +6,14 @@ ghost use Rattle.bz_base.specs.Starts.{AreFound, IsAt, NeverDescends};
 ghost use Rattle.bz_base.specs.declared.error.Error.{Error};
 ghost use Rattle.bz_breakpad.specs.Found.{AreFunctionsFor, AreRecordsFor, AreUncovered, IsFunctionOr, IsRecordFor};
 ghost use Rattle.bz_breakpad.specs.Plain.{any_between, function_at};
-ghost use Rattle.bz_breakpad.specs.Publics.{AreFewProbes, AreFewSteps, IsPublicTable};
-ghost use Rattle.bz_breakpad.specs.Sorted.{StandsFor, starts_of};
-ghost use Rattle.bz_breakpad.specs.Table.{Table};
+ghost use Rattle.bz_breakpad.specs.Probes.{AreFewProbes, AreFewSteps};
+ghost use Rattle.bz_breakpad_lines.specs.Table.{Table};
+ghost use Rattle.bz_breakpad_table.specs.Publics.{IsPublicTable};
+ghost use Rattle.bz_breakpad_table.specs.Sorted.{StandsFor, starts_of};
 
 use crate::found::FoundRecord;
-use crate::publics::PublicTable;
-use crate::types::{FunctionTable, KeptTable};
-use bz_base::{
-    Addr, Place, Result, Starts, Steps, covering_at, nearest, nearest_each, place_found,
-};
+use bz_base::{Addr, Place, Result, Starts, Steps, covering_at, nearest, nearest_each, place_found};
+use bz_breakpad_table::{FunctionTable, KeptTable, PublicTable};
 use std::alloc::{AllocError, Global};
 use std::sync::ledger::Ledger;
 

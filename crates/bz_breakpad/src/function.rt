@@ -4,17 +4,20 @@ ghost use Rattle.std.specs.Prelude.{◌≡◌, List, map, option_map, IfOk, IsOk
 ghost use Rattle.bz_base.specs.Chain.{around, inner};
 ghost use Rattle.bz_base.specs.Nearest.{IsTable};
 ghost use Rattle.bz_base.specs.declared.error.Error.{Error};
-ghost use Rattle.bz_breakpad.specs.Calls.{call_start};
-ghost use Rattle.bz_breakpad.specs.Kept.{IsTextAt, kept_call, kept_inlinee, text_at};
-ghost use Rattle.bz_breakpad.specs.Lent.{line_seen};
+ghost use Rattle.bz_breakpad.specs.Lent.{kept_inlinee};
 ghost use Rattle.bz_breakpad.specs.Plain.{calls_around, inlinee_at, line_at};
-ghost use Rattle.bz_breakpad.specs.declared.types.CallRange.{CallRange};
+ghost use Rattle.bz_breakpad_lines.specs.Told.{line_seen};
+ghost use Rattle.bz_breakpad_table.specs.CallRanges.{call_start};
+ghost use Rattle.bz_breakpad_table.specs.Kept.{kept_call};
+ghost use Rattle.bz_breakpad_table.specs.declared.types.CallRange.{CallRange};
 
 use crate::calls::inlinee_of;
 use crate::line_run::Cuts;
 use crate::places::{calls_around, inlinees_of, line_of};
-use crate::types::{CallRange, FunctionTable, Inlinee, KeptFunction, Part, SourceLine};
+use crate::types::Inlinee;
 use bz_base::{Addr, Error, Result, around_in};
+use bz_breakpad_lines::SourceLine;
+use bz_breakpad_table::{CallRange, FunctionTable, KeptFunction, text_of};
 use std::alloc::Global;
 use std::marker::Model;
 
@@ -30,8 +33,8 @@ pub struct Function<'a> {
 }
 
 impl<'a> Model for Function<'a> {
-    ghost use Rattle.bz_breakpad.specs.Sorted.{IsKeptFunction, function_in};
-    ghost use Rattle.bz_breakpad.specs.Table as tables;
+    ghost use Rattle.bz_breakpad.specs.Indexed.{IsKeptFunction, function_in};
+    ghost use Rattle.bz_breakpad_lines.specs.Table as tables;
 
     ghost Value = { tables.Function };
 
@@ -116,13 +119,4 @@ fn inlinees_at(alloc: Global, bytes: &[u8], ranges: &[&CallRange]) -> Result<Vec
         calls.push(inlinee_of(bytes, range))?;
     }
     Ok(calls)
-}
-
-/// The text at a part of the bytes.
-pub(crate) fn text_of<'a>(bytes: &'a [u8], part: &Part) -> &'a str
-    requires { IsTextAt bytes.now part.now }
-    ensures { result.now ≡ text_at bytes.now part.now }
-{
-    // The names were found to be UTF-8 when the file was read.
-    unsafe { std::str::from_utf8_unchecked(&bytes[part.from as usize..part.to as usize]) }
 }

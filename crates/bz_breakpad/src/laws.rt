@@ -5,43 +5,16 @@ ghost use Rattle.bz_base.specs.Answer.{Call, Site, Symbol};
 ghost use Rattle.bz_base.specs.Answer.Answer.{Known};
 ghost use Rattle.bz_base.specs.Nearest.{IsNearestCovering};
 ghost use Rattle.bz_base.specs.declared.types.FindSymOpts.{FindSymOpts};
-ghost use Rattle.bz_breakpad.specs.Grammar.{Accepted};
 ghost use Rattle.bz_breakpad.specs.Lent.{lent_public};
-ghost use Rattle.bz_breakpad.specs.Names.{AreLastNames, names_in};
 ghost use Rattle.bz_breakpad.specs.Plain.{IsSeen, function_at, plain, seen_from};
-ghost use Rattle.bz_breakpad.specs.Reader.{counted_in};
-ghost use Rattle.bz_breakpad.specs.Records.{AreFormsRead, TOP, INNER};
-ghost use Rattle.bz_breakpad.specs.Choice.{AreReadExactly};
-ghost use Rattle.bz_breakpad.specs.Table as tables;
-ghost use Rattle.bz_breakpad.specs.Table.{Function, Named, Table};
 ghost use Rattle.bz_breakpad.specs.declared.types.Inlinee.{Inlinee};
 ghost use Rattle.bz_breakpad.specs.declared.types.PublicSymbol.{PublicSymbol};
-ghost use Rattle.bz_breakpad.specs.declared.types.SourceLine.{SourceLine};
-ghost use Rattle.bz_breakpad.specs.Grammar.{IsFile};
-ghost use Rattle.bz_breakpad.specs.Printed.{IsPrintable, printed};
+ghost use Rattle.bz_breakpad_lines.specs.Table.{Function, Table};
+ghost use Rattle.bz_breakpad_lines.specs.Table as tables;
+ghost use Rattle.bz_breakpad_lines.specs.declared.record.SourceLine.{SourceLine};
 
-use crate::types::{Inlinee, PublicSymbol, SourceLine};
-
-/// Each form is read from exactly the lines that have it.
-pub fn records_are_read()
-    ensures { AreFormsRead }
-{}
-
-/// A line is read as the one record whose form it has.
-pub fn lines_are_read()
-    ensures top { AreReadExactly TOP }
-    ensures inner { AreReadExactly INNER }
-{}
-
-/// What is read of the bytes is what the grammar says of them, wherever they are a Breakpad file.
-pub fn reading_accepts()
-    ensures { (bytes : List ℕ) (table : Table) (count : ℕ) → (counted_in bytes ≡ Some (table, count)) ↔ Accepted bytes table count }
-{}
-
-/// The names of ids are those of the last records, and there are as many as ids.
-pub fn last_names_count()
-    ensures { (records : List Named) → AreLastNames records (names_in records) }
-{}
+use crate::types::{Inlinee, PublicSymbol};
+use bz_breakpad_lines::SourceLine;
 
 /// Line records and inlined calls are equal exactly where every field is.
 pub fn records_are_equal_by_field()
@@ -72,15 +45,4 @@ pub fn calls_are_rotated()
 /// A symbol's start and offset make up the address that it answers for.
 pub fn answers_lie_at_their_addresses()
     ensures { (table : Table) (opts : FindSymOpts) (addr : ℕ) (s : Symbol) → plain table opts addr ≡ Ok (Known s) → s.addr + s.offset ≡ addr }
-{}
-
-/// The text of a table is a file that says the table, where its numbers and names can stand in
-/// lines and its ids ascend.
-pub fn printed_tables_are_files()
-    ensures { (table : Table) → IsPrintable table → IsFile (printed table) table }
-{}
-
-/// Every file says such a table.
-pub fn tables_of_files_are_printable()
-    ensures { (bytes : List ℕ) (table : Table) → IsFile bytes table → IsPrintable table }
 {}

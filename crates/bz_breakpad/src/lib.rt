@@ -1,4 +1,4 @@
-//! Breakpad symbol files: their grammar, the table that one holds, and its answers.
+//! Breakpad symbol files: the answers of one.
 #![tactic(auto)]
 
 mod calls;
@@ -10,16 +10,12 @@ pub mod laws;
 mod line_run;
 mod lines;
 mod lookups;
-mod names;
-mod parser;
 mod places;
-mod publics;
-mod search;
-mod sorting;
 mod types;
 mod version;
 
+pub use bz_breakpad_lines::SourceLine;
 pub use file::{SymbolFile, SymbolParser};
 pub use found::FoundRecord;
 pub use function::Function;
-pub use types::{Inlinee, PublicSymbol, SourceLine};
+pub use types::{Inlinee, PublicSymbol};

@@ -5,14 +5,14 @@ ghost use Rattle.std.specs.Prelude.{◌≡◌, ◌≤◌, ◌<◌, ◌-◌, leng
 ghost use Rattle.bz_base.specs.Byte.{line_feed};
 ghost use Rattle.bz_base.specs.Line.{all_lines};
 ghost use Rattle.bz_base.specs.Nearest.{nearest_covering};
-ghost use Rattle.bz_breakpad.specs.Kept.{IsRunAt, text_at};
-ghost use Rattle.bz_breakpad.specs.Lent.{line_seen};
-ghost use Rattle.bz_breakpad.specs.LineRun.{IsCut, IsRunFront, lines_in};
+ghost use Rattle.bz_breakpad_lines.specs.Told.{line_seen};
+ghost use Rattle.bz_breakpad_table.specs.Kept.{IsRunAt, text_at};
+ghost use Rattle.bz_breakpad_table.specs.LineRun.{IsCut, IsRunFront, lines_in};
 
-use crate::lines::{line_if_covers, line_len, start_at, start_of};
-use crate::parser::line::line_feeds;
-use crate::types::{Part, SourceLine};
+use crate::lines::line_if_covers;
 use bz_base::Addr;
+use bz_breakpad_lines::{SourceLine, line_feeds, line_len, start_at, start_of};
+use bz_breakpad_table::Part;
 
 /// About how long a line record is, in bytes.
 const LINE_LEN: usize = 16;

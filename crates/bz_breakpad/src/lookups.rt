@@ -10,19 +10,17 @@ ghost use Rattle.bz_base.specs.declared.error.Error.{Error};
 ghost use Rattle.bz_base.specs.declared.types.FindSymOpts.{FindSymOpts};
 ghost use Rattle.bz_base.specs.declared.types.Reason.{Reason};
 ghost use Rattle.bz_breakpad.specs.Found.{AreRecordsFor, IsRecordFor};
-ghost use Rattle.bz_breakpad.specs.Kept.{IsTextAt, kept_public, text_at};
-ghost use Rattle.bz_breakpad.specs.Lent.{IsLentPlaced, function_seen, placed_seen};
-ghost use Rattle.bz_breakpad.specs.Plain.{batch, plain, public_symbol_at, symbol_at};
-ghost use Rattle.bz_breakpad.specs.Refusal.{IsAnswerRefusal};
-ghost use Rattle.bz_breakpad.specs.Sorted.{StandsFor};
-ghost use Rattle.bz_breakpad.specs.Table.{Table};
+ghost use Rattle.bz_breakpad.specs.Lent.{IsLentPlaced, placed_seen};
+ghost use Rattle.bz_breakpad.specs.Plain.{batch, plain, public_symbol_at, symbol_at, IsAnswerRefusal};
+ghost use Rattle.bz_breakpad_lines.specs.Table.{Table};
+ghost use Rattle.bz_breakpad_table.specs.Kept.{IsTextAt, kept_public, text_at, function_seen};
+ghost use Rattle.bz_breakpad_table.specs.Sorted.{StandsFor};
 
 use crate::found::FoundRecord;
-use crate::function::text_of;
 use crate::line_run::{Cuts, Guess};
 use crate::places::{Placed, placed_at};
-use crate::types::{KeptFunction, KeptPublic, KeptTable, LineRecords};
 use bz_base::{Addr, Error, FindSymOpts, Reason, Result, Sym, Symbolized, in_batch};
+use bz_breakpad_table::{KeptFunction, KeptPublic, KeptTable, LineRecords, text_of};
 use std::alloc::Global;
 use std::borrow::CowStr;
 

@@ -1,7 +1,7 @@
 -- How many steps the searches of a batch take.
 use Rattle.std.specs.Prelude.{◌≡◌, ◌⊎◌, ℕ, ◌-◌, ◌≤◌, List, Some, string_bytes}
 use Rattle.bz_cache.specs.Cache.{Cache, kept_at}
-use Rattle.bz_breakpad.specs.Publics.{AreFewSteps}
+use Rattle.bz_breakpad.specs.Probes.{AreFewSteps}
 use Rattle.bz_breakpad.specs.Reader.{table_in}
 use Rattle.bz_breakpad.specs.Table.{Table}
 use Rattle.bz_symbolize.specs.State.{State}

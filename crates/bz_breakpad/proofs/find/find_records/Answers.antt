@@ -1,7 +1,7 @@
 use Rattle.std.proofs.Common.{◌-◌, ◌<◌, length, ap, sym, subst, ◌∙◌, arith}
 use Rattle.std.specs.List.{AllByRecursion}
 use Rattle.std.proofs.lemmas.Bool.{eqb-false, eqb-true}
-use Rattle.bz_breakpad.specs.Publics.{AreProbes}
+use Rattle.bz_breakpad.specs.Probes.{AreProbes}
 use Rattle.bz_breakpad.proofs.FoundLemmas.{no_publics_for, none_for_left}
 use Rattle.bz_breakpad.proofs.ProbeLemmas.{functions_alone, more_addresses, none_few, with_publics}
 use Rattle.bz_breakpad.proofs.find.find_records.Goals as goal

@@ -2,8 +2,8 @@ use Rattle.std.proofs.Common.{◌≡◌, ◌<◌, ◌≤◌, ℕ, List, length, 
 use Rattle.std.specs.Prelude.{slice_index}
 use Rattle.std.specs.List.{AllByRecursion}
 use Rattle.bz_breakpad.specs.Found.{AreFunctionsFor, AreUncovered}
-use Rattle.bz_breakpad.specs.Sorted.{StandsFor}
-use Rattle.bz_breakpad.specs.Table.{Table}
+use Rattle.bz_breakpad_table.specs.Sorted.{StandsFor}
+use Rattle.bz_breakpad_lines.specs.Table.{Table}
 use Rattle.bz_breakpad.proofs.find.functions_found.Given as goal
 
 -- the first of the addresses have their functions, or are left

@@ -4,8 +4,8 @@ use Rattle.std.proofs.lemmas.List.{length-map}
 use Rattle.std.proofs.lemmas.Option.{slice_get_read}
 use Rattle.bz_base.specs.Starts.{IsAt}
 use Rattle.bz_base.proofs.TableLemmas.{start_at}
-use Rattle.bz_breakpad.specs.Sorted.{starts_of}
-use Rattle.bz_breakpad.specs.declared.types.FunctionKey.{FunctionKey}
+use Rattle.bz_breakpad_table.specs.Sorted.{starts_of}
+use Rattle.bz_breakpad_table.specs.declared.types.FunctionKey.{FunctionKey}
 use Rattle.bz_breakpad.proofs.PublicLemmas.{between_found, between_none}
 use Rattle.bz_breakpad.proofs.find.starts_between.Goals as goal
 

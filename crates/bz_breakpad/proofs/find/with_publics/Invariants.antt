@@ -1,7 +1,7 @@
 use Rattle.std.proofs.Common.{◌≡◌, ℕ, List, length}
 use Rattle.bz_breakpad.specs.Found.{AreFunctionsFor}
-use Rattle.bz_breakpad.specs.Sorted.{StandsFor}
-use Rattle.bz_breakpad.specs.Table.{Table}
+use Rattle.bz_breakpad_table.specs.Sorted.{StandsFor}
+use Rattle.bz_breakpad_lines.specs.Table.{Table}
 use Rattle.bz_breakpad.proofs.find.with_publics.Given as goal
 
 -- the first of those that were left are found

@@ -1,5 +1,6 @@
 use Rattle.std.proofs.Common.{◌≡◌, map, take}
-use Rattle.bz_breakpad.specs.Kept.{kept_call, kept_inlinee}
+use Rattle.bz_breakpad_table.specs.Kept.{kept_call}
+use Rattle.bz_breakpad.specs.Lent.{kept_inlinee}
 use Rattle.bz_breakpad.proofs.function.inlinees_at.Given as goal
 
 -- the calls so far

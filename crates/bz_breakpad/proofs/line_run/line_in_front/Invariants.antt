@@ -1,6 +1,6 @@
 use Rattle.std.proofs.Common.{◌≡◌, take}
-use Rattle.bz_breakpad.specs.LineRun.{IsRunFront}
-use Rattle.bz_breakpad.proofs.RunLemmas.{candidate_in}
+use Rattle.bz_breakpad_table.specs.LineRun.{IsRunFront}
+use Rattle.bz_breakpad_table.proofs.RunLemmas.{candidate_in}
 use Rattle.bz_breakpad.proofs.line_run.line_in_front.Given as goal
 
 -- a run stands at the front of the rest, and of it the same record is to be tried

@@ -1,9 +1,9 @@
 use Rattle.std.proofs.Common.{Option, IsSome, take, unwrap_or, subst, sym, ap, arith, ◌∙◌}
 use Rattle.std.proofs.lemmas.List.{length-take-le}
 use Rattle.bz_base.specs.Nearest.{if_covers}
-use Rattle.bz_breakpad.specs.LineStarts.{no_line}
-use Rattle.bz_breakpad.specs.Table.{SourceLine}
-use Rattle.bz_breakpad.proofs.RunLemmas.{only_answers, reads_first}
+use Rattle.bz_breakpad_lines.specs.LineStarts.{no_line}
+use Rattle.bz_breakpad_lines.specs.Table.{SourceLine}
+use Rattle.bz_breakpad_table.proofs.RunLemmas.{only_answers, reads_first}
 use Rattle.bz_breakpad.proofs.line_run.only_line.Goals as goal
 
 pub line_if_covers-requires : goal.line_if_covers-requires

@@ -1,7 +1,7 @@
 use Rattle.std.proofs.Common.{Ok, ap, sym, subst, ◌∙◌, arith}
 use Rattle.bz_base.specs.Answer.Answer.{Known}
 use Rattle.bz_breakpad.specs.Found.{IsRecordFor}
-use Rattle.bz_breakpad.specs.Lent.{function_seen}
+use Rattle.bz_breakpad_table.specs.Kept.{function_seen}
 use Rattle.bz_breakpad.specs.Plain.{by_place}
 use Rattle.bz_breakpad.proofs.AnsweredLemmas.{function_answers, function_below, function_kept, public_answers, public_named, public_starts, public_within, refused_as}
 use Rattle.bz_breakpad.proofs.lookups.answer_from.Goals as goal

@@ -2,8 +2,8 @@ use Rattle.std.proofs.Common.{subst, sym}
 use Rattle.std.specs.List.{slice_range}
 use Rattle.std.proofs.lemmas.Result.{IfOk-weaker}
 use Rattle.bz_base.specs.Nearest.{IsTable}
-use Rattle.bz_breakpad.specs.Calls.{call_start}
-use Rattle.bz_breakpad.specs.declared.types.CallRange.{CallRange}
+use Rattle.bz_breakpad_table.specs.CallRanges.{call_start}
+use Rattle.bz_breakpad_table.specs.declared.types.CallRange.{CallRange}
 use Rattle.bz_breakpad.proofs.PlacedLemmas.{calls_through}
 use Rattle.bz_breakpad.proofs.places.calls_around.Goals as goal
 

@@ -1,5 +1,6 @@
 use Rattle.std.proofs.Common.{ap, sym}
-use Rattle.bz_breakpad.specs.Lent.{function_seen, line_seen}
+use Rattle.bz_breakpad_table.specs.Kept.{function_seen}
+use Rattle.bz_breakpad_lines.specs.Told.{line_seen}
 use Rattle.bz_breakpad.specs.Plain.{by_seen, calls_asked}
 use Rattle.bz_breakpad.proofs.PlacedLemmas.{line_unknown}
 use Rattle.bz_breakpad.proofs.places.placed_on_line.Goals as goal

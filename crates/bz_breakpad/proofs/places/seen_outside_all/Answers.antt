@@ -3,10 +3,10 @@ use Rattle.std.specs.Prelude.{reverse}
 use Rattle.std.specs.Borrow.{Bor}
 use Rattle.bz_base.specs.Answer.{Call, call_of, site_of}
 use Rattle.bz_base.specs.Lent.{IsLentCall}
-use Rattle.bz_breakpad.specs.Kept.{kept_call}
+use Rattle.bz_breakpad_table.specs.Kept.{kept_call}
 use Rattle.bz_breakpad.specs.Plain.{by_seen}
-use Rattle.bz_breakpad.specs.declared.types.CallRange.{CallRange}
-use Rattle.bz_breakpad.proofs.KeptLemmas.{all_and_one}
+use Rattle.bz_breakpad_table.specs.declared.types.CallRange.{CallRange}
+use Rattle.bz_breakpad_table.proofs.KeptLemmas.{all_and_one}
 use Rattle.bz_breakpad.proofs.PlacedLemmas.{all_reversed, map_reversed, reverse_one, seen_none, seen_step}
 use Rattle.bz_breakpad.proofs.places.seen_outside_all.Goals as goal
 

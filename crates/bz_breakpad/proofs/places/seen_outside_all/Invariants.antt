@@ -3,10 +3,10 @@ use Rattle.std.specs.Prelude.{reverse}
 use Rattle.std.specs.List.{AllByRecursion}
 use Rattle.bz_base.specs.Answer.{call_of, site_of}
 use Rattle.bz_base.specs.Lent.{IsLentCall, IsLentPlace}
-use Rattle.bz_breakpad.specs.Kept.{kept_call}
+use Rattle.bz_breakpad_table.specs.Kept.{kept_call}
 use Rattle.bz_breakpad.specs.Plain.{seen_from, site_in}
-use Rattle.bz_breakpad.specs.Sorted.{StandsFor}
-use Rattle.bz_breakpad.specs.Table.{SourceLine, Table}
+use Rattle.bz_breakpad_table.specs.Sorted.{StandsFor}
+use Rattle.bz_breakpad_lines.specs.Table.{SourceLine, Table}
 use Rattle.bz_breakpad.proofs.places.seen_outside_all.Given as goal
 
 -- the place and the calls so far are what is seen from outside the calls that were taken, of which the innermost came first

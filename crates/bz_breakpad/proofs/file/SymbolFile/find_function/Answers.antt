@@ -1,11 +1,10 @@
 use Rattle.std.proofs.Common.{◌≡◌, ℕ, List, Some, sym, ap, subst, ◌∙◌}
 use Rattle.std.proofs.lemmas.Option.{same_Some}
-use Rattle.bz_breakpad.specs.Kept.{IsNested}
-use Rattle.bz_breakpad.specs.Lent.{function_seen}
+use Rattle.bz_breakpad_table.specs.Kept.{IsNested, function_seen}
 use Rattle.bz_breakpad.specs.Plain.{function_at}
-use Rattle.bz_breakpad.specs.Reader.{table_in}
-use Rattle.bz_breakpad.specs.Sorted.{IsKeptFunction, function_in}
-use Rattle.bz_breakpad.specs.Table.{Function, Table}
+use Rattle.bz_breakpad_lines.specs.Reader.{table_in}
+use Rattle.bz_breakpad.specs.Indexed.{IsKeptFunction, function_in}
+use Rattle.bz_breakpad_lines.specs.Table.{Function, Table}
 use Rattle.bz_breakpad.proofs.AnsweredLemmas.{function_is, function_kept, function_nested}
 use Rattle.bz_breakpad.proofs.file.SymbolFile.find_function.Goals as goal
 

@@ -1,10 +1,10 @@
 use Rattle.std.proofs.Common.{ap, subst, sym, ◌∙◌}
 use Rattle.std.specs.List.{slice_range}
 use Rattle.bz_base.specs.Nearest.{IsTable}
-use Rattle.bz_breakpad.specs.Calls.{call_start}
+use Rattle.bz_breakpad_table.specs.CallRanges.{call_start}
 use Rattle.bz_breakpad.specs.Plain.{inlinee_at}
-use Rattle.bz_breakpad.specs.Table.{Function}
-use Rattle.bz_breakpad.specs.declared.types.CallRange.{CallRange}
+use Rattle.bz_breakpad_lines.specs.Table.{Function}
+use Rattle.bz_breakpad_table.specs.declared.types.CallRange.{CallRange}
 use Rattle.bz_breakpad.proofs.AsKept.{inlinee_same}
 use Rattle.bz_breakpad.proofs.PlacedLemmas.{inlinee_through}
 use Rattle.bz_breakpad.proofs.function.Function.find_inlinee_at_depth.Goals as goal

@@ -1,10 +1,10 @@
 use Rattle.std.proofs.Common.{List, map, sym, ap, ◌∙◌}
 use Rattle.std.specs.Borrow.{Bor}
 use Rattle.std.proofs.lemmas.Result.{IfOk-weaker}
-use Rattle.bz_breakpad.specs.Kept.{kept_call}
+use Rattle.bz_breakpad_table.specs.Kept.{kept_call}
 use Rattle.bz_breakpad.specs.Plain.{calls_around}
-use Rattle.bz_breakpad.specs.Table.{Function}
-use Rattle.bz_breakpad.specs.declared.types.CallRange.{CallRange}
+use Rattle.bz_breakpad_lines.specs.Table.{Function}
+use Rattle.bz_breakpad_table.specs.declared.types.CallRange.{CallRange}
 use Rattle.bz_breakpad.proofs.AsKept.{calls_same}
 use Rattle.bz_breakpad.proofs.function.Function.find_inlinees.Goals as goal
 

@@ -1,6 +1,6 @@
 use Rattle.std.proofs.Common.{ap, ◌∙◌}
 use Rattle.bz_breakpad.specs.Plain.{line_at}
-use Rattle.bz_breakpad.specs.Table.{Function}
+use Rattle.bz_breakpad_lines.specs.Table.{Function}
 use Rattle.bz_breakpad.proofs.AsKept.{line_same}
 use Rattle.bz_breakpad.proofs.function.Function.find_line.Goals as goal
 

@@ -1,5 +1,5 @@
 use Rattle.std.proofs.Common.{ap, ◌∙◌}
-use Rattle.bz_breakpad.specs.Table.{Function}
+use Rattle.bz_breakpad_lines.specs.Table.{Function}
 use Rattle.bz_breakpad.proofs.function.Function.parameter_size.Goals as goal
 
 pub returns : goal.returns

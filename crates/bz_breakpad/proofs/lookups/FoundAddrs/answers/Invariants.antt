@@ -5,8 +5,8 @@ use Rattle.bz_base.specs.Answer.{reading}
 use Rattle.bz_base.specs.Lent.{IsLent}
 use Rattle.bz_breakpad.specs.Found.{AreRecordsFor}
 use Rattle.bz_breakpad.specs.Plain.{batch}
-use Rattle.bz_breakpad.specs.Sorted.{StandsFor}
-use Rattle.bz_breakpad.specs.Table.{Table}
+use Rattle.bz_breakpad_table.specs.Sorted.{StandsFor}
+use Rattle.bz_breakpad_lines.specs.Table.{Table}
 use Rattle.bz_breakpad.proofs.lookups.FoundAddrs.answers.Given as goal
 
 -- the answers so far are those of the first addresses, and there is room for the others

@@ -1,5 +1,0 @@
-use Rattle.bz_breakpad.proofs.PrintedLaws.{printed_accepted}
-use Rattle.bz_breakpad.proofs.laws.printed_tables_are_files.Goals as goal
-
-pub returns : goal.returns
-returns c = printed_accepted

@@ -1,5 +1,0 @@
-use Rattle.bz_breakpad.proofs.GrammarLaws.{accepted_found, accepted_again}
-use Rattle.bz_breakpad.proofs.laws.reading_accepts.Goals as goal
-
-pub returns : goal.returns
-returns c bytes table count = (accepted_found bytes table count, accepted_again bytes table count)

@@ -1,5 +1,0 @@
-use Rattle.bz_breakpad.proofs.PrintableLaws.{accepted_printable}
-use Rattle.bz_breakpad.proofs.laws.tables_of_files_are_printable.Goals as goal
-
-pub returns : goal.returns
-returns c = λ bytes table is. accepted_printable bytes table is.0 is.1

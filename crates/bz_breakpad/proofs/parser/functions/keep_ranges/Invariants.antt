@@ -1,7 +1,0 @@
-use Rattle.std.proofs.Common.{◌≡◌, ◌++◌, map, take}
-use Rattle.bz_breakpad.specs.Calls.{range_kept}
-use Rattle.bz_breakpad.proofs.parser.functions.keep_ranges.Given as goal
-
--- an inlined call is kept for each of the ranges so far
-abbrev pub invariant-loop-range : goal.invariant-loop-range
-invariant-loop-range l = l.calls.items ≡ l.fn.calls.items ++ map (range_kept l.depth l.place) (take l.range-index l.ranges)

@@ -1,6 +1,0 @@
-use Rattle.bz_breakpad.proofs.ValueLemmas.{dec_at_front}
-use Rattle.bz_breakpad.proofs.parser.values.dec_front.Goals as goal
-
-pub returns : goal.returns
-returns c =
-    dec_at_front c.args.text.now c.requires.room c.args.digits c.requires.few c.requires.digits c.bytes_front-values.result c.bytes_front-values.ensures

@@ -1,9 +1,0 @@
--- The functions in which line records and inlined calls are searched.
-use Rattle.std.specs.Prelude.{ℕ, List}
-use Rattle.bz_breakpad.specs.Kept.{FunctionFits}
-use Rattle.bz_breakpad.specs.declared.types.FunctionTable.{FunctionTable}
-use Rattle.bz_breakpad.specs.declared.types.KeptFunction.{KeptFunction}
-
--- a function of the table: its parts lie in the table's lists, and the records there are in order
-abbrev pub IsFunction : List ℕ → FunctionTable → KeptFunction → Type 0
-IsFunction bytes t f = FunctionFits bytes t.lines.items t.inlinees.items f

@@ -1,0 +1,18 @@
+use Rattle.std.proofs.Common.{sym, drop, option_map, unwrap_or, arith, ap, ◌∙◌}
+use Rattle.std.proofs.lemmas.List.{take_rest}
+use Rattle.bz_breakpad_lines.specs.Form.Piece.{Hex}
+use Rattle.bz_breakpad_lines.specs.LineStarts.{no_line}
+use Rattle.bz_breakpad_lines.specs.Reads.{piece_at}
+use Rattle.bz_breakpad_lines.proofs.AtPlaceLemmas.{read_there, start_in_front, past_end}
+use Rattle.bz_breakpad_lines.proofs.at_place.start_at.Goals as goal
+
+pub returns-then-place-bytes : goal.returns-then-place-bytes
+returns-then-place-bytes c = sym (ap (λ o. (unwrap_or o no_line).start) (past_end c.args.bytes.now c.args.place (omega arith)))
+
+pub returns : goal.returns
+returns c =
+    let bytes = c.args.bytes.now in
+    let place = c.args.place in
+    let found = start_in_front (drop place bytes) _ (read_there bytes place c.requires) in
+    c.start_of.ensures ∙ ap (λ t. unwrap_or (option_map (λ read. read.0) (piece_at (Hex 16) t)) 0) (take_rest bytes place)
+    ∙ ap (λ o. unwrap_or (option_map (λ read. read.0) o) 0) found.1

@@ -1,0 +1,89 @@
+-- The forms of a Breakpad file's lines.
+use Rattle.std.specs.Prelude.{ℕ, List, [], ◌∷◌, codes}
+use Rattle.bz_breakpad_lines.specs.Form.{Form}
+use Rattle.bz_breakpad_lines.specs.Form.Piece.{Tag, Opt, Sep, MSep, Gap, Word, Hex, Dec}
+use Rattle.bz_breakpad_lines.specs.Form.Form.{End, Name, SepText, Many, ◌·◌}
+use Rattle.bz_breakpad_lines.specs.Reads.{IsReadExactly}
+
+-- the mark of a function or symbol that stands in several places
+abbrev pub letter_m : ℕ
+letter_m = 109
+
+-- name
+abbrev pub MODULE : Form
+MODULE = Tag (codes "MODULE") · Sep · Word · MSep · Word · MSep · Word · MSep · Name
+
+-- version or compiler
+abbrev pub INFO : Form
+INFO = Tag (codes "INFO") · SepText
+
+-- id, path
+abbrev pub FILE : Form
+FILE = Tag (codes "FILE") · Sep · Dec · Sep · Name
+
+-- id, name
+abbrev pub INLINE_ORIGIN : Form
+INLINE_ORIGIN = Tag (codes "INLINE_ORIGIN") · Sep · Dec · Sep · Name
+
+-- address, size of the parameters, name
+abbrev pub PUBLIC : Form
+PUBLIC = Tag (codes "PUBLIC") · Sep · Opt letter_m · Hex 16 · Sep · Hex 8 · Sep · Name
+
+-- address, size, size of the parameters, name
+abbrev pub FUNC : Form
+FUNC = Tag (codes "FUNC") · Sep · Opt letter_m · Hex 16 · Sep · Hex 8 · Sep · Hex 8 · Sep · Name
+
+abbrev pub STACK_WIN : Form
+STACK_WIN = Tag (codes "STACK WIN") · SepText
+
+abbrev pub STACK_CFI_INIT : Form
+STACK_CFI_INIT = Tag (codes "STACK CFI INIT") · SepText
+
+abbrev pub STACK_CFI : Form
+STACK_CFI = Tag (codes "STACK CFI") · SepText
+
+-- address, size, line, id of the file
+abbrev pub LINE : Form
+LINE = Hex 16 · Sep · Hex 8 · Sep · Dec · Sep · Dec · End
+
+-- address, size
+abbrev pub RANGE : Form
+RANGE = Sep · Hex 16 · Sep · Hex 8 · End
+
+-- the call of an INLINE record: depth, line, file, id of the origin
+abbrev pub CALL : Form
+CALL = Tag (codes "INLINE ") · Gap · Dec · Sep · Dec · Sep · Dec · Sep · Dec · End
+
+-- the call, and the ranges of the code
+abbrev pub INLINE : Form
+INLINE = Tag (codes "INLINE ") · Gap · Dec · Sep · Dec · Sep · Dec · Sep · Dec · Many RANGE
+
+-- id, name, in a function
+abbrev pub INNER_ORIGIN : Form
+INNER_ORIGIN = Tag (codes "INLINE_ORIGIN ") · Gap · Dec · Sep · Name
+
+-- the records that stand by themselves
+abbrev pub TOP : List Form
+TOP = MODULE ∷ INFO ∷ FILE ∷ INLINE_ORIGIN ∷ PUBLIC ∷ FUNC ∷ STACK_WIN ∷ STACK_CFI_INIT ∷ []
+
+-- the records that stand under a FUNC record
+abbrev pub INNER : List Form
+INNER = LINE ∷ INLINE ∷ INNER_ORIGIN ∷ []
+
+-- each form is read from exactly the lines that have it
+pub record AreFormsRead : Type 0 where
+  -- those that stand by themselves
+  pub «module» : IsReadExactly MODULE
+  pub info : IsReadExactly INFO
+  pub file : IsReadExactly FILE
+  pub inline_origin : IsReadExactly INLINE_ORIGIN
+  pub public : IsReadExactly PUBLIC
+  pub func : IsReadExactly FUNC
+  pub stack_win : IsReadExactly STACK_WIN
+  pub stack_cfi_init : IsReadExactly STACK_CFI_INIT
+  -- the one that stands under a STACK CFI INIT record
+  pub stack_cfi : IsReadExactly STACK_CFI
+  -- those that stand under a FUNC record
+  pub line : IsReadExactly LINE
+  pub inline : IsReadExactly INLINE
+  pub inner_origin : IsReadExactly INNER_ORIGIN

@@ -1,0 +1,117 @@
+-- The walk over a file's lines: what a line is depends on the record before it.
+use Rattle.std.specs.Prelude.{◌≡◌, ◌↔◌, ℕ, Bool, true, false, ◌&&◌, ◌⊎◌, List, [], ◌∷◌, ◌++◌, drop, Option, Some, None, option_map, if◌then◌else◌}
+use mathlib.Core.Logic.{inl, inr}
+use Rattle.std.specs.List.{prefix_len}
+use Rattle.bz_base.specs.Byte.{begins_with}
+use Rattle.bz_breakpad_lines.specs.Byte.{is_white, is_nothing}
+use Rattle.bz_breakpad_lines.specs.Form.{AllPass, Spells}
+use Rattle.bz_breakpad_lines.specs.Reads.{◌>>=◌, form_at}
+use Rattle.bz_breakpad_lines.specs.Choice.{One, SpellsOne, one_at, IsBody, body_at}
+use Rattle.bz_breakpad_lines.specs.Records.{TOP, INNER, STACK_CFI}
+
+-- the record under which a line stands
+pub data Context : Type 0 where
+  Outside : Context
+  InFunc : Context
+  InCfi : Context
+
+-- a record of a file
+pub data Record : Type 0 where
+  Top : One TOP → Record  -- a record that stands by itself
+  OfFunc : One INNER → Record  -- a line of a FUNC record
+  OfCfi : Record  -- a line of a STACK CFI INIT record
+
+-- the context that a record sets that stands by itself
+abbrev pub context_of : One TOP → Context
+context_of (inr (inr (inr (inr (inr (inl func)))))) = InFunc
+context_of (inr (inr (inr (inr (inr (inr (inr (inl cfi)))))))) = InCfi
+context_of _ = Outside
+
+-- the context of the line after the record
+abbrev pub context_after : Record → Context
+context_after (Top one) = context_of one
+context_after (OfFunc one) = InFunc
+context_after OfCfi = InCfi
+
+-- white space may stand after a record that stands by itself
+abbrev pub free_after : Record → Bool
+free_after (Top one) = true
+free_after _ = false
+
+-- the body is that of a record that stands under another
+abbrev pub IsInner : Context → List ℕ → Record → Type 0
+IsInner InFunc body (OfFunc one) = SpellsOne INNER body one
+IsInner InCfi body OfCfi = Spells STACK_CFI body tt
+IsInner _ body _ = ⊥
+
+-- the record of a body: one of its context, where the body has such a form, and else one that stands by itself
+abbrev pub IsBodyOf : Context → List ℕ → Record → Type 0
+IsBodyOf c body (Top one) = ((r : Record) → IsInner c body r → ⊥) × SpellsOne TOP body one
+IsBodyOf c body r = IsInner c body r
+
+abbrev pub IsRecord : Context → List ℕ → Record → Type 0
+IsRecord c line r = (body : List ℕ) × IsBody line body × IsBodyOf c body r
+
+-- the record's text in its line: what is left after white space, where that may stand
+pub record IsText (free : Bool) (line text : List ℕ) : Type 0 where
+  pub front : List ℕ
+  pub whole : line ≡ front ++ text
+  pub white : AllPass is_white front
+  pub bound : free ≡ false → front ≡ []
+  pub longest : free ≡ true → begins_with is_white text ≡ false
+
+-- a line that is read, and the lines after it
+pub record IsRead (c : Context) (free : Bool) (line : List ℕ) (Rest : Context → Bool → List Record → Type 0) (records : List Record) : Type 0 where
+  pub text : List ℕ
+  pub first : Record
+  pub others : List Record
+  pub text_is : IsText free line text
+  pub first_is : IsRecord c text first
+  pub rest : Rest (context_after first) (free_after first) others
+  pub records_are : records ≡ first ∷ others
+
+-- the lines are the records: white lines are passed over where white space may stand, and each other line is read
+abbrev pub Walks : Context → Bool → List (List ℕ) → List Record → Type 0
+Walks c free [] records = records ≡ []
+Walks c free (line ∷ lines) records =
+    ((free ≡ true) × AllPass is_white line × Walks c free lines records)
+    ⊎ IsRead c free line (λ d f. Walks d f lines) records
+
+abbrev pub or_record : Option Record → Option Record → Option Record
+or_record (Some r) other = Some r
+or_record None other = other
+
+-- the record of a line's body under one
+abbrev pub inner_at : Context → List ℕ → Option Record
+inner_at Outside body = None
+inner_at InFunc body = option_map OfFunc (one_at INNER body)
+inner_at InCfi body = option_map (λ _. OfCfi) (form_at STACK_CFI body)
+
+-- the record of a body in the context
+abbrev pub body_record : Context → List ℕ → Option Record
+body_record c body = or_record (inner_at c body) (option_map Top (one_at TOP body))
+
+-- the record of a line in the context
+unfoldable pub record_at : Context → List ℕ → Option Record
+record_at c line = body_at line >>= (λ body. body_record c body)
+
+unfoldable pub text_at : Bool → List ℕ → List ℕ
+text_at true line = drop (prefix_len is_white line) line
+text_at false line = line
+
+-- the records of the lines
+abbrev pub walk : Context → Bool → List (List ℕ) → Option (List Record)
+walk c free [] = Some []
+walk c free (line ∷ lines) =
+    if free && is_nothing (text_at free line)
+    then walk c free lines
+    else record_at c (text_at free line) >>= (λ r. option_map (λ rest. r ∷ rest) (walk (context_after r) (free_after r) lines))
+
+abbrev pub IsWalkedExactly : Type 0
+IsWalkedExactly =
+    (c : Context) (free : Bool) (lines : List (List ℕ)) (records : List Record) → (walk c free lines ≡ Some records) ↔ Walks c free lines records
+
+-- the records of lines, if there are any
+abbrev pub walked : Context → Bool → Option (List (List ℕ)) → Option (List Record)
+walked c free None = None
+walked c free (Some lines) = walk c free lines

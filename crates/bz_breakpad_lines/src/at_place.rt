@@ -1,0 +1,174 @@
+//! Line records and inlined calls at places in a file's bytes.
+
+ghost use Rattle.std.specs.Prelude.{◌≡◌, ◌<◌, ◌≤◌, ◌==◌, not, Some, drop, length, option_map, unwrap_or, IfSome, ◌+◌};
+ghost use Rattle.std.specs.List.{prefix_len};
+ghost use Rattle.bz_base.specs.Byte.{line_feed};
+ghost use Rattle.bz_breakpad_lines.specs.Calls.{call_in, call_read};
+ghost use Rattle.bz_breakpad_lines.specs.Form.Piece.{Hex};
+ghost use Rattle.bz_breakpad_lines.specs.Line.{line_in};
+ghost use Rattle.bz_breakpad_lines.specs.LineStarts.{ReadsLine, line_start};
+ghost use Rattle.bz_breakpad_lines.specs.Reads.{piece_at};
+ghost use Rattle.bz_breakpad_lines.specs.Told.{line_seen, call_told};
+
+use crate::field::{body, hex};
+use crate::inline::call_line;
+use crate::lanes::few_hex;
+use crate::line::{line_ends, line_feeds};
+use crate::quick::Shown;
+use crate::record::{InlineCall, SourceLine, call_front, code_line};
+use crate::values::hex_front;
+use memchr::memchr;
+
+/// How many bytes stand before the line's end.
+pub fn line_len(text: &[u8]) -> usize
+    ensures value { result ≡ prefix_len (λ b. not (b == line_feed)) text.now }
+    ensures within { result ≤ length text.now }
+{
+    match quick_len(text) {
+        Some(len) => len,
+        None => any_len(text),
+    }
+}
+
+/// The same, if one load shows the line's end.
+#[inline(always)]
+fn quick_len(text: &[u8]) -> Option<usize>
+    ensures value { IfSome result (λ len. len ≡ prefix_len (λ b. not (b == line_feed)) text.now) }
+    ensures within { IfSome result (λ len. len < length text.now) }
+{
+    if text.len() < 32 {
+        return None;
+    }
+    let len = line_feeds(text).trailing_zeros() as usize;
+    if len < 32 { Some(len) } else { None }
+}
+
+/// The same for any text.
+fn any_len(text: &[u8]) -> usize
+    ensures value { result ≡ prefix_len (λ b. not (b == line_feed)) text.now }
+    ensures within { result ≤ length text.now }
+{
+    match memchr(b'\n', text) {
+        Some(len) => len,
+        None => text.len(),
+    }
+}
+
+/// The line record at a place in the bytes, if one begins there.
+pub fn line_at(bytes: &[u8], place: usize) -> Option<SourceLine>
+    ensures { option_map line_seen result ≡ line_in (drop place bytes.now) }
+{
+    if place > bytes.len() {
+        return None;
+    }
+    let text = &bytes[place..];
+    match quick_line(text) {
+        Some(line) => Some(line),
+        None => any_line(text),
+    }
+}
+
+/// The line record at the front, the quick way.
+#[inline(always)]
+fn quick_line(text: &[u8]) -> Option<SourceLine>
+    ensures { IfSome result (λ line. line_in text.now ≡ Some (line_seen line)) }
+{
+    let shown = Shown::at_front(text)?;
+    let start = shown.hex_end(0, 8)?;
+    let ends = line_ends(shown, start)?;
+    Some(SourceLine {
+        addr: u64::from(shown.hex(0, start)),
+        size: shown.hex(start + 1, ends.size),
+        line: shown.dec(ends.size + 1, ends.line),
+        file: shown.dec(ends.line + 1, ends.file),
+    })
+}
+
+/// The line record that the first line of the text is.
+fn any_line(text: &[u8]) -> Option<SourceLine>
+    ensures { option_map line_seen result ≡ line_in text.now }
+{
+    code_line(body(&text[..line_len(text)])?)
+}
+
+/// Where the code of the line record at a place starts.
+#[inline(always)]
+pub fn start_at(bytes: &[u8], place: usize) -> u64
+    requires { ReadsLine bytes.now place }
+    ensures { result ≡ line_start bytes.now place }
+{
+    if place > bytes.len() {
+        return 0;
+    }
+    start_of(&bytes[place..])
+}
+
+/// The number of the hexadecimal digits at the front; 0 if there are none.
+#[inline(always)]
+pub fn start_of(text: &[u8]) -> u64
+    ensures { result ≡ unwrap_or (option_map (λ read. read.0) (piece_at (Hex 16) text.now)) 0 }
+{
+    match quick_start(text) {
+        Some(start) => start,
+        None => any_start(text),
+    }
+}
+
+/// The number of the one to eight hexadecimal digits at the front, the quick way.
+#[inline(always)]
+fn quick_start(text: &[u8]) -> Option<u64>
+    ensures { IfSome result (λ start. option_map (λ read. read.0) (piece_at (Hex 16) text.now) ≡ Some start) }
+{
+    if text.len() < 16 {
+        return None;
+    }
+    let digits = few_hex(text)?;
+    Some(u64::from(hex_front(text, digits)))
+}
+
+/// The same of any text.
+fn any_start(text: &[u8]) -> u64
+    ensures { result ≡ unwrap_or (option_map (λ read. read.0) (piece_at (Hex 16) text.now)) 0 }
+{
+    match hex(text, 16) {
+        Some((start, _)) => start,
+        None => 0,
+    }
+}
+
+/// The call of the INLINE record at a place in the bytes; one of zeros where none is.
+pub fn call_at(bytes: &[u8], place: usize) -> InlineCall
+    ensures { call_told result ≡ call_read bytes.now place }
+{
+    match call_from(bytes, place) {
+        Some(call) => call,
+        None => InlineCall {
+            depth: 0,
+            line: 0,
+            file: 0,
+            origin: 0,
+        },
+    }
+}
+
+/// The call of the INLINE record at a place in the bytes, if one begins there.
+fn call_from(bytes: &[u8], place: usize) -> Option<InlineCall>
+    ensures { option_map call_told result ≡ call_in (drop place bytes.now) }
+{
+    if place > bytes.len() {
+        return None;
+    }
+    let text = &bytes[place..];
+    match call_line(text) {
+        Some((call, _after)) => Some(call),
+        None => any_call(text),
+    }
+}
+
+/// The call of the INLINE record that the text begins with.
+fn any_call(text: &[u8]) -> Option<InlineCall>
+    ensures { option_map call_told result ≡ call_in text.now }
+{
+    let (call, _after) = call_front(text)?;
+    Some(call)
+}

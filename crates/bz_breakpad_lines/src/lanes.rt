@@ -1,0 +1,109 @@
+//! Where the digits of fields and the lines end, by one load of 64 bytes.
+
+ghost use Rattle.std.specs.Prelude.{◌≡◌, ◌==◌, ◌<◌, ◌≤◌, ℕ, List, not, length, map, take, drop, IfSome};
+ghost use Rattle.bz_base.specs.Byte.{line_feed};
+ghost use Rattle.bz_breakpad_lines.specs.Byte.{is_hex, is_decimal};
+ghost use Rattle.bz_breakpad_lines.specs.Stops.{AreDigits, AreStops};
+ghost use lib.Lanes.{mask_l};
+
+use std::simd::prelude::*;
+
+/// A bit for each byte that one load shows, as far as they haven't been read.
+#[derive(Clone, Copy)]
+pub struct Stops {
+    /// Whether it is no hexadecimal digit.
+    pub hex: u64,
+    /// Whether it is no decimal digit.
+    pub dec: u64,
+    /// Whether it is a line feed.
+    pub end: u64,
+}
+
+impl Stops {
+    /// The first 64 bytes.
+    #[inline(always)]
+    pub fn at_front(text: &[u8]) -> Stops
+        requires { 64 ≤ length text.now }
+        ensures { AreStops text.now result }
+    {
+        Stops {
+            hex: hex_stops(text),
+            dec: dec_stops(text),
+            end: line_ends(text),
+        }
+    }
+
+    /// Those after so many of them.
+    #[inline(always)]
+    pub fn after(self, len: usize) -> Stops
+        requires { len < 64 }
+        ensures { (text : List ℕ) → AreStops text self → AreStops (drop len text) result }
+    {
+        Stops {
+            hex: self.hex >> len,
+            dec: self.dec >> len,
+            end: self.end >> len,
+        }
+    }
+}
+
+/// A bit for each of the first 64 bytes that is no hexadecimal digit.
+#[inline(always)]
+fn hex_stops(text: &[u8]) -> u64
+    requires { 64 ≤ length text.now }
+    ensures { result ≡ mask_l (map (λ b. not (is_hex b)) (take 64 text.now)) }
+{
+    let bytes = u8x64::from_slice(text);
+    let no_digit = (bytes - u8x64::splat(b'0')).simd_ge(u8x64::splat(10));
+    let no_letter = ((bytes | u8x64::splat(0x20)) - u8x64::splat(b'a')).simd_ge(u8x64::splat(6));
+    (no_digit & no_letter).to_bitmask()
+}
+
+/// How many hexadecimal digits stand at the front, if one to eight do.
+#[inline(always)]
+pub fn few_hex(text: &[u8]) -> Option<u32>
+    requires { 16 ≤ length text.now }
+    ensures { IfSome result (AreDigits 16 8 text.now 0) }
+{
+    let digits = few_hex_stops(text).trailing_zeros();
+    if digits == 0 || digits > 8 {
+        None
+    } else {
+        Some(digits)
+    }
+}
+
+/// A bit for each of the first 16 bytes that is no hexadecimal digit.
+#[inline(always)]
+fn few_hex_stops(text: &[u8]) -> u64
+    requires { 16 ≤ length text.now }
+    ensures { result ≡ mask_l (map (λ b. not (is_hex b)) (take 16 text.now)) }
+{
+    let bytes = u8x16::from_slice(text);
+    let no_digit = (bytes - u8x16::splat(b'0')).simd_ge(u8x16::splat(10));
+    let no_letter = ((bytes | u8x16::splat(0x20)) - u8x16::splat(b'a')).simd_ge(u8x16::splat(6));
+    (no_digit & no_letter).to_bitmask()
+}
+
+/// A bit for each of the first 64 bytes that is no decimal digit.
+#[inline(always)]
+fn dec_stops(text: &[u8]) -> u64
+    requires { 64 ≤ length text.now }
+    ensures { result ≡ mask_l (map (λ b. not (is_decimal b)) (take 64 text.now)) }
+{
+    let bytes = u8x64::from_slice(text);
+    (bytes - u8x64::splat(b'0'))
+        .simd_ge(u8x64::splat(10))
+        .to_bitmask()
+}
+
+/// A bit for each of the first 64 bytes that is a line feed.
+#[inline(always)]
+fn line_ends(text: &[u8]) -> u64
+    requires { 64 ≤ length text.now }
+    ensures { result ≡ mask_l (map (λ b. b == line_feed) (take 64 text.now)) }
+{
+    u8x64::from_slice(text)
+        .simd_eq(u8x64::splat(b'\n'))
+        .to_bitmask()
+}

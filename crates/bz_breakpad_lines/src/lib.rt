@@ -1,0 +1,30 @@
+//! The lines of Breakpad symbol files: the grammar of a file, and the readers of one line, general and
+//! quick.
+#![tactic(auto)]
+
+mod at_place;
+mod field;
+mod func;
+mod inline;
+mod lanes;
+pub mod laws;
+mod line;
+mod on_run;
+mod quick;
+mod record;
+mod start_text;
+mod values;
+
+pub use at_place::{call_at, line_at, line_len, start_at, start_of};
+pub use field::body;
+pub use func::{cfi_line, func_line};
+pub use inline::inline_line;
+pub use lanes::Stops;
+pub use line::{QuickLine, line_feeds, quick_line};
+pub use on_run::{RunLine, next_on_run};
+pub use quick::Shown;
+pub use record::{
+    Context, FuncLine, InlineCall, InnerLine, PublicLine, Range, RecordLine, SourceLine, TopLine,
+    read_record,
+};
+pub use start_text::StartText;

@@ -1,0 +1,23 @@
+use Rattle.std.proofs.Common.{Some, option_map, sym, ap, ◌∙◌}
+use Rattle.std.specs.BTreeMap.{is_at}
+use Rattle.std.specs.Ordering.{nat_cmp}
+use Rattle.std.proofs.lemmas.Map.Made.{lookup-map_values}
+use Rattle.bz_breakpad_table.specs.Kept.{IsTextAt, text_at}
+use Rattle.bz_breakpad_table.proofs.KeptLemmas.{value_found}
+use Rattle.bz_breakpad_table.proofs.names.name_of.Goals as goal
+
+pub text_of-requires : goal.text_of-requires
+text_of-requires c =
+    value_found (IsTextAt c.args.bytes.now) (is_at (nat_cmp c.args.id)) c.args.names.now c.in-Some.part.now c.requires c.in-Some.ensures
+
+pub returns-in-Some : goal.returns-in-Some
+returns-in-Some c =
+    let text = text_at c.args.bytes.now in
+    ap Some c.text_of.ensures
+    ∙ ap (option_map text) c.in-Some.ensures
+    ∙ sym (lookup-map_values text (is_at (nat_cmp c.args.id)) c.args.names.now)
+
+pub returns-in-None : goal.returns-in-None
+returns-in-None c =
+    let text = text_at c.args.bytes.now in
+    ap (option_map text) c.in-None.ensures ∙ sym (lookup-map_values text (is_at (nat_cmp c.args.id)) c.args.names.now)

@@ -1,0 +1,28 @@
+use Rattle.std.proofs.Common.{◌≡◌, refl, ap}
+use Rattle.std.proofs.lemmas.List.{take_rest}
+use Rattle.bz_breakpad_lines.specs.Told.{context_told}
+use Rattle.bz_breakpad_lines.specs.Walk.Context.{InFunc}
+use Rattle.bz_breakpad_table.proofs.LineRecordLemmas.{line_on}
+use Rattle.bz_breakpad_table.proofs.walk.Walk.lines.Goals as goal
+
+pub run_on-requires-clause-midway : goal.run_on-requires-clause-midway
+run_on-requires-clause-midway c =
+    let m = c.requires.midway in
+    let bytes = c.args.text.now in
+    let rest = c.args.rest.now in
+    let old = c.args.self.now in
+    let line = c.in-Some.line in
+    let p = c.in-Some.ensures.quick in
+    let in_func : context_told old.context ≡ InFunc = ap context_told c.in-InFunc.is in
+    let so_far = m.walked.so_far in
+    rw (take_rest rest line.len) (line_on rest line p bytes old _ m in_func in_func refl refl (record {
+      module_is = so_far.module_is;
+      functions = c.in_ok-line.ensures m.reading.closed m.reading.current rest p m.rest_is so_far.functions;
+      files = so_far.files;
+      origins = so_far.origins;
+      publics = so_far.publics;
+    }))
+
+pub run_on-requires-clause-stops : goal.run_on-requires-clause-stops
+run_on-requires-clause-stops c =
+    rw (take_rest c.args.rest.now c.in-Some.line.len) (c.after.ensures c.args.rest.now c.at_front-stops.ensures)

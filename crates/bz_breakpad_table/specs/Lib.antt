@@ -1,0 +1,10 @@
+pub mod CallRanges
+pub mod FunctionKeys
+pub mod Kept
+pub mod LineKeys
+pub mod LineRun
+pub mod Publics
+pub mod Refusal
+pub mod Search
+pub mod Sorted
+pub mod Walked

@@ -1,0 +1,50 @@
+//! The line records of a function as they are read: a run, as long as the texts of their starts tell
+//! that they stand in order.
+
+ghost use Rattle.std.specs.Prelude.{◌≡◌, ◌<◌, ◌+◌, ℕ, List, drop, IfSome};
+ghost use Rattle.bz_breakpad_lines.specs.Line.{source_line};
+ghost use Rattle.bz_breakpad_lines.specs.QuickLine.{IsQuickLine};
+ghost use Rattle.bz_breakpad_lines.specs.declared.line.QuickLine.{QuickLine};
+ghost use Rattle.bz_breakpad_table.specs.Kept.{IsLonger, LinesFitSoFar};
+ghost use Rattle.bz_breakpad_table.specs.declared.types.LineKey.{LineKey};
+
+use crate::types::Part;
+use bz_breakpad_lines::StartText;
+
+/// The line records of a function that have been read.
+#[derive(Clone, Copy)]
+pub enum LinesSoFar {
+    /// There are none.
+    Empty,
+    /// They stand one after another in this part of the file's bytes, and each starts after the one
+    /// before it; the text of the last start.
+    Run(Part, StartText),
+    /// Their keys are listed.
+    Listed,
+}
+
+impl LinesSoFar {
+    /// With the line record in a part of the bytes, if they are a run with it.
+    /// None if that isn't known.
+    #[inline(always)]
+    pub fn run_with(self, part: Part, start: Option<StartText>) -> Option<LinesSoFar>
+        ensures { IfSome result (λ more. (bytes : List ℕ) (keys : List LineKey) (rest : List ℕ) (line : QuickLine) (is : IsQuickLine rest line) → drop part.from bytes ≡ rest →
+            part.to ≡ part.from + line.len → start ≡ line.start → LinesFitSoFar bytes keys self → IsLonger bytes keys keys self more (source_line is.value)) }
+    {
+        let Some(start) = start else {
+            return None;
+        };
+        match self {
+            LinesSoFar::Empty => Some(LinesSoFar::Run(part, start)),
+            LinesSoFar::Run(run, last) if run.to == part.from && last.is_below(start) => {
+                let whole = Part {
+                    from: run.from,
+                    to: part.to,
+                };
+                Some(LinesSoFar::Run(whole, start))
+            }
+            LinesSoFar::Run(_, _) => None,
+            LinesSoFar::Listed => None,
+        }
+    }
+}

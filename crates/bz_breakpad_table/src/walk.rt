@@ -1,0 +1,322 @@
+//! The walk over a file's lines: what a line is depends on the record before it.
+
+ghost use Rattle.std.specs.Prelude.{◌≡◌, ◌<◌, ◌≤◌, ◌+◌, ◌^◌, ℕ, List, ◌&&◌, nat_lt, false, length, is_some, IfSome, IfNone, IfOk, IfErr, OnOk};
+ghost use Rattle.std.specs.List.{prefix_len};
+ghost use Rattle.bz_base.specs.declared.error.Error.{Error};
+ghost use Rattle.bz_breakpad_lines.specs.Byte.{is_nothing, is_white};
+ghost use Rattle.bz_breakpad_lines.specs.Reader.{Reading, nothing_read, reading_in};
+ghost use Rattle.bz_breakpad_lines.specs.Says.{module_of};
+ghost use Rattle.bz_breakpad_lines.specs.Stops.{AreStops};
+ghost use Rattle.bz_breakpad_lines.specs.Told.{context_told, record_told};
+ghost use Rattle.bz_breakpad_lines.specs.Walk.{Context, context_after, free_after, text_at};
+ghost use Rattle.bz_breakpad_lines.specs.Walk.Context.{InFunc, Outside};
+ghost use Rattle.bz_breakpad_table.specs.Refusal.{Refuses};
+ghost use Rattle.bz_breakpad_table.specs.Walked.{IsLineAt, IsMidway, IsRefused, IsStep, IsWalked};
+
+use crate::reading::{KeptReading, name_part};
+use crate::standing::LinesSoFar;
+use crate::types::Part;
+use bz_base::{Error, Result, next_line};
+use bz_breakpad_lines::{Context, Range, RecordLine, Shown, Stops, TopLine, body, cfi_line, func_line, inline_line, next_on_run, quick_line, read_record};
+use std::alloc::Global;
+
+/// The walk, at the end of a line.
+#[derive(Drop)]
+pub struct Walk {
+    /// What has been read.
+    pub kept: KeptReading,
+    /// The ranges of the last INLINE record.
+    pub ranges: Vec<Range>,
+    /// The record under which the next line may stand.
+    pub context: Context,
+    /// Whether white space may stand before the next line.
+    pub free: bool,
+    /// How many records there were.
+    pub count: usize,
+}
+
+impl Walk {
+    /// The walk at the front of a file.
+    pub fn new(alloc: Global) -> Walk
+        ensures walked { (bytes : List ℕ) → IsWalked bytes result nothing_read }
+        ensures context { context_told result.context ≡ Outside }
+        ensures free { result.free ≡ false }
+    {
+        Walk {
+            kept: KeptReading::new(alloc),
+            ranges: Vec::new(alloc),
+            context: Context::Outside,
+            free: false,
+            count: 0,
+        }
+    }
+
+    /// Reads the first line of the rest of a text, and maybe more, and returns the rest after them.
+    #[inline(always)]
+    pub fn next<'a>(&mut self, text: &[u8], rest: &'a [u8]) -> Result<&'a [u8]>
+        requires midway { IsMidway text.now rest.now self.old }
+        requires some { 0 < length rest.now }
+        ensures ok { IfOk result (λ after. IsMidway text.now after.now self.new) }
+        ensures shorter { IfOk result (λ after. length after.now < length rest.now) }
+        ensures refusal { IfErr result (Refuses (reading_in text.now)) }
+    {
+        let found = match rest {
+            [b'I', ..] => self.inline(text, rest)?,
+            [b'F', b'U', ..] => self.func(text, rest)?,
+            [b'S', ..] => self.cfi(text, rest),
+            _ => self.lines(text, rest)?,
+        };
+        match found {
+            Some(after) => Ok(after),
+            None => self.general(text, rest),
+        }
+    }
+
+    /// Reads the first line of the rest of a text quickly, if it is an INLINE record, and returns the
+    /// rest after it.
+    fn inline<'a>(&mut self, text: &[u8], rest: &'a [u8]) -> Result<Option<&'a [u8]>>
+        requires midway { IsMidway text.now rest.now self.old }
+        ensures ok { IfOk result (λ found. IfSome found (λ after. IsMidway text.now after.now self.new)) }
+        ensures shorter { IfOk result (λ found. IfSome found (λ after. length after.now < length rest.now)) }
+        ensures none { IfOk result (λ found. IfNone found (IsMidway text.now rest.now self.new)) }
+        ensures refusal { IfErr result (Refuses (reading_in text.now)) }
+    {
+        let Context::InFunc = self.context else {
+            return Ok(None);
+        };
+        let Some((call, after)) = inline_line(&mut self.ranges, rest)? else {
+            return Ok(None);
+        };
+        self.kept
+            .functions
+            .inline(&call, self.ranges.as_slice(), text.len() - rest.len())?;
+        self.free = false;
+        self.count += 1;
+        Ok(Some(after))
+    }
+
+    /// Reads the first line of the rest of a text quickly, if it is a STACK CFI record under another, and
+    /// returns the rest after it.
+    #[inline(always)]
+    fn cfi<'a>(&mut self, text: &[u8], rest: &'a [u8]) -> Option<&'a [u8]>
+        requires midway { IsMidway text.now rest.now self.old }
+        ensures some { IfSome result (λ after. IsMidway text.now after.now self.new) }
+        ensures shorter { IfSome result (λ after. length after.now < length rest.now) }
+        ensures none { IfNone result (IsMidway text.now rest.now self.new) }
+    {
+        let Context::InCfi = self.context else {
+            return None;
+        };
+        let after = cfi_line(rest)?;
+        self.free = false;
+        self.count += 1;
+        Some(after)
+    }
+
+    /// Reads the first line of the rest of a text quickly, if it is a FUNC record, and returns the rest
+    /// after it.
+    fn func<'a>(&mut self, text: &[u8], rest: &'a [u8]) -> Result<Option<&'a [u8]>>
+        requires midway { IsMidway text.now rest.now self.old }
+        ensures ok { IfOk result (λ found. IfSome found (λ after. IsMidway text.now after.now self.new)) }
+        ensures shorter { IfOk result (λ found. IfSome found (λ after. length after.now < length rest.now)) }
+        ensures none { IfOk result (λ found. IfNone found (IsMidway text.now rest.now self.new)) }
+        ensures refusal { IfErr result (Refuses (reading_in text.now)) }
+    {
+        let Some((func, after)) = func_line(rest) else {
+            return Ok(None);
+        };
+        // A line feed stands between the name and the rest.
+        let name = name_part(func.name, text.len() - after.len() - 1)?;
+        self.kept.functions.close()?;
+        self.kept.functions.begin(&func, name)?;
+        self.context = Context::InFunc;
+        self.free = true;
+        self.count += 1;
+        Ok(Some(after))
+    }
+
+    /// Reads the first line of the rest of a text quickly, if it is a line record, and those that go on
+    /// its run, and returns the rest after them.
+    #[inline(always)]
+    fn lines<'a>(&mut self, text: &[u8], rest: &'a [u8]) -> Result<Option<&'a [u8]>>
+        requires midway { IsMidway text.now rest.now self.old }
+        ensures ok { IfOk result (λ found. IfSome found (λ after. IsMidway text.now after.now self.new)) }
+        ensures shorter { IfOk result (λ found. IfSome found (λ after. length after.now < length rest.now)) }
+        ensures none { IfOk result (λ found. IfNone found (IsMidway text.now rest.now self.new)) }
+        ensures refusal { IfErr result (Refuses (reading_in text.now)) }
+    {
+        let Context::InFunc = self.context else {
+            return Ok(None);
+        };
+        if rest.len() < 64 {
+            return Ok(None);
+        }
+        let stops = Stops::at_front(rest);
+        let Some(line) = quick_line(Shown { text: rest, stops }) else {
+            return Ok(None);
+        };
+        self.kept
+            .functions
+            .line(text, text.len() - rest.len(), line)?;
+        self.free = false;
+        self.count += 1;
+        Ok(Some(self.run_on(text, &rest[line.len..], stops.after(line.len))))
+    }
+
+    /// Reads the line records quickly that go on the run of the last one, of which bytes may be shown, and
+    /// returns the rest after them.
+    #[inline(always)]
+    fn run_on<'a>(&mut self, text: &[u8], rest: &'a [u8], stops: Stops) -> &'a [u8]
+        requires midway { IsMidway text.now rest.now self.old }
+        requires stops { AreStops rest.now stops }
+        requires in_func { context_told self.old.context ≡ InFunc }
+        requires bound { self.old.free ≡ false }
+        ensures midway { IsMidway text.now result.now self.new }
+        ensures within { length result.now ≤ length rest.now }
+    {
+        let LinesSoFar::Run(run, start) = self.kept.functions.lines else {
+            return rest;
+        };
+        // Never so: the run ends here, and its last start has one to eight digits.
+        if run.to as usize != text.len() - rest.len() || start.digits == 0 || start.digits > 8 {
+            return rest;
+        }
+        // In registers, and not in the walk, until the run is at its end.
+        let mut left = rest;
+        let mut stops = stops;
+        let mut last = start;
+        let mut count = self.count;
+        while let Some(next) = next_on_run(Shown { text: left, stops }, last) {
+            left = &left[next.len..];
+            stops = next.stops;
+            last = next.start;
+            count += 1;
+        }
+        let Ok(whole) = Part::new(run.from as usize, text.len() - left.len()) else {
+            return rest;
+        };
+        self.kept.functions.lines = LinesSoFar::Run(whole, last);
+        self.count = count;
+        left
+    }
+
+    /// Reads the first line of the rest of a text, in any form, and returns the rest after it.
+    #[inline(never)]
+    fn general<'a>(&mut self, text: &[u8], rest: &'a [u8]) -> Result<&'a [u8]>
+        requires midway { IsMidway text.now rest.now self.old }
+        requires some { 0 < length rest.now }
+        ensures ok { IfOk result (λ after. IsMidway text.now after.now self.new) }
+        ensures shorter { IfOk result (λ after. length after.now < length rest.now) }
+        ensures refusal { IfErr result (Refuses (reading_in text.now)) }
+    {
+        let Some((line, after)) = next_line(rest) else {
+            return Err(Error::InvalidInput);
+        };
+        self.line(text, text.len() - rest.len(), line)?;
+        Ok(after)
+    }
+
+    /// Reads the line at a place in the bytes.
+    #[tactic(auto, unfolding(bz_breakpad_lines::specs::Walk::record_at))]
+    fn line(&mut self, bytes: &[u8], start: usize, line: &[u8]) -> Result<()>
+        requires room { start + length line.now < 2 ^ 63 }
+        requires few { self.old.count ≤ start }
+        ensures ok { OnOk result ((reading : Reading) → IsLineAt bytes.now start line.now → IsWalked bytes.now self.old reading →
+            IsStep bytes.now self.old self.new line.now reading) }
+        ensures refusal { IfErr result (IsRefused self.old line.now) }
+        ensures few { OnOk result (self.new.count ≤ self.old.count + 1) }
+    {
+        let text = text_of(self.free, line);
+        if is_blank(self.free, text) {
+            return Ok(());
+        }
+        let Some(body) = body(text) else {
+            return Err(Error::InvalidInput);
+        };
+        let Some(found) = read_record(&mut self.ranges, self.context, body)? else {
+            return Err(Error::InvalidInput);
+        };
+        if is_late_module(&found, self.count) {
+            return Err(Error::InvalidInput);
+        }
+        let place = start + (line.len() - text.len());
+        self.context = context_after(&found);
+        self.free = free_after(&found);
+        self.kept.record(
+            bytes,
+            found,
+            self.ranges.as_slice(),
+            place,
+            place + body.len(),
+        )?;
+        self.count += 1;
+        Ok(())
+    }
+}
+
+/// The context of the line after the record.
+fn context_after(found: &RecordLine<'_>) -> Context
+    ensures { (ranges : List Range) → context_told result ≡ context_after (record_told found.now ranges) }
+{
+    match found {
+        RecordLine::Top(TopLine::Func(_)) => Context::InFunc,
+        RecordLine::Top(TopLine::StackCfiInit) => Context::InCfi,
+        RecordLine::Top(_) => Context::Outside,
+        RecordLine::OfFunc(_) => Context::InFunc,
+        RecordLine::OfCfi => Context::InCfi,
+    }
+}
+
+/// Whether white space may stand after the record.
+fn free_after(found: &RecordLine<'_>) -> bool
+    ensures { (ranges : List Range) → result ≡ free_after (record_told found.now ranges) }
+{
+    match found {
+        RecordLine::Top(_) => true,
+        RecordLine::OfFunc(_) => false,
+        RecordLine::OfCfi => false,
+    }
+}
+
+/// Whether the record is a MODULE record.
+fn is_module(found: &RecordLine<'_>) -> bool
+    ensures { (ranges : List Range) → result ≡ is_some (module_of (record_told found.now ranges)) }
+{
+    matches!(found, RecordLine::Top(TopLine::Module(_)))
+}
+
+/// Whether the record is a MODULE record that isn't the first of so many.
+fn is_late_module(found: &RecordLine<'_>, count: usize) -> bool
+    ensures { (ranges : List Range) → result ≡ (is_some (module_of (record_told found.now ranges)) && nat_lt 0 count) }
+{
+    is_module(found) && count > 0
+}
+
+/// Whether the line is blank, of which this is left after white space.
+fn is_blank(free: bool, text: &[u8]) -> bool
+    ensures { result ≡ (free && is_nothing text.now) }
+{
+    free && text.is_empty()
+}
+
+fn is_white(byte: u8) -> bool
+    ensures { result ≡ is_white byte }
+{
+    byte == b' ' || byte == b'\t' || byte == b'\r'
+}
+
+fn white_len(text: &[u8]) -> usize
+    ensures value { result ≡ prefix_len is_white text.now }
+    ensures within { result ≤ length text.now }
+{
+    text.iter().take_while(|b| is_white(**b)).count()
+}
+
+/// The line without the white space at its front, where that may stand.
+#[tactic(auto, unfolding(bz_breakpad_lines::specs::Walk::text_at))]
+fn text_of(free: bool, line: &[u8]) -> &[u8]
+    ensures text { result.now ≡ text_at free line.now }
+    ensures within { length result.now ≤ length line.now }
+{
+    if free { &line[white_len(line)..] } else { line }
+}
