@@ -3,7 +3,9 @@ pub use Rattle.bz_text.specs.Line
 pub use Rattle.bz_text.specs.Number
 pub use Rattle.bz_text.specs.Path
 pub use Rattle.bz_bytes.specs.Cursor
+pub use Rattle.bz_bytes.specs.EndedText
 pub use Rattle.bz_bytes.specs.Leb128
+pub use Rattle.bz_bytes.specs.Little
 pub use Rattle.bz_search.specs.Abreast
 pub use Rattle.bz_search.specs.Chain
 pub use Rattle.bz_search.specs.Nearest

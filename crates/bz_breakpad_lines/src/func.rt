@@ -1,7 +1,6 @@
 //! FUNC and STACK CFI records, the quick way.
 
 ghost use Rattle.std.specs.Prelude.{◌≡◌, ◌<◌, ◌≤◌, not, length, map, take, IfSome};
-ghost use Rattle.std.specs.List.{prefix_len};
 ghost use Rattle.bz_breakpad_lines.specs.Byte.{is_plain};
 ghost use Rattle.bz_breakpad_lines.specs.Quick.{IsAsciiLine, IsQuick};
 ghost use Rattle.bz_breakpad_lines.specs.Told.{top_told};
@@ -14,6 +13,7 @@ ghost use lib.Lanes.{mask_l};
 use crate::field::{begins_blank, tag};
 use crate::quick::Shown;
 use crate::record::FuncLine;
+use bz_base::{ByteTest, run_len};
 use std::simd::prelude::*;
 
 /// The FUNC record with a name in ASCII at the front, and the text after its line.
@@ -58,28 +58,23 @@ pub fn cfi_line(text: &[u8]) -> Option<&[u8]>
 fn ascii_line(text: &[u8]) -> Option<(&[u8], &[u8])>
     ensures { IfSome result (λ read. IsAsciiLine text.now read.0.now read.1.now) }
 {
-    let len = ascii_len(text);
+    let len = run_len::<PlainBytes>(text);
     if len == text.len() || text[len] != b'\n' {
         return None;
     }
     Some((&text[..len], &text[len + 1..]))
 }
 
-/// So many bytes in front are in ASCII and end no line. There may be more.
-#[inline(always)]
-fn ascii_len(text: &[u8]) -> usize
-    ensures plain { result ≤ prefix_len is_plain text.now }
-    ensures within { result ≤ length text.now }
-{
-    let mut len = 0;
-    while text.len() - len >= 32 {
-        let stops = name_stops(&text[len..]);
-        if stops != 0 {
-            return len + stops.trailing_zeros() as usize;
-        }
-        len += 32;
+/// The test of the bytes in ASCII that end no line.
+struct PlainBytes;
+
+impl ByteTest for PlainBytes {
+    ghost passes = { is_plain };
+
+    #[inline(always)]
+    fn stops(text: &[u8]) -> u64 {
+        name_stops(text)
     }
-    len
 }
 
 /// A bit for each of the first 32 bytes that is not in ASCII, or ends a line.

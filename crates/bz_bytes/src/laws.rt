@@ -1,7 +1,9 @@
 //! What holds of this crate's definitions.
 
-ghost use Rattle.std.specs.Prelude.{◌≡◌, ◌↔◌, ◌+◌, ℕ, ℤ, List, Some};
+ghost use Rattle.std.specs.Prelude.{◌≡◌, ◌↔◌, ◌+◌, ℕ, ℤ, List, Some, drop};
+ghost use Rattle.std.specs.Str.{IsUtf8};
 ghost use Rattle.bz_bytes.specs.Cursor.{IsCstr, IsInFront, IsNextAligned, IsSlice, IsWord, cstr_at, padding, slice_at, word_at};
+ghost use Rattle.bz_bytes.specs.EndedText.{IsString, ended_text};
 ghost use Rattle.bz_bytes.specs.Leb128.{IsSleb, IsUleb, sleb_at, uleb_at};
 
 /// The pieces that are read from the front of bytes are those that lie there: slices, words with the
@@ -18,4 +20,10 @@ pub fn pieces_are_exact()
 pub fn lebs_are_exact()
     ensures unsigned { (bytes : List ℕ) (value : ℕ) (rest : List ℕ) → (uleb_at bytes ≡ Some (value, rest)) ↔ IsInFront (IsUleb value) bytes rest }
     ensures signed { (bytes : List ℕ) (value : ℤ) (rest : List ℕ) → (sleb_at bytes ≡ Some (value, rest)) ↔ IsInFront (IsSleb value) bytes rest }
+{}
+
+/// A text that is UTF-8 stands at a place of bytes exactly where it is what a zero byte ends in front
+/// of those from the place on.
+pub fn ended_texts_are_exact()
+    ensures { (bytes : List ℕ) (place : ℕ) (text : List ℕ) → ((ended_text (drop place bytes) ≡ Some text) × IsUtf8 text) ↔ IsString bytes place text }
 {}

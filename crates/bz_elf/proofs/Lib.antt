@@ -4,7 +4,6 @@ pub mod FormatLemmas
 pub mod HeadLemmas
 pub mod NameLaws
 pub mod NameLemmas
-pub mod NumberLemmas
 pub mod PassLemmas
 pub mod PlaceLemmas
 pub mod ProfileLaws

@@ -2,7 +2,7 @@
 use Rattle.std.proofs.Common.{◌≡◌, ℕ, zero, suc, ◌+◌, ◌-◌, ◌*◌, ◌<◌, ◌≤◌, Bool, true, false, List, [], ◌∷◌, ◌++◌, map, Option, Some, None, append_assoc, refl, sym, ap, ◌∙◌, arith}
 use Rattle.std.specs.List.{filter_map, find, range_with_len, slice_get}
 use Rattle.std.proofs.lemmas.List.{append-nil}
-use Rattle.bz_elf.specs.Number.{places}
+use Rattle.bz_elf.specs.Parts.{places}
 
 -- the places of so many records, from that of an index on
 abbrev pub places_from : ℕ → ℕ → ℕ → ℕ → List ℕ

@@ -5,14 +5,15 @@ use Rattle.std.specs.List.{list_all, slice_get}
 use Rattle.std.proofs.lemmas.Bool.{and_from, and_parts, eq-eqb, eqb-false, eqb-true, le-leb, leb-true, ne_eqb, not-true}
 use Rattle.bz_base.specs.declared.error.Error.{Error}
 use Rattle.bz_base.specs.declared.error.Error.TheVariants as errors
+use Rattle.bz_base.specs.EndedText.{IsString}
+use Rattle.bz_base.specs.Little.{number_at}
 use Rattle.bz_cache.specs.Format.{Comes, FailsAs, IsRefusalBy}
 use Rattle.bz_files.specs.World.{Entry, Present}
 use Rattle.bz_files.specs.declared.stamp.Stamp.{Stamp}
 use Rattle.bz_elf.specs.Checks.{count_elsewhere, has_head, has_names, has_program_headers, has_sections, has_strings, has_symbols, if_there, is_elf, is_supported, is_symbol_table, is_there, section_lies}
 use Rattle.bz_elf.specs.Format.{checks, format_test}
 use Rattle.bz_elf.specs.Head.{elf_magic, class_64, least_first, identity_len, head_len, program_place, program_size, program_count, section_place, section_size, section_count}
-use Rattle.bz_elf.specs.Number.{number_at}
-use Rattle.bz_elf.specs.Profile.{HasEntries, HaveProgramHeaders, HaveSections, IsElf, IsNameAt, SectionLies}
+use Rattle.bz_elf.specs.Profile.{HasEntries, HaveProgramHeaders, HaveSections, IsElf, SectionLies}
 use Rattle.bz_elf.specs.Resolver.{Resolver, opened, unless_refused}
 use Rattle.bz_elf.specs.Sections.{section_header_len, string_table, strings, symbol_table}
 use Rattle.bz_elf.specs.Segments.{program_header_len}
@@ -154,7 +155,7 @@ module _ (bytes : List ℕ) where
   strings_test has = strings_by (symbol_table bytes) has
 
   abbrev Names : Type 0
-  Names = (index : ℕ) (symbol : SymbolEntry) → slice_get (entries bytes) index ≡ Some symbol → (name : List ℕ) × IsNameAt (strings bytes) symbol.name name
+  Names = (index : ℕ) (symbol : SymbolEntry) → slice_get (entries bytes) index ≡ Some symbol → (name : List ℕ) × IsString (strings bytes) symbol.name name
 
   names_are : has_names bytes ≡ true → Names
   unfolding has_names

@@ -6,7 +6,7 @@ use Rattle.std.specs.Option.{option_and_then}
 use Rattle.std.proofs.lemmas.Bool.{and_parts, leb-true}
 use Rattle.bz_elf.specs.Checks.{has_strings, has_symbols, if_there, is_symbol_table, is_there, section_lies}
 use Rattle.bz_elf.specs.Kept.{IsSymbolTable}
-use Rattle.bz_elf.specs.Number.{bytes_at}
+use Rattle.bz_elf.specs.Parts.{bytes_at}
 use Rattle.bz_elf.specs.Sections.{bytes_of, sections, string_table, strings, symbol_table}
 use Rattle.bz_elf.specs.Symbols.{places_of, symbol_len}
 use Rattle.bz_elf.specs.declared.types.Part.{Part}

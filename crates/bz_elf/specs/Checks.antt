@@ -1,8 +1,9 @@
 -- What is asked of the bytes of an ELF file, check by check.
 use Rattle.std.specs.Prelude.{◌≡◌, ℕ, ◌*◌, ◌%◌, ◌==◌, ◌&&◌, ◌||◌, not, nat_le, Bool, true, false, if◌then◌else◌, List, length, Option, Some, None}
 use Rattle.std.specs.List.{list_all}
+use Rattle.bz_base.specs.Little.{number_at}
 use Rattle.bz_elf.specs.Head.{elf_magic, class_64, least_first, identity_len, head_len, program_place, program_size, program_count, section_place, section_size, section_count}
-use Rattle.bz_elf.specs.Number.{number_at, lies}
+use Rattle.bz_elf.specs.Parts.{lies}
 use Rattle.bz_elf.specs.Sections.{section_header_len, string_table, strings, symbol_table}
 use Rattle.bz_elf.specs.Segments.{program_header_len}
 use Rattle.bz_elf.specs.Symbols.{entries, is_named, symbol_len}

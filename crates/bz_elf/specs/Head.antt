@@ -1,6 +1,6 @@
 -- The head of an ELF file of 64 bits with the least byte first, as the System V ABI has it.
 use Rattle.std.specs.Prelude.{ℕ, List}
-use Rattle.bz_elf.specs.Number.{number_at}
+use Rattle.bz_base.specs.Little.{number_at}
 
 -- the number that each file begins with: its bytes read 7f, E, L, F
 abbrev pub elf_magic : ℕ

@@ -3,7 +3,7 @@ use Rattle.std.specs.Prelude.{◌≡◌, ◌+◌, ◌*◌, ◌<◌, ◌≤◌, �
 use Rattle.bz_base.specs.Nearest.{IsTable}
 use Rattle.bz_elf.specs.Format.{format_test}
 use Rattle.bz_elf.specs.Head.{head_len, program_count, program_place, section_count, section_place}
-use Rattle.bz_elf.specs.Number.{bytes_at, places}
+use Rattle.bz_elf.specs.Parts.{bytes_at, places}
 use Rattle.bz_elf.specs.Sections.{section_header_len, strings, symbol_table}
 use Rattle.bz_elf.specs.Segments.{program_header_len, segments}
 use Rattle.bz_elf.specs.Symbols.{entries, places_of, symbol_len}

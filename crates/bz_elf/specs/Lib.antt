@@ -3,7 +3,7 @@ pub mod Format
 pub mod Head
 pub mod Kept
 pub mod Names
-pub mod Number
+pub mod Parts
 pub mod Plain
 pub mod Profile
 pub mod Resolver

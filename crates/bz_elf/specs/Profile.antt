@@ -1,10 +1,9 @@
 -- Which bytes are ELF files of the profile, as a relation.
-use Rattle.std.specs.Prelude.{◌≡◌, ◌≢◌, ◌⊎◌, ℕ, ◌+◌, ◌*◌, ◌%◌, ◌≤◌, List, ◌∷◌, ◌++◌, length, Some, slice_get}
-use Rattle.std.specs.Str.{IsUtf8}
-use Rattle.bz_base.specs.Byte.{HasNo, zero_byte}
+use Rattle.std.specs.Prelude.{◌≡◌, ◌≢◌, ◌⊎◌, ℕ, ◌+◌, ◌*◌, ◌%◌, ◌≤◌, List, length, Some, slice_get}
+use Rattle.bz_base.specs.EndedText.{IsString}
+use Rattle.bz_base.specs.Little.{number_at}
 use Rattle.bz_elf.specs.Checks.{count_elsewhere}
 use Rattle.bz_elf.specs.Head.{elf_magic, class_64, least_first, identity_len, head_len, program_place, program_size, program_count, section_place, section_size, section_count}
-use Rattle.bz_elf.specs.Number.{number_at}
 use Rattle.bz_elf.specs.Sections.{section_header_len, string_table, strings, symbol_table}
 use Rattle.bz_elf.specs.Segments.{program_header_len}
 use Rattle.bz_elf.specs.Symbols.{entries, symbol_len}
@@ -32,15 +31,6 @@ pub record HasEntries (bytes : List ℕ) (table : Section) : Type 0 where
   pub entry_size : table.entry_size ≡ symbol_len
   pub whole : table.size % symbol_len ≡ 0
 
--- the name stands at the place: the strings are what lies before it, the name, which is UTF-8, a zero byte, and what follows
-pub record IsNameAt (strings : List ℕ) (place : ℕ) (name : List ℕ) : Type 0 where
-  pub before : List ℕ
-  pub after : List ℕ
-  pub whole : strings ≡ before ++ (name ++ zero_byte ∷ after)
-  pub from : length before ≡ place
-  pub no_zero : HasNo zero_byte name
-  pub utf8 : IsUtf8 name
-
 -- the bytes are an ELF file of 64 bits with the least byte first; its program headers and section headers lie in the bytes,
 -- if there are any; the symbol table, if there is one, and its strings do; and each symbol that counts has a name there
 pub record IsElf (bytes : List ℕ) : Type 0 where
@@ -53,4 +43,4 @@ pub record IsElf (bytes : List ℕ) : Type 0 where
   pub sections : ((section_count bytes ≡ 0) × (section_place bytes ≡ 0)) ⊎ ((section_count bytes ≢ 0) × HaveSections bytes)
   pub own_symbols : (table : Section) → symbol_table bytes ≡ Some table → HasEntries bytes table
   pub own_strings : (table : Section) → symbol_table bytes ≡ Some table → (section : Section) × (string_table bytes table ≡ Some section) × SectionLies bytes section
-  pub names : (index : ℕ) (symbol : SymbolEntry) → slice_get (entries bytes) index ≡ Some symbol → (name : List ℕ) × IsNameAt (strings bytes) symbol.name name
+  pub names : (index : ℕ) (symbol : SymbolEntry) → slice_get (entries bytes) index ≡ Some symbol → (name : List ℕ) × IsString (strings bytes) symbol.name name

@@ -2,8 +2,9 @@
 use Rattle.std.specs.Prelude.{ℕ, ◌+◌, ◌==◌, Bool, List, [], map, Option, Some, None, option_and_then, slice_get}
 use Rattle.std.specs.List.{find}
 use Rattle.std.specs.Option.{option_or}
+use Rattle.bz_base.specs.Little.{number_at}
 use Rattle.bz_elf.specs.Head.{section_place, section_count}
-use Rattle.bz_elf.specs.Number.{number_at, bytes_at, places}
+use Rattle.bz_elf.specs.Parts.{bytes_at, places}
 use Rattle.bz_elf.specs.declared.types.Section.{Section}
 
 -- the size of a section header

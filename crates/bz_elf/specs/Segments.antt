@@ -1,9 +1,10 @@
 -- The load segments of an ELF file, and where a byte of the file lies when they are loaded.
 use Rattle.std.specs.Prelude.{ℕ, ◌+◌, ◌-◌, ◌==◌, ◌&&◌, nat_le, nat_lt, Bool, if◌then◌else◌, List, Option, Some, None, option_and_then}
 use Rattle.std.specs.List.{filter_map, find}
+use Rattle.bz_base.specs.Little.{number_at}
 use Rattle.bz_base.specs.Span.{last_address}
 use Rattle.bz_elf.specs.Head.{program_place, program_count}
-use Rattle.bz_elf.specs.Number.{number_at, places}
+use Rattle.bz_elf.specs.Parts.{places}
 use Rattle.bz_elf.specs.declared.types.Segment.{Segment}
 
 -- the size of a program header

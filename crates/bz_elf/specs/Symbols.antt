@@ -1,9 +1,10 @@
 -- The symbols of an ELF file in its order: its functions, by name, start and size.
 use Rattle.std.specs.Prelude.{ℕ, ◌+◌, ◌/◌, ◌%◌, ◌==◌, ◌&&◌, ◌||◌, not, Bool, List, [], drop, map, Option, Some, None, if◌then◌else◌}
-use Rattle.std.specs.List.{list_any, before_first, filter_map}
+use Rattle.std.specs.List.{list_any, filter_map}
 use Rattle.std.specs.Str.{is_utf8}
-use Rattle.bz_base.specs.Byte.{zero_byte}
-use Rattle.bz_elf.specs.Number.{number_at, places}
+use Rattle.bz_base.specs.EndedText.{before_zero, is_zero}
+use Rattle.bz_base.specs.Little.{number_at}
+use Rattle.bz_elf.specs.Parts.{places}
 use Rattle.bz_elf.specs.Sections.{symbol_table, strings}
 use Rattle.bz_elf.specs.declared.types.Section.{Section}
 use Rattle.bz_elf.specs.declared.types.SymbolEntry.{SymbolEntry}
@@ -46,17 +47,6 @@ places_of (Some table) = places table.offset symbol_len (table.size / symbol_len
 -- the entries that count, in the order of the file
 unfoldable pub entries : List ℕ → List SymbolEntry
 entries bytes = filter_map (counted_at bytes) (places_of (symbol_table bytes))
-
-abbrev pub is_zero : ℕ → Bool
-is_zero byte = byte == zero_byte
-
--- the bytes before the first zero byte
-abbrev pub before_zero : List ℕ → List ℕ
-before_zero bytes = before_first is_zero bytes
-
--- those bytes, if there is a zero byte
-abbrev pub ended_text : List ℕ → Option (List ℕ)
-ended_text bytes = if list_any is_zero bytes then Some (before_zero bytes) else None
 
 -- a name stands in front of the bytes: UTF-8 that a zero byte ends
 abbrev pub is_name : List ℕ → Bool

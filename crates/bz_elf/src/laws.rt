@@ -2,11 +2,12 @@
 
 ghost use Rattle.std.specs.Prelude.{◌≡◌, ◌≤◌, ◌↔◌, ℕ, List, Option, None, Some, Ok, true, drop};
 ghost use Rattle.bz_base.specs.Answer.{Resolved};
+ghost use Rattle.bz_base.specs.EndedText.{IsString, before_zero};
 ghost use Rattle.bz_elf.specs.Plain.{plain};
 ghost use Rattle.bz_base.specs.declared.error.Error.{Error};
 ghost use Rattle.bz_elf.specs.Format.{IsFirstFailing, checks, format_test};
-ghost use Rattle.bz_elf.specs.Profile.{IsElf, IsNameAt};
-ghost use Rattle.bz_elf.specs.Symbols.{before_zero, is_name};
+ghost use Rattle.bz_elf.specs.Profile.{IsElf};
+ghost use Rattle.bz_elf.specs.Symbols.{is_name};
 
 /// The test of an ELF file says what the relation says, and other bytes are refused by the first
 /// check that they fail.
@@ -18,7 +19,7 @@ pub fn files_are_exact()
 /// A name stands at a place of the strings by the test exactly where a zero byte ends it and it is
 /// UTF-8, and it is the one that stands there.
 pub fn names_are_exact()
-    ensures { (strings : List ℕ) (place : ℕ) (name : List ℕ) → ((is_name (drop place strings) ≡ true) × (before_zero (drop place strings) ≡ name)) ↔ IsNameAt strings place name }
+    ensures { (strings : List ℕ) (place : ℕ) (name : List ℕ) → ((is_name (drop place strings) ≡ true) × (before_zero (drop place strings) ≡ name)) ↔ IsString strings place name }
 {}
 
 /// A symbol that answers an address starts there or before it.

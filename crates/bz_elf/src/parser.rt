@@ -7,7 +7,7 @@ ghost use Rattle.bz_elf.specs.Kept.{IsKept};
 
 mod head;
 mod names;
-mod number;
+mod parts;
 mod sections;
 mod segments;
 mod symbols;

@@ -5,8 +5,8 @@ use Rattle.std.proofs.lemmas.Bool.{and_parts, eqb-false, le-leb, ne_eqb, not-tru
 use Rattle.std.proofs.lemmas.List.{drop-drop, length-append, length-drop, length-take-le, take-append-drop}
 use Rattle.std.proofs.Math.Seq.{drop-append_seam, take-append_seam}
 use Rattle.bz_base.specs.Cursor.{little}
+use Rattle.bz_base.specs.Little.{number_at}
 use Rattle.bz_gsym.specs.Entries.{AreEntries, Begins, Entry, entries_in, entry_len, first_entry, has_entry, end_of_list}
-use Rattle.bz_gsym.specs.Number.{number_at}
 use Rattle.bz_gsym.proofs.EntryLemmas.{entries_step, fits, no_entries}
 
 -- where an entry lies in front, the bytes are it and what follows

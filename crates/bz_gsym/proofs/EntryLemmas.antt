@@ -5,8 +5,8 @@ use Rattle.std.proofs.lemmas.Bool.{cases_lt, le-leb, lt-leb, leb-true, eq-eqb, n
 use Rattle.std.proofs.lemmas.List.{length-drop, drop-drop}
 use Rattle.std.proofs.lemmas.Option.{none-some, same_Some}
 use Rattle.bz_base.specs.Cursor.{little, slice_at, with_rest, word_at}
+use Rattle.bz_base.specs.Little.{number_at}
 use Rattle.bz_gsym.specs.Entries.{Entry, entries_in, entries_within, entry_len, first_entry, has_entry, end_of_list}
-use Rattle.bz_gsym.specs.Number.{number_at}
 
 -- no entry lies in bytes that don't reach its end
 short : (bytes : List ℕ) → length bytes < entry_len bytes → has_entry bytes ≡ false

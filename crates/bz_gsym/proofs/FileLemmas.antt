@@ -5,10 +5,11 @@ use Rattle.std.specs.Option.{SomeIff, option_and_then}
 use Rattle.std.specs.Str.{IsUtf8, is_utf8}
 use Rattle.std.proofs.lemmas.Bool.{le-leb, lt-leb, false_from_ne_true}
 use Rattle.std.proofs.lemmas.Str.{IsUtf8-from_is_utf8, is_utf8-from_IsUtf8}
+use Rattle.bz_base.specs.EndedText.{ended_text}
+use Rattle.bz_base.specs.Little.{number_at}
 use Rattle.bz_base.specs.Span.{last_address}
 use Rattle.bz_gsym.specs.Header.{header_of}
-use Rattle.bz_gsym.specs.Number.{number_at}
-use Rattle.bz_gsym.specs.Strings.{before_zero, checked, string_at}
+use Rattle.bz_gsym.specs.Strings.{checked, string_at}
 use Rattle.bz_gsym.specs.Tables.{address_at, data_places, data_table, file_at, file_count_place, file_table, files, fitting, header_len, is_address_size, starts}
 use Rattle.bz_gsym.specs.declared.types.Header.{Header}
 use Rattle.bz_gsym.proofs.StartLemmas.{no_starts, start_in, starts_are}
@@ -75,7 +76,7 @@ module _ (bytes : List ℕ) (header : Header) (head : header ≡ header_of bytes
       ∙ sym (ap (option_and_then (λ s. fitting ((header_of bytes).base_address + s))) (start_there allowed within ∙ ap (λ (s : ℕ). Some s) (sym is)))
 
 -- a text before a zero byte is a string where it is UTF-8
-module _ (table : List ℕ) (place : ℕ) (text : List ℕ) (before : Some text ≡ before_zero (drop place table)) where
+module _ (table : List ℕ) (place : ℕ) (text : List ℕ) (before : Some text ≡ ended_text (drop place table)) where
   pub string_there : IsUtf8 text → Some text ≡ string_at table place
   string_there good = sym (ap (option_and_then checked) (sym before) ∙ rw (is_utf8-from_IsUtf8 text good) refl)
 

@@ -13,11 +13,9 @@ pub mod JoiningLaws
 pub mod JoiningLemmas
 pub mod LineTableLaws
 pub mod LineTableLemmas
-pub mod NumberLemmas
 pub mod PlainTextLemmas
 pub mod ShortLemmas
 pub mod StartLemmas
 pub mod SymbolLemmas
 pub mod TableLemmas
 pub mod TextLaws
-pub mod TextLemmas

@@ -1,9 +1,9 @@
 -- The starts of an address table.
 use Rattle.std.proofs.Common.{◌≡◌, ℕ, ◌+◌, ◌-◌, ◌*◌, ◌<◌, ◌≤◌, true, false, List, [], length, refl, sym, subst, arith, inl, inr}
 use Rattle.std.proofs.lemmas.Bool.{cases_lt}
+use Rattle.bz_base.specs.Little.{number_at, numbers_at}
 use Rattle.bz_base.specs.Starts.{NeverDescends}
 use Rattle.bz_gsym.specs.Header.{header_of}
-use Rattle.bz_gsym.specs.Number.{number_at, numbers_at}
 use Rattle.bz_gsym.specs.Tables.{header_len, is_address_size, starts}
 use Rattle.bz_gsym.specs.declared.types.Header.{Header}
 use Rattle.bz_gsym.proofs.TableLemmas.{length_table, number_in}

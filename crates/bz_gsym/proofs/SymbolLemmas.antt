@@ -12,12 +12,12 @@ use Rattle.bz_base.specs.declared.error.Error.{Error}
 use Rattle.bz_base.specs.declared.error.Error.TheVariants as errors
 use Rattle.bz_base.specs.declared.types.FindSymOpts.{FindSymOpts}
 use Rattle.bz_base.specs.declared.types.Reason.TheVariants as reasons
+use Rattle.bz_base.specs.Little.{number_at}
 use Rattle.bz_base.proofs.TableLemmas.{record_at, start_at, table_candidate}
 use Rattle.bz_gsym.specs.Joining.{Placed}
 use Rattle.bz_gsym.specs.Plain.{plain, answer_of, based, placed_of, symbol_at, nearest_start, nearest_symbol, reaches, symbols, tried}
 use Rattle.bz_gsym.specs.Entries.{Info, info_at}
 use Rattle.bz_gsym.specs.Header.{header_of}
-use Rattle.bz_gsym.specs.Number.{number_at}
 use Rattle.bz_gsym.specs.Refusal.{Refuses}
 use Rattle.bz_gsym.specs.Tables.{IsGsym, IsNearest, IsTried, data_places, data_table, header_len, is_address_size, starts}
 use Rattle.bz_gsym.proofs.TableLemmas.{length_table}

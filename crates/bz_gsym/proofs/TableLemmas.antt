@@ -3,7 +3,7 @@ use Rattle.std.proofs.Common.{◌≡◌, ℕ, zero, suc, ◌+◌, ◌*◌, ◌<�
 use Rattle.std.specs.List.{slice_get, slice_index, range_with_len, zip}
 use Rattle.std.proofs.Math.Nat.{mul-le-mul_left, mul_comm}
 use Rattle.std.proofs.lemmas.List.FromFn.{get_or-map-range_with_len}
-use Rattle.bz_gsym.specs.Number.{number_at, numbers_at}
+use Rattle.bz_base.specs.Little.{number_at, numbers_at}
 
 module _ {X : Type 0} (f : ℕ → X) where
   -- a table has as many entries as its count says

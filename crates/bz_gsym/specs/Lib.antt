@@ -9,7 +9,6 @@ pub mod InlineWalk
 pub mod Joining
 pub mod JoiningSeen
 pub mod LineTable
-pub mod Number
 pub mod Plain
 pub mod Refusal
 pub mod Resolver

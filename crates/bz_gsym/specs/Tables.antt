@@ -3,10 +3,10 @@
 use Rattle.std.specs.Prelude.{◌≡◌, ℕ, ◌+◌, ◌-◌, ◌*◌, ◌≤◌, ◌==◌, ◌&&◌, ◌||◌, nat_le, Bool, true, if◌then◌else◌, List, [], ◌∷◌, length, map, take, drop, Option, Some, None, option_and_then, slice_get}
 use Rattle.std.specs.List.{list_all, range_with_len}
 use Rattle.bz_base.specs.Cursor.{padding}
+use Rattle.bz_base.specs.Little.{number_at, numbers_at}
 use Rattle.bz_base.specs.Span.{last_address}
 use Rattle.bz_base.specs.Starts.{IsFound, NeverDescends}
 use Rattle.bz_gsym.specs.Header.{gsym_magic, gsym_version, header_of}
-use Rattle.bz_gsym.specs.Number.{number_at, numbers_at}
 use Rattle.bz_gsym.specs.declared.types.FileInfo.{FileInfo}
 use Rattle.bz_gsym.specs.declared.types.Header.{Header}
 

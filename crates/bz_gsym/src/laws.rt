@@ -5,6 +5,7 @@ ghost use Rattle.bz_base.specs.Answer.{Resolved};
 ghost use Rattle.bz_base.specs.declared.types.FindSymOpts.{FindSymOpts};
 ghost use Rattle.bz_gsym.specs.Plain.{plain};
 ghost use Rattle.bz_base.specs.Answer.{Call, Site};
+ghost use Rattle.bz_base.specs.EndedText.{IsString};
 ghost use Rattle.bz_gsym.specs.Plain.{nearest_symbol};
 ghost use Rattle.bz_gsym.specs.Entries.{AreEntries, Entry, entries_in};
 ghost use Rattle.bz_gsym.specs.Joining.{IsSeen, seen_from};
@@ -12,7 +13,7 @@ ghost use Rattle.bz_gsym.specs.LineTable.{followed, operator_at, picked, sought,
 ghost use Rattle.bz_gsym.specs.InlineReader.{frames_at, tree_at};
 ghost use Rattle.bz_gsym.specs.InlineSpelling.{IsTree};
 ghost use Rattle.bz_gsym.specs.InlineTree.{Frame, Nodes, frames};
-ghost use Rattle.bz_gsym.specs.Strings.{IsString, string_at};
+ghost use Rattle.bz_gsym.specs.Strings.{string_at};
 ghost use Rattle.bz_gsym.specs.Tables.{IsGsym, IsTried, data_places, is_gsym};
 ghost use Rattle.bz_gsym.specs.declared.linetab.LineTableHeader.{LineTableHeader};
 ghost use Rattle.bz_gsym.specs.declared.linetab.LineTableRow.{LineTableRow};

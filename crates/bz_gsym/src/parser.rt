@@ -10,16 +10,14 @@ ghost use Rattle.bz_gsym.specs.Tables.{IsGsym, IsHeaded, IsIndex, IsNearest, add
 
 mod data;
 mod head;
-mod number;
 mod starts;
 mod text;
 
 use crate::types::{AddrInfo, FileInfo, Header};
-use bz_base::{Addr, Result};
+use bz_base::{Addr, Result, u32_at};
 pub use data::AddrDataIter;
 pub(crate) use head::checked_header;
 use head::{data_table, file_count_place};
-use number::u32_at;
 use starts::{find_start, is_address_size, start_at};
 use std::marker::Model;
 use text::text_at;

@@ -44,7 +44,6 @@ pub(crate) fn read_sleb(cursor: &mut Cursor<'_>) -> Option<i64>
 }
 
 /// Leaves so many bytes behind.
-#[tactic(auto, unfolding(bz_base::specs::Cursor::slice_at))]
 #[inline(always)]
 pub(crate) fn pass(cursor: &mut Cursor<'_>, len: usize)
     requires { len ≤ length cursor.old.left }

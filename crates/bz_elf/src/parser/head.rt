@@ -6,9 +6,9 @@ ghost use Rattle.bz_elf.specs.Format.{format_test};
 ghost use Rattle.bz_elf.specs.Kept.{TablesLie};
 ghost use Rattle.bz_elf.specs.Head.{head_len, identity_len, program_count, program_place, section_count, section_place};
 
-use super::number::{lies, u8_at, u16_at, u32_at, u64_at};
+use super::parts::lies;
 use super::{PROGRAM_HEADER_LEN, SECTION_HEADER_LEN};
-use bz_base::Error;
+use bz_base::{Error, u8_at, u16_at, u32_at, u64_at};
 
 /// The number that each file begins with.
 const ELF_MAGIC: u32 = 0x464c457f;

@@ -1,15 +1,16 @@
 //! The names of symbols in the strings of an ELF file.
 
-ghost use Rattle.std.specs.Prelude.{◌≡◌, ◌↔◌, ℕ, ◌<◌, ◌≤◌, length, drop, take, false, true, option_map, IfNone, IfOk, IfSome, IsOkUnless};
+ghost use Rattle.std.specs.Prelude.{◌≡◌, ◌↔◌, ℕ, ◌<◌, ◌≤◌, length, drop, take, false, true, IfNone, IfOk, IfSome, IsOkUnless};
 ghost use Rattle.std.specs.List.{list_all};
 ghost use Rattle.std.specs.List.Sorted.{IsNonDecreasing};
 ghost use Rattle.std.specs.Str.{IsCharBoundary, IsUtf8};
 ghost use Rattle.bz_base.specs.declared.error.Error.{Error};
+ghost use Rattle.bz_base.specs.EndedText.{before_zero, ended_text};
 ghost use Rattle.bz_elf.specs.Names.{IsText, is_name_at};
-ghost use Rattle.bz_elf.specs.Symbols.{before_zero, ended_text, is_name, is_named};
+ghost use Rattle.bz_elf.specs.Symbols.{is_name, is_named};
 
 use crate::types::SymbolEntry;
-use bz_base::{Cursor, Result};
+use bz_base::{Result, text_before_zero};
 use memchr::memrchr;
 use std::alloc::Global;
 
@@ -124,12 +125,4 @@ pub(crate) fn name_of<'a>(strings: &'a [u8], symbol: &SymbolEntry) -> &'a str
     ensures { result.now ≡ before_zero (drop symbol.now.name strings.now) }
 {
     text_of(&strings[symbol.name as usize..])
-}
-
-/// The bytes before the first zero byte. None: there is no zero byte.
-fn text_before_zero(bytes: &[u8]) -> Option<&[u8]>
-    ensures { option_map (λ text. text.now) result ≡ ended_text bytes.now }
-{
-    let mut cursor = Cursor::new(bytes);
-    cursor.read_cstr()
 }

@@ -7,9 +7,10 @@ ghost use Rattle.bz_elf.specs.Kept.{IsSymbolTable, TablesLie};
 ghost use Rattle.bz_elf.specs.Sections.{first_of_kind, section_at, section_header_len, sections, symbol_table};
 
 use super::head::{section_count, section_place};
-use super::number::{lies, u32_at, u64_at};
+use super::parts::lies;
 use super::{SECTION_HEADER_LEN, SYMBOL_LEN};
 use crate::types::{Part, Section, SymbolTable};
+use bz_base::{u32_at, u64_at};
 
 /// The type of section that holds all symbols.
 const ALL_SYMBOLS: u32 = 2;

@@ -8,9 +8,8 @@ ghost use Rattle.bz_elf.specs.Segments.{loaded_at, program_header_len, segments}
 
 use super::PROGRAM_HEADER_LEN;
 use super::head::{program_count, program_place};
-use super::number::{u32_at, u64_at};
 use crate::types::Segment;
-use bz_base::Result;
+use bz_base::{Result, u32_at, u64_at};
 use std::alloc::Global;
 
 /// The type of a load segment.

@@ -5,14 +5,13 @@ ghost use Rattle.bz_base.specs.declared.error.Error.{Error};
 ghost use Rattle.bz_cache.specs.Format.{IsRefusalBy};
 ghost use Rattle.bz_elf.specs.Checks.{has_names};
 ghost use Rattle.bz_elf.specs.Kept.{IsPart, IsSymbolTable};
-ghost use Rattle.bz_elf.specs.Number.{bytes_at};
+ghost use Rattle.bz_elf.specs.Parts.{bytes_at};
 ghost use Rattle.bz_elf.specs.Symbols.{counted_at, entries, symbol_len};
 
 use super::SYMBOL_LEN;
 use super::names::are_named;
-use super::number::{u8_at, u16_at, u32_at, u64_at};
 use crate::types::{Part, SymbolEntry, SymbolTable};
-use bz_base::{Error, Result};
+use bz_base::{Error, Result, u8_at, u16_at, u32_at, u64_at};
 use std::alloc::Global;
 
 /// The type of symbols that are functions.

@@ -5,10 +5,9 @@ ghost use Rattle.bz_base.specs.declared.error.Error.{Error};
 ghost use Rattle.bz_gsym.specs.Header.{header_of};
 ghost use Rattle.bz_gsym.specs.Tables.{IsGsym, IsHeaded, addresses_end, data_table, file_count_place, files_end, header_len, strings_end};
 
-use super::number::{u8_at, u16_at, u32_at, u64_at};
 use super::starts::starts_ascend;
 use crate::types::{GSYM_MAGIC, GSYM_VERSION, Header};
-use bz_base::{Error, Result};
+use bz_base::{Error, Result, u8_at, u16_at, u32_at, u64_at};
 
 /// How many bytes the head has.
 pub(crate) const HEADER_LEN: usize = 48;

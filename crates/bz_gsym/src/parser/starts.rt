@@ -1,15 +1,14 @@
 //! The address table in a file's bytes, and the search among its starts.
 
 ghost use Rattle.std.specs.Prelude.{◌≡◌, ◌+◌, ◌*◌, ◌<◌, ◌≤◌, true, false, ℕ, List, Some, None, length};
+ghost use Rattle.bz_base.specs.Little.{number_at};
 ghost use Rattle.bz_base.specs.Starts.{IsFound, NeverDescends};
 ghost use Rattle.bz_gsym.specs.Header.{header_of};
-ghost use Rattle.bz_gsym.specs.Number.{number_at};
 ghost use Rattle.bz_gsym.specs.Tables.{AreStarts, header_len, is_address_size, addresses_end, starts};
 
 use super::head::HEADER_LEN;
-use super::number::{u8_at, u16_at, u32_at, u64_at};
 use crate::types::Header;
-use bz_base::{Probe, Steps, nearest};
+use bz_base::{Probe, Steps, nearest, u8_at, u16_at, u32_at, u64_at};
 use std::marker::{Brand, Model};
 use std::sync::ledger::{Blank, Ledger};
 
@@ -66,7 +65,7 @@ struct AddressStarts<'a> {
 
 impl<'a> Model for AddressStarts<'a> {
     ghost use Rattle.std.specs.Prelude.{ℕ, List};
-    ghost use Rattle.bz_gsym.specs.Number.{numbers_at};
+    ghost use Rattle.bz_base.specs.Little.{numbers_at};
     ghost use Rattle.bz_gsym.specs.Tables.{AreStarts, header_len};
 
     ghost Value = { List ℕ };

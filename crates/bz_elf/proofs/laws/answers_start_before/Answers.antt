@@ -1,9 +1,9 @@
-use Rattle.std.proofs.Common.{◌≡◌, ℕ, ◌≤◌, Bool, true, false, List, [], ◌∷◌, Option, Some, None, option_and_then, Result, Ok, Err, refl, sym, subst}
+use Rattle.std.proofs.Common.{◌≡◌, ℕ, ◌≤◌, Bool, true, false, List, [], ◌∷◌, Option, Some, None, option_and_then, Ok, refl, sym, subst}
 use Rattle.bz_base.specs.Answer.{Resolved}
 use Rattle.bz_base.specs.Nearest.{candidate, if_covers, nearest_covering}
 use Rattle.bz_base.specs.Span.{covers}
 use Rattle.bz_base.proofs.NearestLemmas.{candidate_is}
-use Rattle.bz_elf.specs.Plain.{answer_in, found, plain}
+use Rattle.bz_elf.specs.Plain.{answer_in, found}
 use Rattle.bz_elf.specs.Symbols.{Symbol, symbols}
 use Rattle.bz_elf.proofs.laws.answers_start_before.Goals as goal
 

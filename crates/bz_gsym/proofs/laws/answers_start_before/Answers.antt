@@ -1,4 +1,4 @@
-use Rattle.std.proofs.Common.{◌≡◌, ℕ, ◌+◌, ◌-◌, ◌≤◌, Bool, true, false, nat_lt, List, Option, Some, None, option_map, Result, Ok, Err, refl, sym, subst, arith}
+use Rattle.std.proofs.Common.{◌≡◌, ℕ, ◌+◌, ◌-◌, ◌≤◌, Bool, true, false, nat_lt, List, Option, Some, None, option_map, Ok, refl, sym, subst, arith}
 use Rattle.std.proofs.lemmas.Bool.Decides.{nat_tests}
 use Rattle.bz_base.specs.Answer.{Resolved}
 use Rattle.bz_base.specs.declared.types.FindSymOpts.{FindSymOpts}
@@ -6,7 +6,7 @@ use Rattle.bz_base.proofs.NearestLemmas.{candidate_is}
 use Rattle.bz_gsym.specs.Entries.{Info, info_at}
 use Rattle.bz_gsym.specs.Header.{header_of}
 use Rattle.bz_gsym.specs.Joining.{Placed}
-use Rattle.bz_gsym.specs.Plain.{answer_of, based, nearest_start, nearest_symbol, placed_of, plain, reaches, symbol_at, symbols, tried}
+use Rattle.bz_gsym.specs.Plain.{answer_of, based, nearest_start, nearest_symbol, placed_of, reaches, symbol_at, symbols, tried}
 use Rattle.bz_gsym.proofs.laws.answers_start_before.Goals as goal
 
 -- a symbol at its place starts where it was said to

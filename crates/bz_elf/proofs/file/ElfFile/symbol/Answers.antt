@@ -1,7 +1,7 @@
 use Rattle.std.proofs.Common.{◌<◌, option_map, length, sym, ap, ◌∙◌, arith}
 use Rattle.std.proofs.lemmas.Bool.{eqb-false}
 use Rattle.bz_base.specs.Nearest.{IsTable}
-use Rattle.bz_elf.specs.Number.{bytes_at}
+use Rattle.bz_elf.specs.Parts.{bytes_at}
 use Rattle.bz_elf.specs.Symbols.{entries, is_named}
 use Rattle.bz_elf.specs.declared.types.SymbolEntry.{SymbolEntry}
 use Rattle.bz_elf.proofs.AnswerLemmas.{known, named, never_descends, unknown}

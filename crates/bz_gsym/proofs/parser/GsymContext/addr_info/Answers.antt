@@ -1,7 +1,7 @@
 use Rattle.std.proofs.Common.{ap, sym, ◌+◌, ◌*◌, ◌∙◌}
 use Rattle.std.specs.Option.{option_and_then}
+use Rattle.bz_base.specs.Little.{number_at}
 use Rattle.bz_gsym.specs.Entries.{info_at}
-use Rattle.bz_gsym.specs.Number.{number_at}
 use Rattle.bz_gsym.proofs.FileLemmas.{no_place, place_there}
 use Rattle.bz_gsym.proofs.parser.GsymContext.addr_info.Goals as goal
 

@@ -1,5 +1,5 @@
 use Rattle.std.proofs.Common.{◌≡◌, ap, sym, arith, ◌∙◌}
-use Rattle.bz_gsym.specs.Number.{number_at}
+use Rattle.bz_base.specs.Little.{number_at}
 use Rattle.bz_gsym.specs.Tables.{file_count_place}
 use Rattle.bz_gsym.proofs.FileLemmas.{file_there, no_file}
 use Rattle.bz_gsym.proofs.parser.GsymContext.file_info.Goals as goal

@@ -1,7 +1,0 @@
-use Rattle.std.proofs.Common.{ap, ◌∙◌}
-use Rattle.bz_base.specs.Cursor.{cstr_at}
-use Rattle.bz_gsym.proofs.TextLemmas.{text_read}
-use Rattle.bz_gsym.proofs.parser.number.text_before_zero.Goals as goal
-
-pub returns : goal.returns
-returns c = text_read c.args.bytes.now _ _ (c.read_cstr.ensures.reads ∙ ap cstr_at c.new-cursor.ensures.left)
