@@ -1,3 +1,5 @@
+pub use Rattle.bz_breakpad_lines.proofs.GrammarLaws
+pub use Rattle.bz_breakpad_lines.proofs.Turns
 pub mod AddressLaws
 pub mod AnsweredLemmas
 pub mod AsKept

@@ -1,6 +1,6 @@
 //! FUNC and STACK CFI records, the quick way.
 
-ghost use Rattle.std.specs.Prelude.{◌≡◌, ◌<◌, ◌≤◌, not, length, map, take, IfSome};
+ghost use Rattle.std.specs.Prelude.{◌<◌, length, IfSome};
 ghost use Rattle.bz_breakpad_lines.specs.Byte.{is_plain};
 ghost use Rattle.bz_breakpad_lines.specs.Quick.{IsAsciiLine, IsQuick};
 ghost use Rattle.bz_breakpad_lines.specs.Told.{top_told};
@@ -8,7 +8,6 @@ ghost use Rattle.bz_breakpad_lines.specs.Walk.{Context};
 ghost use Rattle.bz_breakpad_lines.specs.Walk.Context.{InCfi};
 ghost use Rattle.bz_breakpad_lines.specs.Walk.Record.{OfCfi, Top};
 ghost use Rattle.bz_breakpad_lines.specs.declared.record.TopLine.TheVariants as tops;
-ghost use lib.Lanes.{mask_l};
 
 use crate::field::{begins_blank, tag};
 use crate::quick::Shown;
@@ -73,19 +72,10 @@ impl ByteTest for PlainBytes {
 
     #[inline(always)]
     fn stops(text: &[u8]) -> u64 {
-        name_stops(text)
+        let bytes = u8x32::from_slice(text);
+        let beyond = bytes.simd_ge(u8x32::splat(128));
+        let feeds = bytes.simd_eq(u8x32::splat(b'\n'));
+        let returns = bytes.simd_eq(u8x32::splat(b'\r'));
+        (beyond | feeds | returns).to_bitmask()
     }
-}
-
-/// A bit for each of the first 32 bytes that is not in ASCII, or ends a line.
-#[inline(always)]
-fn name_stops(text: &[u8]) -> u64
-    requires { 32 ≤ length text.now }
-    ensures { result ≡ mask_l (map (λ b. not (is_plain b)) (take 32 text.now)) }
-{
-    let bytes = u8x32::from_slice(text);
-    let beyond = bytes.simd_ge(u8x32::splat(128));
-    let feeds = bytes.simd_eq(u8x32::splat(b'\n'));
-    let returns = bytes.simd_eq(u8x32::splat(b'\r'));
-    (beyond | feeds | returns).to_bitmask()
 }

@@ -3,7 +3,7 @@ use Rattle.std.proofs.lemmas.List.{length-take-le}
 use Rattle.std.proofs.lemmas.Simd.{zip2_of_maps, zip2_splat, zip2_splat_left}
 use Rattle.bz_breakpad_lines.specs.Byte.{is_plain}
 use Rattle.bz_base.proofs.LoadLemmas.{bits_are}
-use Rattle.bz_breakpad_lines.proofs.func.name_stops.Goals as goal
+use Rattle.bz_breakpad_lines.proofs.func.PlainBytesByteTest.stops.Goals as goal
 
 pub returns : goal.returns
 returns c =
