@@ -1,7 +1,7 @@
 -- The keys of PUBLIC records in order, without those that start where the key before does, are those of the first record at
 -- each address.
 use Rattle.std.proofs.Common.{◌≡◌, ◌⊎◌, inl, inr, ℕ, zero, suc, ◌+◌, ◌<◌, ◌≤◌, ◌==◌, Bool, true, false, cond, nat_eq, get_or, List, [], ◌∷◌, ◌++◌, drop, length, map, option_map, Option, Some, None, Result, Ok, Err, refl, sym, ap, subst, ◌∙◌, arith, append_assoc}
-use Rattle.std.specs.Prelude.{IfOk}
+use Rattle.std.specs.Prelude.{IfOk, if◌then◌else◌}
 use Rattle.std.specs.List.{AllByRecursion, dedup, dedup_from, slice_get, slice_index}
 use Rattle.std.proofs.lemmas.Bool.{cases_lt, eqb-true, eq-eqb, true≢false}
 use Rattle.std.proofs.lemmas.Option.{get_or_from_slice_get, none-some, same_Some, slice_get-get_or, slice_get-map}
@@ -10,11 +10,21 @@ use Rattle.bz_base.specs.Nearest.{IsTable}
 use Rattle.bz_base.specs.Starts.{NeverDescends}
 use Rattle.bz_base.proofs.TableLemmas.{in_table}
 use Rattle.bz_breakpad_lines.specs.LineStarts.{Ascends}
-use Rattle.bz_breakpad_table.specs.Publics.{AreAddresses, ArePublicKeys, IsFirst, IsPublicTable, firsts_after, is_last, keys_from, starts_kept}
+use Rattle.bz_breakpad_table.specs.Publics.{AreAddresses, ArePublicKeys, IsFirst, IsPublicTable, public_keys_from, starts_kept}
 use Rattle.bz_breakpad_table.specs.declared.publics.PublicKey.{PublicKey}
 use Rattle.bz_breakpad_table.specs.declared.publics.PublicTable.{PublicTable}
 use Rattle.bz_breakpad_table.specs.declared.types.KeptPublic.{KeptPublic}
 use Rattle.bz_breakpad_table.proofs.SortedLemmas.{all_in_table}
+
+-- the start is that of the key before
+abbrev pub is_last : Option ℕ → ℕ → Bool
+is_last None start = false
+is_last (Some last) start = start == last
+
+-- the keys without those that start where the key before does
+abbrev pub firsts_after : Option ℕ → List PublicKey → List PublicKey
+firsts_after last [] = []
+firsts_after last (k ∷ keys) = if is_last last k.start then firsts_after last keys else k ∷ firsts_after (Some k.start) keys
 
 -- Keys in order.
 
@@ -203,7 +213,7 @@ ascends_never starts up i j less within = by (nat_eq i j) refl where
 -- The keys of all records.
 
 -- each has its start at its index
-keys_there : (before starts : List ℕ) → AllByRecursion (λ (k : PublicKey). slice_get (before ++ starts) k.index ≡ Some k.start) (keys_from (length before) starts)
+keys_there : (before starts : List ℕ) → AllByRecursion (λ (k : PublicKey). slice_get (before ++ starts) k.index ≡ Some k.start) (public_keys_from (length before) starts)
 keys_there before [] = tt
 keys_there before (s ∷ starts) = (here before, rest (keys_there (before ++ s ∷ []) starts)) where
   here : (xs : List ℕ) → slice_get (xs ++ s ∷ starts) (length xs) ≡ Some s
@@ -214,15 +224,15 @@ keys_there before (s ∷ starts) = (here before, rest (keys_there (before ++ s �
   one_more [] = refl
   one_more (x ∷ xs) = ap suc (one_more xs)
 
-  rest : AllByRecursion (λ (k : PublicKey). slice_get ((before ++ s ∷ []) ++ starts) k.index ≡ Some k.start) (keys_from (length (before ++ s ∷ [])) starts) →
-      AllByRecursion (λ (k : PublicKey). slice_get (before ++ s ∷ starts) k.index ≡ Some k.start) (keys_from (suc (length before)) starts)
+  rest : AllByRecursion (λ (k : PublicKey). slice_get ((before ++ s ∷ []) ++ starts) k.index ≡ Some k.start) (public_keys_from (length (before ++ s ∷ [])) starts) →
+      AllByRecursion (λ (k : PublicKey). slice_get (before ++ s ∷ starts) k.index ≡ Some k.start) (public_keys_from (suc (length before)) starts)
   rest all =
-      let P : List ℕ → Type 0 = λ xs. AllByRecursion (λ (k : PublicKey). slice_get xs k.index ≡ Some k.start) (keys_from (suc (length before)) starts) in
-      let Q : ℕ → Type 0 = λ n. AllByRecursion (λ (k : PublicKey). slice_get ((before ++ s ∷ []) ++ starts) k.index ≡ Some k.start) (keys_from n starts) in
+      let P : List ℕ → Type 0 = λ xs. AllByRecursion (λ (k : PublicKey). slice_get xs k.index ≡ Some k.start) (public_keys_from (suc (length before)) starts) in
+      let Q : ℕ → Type 0 = λ n. AllByRecursion (λ (k : PublicKey). slice_get ((before ++ s ∷ []) ++ starts) k.index ≡ Some k.start) (public_keys_from n starts) in
       subst P (append_assoc before (s ∷ []) starts) (subst Q (one_more before) all)
 
 -- and a start has its key
-key_there : (first : ℕ) (starts : List ℕ) (i s : ℕ) → slice_get starts i ≡ Some s → slice_get (keys_from first starts) i ≡ Some (record { start = s; index = first + i })
+key_there : (first : ℕ) (starts : List ℕ) (i s : ℕ) → slice_get starts i ≡ Some s → slice_get (public_keys_from first starts) i ≡ Some (record { start = s; index = first + i })
 key_there first [] i s there = absurd (none-some s there)
 key_there first (t ∷ starts) zero s there =
     ap (λ u. Some (record { start = u; index = first })) (same_Some t s there) ∙ ap (λ n. Some (record { start = s; index = n })) (omega arith)
@@ -230,14 +240,14 @@ key_there first (t ∷ starts) (suc i) s there = key_there (suc first) starts i 
 
 -- Together.
 
-first_keys_are : (starts : List ℕ) (sorted : List PublicKey) → IsTable (λ k. k.start) (λ k. k.index) (keys_from 0 starts) sorted →
+first_keys_are : (starts : List ℕ) (sorted : List PublicKey) → IsTable (λ k. k.start) (λ k. k.index) (public_keys_from 0 starts) sorted →
     ArePublicKeys starts (firsts_after None sorted)
 first_keys_are starts sorted is =
     let up = up_from sorted (λ i j k l less at_k at_l. record { starts = is.starts_ascend i j k l less at_k at_l; indices = is.sizes_ascend i j k l less at_k at_l }) in
     let firsts = firsts_after None sorted in
     let there = firsts_all (λ k. slice_get starts k.index ≡ Some k.start) None sorted
-    (all_in_table (λ k. slice_get starts k.index ≡ Some k.start) (λ (k : PublicKey). k.start) (λ k. k.index) (keys_from 0 starts) sorted is (keys_there [] starts)) in
-    let like = λ (i s : ℕ) (at : slice_get starts i ≡ Some s). in_table (λ (k : PublicKey). k.start) (λ k. k.index) (keys_from 0 starts) sorted is i (record { start = s; index = 0 + i }) (key_there 0 starts i s at) in
+    (all_in_table (λ k. slice_get starts k.index ≡ Some k.start) (λ (k : PublicKey). k.start) (λ k. k.index) (public_keys_from 0 starts) sorted is (keys_there [] starts)) in
+    let like = λ (i s : ℕ) (at : slice_get starts i ≡ Some s). in_table (λ (k : PublicKey). k.start) (λ k. k.index) (public_keys_from 0 starts) sorted is i (record { start = s; index = 0 + i }) (key_there 0 starts i s at) in
     record {
       addresses = record {
         ascend = strict_ascends firsts (firsts_strict None sorted up tt);
@@ -263,7 +273,7 @@ first_keys_are starts sorted is =
     }
 
 -- keys of starts that never descend are in order
-key_of : (first : ℕ) (starts : List ℕ) (i : ℕ) (k : PublicKey) → slice_get (keys_from first starts) i ≡ Some k →
+key_of : (first : ℕ) (starts : List ℕ) (i : ℕ) (k : PublicKey) → slice_get (public_keys_from first starts) i ≡ Some k →
     (i < length starts) × (k.start ≡ slice_index starts i) × (k.index ≡ first + i)
 key_of first [] i k there = absurd (none-some k there)
 key_of first (s ∷ starts) zero k there =
@@ -273,7 +283,7 @@ key_of first (s ∷ starts) (suc i) k there =
     let later = key_of (suc first) starts i k there in
     (omega (arith, later.0), later.1, later.2 ∙ omega arith)
 
-keys_in_order : (starts : List ℕ) → NeverDescends starts → IsTable (λ k. k.start) (λ k. k.index) (keys_from 0 starts) (keys_from 0 starts)
+keys_in_order : (starts : List ℕ) → NeverDescends starts → IsTable (λ k. k.start) (λ k. k.index) (public_keys_from 0 starts) (public_keys_from 0 starts)
 keys_in_order starts never = record {
   starts_ascend = λ i j k l less at_k at_l.
       let one = key_of 0 starts i k at_k in
@@ -285,16 +295,16 @@ keys_in_order starts never = record {
 }
 
 -- and are those of the first record at each address without any sort
-pub keys_are_in_order : (starts : List ℕ) → NeverDescends starts → ArePublicKeys starts (firsts_after None (keys_from 0 starts))
-keys_are_in_order starts never = first_keys_are starts (keys_from 0 starts) (keys_in_order starts never)
+pub keys_are_in_order : (starts : List ℕ) → NeverDescends starts → ArePublicKeys starts (firsts_after None (public_keys_from 0 starts))
+keys_are_in_order starts never = first_keys_are starts (public_keys_from 0 starts) (keys_in_order starts never)
 
-pub public_keys_are : (starts : List ℕ) (sorted : List PublicKey) → IsTable (λ k. k.start) (λ k. k.index) (keys_from 0 starts) sorted →
+pub public_keys_are : (starts : List ℕ) (sorted : List PublicKey) → IsTable (λ k. k.start) (λ k. k.index) (public_keys_from 0 starts) sorted →
     ArePublicKeys starts (dedup starts_alike sorted)
 public_keys_are starts sorted is = subst (ArePublicKeys starts) (sym (firsts_are sorted)) (first_keys_are starts sorted is)
 
 -- The table of the keys.
 
-public_table_is : (publics : List KeptPublic) (keys : List PublicKey) (table : PublicTable) → ArePublicKeys (starts_kept publics) keys →
+pub public_table_is : (publics : List KeptPublic) (keys : List PublicKey) (table : PublicTable) → ArePublicKeys (starts_kept publics) keys →
     table.indices.items ≡ map (λ k. k.index) keys → table.starts ≡ map (λ k. k.start) keys → IsPublicTable publics table
 public_table_is publics keys table are indices starts = record {
   addresses = subst (AreAddresses (starts_kept publics)) (sym starts) are.addresses;
@@ -333,12 +343,20 @@ module _ (starts : List ℕ) (i last : ℕ) (below : (k : ℕ) → k < i → sli
     | inr not_lower ↦ let same : k ≡ i = omega arith in omega (arith, below_more j (omega arith), ap (slice_index starts) same)
   ]
 
+-- what a table in order has of each key, once every record has been looked at
+pub whole_is : (view : PublicKey → ℕ) (publics : List KeptPublic) (kept : List ℕ) (index : ℕ) (last : Option ℕ) → length publics ≤ index →
+    kept ++ map view (firsts_after last (public_keys_from index (starts_kept (drop index publics)))) ≡ map view (firsts_after None (public_keys_from 0 (starts_kept publics))) →
+    kept ≡ map view (firsts_after None (public_keys_from 0 (starts_kept publics)))
+whole_is view publics kept index last past are =
+    let none = drop_all index publics past in
+    sym (append-nil kept)
+    ∙ sym (ap (λ (ps : List KeptPublic). kept ++ map view (firsts_after last (public_keys_from index (starts_kept ps)))) none)
+    ∙ are
+
 -- the starts of a table in order, once every record has been looked at
 pub whole_starts_never : (publics : List KeptPublic) (starts : List ℕ) (index : ℕ) (last : Option ℕ) → NeverDescends (starts_kept publics) → length publics ≤ index →
-    starts ++ map (λ k. k.start) (firsts_after last (keys_from index (starts_kept (drop index publics)))) ≡ map (λ k. k.start) (firsts_after None (keys_from 0 (starts_kept publics))) →
+    starts ++ map (λ k. k.start) (firsts_after last (public_keys_from index (starts_kept (drop index publics)))) ≡ map (λ k. k.start) (firsts_after None (public_keys_from 0 (starts_kept publics))) →
     NeverDescends starts
 whole_starts_never publics starts index last never past are =
-    let none = drop_all index publics past in
-    let whole : starts ++ [] ≡ map (λ (k : PublicKey). k.start) (firsts_after None (keys_from 0 (starts_kept publics)))
-    = sym (ap (λ (ps : List KeptPublic). starts ++ map (λ (k : PublicKey). k.start) (firsts_after last (keys_from index (starts_kept ps)))) none) ∙ are in
-    subst NeverDescends (sym whole ∙ append-nil starts) (ascends_never (map (λ (k : PublicKey). k.start) (firsts_after None (keys_from 0 (starts_kept publics)))) (keys_are_in_order (starts_kept publics) never).addresses.ascend)
+    subst NeverDescends (sym (whole_is (λ k. k.start) publics starts index last past are))
+    (ascends_never (map (λ (k : PublicKey). k.start) (firsts_after None (public_keys_from 0 (starts_kept publics)))) (keys_are_in_order (starts_kept publics) never).addresses.ascend)

@@ -1,5 +1,5 @@
 -- The addresses of PUBLIC records, in their order, and the first record of each.
-use Rattle.std.specs.Prelude.{◌≡◌, ◌≤◌, ◌==◌, ℕ, suc, Bool, false, if◌then◌else◌, List, [], ◌∷◌, length, map, Option, Some, None, slice_get}
+use Rattle.std.specs.Prelude.{◌≡◌, ◌≤◌, ℕ, suc, List, [], ◌∷◌, length, map, Some, slice_get}
 use Rattle.bz_breakpad_lines.specs.LineStarts.{Ascends}
 use Rattle.bz_breakpad_table.specs.declared.publics.PublicKey.{PublicKey}
 use Rattle.bz_breakpad_table.specs.declared.publics.PublicTable.{PublicTable}
@@ -32,16 +32,6 @@ pub record IsPublicTable (publics : List KeptPublic) (table : PublicTable) : Typ
   pub firsts : (k start index : ℕ) → slice_get table.starts k ≡ Some start → slice_get table.indices.items k ≡ Some index → IsFirst (starts_kept publics) start index
 
 -- the keys of records that start so, of which the first has this index
-abbrev pub keys_from : ℕ → List ℕ → List PublicKey
-keys_from index [] = []
-keys_from index (s ∷ starts) = record { start = s; index = index } ∷ keys_from (suc index) starts
-
--- the start is that of the key before
-abbrev pub is_last : Option ℕ → ℕ → Bool
-is_last None start = false
-is_last (Some last) start = start == last
-
--- the keys without those that start where the key before does
-abbrev pub firsts_after : Option ℕ → List PublicKey → List PublicKey
-firsts_after last [] = []
-firsts_after last (k ∷ keys) = if is_last last k.start then firsts_after last keys else k ∷ firsts_after (Some k.start) keys
+abbrev pub public_keys_from : ℕ → List ℕ → List PublicKey
+public_keys_from index [] = []
+public_keys_from index (s ∷ starts) = record { start = s; index = index } ∷ public_keys_from (suc index) starts

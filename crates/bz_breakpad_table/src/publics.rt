@@ -1,8 +1,8 @@
 //! The addresses of PUBLIC records, and the first record of each.
 
-ghost use Rattle.std.specs.Prelude.{◌≡◌, true, map, None, IfOk};
+ghost use Rattle.std.specs.Prelude.{◌≡◌, true, map, IfOk};
 ghost use Rattle.bz_base.specs.Starts.{NeverDescends};
-ghost use Rattle.bz_breakpad_table.specs.Publics.{ArePublicKeys, IsPublicTable, firsts_after, keys_from, starts_kept};
+ghost use Rattle.bz_breakpad_table.specs.Publics.{ArePublicKeys, IsPublicTable, public_keys_from, starts_kept};
 
 use crate::types::KeptPublic;
 use bz_base::{Spanned, Starts, sort_table};
@@ -70,8 +70,7 @@ fn ascend(publics: &[KeptPublic]) -> bool
 /// so many records that an index can't be kept in four bytes.
 fn table_in_order(alloc: Global, publics: &[KeptPublic]) -> Result<PublicTable, AllocError>
     requires { NeverDescends (starts_kept publics.now) }
-    ensures indices { IfOk result (λ table. table.indices.items ≡ map (λ k. k.index) (firsts_after None (keys_from 0 (starts_kept publics.now)))) }
-    ensures starts { IfOk result (λ table. table.starts ≡ map (λ k. k.start) (firsts_after None (keys_from 0 (starts_kept publics.now)))) }
+    ensures { IfOk result (IsPublicTable publics.now) }
 {
     if publics.len() > u32::MAX as usize {
         return Err(AllocError);
@@ -107,7 +106,7 @@ fn public_keys(alloc: Global, publics: &[KeptPublic]) -> Result<Vec<PublicKey>, 
 /// The keys of all records, in their order. Want of memory also where there are so many records that
 /// an index can't be kept in four bytes.
 fn keys_of(alloc: Global, publics: &[KeptPublic]) -> Result<Vec<PublicKey>, AllocError>
-    ensures { IfOk result (λ keys. keys.items ≡ keys_from 0 (starts_kept publics.now)) }
+    ensures { IfOk result (λ keys. keys.items ≡ public_keys_from 0 (starts_kept publics.now)) }
 {
     if publics.len() > u32::MAX as usize {
         return Err(AllocError);
