@@ -47,7 +47,11 @@ fn splits_into(text: &str, directory: &str, file: &str) -> bool {
 }
 
 /// Whether this is the path of a file in a directory, or of a file without one.
-fn joins_to(alloc: Global, dir: Option<CowStr<'_>>, file: &str, want: &str) -> bool {
+fn joins_to(alloc: Global, directory: Option<&str>, file: &str, want: &str) -> bool {
+    let dir = match directory {
+        Some(directory) => Some(CowStr::Borrowed(directory)),
+        None => None,
+    };
     let place = CodeInfo {
         dir,
         file: CowStr::Borrowed(file),
@@ -70,8 +74,7 @@ fn splits_paths(rt: HostRuntime) {
 #[test]
 fn joins_paths(rt: HostRuntime) {
     for (dir, file, want) in &PATHS {
-        let dir = Some(CowStr::Borrowed(*dir));
-        assert!(rt; joins_to(rt.alloc(), dir, file, want), "not {want}");
+        assert!(rt; joins_to(rt.alloc(), Some(*dir), file, want), "not {want}");
     }
     assert!(rt; joins_to(rt.alloc(), None, "source.c", "source.c"));
 }

@@ -48,50 +48,47 @@ impl TranslateFileOffset for OneFunction {
     }
 }
 
-fn symbol_at<'a, T: Resolve>(
-    table: &'a T,
+/// How far into `main` an address lies, or 99 for another symbol; none where there is no symbol.
+fn place_in_main<T: Symbolize>(
+    table: &T,
     alloc: Global,
-    file_offset: u64,
-) -> Result<Option<Sym<'a>>, Error> {
-    let Some(addr) = table.file_offset_to_virt_offset(file_offset)? else {
-        return Ok(None);
-    };
+    addr: Addr,
+) -> Result<Option<usize>, Error> {
     match table.find_sym(alloc, addr, &FindSymOpts::Basic)? {
-        Ok(found) => Ok(Some(found.into_sym(addr))),
+        Ok(found) => Ok(Some(place_in(&found.into_sym(addr)))),
         Err(_) => Ok(None),
     }
 }
 
-fn is_main(symbol: &Sym<'_>) -> bool {
-    symbol.name.as_str() == "main" && symbol.addr == 0x1000 && symbol.offset == 16
-}
-
-/// Whether the function is found sixteen bytes into the file.
-fn finds_main(table: &OneFunction, alloc: Global) -> bool {
-    match symbol_at(table, alloc, 16) {
-        Ok(Some(symbol)) => is_main(&symbol),
-        _ => false,
+fn place_in(symbol: &Sym<'_>) -> usize {
+    if symbol.name.as_str() == "main" && symbol.addr == 0x1000 {
+        symbol.offset
+    } else {
+        99
     }
 }
 
-/// Whether nothing is at a file offset whose address would pass the last one.
-fn finds_none_past_the_end(table: &OneFunction, alloc: Global) -> bool {
-    matches!(symbol_at(table, alloc, u64::MAX), Ok(None))
+/// The same of the file's byte at an offset. Nothing is there whose address would pass the last one.
+fn place_of_offset<T: Resolve>(
+    table: &T,
+    alloc: Global,
+    file_offset: u64,
+) -> Result<Option<usize>, Error> {
+    match table.file_offset_to_virt_offset(file_offset)? {
+        Some(addr) => place_in_main(table, alloc, addr),
+        None => Ok(None),
+    }
 }
 
-/// Whether nothing is at an address below the function.
-fn finds_none_below(table: &OneFunction, alloc: Global) -> bool {
-    matches!(
-        table.find_sym(alloc, 0xfff, &FindSymOpts::Basic),
-        Ok(Err(_))
-    )
+/// Whether the function is found sixteen bytes into the file, nothing past the end and nothing below
+/// the function.
+fn finds_main(table: &OneFunction, alloc: Global) -> bool {
+    place_of_offset(table, alloc, 16) == Ok(Some(16))
+        && place_of_offset(table, alloc, u64::MAX) == Ok(None)
+        && place_in_main(table, alloc, 0xfff) == Ok(None)
 }
 
 #[test]
 fn finds_the_symbol_of_a_file_offset(rt: HostRuntime) {
-    let table = OneFunction { start: 0x1000 };
-    assert!(rt; finds_main(&table, rt.alloc()));
-    assert!(rt;
-        finds_none_past_the_end(&table, rt.alloc()) && finds_none_below(&table, rt.alloc())
-    );
+    assert!(rt; finds_main(&OneFunction { start: 0x1000 }, rt.alloc()));
 }

@@ -7,7 +7,7 @@ ghost use Rattle.bz_cache.specs.Format.{refused_by};
 
 use bz_base::{Error, Result};
 use bz_cache::{FileCache, Version};
-use bz_files::{Files, MemFiles};
+use bz_files::{Files, MemFiles, Stamp};
 use std::alloc::Global;
 use std::rc::Rc;
 
@@ -55,7 +55,9 @@ fn answers(cache: &mut FileCache<Note>, alloc: Global, files: &mut MemFiles, tex
 
 /// Whether a file is read once where it has changed, and refused where a look fails.
 fn reads_anew(cache: &mut FileCache<Note>, alloc: Global, files: &mut MemFiles) -> bool {
-    put(alloc, files, b"V1")
+    // A version is looked at twice, for its stamp and its bytes, and once where it is kept.
+    files.fail_call(alloc, 6).is_ok()
+        && put(alloc, files, b"V1")
         && answers(cache, alloc, files, b"V1")
         && put(alloc, files, b"V2")
         && answers(cache, alloc, files, b"V2")
@@ -64,16 +66,6 @@ fn reads_anew(cache: &mut FileCache<Note>, alloc: Global, files: &mut MemFiles) 
         && files.faults() == 1
         && answers(cache, alloc, files, b"V2")
         && files.opens() == 2
-}
-
-#[test]
-fn a_changed_file_is_read_anew(rt: HostRuntime) {
-    let mut files = MemFiles::new(rt.alloc(), 0);
-    let mut cache = FileCache::<Note>::builder().build(rt.alloc());
-    // A version is looked at twice, for its stamp and its bytes, and once where it is kept.
-    let fails = files.fail_call(rt.alloc(), 6).is_ok();
-    let anew = reads_anew(&mut cache, rt.alloc(), &mut files);
-    assert!(rt; fails && anew);
 }
 
 /// Whether a version with the stamp of the file at `/s` is kept.
@@ -87,6 +79,21 @@ fn is_kept(cache: &FileCache<Note>, files: &mut MemFiles) -> bool {
 /// Whether a changed file is still answered by its first version.
 fn stays(cache: &mut FileCache<Note>, alloc: Global, files: &mut MemFiles) -> bool {
     put(alloc, files, b"V2") && answers(cache, alloc, files, b"V1")
+}
+
+/// Whether a changed file is answered by its first version from the first look on.
+fn stays_from_the_first(cache: &mut FileCache<Note>, alloc: Global, files: &mut MemFiles) -> bool {
+    put(alloc, files, b"V1") && answers(cache, alloc, files, b"V1") && stays(cache, alloc, files)
+}
+
+#[test]
+fn a_path_keeps_its_version_where_nothing_is_reloaded(rt: HostRuntime) {
+    let mut files = MemFiles::new(rt.alloc(), 0);
+    let mut cache = FileCache::<Note>::builder()
+        .enable_auto_reload(false)
+        .build(rt.alloc());
+    let held = stays_from_the_first(&mut cache, rt.alloc(), &mut files);
+    assert!(rt; held);
 }
 
 /// Whether a path answers by its first version from when it is pinned.
@@ -109,27 +116,6 @@ fn goes_unpinned(cache: &mut FileCache<Note>, alloc: Global, files: &mut MemFile
         && cache.entry_count() == 0
 }
 
-#[test]
-fn a_pinned_path_keeps_its_version(rt: HostRuntime) {
-    let mut files = MemFiles::new(rt.alloc(), 0);
-    let mut cache = FileCache::<Note>::builder().build(rt.alloc());
-    let stays = stays_pinned(&mut cache, rt.alloc(), &mut files);
-    let goes = goes_unpinned(&mut cache, rt.alloc(), &mut files);
-    assert!(rt; stays && goes);
-}
-
-#[test]
-fn a_path_keeps_its_version_where_nothing_is_reloaded(rt: HostRuntime) {
-    let mut files = MemFiles::new(rt.alloc(), 0);
-    let mut cache = FileCache::<Note>::builder()
-        .enable_auto_reload(false)
-        .build(rt.alloc());
-    let held = put(rt.alloc(), &mut files, b"V1")
-        && answers(&mut cache, rt.alloc(), &mut files, b"V1")
-        && stays(&mut cache, rt.alloc(), &mut files);
-    assert!(rt; held);
-}
-
 /// Takes in a note as that of the file at `/s`.
 fn take_in(cache: &mut FileCache<Note>, alloc: Global, files: &mut MemFiles) -> Result<()> {
     let note = Note::parse(alloc, b"V1".to_vec(alloc)?)?;
@@ -147,56 +133,46 @@ fn takes_in_once(cache: &mut FileCache<Note>, alloc: Global, files: &mut MemFile
         && take_in(cache, alloc, files) == Err(Error::AlreadyExists)
 }
 
-#[test]
-fn a_version_is_taken_in_unread(rt: HostRuntime) {
-    let mut files = MemFiles::new(rt.alloc(), 0);
-    let mut cache = FileCache::<Note>::builder().build(rt.alloc());
-    let taken = takes_in_once(&mut cache, rt.alloc(), &mut files);
-    assert!(rt; taken);
+/// Puts the first text at `/s` again, with its stamp. Says whether memory was left.
+fn put_back(alloc: Global, files: &mut MemFiles, stamp: Stamp) -> bool {
+    match b"V1".to_vec(alloc) {
+        Ok(bytes) => files.put_as(alloc, "/s", stamp, bytes).is_ok(),
+        Err(_) => false,
+    }
 }
 
-/// Looks at a path whose file changes and changes back. Says whether there was a stamp for it.
-fn changes_back(cache: &mut FileCache<Note>, alloc: Global, files: &mut MemFiles) -> Result<bool> {
-    let Some(stamp) = files.put(alloc, "/a", b"V1".to_vec(alloc)?)? else {
-        return Ok(false);
+/// Whether a path whose file changes and changes back, and that so names a stamp twice, lets both
+/// versions go.
+fn changes_back(cache: &mut FileCache<Note>, alloc: Global, files: &mut MemFiles) -> bool {
+    if !put(alloc, files, b"V1") {
+        return false;
+    }
+    let Ok(stamp) = files.stat("/s") else {
+        return false;
     };
-    cache.entry(alloc, files, "/a")?;
-    files.put(alloc, "/a", b"V2".to_vec(alloc)?)?;
-    cache.entry(alloc, files, "/a")?;
-    files.put_as(alloc, "/a", stamp, b"V1".to_vec(alloc)?)?;
-    cache.entry(alloc, files, "/a")?;
-    Ok(true)
-}
-
-/// Whether a path that names a stamp twice lets its version go.
-fn lets_go(alloc: Global) -> bool {
-    let mut files = MemFiles::new(alloc, 0);
-    let mut cache = FileCache::<Note>::builder().build(alloc);
-    changes_back(&mut cache, alloc, &mut files) == Ok(true)
+    answers(cache, alloc, files, b"V1")
+        && put(alloc, files, b"V2")
+        && answers(cache, alloc, files, b"V2")
+        && put_back(alloc, files, stamp)
+        && answers(cache, alloc, files, b"V1")
         && cache.entry_count() == 2
-        && cache.evict("/a")
+        && cache.evict("/s")
         && cache.entry_count() == 0
 }
 
-#[test]
-fn a_path_counts_once_at_a_stamp(rt: HostRuntime) {
-    assert!(rt; lets_go(rt.alloc()));
-}
-
-/// Looks at two paths of one file.
-fn look_at_two(cache: &mut FileCache<Note>, alloc: Global, files: &mut MemFiles) -> Result<()> {
-    files.put(alloc, "/a", b"V1".to_vec(alloc)?)?;
-    files.link(alloc, "/b", "/a")?;
-    cache.entry(alloc, files, "/a")?;
-    cache.entry(alloc, files, "/b")?;
-    Ok(())
+/// Looks at two paths of one file. Says whether it is found at both.
+fn looks_at_two(cache: &mut FileCache<Note>, alloc: Global, files: &mut MemFiles) -> bool {
+    put(alloc, files, b"V1")
+        && files.link(alloc, "/b", "/s") == Ok(true)
+        && answers(cache, alloc, files, b"V1")
+        && cache.entry(alloc, files, "/b").is_ok()
 }
 
 /// Whether the one version stays until both paths are forgotten.
 fn stays_for_two(cache: &mut FileCache<Note>) -> bool {
     cache.entry_count() == 1
         && cache.path_count() == 2
-        && !cache.evict("/a")
+        && !cache.evict("/s")
         && cache.entry_count() == 1
         && cache.evict("/b")
         && cache.entry_count() == 0
@@ -204,11 +180,52 @@ fn stays_for_two(cache: &mut FileCache<Note>) -> bool {
         && cache.pin("/b").is_none()
 }
 
+/// What happens to a file that a new cache looks at.
+#[derive(Drop)]
+enum Course {
+    Changes,
+    IsPinned,
+    IsTakenIn,
+    ChangesBack,
+    HasTwoPaths,
+}
+
+/// Whether the cache does then as it should.
+fn goes_well(alloc: Global, course: Course) -> bool {
+    let mut files = MemFiles::new(alloc, 0);
+    let mut cache = FileCache::<Note>::builder().build(alloc);
+    match course {
+        Course::Changes => reads_anew(&mut cache, alloc, &mut files),
+        Course::IsPinned => stays_pinned(&mut cache, alloc, &mut files)
+            && goes_unpinned(&mut cache, alloc, &mut files),
+        Course::IsTakenIn => takes_in_once(&mut cache, alloc, &mut files),
+        Course::ChangesBack => changes_back(&mut cache, alloc, &mut files),
+        Course::HasTwoPaths => looks_at_two(&mut cache, alloc, &mut files)
+            && stays_for_two(&mut cache),
+    }
+}
+
+#[test]
+fn a_changed_file_is_read_anew(rt: HostRuntime) {
+    assert!(rt; goes_well(rt.alloc(), Course::Changes));
+}
+
+#[test]
+fn a_pinned_path_keeps_its_version(rt: HostRuntime) {
+    assert!(rt; goes_well(rt.alloc(), Course::IsPinned));
+}
+
+#[test]
+fn a_version_is_taken_in_unread(rt: HostRuntime) {
+    assert!(rt; goes_well(rt.alloc(), Course::IsTakenIn));
+}
+
+#[test]
+fn a_path_counts_once_at_a_stamp(rt: HostRuntime) {
+    assert!(rt; goes_well(rt.alloc(), Course::ChangesBack));
+}
+
 #[test]
 fn a_version_stays_while_a_path_names_it(rt: HostRuntime) {
-    let mut files = MemFiles::new(rt.alloc(), 0);
-    let mut cache = FileCache::<Note>::builder().build(rt.alloc());
-    let looked = look_at_two(&mut cache, rt.alloc(), &mut files).is_ok();
-    let stays = stays_for_two(&mut cache);
-    assert!(rt; looked && stays);
+    assert!(rt; goes_well(rt.alloc(), Course::HasTwoPaths));
 }

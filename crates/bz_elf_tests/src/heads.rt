@@ -3,18 +3,25 @@
 use bz_base::Error;
 use bz_elf::{ElfFile, laws};
 use bz_samples::{ELF_FUNCTION, damaged};
-use std::alloc::Global;
-use std::test::Fail;
+use std::alloc::{AllocError, Global};
 
-/// Whether the bytes are refused so, or taken where no refusal is expected.
-pub(crate) fn is_refused_as(alloc: Global, bytes: Vec<u8>, expected: Option<Error>) -> bool {
+/// Whether the bytes, if memory was left for them, are refused so, or taken where no refusal is
+/// expected.
+pub(crate) fn is_refused_as(
+    alloc: Global,
+    bytes: Result<Vec<u8>, AllocError>,
+    expected: Option<Error>,
+) -> bool {
+    let Ok(bytes) = bytes else {
+        return false;
+    };
     match ElfFile::from_bytes(alloc, bytes) {
         Ok(_) => expected.is_none(),
         Err(error) => expected == Some(error),
     }
 }
 
-const BAD: Option<Error> = Some(Error::InvalidData);
+pub(crate) const BAD: Option<Error> = Some(Error::InvalidData);
 
 const OTHER: Option<Error> = Some(Error::Unsupported);
 
@@ -114,37 +121,41 @@ const FIELDS: &[(usize, &[u8], Option<Error>)] = &[
 ];
 
 #[test]
-fn fields_are_checked(rt: HostRuntime) -> Result<(), Fail> {
+fn fields_are_checked(rt: HostRuntime) {
     laws::files_are_exact();
+    let alloc = rt.alloc();
     for (place, new, refusal) in FIELDS {
-        let bytes = damaged(rt.alloc(), &ELF_FUNCTION, *place, new)?;
         assert!(rt;
-            is_refused_as(rt.alloc(), bytes, *refusal),
+            is_refused_as(alloc, damaged(alloc, &ELF_FUNCTION, *place, new), *refusal),
             "at {place}: {new:?}"
         );
     }
-    Ok(())
 }
 
 #[test]
-fn a_cut_file_is_refused(rt: HostRuntime) -> Result<(), Fail> {
+fn a_cut_file_is_refused(rt: HostRuntime) {
+    let alloc = rt.alloc();
     for len in 0..368usize {
-        let bytes = Vec::from_slice(rt.alloc(), &ELF_FUNCTION[..len])?;
-        assert!(rt; is_refused_as(rt.alloc(), bytes, BAD), "at {len}");
+        assert!(rt;
+            is_refused_as(alloc, Vec::from_slice(alloc, &ELF_FUNCTION[..len]), BAD),
+            "at {len}"
+        );
     }
-    Ok(())
 }
 
 /// The class is looked at as soon as it stands there, before anything behind it.
 #[test]
-fn a_cut_file_is_refused_by_its_first_fault(rt: HostRuntime) -> Result<(), Fail> {
+fn a_cut_file_is_refused_by_its_first_fault(rt: HostRuntime) {
+    let alloc = rt.alloc();
     for len in 0..368usize {
-        let bytes = damaged(rt.alloc(), &ELF_FUNCTION[..len], 4, b"\x01")?;
         let expected = if len < 6 { BAD } else { OTHER };
         assert!(rt;
-            is_refused_as(rt.alloc(), bytes, expected),
+            is_refused_as(
+                alloc,
+                damaged(alloc, &ELF_FUNCTION[..len], 4, b"\x01"),
+                expected
+            ),
             "of 32 bits at {len}"
         );
     }
-    Ok(())
 }

@@ -1,11 +1,10 @@
 //! Which names are taken: UTF-8 that a zero byte ends, wherever in the strings it begins.
 
-use crate::heads::is_refused_as;
+use crate::heads::{BAD, is_refused_as};
 use crate::made::{add_function, with_symbols};
-use bz_base::{Error, FindSymOpts, Symbolize};
+use bz_base::{FindSymOpts, Symbolize};
 use bz_elf::{ElfFile, laws};
 use std::alloc::{AllocError, Global};
-use std::test::Fail;
 
 /// A file with these strings, and with functions of one byte each, from the address 0 on, that have their
 /// names at these places.
@@ -77,13 +76,20 @@ fn is_named(alloc: Global, file: &ElfFile, addr: u64, name: &str) -> bool {
     }
 }
 
-/// Whether the functions of the file have these names.
-fn has_names(alloc: Global, bytes: Vec<u8>, names: &[&str]) -> bool {
-    let Ok(file) = ElfFile::from_bytes(alloc, bytes) else {
+/// Whether the bytes, if memory was left for them, are a file whose functions have these names.
+fn has_names(alloc: Global, bytes: Result<Vec<u8>, AllocError>, names: &[&str]) -> bool {
+    let Ok(bytes) = bytes else {
         return false;
     };
+    match ElfFile::from_bytes(alloc, bytes) {
+        Ok(file) => are_named(alloc, &file, names),
+        Err(_) => false,
+    }
+}
+
+fn are_named(alloc: Global, file: &ElfFile, names: &[&str]) -> bool {
     for (i, name) in names.iter().enumerate() {
-        if !is_named(alloc, &file, i as u64, name) {
+        if !is_named(alloc, file, i as u64, name) {
             return false;
         }
     }
@@ -91,26 +97,24 @@ fn has_names(alloc: Global, bytes: Vec<u8>, names: &[&str]) -> bool {
 }
 
 #[test]
-fn names_stand_where_characters_begin(rt: HostRuntime) -> Result<(), Fail> {
+fn names_stand_where_characters_begin(rt: HostRuntime) {
     laws::names_are_exact();
+    let alloc = rt.alloc();
     for (strings, places, names) in NAMES {
-        let bytes = with_names(rt.alloc(), strings, places)?;
         assert!(rt;
-            has_names(rt.alloc(), bytes, names),
+            has_names(alloc, with_names(alloc, strings, places), names),
             "{names:?} in {strings:?}"
         );
     }
-    Ok(())
 }
 
 #[test]
-fn no_name_stands_elsewhere(rt: HostRuntime) -> Result<(), Fail> {
+fn no_name_stands_elsewhere(rt: HostRuntime) {
+    let alloc = rt.alloc();
     for (strings, places) in NO_NAMES {
-        let bytes = with_names(rt.alloc(), strings, places)?;
         assert!(rt;
-            is_refused_as(rt.alloc(), bytes, Some(Error::InvalidData)),
+            is_refused_as(alloc, with_names(alloc, strings, places), BAD),
             "{places:?} in {strings:?}"
         );
     }
-    Ok(())
 }

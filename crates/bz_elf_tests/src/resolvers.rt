@@ -1,12 +1,12 @@
 //! Resolvers, and files in a cache.
 
-use bz_base::{Error, ErrorKind, FindSymOpts, Reason, Symbolize, TranslateFileOffset};
+use crate::symbols::{F, UNKNOWN, tells};
+use bz_base::{Error, ErrorKind, TranslateFileOffset};
 use bz_cache::FileCache;
 use bz_elf::{ElfFile, ElfResolver};
 use bz_files::MemFiles;
 use bz_samples::ELF_FUNCTION;
 use std::alloc::Global;
-use std::test::Fail;
 
 /// Puts a copy of the bytes at the path.
 fn put(alloc: Global, files: &mut MemFiles, path: &str, bytes: &[u8]) -> Result<(), Error> {
@@ -14,38 +14,19 @@ fn put(alloc: Global, files: &mut MemFiles, path: &str, bytes: &[u8]) -> Result<
     Ok(())
 }
 
-/// The example file, its front, the front of one of 32 bits, and a path that is denied.
-fn four_files(alloc: Global) -> Result<MemFiles, Error> {
-    let mut files = MemFiles::new(alloc, 0);
-    put(alloc, &mut files, "/e", &ELF_FUNCTION)?;
-    put(alloc, &mut files, "/cut", &ELF_FUNCTION[..4])?;
-    put(alloc, &mut files, "/other", b"\x7fELF\x01\x01")?;
-    files.deny(alloc, "/denied")?;
-    Ok(files)
-}
+/// The example file, its front, and the front of one of 32 bits.
+const FILES: &[(&str, &[u8])] = &[
+    ("/e", &ELF_FUNCTION),
+    ("/cut", b"\x7fELF"),
+    ("/other", b"\x7fELF\x01\x01"),
+];
 
-/// Whether the resolver finds `f` with the path as its module.
-fn finds_by_path(alloc: Global, resolver: &ElfResolver) -> bool {
-    match resolver.find_sym(alloc, 0x400088, &FindSymOpts::Basic) {
-        Ok(Ok(symbol)) => symbol.name == "f" && symbol.module == Some("/e"),
-        _ => false,
+/// Puts these files, beside a path that is denied.
+fn fill(alloc: Global, files: &mut MemFiles) -> Result<(), Error> {
+    for (path, bytes) in FILES {
+        put(alloc, files, path, bytes)?;
     }
-}
-
-/// Whether the resolver finds nothing behind `f`.
-fn ends(alloc: Global, resolver: &ElfResolver) -> bool {
-    match resolver.find_sym(alloc, 0x400090, &FindSymOpts::Basic) {
-        Ok(Err(reason)) => reason == Reason::UnknownAddr,
-        _ => false,
-    }
-}
-
-/// Whether the resolver's file, asked by itself, finds `f` in no module.
-fn finds_alone(alloc: Global, file: &ElfFile) -> bool {
-    match file.find_sym(alloc, 0x400088, &FindSymOpts::Basic) {
-        Ok(Ok(symbol)) => symbol.name == "f" && symbol.module.is_none(),
-        _ => false,
-    }
+    files.deny(alloc, "/denied")
 }
 
 /// Whether the resolver translates offsets as far as the segment reaches.
@@ -54,28 +35,39 @@ fn translates(resolver: &ElfResolver) -> bool {
         && resolver.file_offset_to_virt_offset(0x200) == Ok(None)
 }
 
-/// Whether the resolver answers as the file at `/e` does.
+/// Whether the resolver answers as the file at `/e` does, with the path as its module, which its file
+/// doesn't know when asked by itself.
 fn answers(alloc: Global, resolver: &ElfResolver) -> bool {
-    finds_by_path(alloc, resolver)
-        && ends(alloc, resolver)
-        && finds_alone(alloc, resolver.file().as_ref())
+    tells(alloc, resolver, 0x400088, "/e", &F)
+        && tells(alloc, resolver, 0x400090, "/e", &UNKNOWN)
+        && tells(alloc, resolver.file().as_ref(), 0x400088, "", &F)
         && translates(resolver)
 }
 
-#[test]
-fn the_path_of_a_file_is_the_module(rt: HostRuntime) -> Result<(), Fail> {
-    let mut files = four_files(rt.alloc())?;
-    let resolver = ElfResolver::open(rt.alloc(), &mut files, "/e")?;
-    assert!(rt; answers(rt.alloc(), &resolver));
-    Ok(())
+/// Whether a resolver of the file at `/e` answers.
+fn opened_answers(alloc: Global, files: &mut MemFiles) -> Result<bool, Error> {
+    fill(alloc, files)?;
+    let resolver = ElfResolver::open(alloc, files, "/e")?;
+    Ok(answers(alloc, &resolver))
 }
 
 #[test]
-fn the_path_of_bytes_is_the_module(rt: HostRuntime) -> Result<(), Fail> {
-    let bytes = Vec::from_slice(rt.alloc(), &ELF_FUNCTION)?;
-    let resolver = ElfResolver::from_bytes(rt.alloc(), "/e", bytes)?;
-    assert!(rt; answers(rt.alloc(), &resolver));
-    Ok(())
+fn the_path_of_a_file_is_the_module(rt: HostRuntime) {
+    let mut files = MemFiles::new(rt.alloc(), 0);
+    let answered = opened_answers(rt.alloc(), &mut files);
+    assert!(rt; answered == Ok(true));
+}
+
+/// Whether a resolver of the bytes answers.
+fn made_answers(alloc: Global) -> Result<bool, Error> {
+    let bytes = Vec::from_slice(alloc, &ELF_FUNCTION)?;
+    let resolver = ElfResolver::from_bytes(alloc, "/e", bytes)?;
+    Ok(answers(alloc, &resolver))
+}
+
+#[test]
+fn the_path_of_bytes_is_the_module(rt: HostRuntime) {
+    assert!(rt; made_answers(rt.alloc()) == Ok(true));
 }
 
 /// Paths, and how they are refused one after another, with a fault at the last one.
@@ -95,15 +87,23 @@ fn refuses(alloc: Global, files: &mut MemFiles, path: &str, kind: ErrorKind) -> 
     }
 }
 
-#[test]
-fn refusals_have_their_causes(rt: HostRuntime) -> Result<(), Fail> {
-    let alloc = rt.alloc();
-    let mut files = four_files(alloc)?;
+/// Whether all of them are refused so.
+fn refuses_each(alloc: Global, files: &mut MemFiles) -> Result<bool, Error> {
+    fill(alloc, files)?;
     files.fail_call(alloc, 5)?;
     for (path, kind) in REFUSED {
-        assert!(rt; refuses(alloc, &mut files, path, *kind), "at {path}");
+        if !refuses(alloc, files, path, *kind) {
+            return Ok(false);
+        }
     }
-    Ok(())
+    Ok(true)
+}
+
+#[test]
+fn refusals_have_their_causes(rt: HostRuntime) {
+    let mut files = MemFiles::new(rt.alloc(), 0);
+    let refused = refuses_each(rt.alloc(), &mut files);
+    assert!(rt; refused == Ok(true));
 }
 
 /// Whether the file that a cache shares translates an offset.
@@ -117,14 +117,15 @@ fn shares(alloc: Global, cache: &mut FileCache<ElfFile>, files: &mut MemFiles) -
 /// Whether a cache answers by the file, and refuses it once it is cut.
 fn keeps_files(alloc: Global, files: &mut MemFiles) -> bool {
     let mut cache = FileCache::<ElfFile>::builder().build(alloc);
-    shares(alloc, &mut cache, files)
+    fill(alloc, files).is_ok()
+        && shares(alloc, &mut cache, files)
         && put(alloc, files, "/e", &ELF_FUNCTION[..4]).is_ok()
         && cache.entry(alloc, files, "/e").is_err()
 }
 
 #[test]
-fn a_cache_keeps_files(rt: HostRuntime) -> Result<(), Fail> {
-    let mut files = four_files(rt.alloc())?;
-    assert!(rt; keeps_files(rt.alloc(), &mut files));
-    Ok(())
+fn a_cache_keeps_files(rt: HostRuntime) {
+    let mut files = MemFiles::new(rt.alloc(), 0);
+    let kept = keeps_files(rt.alloc(), &mut files);
+    assert!(rt; kept);
 }

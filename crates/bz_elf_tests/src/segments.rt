@@ -4,7 +4,6 @@ use bz_base::TranslateFileOffset;
 use bz_elf::ElfFile;
 use bz_samples::{ELF_FUNCTION, damaged};
 use std::alloc::{AllocError, Global};
-use std::test::Fail;
 
 /// Bytes that stand in the file from a place on, and the address of the byte at a file offset then.
 const TRANSLATED: &[(usize, &[u8], u64, Option<u64>)] = &[
@@ -24,27 +23,32 @@ const TRANSLATED: &[(usize, &[u8], u64, Option<u64>)] = &[
     (96, b"\xff\xff\xff\xff\xff\xff\xff\xff", u64::MAX - 1, None),
 ];
 
-/// Whether this is the address of the file's byte at an offset.
-fn translates(alloc: Global, bytes: Vec<u8>, offset: u64, expected: Option<u64>) -> bool {
+/// Whether the bytes, if memory was left for them, are a file whose byte at an offset has this address.
+fn translates(
+    alloc: Global,
+    bytes: Result<Vec<u8>, AllocError>,
+    offset: u64,
+    expected: Option<u64>,
+) -> bool {
+    let Ok(bytes) = bytes else {
+        return false;
+    };
     let Ok(file) = ElfFile::from_bytes(alloc, bytes) else {
         return false;
     };
-    match file.file_offset_to_virt_offset(offset) {
-        Ok(addr) => addr == expected,
-        Err(_) => false,
-    }
+    file.file_offset_to_virt_offset(offset) == Ok(expected)
 }
 
 #[test]
-fn offsets_go_through_the_segment(rt: HostRuntime) -> Result<(), Fail> {
+fn offsets_go_through_the_segment(rt: HostRuntime) {
+    let alloc = rt.alloc();
     for (place, new, offset, expected) in TRANSLATED {
-        let bytes = damaged(rt.alloc(), &ELF_FUNCTION, *place, new)?;
+        let bytes = damaged(alloc, &ELF_FUNCTION, *place, new);
         assert!(rt;
-            translates(rt.alloc(), bytes, *offset, *expected),
+            translates(alloc, bytes, *offset, *expected),
             "of {offset}, with others at {place}"
         );
     }
-    Ok(())
 }
 
 /// The same where symbol 0 is a second segment, of 0x400080 bytes from 0 on.
@@ -61,13 +65,12 @@ fn with_two(alloc: Global) -> Result<Vec<u8>, AllocError> {
 }
 
 #[test]
-fn offsets_go_through_the_first_segment(rt: HostRuntime) -> Result<(), Fail> {
+fn offsets_go_through_the_first_segment(rt: HostRuntime) {
+    let alloc = rt.alloc();
     for (offset, expected) in BY_TWO {
-        let bytes = with_two(rt.alloc())?;
         assert!(rt;
-            translates(rt.alloc(), bytes, *offset, *expected),
+            translates(alloc, with_two(alloc), *offset, *expected),
             "of {offset}"
         );
     }
-    Ok(())
 }

@@ -5,16 +5,15 @@ use bz_base::{FindSymOpts, Reason, ResolvedSym, Symbolize};
 use bz_elf::{ElfFile, laws};
 use bz_samples::{ELF_FUNCTION, damaged};
 use std::alloc::{AllocError, Global};
-use std::test::Fail;
 
 /// A symbol's name, start and size; or why there is none.
-type Told = (&'static str, u64, Option<usize>, Option<Reason>);
+pub(crate) type Told = (&'static str, u64, Option<usize>, Option<Reason>);
 
-const F: Told = ("f", 0x400080, Some(16), None);
+pub(crate) const F: Told = ("f", 0x400080, Some(16), None);
 
 const UNNAMED: Told = ("", 0x400080, Some(16), None);
 
-const UNKNOWN: Told = ("", 0, None, Some(Reason::UnknownAddr));
+pub(crate) const UNKNOWN: Told = ("", 0, None, Some(Reason::UnknownAddr));
 
 const MISSING: Told = ("", 0, None, Some(Reason::MissingSyms));
 
@@ -51,8 +50,16 @@ const ANSWERS: &[(usize, &[u8], u64, Told)] = &[
     (80, b"\xff\xff\xff\xff\xff\xff\xff\xff", 0, UNKNOWN),
 ];
 
-/// Whether this is what is found.
-fn is_told(found: &Result<ResolvedSym<'_>, Reason>, told: &Told) -> bool {
+/// Whether a module is this one, where an empty text stands for none.
+fn is_module(module: Option<&str>, want: &str) -> bool {
+    match module {
+        Some(module) => !module.is_empty() && module == want,
+        None => want.is_empty(),
+    }
+}
+
+/// Whether this is what is found, in this module.
+fn is_told(found: &Result<ResolvedSym<'_>, Reason>, module: &str, told: &Told) -> bool {
     let (name, start, size, reason) = told;
     match found {
         Ok(symbol) => {
@@ -60,38 +67,52 @@ fn is_told(found: &Result<ResolvedSym<'_>, Reason>, told: &Told) -> bool {
                 && symbol.name == *name
                 && symbol.addr == *start
                 && symbol.size == *size
+                && is_module(symbol.module, module)
         }
         Err(given) => *reason == Some(*given),
     }
 }
 
-/// Whether the file tells this of an address.
-fn tells(alloc: Global, file: &ElfFile, addr: u64, told: &Told) -> bool {
-    match file.find_sym(alloc, addr, &FindSymOpts::Basic) {
-        Ok(found) => is_told(&found, told),
+/// Whether a table tells this of an address, as of this module.
+pub(crate) fn tells<T: Symbolize>(
+    alloc: Global,
+    table: &T,
+    addr: u64,
+    module: &str,
+    told: &Told,
+) -> bool {
+    match table.find_sym(alloc, addr, &FindSymOpts::Basic) {
+        Ok(found) => is_told(&found, module, told),
         Err(_) => false,
     }
 }
 
-/// Whether the bytes are a file that tells this of an address.
-fn answers(alloc: Global, bytes: Vec<u8>, addr: u64, told: &Told) -> bool {
+/// Whether the bytes, if memory was left for them, are a file that tells this of an address.
+fn answers(alloc: Global, bytes: Result<Vec<u8>, AllocError>, addr: u64, told: &Told) -> bool {
+    let Ok(bytes) = bytes else {
+        return false;
+    };
     match ElfFile::from_bytes(alloc, bytes) {
-        Ok(file) => tells(alloc, &file, addr, told),
+        Ok(file) => tells(alloc, &file, addr, "", told),
         Err(_) => false,
     }
 }
 
 #[test]
-fn answers_by_the_nearest_symbol(rt: HostRuntime) -> Result<(), Fail> {
+fn answers_by_the_nearest_symbol(rt: HostRuntime) {
     laws::answers_start_before();
+    let alloc = rt.alloc();
     for (place, new, addr, told) in ANSWERS {
-        let bytes = damaged(rt.alloc(), &ELF_FUNCTION, *place, new)?;
         assert!(rt;
-            answers(rt.alloc(), bytes, *addr, told),
+            answers(
+                alloc,
+                damaged(alloc, &ELF_FUNCTION, *place, new),
+                *addr,
+                told
+            ),
             "at {addr}, with others at {place}"
         );
     }
-    Ok(())
 }
 
 /// Functions in the order of a file: place of the name, start, size.
@@ -127,10 +148,12 @@ fn with_functions(alloc: Global) -> Result<Vec<u8>, AllocError> {
 }
 
 #[test]
-fn symbols_of_one_start_answer_by_size_and_order(rt: HostRuntime) -> Result<(), Fail> {
-    let file = ElfFile::from_bytes(rt.alloc(), with_functions(rt.alloc())?)?;
+fn symbols_of_one_start_answer_by_size_and_order(rt: HostRuntime) {
+    let alloc = rt.alloc();
     for (addr, told) in BY_ORDER {
-        assert!(rt; tells(rt.alloc(), &file, *addr, told), "at {addr}");
+        assert!(rt;
+            answers(alloc, with_functions(alloc), *addr, told),
+            "at {addr}"
+        );
     }
-    Ok(())
 }

@@ -86,12 +86,29 @@ fn fails_as(alloc: Global, kind: ErrorKind, stat: FileError, read: FileError) ->
         && opened.faults() == u64::from(read == FileError::Fault)
 }
 
+/// Failures, with their answers at a look and at a read.
+const ANSWERS: [(ErrorKind, FileError, FileError); 4] = [
+    (
+        ErrorKind::NotFound,
+        FileError::NotFound,
+        FileError::NotFound,
+    ),
+    (
+        ErrorKind::PermissionDenied,
+        FileError::Denied,
+        FileError::Denied,
+    ),
+    (
+        ErrorKind::OutOfMemory,
+        FileError::Fault,
+        FileError::OutOfMemory,
+    ),
+    (ErrorKind::Other, FileError::Fault, FileError::Fault),
+];
+
 #[test]
 fn each_failure_of_the_system_has_its_answer(rt: HostRuntime) {
-    let alloc = rt.alloc();
-    let (absent, denied, fault) = (FileError::NotFound, FileError::Denied, FileError::Fault);
-    assert!(rt; fails_as(alloc, ErrorKind::NotFound, absent, absent));
-    assert!(rt; fails_as(alloc, ErrorKind::PermissionDenied, denied, denied));
-    assert!(rt; fails_as(alloc, ErrorKind::OutOfMemory, fault, FileError::OutOfMemory));
-    assert!(rt; fails_as(alloc, ErrorKind::Other, fault, fault));
+    for (kind, stat, read) in &ANSWERS {
+        assert!(rt; fails_as(rt.alloc(), *kind, *stat, *read), "not {read:?}");
+    }
 }

@@ -7,7 +7,6 @@ ghost use Rattle.bz_files.specs.World.{entry_at};
 use bz_base::Error;
 use bz_files::{FileError, Files, MemFiles, Stamp};
 use std::alloc::Global;
-use std::test::Fail;
 
 /// Whether the file at `/a` has this text.
 fn has_text(files: &mut MemFiles, alloc: Global, text: &str) -> bool {
@@ -17,10 +16,15 @@ fn has_text(files: &mut MemFiles, alloc: Global, text: &str) -> bool {
     }
 }
 
+/// Puts a text at `/a`. Gives its stamp, where the file is seen.
+fn put(files: &mut MemFiles, alloc: Global, text: &str) -> Result<Option<Stamp>, Error> {
+    files.put(alloc, "/a", text.as_bytes().to_vec(alloc)?)
+}
+
 /// Puts a text at `/a`, the same file at `/b`, and then another text at `/a` under the same stamp.
 /// Gives this stamp.
 fn put_two(files: &mut MemFiles, alloc: Global) -> Result<Option<Stamp>, Error> {
-    let Some(stamp) = files.put(alloc, "/a", b"one".to_vec(alloc)?)? else {
+    let Some(stamp) = put(files, alloc, "one")? else {
         return Ok(None);
     };
     let linked = files.link(alloc, "/b", "/a")?;
@@ -63,15 +67,13 @@ fn memory_files_hold_what_is_put(rt: HostRuntime) {
 /// What the file at `/a` holds in each world that is scheduled.
 const TEXTS: [&str; 3] = ["one", "two", "three"];
 
-/// Files whose first world is empty.
-fn scheduled(alloc: Global) -> Result<MemFiles, Error> {
-    let mut files = MemFiles::new(alloc, 7);
+/// Schedules these worlds, behind a first one that is empty.
+fn schedule(files: &mut MemFiles, alloc: Global) -> Result<(), Error> {
     for text in &TEXTS {
         files.schedule(alloc)?;
-        let bytes = text.as_bytes().to_vec(alloc)?;
-        files.put(alloc, "/a", bytes)?;
+        put(files, alloc, text)?;
     }
-    Ok(files)
+    Ok(())
 }
 
 /// Whether the scheduled worlds come into view one by one, and the last one stays.
@@ -93,14 +95,21 @@ fn is_absent(files: &mut MemFiles, path: &str) -> bool
     matches!(files.stat(path), Err(FileError::NotFound))
 }
 
+/// Whether the worlds are seen in turn, and an edit of the last one too.
+fn are_seen(files: &mut MemFiles, alloc: Global) -> Result<bool, Error> {
+    schedule(files, alloc)?;
+    // The last world is in view once all have come, and it is the one that edits change.
+    Ok(
+        is_absent(files, "/a")
+            && come_in_turn(files, alloc)
+            && files.remove("/a")
+            && is_absent(files, "/a"),
+    )
+}
+
 #[test]
-fn memory_worlds_come_in_turn(rt: HostRuntime) -> Result<(), Fail> {
-    let alloc = rt.alloc();
-    let mut files = scheduled(alloc)?;
-    let first_is_empty = is_absent(&mut files, "/a");
-    let in_turn = come_in_turn(&mut files, alloc);
-    // The last world is in view now, and it is the one that edits change.
-    let edited = files.remove("/a") && is_absent(&mut files, "/a");
-    assert!(rt; first_is_empty && in_turn && edited);
-    Ok(())
+fn memory_worlds_come_in_turn(rt: HostRuntime) {
+    let mut files = MemFiles::new(rt.alloc(), 7);
+    let seen = are_seen(&mut files, rt.alloc());
+    assert!(rt; seen == Ok(true));
 }

@@ -1,11 +1,12 @@
 //! Readers and writers in memory.
 
 use bz_files::{IoFault, MemIn, MemOut, TextIn, TextOut};
-use std::test::Fail;
+use std::alloc::Global;
 
 /// Whether a text comes in pieces of three bytes, with a failure in between.
 fn comes_in_pieces(input: &mut MemIn) -> bool {
     let mut piece = [0u8; 3];
+    input.fail_call(2);
     input.take(&mut piece) == Ok(3)
         && piece == *b"abc"
         && input.take(&mut piece) == Err(IoFault::Fault)
@@ -13,8 +14,17 @@ fn comes_in_pieces(input: &mut MemIn) -> bool {
         && input.faults() == 1
 }
 
+/// Whether a text comes so of bytes in memory.
+fn comes_of_bytes(alloc: Global) -> bool {
+    match b"abcde".to_vec(alloc) {
+        Ok(bytes) => comes_in_pieces(&mut MemIn::new(bytes)),
+        Err(_) => false,
+    }
+}
+
 /// Whether a text goes in pieces, with a failure in between.
 fn goes_in_pieces(output: &mut MemOut) -> bool {
+    output.fail_call(2);
     output.put(b"abc") == Ok(3)
         && output.put(b"abc") == Err(IoFault::Fault)
         && output.written() == b"abc".as_slice()
@@ -22,13 +32,7 @@ fn goes_in_pieces(output: &mut MemOut) -> bool {
 }
 
 #[test]
-fn memory_texts_go_in_pieces(rt: HostRuntime) -> Result<(), Fail> {
-    let mut input = MemIn::new(b"abcde".to_vec(rt.alloc())?);
-    input.fail_call(2);
-    let came = comes_in_pieces(&mut input);
-    let mut output = MemOut::new(rt.alloc());
-    output.fail_call(2);
-    let went = goes_in_pieces(&mut output);
-    assert!(rt; came && went);
-    Ok(())
+fn memory_texts_go_in_pieces(rt: HostRuntime) {
+    let went = goes_in_pieces(&mut MemOut::new(rt.alloc()));
+    assert!(rt; went && comes_of_bytes(rt.alloc()));
 }

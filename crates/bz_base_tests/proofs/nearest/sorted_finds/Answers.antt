@@ -1,4 +1,4 @@
-use Rattle.bz_base.proofs.StartsLemmas.{sorted_never_descends}
+use Rattle.bz_search.proofs.StartsLemmas.{sorted_never_descends}
 use Rattle.bz_base_tests.proofs.nearest.sorted_finds.Goals as goal
 
 pub from_sorted-starts-requires : goal.from_sorted-starts-requires
