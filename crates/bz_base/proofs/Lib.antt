@@ -13,3 +13,6 @@ pub use Rattle.bz_text.proofs.LoadLemmas
 pub use Rattle.bz_text.proofs.NumberLemmas
 pub mod EqualityLemmas
 pub mod HashLemmas
+pub mod ListLemmas
+pub mod SeenLaws
+pub mod SeenLemmas

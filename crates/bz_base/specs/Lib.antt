@@ -21,3 +21,4 @@ pub mod Lent
 pub mod ReasonText
 pub mod Refusals
 pub mod Resolution
+pub mod SeenFrom

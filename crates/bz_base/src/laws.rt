@@ -1,8 +1,9 @@
 //! What holds of this crate's definitions.
 
-ghost use Rattle.std.specs.Prelude.{◌≡◌, ◌↔◌, IsTrue};
-ghost use Rattle.bz_base.specs.Answer.{site_of, call_of, symbol_of, resolved_of, reading};
+ghost use Rattle.std.specs.Prelude.{◌≡◌, ◌↔◌, ℕ, List, Option, Some, IsTrue};
+ghost use Rattle.bz_base.specs.Answer.{Call, Site, site_of, call_of, symbol_of, resolved_of, reading};
 ghost use Rattle.bz_base.specs.InputKind.{payload, MapsTo};
+ghost use Rattle.bz_base.specs.SeenFrom.{IsSeen, seen_from};
 ghost use Rattle.bz_base.specs.declared.error.Error.{Error};
 ghost use Rattle.bz_base.specs.declared.error.ErrorKind.{ErrorKind};
 ghost use Rattle.bz_base.specs.declared.input.Input.{Input};
@@ -78,4 +79,11 @@ pub fn answers_are_equal_by_reading()
     ensures symbols { (a b : Sym) → IsTrue (⟦<Sym<'static> as PartialEq>⟧.eq a b) ↔ (symbol_of a ≡ symbol_of b) }
     ensures resolved { (a b : ResolvedSym) → IsTrue (⟦<ResolvedSym<'static> as PartialEq>⟧.eq a b) ↔ (resolved_of a ≡ resolved_of b) }
     ensures answers { (a b : Symbolized) → IsTrue (⟦<Symbolized<'static> as PartialEq>⟧.eq a b) ↔ (reading a ≡ reading b) }
+{}
+
+/// What is seen from outside calls of any kind has their sites and names, each moved by one: the
+/// code lies at the outermost call, each call at the next one, and the innermost at the line.
+pub fn calls_are_rotated<C>()
+    ensures { (site : C → Option Site) (name : C → Option (List ℕ)) (line : Option Site) (calls : List C) (seen : Site × List Call) →
+        (seen_from site name line calls ≡ Some seen) ↔ IsSeen site name line calls seen }
 {}

@@ -11,4 +11,3 @@ pub mod PlainLemmas
 pub mod ProbeLemmas
 pub mod PublicLemmas
 pub mod RunFrontLemmas
-pub mod SeenLaws

@@ -1,11 +1,12 @@
 -- The plain answer of a table at an address, field by field, and the answers to a batch of addresses.
-use Rattle.std.specs.Prelude.{◌≡◌, ℕ, ◌-◌, nat_le, ◌&&◌, Bool, true, false, if◌then◌else◌, List, [], ◌∷◌, ◌++◌, map, Option, Some, None, option_map, Result, Ok, Err}
+use Rattle.std.specs.Prelude.{ℕ, ◌-◌, nat_le, ◌&&◌, Bool, true, false, if◌then◌else◌, List, [], ◌∷◌, map, Option, Some, None, option_map, Result, Ok, Err}
 use Rattle.std.specs.List.{list_any}
 use Rattle.bz_base.specs.Answer.{Site, Call, Symbol, Answer, in_batch}
 use Rattle.bz_base.specs.Answer.Answer.{Known, Unknown}
 use Rattle.bz_base.specs.Chain.{around, chain, inner}
 use Rattle.bz_base.specs.Nearest.{nearest_covering}
 use Rattle.bz_base.specs.Path.{split}
+use Rattle.bz_base.specs.SeenFrom as base
 use Rattle.bz_base.specs.declared.error.Error.{Error}
 use Rattle.bz_base.specs.declared.error.Error.TheVariants as errors
 use Rattle.bz_base.specs.declared.types.FindSymOpts.{FindSymOpts}
@@ -66,25 +67,25 @@ calls_asked _ addr inlinees = []
 abbrev pub site_in : Table → ℕ → ℕ → Option Site
 site_in table file line = option_map (λ cut. record { dir = cut.0; file = cut.1; line = Some line; column = None }) (name_for file table.files >>= split)
 
--- code that lies at a place, inside calls, seen from outside a further call: it lies at that call, and inside the call at the
--- place
+-- where a call stands
+abbrev pub call_site : Table → Inlinee → Option Site
+call_site table call = site_in table call.call_file call.call_line
+
+-- the name of what is called
+abbrev pub call_name : Table → Inlinee → Option (List ℕ)
+call_name table call = name_for call.origin table.origins
+
+-- code that lies at a place, inside calls, seen from outside a further call
 abbrev pub seen_outside : Table → Inlinee → Site × List Call → Option (Site × List Call)
-seen_outside table call inner =
-    name_for call.origin table.origins >>= (λ name.
-    option_map (λ site. (site, record { name = name; site = Some inner.0 } ∷ inner.1)) (site_in table call.call_file call.call_line))
+seen_outside table = base.seen_outside (call_site table) (call_name table)
 
 -- where the code of a line record lies, seen from outside the calls around it; none if something isn't known
 abbrev pub seen_from : Table → List Inlinee → SourceLine → Option (Site × List Call)
-seen_from table [] line = option_map (λ site. (site, [])) (site_in table line.file line.line)
-seen_from table (call ∷ calls) line = seen_from table calls line >>= seen_outside table call
+seen_from table calls line = base.seen_from (call_site table) (call_name table) (site_in table line.file line.line) calls
 
--- the same in whole lists: the sites are those of the calls, and then the line's; the code lies at the first of them, and each
--- call has its name and the site after its own
-pub record IsSeen (table : Table) (calls : List Inlinee) (line : SourceLine) (seen : Site × List Call) : Type 0 where
-  pub inner : List Site
-  pub sites_are : map (λ site. Some site) (seen.0 ∷ inner) ≡ map (λ call. site_in table call.call_file call.call_line) calls ++ site_in table line.file line.line ∷ []
-  pub names_are : map (λ call. Some call.name) seen.1 ≡ map (λ call. name_for call.origin table.origins) calls
-  pub inner_are : map (λ call. call.site) seen.1 ≡ map (λ site. Some site) inner
+-- the same in whole lists
+abbrev pub IsSeen : Table → List Inlinee → SourceLine → Site × List Call → Type 0
+IsSeen table calls line = base.IsSeen (call_site table) (call_name table) (site_in table line.file line.line) calls
 
 -- what isn't known refuses the address
 abbrev pub by_seen : Option (Site × List Call) → Result Placed Error

@@ -12,7 +12,9 @@ ghost use Rattle.bz_breakpad_table.specs.Publics.{IsPublicTable};
 ghost use Rattle.bz_breakpad_table.specs.Sorted.{StandsFor, starts_of};
 
 use crate::found::FoundRecord;
-use bz_base::{Addr, Place, Result, Starts, Steps, covering_at, nearest, nearest_each, place_found};
+use bz_base::{
+    Addr, Place, Result, Starts, Steps, covering_at, nearest, nearest_each, place_found,
+};
 use bz_breakpad_table::{FunctionTable, KeptTable, PublicTable};
 use std::alloc::{AllocError, Global};
 use std::sync::ledger::Ledger;

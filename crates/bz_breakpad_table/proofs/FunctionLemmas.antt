@@ -3,6 +3,7 @@ use Rattle.std.proofs.Common.{◌≡◌, ℕ, List, [], ◌∷◌, ◌++◌, len
 use Rattle.std.specs.List.{AllByRecursion, flat_map, slice_range}
 use Rattle.std.proofs.lemmas.List.{map-append}
 use Rattle.bz_base.specs.Nearest.{IsTable}
+use Rattle.bz_base.proofs.ListLemmas.{all_and_one}
 use Rattle.bz_base.proofs.ViewLemmas.{table_seen}
 use Rattle.bz_breakpad_table.specs.CallRanges.{call_start}
 use Rattle.bz_breakpad_table.specs.Kept.{AreCallsAt, AreEnded, AreNested, IsNested, kept_functions, IsLonger, IsPart, LinesFit, LinesFitSoFar, FunctionFits, FunctionsSoFar, kept_call, kept_lines, kept_function, current_function, records_of, records_so_far}
@@ -19,7 +20,7 @@ use Rattle.bz_breakpad_table.specs.declared.types.KeptFunction.{KeptFunction}
 use Rattle.bz_breakpad_table.specs.declared.types.LineRecords.{LineRecords}
 use Rattle.bz_breakpad_table.specs.declared.types.LineRecords.TheVariants as records
 use Rattle.bz_breakpad_table.specs.declared.types.Part.{Part}
-use Rattle.bz_breakpad_table.proofs.KeptLemmas.{all_and_one, all_weaker, last_part, part_more}
+use Rattle.bz_breakpad_table.proofs.KeptLemmas.{all_weaker, last_part, part_more}
 use Rattle.bz_breakpad_table.proofs.LineKeyLemmas.{itself}
 
 -- a part of a list is one of a longer list

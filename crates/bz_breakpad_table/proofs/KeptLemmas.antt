@@ -12,11 +12,6 @@ use Rattle.bz_breakpad_table.specs.Kept.{IsPart, IsTextAt, IsNameAt, NamesSoFar,
 use Rattle.bz_breakpad_lines.specs.Names.{with_name}
 use Rattle.bz_breakpad_table.specs.declared.types.Part.{Part}
 
--- what holds of each, and of one more, holds of all
-pub all_and_one : {A : Type 0} (P : A → Type 0) (xs : List A) (x : A) → AllByRecursion P xs → P x → AllByRecursion P (xs ++ x ∷ [])
-all_and_one P [] x all one = (one, tt)
-all_and_one P (y ∷ xs) x all one = (all.0, all_and_one P xs x all.1 one)
-
 -- what holds of each of two lists holds of each of both side by side
 pub all_beside : {A : Type 0} (P : A → Type 0) (xs ys : List A) → AllByRecursion P xs → AllByRecursion P ys → AllByRecursion P (xs ++ ys)
 all_beside P [] ys all others = others

@@ -7,6 +7,7 @@ use Rattle.std.proofs.lemmas.List.Elements.{filter_map-append}
 use Rattle.std.proofs.Math.Seq.{drop-append_seam}
 use Rattle.bz_base.specs.Byte.{line_feed, HasNo}
 use Rattle.bz_base.specs.Line.{all_lines, before_ended, ended, ended_lines}
+use Rattle.bz_base.proofs.ListLemmas.{all_and_one}
 use Rattle.bz_breakpad_lines.specs.Choice.{body_at}
 use Rattle.bz_breakpad_table.specs.Kept.{AreListed, AreListedTo, IsLineKey, IsLonger, IsOpenRunAt, kept_lines, records_so_far, text_at}
 use Rattle.bz_breakpad_lines.specs.LineStarts.{ReadsLine}
@@ -21,7 +22,6 @@ use Rattle.bz_breakpad_table.specs.declared.standing.LinesSoFar.TheVariants as s
 use Rattle.bz_breakpad_lines.specs.declared.start_text.StartText.{StartText}
 use Rattle.bz_breakpad_table.specs.declared.types.LineKey.{LineKey}
 use Rattle.bz_breakpad_table.specs.declared.types.Part.{Part}
-use Rattle.bz_breakpad_table.proofs.KeptLemmas.{all_and_one}
 use Rattle.bz_breakpad_lines.proofs.LineFrontLemmas.{line_front_of}
 use Rattle.bz_breakpad_table.proofs.RunLemmas.{front_front}
 

@@ -103,12 +103,7 @@ impl FunctionsReading {
 
     /// Keeps the line record at a place in the bytes, if it is read quickly.
     #[inline(always)]
-    pub fn line(
-        &mut self,
-        bytes: &[u8],
-        place: usize,
-        line: QuickLine,
-    ) -> Result<(), AllocError>
+    pub fn line(&mut self, bytes: &[u8], place: usize, line: QuickLine) -> Result<(), AllocError>
         requires { place + line.len ≤ length bytes.now }
         ensures { OnOk result ((closed : List Function) (current : Option Function) (rest : List ℕ) (is : IsQuickLine rest line) →
             drop place bytes.now ≡ rest → FunctionsSoFar bytes.now self.old closed current →

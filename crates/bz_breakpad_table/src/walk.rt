@@ -17,7 +17,10 @@ use crate::reading::{KeptReading, name_part};
 use crate::standing::LinesSoFar;
 use crate::types::Part;
 use bz_base::{Error, Result, next_line};
-use bz_breakpad_lines::{Context, Range, RecordLine, Shown, Stops, TopLine, body, cfi_line, func_line, inline_line, next_on_run, quick_line, read_record};
+use bz_breakpad_lines::{
+    Context, Range, RecordLine, Shown, Stops, TopLine, body, cfi_line, func_line, inline_line,
+    next_on_run, quick_line, read_record,
+};
 use std::alloc::Global;
 
 /// The walk, at the end of a line.

@@ -9,8 +9,6 @@ pub mod InlineReaderLemmas
 pub mod InlineSpellingLemmas
 pub mod InlineStepLemmas
 pub mod InlineWalkLemmas
-pub mod JoiningLaws
-pub mod JoiningLemmas
 pub mod LineTableLaws
 pub mod LineTableLemmas
 pub mod PlainTextLemmas

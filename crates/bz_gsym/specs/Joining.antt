@@ -1,7 +1,8 @@
 -- What a symbol's data entries say of an address, and how a line table's state and the frames of an inline tree are joined to a
 -- name, a place in the source code and the calls that were inlined there.
-use Rattle.std.specs.Prelude.{◌≡◌, ℕ, ◌==◌, ◌&&◌, Bool, false, is_none, if◌then◌else◌, List, [], ◌∷◌, ◌++◌, length, map, Option, Some, None, option_map, slice_get}
+use Rattle.std.specs.Prelude.{ℕ, ◌==◌, ◌&&◌, Bool, false, is_none, if◌then◌else◌, List, [], ◌∷◌, length, Option, Some, None, option_map, slice_get}
 use Rattle.bz_base.specs.Answer.{Call, Site}
+use Rattle.bz_base.specs.SeenFrom as base
 use Rattle.bz_base.specs.declared.types.FindSymOpts.{FindSymOpts}
 use Rattle.bz_base.specs.declared.types.FindSymOpts.TheVariants as asked
 use Rattle.bz_gsym.specs.Entries.{Entry, inline_tree, line_table}
@@ -57,26 +58,25 @@ site_in bytes index line = do
   name ← string_at (strings bytes) file.filename
   Some (record { dir = Some dir; file = name; line = Some line; column = None })
 
--- code that lies at a place, inside calls, seen from outside a further call: it lies at that call, and inside the call at the
--- place
+-- where a call stands
+abbrev pub call_site : List ℕ → Frame → Option Site
+call_site bytes frame = site_in bytes frame.call_file frame.call_line
+
+-- the name of what is called
+abbrev pub call_name : List ℕ → Frame → Option (List ℕ)
+call_name bytes frame = string_at (strings bytes) frame.name
+
+-- code that lies at a place, inside calls, seen from outside a further call
 abbrev pub seen_outside : List ℕ → Frame → Site × List Call → Option (Site × List Call)
-seen_outside bytes frame inner = do
-  name ← string_at (strings bytes) frame.name
-  site ← site_in bytes frame.call_file frame.call_line
-  Some (site, record { name = name; site = Some inner.0 } ∷ inner.1)
+seen_outside bytes = base.seen_outside (call_site bytes) (call_name bytes)
 
 -- where the code of a line table's state lies, seen from outside the calls around it; none if something isn't in the format
 abbrev pub seen_from : List ℕ → LineTableRow → List Frame → Option (Site × List Call)
-seen_from bytes row [] = option_map (λ site. (site, [])) (site_in bytes row.file_idx row.file_line)
-seen_from bytes row (frame ∷ frames) = seen_from bytes row frames >>= seen_outside bytes frame
+seen_from bytes row = base.seen_from (call_site bytes) (call_name bytes) (site_in bytes row.file_idx row.file_line)
 
--- the same in whole lists: the sites are those of the calls, and then the line's; the code lies at the first of them, and each
--- call has its name and the site after its own
-pub record IsSeen (bytes : List ℕ) (row : LineTableRow) (frames : List Frame) (seen : Site × List Call) : Type 0 where
-  pub inner : List Site
-  pub sites_are : map (λ site. Some site) (seen.0 ∷ inner) ≡ map (λ frame. site_in bytes frame.call_file frame.call_line) frames ++ site_in bytes row.file_idx row.file_line ∷ []
-  pub names_are : map (λ call. Some call.name) seen.1 ≡ map (λ frame. string_at (strings bytes) frame.name) frames
-  pub inner_are : map (λ call. call.site) seen.1 ≡ map (λ site. Some site) inner
+-- the same in whole lists
+abbrev pub IsSeen : List ℕ → LineTableRow → List Frame → Site × List Call → Type 0
+IsSeen bytes row = base.IsSeen (call_site bytes) (call_name bytes) (site_in bytes row.file_idx row.file_line)
 
 -- the name that the symbol has at an address, and where that lies in the source code
 pub record Placed : Type 0 where

@@ -1,11 +1,11 @@
 use Rattle.std.proofs.Common.{◌≡◌, ◌<◌, [], ◌∷◌, ◌++◌, None, length, map, ap, subst, sym, ◌∙◌, arith}
 use Rattle.std.specs.List.{AllByRecursion, slice_index}
 use Rattle.std.proofs.lemmas.List.{length-append, map-append}
+use Rattle.bz_base.proofs.ListLemmas.{all_and_one}
 use Rattle.bz_breakpad.specs.Found.{AreFunctionsFor, AreUncovered}
 use Rattle.bz_breakpad.specs.Plain.{function_at}
 use Rattle.bz_breakpad.specs.declared.found.FoundRecord.TheVariants as found
 use Rattle.bz_breakpad.proofs.FoundLemmas.{function_more, left_more}
-use Rattle.bz_breakpad_table.proofs.KeptLemmas.{all_and_one}
 use Rattle.bz_breakpad.proofs.find.functions_found.Goals.{in-Some+in_ok-push-in-Some, in-None+in_ok-push-in-None+in_ok-push-in-None-2+in_ok-push-in-None-3}
 use Rattle.bz_breakpad.proofs.find.functions_found.Goals as goal
 

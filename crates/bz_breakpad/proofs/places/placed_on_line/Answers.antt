@@ -1,14 +1,14 @@
 use Rattle.std.proofs.Common.{ap, sym}
+use Rattle.bz_base.proofs.SeenLemmas.{line_unknown}
 use Rattle.bz_breakpad_table.specs.Kept.{function_seen}
 use Rattle.bz_breakpad_lines.specs.Told.{line_seen}
 use Rattle.bz_breakpad.specs.Plain.{by_seen, calls_asked}
-use Rattle.bz_breakpad.proofs.PlacedLemmas.{line_unknown}
 use Rattle.bz_breakpad.proofs.places.placed_on_line.Goals as goal
 
 pub returns-in_default-clause-placed : goal.returns-in_default-clause-placed
 returns-in_default-clause-placed c table stands =
     let calls = calls_asked c.args.opts.now c.args.addr (function_seen c.args.bytes.now c.args.kept.now.code c.args.function.now).inlinees in
-    ap by_seen (line_unknown table calls (line_seen c.args.line) (c.in_default.ensures.site table stands))
+    ap by_seen (line_unknown _ _ _ calls (c.in_default.ensures.site table stands))
 
 pub returns-clause-placed : goal.returns-clause-placed
 returns-clause-placed c table stands =

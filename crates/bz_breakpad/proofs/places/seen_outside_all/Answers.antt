@@ -3,11 +3,11 @@ use Rattle.std.specs.Prelude.{reverse}
 use Rattle.std.specs.Borrow.{Bor}
 use Rattle.bz_base.specs.Answer.{Call, call_of, site_of}
 use Rattle.bz_base.specs.Lent.{IsLentCall}
+use Rattle.bz_base.proofs.ListLemmas.{all_and_one, all_reversed, map_reversed, reverse_one}
+use Rattle.bz_base.proofs.SeenLemmas.{seen_none, seen_step}
 use Rattle.bz_breakpad_table.specs.Kept.{kept_call}
 use Rattle.bz_breakpad.specs.Plain.{by_seen}
 use Rattle.bz_breakpad_table.specs.declared.types.CallRange.{CallRange}
-use Rattle.bz_breakpad_table.proofs.KeptLemmas.{all_and_one}
-use Rattle.bz_breakpad.proofs.PlacedLemmas.{all_reversed, map_reversed, reverse_one, seen_none, seen_step}
 use Rattle.bz_breakpad.proofs.places.seen_outside_all.Goals as goal
 
 pub returns-in_default-clause-placed : goal.returns-in_default-clause-placed
@@ -16,8 +16,8 @@ returns-in_default-clause-placed c table line stands known =
     let calls = c.args.calls.now in
     let inlined = reverse (map call_of c.loop-left.inlined.items) in
     let none = c.in_default.ensures.seen table inlined stands in
-    ap by_seen (seen_none table line view (c.loop-left.left - 1) calls
-    (seen_step table line view calls c.loop-left.left _ (site_of c.loop-left.site, inlined) (omega arith) c.loop-left.invariant.within (c.loop-left.invariant.seen table line stands known) ∙ sym none))
+    ap by_seen (seen_none _ _ _ view (c.loop-left.left - 1) calls
+    (seen_step _ _ _ view calls c.loop-left.left _ (site_of c.loop-left.site, inlined) (omega arith) c.loop-left.invariant.within (c.loop-left.invariant.seen table line stands known) ∙ sym none))
 
 pub loop-left-preserved : goal.loop-left-preserved
 loop-left-preserved c =
@@ -28,7 +28,7 @@ loop-left-preserved c =
     record {
       within = omega (arith, c.loop-left.invariant.within);
       seen = λ table line stands known.
-          seen_step table line view calls c.loop-left.left _ (site_of c.loop-left.site, inlined) (omega arith) c.loop-left.invariant.within (c.loop-left.invariant.seen table line stands known)
+          seen_step _ _ _ view calls c.loop-left.left _ (site_of c.loop-left.site, inlined) (omega arith) c.loop-left.invariant.within (c.loop-left.invariant.seen table line stands known)
           ∙ sym (c.in-Some.ensures.seen table inlined stands)
           ∙ ap (λ (l : List Call). Some (site_of c.in-Some.outer, l)) (sym (ap (λ items. reverse (map call_of items)) c.in_ok-push.ensures.items ∙ reverse_one call_of old c.in-Some.call));
       site = c.in-Some.ensures.lent_place;

@@ -2,21 +2,22 @@ use Rattle.std.proofs.Common.{◌≡◌, ◌-◌, Some, List, map, sym, ap, arit
 use Rattle.std.specs.Prelude.{reverse}
 use Rattle.bz_base.specs.Answer.{Call, call_of}
 use Rattle.bz_base.specs.Lent.{IsLentCall}
+use Rattle.bz_base.proofs.ListLemmas.{all_and_one, all_reversed, map_reversed, reverse_one}
+use Rattle.bz_base.proofs.SeenLemmas.{line_unknown, seen_none, seen_step}
 use Rattle.bz_gsym.specs.Joining.{at_site}
 use Rattle.bz_gsym.specs.JoiningSeen.{line_seen}
 use Rattle.bz_gsym.specs.Seen.{frame_seen, frames_seen}
-use Rattle.bz_gsym.proofs.JoiningLemmas.{all_and_one, all_reversed, line_unknown, map_reversed, reverse_one, seen_none, seen_step}
 use Rattle.bz_gsym.proofs.places.seen_from.Goals as goal
 
 pub returns-in_default-clause-refusal : goal.returns-in_default-clause-refusal
-returns-in_default-clause-refusal c = line_unknown c.args.context.now c.args.row (frames_seen c.args.calls.now) c.in_default.ensures
+returns-in_default-clause-refusal c = line_unknown _ _ _ (frames_seen c.args.calls.now) c.in_default.ensures
 
 pub returns-in_default-seen_outside-clause-refusal : goal.returns-in_default-seen_outside-clause-refusal
 returns-in_default-seen_outside-clause-refusal c =
     let calls = c.args.calls.now in
     let inlined = reverse (map call_of c.loop-left.inlined.items) in
-    seen_none c.args.context.now c.args.row frame_seen (c.loop-left.left - 1) calls
-    (seen_step c.args.context.now c.args.row frame_seen calls c.loop-left.left _ (line_seen c.loop-left.site, inlined) (omega arith) c.loop-left.invariant.within c.loop-left.invariant.seen
+    seen_none _ _ _ frame_seen (c.loop-left.left - 1) calls
+    (seen_step _ _ _ frame_seen calls c.loop-left.left _ (line_seen c.loop-left.site, inlined) (omega arith) c.loop-left.invariant.within c.loop-left.invariant.seen
     ∙ sym (c.in_default-seen_outside.ensures.seen inlined))
 
 pub loop-left-preserved : goal.loop-left-preserved
@@ -27,7 +28,7 @@ loop-left-preserved c =
     record {
       within = omega (arith, c.loop-left.invariant.within);
       seen =
-          seen_step c.args.context.now c.args.row frame_seen calls c.loop-left.left _ (line_seen c.loop-left.site, inlined) (omega arith) c.loop-left.invariant.within c.loop-left.invariant.seen
+          seen_step _ _ _ frame_seen calls c.loop-left.left _ (line_seen c.loop-left.site, inlined) (omega arith) c.loop-left.invariant.within c.loop-left.invariant.seen
           ∙ sym (c.in-Some-seen_outside.ensures.seen inlined)
           ∙ ap (λ (l : List Call). Some (line_seen c.in-Some-seen_outside.outer, l)) (sym (ap (λ items. reverse (map call_of items)) c.in_ok-push.ensures.items ∙ reverse_one call_of old c.in-Some-seen_outside.call));
       calls = rw c.in_ok-push.ensures.items (all_and_one IsLentCall old c.in-Some-seen_outside.call c.loop-left.invariant.calls c.in-Some-seen_outside.ensures.lent);

@@ -6,9 +6,9 @@ use Rattle.bz_base.specs.Lent.{IsLent}
 use Rattle.bz_base.specs.declared.error.Error.{Error}
 use Rattle.bz_base.specs.declared.types.FindSymOpts.{FindSymOpts}
 use Rattle.bz_base.specs.declared.types.Symbolized.{Symbolized}
+use Rattle.bz_base.proofs.ListLemmas.{all_and_one}
 use Rattle.bz_breakpad.specs.Plain.{batch, plain}
 use Rattle.bz_breakpad_lines.specs.Table.{Table}
-use Rattle.bz_breakpad_table.proofs.KeptLemmas.{all_and_one}
 use Rattle.bz_breakpad.proofs.PlainLemmas.{all_taken}
 use Rattle.bz_breakpad.proofs.lookups.FoundAddrs.answers.Goals.{in-Ok, in-Err+in_ok-in_batch-in-Err}
 use Rattle.bz_breakpad.proofs.lookups.FoundAddrs.answers.Goals as goal
