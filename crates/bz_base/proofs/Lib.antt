@@ -13,6 +13,8 @@ pub use Rattle.bz_text.proofs.LoadLemmas
 pub use Rattle.bz_text.proofs.NumberLemmas
 pub mod EqualityLemmas
 pub mod HashLemmas
+pub mod LentLemmas
 pub mod ListLemmas
+pub mod PidLemmas
 pub mod SeenLaws
 pub mod SeenLemmas

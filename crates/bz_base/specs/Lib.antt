@@ -18,6 +18,7 @@ pub mod Answer
 pub mod ErrorNames
 pub mod InputKind
 pub mod Lent
+pub mod Pid
 pub mod ReasonText
 pub mod Refusals
 pub mod Resolution

@@ -1,12 +1,15 @@
 //! What holds of this crate's definitions.
 
-ghost use Rattle.std.specs.Prelude.{◌≡◌, ◌↔◌, ℕ, List, Option, Some, IsTrue};
+ghost use Rattle.std.specs.Prelude.{◌≡◌, ◌↔◌, ◌<◌, ◌^◌, ℕ, List, Option, Some, IsTrue};
+ghost use Rattle.std.specs.declared.cmp.Ordering.TheVariants.{Equal};
 ghost use Rattle.bz_base.specs.Answer.{Call, Site, site_of, call_of, symbol_of, resolved_of, reading};
 ghost use Rattle.bz_base.specs.InputKind.{payload, MapsTo};
+ghost use Rattle.bz_base.specs.Pid.{number_of, pid_order};
 ghost use Rattle.bz_base.specs.SeenFrom.{IsSeen, seen_from};
 ghost use Rattle.bz_base.specs.declared.error.Error.{Error};
 ghost use Rattle.bz_base.specs.declared.error.ErrorKind.{ErrorKind};
 ghost use Rattle.bz_base.specs.declared.input.Input.{Input};
+ghost use Rattle.bz_base.specs.declared.pid.Pid.{Pid};
 ghost use Rattle.bz_base.specs.declared.types.CodeInfo.{CodeInfo};
 ghost use Rattle.bz_base.specs.declared.types.InlinedFn.{InlinedFn};
 ghost use Rattle.bz_base.specs.declared.types.Reason.{Reason};
@@ -18,6 +21,7 @@ ghost use Rattle.bz_base.specs.declared.types.Symbolized.{Symbolized};
 
 use crate::error::{Error, ErrorKind};
 use crate::input::Input;
+use crate::pid::Pid;
 use crate::types::{CodeInfo, InlinedFn, Reason, ResolvedSym, SrcLang, Sym, SymType, Symbolized};
 use std::hash::Hash;
 
@@ -28,6 +32,17 @@ pub fn variants_are_equal_alone()
     ensures error_kinds { (a b : ErrorKind) → IsTrue (⟦<ErrorKind as PartialEq>⟧.eq a b) ↔ (a ≡ b) }
     ensures symbol_types { (a b : SymType) → IsTrue (⟦<SymType as PartialEq>⟧.eq a b) ↔ (a ≡ b) }
     ensures languages { (a b : SrcLang) → IsTrue (⟦<SrcLang as PartialEq>⟧.eq a b) ↔ (a ≡ b) }
+{}
+
+/// Processes are equal exactly where they are the same, which is where they are made from the same
+/// number. The own process comes before all others, which go by their ids, and the order ties exactly
+/// there.
+pub fn pid_order_agrees()
+    ensures equal { (a b : Pid) → IsTrue (⟦<Pid as PartialEq>⟧.eq a b) ↔ (a ≡ b) }
+    ensures numbers { (a b : Pid) → (number_of a ≡ number_of b) ↔ (a ≡ b) }
+    ensures order { (a b : Pid) → ⟦<Pid as Ord>⟧.cmp a b ≡ pid_order a b }
+    ensures tie { (a b : Pid) → (⟦<Pid as Ord>⟧.cmp a b ≡ Equal) ↔ (a ≡ b) }
+    ensures partial { (a b : Pid) → ⟦<Pid as PartialOrd>⟧.partial_cmp a b ≡ Some (⟦<Pid as Ord>⟧.cmp a b) }
 {}
 
 /// Inputs are equal exactly where they are of one kind and their payloads are equal.
@@ -47,6 +62,12 @@ pub fn hashes_agree()
     ensures reasons { (a b : Reason) → IsTrue (⟦<Reason as PartialEq>⟧.eq a b) ↔ (⟦<Reason as Hash>⟧.hash_input a ≡ ⟦<Reason as Hash>⟧.hash_input b) }
 {}
 
+/// Processes are fed to a hasher alike exactly where they are equal.
+pub fn pid_hash_agrees()
+    ensures alike { (a b : Pid) → a ≡ b → ⟦<Pid as Hash>⟧.hash_input a ≡ ⟦<Pid as Hash>⟧.hash_input b }
+    ensures apart { (a b : Pid) → number_of a < 2 ^ 32 → number_of b < 2 ^ 32 → ⟦<Pid as Hash>⟧.hash_input a ≡ ⟦<Pid as Hash>⟧.hash_input b → a ≡ b }
+{}
+
 /// A clone of a kind, a reason or a refusal is the same variant.
 pub fn clones_are_equal()
     ensures reasons { (a b : Reason) → ⟦<Reason as Clone>⟧.is_clone a b ↔ (a ≡ b) }
@@ -54,6 +75,7 @@ pub fn clones_are_equal()
     ensures error_kinds { (a b : ErrorKind) → ⟦<ErrorKind as Clone>⟧.is_clone a b ↔ (a ≡ b) }
     ensures symbol_types { (a b : SymType) → ⟦<SymType as Clone>⟧.is_clone a b ↔ (a ≡ b) }
     ensures languages { (a b : SrcLang) → ⟦<SrcLang as Clone>⟧.is_clone a b ↔ (a ≡ b) }
+    ensures processes { (a b : Pid) → ⟦<Pid as Clone>⟧.is_clone a b ↔ (a ≡ b) }
 {}
 
 /// Cloning a kind, a reason or a refusal takes no memory.
@@ -63,6 +85,7 @@ pub fn clones_never_fail()
     ensures error_kinds { (a : ErrorKind) → ⟦<ErrorKind as Clone>⟧.is_infallible a }
     ensures symbol_types { (a : SymType) → ⟦<SymType as Clone>⟧.is_infallible a }
     ensures languages { (a : SrcLang) → ⟦<SrcLang as Clone>⟧.is_infallible a }
+    ensures processes { (a : Pid) → ⟦<Pid as Clone>⟧.is_infallible a }
 {}
 
 /// A clone of an input is of its kind, with a clone of its payload, and fails only where cloning the

@@ -3,10 +3,12 @@
 #![tactic(auto)]
 
 mod batch;
+mod clone;
 mod error;
 mod input;
 pub mod laws;
 mod path;
+mod pid;
 mod resolve;
 mod types;
 
@@ -22,6 +24,7 @@ pub use bz_text::{
 };
 pub use error::{Error, ErrorKind, Result};
 pub use input::Input;
+pub use pid::Pid;
 pub use resolve::{Resolve, Symbolize, TranslateFileOffset};
 pub use types::{
     CodeInfo, FindSymOpts, InlinedFn, Reason, ResolvedSym, SrcLang, Sym, SymType, Symbolized,

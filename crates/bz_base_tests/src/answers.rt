@@ -86,3 +86,50 @@ fn owned_gives_factorial(alloc: Global) -> Result<bool> {
 fn answers_are_owned_and_give_their_symbols(rt: HostRuntime) {
     assert!(rt; owned_gives_factorial(rt.alloc()) == Ok(true));
 }
+
+/// Whether a text is borrowed.
+fn is_lent(text: &CowStr<'_>) -> bool {
+    match text {
+        CowStr::Borrowed(_) => true,
+        CowStr::Owned(_) => false,
+    }
+}
+
+/// Whether a copy of a borrowed symbol is equal to it, and as borrowed.
+fn lent_is_cloned(alloc: Global) -> Result<bool> {
+    let symbol = symbol(calls(alloc)?);
+    let copy = symbol.try_clone(alloc)?;
+    Ok(copy == symbol && is_lent(&copy.name))
+}
+
+/// Whether a copy of a symbol that owns its texts is equal to it, and owns its own.
+fn owned_is_cloned(alloc: Global) -> Result<bool> {
+    let owned = symbol(calls(alloc)?).into_owned(alloc)?;
+    let copy = owned.try_clone(alloc)?;
+    Ok(copy == owned && !is_lent(&copy.name))
+}
+
+/// Whether a copy of an answer is equal to it.
+fn answer_is_cloned(alloc: Global, answer: Symbolized<'_>) -> Result<bool> {
+    let copy = answer.try_clone(alloc)?;
+    Ok(copy == answer)
+}
+
+/// Whether copies of a call and of a place are equal to them.
+fn parts_are_cloned(alloc: Global) -> Result<bool> {
+    let call = InlinedFn {
+        name: CowStr::Borrowed("inner"),
+        code_info: Some(place()),
+    };
+    let copy = call.try_clone(alloc)?;
+    let site = place().try_clone(alloc)?;
+    Ok(copy == call && site == place())
+}
+
+#[test]
+fn answers_are_cloned(rt: HostRuntime) {
+    assert!(rt; lent_is_cloned(rt.alloc()) == Ok(true));
+    assert!(rt; owned_is_cloned(rt.alloc()) == Ok(true));
+    assert!(rt; parts_are_cloned(rt.alloc()) == Ok(true));
+    assert!(rt; answer_is_cloned(rt.alloc(), Symbolized::Unknown(Reason::Unmapped)) == Ok(true));
+}

@@ -13,6 +13,8 @@ mod nearest;
 #[cfg(test)]
 mod path;
 #[cfg(test)]
+mod pids;
+#[cfg(test)]
 mod resolve;
 #[cfg(test)]
 mod samples;
