@@ -7,7 +7,9 @@ ghost use Rattle.bz_breakpad_lines.specs.Records.{CALL, FILE, FUNC, INFO, INLINE
 ghost use Rattle.bz_breakpad_lines.specs.Told.{call_told, context_told, func_told, inline_told, inner_told, line_told, public_told, range_told, ranges_told, record_told, top_told};
 ghost use Rattle.bz_breakpad_lines.specs.Walk.{body_record, inner_at};
 
-use crate::field::{dec, end, gap, hex, marked, module_separator, name, separator, separator_text, tag, word};
+use crate::field::{
+    dec, end, gap, hex, marked, module_separator, name, separator, separator_text, tag, word,
+};
 use std::alloc::AllocError;
 
 /// A line record.
