@@ -5,13 +5,13 @@ ghost use Rattle.bz_breakpad.specs.Found.{AreRecordsFor};
 ghost use Rattle.bz_breakpad.specs.Reader.{table_in};
 ghost use Rattle.bz_breakpad.specs.Table.{Table};
 
-use crate::files::{BAR, answers_of, file_of};
+use crate::cases::{Case, assert_held};
+use crate::files::{BAR, answers_of};
 use bz_base::{Error, FindSymOpts, Steps, Symbolized};
 use bz_breakpad::{FoundRecord, SymbolFile};
 use std::alloc::Global;
 use std::marker::Brand;
 use std::sync::ledger::{Blank, Ledger};
-use std::test::Fail;
 
 /// In BAR in its function, at its PUBLIC record, and before both.
 const ADDRS: [u64; 3] = [0x1010, 0x1234, 0xfff];
@@ -39,11 +39,19 @@ fn records_of(alloc: Global, file: &SymbolFile, addrs: &[u64]) -> Result<Vec<Fou
     counted_records::<Brand>(alloc, Blank::new(1), file, addrs)
 }
 
-/// Whether the records of the addresses are found, and answer as a batch does.
-fn are_found(alloc: Global) -> Result<bool, Error> {
-    let file = file_of(alloc, BAR)?;
-    let found = records_of(alloc, &file, &ADDRS)?;
-    Ok(are_records(&found) && answers_alike(alloc, &file, &ADDRS, &found)?)
+/// A file whose records are found for these addresses, and answer as a batch does.
+#[derive(Drop)]
+struct Found(&'static [u8]);
+
+impl Case for Found {
+    fn text(&self) -> &[u8] {
+        self.0
+    }
+
+    fn holds(&self, alloc: Global, file: &SymbolFile) -> Result<bool, Error> {
+        let found = records_of(alloc, file, &ADDRS)?;
+        Ok(are_records(&found) && answers_alike(alloc, file, &ADDRS, &found)?)
+    }
 }
 
 fn are_records(found: &[FoundRecord]) -> bool {
@@ -53,7 +61,7 @@ fn are_records(found: &[FoundRecord]) -> bool {
         && matches!(&found[2], FoundRecord::Absent)
 }
 
-/// Whether the records answer as a batch does, together and one by one.
+/// Whether the records answer as a batch does.
 fn answers_alike(
     alloc: Global,
     file: &SymbolFile,
@@ -64,12 +72,10 @@ fn answers_alike(
     requires count { length found.now ≡ length addrs.now }
 {
     let batch = answers_of(alloc, file, addrs, &FindSymOpts::CodeInfoAndInlined)?;
-    Ok(
-        is_answered(alloc, file, addrs, found, &batch)?
-            && is_answered_singly(alloc, file, addrs, found, &batch)?,
-    )
+    is_answered(alloc, file, addrs, found, &batch)
 }
 
+/// Whether the records have these answers, together and one by one.
 fn is_answered(
     alloc: Global,
     file: &SymbolFile,
@@ -81,7 +87,7 @@ fn is_answered(
     requires count { length found.now ≡ length addrs.now }
 {
     let answers = file.answers_by(alloc, addrs, found, &FindSymOpts::CodeInfoAndInlined)?;
-    Ok(are_alike(&answers, expected))
+    Ok(are_alike(&answers, expected) && is_answered_singly(alloc, file, addrs, found, expected)?)
 }
 
 fn are_alike(answers: &[Symbolized<'_>], expected: &[Symbolized<'_>]) -> bool {
@@ -89,11 +95,18 @@ fn are_alike(answers: &[Symbolized<'_>], expected: &[Symbolized<'_>]) -> bool {
         return false;
     }
     for index in 0..answers.len() {
-        if expected.get(index) != Some(&answers[index]) {
+        if !is_same(&answers[index], expected.get(index)) {
             return false;
         }
     }
     true
+}
+
+fn is_same(answer: &Symbolized<'_>, expected: Option<&Symbolized<'_>>) -> bool {
+    match expected {
+        Some(expected) => answer == expected,
+        None => false,
+    }
 }
 
 fn is_answered_singly(
@@ -107,12 +120,27 @@ fn is_answered_singly(
     requires count { length found.now ≡ length addrs.now }
 {
     for index in 0..addrs.len() {
-        let answer = answer_at(alloc, file, addrs, found, index)?;
-        if expected.get(index) != Some(&answer) {
+        if !is_answered_at(alloc, file, addrs, found, index, expected.get(index))? {
             return Ok(false);
         }
     }
     Ok(true)
+}
+
+fn is_answered_at(
+    alloc: Global,
+    file: &SymbolFile,
+    addrs: &[u64],
+    found: &[FoundRecord],
+    index: usize,
+    expected: Option<&Symbolized<'_>>,
+) -> Result<bool, Error>
+    requires records { (table : Table) → table_in file.now ≡ Some table → AreRecordsFor table addrs.now found.now }
+    requires count { length found.now ≡ length addrs.now }
+    requires within { index < length addrs.now }
+{
+    let answer = answer_at(alloc, file, addrs, found, index)?;
+    Ok(is_same(&answer, expected))
 }
 
 /// The answer at the address of an index, by its record.
@@ -136,7 +164,6 @@ fn answer_at<'a>(
 }
 
 #[test]
-fn finds_records_that_answer(rt: HostRuntime) -> Result<(), Fail> {
-    assert!(rt; are_found(rt.alloc())?);
-    Ok(())
+fn finds_records_that_answer(rt: HostRuntime) -> Result<(), Error> {
+    assert_held(&rt, rt.alloc(), &[Found(BAR)])
 }

@@ -1,25 +1,33 @@
 //! What a file's functions tell, and what is found in one.
 
-use crate::files::{BAR, NESTED, file_of, function_of};
+use crate::cases::{Case, assert_held};
+use crate::files::{BAR, NESTED, function_of};
 use bz_base::Error;
-use bz_breakpad::{Function, Inlinee, SourceLine};
+use bz_breakpad::{Function, Inlinee, SourceLine, SymbolFile};
 use std::alloc::Global;
-use std::test::Fail;
 
 /// An address, and whether the function of BAR answers for it.
-const COVERED: [(u64, bool); 4] = [
-    (0xfff, false),
-    (0x1000, true),
-    (0x102f, true),
-    (0x1030, false),
+#[derive(Drop)]
+struct Covered(u64, bool);
+
+const COVERED: [Covered; 4] = [
+    Covered(0xfff, false),
+    Covered(0x1000, true),
+    Covered(0x102f, true),
+    Covered(0x1030, false),
 ];
 
-fn is_covered(alloc: Global, addr: u64, covered: bool) -> Result<bool, Error> {
-    let file = file_of(alloc, BAR)?;
-    Ok(match function_of(&file, addr) {
-        Some(function) => covered && is_bar(&function),
-        None => !covered,
-    })
+impl Case for Covered {
+    fn text(&self) -> &[u8] {
+        BAR
+    }
+
+    fn holds(&self, _alloc: Global, file: &SymbolFile) -> Result<bool, Error> {
+        Ok(match function_of(file, self.0) {
+            Some(function) => self.1 && is_bar(&function),
+            None => !self.1,
+        })
+    }
 }
 
 fn is_bar(function: &Function<'_>) -> bool {
@@ -30,11 +38,8 @@ fn is_bar(function: &Function<'_>) -> bool {
 }
 
 #[test]
-fn finds_functions(rt: HostRuntime) -> Result<(), Fail> {
-    for row in &COVERED {
-        assert!(rt; is_covered(rt.alloc(), row.0, row.1)?, "at {}", row.0);
-    }
-    Ok(())
+fn finds_functions(rt: HostRuntime) -> Result<(), Error> {
+    assert_held(&rt, rt.alloc(), &COVERED)
 }
 
 /// The line of NESTED at 0x1010.
@@ -55,14 +60,22 @@ const INNER: Inlinee = Inlinee {
     origin_id: 1,
 };
 
-/// Whether the lines and calls of NESTED are found.
-fn are_found(alloc: Global) -> Result<bool, Error> {
-    let file = file_of(alloc, NESTED)?;
-    match function_of(&file, 0x1010) {
-        Some(function) => Ok(
-            has_lines(&function) && has_inner_call(&function) && has_calls(alloc, &function)?,
-        ),
-        None => Ok(false),
+/// A file with these lines and calls.
+#[derive(Drop)]
+struct Calling(&'static [u8]);
+
+impl Case for Calling {
+    fn text(&self) -> &[u8] {
+        self.0
+    }
+
+    fn holds(&self, alloc: Global, file: &SymbolFile) -> Result<bool, Error> {
+        match function_of(file, 0x1010) {
+            Some(function) => Ok(
+                has_lines(&function) && has_inner_call(&function) && has_calls(alloc, &function)?,
+            ),
+            None => Ok(false),
+        }
     }
 }
 
@@ -81,7 +94,6 @@ fn has_calls(alloc: Global, function: &Function<'_>) -> Result<bool, Error> {
 }
 
 #[test]
-fn finds_lines_and_calls(rt: HostRuntime) -> Result<(), Fail> {
-    assert!(rt; are_found(rt.alloc())?);
-    Ok(())
+fn finds_lines_and_calls(rt: HostRuntime) -> Result<(), Error> {
+    assert_held(&rt, rt.alloc(), &[Calling(NESTED)])
 }

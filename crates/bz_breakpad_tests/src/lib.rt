@@ -2,7 +2,11 @@
 #![tactic(auto)]
 
 #[cfg(test)]
+mod answered;
+#[cfg(test)]
 mod answers;
+#[cfg(test)]
+mod cases;
 #[cfg(test)]
 mod files;
 #[cfg(test)]

@@ -1,10 +1,10 @@
 //! Which line record answers: of runs, which are found by their text, and of lines out of order.
 
-use crate::files::{file_of, function_of};
+use crate::cases::{Case, assert_held};
+use crate::files::function_of;
 use bz_base::Error;
 use bz_breakpad::SymbolFile;
 use std::alloc::Global;
-use std::test::Fail;
 
 /// 20 lines one after another, each with a gap after it.
 const RUN: &[u8] = b"\
@@ -47,42 +47,50 @@ const CARRIAGE_RETURNS: &[u8] =
     b"FUNC 1000 40 0 f\r\n1000 10 1 1\r\n1010 8 2 1\r\n1020 8 3 1\nINFO a record of more bytes than a load\n";
 
 /// A file, an address, and the line that answers there.
-const ROWS: [(&[u8], u64, Option<u32>); 30] = [
-    (RUN, 0xff8, None),
-    (RUN, 0x1000, Some(1001)),
-    (RUN, 0x1007, Some(1001)),
-    (RUN, 0x1008, None),
-    (RUN, 0x1010, Some(1002)),
-    (RUN, 0x10a0, Some(1011)),
-    (RUN, 0x10a7, Some(1011)),
-    (RUN, 0x10af, None),
-    (RUN, 0x10b3, Some(1012)),
-    (RUN, 0x1130, Some(1020)),
-    (RUN, 0x1137, Some(1020)),
-    (RUN, 0x1138, None),
-    (DIGITS_GROW, 0xfef, Some(1)),
-    (DIGITS_GROW, 0xff0, Some(2)),
-    (DIGITS_GROW, 0x1000, Some(3)),
-    (DIGITS_GROW, 0x101f, Some(4)),
-    (DISORDERED, 0x1000, Some(1)),
-    (DISORDERED, 0x1014, Some(2)),
-    (DISORDERED, 0x1018, None),
-    (DISORDERED, 0x1020, Some(3)),
-    (EQUAL, 0x1003, Some(1)),
-    (EQUAL, 0x1010, Some(3)),
-    (EQUAL, 0x1011, Some(2)),
-    (EQUAL, 0x1020, Some(4)),
-    (INTERRUPTED, 0x1008, Some(1)),
-    (INTERRUPTED, 0x1010, Some(2)),
-    (INTERRUPTED, 0x1027, Some(3)),
-    (CARRIAGE_RETURNS, 0x100f, Some(1)),
-    (CARRIAGE_RETURNS, 0x1010, Some(2)),
-    (CARRIAGE_RETURNS, 0x1020, Some(3)),
+#[derive(Drop)]
+struct Line(&'static [u8], u64, Option<u32>);
+
+const LINES: [Line; 30] = [
+    Line(RUN, 0xff8, None),
+    Line(RUN, 0x1000, Some(1001)),
+    Line(RUN, 0x1007, Some(1001)),
+    Line(RUN, 0x1008, None),
+    Line(RUN, 0x1010, Some(1002)),
+    Line(RUN, 0x10a0, Some(1011)),
+    Line(RUN, 0x10a7, Some(1011)),
+    Line(RUN, 0x10af, None),
+    Line(RUN, 0x10b3, Some(1012)),
+    Line(RUN, 0x1130, Some(1020)),
+    Line(RUN, 0x1137, Some(1020)),
+    Line(RUN, 0x1138, None),
+    Line(DIGITS_GROW, 0xfef, Some(1)),
+    Line(DIGITS_GROW, 0xff0, Some(2)),
+    Line(DIGITS_GROW, 0x1000, Some(3)),
+    Line(DIGITS_GROW, 0x101f, Some(4)),
+    Line(DISORDERED, 0x1000, Some(1)),
+    Line(DISORDERED, 0x1014, Some(2)),
+    Line(DISORDERED, 0x1018, None),
+    Line(DISORDERED, 0x1020, Some(3)),
+    Line(EQUAL, 0x1003, Some(1)),
+    Line(EQUAL, 0x1010, Some(3)),
+    Line(EQUAL, 0x1011, Some(2)),
+    Line(EQUAL, 0x1020, Some(4)),
+    Line(INTERRUPTED, 0x1008, Some(1)),
+    Line(INTERRUPTED, 0x1010, Some(2)),
+    Line(INTERRUPTED, 0x1027, Some(3)),
+    Line(CARRIAGE_RETURNS, 0x100f, Some(1)),
+    Line(CARRIAGE_RETURNS, 0x1010, Some(2)),
+    Line(CARRIAGE_RETURNS, 0x1020, Some(3)),
 ];
 
-fn line_at(alloc: Global, text: &[u8], addr: u64) -> Result<Option<u32>, Error> {
-    let file = file_of(alloc, text)?;
-    Ok(line_in(&file, addr))
+impl Case for Line {
+    fn text(&self) -> &[u8] {
+        self.0
+    }
+
+    fn holds(&self, _alloc: Global, file: &SymbolFile) -> Result<bool, Error> {
+        Ok(line_in(file, self.1) == self.2)
+    }
 }
 
 fn line_in(file: &SymbolFile, addr: u64) -> Option<u32> {
@@ -94,9 +102,6 @@ fn line_in(file: &SymbolFile, addr: u64) -> Option<u32> {
 }
 
 #[test]
-fn lines_of_runs_and_lists(rt: HostRuntime) -> Result<(), Fail> {
-    for row in &ROWS {
-        assert_eq!(rt; line_at(rt.alloc(), row.0, row.1)?, row.2, "at {}", row.1);
-    }
-    Ok(())
+fn lines_of_runs_and_lists(rt: HostRuntime) -> Result<(), Error> {
+    assert_held(&rt, rt.alloc(), &LINES)
 }

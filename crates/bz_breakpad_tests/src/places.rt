@@ -1,10 +1,11 @@
 //! Where addresses lie in the source code.
 
-use crate::files::{BAR, NESTED, USUAL, answer_of, answers_of, file_of};
-use bz_base::{CodeInfo, Error, FindSymOpts, Reason, Sym, Symbolized};
+use crate::answered::{Answered, is_answered};
+use crate::cases::{Case, assert_held};
+use crate::files::{BAR, NESTED, USUAL};
+use bz_base::{CodeInfo, Error, FindSymOpts, Sym, Symbolized};
 use bz_breakpad::SymbolFile;
-use std::alloc::Global;
-use std::test::Fail;
+use std::alloc::{AllocError, Global};
 
 const UNKNOWN_FILE: &[u8] = b"FUNC 1000 10 0 f\n1000 10 5 9\n";
 
@@ -21,175 +22,174 @@ const GAP_OF_DEPTH: &[u8] =
 const BEYOND: &[u8] = b"FUNC 1 2 3 x\nffffffffffffffff 2 0 0\n";
 
 /// A file, an address, what is asked for, and the text of the answer.
-type Row = (&'static [u8], u64, FindSymOpts, &'static str);
+#[derive(Drop)]
+struct Told(&'static [u8], u64, FindSymOpts, &'static str);
 
-const ROWS: [Row; 24] = [
-    (
+const PLACES: [Told; 24] = [
+    Told(
         BAR,
         0x1010,
         FindSymOpts::CodeInfoAndInlined,
         "another func at |bar.c:7",
     ),
-    (BAR, 0x1010, FindSymOpts::Basic, "another func at -"),
-    (
+    Told(BAR, 0x1010, FindSymOpts::Basic, "another func at -"),
+    Told(
         NESTED,
         0x1010,
         FindSymOpts::CodeInfoAndInlined,
         "outer_func() at |o.c:60; mid_func() at |m.c:17; inner_func_2() at |i2.c:52",
     ),
-    (
+    Told(
         NESTED,
         0x1010,
         FindSymOpts::CodeInfo,
         "outer_func() at |i2.c:52",
     ),
-    (
+    Told(
         NESTED,
         0x1020,
         FindSymOpts::CodeInfoAndInlined,
         "outer_func() at |o.c:62",
     ),
-    (
+    Told(
         NESTED,
         0x1000,
         FindSymOpts::CodeInfoAndInlined,
         "? IgnoredError",
     ),
-    (NESTED, 0x1000, FindSymOpts::Basic, "outer_func() at -"),
-    (
+    Told(NESTED, 0x1000, FindSymOpts::Basic, "outer_func() at -"),
+    Told(
         USUAL,
         0x1174,
         FindSymOpts::CodeInfoAndInlined,
         "main at /src/app|main.c:12; clamp at /src/app|util.h:4",
     ),
-    (
+    Told(
         USUAL,
         0x1188,
         FindSymOpts::CodeInfoAndInlined,
         "main at /src/app|main.c:13",
     ),
-    (
+    Told(
         USUAL,
         0x1020,
         FindSymOpts::CodeInfoAndInlined,
         "_start at -",
     ),
-    (
+    Told(
         UNKNOWN_FILE,
         0x1000,
         FindSymOpts::CodeInfoAndInlined,
         "? IgnoredError",
     ),
-    (UNKNOWN_FILE, 0x1000, FindSymOpts::Basic, "f at -"),
-    (
+    Told(UNKNOWN_FILE, 0x1000, FindSymOpts::Basic, "f at -"),
+    Told(
         NO_COMPONENT,
         0x1000,
         FindSymOpts::CodeInfo,
         "? IgnoredError",
     ),
-    (
+    Told(
         UNKNOWN_CALL,
         0x1000,
         FindSymOpts::CodeInfoAndInlined,
         "? IgnoredError",
     ),
-    (UNKNOWN_CALL, 0x1000, FindSymOpts::CodeInfo, "f at |a.c:5"),
-    (
+    Told(UNKNOWN_CALL, 0x1000, FindSymOpts::CodeInfo, "f at |a.c:5"),
+    Told(
         UNKNOWN_CALL,
         0x1008,
         FindSymOpts::CodeInfoAndInlined,
         "f at |a.c:5",
     ),
-    (DISORDERED, 0x1005, FindSymOpts::CodeInfo, "f at |a.c:1"),
-    (DISORDERED, 0x1010, FindSymOpts::CodeInfo, "f at |a.c:9"),
-    (DISORDERED, 0x1011, FindSymOpts::CodeInfo, "f at |a.c:2"),
-    (DISORDERED, 0x102f, FindSymOpts::CodeInfo, "f at |a.c:3"),
-    (DISORDERED, 0x1030, FindSymOpts::CodeInfo, "f at |a.c:5"),
-    (DISORDERED, 0x1031, FindSymOpts::CodeInfo, "f at |a.c:6"),
-    (
+    Told(DISORDERED, 0x1005, FindSymOpts::CodeInfo, "f at |a.c:1"),
+    Told(DISORDERED, 0x1010, FindSymOpts::CodeInfo, "f at |a.c:9"),
+    Told(DISORDERED, 0x1011, FindSymOpts::CodeInfo, "f at |a.c:2"),
+    Told(DISORDERED, 0x102f, FindSymOpts::CodeInfo, "f at |a.c:3"),
+    Told(DISORDERED, 0x1030, FindSymOpts::CodeInfo, "f at |a.c:5"),
+    Told(DISORDERED, 0x1031, FindSymOpts::CodeInfo, "f at |a.c:6"),
+    Told(
         GAP_OF_DEPTH,
         0x1000,
         FindSymOpts::CodeInfoAndInlined,
         "f at |a.c:7; g at |a.c:5",
     ),
-    (BEYOND, 1, FindSymOpts::CodeInfoAndInlined, "x at -"),
+    Told(BEYOND, 1, FindSymOpts::CodeInfoAndInlined, "x at -"),
 ];
 
-/// Whether the answer has the row's text, in a batch and alone.
-fn is_told(alloc: Global, row: &Row) -> Result<bool, Error> {
-    let file = file_of(alloc, row.0)?;
-    Ok(is_told_in_batch(alloc, &file, row)? && is_told_alone(alloc, &file, row)?)
-}
+impl Case for Told {
+    fn text(&self) -> &[u8] {
+        self.0
+    }
 
-fn is_told_in_batch(alloc: Global, file: &SymbolFile, row: &Row) -> Result<bool, Error> {
-    let answers = answers_of(alloc, file, &[row.1], &row.2)?;
-    match answers.first() {
-        Some(answer) => has_text(alloc, answer, row.3),
-        None => Ok(false),
+    fn holds(&self, alloc: Global, file: &SymbolFile) -> Result<bool, Error> {
+        is_answered(alloc, file, self)
     }
 }
 
-fn is_told_alone(alloc: Global, file: &SymbolFile, row: &Row) -> Result<bool, Error> {
-    match answer_of(alloc, file, row.1, &row.2) {
-        Ok(answer) => has_text(alloc, &answer, row.3),
-        // An address that the batch ignores is refused alone.
-        Err(Error::InvalidInput) => Ok(row.3 == "? IgnoredError"),
-        Err(error) => Err(error),
+impl Answered for Told {
+    fn addr(&self) -> u64 {
+        self.1
+    }
+
+    fn opts(&self) -> &FindSymOpts {
+        &self.2
+    }
+
+    fn is_answer(&self, alloc: Global, answer: &Symbolized<'_>) -> Result<bool, Error> {
+        Ok(has_text(alloc, answer, self.3)?)
     }
 }
 
 /// Whether an answer has this text: its name, and the directory, the file and the line of its place;
 /// and the same of each inlined call.
-fn has_text(alloc: Global, answer: &Symbolized<'_>, expected: &str) -> Result<bool, Error> {
+fn has_text(alloc: Global, answer: &Symbolized<'_>, expected: &str) -> Result<bool, AllocError> {
     let mut text = String::new(alloc);
     push_answer(&mut text, answer)?;
     Ok(text.as_str() == expected)
 }
 
-fn push_answer(text: &mut String, answer: &Symbolized<'_>) -> Result<(), Error> {
+fn push_answer(text: &mut String, answer: &Symbolized<'_>) -> Result<(), AllocError> {
     match answer {
         Symbolized::Sym(symbol) => push_symbol(text, symbol),
-        Symbolized::Unknown(reason) => push_reason(text, *reason),
+        Symbolized::Unknown(reason) => write!(text, "? {reason:?}"),
     }
 }
 
-fn push_symbol(text: &mut String, symbol: &Sym<'_>) -> Result<(), Error> {
-    text.push_str(symbol.name.as_str())?;
-    push_place(text, &symbol.code_info)?;
+fn push_symbol(text: &mut String, symbol: &Sym<'_>) -> Result<(), AllocError> {
+    push_call(text, symbol.name.as_str(), &symbol.code_info)?;
     for call in &symbol.inlined {
         text.push_str("; ")?;
-        text.push_str(call.name.as_str())?;
-        push_place(text, &call.code_info)?;
+        push_call(text, call.name.as_str(), &call.code_info)?;
     }
     Ok(())
 }
 
-fn push_reason(text: &mut String, reason: Reason) -> Result<(), Error> {
-    write!(text, "? {reason:?}")?;
-    Ok(())
+fn push_call(
+    text: &mut String,
+    name: &str,
+    place: &Option<CodeInfo<'_>>,
+) -> Result<(), AllocError> {
+    text.push_str(name)?;
+    match place {
+        Some(place) => push_place(text, place),
+        None => text.push_str(" at -"),
+    }
 }
 
-fn push_place(text: &mut String, place: &Option<CodeInfo<'_>>) -> Result<(), Error> {
-    let Some(place) = place else {
-        text.push_str(" at -")?;
-        return Ok(());
+fn push_place(text: &mut String, place: &CodeInfo<'_>) -> Result<(), AllocError> {
+    let dir = match &place.dir {
+        Some(dir) => dir.as_str(),
+        None => "",
     };
-    text.push_str(" at ")?;
-    if let Some(dir) = &place.dir {
-        text.push_str(dir.as_str())?;
+    write!(text, " at {dir}|{}", place.file.as_str())?;
+    match place.line {
+        Some(line) => write!(text, ":{line}"),
+        None => Ok(()),
     }
-    text.push_str("|")?;
-    text.push_str(place.file.as_str())?;
-    if let Some(line) = place.line {
-        write!(text, ":{line}")?;
-    }
-    Ok(())
 }
 
 #[test]
-fn places_by_lines_and_calls(rt: HostRuntime) -> Result<(), Fail> {
-    for row in &ROWS {
-        assert!(rt; is_told(rt.alloc(), row)?, "at {}", row.1);
-    }
-    Ok(())
+fn places_by_lines_and_calls(rt: HostRuntime) -> Result<(), Error> {
+    assert_held(&rt, rt.alloc(), &PLACES)
 }
