@@ -5,7 +5,7 @@ ghost use Rattle.std.specs.Prelude.{◌≡◌, ◌<◌};
 use bz_base::{Error, Input, Reason, Result, Steps, Symbolized};
 use bz_files::MemFiles;
 use bz_symbolize::source::{Breakpad, Source};
-use bz_symbolize::{Lookups, Symbolizer};
+use bz_symbolize::{Builder, Lookups, Symbolizer};
 use std::alloc::Global;
 use std::marker::Brand;
 use std::sync::ledger::{Blank, Ledger};
@@ -81,7 +81,7 @@ pub(crate) fn answers(
     }
 }
 
-/// Whether the address alone is answered by a symbol with this name.
+/// Whether the address alone is answered by a symbol with this name, or refused so.
 pub(crate) fn answers_single(
     alloc: Global,
     symbolizer: &mut Symbolizer,
@@ -89,25 +89,11 @@ pub(crate) fn answers_single(
     src: &Source<'_>,
     input: Input<u64>,
     name: &str,
+    refused: Option<Error>,
 ) -> bool {
     match symbolizer.symbolize_single(alloc, files, src, input) {
-        Ok(answer) => is_named(&answer, name),
-        Err(_) => false,
-    }
-}
-
-/// Whether the address alone is refused so.
-pub(crate) fn is_refused(
-    alloc: Global,
-    symbolizer: &mut Symbolizer,
-    files: &mut MemFiles,
-    src: &Source<'_>,
-    input: Input<u64>,
-    expected: Error,
-) -> bool {
-    match symbolizer.symbolize_single(alloc, files, src, input) {
-        Ok(_) => false,
-        Err(refusal) => refusal == expected,
+        Ok(answer) => refused.is_none() && is_named(&answer, name),
+        Err(refusal) => refused == Some(refusal),
     }
 }
 
@@ -138,24 +124,28 @@ fn look_up_blank<'d, L: Ledger>(
     symbolizer.look_up(alloc, files, src, input, &mut steps)
 }
 
-/// Whether the first address that was looked up has no symbol, for this reason.
-fn first_is_unknown(alloc: Global, lookups: &Lookups<'_>, reason: Reason) -> bool {
-    if lookups.len() == 0 {
-        return false;
-    }
-    match lookups.answer(alloc, 0) {
-        Ok(answer) => is_unknown(&answer, reason),
-        Err(_) => false,
+/// Whether the answer is that there is no symbol for this reason, or where there is none a symbol
+/// with this name.
+fn is_answer(answer: &Symbolized<'_>, unknown: Option<Reason>, name: &str) -> bool {
+    match unknown {
+        Some(reason) => is_unknown(answer, reason),
+        None => is_named(answer, name),
     }
 }
 
-/// Whether the address of the index that was looked up is answered by a symbol with this name.
-pub(crate) fn is_named_at(alloc: Global, lookups: &Lookups<'_>, index: usize, name: &str) -> bool {
+/// Whether the address of the index that was looked up is answered so.
+pub(crate) fn is_answered_at(
+    alloc: Global,
+    lookups: &Lookups<'_>,
+    index: usize,
+    unknown: Option<Reason>,
+    name: &str,
+) -> bool {
     if index >= lookups.len() {
         return false;
     }
     match lookups.answer(alloc, index) {
-        Ok(answer) => is_named(&answer, name),
+        Ok(answer) => is_answer(&answer, unknown, name),
         Err(_) => false,
     }
 }
@@ -171,7 +161,15 @@ fn both_are_expected(alloc: Global, lookups: &Lookups<'_>, expected: Expected) -
     }
 }
 
-/// Whether two addresses are looked up, and answered as expected one by one and together.
+/// Whether two addresses that were looked up are answered as expected one by one and together.
+fn are_looked_up(alloc: Global, lookups: &Lookups<'_>, expected: Expected) -> bool {
+    let (reason, name) = expected;
+    is_answered_at(alloc, lookups, 0, Some(reason), "")
+        && is_answered_at(alloc, lookups, 1, None, name)
+        && both_are_expected(alloc, lookups, expected)
+}
+
+/// Whether two addresses are looked up, and answered as expected.
 pub(crate) fn looks_up(
     alloc: Global,
     symbolizer: &mut Symbolizer,
@@ -180,13 +178,8 @@ pub(crate) fn looks_up(
     input: Input<Vec<u64>>,
     expected: Expected,
 ) -> bool {
-    let (reason, name) = expected;
     match look_up(alloc, symbolizer, files, src, input) {
-        Ok(lookups) => {
-            first_is_unknown(alloc, &lookups, reason)
-                && is_named_at(alloc, &lookups, 1, name)
-                && both_are_expected(alloc, &lookups, expected)
-        }
+        Ok(lookups) => are_looked_up(alloc, &lookups, expected),
         Err(_) => false,
     }
 }
@@ -199,5 +192,13 @@ pub(crate) fn without_features(alloc: Global) -> Symbolizer {
         .enable_inlined_fns(false)
         .enable_demangling(false)
         .set_debug_dirs(Some(Vec::new(alloc)))
+        .build(alloc)
+}
+
+/// A symbolizer whose answers have places or not, and inlined calls or not.
+pub(crate) fn with_features(alloc: Global, places: bool, calls: bool) -> Symbolizer {
+    Builder::new()
+        .enable_code_info(places)
+        .enable_inlined_fns(calls)
         .build(alloc)
 }

@@ -3,8 +3,10 @@
 ghost use Rattle.std.specs.Prelude.{◌≡◌, ◌<◌};
 
 use crate::asking::{
-    ADDRESSES, Expected, FIRST, ONE, answers, answers_single, are_expected, is_refused, put, source,
+    ADDRESSES, Expected, FIRST, ONE, answers, answers_single, are_expected, put, source,
+    with_features,
 };
+use crate::trials::{Trial, holds};
 use bz_base::{Error, Input, Reason, Steps};
 use bz_files::MemFiles;
 use bz_symbolize::source::{Gsym, GsymData, Source};
@@ -15,44 +17,45 @@ use std::marker::Brand;
 use std::sync::ledger::{Blank, Ledger};
 
 /// Whether an address in a function is answered alone by the function.
-fn answers_alone(alloc: Global) -> bool {
-    let Ok(src) = source(alloc) else {
-        return false;
-    };
-    let mut files = MemFiles::new(alloc, 7);
-    let mut symbolizer = Symbolizer::new(alloc);
+pub(crate) fn answers_alone(
+    alloc: Global,
+    symbolizer: &mut Symbolizer,
+    files: &mut MemFiles,
+    src: &Source<'_>,
+) -> bool {
     let input = Input::FileOffset(0x1010);
-    put(alloc, &mut files, "/s.sym", FIRST)
-        && answers_single(alloc, &mut symbolizer, &mut files, &src, input, "one")
+    put(alloc, files, "/s.sym", FIRST)
+        && answers_single(alloc, symbolizer, files, src, input, "one", None)
 }
 
 /// A single address is answered as in a batch.
 #[test]
 fn answers_a_single_address(rt: HostRuntime) {
-    assert!(rt; answers_alone(rt.alloc()));
+    assert!(rt; holds(rt.alloc(), source(rt.alloc()), &Trial::Single));
 }
 
 /// Whether an address of a process is refused though there is no file.
-fn refuses_unlooked(alloc: Global) -> bool {
-    let Ok(src) = source(alloc) else {
-        return false;
-    };
-    let mut files = MemFiles::new(alloc, 7);
-    let mut symbolizer = Symbolizer::new(alloc);
+pub(crate) fn refuses_unlooked(
+    alloc: Global,
+    symbolizer: &mut Symbolizer,
+    files: &mut MemFiles,
+    src: &Source<'_>,
+) -> bool {
     let input = Input::AbsAddr(0x1010);
     let refusal = Error::Unsupported;
-    is_refused(alloc, &mut symbolizer, &mut files, &src, input, refusal)
+    answers_single(alloc, symbolizer, files, src, input, "", Some(refusal))
 }
 
 /// Another kind of address is refused before the file is looked at, which is absent.
 #[test]
 fn refuses_a_kind_of_address_unlooked(rt: HostRuntime) {
-    assert!(rt; refuses_unlooked(rt.alloc()));
+    assert!(rt; holds(rt.alloc(), source(rt.alloc()), &Trial::OtherKind));
 }
 
 /// Whether a batch is answered as expected with a count of its steps.
 fn answers_counted<L: Ledger>(
     alloc: Global,
+    symbolizer: &mut Symbolizer,
     files: &mut MemFiles,
     src: &Source<'_>,
     blank: Blank,
@@ -62,7 +65,6 @@ fn answers_counted<L: Ledger>(
     requires some { 0 < L.parts }
 {
     let mut steps = Steps::<L>::new(blank);
-    let mut symbolizer = Builder::default().build(alloc);
     match symbolizer.symbolize_counted(alloc, files, src, ADDRESSES, &mut steps) {
         Ok(answers) => are_expected(answers.as_slice(), ONE),
         Err(_) => false,
@@ -70,18 +72,15 @@ fn answers_counted<L: Ledger>(
 }
 
 /// Whether the batch on the first file is answered so.
-fn counts(alloc: Global) -> bool {
-    let Ok(src) = source(alloc) else {
-        return false;
-    };
-    let mut files = MemFiles::new(alloc, 7);
-    put(alloc, &mut files, "/s.sym", FIRST)
-        && answers_counted::<Brand>(alloc, &mut files, &src, Blank::new(1))
+pub(crate) fn counts(alloc: Global, files: &mut MemFiles, src: &Source<'_>) -> bool {
+    let mut symbolizer = Builder::default().build(alloc);
+    put(alloc, files, "/s.sym", FIRST)
+        && answers_counted::<Brand>(alloc, &mut symbolizer, files, src, Blank::new(1))
 }
 
 #[test]
 fn answers_with_a_count(rt: HostRuntime) {
-    assert!(rt; counts(rt.alloc()));
+    assert!(rt; holds(rt.alloc(), source(rt.alloc()), &Trial::Counted));
 }
 
 /// A line record whose file has no FILE record, and a function without line records.
@@ -101,42 +100,41 @@ const FOLDED: Input<&[u64]> = Input::FileOffset(&[0x1000, 0x2000]);
 const G: Expected = (Reason::IgnoredError, "g");
 
 /// Whether the address is refused alone, and is an ignored error in a batch, where answers have places.
-fn folds(alloc: Global, files: &mut MemFiles, src: &Source<'_>) -> bool {
-    let mut places = Symbolizer::new(alloc);
-    answers(alloc, &mut places, files, src, FOLDED, G)
-        && is_refused(
-            alloc,
-            &mut places,
-            files,
-            src,
-            PLACELESS,
-            Error::InvalidInput,
-        )
+fn folds(
+    alloc: Global,
+    symbolizer: &mut Symbolizer,
+    files: &mut MemFiles,
+    src: &Source<'_>,
+) -> bool {
+    let refusal = Error::InvalidInput;
+    answers(alloc, symbolizer, files, src, FOLDED, G)
+        && answers_single(alloc, symbolizer, files, src, PLACELESS, "", Some(refusal))
 }
 
 /// Whether the address is answered alone and in a batch where answers have no places.
 fn answers_without_places(alloc: Global, files: &mut MemFiles, src: &Source<'_>) -> bool {
-    let mut names = Builder::new().enable_code_info(false).build(alloc);
+    let mut names = with_features(alloc, false, true);
     answers(alloc, &mut names, files, src, BEFORE, F)
-        && answers_single(alloc, &mut names, files, src, PLACELESS, "f")
+        && answers_single(alloc, &mut names, files, src, PLACELESS, "f", None)
 }
 
 /// Whether both hold of the file whose line names no file.
-fn folds_where_places_are_told(alloc: Global) -> bool {
-    let Ok(src) = source(alloc) else {
-        return false;
-    };
-    let mut files = MemFiles::new(alloc, 7);
-    put(alloc, &mut files, "/s.sym", WITHOUT_ITS_FILE)
-        && answers_without_places(alloc, &mut files, &src)
-        && folds(alloc, &mut files, &src)
+pub(crate) fn folds_where_places_are_told(
+    alloc: Global,
+    symbolizer: &mut Symbolizer,
+    files: &mut MemFiles,
+    src: &Source<'_>,
+) -> bool {
+    put(alloc, files, "/s.sym", WITHOUT_ITS_FILE)
+        && answers_without_places(alloc, files, src)
+        && folds(alloc, symbolizer, files, src)
 }
 
 /// An address whose place in the source code has no name is refused alone, and is an ignored error
 /// in a batch; without places both answer.
 #[test]
 fn folds_a_refused_address_into_a_batch(rt: HostRuntime) {
-    assert!(rt; folds_where_places_are_told(rt.alloc()));
+    assert!(rt; holds(rt.alloc(), source(rt.alloc()), &Trial::Folded));
 }
 
 /// Whether the source is printed so.

@@ -1,9 +1,7 @@
 //! Files that change, go and come back, and files that keep their stamp.
 
-use crate::asking::{
-    ADDRESSES, FIRST, ONE, SECOND, TWO, answers, answers_single, is_refused, put, source,
-    without_features,
-};
+use crate::asking::{ADDRESSES, FIRST, ONE, SECOND, TWO, answers, answers_single, put, source};
+use crate::trials::{Trial, holds};
 use bz_base::{Error, Input};
 use bz_files::{Files, MemFiles, Stamp};
 use bz_symbolize::Symbolizer;
@@ -12,7 +10,7 @@ use std::alloc::Global;
 
 /// Whether a change of the file is seen by the one that looks anew, after a look that fails, and not
 /// by the other one.
-fn sees_the_change(
+pub(crate) fn sees_the_change(
     alloc: Global,
     anew: &mut Symbolizer,
     still: &mut Symbolizer,
@@ -31,22 +29,11 @@ fn sees_the_change(
         && files.opens() == 3
 }
 
-/// Whether this is so of a new symbolizer, and of one that doesn't look at files anew.
-fn answers_by_the_present_version(alloc: Global) -> bool {
-    let Ok(src) = source(alloc) else {
-        return false;
-    };
-    let mut files = MemFiles::new(alloc, 7);
-    let mut anew = Symbolizer::new(alloc);
-    let mut still = without_features(alloc);
-    sees_the_change(alloc, &mut anew, &mut still, &mut files, &src)
-}
-
 /// A file that has changed answers by its present version, or by its first one where files aren't
 /// looked at anew; and after a look that fails the next call answers.
 #[test]
 fn answers_a_file_that_changes(rt: HostRuntime) {
-    assert!(rt; answers_by_the_present_version(rt.alloc()));
+    assert!(rt; holds(rt.alloc(), source(rt.alloc()), &Trial::Changed));
 }
 
 /// What is done with the file.
@@ -101,12 +88,13 @@ fn gives(
     src: &Source<'_>,
     name: &str,
 ) -> bool {
-    let input = Input::FileOffset(0x1010);
-    if name == "" {
-        is_refused(alloc, symbolizer, files, src, input, Error::NotFound)
+    let refused = if name == "" {
+        Some(Error::NotFound)
     } else {
-        answers_single(alloc, symbolizer, files, src, input, name)
-    }
+        None
+    };
+    let input = Input::FileOffset(0x1010);
+    answers_single(alloc, symbolizer, files, src, input, name, refused)
 }
 
 /// A change, and the name that the file then gives where files are looked at anew, which is empty
@@ -134,18 +122,6 @@ fn see_changes(
     true
 }
 
-/// Whether this is so of a new symbolizer and of one that doesn't look at files anew, and so many
-/// files are read.
-fn answers_changes(alloc: Global, rows: &[Row], opens: u64) -> bool {
-    let Ok(src) = source(alloc) else {
-        return false;
-    };
-    let mut files = MemFiles::new(alloc, 7);
-    let mut anew = Symbolizer::new(alloc);
-    let mut still = without_features(alloc);
-    see_changes(alloc, &mut anew, &mut still, &mut files, &src, rows) && files.opens() == opens
-}
-
 const COMES_BACK: [Row; 4] = [
     (Change::First, "one"),
     (Change::Second, "two"),
@@ -153,17 +129,39 @@ const COMES_BACK: [Row; 4] = [
     (Change::Back, "two"),
 ];
 
+/// Whether this is so where the file is removed and comes back, and so many files are read.
+pub(crate) fn comes_back(
+    alloc: Global,
+    anew: &mut Symbolizer,
+    still: &mut Symbolizer,
+    files: &mut MemFiles,
+    src: &Source<'_>,
+) -> bool {
+    see_changes(alloc, anew, still, files, src, &COMES_BACK) && files.opens() == 3
+}
+
 /// A file that is removed is absent, and one that comes back by a link is known by its stamp; where
 /// files aren't looked at anew the first version answers throughout.
 #[test]
 fn answers_a_file_that_goes_and_comes_back(rt: HostRuntime) {
-    assert!(rt; answers_changes(rt.alloc(), &COMES_BACK, 3));
+    assert!(rt; holds(rt.alloc(), source(rt.alloc()), &Trial::ComesBack));
 }
 
 const KEEPS_ITS_STAMP: [Row; 2] = [(Change::First, "one"), (Change::SecondUnstamped, "one")];
 
+/// Whether this is so where the stamp is kept, and so many files are read.
+pub(crate) fn keeps_its_stamp(
+    alloc: Global,
+    anew: &mut Symbolizer,
+    still: &mut Symbolizer,
+    files: &mut MemFiles,
+    src: &Source<'_>,
+) -> bool {
+    see_changes(alloc, anew, still, files, src, &KEEPS_ITS_STAMP) && files.opens() == 2
+}
+
 /// Other bytes under a kept stamp aren't seen.
 #[test]
 fn believes_an_equal_stamp(rt: HostRuntime) {
-    assert!(rt; answers_changes(rt.alloc(), &KEEPS_ITS_STAMP, 2));
+    assert!(rt; holds(rt.alloc(), source(rt.alloc()), &Trial::KeepsItsStamp));
 }

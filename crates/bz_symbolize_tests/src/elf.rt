@@ -1,6 +1,7 @@
 //! ELF files.
 
 use crate::asking::{Expected, answers, is_unknown, looks_up, put};
+use crate::trials::{Trial, holds};
 use bz_base::{Error, Input, Reason, Result, Sym, Symbolized};
 use bz_elf::ElfResolver;
 use bz_files::MemFiles;
@@ -124,6 +125,20 @@ fn is_told_refusal(refusal: &Error, told: &Told) -> bool {
     }
 }
 
+/// Whether the row's address is answered as it tells, of this source.
+fn tells_row(
+    alloc: Global,
+    symbolizer: &mut Symbolizer,
+    files: &mut MemFiles,
+    src: &Source<'_>,
+    row: &Row,
+) -> bool {
+    match symbolizer.symbolize_single(alloc, files, src, row.1) {
+        Ok(answer) => is_told(&answer, row.0, &row.2),
+        Err(refusal) => is_told_refusal(&refusal, &row.2),
+    }
+}
+
 /// Whether the row's address is answered as it tells.
 fn answers_row(
     alloc: Global,
@@ -131,13 +146,9 @@ fn answers_row(
     files: &mut MemFiles,
     row: &Row,
 ) -> bool {
-    let (path, input, told) = row;
-    let Ok(src) = source(alloc, path) else {
-        return false;
-    };
-    match symbolizer.symbolize_single(alloc, files, &src, *input) {
-        Ok(answer) => is_told(&answer, path, told),
-        Err(refusal) => is_told_refusal(&refusal, told),
+    match source(alloc, row.0) {
+        Ok(src) => tells_row(alloc, symbolizer, files, &src, row),
+        Err(_) => false,
     }
 }
 
@@ -157,17 +168,17 @@ fn answers_rows(
 }
 
 /// Whether the rows of all kinds of address are answered so, and each file is read once.
-fn answers_each_kind(alloc: Global) -> bool {
-    let mut files = MemFiles::new(alloc, 7);
-    let mut symbolizer = Symbolizer::new(alloc);
-    put_files(alloc, &mut files)
-        && answers_rows(alloc, &mut symbolizer, &mut files, &TOLD)
-        && files.opens() == 3
+pub(crate) fn answers_each_kind(
+    alloc: Global,
+    symbolizer: &mut Symbolizer,
+    files: &mut MemFiles,
+) -> bool {
+    put_files(alloc, files) && answers_rows(alloc, symbolizer, files, &TOLD) && files.opens() == 3
 }
 
 #[test]
 fn answers_elf_addresses_by_their_kind(rt: HostRuntime) {
-    assert!(rt; answers_each_kind(rt.alloc()));
+    assert!(rt; holds(rt.alloc(), source(rt.alloc(), "/e"), &Trial::ElfKinds));
 }
 
 /// A file offset that no segment has, and one in the function.
@@ -192,21 +203,21 @@ fn looks_offsets_up(
 }
 
 /// Whether the file of a function answers the offsets, at once and looked up.
-fn answers_offsets(alloc: Global) -> bool {
-    let Ok(src) = source(alloc, "/e") else {
-        return false;
-    };
-    let mut files = MemFiles::new(alloc, 7);
-    let mut symbolizer = Symbolizer::new(alloc);
+pub(crate) fn answers_offsets(
+    alloc: Global,
+    symbolizer: &mut Symbolizer,
+    files: &mut MemFiles,
+    src: &Source<'_>,
+) -> bool {
     let input = Input::FileOffset(OFFSETS);
-    put_files(alloc, &mut files)
-        && answers(alloc, &mut symbolizer, &mut files, &src, input, SECOND)
-        && looks_offsets_up(alloc, &mut symbolizer, &mut files, &src)
+    put_files(alloc, files)
+        && answers(alloc, symbolizer, files, src, input, SECOND)
+        && looks_offsets_up(alloc, symbolizer, files, src)
 }
 
 #[test]
 fn answers_batches_of_file_offsets(rt: HostRuntime) {
-    assert!(rt; answers_offsets(rt.alloc()));
+    assert!(rt; holds(rt.alloc(), source(rt.alloc(), "/e"), &Trial::ElfOffsets));
 }
 
 /// A path, and what registering the file of a function there is refused by.
@@ -264,16 +275,18 @@ fn registers_all(alloc: Global, symbolizer: &mut Symbolizer, files: &mut MemFile
 }
 
 /// Whether what is registered then answers, and no file is read.
-fn answers_unread(alloc: Global) -> bool {
-    let mut files = MemFiles::new(alloc, 7);
-    let mut symbolizer = Symbolizer::new(alloc);
-    put_files(alloc, &mut files)
-        && registers_all(alloc, &mut symbolizer, &mut files)
-        && answers_rows(alloc, &mut symbolizer, &mut files, &UNREAD)
+pub(crate) fn answers_unread(
+    alloc: Global,
+    symbolizer: &mut Symbolizer,
+    files: &mut MemFiles,
+) -> bool {
+    put_files(alloc, files)
+        && registers_all(alloc, symbolizer, files)
+        && answers_rows(alloc, symbolizer, files, &UNREAD)
         && files.opens() == 0
 }
 
 #[test]
 fn registered_files_answer_unread(rt: HostRuntime) {
-    assert!(rt; answers_unread(rt.alloc()));
+    assert!(rt; holds(rt.alloc(), source(rt.alloc(), "/e"), &Trial::ElfRegistered));
 }

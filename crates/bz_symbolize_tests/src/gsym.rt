@@ -1,6 +1,7 @@
 //! GSYM, handed in and in a file.
 
-use crate::asking::{Expected, answers, answers_single, is_refused, is_unknown, looks_up, put};
+use crate::asking::{Expected, answers, answers_single, is_unknown, looks_up, put, with_features};
+use crate::trials::{Trial, holds};
 use bz_base::{CodeInfo, Error, InlinedFn, Input, Reason, Result, Sym, Symbolized};
 use bz_files::MemFiles;
 use bz_samples::{GSYM_CALLS, damaged};
@@ -30,30 +31,43 @@ fn looks_addresses_up(
 }
 
 /// Whether the bytes answer the addresses, at once and looked up.
-fn answers_data(alloc: Global, bytes: &[u8]) -> bool {
-    let mut files = MemFiles::new(alloc, 7);
-    let mut symbolizer = Symbolizer::new(alloc);
-    let src = Source::from(GsymData::new(bytes));
+pub(crate) fn answers_data(
+    alloc: Global,
+    symbolizer: &mut Symbolizer,
+    files: &mut MemFiles,
+    src: &Source<'_>,
+) -> bool {
     let input = Input::VirtOffset(ADDRESSES);
-    answers(alloc, &mut symbolizer, &mut files, &src, input, MAIN)
-        && looks_addresses_up(alloc, &mut symbolizer, &mut files, &src)
+    answers(alloc, symbolizer, files, src, input, MAIN)
+        && looks_addresses_up(alloc, symbolizer, files, src)
 }
 
 /// Whether the bytes are refused as what isn't GSYM.
-fn is_invalid(alloc: Global, bytes: &[u8]) -> bool {
-    let mut files = MemFiles::new(alloc, 7);
-    let mut symbolizer = Symbolizer::new(alloc);
-    let src = Source::from(GsymData::new(bytes));
-    match symbolizer.symbolize(alloc, &mut files, &src, Input::VirtOffset(ADDRESSES)) {
+pub(crate) fn is_invalid(
+    alloc: Global,
+    symbolizer: &mut Symbolizer,
+    files: &mut MemFiles,
+    src: &Source<'_>,
+) -> bool {
+    match symbolizer.symbolize(alloc, files, src, Input::VirtOffset(ADDRESSES)) {
         Ok(_) => false,
         Err(refusal) => refusal == Error::InvalidData,
     }
 }
 
+/// The bytes as a source.
+fn data(bytes: &[u8]) -> Result<Source<'_>> {
+    Ok(Source::from(GsymData::new(bytes)))
+}
+
 #[test]
 fn answers_handed_in_bytes(rt: HostRuntime) {
-    assert!(rt; answers_data(rt.alloc(), &GSYM_CALLS));
-    assert!(rt; is_invalid(rt.alloc(), &GSYM_CALLS[..47]));
+    assert!(rt; holds(rt.alloc(), data(&GSYM_CALLS), &Trial::GsymBytes));
+}
+
+#[test]
+fn refuses_handed_in_bytes_short_of_a_head(rt: HostRuntime) {
+    assert!(rt; holds(rt.alloc(), data(&GSYM_CALLS[..47]), &Trial::GsymCut));
 }
 
 /// The GSYM file at `/m.gsym`.
@@ -72,26 +86,26 @@ fn answers_file(
     let batch = Input::VirtOffset(ADDRESSES);
     let single = Input::VirtOffset(0x1004);
     let other = Input::FileOffset(4);
+    let refusal = Error::Unsupported;
     answers(alloc, symbolizer, files, src, batch, MAIN)
-        && answers_single(alloc, symbolizer, files, src, single, "main")
+        && answers_single(alloc, symbolizer, files, src, single, "main", None)
         && files.opens() == 1
-        && is_refused(alloc, symbolizer, files, src, other, Error::Unsupported)
+        && answers_single(alloc, symbolizer, files, src, other, "", Some(refusal))
 }
 
 /// Whether this is so of the file of the calls.
-fn answers_calls(alloc: Global) -> bool {
-    let Ok(src) = source(alloc) else {
-        return false;
-    };
-    let mut files = MemFiles::new(alloc, 7);
-    let mut symbolizer = Symbolizer::new(alloc);
-    put(alloc, &mut files, "/m.gsym", &GSYM_CALLS)
-        && answers_file(alloc, &mut symbolizer, &mut files, &src)
+pub(crate) fn answers_calls(
+    alloc: Global,
+    symbolizer: &mut Symbolizer,
+    files: &mut MemFiles,
+    src: &Source<'_>,
+) -> bool {
+    put(alloc, files, "/m.gsym", &GSYM_CALLS) && answers_file(alloc, symbolizer, files, src)
 }
 
 #[test]
 fn answers_a_gsym_file(rt: HostRuntime) {
-    assert!(rt; answers_calls(rt.alloc()));
+    assert!(rt; holds(rt.alloc(), source(rt.alloc()), &Trial::GsymInFile));
 }
 
 /// What is told of an address: the name of its symbol, which is empty where no symbol covers it, the
@@ -161,26 +175,40 @@ const TOLD: [Row; 13] = [
     (false, false, 0x1040, ("sub", 0, None, None)),
 ];
 
-/// Whether a symbolizer that is set as the row says answers its address as it tells.
-fn answers_row(alloc: Global, row: &Row) -> bool {
-    let mut files = MemFiles::new(alloc, 7);
-    let src = Source::from(GsymData::new(&GSYM_CALLS));
-    let mut symbolizer = Symbolizer::builder()
-        .enable_code_info(row.0)
-        .enable_inlined_fns(row.1)
-        .build(alloc);
-    match symbolizer.symbolize_single(alloc, &mut files, &src, Input::VirtOffset(row.2)) {
-        Ok(answer) => is_told(&answer, &row.3),
+/// Whether the address is answered as it is told.
+fn tells(
+    alloc: Global,
+    symbolizer: &mut Symbolizer,
+    files: &mut MemFiles,
+    src: &Source<'_>,
+    addr: u64,
+    told: &Told,
+) -> bool {
+    match symbolizer.symbolize_single(alloc, files, src, Input::VirtOffset(addr)) {
+        Ok(answer) => is_told(&answer, told),
         Err(_) => false,
     }
 }
 
+/// Whether a symbolizer that is set as the row says answers its address as it tells.
+fn tells_row(alloc: Global, files: &mut MemFiles, src: &Source<'_>, row: &Row) -> bool {
+    let mut symbolizer = with_features(alloc, row.0, row.1);
+    tells(alloc, &mut symbolizer, files, src, row.2, &row.3)
+}
+
+/// Whether this is so of all rows.
+pub(crate) fn tells_all(alloc: Global, files: &mut MemFiles, src: &Source<'_>) -> bool {
+    for row in &TOLD {
+        if !tells_row(alloc, files, src, row) {
+            return false;
+        }
+    }
+    true
+}
+
 #[test]
 fn tells_places_as_it_is_set(rt: HostRuntime) {
-    for row in &TOLD {
-        let addr = row.2;
-        assert!(rt; answers_row(rt.alloc(), row), "{addr}");
-    }
+    assert!(rt; holds(rt.alloc(), data(&GSYM_CALLS), &Trial::GsymPlaces));
 }
 
 /// An address in the inlined call, and one behind it.
@@ -211,20 +239,22 @@ fn folds(
 }
 
 /// Whether the bytes answer the batch so, and refuse its first address alone.
-fn refuses_alone(alloc: Global, bytes: &[u8]) -> bool {
-    let mut files = MemFiles::new(alloc, 7);
-    let mut symbolizer = Symbolizer::new(alloc);
-    let src = Source::from(GsymData::new(bytes));
+pub(crate) fn refuses_alone(
+    alloc: Global,
+    symbolizer: &mut Symbolizer,
+    files: &mut MemFiles,
+    src: &Source<'_>,
+) -> bool {
     let single = Input::VirtOffset(0x1005);
     let refusal = Error::InvalidData;
-    folds(alloc, &mut symbolizer, &mut files, &src)
-        && is_refused(alloc, &mut symbolizer, &mut files, &src, single, refusal)
+    folds(alloc, symbolizer, files, src)
+        && answers_single(alloc, symbolizer, files, src, single, "", Some(refusal))
 }
 
 /// Whether this is so where the inlined call names a file that isn't there.
 fn refuses_without_its_file(alloc: Global) -> bool {
     match damaged(alloc, &GSYM_CALLS, 166, &[2]) {
-        Ok(bytes) => refuses_alone(alloc, bytes.as_slice()),
+        Ok(bytes) => holds(alloc, data(bytes.as_slice()), &Trial::GsymFolded),
         Err(_) => false,
     }
 }

@@ -15,3 +15,5 @@ mod elf;
 mod gsym;
 #[cfg(test)]
 mod lookups;
+#[cfg(test)]
+mod trials;

@@ -1,8 +1,9 @@
 //! Batches that are looked up, and answer by the version that was found.
 
 use crate::asking::{
-    ADDRESSES, FIRST, ONE, SECOND, TWO, answers, are_expected, is_named_at, look_up, put, source,
+    ADDRESSES, FIRST, ONE, SECOND, TWO, answers, are_expected, is_answered_at, look_up, put, source,
 };
+use crate::trials::{Trial, holds};
 use bz_base::{Input, Result};
 use bz_files::MemFiles;
 use bz_symbolize::source::Source;
@@ -10,12 +11,12 @@ use bz_symbolize::{Lookups, Symbolizer};
 use std::alloc::Global;
 
 /// The address in the function, looked up alone.
-fn look_up_one(
+fn look_up_one<'d>(
     alloc: Global,
     symbolizer: &mut Symbolizer,
     files: &mut MemFiles,
-    src: &Source<'static>,
-) -> Result<Lookups<'static>> {
+    src: &Source<'d>,
+) -> Result<Lookups<'d>> {
     let addrs = Vec::from_slice(alloc, &[0x1010])?;
     look_up(alloc, symbolizer, files, src, Input::FileOffset(addrs))
 }
@@ -32,37 +33,45 @@ fn answers_with_another(alloc: Global, lookups: &Lookups<'_>) -> bool {
 }
 
 /// Whether the first file's look-up answers by it after the second file has come.
-fn keeps_its_version(
+fn answers_by_its_version(
     alloc: Global,
     symbolizer: &mut Symbolizer,
     files: &mut MemFiles,
-    src: &Source<'static>,
+    src: &Source<'_>,
+    lookups: &Lookups<'_>,
+) -> bool {
+    put(alloc, files, "/s.sym", SECOND)
+        && answers(alloc, symbolizer, files, src, ADDRESSES, TWO)
+        && is_answered_at(alloc, lookups, 0, None, "one")
+        && answers_with_another(alloc, lookups)
+        && !lookups.heeds_order()
+}
+
+/// Whether this is so of the address in the function.
+fn keeps(
+    alloc: Global,
+    symbolizer: &mut Symbolizer,
+    files: &mut MemFiles,
+    src: &Source<'_>,
 ) -> bool {
     match look_up_one(alloc, symbolizer, files, src) {
-        Ok(lookups) => {
-            put(alloc, files, "/s.sym", SECOND)
-                && answers(alloc, symbolizer, files, src, ADDRESSES, TWO)
-                && is_named_at(alloc, &lookups, 0, "one")
-                && answers_with_another(alloc, &lookups)
-                && !lookups.heeds_order()
-        }
+        Ok(lookups) => answers_by_its_version(alloc, symbolizer, files, src, &lookups),
         Err(_) => false,
     }
 }
 
 /// Whether this is so of a symbolizer that looks at files anew.
-fn lookups_keep_their_version(alloc: Global) -> bool {
-    let Ok(src) = source(alloc) else {
-        return false;
-    };
-    let mut files = MemFiles::new(alloc, 7);
-    let mut symbolizer = Symbolizer::new(alloc);
-    put(alloc, &mut files, "/s.sym", FIRST)
-        && keeps_its_version(alloc, &mut symbolizer, &mut files, &src)
+pub(crate) fn keeps_its_version(
+    alloc: Global,
+    symbolizer: &mut Symbolizer,
+    files: &mut MemFiles,
+    src: &Source<'_>,
+) -> bool {
+    put(alloc, files, "/s.sym", FIRST) && keeps(alloc, symbolizer, files, src)
 }
 
 /// A batch that was looked up answers by the version that it found, also after the file has changed.
 #[test]
 fn answers_by_the_version_that_was_found(rt: HostRuntime) {
-    assert!(rt; lookups_keep_their_version(rt.alloc()));
+    assert!(rt; holds(rt.alloc(), source(rt.alloc()), &Trial::LookedUp));
 }
