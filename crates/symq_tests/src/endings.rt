@@ -58,8 +58,7 @@ fn ends_by(alloc: Global, (path, file, faults, status, written): &Ending) -> boo
 #[test]
 fn ends_by_its_cause(rt: HostRuntime) {
     for row in ENDINGS {
-        let written = row.4;
-        assert!(rt; ends_by(rt.alloc(), row), "{written}");
+        assert!(rt; ends_by(rt.alloc(), row));
     }
 }
 
@@ -72,10 +71,19 @@ fn tells_usage(alloc: Global) -> bool {
     ended == Status::Usage && output.written() == USAGE.as_bytes()
 }
 
-/// Without words nothing is looked at, and without addresses the file is.
+/// Nothing is looked at.
+#[test]
+fn tells_its_usage_without_words(rt: HostRuntime) {
+    assert!(rt; tells_usage(rt.alloc()));
+}
+
+/// Whether a run without addresses over a path where no file is ends by that.
+fn looks_for_nothing(alloc: Global) -> bool {
+    let row = over_first("/absent", "", Status::Refused, "refused: NotFound\n");
+    ends_so(alloc, &row)
+}
+
 #[test]
 fn looks_at_the_file_for_no_addresses(rt: HostRuntime) {
-    let absent = over_first("/absent", "", Status::Refused, "refused: NotFound\n");
-    assert!(rt; tells_usage(rt.alloc()));
-    assert!(rt; ends_so(rt.alloc(), &absent));
+    assert!(rt; looks_for_nothing(rt.alloc()));
 }

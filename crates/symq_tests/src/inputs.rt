@@ -1,6 +1,6 @@
 //! Inputs that aren't addresses, and the longest ones.
 
-use crate::runs::{ends_so, over_bytes, over_first};
+use crate::runs::{ends_so, over_bytes};
 use bz_symq::Status;
 use std::alloc::Global;
 
@@ -14,19 +14,18 @@ const BAD_LINES: &[(&str, &str)] = &[
     ("00000000000000010\n", "input: line 1\n"),
 ];
 
-/// The first line that is neither empty nor an address is named by its number.
-#[test]
-fn names_the_first_bad_line(rt: HostRuntime) {
-    for (input, written) in BAD_LINES {
-        let row = over_first("/a.sym", input, Status::Input, written);
-        assert!(rt; ends_so(rt.alloc(), &row), "{input}");
-    }
-}
-
 /// Whether a run with the input ends so, and writes so.
 fn ends_with(alloc: Global, input: &[u8], status: Status, written: &str) -> bool {
     let row = over_bytes("/a.sym", input, status, written);
     ends_so(alloc, &row)
+}
+
+/// The first line that is neither empty nor an address is named by its number.
+#[test]
+fn names_the_first_bad_line(rt: HostRuntime) {
+    for row in BAD_LINES {
+        assert!(rt; ends_with(rt.alloc(), row.0.as_bytes(), Status::Input, row.1));
+    }
 }
 
 /// The greatest length of an input, but for one byte.
@@ -55,9 +54,12 @@ fn stops_at(alloc: Global, end: &[u8], written: &str) -> bool {
         && ends_with(alloc, input.as_slice(), Status::Input, written)
 }
 
-/// The longest input is read whole, and one byte more is too long.
 #[test]
 fn reads_the_longest_input(rt: HostRuntime) {
     assert!(rt; stops_at(rt.alloc(), b"x", "input: line 16777216\n"));
+}
+
+#[test]
+fn refuses_one_byte_more_than_the_longest_input(rt: HostRuntime) {
     assert!(rt; stops_at(rt.alloc(), b"x\n", "input: too long\n"));
 }

@@ -2,10 +2,11 @@
 
 ghost use Rattle.std.specs.Prelude.{◌≡◌, ◌<◌};
 
+use crate::runs::{Trial, holds};
 use bz_base::{CodeInfo, Input, Reason, Result, Steps, Sym, Symbolized, whole_decimal};
 use bz_files::MemFiles;
 use bz_symbolize::Symbolizer;
-use bz_symbolize::source::{Breakpad, Source};
+use bz_symbolize::source::Source;
 use std::alloc::Global;
 use std::marker::Brand;
 use std::sync::ledger::{Blank, Ledger};
@@ -30,10 +31,10 @@ fn push_function(text: &mut String, number: u32) -> Result<()> {
     let later = start.wrapping_add(16);
     let first = u64::from(number) + 1;
     let second = u64::from(number) + 2;
-    write!(text, "FUNC {start:x} 30 0 f{number}\n")?;
-    write!(text, "INLINE 0 7 0 0 {start:x} 8\n")?;
-    write!(text, "{start:x} 10 {first} 0\n")?;
-    write!(text, "{later:x} 20 {second} 0\n")?;
+    write!(
+        text,
+        "FUNC {start:x} 30 0 f{number}\nINLINE 0 7 0 0 {start:x} 8\n{start:x} 10 {first} 0\n{later:x} 20 {second} 0\n"
+    )?;
     Ok(())
 }
 
@@ -47,16 +48,12 @@ fn generated(alloc: Global, functions: u32) -> Result<String> {
     Ok(text)
 }
 
-/// Puts such a file at `/gen.sym`. Says whether memory was left.
+/// Puts such a file at `/s.sym`. Says whether memory was left.
 fn put_generated(alloc: Global, files: &mut MemFiles, functions: u32) -> bool {
     match generated(alloc, functions) {
-        Ok(text) => files.put(alloc, "/gen.sym", text.into_bytes()).is_ok(),
+        Ok(text) => files.put(alloc, "/s.sym", text.into_bytes()).is_ok(),
         Err(_) => false,
     }
-}
-
-fn source(alloc: Global) -> Result<Source<'static>> {
-    Ok(Source::from(Breakpad::new(String::from_str(alloc, "/gen.sym")?)))
 }
 
 /// Whether the symbol is the function with the number, this many bytes past its start.
@@ -137,11 +134,19 @@ fn addresses_in(alloc: Global, order: Order) -> Result<Vec<u64>> {
     Ok(addrs)
 }
 
+/// Whether the plain answer after so many steps is the same.
+fn is_plain(answer: &Symbolized<'_>, plain: &[Symbolized<'_>], step: u32) -> bool {
+    match plain.get(step as usize) {
+        Some(other) => *other == *answer,
+        None => false,
+    }
+}
+
 /// Whether the answers are those after the steps in an order, and the same as the plain ones.
 fn are_steps(answers: &[Symbolized<'_>], order: Order, plain: &[Symbolized<'_>]) -> bool {
     for (index, answer) in (0..STEPS).zip(answers.iter()) {
         let step = step_at(index, order);
-        if !is_step(answer, step) || plain.get(step as usize) != Some(answer) {
+        if !is_step(answer, step) || !is_plain(answer, plain, step) {
             return false;
         }
     }
@@ -206,20 +211,19 @@ fn answers_alike(
 }
 
 /// Whether this is so of a file of 2000 functions.
-fn answers_steps(alloc: Global) -> bool {
-    let Ok(src) = source(alloc) else {
-        return false;
-    };
-    let mut files = MemFiles::new(alloc, 7);
-    let mut symbolizer = Symbolizer::new(alloc);
-    put_generated(alloc, &mut files, 2000)
-        && answers_alike(alloc, &mut symbolizer, &mut files, &src)
+pub(crate) fn answers_steps(
+    alloc: Global,
+    symbolizer: &mut Symbolizer,
+    files: &mut MemFiles,
+    src: &Source<'_>,
+) -> bool {
+    put_generated(alloc, files, 2000) && answers_alike(alloc, symbolizer, files, src)
 }
 
 /// Addresses in ascending, descending and mixed order have the same answers.
 #[test]
 fn answers_in_any_order(rt: HostRuntime) {
-    assert!(rt; answers_steps(rt.alloc()));
+    assert!(rt; holds(rt.alloc(), true, &Trial::Orders));
 }
 
 /// The addresses of all functions of the large file, the last one first.
@@ -231,13 +235,18 @@ fn all_starts(alloc: Global) -> Result<Vec<u64>> {
     Ok(addrs)
 }
 
+/// Whether the answer is the function with the number, at its start.
+fn is_start(answer: &Symbolized<'_>, number: u64) -> bool {
+    match answer.as_sym() {
+        Some(symbol) => is_function(symbol, number, 0),
+        None => false,
+    }
+}
+
 /// Whether the answers are all functions of the large file at their starts, the last one first.
 fn are_functions(answers: &[Symbolized<'_>]) -> bool {
     for (number, answer) in (0..FUNCTIONS).rev().zip(answers.iter()) {
-        let Some(symbol) = answer.as_sym() else {
-            return false;
-        };
-        if !is_function(symbol, u64::from(number), 0) {
+        if !is_start(answer, u64::from(number)) {
             return false;
         }
     }
@@ -325,27 +334,22 @@ fn answers_of_one_read(
         && files.opens() == 1
 }
 
-/// Whether this is so where answers have no places.
-fn reads_once(alloc: Global, src: &Source<'_>, addrs: &[u64]) -> bool {
-    let mut files = MemFiles::new(alloc, 7);
-    let mut symbolizer = Symbolizer::builder().enable_code_info(false).build(alloc);
-    put_generated(alloc, &mut files, FUNCTIONS)
-        && answers_of_one_read(alloc, &mut symbolizer, &mut files, src, addrs)
-}
-
 /// Whether this is so of all functions.
-fn reads_a_large_file(alloc: Global) -> bool {
-    let Ok(src) = source(alloc) else {
+pub(crate) fn reads_a_large_file(
+    alloc: Global,
+    symbolizer: &mut Symbolizer,
+    files: &mut MemFiles,
+    src: &Source<'_>,
+) -> bool {
+    let Ok(addrs) = all_starts(alloc) else {
         return false;
     };
-    match all_starts(alloc) {
-        Ok(addrs) => reads_once(alloc, &src, addrs.as_slice()),
-        Err(_) => false,
-    }
+    put_generated(alloc, files, FUNCTIONS)
+        && answers_of_one_read(alloc, symbolizer, files, src, addrs.as_slice())
 }
 
 /// A large file that is asked again and again, with and without a count, is read once.
 #[test]
 fn reads_a_large_file_once(rt: HostRuntime) {
-    assert!(rt; reads_a_large_file(rt.alloc()));
+    assert!(rt; holds(rt.alloc(), false, &Trial::Large));
 }

@@ -1,10 +1,10 @@
 //! A function with calls in calls.
 
-use crate::runs::{ends_so, over_first, put};
-use bz_base::{Error, Input, Reason, Result, Symbolized};
+use crate::runs::{Trial, ends_so, holds, over_first, put};
+use bz_base::{Error, Input, Reason, Symbolized};
 use bz_files::MemFiles;
 use bz_symbolize::Symbolizer;
-use bz_symbolize::source::{Breakpad, Source};
+use bz_symbolize::source::Source;
 use bz_symq::Status;
 use std::alloc::Global;
 
@@ -30,8 +30,19 @@ fn answers_calls_in_calls(rt: HostRuntime) {
 
 const ADDRESSES: &[u64] = &[0x1010, 0x1020, 0x1000];
 
-fn source(alloc: Global) -> Result<Source<'static>> {
-    Ok(Source::from(Breakpad::new(String::from_str(alloc, "/n.sym")?)))
+/// Whether an answer of a batch is that of its address alone, which isn't refused.
+fn is_answered(answer: &Symbolized<'_>, single: &Symbolized<'_>, addr: u64) -> bool {
+    addr != 0x1000 && *answer == *single
+}
+
+/// Whether an answer of a batch is an ignored error, and its address, which is 0x1000, refused alone.
+fn is_ignored(answer: &Symbolized<'_>, refusal: &Error, addr: u64) -> bool {
+    match answer {
+        Symbolized::Sym(_) => false,
+        Symbolized::Unknown(reason) => {
+            addr == 0x1000 && *refusal == Error::InvalidInput && *reason == Reason::IgnoredError
+        }
+    }
 }
 
 /// Whether an answer of a batch is that of its address alone, and where that one is refused, which is
@@ -45,12 +56,8 @@ fn answers_alone(
     answer: &Symbolized<'_>,
 ) -> bool {
     match symbolizer.symbolize_single(alloc, files, src, Input::FileOffset(addr)) {
-        Ok(single) => *answer == single && addr != 0x1000,
-        Err(error) => {
-            error == Error::InvalidInput
-                && addr == 0x1000
-                && matches!(answer, Symbolized::Unknown(Reason::IgnoredError))
-        }
+        Ok(single) => is_answered(answer, &single, addr),
+        Err(refusal) => is_ignored(answer, &refusal, addr),
     }
 }
 
@@ -84,17 +91,17 @@ fn answers_each_alone(
 }
 
 /// Whether this is so of the file.
-fn answers_nested(alloc: Global) -> bool {
-    let Ok(src) = source(alloc) else {
-        return false;
-    };
-    let mut files = MemFiles::new(alloc, 7);
-    let mut symbolizer = Symbolizer::new(alloc);
-    put(alloc, &mut files, "/n.sym", NESTED.as_bytes())
-        && answers_each_alone(alloc, &mut symbolizer, &mut files, &src)
+pub(crate) fn answers_nested(
+    alloc: Global,
+    symbolizer: &mut Symbolizer,
+    files: &mut MemFiles,
+    src: &Source<'_>,
+) -> bool {
+    put(alloc, files, "/s.sym", NESTED.as_bytes())
+        && answers_each_alone(alloc, symbolizer, files, src)
 }
 
 #[test]
 fn answers_alone_as_in_a_batch(rt: HostRuntime) {
-    assert!(rt; answers_nested(rt.alloc()));
+    assert!(rt; holds(rt.alloc(), true, &Trial::Nested));
 }

@@ -24,8 +24,10 @@ fn many_addresses(alloc: Global) -> Result<String> {
 fn many_answers(alloc: Global) -> Result<String> {
     let mut written = String::new(alloc);
     for addr in 0..ADDRESSES {
-        write!(written, "0x{addr:x}: f+0x{addr:x} start 0x0 ")?;
-        written.push_str("size 0xbb8 module - at -\n")?;
+        write!(
+            written,
+            "0x{addr:x}: f+0x{addr:x} start 0x0 size 0xbb8 module - at -\n"
+        )?;
     }
     Ok(written)
 }

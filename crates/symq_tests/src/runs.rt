@@ -1,7 +1,10 @@
-//! What the tests share: runs over files, inputs and outputs in memory.
+//! What the tests share: runs over files, inputs and outputs in memory, and symbolizers over files.
 
+use crate::{many, nested};
 use bz_base::Result;
 use bz_files::{MemFiles, MemIn, MemOut};
+use bz_symbolize::Symbolizer;
+use bz_symbolize::source::{Breakpad, Source};
 use bz_symq::{Status, run};
 use std::alloc::Global;
 
@@ -77,8 +80,9 @@ fn put_files(alloc: Global, files: &mut MemFiles, row: &Row<'_>) -> bool {
 /// The words of a row.
 fn words_of(alloc: Global, row: &Row<'_>) -> Result<Vec<String>> {
     let mut words = Vec::new(alloc);
-    words.push(String::from_str(alloc, row.kind)?)?;
-    words.push(String::from_str(alloc, row.path)?)?;
+    for word in [row.kind, row.path] {
+        words.push(String::from_str(alloc, word)?)?;
+    }
     Ok(words)
 }
 
@@ -107,4 +111,35 @@ pub(crate) fn ends_into(alloc: Global, row: &Row<'_>, output: &mut MemOut) -> bo
 pub(crate) fn ends_so(alloc: Global, row: &Row<'_>) -> bool {
     let mut output = MemOut::new(alloc);
     ends_into(alloc, row, &mut output) && output.written() == row.written.as_bytes()
+}
+
+/// What is tried of a symbolizer, told at the function that tries it.
+pub(crate) enum Trial {
+    Nested,
+    Orders,
+    Large,
+}
+
+/// Whether it holds of the source, over new files and this symbolizer.
+fn holds_over(alloc: Global, symbolizer: &mut Symbolizer, src: &Source<'_>, trial: &Trial) -> bool {
+    let mut files = MemFiles::new(alloc, 7);
+    match trial {
+        Trial::Nested => nested::answers_nested(alloc, symbolizer, &mut files, src),
+        Trial::Orders => many::answers_steps(alloc, symbolizer, &mut files, src),
+        Trial::Large => many::reads_a_large_file(alloc, symbolizer, &mut files, src),
+    }
+}
+
+/// The Breakpad file at `/s.sym`.
+fn source(alloc: Global) -> Result<Source<'static>> {
+    Ok(Source::from(Breakpad::new(String::from_str(alloc, "/s.sym")?)))
+}
+
+/// Whether it holds of the Breakpad file at `/s.sym`, by a symbolizer that tells places or not.
+pub(crate) fn holds(alloc: Global, places: bool, trial: &Trial) -> bool {
+    let Ok(src) = source(alloc) else {
+        return false;
+    };
+    let mut symbolizer = Symbolizer::builder().enable_code_info(places).build(alloc);
+    holds_over(alloc, &mut symbolizer, &src, trial)
 }

@@ -6,8 +6,8 @@ use std::alloc::Global;
 use std::borrow::CowStr;
 
 /// Whether the text of the answer is this one.
-fn prints(alloc: Global, addr: u64, answer: &Symbolized<'_>, text: &str) -> bool {
-    match answer_text(alloc, addr, answer) {
+fn prints(alloc: Global, addr: u64, answer: Symbolized<'_>, text: &str) -> bool {
+    match answer_text(alloc, addr, &answer) {
         Ok(written) => written.as_str() == text,
         Err(_) => false,
     }
@@ -45,7 +45,7 @@ fn prints_place(alloc: Global, place: CodeInfo<'static>, text: &str) -> bool {
         inlined: Vec::new(alloc),
         public: false,
     });
-    prints(alloc, 1, &answer, text)
+    prints(alloc, 1, answer, text)
 }
 
 /// A directory, a file, a line, and the text of an answer at that place.
@@ -95,13 +95,16 @@ fn prints_a_file(alloc: Global) -> bool {
     prints_place(alloc, line_of("source.c", None), text)
 }
 
-/// A directory and a file as the joined path, with and without a line.
+/// With and without a line.
 #[test]
 fn joins_a_directory_and_a_file(rt: HostRuntime) {
     for row in JOINED {
-        let text = row.3;
-        assert!(rt; prints_joined(rt.alloc(), row), "{text}");
+        assert!(rt; prints_joined(rt.alloc(), row));
     }
+}
+
+#[test]
+fn tells_a_file_without_a_directory(rt: HostRuntime) {
     assert!(rt; prints_a_file(rt.alloc()));
 }
 
@@ -118,7 +121,7 @@ fn prints_a_place(alloc: Global) -> bool {
         public: false,
     });
     let text = "0x1010: another func+0x10 start 0x1000 size 0x30 module bar at bar.c:7\n";
-    prints(alloc, 0x1010, &answer, text)
+    prints(alloc, 0x1010, answer, text)
 }
 
 /// Two inlined calls, the second one without a place.
@@ -154,7 +157,7 @@ const CALLED: &str =
 /// Whether a symbol with all that it may have is printed whole.
 fn prints_calls(alloc: Global) -> bool {
     match calls(alloc) {
-        Ok(inlined) => prints(alloc, 0xabcdef, &called(inlined), CALLED),
+        Ok(inlined) => prints(alloc, 0xabcdef, called(inlined), CALLED),
         Err(_) => false,
     }
 }
@@ -171,26 +174,33 @@ fn prints_a_name(alloc: Global) -> bool {
         inlined: Vec::new(alloc),
         public: false,
     });
-    prints(
-        alloc,
-        0,
-        &answer,
-        "0x0: f+0x0 start 0x0 size - module - at -\n",
-    )
+    let text = "0x0: f+0x0 start 0x0 size - module - at -\n";
+    prints(alloc, 0, answer, text)
 }
 
 /// Whether an answer without a symbol is printed as its reason.
 fn prints_a_reason(alloc: Global) -> bool {
     let answer = Symbolized::Unknown(Reason::UnknownAddr);
     let text = "0x1030: ? address not found in symbolization source\n";
-    prints(alloc, 0x1030, &answer, text)
+    prints(alloc, 0x1030, answer, text)
 }
 
-/// A symbol with all that it may have, one with nothing of it, and a reason.
 #[test]
-fn answers_print(rt: HostRuntime) {
+fn a_symbol_with_a_place_prints(rt: HostRuntime) {
     assert!(rt; prints_a_place(rt.alloc()));
+}
+
+#[test]
+fn a_symbol_with_calls_prints(rt: HostRuntime) {
     assert!(rt; prints_calls(rt.alloc()));
+}
+
+#[test]
+fn a_symbol_with_a_name_alone_prints(rt: HostRuntime) {
     assert!(rt; prints_a_name(rt.alloc()));
+}
+
+#[test]
+fn an_answer_without_a_symbol_prints(rt: HostRuntime) {
     assert!(rt; prints_a_reason(rt.alloc()));
 }
