@@ -39,7 +39,8 @@ pub record IsRecordLine (before : List Role) (line : List ℕ) (r : Record) : Ty
   pub text_is : IsText (is_free before) line text
   pub record_is : IsRecord (under_owner before) text r
 
--- the line has the role, after lines of these roles
+-- the line has the role, after lines of these roles: a blank one has only white space, and stands where white space may stand before
+-- a line
 abbrev pub IsRole : List Role → List ℕ → Role → Type 0
 IsRole before line Blank = (is_free before ≡ true) × AllPass is_white line
 IsRole before line (Is r) = IsRecordLine before line r
