@@ -5,12 +5,17 @@ use bz_symq::answer_text;
 use std::alloc::Global;
 use std::borrow::CowStr;
 
-/// Whether the text of the answer is this one.
-fn prints(alloc: Global, addr: u64, answer: Symbolized<'_>, text: &str) -> bool {
-    match answer_text(alloc, addr, &answer) {
+/// Whether the text of a lent answer is this one.
+fn is_text(alloc: Global, addr: u64, answer: &Symbolized<'_>, text: &str) -> bool {
+    match answer_text(alloc, addr, answer) {
         Ok(written) => written.as_str() == text,
         Err(_) => false,
     }
+}
+
+/// Whether the text of the answer is this one.
+fn prints(alloc: Global, addr: u64, answer: Symbolized<'_>, text: &str) -> bool {
+    is_text(alloc, addr, &answer, text)
 }
 
 /// A line of a file.
