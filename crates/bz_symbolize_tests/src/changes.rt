@@ -1,12 +1,39 @@
 //! Files that change, go and come back, and files that keep their stamp.
 
-use crate::asking::{ADDRESSES, FIRST, ONE, SECOND, TWO, answers, answers_single, put, source};
+use crate::asking::{
+    ADDRESSES, Expected, FIRST, ONE, SECOND, TWO, answers, answers_single, put, source,
+};
 use crate::trials::{Trial, holds};
 use bz_base::{Error, Input};
 use bz_files::{Files, MemFiles, Stamp};
 use bz_symbolize::Symbolizer;
 use bz_symbolize::source::Source;
 use std::alloc::Global;
+
+/// Whether the one that looks anew answers a batch as expected, and the other one by the first file.
+fn answer(
+    alloc: Global,
+    anew: &mut Symbolizer,
+    still: &mut Symbolizer,
+    files: &mut MemFiles,
+    src: &Source<'_>,
+    expected: Expected,
+) -> bool {
+    answers(alloc, anew, files, src, ADDRESSES, expected)
+        && answers(alloc, still, files, src, ADDRESSES, ONE)
+}
+
+/// Whether the fifth call of files, which fails, is in a batch, which then isn't answered.
+fn fails_once(
+    alloc: Global,
+    anew: &mut Symbolizer,
+    files: &mut MemFiles,
+    src: &Source<'_>,
+) -> bool {
+    files.fail_call(alloc, 5).is_ok()
+        && !answers(alloc, anew, files, src, ADDRESSES, TWO)
+        && files.faults() == 1
+}
 
 /// Whether a change of the file is seen by the one that looks anew, after a look that fails, and not
 /// by the other one.
@@ -18,14 +45,10 @@ pub(crate) fn sees_the_change(
     src: &Source<'_>,
 ) -> bool {
     put(alloc, files, "/s.sym", FIRST)
-        && answers(alloc, anew, files, src, ADDRESSES, ONE)
-        && answers(alloc, still, files, src, ADDRESSES, ONE)
+        && answer(alloc, anew, still, files, src, ONE)
         && put(alloc, files, "/s.sym", SECOND)
-        && files.fail_call(alloc, 5).is_ok()
-        && !answers(alloc, anew, files, src, ADDRESSES, TWO)
-        && files.faults() == 1
-        && answers(alloc, anew, files, src, ADDRESSES, TWO)
-        && answers(alloc, still, files, src, ADDRESSES, ONE)
+        && fails_once(alloc, anew, files, src)
+        && answer(alloc, anew, still, files, src, TWO)
         && files.opens() == 3
 }
 

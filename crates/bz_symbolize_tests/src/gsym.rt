@@ -8,6 +8,7 @@ use bz_samples::{GSYM_CALLS, damaged};
 use bz_symbolize::Symbolizer;
 use bz_symbolize::source::{GsymData, GsymFile, Source};
 use std::alloc::Global;
+use std::borrow::CowStr;
 
 /// An address before the first function, and one in it.
 const ADDRESSES: &[u64] = &[0xfff, 0x1004];
@@ -110,29 +111,39 @@ fn answers_a_gsym_file(rt: HostRuntime) {
 
 /// What is told of an address: the name of its symbol, which is empty where no symbol covers it, the
 /// offset in the symbol, the line of its place, which is in `src/a.c`, and that of its one inlined
-/// call, of `sub`.
-type Told = (&'static str, usize, Option<u32>, Option<u32>);
+/// call, of `sub`. Where a line is 0 there is no place, or no call.
+type Told = (&'static str, usize, u32, u32);
+
+/// Whether the directory is `src`.
+fn is_src(dir: &Option<CowStr<'_>>) -> bool {
+    match dir {
+        Some(dir) => dir.as_str() == "src",
+        None => false,
+    }
+}
 
 /// Whether the place is that line of `src/a.c`, or there is neither.
-fn is_place(place: &Option<CodeInfo<'_>>, line: Option<u32>) -> bool {
-    let Some(place) = place else {
-        return line.is_none();
-    };
-    let Some(dir) = &place.dir else {
-        return false;
-    };
-    dir.as_str() == "src" && place.file.as_str() == "a.c" && line.is_some() && place.line == line
+fn is_place(place: &Option<CodeInfo<'_>>, line: u32) -> bool {
+    match place {
+        Some(place) => {
+            line != 0
+                && place.line == Some(line)
+                && place.file.as_str() == "a.c"
+                && is_src(&place.dir)
+        }
+        None => line == 0,
+    }
 }
 
 /// Whether the inlined call is of `sub` at that line.
-fn is_call(call: &InlinedFn<'_>, line: Option<u32>) -> bool {
-    call.name.as_str() == "sub" && line.is_some() && is_place(&call.code_info, line)
+fn is_call(call: &InlinedFn<'_>, line: u32) -> bool {
+    call.name.as_str() == "sub" && line != 0 && is_place(&call.code_info, line)
 }
 
 /// Whether the inlined calls are one of `sub` at that line, or there is neither.
-fn are_calls(calls: &[InlinedFn<'_>], line: Option<u32>) -> bool {
+fn are_calls(calls: &[InlinedFn<'_>], line: u32) -> bool {
     match calls {
-        [] => line.is_none(),
+        [] => line == 0,
         [call] => is_call(call, line),
         _ => false,
     }
@@ -157,22 +168,22 @@ fn is_told(answer: &Symbolized<'_>, told: &Told) -> bool {
 /// Whether answers have places, whether they have inlined calls, an address, and what is told of it.
 type Row = (bool, bool, u64, Told);
 
-const UNCOVERED: Told = ("", 0, None, None);
+const UNCOVERED: Told = ("", 0, 0, 0);
 
 const TOLD: [Row; 13] = [
     (true, true, 0xfff, UNCOVERED),
-    (true, true, 0x1000, ("main", 0, Some(5), None)),
-    (true, true, 0x1005, ("main", 5, Some(9), Some(5))),
-    (true, true, 0x1009, ("main", 9, Some(7), None)),
-    (true, true, 0x100c, ("main", 12, Some(7), None)),
-    (true, true, 0x101f, ("main", 31, Some(10), None)),
+    (true, true, 0x1000, ("main", 0, 5, 0)),
+    (true, true, 0x1005, ("main", 5, 9, 5)),
+    (true, true, 0x1009, ("main", 9, 7, 0)),
+    (true, true, 0x100c, ("main", 12, 7, 0)),
+    (true, true, 0x101f, ("main", 31, 10, 0)),
     (true, true, 0x1020, UNCOVERED),
-    (true, true, 0x1040, ("sub", 0, None, None)),
-    (true, true, 0x9999, ("sub", 35161, None, None)),
-    (true, false, 0x1005, ("main", 5, Some(5), None)),
-    (false, true, 0x1005, ("main", 5, None, None)),
-    (false, false, 0x1005, ("main", 5, None, None)),
-    (false, false, 0x1040, ("sub", 0, None, None)),
+    (true, true, 0x1040, ("sub", 0, 0, 0)),
+    (true, true, 0x9999, ("sub", 35161, 0, 0)),
+    (true, false, 0x1005, ("main", 5, 5, 0)),
+    (false, true, 0x1005, ("main", 5, 0, 0)),
+    (false, false, 0x1005, ("main", 5, 0, 0)),
+    (false, false, 0x1040, ("sub", 0, 0, 0)),
 ];
 
 /// Whether the address is answered as it is told.
@@ -197,13 +208,18 @@ fn tells_row(alloc: Global, files: &mut MemFiles, src: &Source<'_>, row: &Row) -
 }
 
 /// Whether this is so of all rows.
-pub(crate) fn tells_all(alloc: Global, files: &mut MemFiles, src: &Source<'_>) -> bool {
-    for row in &TOLD {
+fn tells_rows(alloc: Global, files: &mut MemFiles, src: &Source<'_>, rows: &[Row]) -> bool {
+    for row in rows {
         if !tells_row(alloc, files, src, row) {
             return false;
         }
     }
     true
+}
+
+/// Whether the bytes are told of so.
+pub(crate) fn tells_all(alloc: Global, files: &mut MemFiles, src: &Source<'_>) -> bool {
+    tells_rows(alloc, files, src, &TOLD)
 }
 
 #[test]
@@ -215,7 +231,7 @@ fn tells_places_as_it_is_set(rt: HostRuntime) {
 const FOLDED: &[u64] = &[0x1005, 0x1009];
 
 /// What is told of the address behind the call.
-const BEHIND: Told = ("main", 9, Some(7), None);
+const BEHIND: Told = ("main", 9, 7, 0);
 
 /// Whether the first answer is an ignored error, and the second one as told.
 fn are_folded(answers: &[Symbolized<'_>]) -> bool {
