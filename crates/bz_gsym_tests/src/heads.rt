@@ -3,7 +3,7 @@
 use bz_base::Error;
 use bz_gsym::{GsymContext, laws};
 use bz_samples::{GSYM_LINES, damaged};
-use std::test::Fail;
+use std::alloc::Global;
 
 /// Whether the bytes are taken as is expected, or else refused as outside the format.
 fn is_taken_as(bytes: &[u8], expected: bool) -> bool {
@@ -13,9 +13,11 @@ fn is_taken_as(bytes: &[u8], expected: bool) -> bool {
     }
 }
 
-/// Bytes that stand in the file from a place on, and whether it is taken then: each field of the head is
-/// 0, its greatest value, the last one that the bytes hold, and one past that.
-const HEADS: &[(usize, &[u8], bool)] = &[
+/// Bytes that stand in the file from a place on, and whether it is taken then.
+type Row = (usize, &'static [u8], bool);
+
+/// Each field of the head is 0, its greatest value, the last one that the bytes hold, and one past that.
+const HEADS: &[Row] = &[
     // The magic number.
     (0, b"\0\0\0\0", false),
     (0, b"\xff\xff\xff\xff", false),
@@ -67,23 +69,26 @@ const HEADS: &[(usize, &[u8], bool)] = &[
     (64, b"\x0b\0\0\0", false),
 ];
 
-#[test]
-fn heads_are_taken_by_their_tables(rt: HostRuntime) -> Result<(), Fail> {
-    laws::files_are_exact();
-    for (place, new, taken) in HEADS {
-        let bytes = damaged(rt.alloc(), &GSYM_LINES, *place, new)?;
-        assert!(rt;
-            is_taken_as(bytes.as_slice(), *taken),
-            "at {place}: {new:?}"
-        );
+/// Whether the file with these bytes is taken so.
+fn is_taken(alloc: Global, row: &Row) -> bool {
+    match damaged(alloc, &GSYM_LINES, row.0, row.1) {
+        Ok(bytes) => is_taken_as(bytes.as_slice(), row.2),
+        Err(_) => false,
     }
-    Ok(())
+}
+
+#[test]
+fn heads_are_taken_by_their_tables(rt: HostRuntime) {
+    laws::files_are_exact();
+    for row in HEADS {
+        assert!(rt; is_taken(rt.alloc(), row));
+    }
 }
 
 #[test]
 fn a_cut_file_is_taken_once_its_tables_are_whole(rt: HostRuntime) {
     // The string table is the last of them, and ends at 102.
     for len in 0..104usize {
-        assert!(rt; is_taken_as(&GSYM_LINES[..len], len >= 102), "at {len}");
+        assert!(rt; is_taken_as(&GSYM_LINES[..len], len >= 102));
     }
 }

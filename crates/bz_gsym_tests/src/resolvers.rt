@@ -6,7 +6,6 @@ use bz_files::MemFiles;
 use bz_gsym::{GsymResolver, GsymTable};
 use bz_samples::GSYM_LINES;
 use std::alloc::Global;
-use std::test::Fail;
 
 /// Puts a copy of the bytes at the path.
 fn put(alloc: Global, files: &mut MemFiles, path: &str, bytes: &[u8]) -> Result<(), Error> {
@@ -39,20 +38,33 @@ fn answers(alloc: Global, resolver: GsymResolver, text: &str) -> bool {
     }
 }
 
-#[test]
-fn files_are_opened(rt: HostRuntime) -> Result<(), Fail> {
-    let alloc = rt.alloc();
-    let mut files = three_files(alloc)?;
-    let resolver = GsymResolver::open(alloc, &mut files, "/g")?;
-    assert!(rt; answers(alloc, resolver, "GSYM /g"));
-    Ok(())
+/// Whether the file at `/g`, opened, answers so.
+fn opens(alloc: Global) -> bool {
+    let Ok(mut files) = three_files(alloc) else {
+        return false;
+    };
+    match GsymResolver::open(alloc, &mut files, "/g") {
+        Ok(resolver) => answers(alloc, resolver, "GSYM /g"),
+        Err(_) => false,
+    }
 }
 
 #[test]
-fn files_without_a_path_are_unknown(rt: HostRuntime) -> Result<(), Fail> {
-    let resolver = GsymResolver::with_data(rt.alloc(), &GSYM_LINES)?;
-    assert!(rt; answers(rt.alloc(), resolver, "GSYM <unknown-file>"));
-    Ok(())
+fn files_are_opened(rt: HostRuntime) {
+    assert!(rt; opens(rt.alloc()));
+}
+
+/// Whether the bytes of the file answer so.
+fn answers_without_a_path(alloc: Global) -> bool {
+    match GsymResolver::with_data(alloc, &GSYM_LINES) {
+        Ok(resolver) => answers(alloc, resolver, "GSYM <unknown-file>"),
+        Err(_) => false,
+    }
+}
+
+#[test]
+fn files_without_a_path_are_unknown(rt: HostRuntime) {
+    assert!(rt; answers_without_a_path(rt.alloc()));
 }
 
 /// Paths, and how they are refused one after another, with a fault at the last one.
@@ -71,15 +83,27 @@ fn refuses(alloc: Global, files: &mut MemFiles, path: &str, kind: ErrorKind) -> 
     }
 }
 
-#[test]
-fn refusals_have_their_causes(rt: HostRuntime) -> Result<(), Fail> {
-    let alloc = rt.alloc();
-    let mut files = three_files(alloc)?;
-    files.fail_call(alloc, 4)?;
-    for (path, kind) in REFUSED {
-        assert!(rt; refuses(alloc, &mut files, path, *kind), "at {path}");
+/// Whether all paths are refused so.
+fn refuses_all(alloc: Global, files: &mut MemFiles) -> bool {
+    for row in REFUSED {
+        if !refuses(alloc, files, row.0, row.1) {
+            return false;
+        }
     }
-    Ok(())
+    true
+}
+
+/// Whether they are where the fourth call of files fails.
+fn refuses_by_cause(alloc: Global) -> bool {
+    match three_files(alloc) {
+        Ok(mut files) => files.fail_call(alloc, 4).is_ok() && refuses_all(alloc, &mut files),
+        Err(_) => false,
+    }
+}
+
+#[test]
+fn refusals_have_their_causes(rt: HostRuntime) {
+    assert!(rt; refuses_by_cause(rt.alloc()));
 }
 
 /// Whether the table at the path finds the second symbol.
@@ -103,9 +127,15 @@ fn keeps_tables(alloc: Global, files: &mut MemFiles) -> bool {
         && cache.entry(alloc, files, "/g").is_err()
 }
 
+/// Whether it does so over the three files.
+fn keeps_a_table(alloc: Global) -> bool {
+    match three_files(alloc) {
+        Ok(mut files) => keeps_tables(alloc, &mut files),
+        Err(_) => false,
+    }
+}
+
 #[test]
-fn a_cache_keeps_tables(rt: HostRuntime) -> Result<(), Fail> {
-    let mut files = three_files(rt.alloc())?;
-    assert!(rt; keeps_tables(rt.alloc(), &mut files));
-    Ok(())
+fn a_cache_keeps_tables(rt: HostRuntime) {
+    assert!(rt; keeps_a_table(rt.alloc()));
 }

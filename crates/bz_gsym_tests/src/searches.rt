@@ -3,7 +3,6 @@
 use bz_gsym::GsymContext;
 use bz_samples::{GSYM_LINES, damaged};
 use std::alloc::{AllocError, Global};
-use std::test::Fail;
 
 /// A file with these starts, each of so many bytes, and base address 0x1000. Its symbols have no data.
 fn file_of(alloc: Global, size: u8, starts: &[u8]) -> Result<Vec<u8>, AllocError> {
@@ -79,15 +78,20 @@ fn finds_in_file(alloc: Global, size: u8, starts: &[u8]) -> bool {
     }
 }
 
+/// Whether it does so in the files of each size.
+fn finds_in_each_size(alloc: Global, starts: &[u8]) -> bool {
+    for size in SIZES {
+        if !finds_in_file(alloc, *size, starts) {
+            return false;
+        }
+    }
+    true
+}
+
 #[test]
 fn halving_finds_what_a_scan_finds(rt: HostRuntime) {
     for starts in STARTS {
-        for size in SIZES {
-            assert!(rt;
-                finds_in_file(rt.alloc(), *size, starts),
-                "{starts:?} of {size} bytes"
-            );
-        }
+        assert!(rt; finds_in_each_size(rt.alloc(), starts));
     }
 }
 
@@ -106,11 +110,17 @@ fn is_not_searched(bytes: &[u8]) -> bool {
     context.addr_at(0) == None
 }
 
+/// Whether the example file, with addresses of 3 bytes, isn't searched.
+fn passes_over_another_size(alloc: Global) -> bool {
+    match damaged(alloc, &GSYM_LINES, 6, b"\x03") {
+        Ok(bytes) => is_not_searched(bytes.as_slice()),
+        Err(_) => false,
+    }
+}
+
 #[test]
-fn addresses_of_another_size_are_unknown(rt: HostRuntime) -> Result<(), Fail> {
-    let bytes = damaged(rt.alloc(), &GSYM_LINES, 6, b"\x03")?;
-    assert!(rt; is_not_searched(bytes.as_slice()));
-    Ok(())
+fn addresses_of_another_size_are_unknown(rt: HostRuntime) {
+    assert!(rt; passes_over_another_size(rt.alloc()));
 }
 
 /// Starts of two bytes each, as LLVM's tools wrote them, the least byte first.
@@ -139,9 +149,15 @@ fn finds_last(bytes: &[u8], addr: u64, index: usize, start: u64) -> bool {
     }
 }
 
+/// Whether the written file finds its last start.
+fn finds_last_written(alloc: Global) -> bool {
+    match written_file(alloc) {
+        Ok(bytes) => finds_last(bytes.as_slice(), 0x10635, 26, 0xff80),
+        Err(_) => false,
+    }
+}
+
 #[test]
-fn finds_the_last_of_a_written_table(rt: HostRuntime) -> Result<(), Fail> {
-    let bytes = written_file(rt.alloc())?;
-    assert!(rt; finds_last(bytes.as_slice(), 0x10635, 26, 0xff80));
-    Ok(())
+fn finds_the_last_of_a_written_table(rt: HostRuntime) {
+    assert!(rt; finds_last_written(rt.alloc()));
 }
