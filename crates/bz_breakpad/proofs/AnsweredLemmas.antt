@@ -1,7 +1,7 @@
 -- The record that was found for an address: where it is kept, and the answer by it.
 use Rattle.std.proofs.Common.{◌≡◌, ℕ, ◌+◌, ◌<◌, ◌≤◌, Bool, true, false, cond, List, length, map, get_or, Option, Some, None, Result, Ok, Err, refl, sym, ap, subst, ◌∙◌, arith}
-use Rattle.std.specs.List.{slice_get, slice_index_or}
-use Rattle.std.proofs.lemmas.Option.{get_or_from_slice_get, same_Some, slice_get-map, slice_get_read, slice_get_within}
+use Rattle.std.specs.List.{slice_get}
+use Rattle.std.proofs.lemmas.Option.{same_Some, slice_get-map, slice_get_read, slice_get_within}
 use Rattle.bz_base.specs.Answer.{Answer, Gives, Symbol, reading}
 use Rattle.bz_base.specs.Answer.Answer.{Known, Unknown}
 use Rattle.bz_base.specs.declared.error.Error.{Error}
@@ -9,20 +9,18 @@ use Rattle.bz_base.specs.declared.error.Error.TheVariants as errors
 use Rattle.bz_base.specs.declared.types.FindSymOpts.{FindSymOpts}
 use Rattle.bz_base.specs.declared.types.Reason.TheVariants as reasons
 use Rattle.bz_breakpad.specs.Found.{IsFunctionFor, IsPublicFor}
-use Rattle.bz_breakpad_table.specs.Kept.{IsNested, IsTextAt, kept_functions, kept_public, function_seen}
+use Rattle.bz_breakpad_table.specs.Kept.{IsNested, IsTextAt, kept_public, function_seen}
 use Rattle.bz_breakpad.specs.Lent.{placed_seen}
 use Rattle.bz_breakpad.specs.Plain.{Placed, any_between, by_place, by_public, placed_at, plain, public_at, public_symbol_at, IsAnswerRefusal}
 use Rattle.bz_breakpad_table.specs.Search.{IsFunction}
-use Rattle.bz_breakpad_lines.specs.Reader.{table_in}
 use Rattle.bz_breakpad_table.specs.Sorted.{StandsFor}
-use Rattle.bz_breakpad.specs.Indexed.{function_in, no_function, functions_of}
 use Rattle.bz_breakpad_lines.specs.Table.{Function, PublicSymbol, Table}
 use Rattle.bz_breakpad_table.specs.declared.types.KeptFunction.{KeptFunction}
 use Rattle.bz_breakpad_table.specs.declared.types.KeptPublic.{KeptPublic}
 use Rattle.bz_breakpad_table.specs.declared.types.KeptTable.{KeptTable}
 use Rattle.bz_breakpad.proofs.AddressLaws.{public_below, starts_below}
 use Rattle.bz_breakpad.proofs.AsKept.{answer_same}
-use Rattle.bz_breakpad_table.proofs.NestedLemmas.{nested_get}
+use Rattle.bz_breakpad.proofs.IndexedLemmas.{fits_there, nested_there}
 use Rattle.bz_breakpad_table.proofs.KeptLemmas.{all_get}
 use Rattle.bz_breakpad.proofs.PublicLemmas.{some_of}
 use Rattle.bz_breakpad.proofs.PlainLemmas.{plain-some}
@@ -42,26 +40,13 @@ answers_below table addr s is = by_one (public_at addr table.publics) refl is wh
 
 module _ (bytes : List ℕ) (table : Table) (kept : KeptTable) (stands : StandsFor bytes table kept) (addr index : ℕ) where
   module _ (is : IsFunctionFor table addr index) where
-    kept_there : (f : KeptFunction) × (slice_get kept.code.functions.items index ≡ Some f) × IsNested is.function (function_seen bytes kept.code f)
-    kept_there =
-        let k = nested_get table.functions (kept_functions bytes kept.code) stands.functions index is.function is.there in
-        let f = some_of (function_seen bytes kept.code) (slice_get kept.code.functions.items index) k.0
-        (sym (slice_get-map (function_seen bytes kept.code) kept.code.functions.items index) ∙ k.1) in
-        (f.0, f.1, subst (IsNested is.function) (sym f.2) k.2)
-
-    -- the function of the index is kept
-    pub function_within : index < length kept.code.functions.items
-    function_within = slice_get_within kept.code.functions.items index kept_there.0 kept_there.1
-
     module _ (f : KeptFunction) (read : f ≡ get_or kept.code.functions.items index f) where
-      -- with its calls in order
+      -- the function of the index is kept with its records in order
       pub function_nested : IsNested is.function (function_seen bytes kept.code f)
-      function_nested =
-          let there = slice_get_read kept.code.functions.items (length kept.code.functions.items) index f refl function_within read in
-          subst (λ g. IsNested is.function (function_seen bytes kept.code g)) (same_Some kept_there.0 f (sym kept_there.1 ∙ there)) kept_there.2
+      function_nested = nested_there bytes table kept stands index is.function is.there f read
 
       pub function_kept : IsFunction bytes kept.code f
-      function_kept = subst (IsFunction bytes kept.code) (sym read) (all_get (IsFunction bytes kept.code) kept.code.functions.items index f stands.fits.functions function_within)
+      function_kept = fits_there bytes table kept stands index is.function is.there f read
 
       pub function_below : f.start ≤ addr
       function_below = omega (arith, starts_below addr table.functions is.function is.answers, ap (λ (g : Function). g.start) function_nested.same)
@@ -102,12 +87,6 @@ module _ (bytes : List ℕ) (table : Table) (kept : KeptTable) (stands : StandsF
           let some : 0 < length table.functions + length table.publics = omega (arith, slice_get_within table.publics index is.public is.there) in
           plain-some table opts addr None some (sym is.no_function)
           ∙ ap Ok (is.answers ∙ ap (λ q. Known (public_symbol_at table q addr)) (sym told_as))
-
--- the function at an index of a file's list
-pub function_is : (bytes : List ℕ) (table : Table) (index : ℕ) (f : Function) → table_in bytes ≡ Some table → slice_get table.functions index ≡ Some f → function_in bytes index ≡ f
-unfolding function_in
-function_is bytes table index f is there =
-    ap (λ (o : Option Table). slice_index_or (functions_of o) index no_function) is ∙ get_or_from_slice_get table.functions index f no_function there
 
 -- where a place is refused, the answer is
 pub refused_as : (table : Table) (f : Function) (addr : ℕ) (expected : Result Answer Error) (placed : Result Placed Error) (e : Error) →

@@ -1,9 +1,11 @@
 -- Functions that are found by their keys, which are put in order: a key tells the file's function at its index.
-use Rattle.std.proofs.Common.{◌≡◌, ℕ, suc, ◌+◌, List, [], ◌∷◌, map, Option, Some, option_map, IfSome, refl, sym, subst, ap, ap₂, ◌∙◌, arith}
+use Rattle.std.proofs.Common.{◌≡◌, ℕ, suc, ◌+◌, ◌<◌, List, [], ◌∷◌, length, map, get_or, Option, Some, option_map, IfSome, refl, sym, subst, ap, ap₂, ◌∙◌, arith}
 use Rattle.std.specs.List.{AllByRecursion, slice_get, slice_index_or}
-use Rattle.std.proofs.lemmas.Option.{get_or_from_slice_get}
+use Rattle.std.proofs.lemmas.Option.{get_or_from_slice_get, slice_get-map, slice_get_read}
 use Rattle.bz_base.specs.Nearest.{IsTable, nearest_covering}
-use Rattle.bz_base.proofs.ViewLemmas.{covering_seen}
+use Rattle.bz_base.specs.Sorting.{sorted}
+use Rattle.bz_base.proofs.ViewLemmas.{covering_seen, table_seen}
+use Rattle.bz_search.proofs.SortingLaws.{table_sorted}
 use Rattle.bz_breakpad_table.specs.FunctionKeys.{AreSortedKeys, keys_from}
 use Rattle.bz_breakpad_table.specs.Kept.{AreNested, kept_functions, function_seen}
 use Rattle.bz_breakpad.specs.Plain.{function_at}
@@ -11,7 +13,8 @@ use Rattle.bz_breakpad_lines.specs.Table.{Function}
 use Rattle.bz_breakpad_table.specs.declared.types.FunctionKey.{FunctionKey}
 use Rattle.bz_breakpad_table.specs.declared.types.FunctionTable.{FunctionTable}
 use Rattle.bz_breakpad_table.specs.declared.types.KeptFunction.{KeptFunction}
-use Rattle.bz_breakpad_table.proofs.SortedLemmas.{nearest_one}
+use Rattle.bz_breakpad_table.proofs.KeptLemmas.{all_get}
+use Rattle.bz_breakpad_table.proofs.SortedLemmas.{all_in_table, nearest_one}
 
 -- what stands at an index where no function does
 abbrev absent : Function
@@ -72,6 +75,33 @@ module _ (bytes : List ℕ) (code : FunctionTable) (functions : List Function) w
         subst (λ (o : Option FunctionKey). IfSome o (λ k. slice_get functions k.index ≡ Some (told functions k))) (sym is)
         (nearest_one (λ (k : FunctionKey). slice_get functions k.index ≡ Some (told functions k)) (λ (k : FunctionKey). k.start) (λ k. k.size) addr
         (keys_from 0 code.functions.items) tell.1)
+
+    module _ (keys : List FunctionKey) (are_sorted : AreSortedKeys code.functions.items keys) where
+      -- the keys in order tell the functions in order
+      told_in_order : map (told functions) keys ≡ sorted (λ (f : Function). f.start) (λ f. f.size) functions
+      told_in_order =
+          table_sorted (λ (f : Function). f.start) (λ f. f.size) functions (map (told functions) keys)
+          (subst (λ (fs : List Function). IsTable (λ (f : Function). f.start) (λ f. f.size) fs (map (told functions) keys)) tell.0
+          (table_seen (λ (f : Function). f.start) (λ f. f.size) (told functions) (keys_from 0 code.functions.items) keys are_sorted.table))
+
+      all_tell : AllByRecursion (λ k. slice_get functions k.index ≡ Some (told functions k)) keys
+      all_tell =
+          all_in_table (λ (k : FunctionKey). slice_get functions k.index ≡ Some (told functions k)) (λ (k : FunctionKey). k.start) (λ k. k.size)
+          (keys_from 0 code.functions.items) keys are_sorted.table tell.1
+
+      module _ (index : ℕ) (key : FunctionKey) (within : index < length keys) (read : key ≡ get_or keys index key) where
+        -- the one at an index tells the function at its own index
+        pub tells_at : slice_get functions key.index ≡ Some (told functions key)
+        tells_at =
+            subst (λ (k : FunctionKey). slice_get functions k.index ≡ Some (told functions k)) (sym read)
+            (all_get (λ (k : FunctionKey). slice_get functions k.index ≡ Some (told functions k)) keys index key all_tell within)
+
+        -- which is the function at the index in order
+        pub in_order_at : slice_get (sorted (λ (f : Function). f.start) (λ f. f.size) functions) index ≡ Some (told functions key)
+        in_order_at =
+            ap (λ (fs : List Function). slice_get fs index) (sym told_in_order)
+            ∙ slice_get-map (told functions) keys index
+            ∙ ap (option_map (told functions)) (slice_get_read keys (length keys) index key refl within read)
 
     -- the keys have the functions' starts
     pub starts_told : map (λ (k : FunctionKey). k.start) (keys_from 0 code.functions.items) ≡ map (λ (f : Function). f.start) functions

@@ -4,6 +4,8 @@ pub mod AddressLaws
 pub mod AnsweredLemmas
 pub mod AsKept
 pub mod FoundLemmas
+pub mod InOrderLemmas
+pub mod IndexedLemmas
 pub mod KeyLemmas
 pub mod LineSearchLemmas
 pub mod PlacedLemmas

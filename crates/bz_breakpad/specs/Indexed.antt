@@ -19,6 +19,10 @@ abbrev pub functions_of : Option Table → List Function
 functions_of None = []
 functions_of (Some table) = table.functions
 
+-- the functions of a file, in its order
+abbrev pub functions_in : List ℕ → List Function
+functions_in bytes = functions_of (table_in bytes)
+
 -- what stands at an index where no function does
 abbrev pub no_function : Function
 no_function = record { start = 0; size = 0; parameter_size = 0; name = []; lines = []; inlinees = [] }

@@ -7,6 +7,7 @@ pub use Rattle.bz_breakpad_lines.specs.Records
 pub use Rattle.bz_breakpad_lines.specs.Table
 pub use Rattle.bz_breakpad_table.specs.Refusal
 pub mod Found
+pub mod InOrder
 pub mod Indexed
 pub mod Lent
 pub mod Plain

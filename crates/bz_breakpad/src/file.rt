@@ -1,6 +1,6 @@
 //! A parsed Breakpad file.
 
-ghost use Rattle.std.specs.Prelude.{◌≡◌, ◌≤◌, ◌<◌, ◌-◌, ℕ, List, map, length, option_map, Option, Some, slice_get, IfOk, IfErr, IsOkUnless};
+ghost use Rattle.std.specs.Prelude.{◌≡◌, ◌≤◌, ◌<◌, ◌+◌, ◌-◌, ℕ, List, map, length, option_map, Option, Some, slice_get, IfOk, IfErr, IsOkUnless};
 ghost use Rattle.std.specs.List.{AllByRecursion};
 ghost use Rattle.bz_base.specs.Answer.{Gives, reading};
 ghost use Rattle.bz_base.specs.Lent.{IsLent};
@@ -9,7 +9,8 @@ ghost use Rattle.bz_base.specs.Starts.{AreFew};
 ghost use Rattle.bz_base.specs.declared.error.Error.{Error};
 ghost use Rattle.bz_base.specs.declared.types.FindSymOpts.{FindSymOpts};
 ghost use Rattle.bz_breakpad.specs.Found.{AreRecordsFor, IsRecordFor};
-ghost use Rattle.bz_breakpad.specs.Indexed.{publics_in};
+ghost use Rattle.bz_breakpad.specs.InOrder.{functions_in_order};
+ghost use Rattle.bz_breakpad.specs.Indexed.{function_in, functions_in, publics_in};
 ghost use Rattle.bz_breakpad.specs.Lent.{lent_public};
 ghost use Rattle.bz_breakpad.specs.Plain.{batch, function_at, plain, IsAnswerRefusal};
 ghost use Rattle.bz_breakpad.specs.Probes.{AreFewProbes, AreFewSteps};
@@ -119,9 +120,34 @@ impl SymbolFile {
 
     /// How many functions the file has.
     pub fn function_count(&self) -> usize
-        ensures { option_map (λ table. length table.functions) (table_in self.now) ≡ Some result }
+        ensures table { option_map (λ table. length table.functions) (table_in self.now) ≡ Some result }
+        ensures count { result ≡ length (functions_in self.now) }
     {
         self.table.code.functions.len()
+    }
+
+    /// The function at an index, in the order of start and size; those that are alike in both stand as
+    /// in the file.
+    pub fn function<L: Ledger>(&self, index: usize, steps: &mut Steps<L>) -> Function<'_>
+        requires { index < length (functions_in self.now) }
+        ensures function { slice_get (functions_in_order self.now) index ≡ Some result }
+        ensures step { steps.new ≡ steps.old + 1 }
+    {
+        steps.tick();
+        self.function_in_file(self.table.code.keys[index].index)
+    }
+
+    /// The function at an index, in the order of the file.
+    fn function_in_file(&self, index: u32) -> Function<'_>
+        requires { index < length (functions_in self.now) }
+        ensures { result ≡ function_in self.now index }
+    {
+        Function {
+            bytes: self.bytes.as_slice(),
+            code: &self.table.code,
+            kept: &self.table.code.functions[index as usize],
+            index,
+        }
     }
 
     /// How many PUBLIC records the file has.
@@ -152,12 +178,7 @@ impl SymbolFile {
     {
         let place = place_found(nearest(&self.starts, addr, steps));
         let index = function_index(&self.table, place, addr)?;
-        Some(Function {
-            bytes: self.bytes.as_slice(),
-            code: &self.table.code,
-            kept: &self.table.code.functions[index as usize],
-            index,
-        })
+        Some(self.function_in_file(index))
     }
 
     /// Which record answers for each of the addresses, which are relative to the module's base.

@@ -1,9 +1,10 @@
 //! A function of a Breakpad file.
 
-ghost use Rattle.std.specs.Prelude.{◌≡◌, List, map, option_map, IfOk, IsOkUnless};
+ghost use Rattle.std.specs.Prelude.{◌≡◌, ◌<◌, List, Some, length, map, option_map, slice_get, IfOk, IsOkUnless};
 ghost use Rattle.bz_base.specs.Chain.{around, inner};
 ghost use Rattle.bz_base.specs.Nearest.{IsTable};
 ghost use Rattle.bz_base.specs.declared.error.Error.{Error};
+ghost use Rattle.bz_breakpad.specs.InOrder.{calls_in_order, lines_in_order};
 ghost use Rattle.bz_breakpad.specs.Lent.{kept_inlinee};
 ghost use Rattle.bz_breakpad.specs.Plain.{calls_around, inlinee_at, line_at};
 ghost use Rattle.bz_breakpad_lines.specs.Told.{line_seen};
@@ -15,6 +16,7 @@ use crate::calls::inlinee_of;
 use crate::line_run::Cuts;
 use crate::places::{calls_around, inlinees_of, line_of};
 use crate::types::Inlinee;
+use crate::walks::{all_inlinees, all_lines, inlinee_at_index, line_at_index, line_count};
 use bz_base::{Addr, Error, Result, around_in};
 use bz_breakpad_lines::SourceLine;
 use bz_breakpad_table::{CallRange, FunctionTable, KeptFunction, text_of};
@@ -70,6 +72,58 @@ impl<'a> Function<'a> {
         ensures { result.now ≡ self.now.name }
     {
         text_of(self.bytes, &self.kept.name)
+    }
+
+    /// How many line records it has.
+    pub fn line_count(&self) -> usize
+        ensures { result ≡ length self.now.lines }
+    {
+        line_count(self.bytes, self.code, self.kept)
+    }
+
+    /// The line record at an index, in the order of start and size; those that are alike in both stand
+    /// as in the file. The records before it may be passed over.
+    pub fn line(&self, index: usize) -> SourceLine
+        requires { index < length self.now.lines }
+        ensures { slice_get (lines_in_order self.now) index ≡ Some (line_seen result) }
+    {
+        line_at_index(self.bytes, self.code, self.kept, index)
+    }
+
+    /// The line records, in the order of start and size; those that are alike in both stand as in the
+    /// file.
+    pub fn lines(&self, alloc: Global) -> Result<Vec<SourceLine>>
+        ensures lines { IfOk result (λ lines. map line_seen lines.items ≡ lines_in_order self.now) }
+        ensures memory { IsOkUnless result Error.OutOfMemory }
+    {
+        let lines = all_lines(alloc, self.bytes, self.code, self.kept)?;
+        Ok(lines)
+    }
+
+    /// How many inlined calls it has.
+    pub fn inlinee_count(&self) -> usize
+        ensures { result ≡ length self.now.inlinees }
+    {
+        inlinees_of(self.code, self.kept).len()
+    }
+
+    /// The inlined call at an index, in the order of depth and start; those that are alike in both stand
+    /// as in the file.
+    pub fn inlinee(&self, index: usize) -> Inlinee
+        requires { index < length self.now.inlinees }
+        ensures { slice_get (calls_in_order self.now) index ≡ Some (kept_inlinee result) }
+    {
+        inlinee_at_index(self.bytes, self.code, self.kept, index)
+    }
+
+    /// The inlined calls, in the order of depth and start; those that are alike in both stand as in the
+    /// file.
+    pub fn inlinees(&self, alloc: Global) -> Result<Vec<Inlinee>>
+        ensures calls { IfOk result (λ calls. map kept_inlinee calls.items ≡ calls_in_order self.now) }
+        ensures memory { IsOkUnless result Error.OutOfMemory }
+    {
+        let calls = all_inlinees(alloc, self.bytes, inlinees_of(self.code, self.kept))?;
+        Ok(calls)
     }
 
     /// The line record that answers for an address, which is relative to the module's base.

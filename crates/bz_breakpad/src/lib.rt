@@ -13,6 +13,7 @@ mod lookups;
 mod places;
 mod types;
 mod version;
+mod walks;
 
 pub use bz_breakpad_lines::SourceLine;
 pub use file::{SymbolFile, SymbolParser};

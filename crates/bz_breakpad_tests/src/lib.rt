@@ -14,6 +14,8 @@ mod found;
 #[cfg(test)]
 mod functions;
 #[cfg(test)]
+mod in_order;
+#[cfg(test)]
 mod lines;
 #[cfg(test)]
 mod names;
