@@ -81,6 +81,11 @@ value_found P test (e ∷ entries) x all is = by (test e.0) is (value_found P te
   by true same later = let here : e.1 ≡ x = cc in subst P here all.0
   by false same later = later same
 
+-- what holds of each value holds of the value of each entry
+pub each_value : {K X : Type 0} (P : X → Type 0) (entries : List (K × X)) → AllByRecursion P (values_of entries) → AllByRecursion (λ e. P e.1) entries
+each_value P [] all = tt
+each_value P (e ∷ entries) all = (all.0, each_value P entries all.1)
+
 -- the names with one more
 pub names_so_far : (bytes : List ℕ) (old new : List (ℕ × Part)) (id : ℕ) (part : Part) (name : List ℕ) (list : List (ℕ × List ℕ)) →
     new ≡ insert_entry nat_cmp old id part → IsNameAt bytes part name → NamesSoFar bytes old list →

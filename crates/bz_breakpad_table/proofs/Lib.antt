@@ -2,6 +2,7 @@ pub mod CallLemmas
 pub mod DenseLemmas
 pub mod FinishLemmas
 pub mod FunctionLemmas
+pub mod IdLemmas
 pub mod KeptLemmas
 pub mod LineKeyLemmas
 pub mod LineRecordLemmas

@@ -15,8 +15,8 @@ mod table;
 mod types;
 mod walk;
 
-pub use names::{Names, name_of, text_of};
-pub use publics::PublicTable;
+pub use names::{Names, name_of, names_of, text_of};
+pub use publics::{PublicTable, sorted_publics};
 pub use table::{FileRead, read_table};
 pub use types::{
     CallRange, FunctionKey, FunctionTable, KeptFunction, KeptPublic, KeptTable, LineRecords, Part,

@@ -1,8 +1,9 @@
 //! The names of ids.
 
-ghost use Rattle.std.specs.Prelude.{◌≡◌, [], length, option_map, OnOk};
+ghost use Rattle.std.specs.Prelude.{◌≡◌, ◌<◌, ◌≤◌, ◌^◌, ◌++◌, [], length, map, option_map, slice_get, IfOk, OnOk, Some};
 ghost use Rattle.std.specs.BTreeMap.{insert_entry, is_at};
-ghost use Rattle.std.specs.Map.{lookup};
+ghost use Rattle.std.specs.List.{AllByRecursion, enumerate_from};
+ghost use Rattle.std.specs.Map.{keys_of, lookup};
 ghost use Rattle.std.specs.Ordering.{nat_cmp};
 ghost use Rattle.bz_breakpad_lines.specs.Names.{name_for};
 ghost use Rattle.bz_breakpad_table.specs.Kept.{IsTextAt, NamesFit, kept_names, text_at};
@@ -52,6 +53,30 @@ impl Names {
         self.dense.len() + self.sparse.len()
     }
 
+    /// The id at an index, in the order of the ids. Where they don't come one after another from 0 on,
+    /// those before it are passed over.
+    pub fn id_at(&self, index: usize) -> u32
+        requires { index < length self.now }
+        ensures { slice_get (keys_of self.now) index ≡ Some result }
+    {
+        let count = self.dense.len();
+        if index < count {
+            index as u32
+        } else {
+            nth_id(&self.sparse, index - count)
+        }
+    }
+
+    /// The ids with the parts of their names, in the order of the ids.
+    fn entries(&self, alloc: Global) -> Result<Vec<(u32, Part)>, AllocError>
+        ensures { IfOk result (λ entries. entries.items ≡ self.now) }
+    {
+        let mut entries = Vec::with_capacity(alloc, self.len())?;
+        push_dense(&mut entries, &self.dense)?;
+        push_sparse(&mut entries, &self.sparse)?;
+        Ok(entries)
+    }
+
     /// The part of the name of an id.
     fn get(&self, id: u32) -> Option<&Part>
         ensures { option_map (λ part. part.now) result ≡ lookup (is_at (nat_cmp id)) self.now }
@@ -77,6 +102,71 @@ impl Names {
         }
         Ok(())
     }
+}
+
+/// The id at an index.
+fn nth_id(names: &BTreeMap<u32, Part>, index: usize) -> u32
+    requires { index < length names.now.entries }
+    ensures { slice_get (keys_of names.now.entries) index ≡ Some result }
+{
+    match names.keys().nth(index) {
+        Some(id) => *id,
+        None => 0,
+    }
+}
+
+/// Adds the names of the ids from 0 on.
+fn push_dense(entries: &mut Vec<(u32, Part)>, names: &[Part]) -> Result<(), AllocError>
+    requires { length names.now ≤ 2 ^ 32 }
+    ensures { OnOk result (entries.new.items ≡ entries.old.items ++ enumerate_from 0 names.now) }
+{
+    for id in 0..names.len() {
+        entries.push((id as u32, names[id]))?;
+    }
+    Ok(())
+}
+
+/// Adds the names of other ids.
+fn push_sparse(
+    entries: &mut Vec<(u32, Part)>,
+    names: &BTreeMap<u32, Part>,
+) -> Result<(), AllocError>
+    ensures { OnOk result (entries.new.items ≡ entries.old.items ++ names.now.entries) }
+{
+    for (id, part) in names {
+        entries.push((*id, *part))?;
+    }
+    Ok(())
+}
+
+/// The ids with their names, in the order of the ids.
+pub fn names_of<'a>(
+    alloc: Global,
+    bytes: &'a [u8],
+    names: &Names,
+) -> Result<Vec<(u32, &'a str)>, AllocError>
+    requires { NamesFit bytes.now names.now }
+    ensures { IfOk result (λ named. map (λ n. (n.0, n.1.now)) named.items ≡ kept_names bytes.now names.now) }
+{
+    let entries = names.entries(alloc)?;
+    let named = lent_names(alloc, bytes, &entries)?;
+    Ok(named)
+}
+
+/// Names as texts, with their ids.
+fn lent_names<'a>(
+    alloc: Global,
+    bytes: &'a [u8],
+    entries: &[(u32, Part)],
+) -> Result<Vec<(u32, &'a str)>, AllocError>
+    requires { AllByRecursion (λ e. IsTextAt bytes.now e.1) entries.now }
+    ensures { IfOk result (λ named. map (λ n. (n.0, n.1.now)) named.items ≡ kept_names bytes.now entries.now) }
+{
+    let mut named = Vec::with_capacity(alloc, entries.len())?;
+    for entry in entries {
+        named.push((entry.0, text_of(bytes, &entry.1)))?;
+    }
+    Ok(named)
 }
 
 /// The name of an id.

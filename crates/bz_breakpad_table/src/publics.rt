@@ -1,6 +1,7 @@
 //! The addresses of PUBLIC records, and the first record of each.
 
 ghost use Rattle.std.specs.Prelude.{◌≡◌, true, map, IfOk};
+ghost use Rattle.bz_base.specs.Nearest.{IsTable};
 ghost use Rattle.bz_base.specs.Starts.{NeverDescends};
 ghost use Rattle.bz_breakpad_table.specs.Publics.{ArePublicKeys, IsPublicTable, public_keys_from, starts_kept};
 
@@ -38,6 +39,31 @@ impl Spanned for PublicKey {
     fn size(&self) -> u64 {
         u64::from(self.index)
     }
+}
+
+/// A PUBLIC record says no size: those of one address stand as they do in the file.
+impl Spanned for KeptPublic {
+    ghost start = { λ p. p.start };
+
+    ghost size = { λ _. 0 };
+
+    fn start(&self) -> u64 {
+        self.start
+    }
+
+    fn size(&self) -> u64 {
+        0
+    }
+}
+
+/// The PUBLIC records in the order of their addresses; those of one address stand as they do in the
+/// file.
+pub fn sorted_publics(alloc: Global, publics: &[KeptPublic]) -> Result<Vec<KeptPublic>, AllocError>
+    ensures { IfOk result (λ sorted. IsTable (λ p. p.start) (λ p. 0) publics.now sorted.items) }
+{
+    let mut sorted = Vec::from_slice(alloc, publics)?;
+    sort_table(&mut sorted)?;
+    Ok(sorted)
 }
 
 /// The table of PUBLIC records. Keys are made only of records that aren't in the order of their
