@@ -1,19 +1,27 @@
--- The records of a function that are kept are its records in order, and which of them stands at an index.
+-- The records that are kept of a function are its records in order, and so are the PUBLIC records of a file; which of them stands
+-- at an index.
 use Rattle.std.proofs.Common.{◌≡◌, ℕ, zero, suc, ◌+◌, ◌-◌, ◌<◌, ◌≤◌, List, [], ◌∷◌, length, drop, map, get_or, Option, Some, None, option_map, IsSome, refl, sym, ap, subst, ◌∙◌, arith, length-drop}
 use Rattle.std.specs.List.{AllByRecursion, cons_option, filter_map, slice_get, slice_range}
+use Rattle.std.specs.Map.{keys_of}
 use Rattle.std.specs.Prelude.{slice_index}
 use Rattle.std.proofs.lemmas.Bool.{false≢true}
 use Rattle.std.proofs.lemmas.List.{get_or-drop, get_or-take, length-map, length-take-le}
 use Rattle.std.proofs.lemmas.Option.{slice_get-get_or, slice_get-map, slice_get_read}
 use Rattle.bz_base.specs.Line.{all_lines}
+use Rattle.bz_base.specs.Nearest.{IsTable}
+use Rattle.bz_base.specs.Sorting.{sorted}
+use Rattle.bz_base.proofs.ViewLemmas.{table_seen}
 use Rattle.bz_search.proofs.SortingLaws.{sorted_length, table_sorted}
-use Rattle.bz_breakpad_table.specs.Kept.{IsNested, kept_call, kept_lines}
+use Rattle.bz_breakpad_table.specs.Kept.{IsNested, IsTextAt, PublicsFit, kept_call, kept_lines, kept_names, kept_public, text_at}
 use Rattle.bz_breakpad_table.specs.LineRun.{AreLineRecords, lines_in}
 use Rattle.bz_breakpad_table.specs.declared.types.CallRange.{CallRange}
+use Rattle.bz_breakpad_table.specs.declared.types.KeptPublic.{KeptPublic}
+use Rattle.bz_breakpad_table.specs.declared.types.Part.{Part}
 use Rattle.bz_breakpad_table.proofs.RunLemmas.{first_is}
+use Rattle.bz_breakpad_table.proofs.SortedLemmas.{all_in_table}
 use Rattle.bz_breakpad_lines.specs.Line.{line_in}
 use Rattle.bz_breakpad_lines.specs.LineStarts.{ReadsLine, line_read}
-use Rattle.bz_breakpad_lines.specs.Table.{Function, Inlinee, SourceLine}
+use Rattle.bz_breakpad_lines.specs.Table.{Function, Inlinee, PublicSymbol, SourceLine}
 use Rattle.bz_breakpad.specs.InOrder.{calls_in_order, lines_in_order}
 use Rattle.bz_breakpad.proofs.LineSearchLemmas.{kept_are_read}
 
@@ -105,3 +113,30 @@ module _ (bytes places : List ℕ) (read : AllByRecursion (ReadsLine bytes) plac
       ap (λ (lines : List SourceLine). slice_get lines index) (kept_are_read bytes places read)
       ∙ slice_get-map (line_read bytes) places index
       ∙ ap (option_map (line_read bytes)) (slice_get-get_or places index 0 within)
+
+-- PUBLIC records that are kept in order are those of the file in order
+module _ (bytes : List ℕ) (publics ordered : List KeptPublic) (table : IsTable (λ p. p.start) (λ p. 0) publics ordered) where
+  pub publics_kept : (listed : List PublicSymbol) → map (kept_public bytes) publics ≡ listed → map (kept_public bytes) ordered ≡ sorted (λ (p : PublicSymbol). p.start) (λ p. 0) listed
+  publics_kept listed are =
+      table_sorted (λ (p : PublicSymbol). p.start) (λ p. 0) listed (map (kept_public bytes) ordered)
+      (subst (λ (ps : List PublicSymbol). IsTable (λ (p : PublicSymbol). p.start) (λ p. 0) ps (map (kept_public bytes) ordered)) are
+      (table_seen (λ (p : PublicSymbol). p.start) (λ p. 0) (kept_public bytes) publics ordered table))
+
+  pub publics_fit : PublicsFit bytes publics → PublicsFit bytes ordered
+  publics_fit fits = all_in_table (λ (p : KeptPublic). IsTextAt bytes p.name) (λ (p : KeptPublic). p.start) (λ p. 0) publics ordered table fits
+
+-- The names of ids that are kept.
+module _ (bytes : List ℕ) (names : List (ℕ × Part)) (listed : List (ℕ × List ℕ)) (are : kept_names bytes names ≡ listed) (index : ℕ) where
+  pub ids_within : index < length listed → index < length names
+  ids_within within = omega (arith, within, ap length are, length-map {B = ℕ × List ℕ} names (λ (e : ℕ × Part). (e.0, text_at bytes e.1)))
+
+  same_ids : (ns : List (ℕ × Part)) → keys_of (kept_names bytes ns) ≡ keys_of ns
+  same_ids [] = refl
+  same_ids (n ∷ ns) = ap (λ (ids : List ℕ). n.0 ∷ ids) (same_ids ns)
+
+  -- the id at an index is the one that is kept there
+  pub id_kept : (id : ℕ) → slice_get (keys_of names) index ≡ Some id → slice_get (keys_of listed) index ≡ Some id
+  id_kept id there =
+      ap (λ (ns : List (ℕ × List ℕ)). slice_get (keys_of ns) index) (sym are)
+      ∙ ap (λ (ids : List ℕ). slice_get ids index) (same_ids names)
+      ∙ there

@@ -23,6 +23,22 @@ functions_of (Some table) = table.functions
 abbrev pub functions_in : List ℕ → List Function
 functions_in bytes = functions_of (table_in bytes)
 
+abbrev pub files_of : Option Table → List (ℕ × List ℕ)
+files_of None = []
+files_of (Some table) = table.files
+
+-- the ids of FILE records with their names, by id
+abbrev pub files_in : List ℕ → List (ℕ × List ℕ)
+files_in bytes = files_of (table_in bytes)
+
+abbrev pub origins_of : Option Table → List (ℕ × List ℕ)
+origins_of None = []
+origins_of (Some table) = table.origins
+
+-- the ids of INLINE_ORIGIN records with their names, by id
+abbrev pub origins_in : List ℕ → List (ℕ × List ℕ)
+origins_in bytes = origins_of (table_in bytes)
+
 -- what stands at an index where no function does
 abbrev pub no_function : Function
 no_function = record { start = 0; size = 0; parameter_size = 0; name = []; lines = []; inlinees = [] }

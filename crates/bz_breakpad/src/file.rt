@@ -2,6 +2,7 @@
 
 ghost use Rattle.std.specs.Prelude.{◌≡◌, ◌≤◌, ◌<◌, ◌+◌, ◌-◌, ℕ, List, map, length, option_map, Option, Some, slice_get, IfOk, IfErr, IsOkUnless};
 ghost use Rattle.std.specs.List.{AllByRecursion};
+ghost use Rattle.std.specs.Map.{keys_of};
 ghost use Rattle.bz_base.specs.Answer.{Gives, reading};
 ghost use Rattle.bz_base.specs.Lent.{IsLent};
 ghost use Rattle.bz_base.specs.Refusals.{WantsMemory};
@@ -9,8 +10,8 @@ ghost use Rattle.bz_base.specs.Starts.{AreFew};
 ghost use Rattle.bz_base.specs.declared.error.Error.{Error};
 ghost use Rattle.bz_base.specs.declared.types.FindSymOpts.{FindSymOpts};
 ghost use Rattle.bz_breakpad.specs.Found.{AreRecordsFor, IsRecordFor};
-ghost use Rattle.bz_breakpad.specs.InOrder.{functions_in_order};
-ghost use Rattle.bz_breakpad.specs.Indexed.{function_in, functions_in, publics_in};
+ghost use Rattle.bz_breakpad.specs.InOrder.{functions_in_order, publics_in_order};
+ghost use Rattle.bz_breakpad.specs.Indexed.{files_in, function_in, functions_in, origins_in, publics_in};
 ghost use Rattle.bz_breakpad.specs.Lent.{lent_public};
 ghost use Rattle.bz_breakpad.specs.Plain.{batch, function_at, plain, IsAnswerRefusal};
 ghost use Rattle.bz_breakpad.specs.Probes.{AreFewProbes, AreFewSteps};
@@ -27,8 +28,11 @@ use crate::function::Function;
 use crate::line_run::Cuts;
 use crate::lookups::{FoundAddrs, answer_from};
 use crate::types::PublicSymbol;
+use crate::walks::{lent_public, lent_publics};
 use bz_base::{Addr, Error, FindSymOpts, Result, Starts, Steps, Symbolized, nearest, place_found};
-use bz_breakpad_table::{KeptTable, PublicTable, name_of, read_table, text_of};
+use bz_breakpad_table::{
+    KeptTable, PublicTable, name_of, names_of, read_table, sorted_publics, text_of,
+};
 use std::alloc::Global;
 use std::marker::Model;
 use std::sync::ledger::Ledger;
@@ -113,9 +117,54 @@ impl SymbolFile {
 
     /// How many ids the FILE records have.
     pub fn file_count(&self) -> usize
-        ensures { option_map (λ table. length table.files) (table_in self.now) ≡ Some result }
+        ensures table { option_map (λ table. length table.files) (table_in self.now) ≡ Some result }
+        ensures count { result ≡ length (files_in self.now) }
     {
         self.table.files.len()
+    }
+
+    /// The id at an index, in the order of the ids of FILE records. Where they don't come one after
+    /// another from 0 on, those before it are passed over.
+    pub fn file_id(&self, index: usize) -> u32
+        requires { index < length (files_in self.now) }
+        ensures { slice_get (keys_of (files_in self.now)) index ≡ Some result }
+    {
+        self.table.files.id_at(index)
+    }
+
+    /// The ids of FILE records, each with the name in the last record of it, in the order of the ids.
+    pub fn files(&self, alloc: Global) -> Result<Vec<(u32, &str)>>
+        ensures files { IfOk result (λ files. map (λ file. (file.0, file.1.now)) files.items ≡ files_in self.now) }
+        ensures memory { IsOkUnless result Error.OutOfMemory }
+    {
+        let files = names_of(alloc, self.bytes.as_slice(), &self.table.files)?;
+        Ok(files)
+    }
+
+    /// How many ids the INLINE_ORIGIN records have.
+    pub fn origin_count(&self) -> usize
+        ensures { result ≡ length (origins_in self.now) }
+    {
+        self.table.origins.len()
+    }
+
+    /// The id at an index, in the order of the ids of INLINE_ORIGIN records. Where they don't come one
+    /// after another from 0 on, those before it are passed over.
+    pub fn origin_id(&self, index: usize) -> u32
+        requires { index < length (origins_in self.now) }
+        ensures { slice_get (keys_of (origins_in self.now)) index ≡ Some result }
+    {
+        self.table.origins.id_at(index)
+    }
+
+    /// The ids of INLINE_ORIGIN records, each with the name in the last record of it, in the order of
+    /// the ids.
+    pub fn origins(&self, alloc: Global) -> Result<Vec<(u32, &str)>>
+        ensures origins { IfOk result (λ origins. map (λ origin. (origin.0, origin.1.now)) origins.items ≡ origins_in self.now) }
+        ensures memory { IsOkUnless result Error.OutOfMemory }
+    {
+        let origins = names_of(alloc, self.bytes.as_slice(), &self.table.origins)?;
+        Ok(origins)
     }
 
     /// How many functions the file has.
@@ -162,12 +211,17 @@ impl SymbolFile {
         requires { index < length (publics_in self.now) }
         ensures { slice_get (publics_in self.now) index ≡ Some (lent_public result) }
     {
-        let public = &self.table.publics[index];
-        PublicSymbol {
-            addr: public.start,
-            parameter_size: public.parameter_size,
-            name: text_of(self.bytes.as_slice(), &public.name),
-        }
+        lent_public(self.bytes.as_slice(), &self.table.publics[index])
+    }
+
+    /// The PUBLIC records in the order of their addresses; those of one address stand as in the file.
+    pub fn publics(&self, alloc: Global) -> Result<Vec<PublicSymbol<'_>>>
+        ensures publics { IfOk result (λ publics. map lent_public publics.items ≡ publics_in_order self.now) }
+        ensures memory { IsOkUnless result Error.OutOfMemory }
+    {
+        let sorted = sorted_publics(alloc, &self.table.publics)?;
+        let publics = lent_publics(alloc, self.bytes.as_slice(), &sorted)?;
+        Ok(publics)
     }
 
     /// The function that answers for an address, which is relative to the module's base.

@@ -1,20 +1,20 @@
-//! The records of a function, one after another in their order.
+//! The records of a function and the PUBLIC records of a file, one after another in their order.
 
 ghost use Rattle.std.specs.Prelude.{◌≡◌, ◌<◌, ◌-◌, Some, drop, length, map, slice_get, IfOk};
 ghost use Rattle.std.specs.List.{AllByRecursion};
 ghost use Rattle.bz_base.specs.Line as base;
-ghost use Rattle.bz_breakpad.specs.Lent.{kept_inlinee};
+ghost use Rattle.bz_breakpad.specs.Lent.{kept_inlinee, lent_public};
 ghost use Rattle.bz_breakpad_lines.specs.LineStarts.{ReadsLine, line_read};
 ghost use Rattle.bz_breakpad_lines.specs.Told.{line_seen};
-ghost use Rattle.bz_breakpad_table.specs.Kept.{function_seen, kept_call, kept_lines};
+ghost use Rattle.bz_breakpad_table.specs.Kept.{IsTextAt, PublicsFit, function_seen, kept_call, kept_lines, kept_public};
 ghost use Rattle.bz_breakpad_table.specs.LineRun.{AreLineRecords, lines_in};
 ghost use Rattle.bz_breakpad_table.specs.Search.{IsFunction};
 
 use crate::calls::inlinee_of;
-use crate::types::Inlinee;
+use crate::types::{Inlinee, PublicSymbol};
 use bz_base::first_line;
 use bz_breakpad_lines::{SourceLine, line_at};
-use bz_breakpad_table::{CallRange, FunctionTable, KeptFunction, LineRecords};
+use bz_breakpad_table::{CallRange, FunctionTable, KeptFunction, KeptPublic, LineRecords, text_of};
 use std::alloc::{AllocError, Global};
 
 /// How many line records the function has.
@@ -107,6 +107,34 @@ pub(crate) fn all_inlinees(
         calls.push(inlinee_of(bytes, range))?;
     }
     Ok(calls)
+}
+
+/// PUBLIC records, which lend their names.
+pub(crate) fn lent_publics<'a>(
+    alloc: Global,
+    bytes: &'a [u8],
+    publics: &[KeptPublic],
+) -> Result<Vec<PublicSymbol<'a>>, AllocError>
+    requires { PublicsFit bytes.now publics.now }
+    ensures { IfOk result (λ lent. map lent_public lent.items ≡ map (kept_public bytes.now) publics.now) }
+{
+    let mut lent = Vec::with_capacity(alloc, publics.len())?;
+    for public in publics {
+        lent.push(lent_public(bytes, public))?;
+    }
+    Ok(lent)
+}
+
+/// A PUBLIC record, which lends its name.
+pub(crate) fn lent_public<'a>(bytes: &'a [u8], public: &KeptPublic) -> PublicSymbol<'a>
+    requires { IsTextAt bytes.now public.now.name }
+    ensures { lent_public result ≡ kept_public bytes.now public.now }
+{
+    PublicSymbol {
+        addr: public.start,
+        parameter_size: public.parameter_size,
+        name: text_of(bytes, &public.name),
+    }
 }
 
 /// The line records that the lines of a text are.

@@ -20,6 +20,8 @@ mod lines;
 #[cfg(test)]
 mod names;
 #[cfg(test)]
+mod names_in_order;
+#[cfg(test)]
 mod places;
 #[cfg(test)]
 mod texts;
