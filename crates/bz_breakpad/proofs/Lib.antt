@@ -3,6 +3,7 @@ pub use Rattle.bz_breakpad_lines.proofs.Turns
 pub mod AddressLaws
 pub mod AnsweredLemmas
 pub mod AsKept
+pub mod FoundInLemmas
 pub mod FoundLemmas
 pub mod InOrderLemmas
 pub mod IndexedLemmas

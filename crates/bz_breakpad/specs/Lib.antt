@@ -12,4 +12,5 @@ pub mod Indexed
 pub mod Lent
 pub mod Plain
 pub mod Probes
+pub mod Resolver
 pub mod Version

@@ -4,8 +4,9 @@ ghost use Rattle.std.specs.Prelude.{◌≡◌, ◌≤◌, ◌<◌, ◌+◌, ◌-
 ghost use Rattle.std.specs.List.{AllByRecursion};
 ghost use Rattle.std.specs.Map.{keys_of};
 ghost use Rattle.bz_base.specs.Answer.{Gives, reading};
-ghost use Rattle.bz_base.specs.Lent.{IsLent};
+ghost use Rattle.bz_base.specs.Lent.{IsLent, IsLentResolved};
 ghost use Rattle.bz_base.specs.Refusals.{WantsMemory};
+ghost use Rattle.bz_base.specs.Resolution.{MayGive, StartsBefore, found_of};
 ghost use Rattle.bz_base.specs.Starts.{AreFew};
 ghost use Rattle.bz_base.specs.declared.error.Error.{Error};
 ghost use Rattle.bz_base.specs.declared.types.FindSymOpts.{FindSymOpts};
@@ -15,6 +16,7 @@ ghost use Rattle.bz_breakpad.specs.Indexed.{files_in, function_in, functions_in,
 ghost use Rattle.bz_breakpad.specs.Lent.{lent_public};
 ghost use Rattle.bz_breakpad.specs.Plain.{batch, function_at, plain, IsAnswerRefusal};
 ghost use Rattle.bz_breakpad.specs.Probes.{AreFewProbes, AreFewSteps};
+ghost use Rattle.bz_breakpad.specs.Resolver.{IsPlain};
 ghost use Rattle.bz_breakpad_lines.specs.Grammar.{Accepted, IsFile};
 ghost use Rattle.bz_breakpad_lines.specs.Names.{name_for};
 ghost use Rattle.bz_breakpad_lines.specs.Reader.{counted_in, table_in};
@@ -27,9 +29,13 @@ use crate::found::FoundRecord;
 use crate::function::Function;
 use crate::line_run::Cuts;
 use crate::lookups::{FoundAddrs, answer_from};
+use crate::symbol::symbol_from;
 use crate::types::PublicSymbol;
 use crate::walks::{lent_public, lent_publics};
-use bz_base::{Addr, Error, FindSymOpts, Result, Starts, Steps, Symbolized, nearest, place_found};
+use bz_base::{
+    Addr, Error, FindSymOpts, Reason, ResolvedSym, Result, Starts, Steps, Symbolized, nearest,
+    place_found,
+};
 use bz_breakpad_table::{
     KeptTable, PublicTable, name_of, names_of, read_table, sorted_publics, text_of,
 };
@@ -345,5 +351,24 @@ impl SymbolFile {
     {
         let found = record_at(&self.table, &self.starts, &self.publics, addr, steps);
         self.answer_by(alloc, addr, found, opts)
+    }
+
+    /// The symbol of the file's answer at an address alone, which is relative to the module's base, or why
+    /// there is none.
+    pub(crate) fn symbol<L: Ledger>(
+        &self,
+        alloc: Global,
+        addr: Addr,
+        opts: &FindSymOpts,
+        steps: &mut Steps<L>,
+    ) -> Result<std::result::Result<ResolvedSym<'_>, Reason>>
+        ensures answer { MayGive found_of (IsPlain self.now opts.now addr) result }
+        ensures starts { IfOk result (λ found. StartsBefore addr (found_of found)) }
+        ensures lent { IfOk result (λ found. IfOk found IsLentResolved) }
+        ensures refusal { IfErr result IsAnswerRefusal }
+        ensures memory { IfErr result (WantsMemory (opts.now ≡ FindSymOpts.CodeInfoAndInlined)) }
+    {
+        let found = record_at(&self.table, &self.starts, &self.publics, addr, steps);
+        symbol_from(alloc, self.bytes.as_slice(), &self.table, opts, found, addr)
     }
 }

@@ -228,7 +228,7 @@ pub(crate) fn answer_from<'a>(
 }
 
 /// Why no record answers for an address.
-fn unanswered(kept: &KeptTable) -> Reason
+pub(crate) fn unanswered(kept: &KeptTable) -> Reason
     ensures missing { (bytes : List ℕ) (table : Table) → StandsFor bytes table kept.now → length table.functions ≡ 0 → length table.publics ≡ 0 → result ≡ Reason.MissingSyms }
     ensures unknown { (bytes : List ℕ) (table : Table) → StandsFor bytes table kept.now → 0 < length table.functions + length table.publics → result ≡ Reason.UnknownAddr }
 {

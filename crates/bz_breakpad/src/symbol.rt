@@ -1,0 +1,118 @@
+//! The symbol at an address, as a table of symbols gives it.
+
+ghost use Rattle.std.specs.Prelude.{◌≡◌, ◌≤◌, ℕ, option_map, IfOk, IfErr, IfSome};
+ghost use Rattle.bz_base.specs.Answer.{resolved_of};
+ghost use Rattle.bz_base.specs.Lent.{IsLentResolved};
+ghost use Rattle.bz_base.specs.Refusals.{WantsMemory};
+ghost use Rattle.bz_base.specs.Resolution.{MayGive, StartsBefore, found_of};
+ghost use Rattle.bz_base.specs.declared.types.FindSymOpts.{FindSymOpts};
+ghost use Rattle.bz_breakpad.specs.Found.{IsRecordFor};
+ghost use Rattle.bz_breakpad.specs.Lent.{IsLentPlaced, placed_seen};
+ghost use Rattle.bz_breakpad.specs.Plain.{plain, public_symbol_at, symbol_at, IsAnswerRefusal};
+ghost use Rattle.bz_breakpad.specs.Resolver.{found_in, resolved_in};
+ghost use Rattle.bz_breakpad_lines.specs.Table.{Table};
+ghost use Rattle.bz_breakpad_table.specs.Kept.{IsTextAt, function_seen, kept_public, text_at};
+ghost use Rattle.bz_breakpad_table.specs.Sorted.{StandsFor};
+
+use crate::found::FoundRecord;
+use crate::line_run::Cuts;
+use crate::lookups::unanswered;
+use crate::places::{Placed, placed_at};
+use bz_base::{Addr, FindSymOpts, Reason, ResolvedSym, Result, SrcLang};
+use bz_breakpad_table::{KeptFunction, KeptPublic, KeptTable, text_of};
+use std::alloc::Global;
+
+/// The symbol at an address, from the record that was found for it, or why there is none.
+pub(crate) fn symbol_from<'a>(
+    alloc: Global,
+    bytes: &'a [u8],
+    kept: &'a KeptTable,
+    opts: &FindSymOpts,
+    found: FoundRecord,
+    addr: Addr,
+) -> Result<std::result::Result<ResolvedSym<'a>, Reason>>
+    requires { (table : Table) × StandsFor bytes.now table kept.now × IsRecordFor table addr found }
+    ensures answer { (table : Table) → StandsFor bytes.now table kept.now → IsRecordFor table addr found →
+        MayGive found_of (λ answer. answer ≡ found_in (plain table opts.now addr)) result }
+    ensures starts { IfOk result (λ found. StartsBefore addr (found_of found)) }
+    ensures lent { IfOk result (λ found. IfOk found IsLentResolved) }
+    ensures refusal { IfErr result IsAnswerRefusal }
+    ensures memory { IfErr result (WantsMemory (opts.now ≡ FindSymOpts.CodeInfoAndInlined)) }
+{
+    match found {
+        FoundRecord::Function(index) => {
+            let function = &kept.code.functions[index as usize];
+            match placed_at(alloc, bytes, kept, opts, function, Cuts::unknown(), addr) {
+                Ok(placed) => Ok(Ok(function_symbol(bytes, kept, function, placed))),
+                Err(error) => Err(error),
+            }
+        }
+        FoundRecord::Public(index) => {
+            let public = &kept.publics[index as usize];
+            Ok(Ok(public_symbol(alloc, bytes, kept, public)))
+        }
+        FoundRecord::Absent => Ok(Err(unanswered(kept))),
+    }
+}
+
+/// The function as the symbol at an address that lies there in the source code.
+fn function_symbol<'a>(
+    bytes: &'a [u8],
+    kept: &'a KeptTable,
+    function: &'a KeptFunction,
+    placed: Placed<'a>,
+) -> ResolvedSym<'a>
+    requires module_fits { IfSome kept.now.«module» (IsTextAt bytes.now) }
+    requires name_fits { IsTextAt bytes.now function.now.name }
+    requires lent { IsLentPlaced placed }
+    ensures symbol { (read : Table) (addr : ℕ) → read.«module» ≡ option_map (text_at bytes.now) kept.now.«module» →
+        resolved_of result ≡ resolved_in (symbol_at read (function_seen bytes.now kept.now.code function.now) addr (placed_seen placed.entry)) }
+    ensures start { result.addr ≡ function.now.start }
+    ensures lent { IsLentResolved result }
+{
+    ResolvedSym {
+        name: text_of(bytes, &function.name),
+        module: module_name(bytes, kept),
+        addr: function.start,
+        size: Some(function.size as usize),
+        lang: SrcLang::Unknown,
+        code_info: placed.code_info,
+        inlined: placed.inlined,
+    }
+}
+
+/// The PUBLIC record as the symbol at an address.
+fn public_symbol<'a>(
+    alloc: Global,
+    bytes: &'a [u8],
+    kept: &'a KeptTable,
+    public: &'a KeptPublic,
+) -> ResolvedSym<'a>
+    requires module_fits { IfSome kept.now.«module» (IsTextAt bytes.now) }
+    requires name_fits { IsTextAt bytes.now public.now.name }
+    ensures symbol { (read : Table) (addr : ℕ) → read.«module» ≡ option_map (text_at bytes.now) kept.now.«module» →
+        resolved_of result ≡ resolved_in (public_symbol_at read (kept_public bytes.now public.now) addr) }
+    ensures start { result.addr ≡ public.now.start }
+    ensures lent { IsLentResolved result }
+{
+    ResolvedSym {
+        name: text_of(bytes, &public.name),
+        module: module_name(bytes, kept),
+        addr: public.start,
+        size: None,
+        lang: SrcLang::Unknown,
+        code_info: None,
+        inlined: Vec::new(alloc),
+    }
+}
+
+/// The module, lent.
+fn module_name<'a>(bytes: &'a [u8], kept: &KeptTable) -> Option<&'a str>
+    requires { IfSome kept.now.«module» (IsTextAt bytes.now) }
+    ensures { option_map (λ name. name.now) result ≡ option_map (text_at bytes.now) kept.now.«module» }
+{
+    match &kept.module {
+        Some(part) => Some(text_of(bytes, part)),
+        None => None,
+    }
+}
