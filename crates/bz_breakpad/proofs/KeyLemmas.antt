@@ -56,7 +56,8 @@ module _ (bytes : List ℕ) (code : FunctionTable) (functions : List Function) w
   told_starts (k ∷ keys) = ap (λ more. k.start ∷ more) (told_starts keys)
 
   module _ (are : AreNested functions (kept_functions bytes code)) where
-    tell : (map (told functions) (keys_from 0 code.functions.items) ≡ functions)
+    -- the keys tell the functions, each the one at its index
+    pub tell : (map (told functions) (keys_from 0 code.functions.items) ≡ functions)
         × AllByRecursion (λ k. slice_get functions k.index ≡ Some (told functions k)) (keys_from 0 code.functions.items)
     tell = tell_from 0 functions code.functions.items are (λ i. let same : 0 + i ≡ i = omega arith in ap (slice_get functions) same)
 

@@ -7,6 +7,7 @@ pub mod FoundInLemmas
 pub mod FoundLemmas
 pub mod InOrderLemmas
 pub mod IndexedLemmas
+pub mod InspectLemmas
 pub mod KeyLemmas
 pub mod LineSearchLemmas
 pub mod PlacedLemmas

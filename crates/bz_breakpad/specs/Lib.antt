@@ -9,6 +9,7 @@ pub use Rattle.bz_breakpad_table.specs.Refusal
 pub mod Found
 pub mod InOrder
 pub mod Indexed
+pub mod Inspect
 pub mod Lent
 pub mod Plain
 pub mod Probes

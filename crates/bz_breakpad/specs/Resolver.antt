@@ -1,5 +1,5 @@
 -- What a resolver holds, what it comes from, and what it finds.
-use Rattle.std.specs.Prelude.{◌≡◌, ℕ, List, Option, Some, None, Result, Ok, Err}
+use Rattle.std.specs.Prelude.{◌≡◌, ℕ, false, List, Option, Some, None, Result, Ok, Err}
 use Rattle.bz_base.specs.Answer.{Answer, Resolved, Symbol}
 use Rattle.bz_base.specs.Answer.Answer.{Known, Unknown}
 use Rattle.bz_base.specs.declared.error.Error.{Error}
@@ -46,6 +46,12 @@ abbrev pub found_in : Result Answer Error → Result (Result Resolved Reason) Er
 found_in (Ok (Known s)) = Ok (Ok (resolved_in s))
 found_in (Ok (Unknown reason)) = Ok (Err reason)
 found_in (Err e) = Err e
+
+-- the answer without the mark of a PUBLIC record
+abbrev pub unmarked : Result Answer Error → Result Answer Error
+unmarked (Ok (Known s)) = Ok (Known (record s { public = false }))
+unmarked (Ok (Unknown reason)) = Ok (Unknown reason)
+unmarked (Err e) = Err e
 
 -- it is the plain answer of a Breakpad file at the address
 abbrev pub IsPlain : List ℕ → FindSymOpts → ℕ → Result (Result Resolved Reason) Error → Type 0

@@ -1,6 +1,6 @@
 //! A parsed Breakpad file.
 
-ghost use Rattle.std.specs.Prelude.{◌≡◌, ◌≤◌, ◌<◌, ◌+◌, ◌-◌, ℕ, List, map, length, option_map, Option, Some, slice_get, IfOk, IfErr, IsOkUnless};
+ghost use Rattle.std.specs.Prelude.{◌≡◌, ◌≤◌, ◌<◌, ◌+◌, ◌-◌, ℕ, List, map, length, option_map, Option, Some, Ok, slice_get, IfOk, IfErr, IsOkUnless};
 ghost use Rattle.std.specs.List.{AllByRecursion};
 ghost use Rattle.std.specs.Map.{keys_of};
 ghost use Rattle.bz_base.specs.Answer.{Gives, reading};
@@ -13,6 +13,7 @@ ghost use Rattle.bz_base.specs.declared.types.FindSymOpts.{FindSymOpts};
 ghost use Rattle.bz_breakpad.specs.Found.{AreRecordsFor, IsRecordFor};
 ghost use Rattle.bz_breakpad.specs.InOrder.{functions_in_order, publics_in_order};
 ghost use Rattle.bz_breakpad.specs.Indexed.{files_in, function_in, functions_in, origins_in, publics_in};
+ghost use Rattle.bz_breakpad.specs.Inspect.{CalledInTurn, info_of, infos_in, named};
 ghost use Rattle.bz_breakpad.specs.Lent.{lent_public};
 ghost use Rattle.bz_breakpad.specs.Plain.{batch, function_at, plain, IsAnswerRefusal};
 ghost use Rattle.bz_breakpad.specs.Probes.{AreFewProbes, AreFewSteps};
@@ -27,6 +28,7 @@ ghost use Rattle.bz_breakpad_table.specs.Sorted.{IsKept};
 use crate::find::{find_records, function_index, record_at};
 use crate::found::FoundRecord;
 use crate::function::Function;
+use crate::inspect::{SymInfo, each_info, infos_named};
 use crate::line_run::Cuts;
 use crate::lookups::{FoundAddrs, answer_from};
 use crate::symbol::symbol_from;
@@ -370,5 +372,21 @@ impl SymbolFile {
     {
         let found = record_at(&self.table, &self.starts, &self.publics, addr, steps);
         symbol_from(alloc, self.bytes.as_slice(), &self.table, opts, found, addr)
+    }
+
+    /// What is told of the functions of a name, in their order.
+    pub(crate) fn infos_named(&self, alloc: Global, name: &str) -> Result<Vec<SymInfo<'_>>>
+        ensures infos { Gives (λ infos. map info_of infos.items) (Ok (named name.now (infos_in self.now))) result }
+        ensures memory { IsOkUnless result Error.OutOfMemory }
+    {
+        infos_named(alloc, self.bytes.as_slice(), &self.table, name)
+    }
+
+    /// Calls the closure at what is told of each function, in their order, until it answers false.
+    pub(crate) fn each_info<F: FnMut(&SymInfo<'_>) -> bool>(&self, f: F)
+        requires { F.IsAlwaysCallable f }
+        ensures { (last : F) × CalledInTurn F.FnMut f (infos_in self.now) last }
+    {
+        each_info(self.bytes.as_slice(), &self.table, f);
     }
 }

@@ -1,12 +1,15 @@
 //! What holds of this crate's definitions.
 
-ghost use Rattle.std.specs.Prelude.{◌≡◌, ◌↔◌, ◌+◌, ℕ, List, Option, Some, Ok, IsTrue};
-ghost use Rattle.bz_base.specs.Answer.{Call, Site, Symbol};
+ghost use Rattle.std.specs.Prelude.{◌≡◌, ◌↔◌, ◌+◌, ℕ, List, Option, Some, Ok, Result, IsTrue};
+ghost use Rattle.bz_base.specs.Answer.{Call, Resolved, Site, Symbol};
 ghost use Rattle.bz_base.specs.Answer.Answer.{Known};
 ghost use Rattle.bz_base.specs.Nearest.{IsNearestCovering};
+ghost use Rattle.bz_base.specs.Resolution.{answer_at};
 ghost use Rattle.bz_base.specs.declared.types.FindSymOpts.{FindSymOpts};
+ghost use Rattle.bz_base.specs.declared.types.Reason.{Reason};
 ghost use Rattle.bz_breakpad.specs.Lent.{lent_public};
 ghost use Rattle.bz_breakpad.specs.Plain.{IsSeen, function_at, plain, seen_from};
+ghost use Rattle.bz_breakpad.specs.Resolver.{found_in, unmarked};
 ghost use Rattle.bz_breakpad.specs.declared.types.Inlinee.{Inlinee};
 ghost use Rattle.bz_breakpad.specs.declared.types.PublicSymbol.{PublicSymbol};
 ghost use Rattle.bz_breakpad_lines.specs.Table.{Function, Table};
@@ -45,4 +48,10 @@ pub fn calls_are_rotated()
 /// A symbol's start and offset make up the address that it answers for.
 pub fn answers_lie_at_their_addresses()
     ensures { (table : Table) (opts : FindSymOpts) (addr : ℕ) (s : Symbol) → plain table opts addr ≡ Ok (Known s) → s.addr + s.offset ≡ addr }
+{}
+
+/// What a resolver finds is the plain answer at the address, but for the mark of a PUBLIC record.
+pub fn found_symbols_are_plain()
+    ensures { (table : Table) (opts : FindSymOpts) (addr : ℕ) (found : Result Resolved Reason) → found_in (plain table opts addr) ≡ Ok found →
+        unmarked (plain table opts addr) ≡ Ok (answer_at addr found) }
 {}

@@ -5,6 +5,7 @@ ghost use Rattle.bz_base.specs.Lent.{IsLentResolved};
 ghost use Rattle.bz_base.specs.Refusals.{WantsMemory};
 ghost use Rattle.bz_base.specs.Resolution.{MayGive, StartsBefore, found_of};
 ghost use Rattle.bz_base.specs.declared.types.FindSymOpts.{FindSymOpts};
+ghost use Rattle.bz_breakpad.specs.Inspect.{infos_in, told_of};
 ghost use Rattle.bz_breakpad.specs.Plain.{IsAnswerRefusal};
 ghost use Rattle.bz_breakpad.specs.Resolver.{IsPlain, opened};
 ghost use Rattle.bz_breakpad.specs.Version.{format_test};
@@ -17,6 +18,7 @@ ghost use Rattle.bz_files.specs.Looked.{Faulted, Looked, ReadsOne};
 ghost use Rattle.bz_files.specs.World.{Told, entry_at, in_view};
 
 use crate::file::SymbolFile;
+use crate::inspect::{FindAddrOpts, Inspect, SymInfo};
 use bz_base::{Addr, FindSymOpts, Reason, ResolvedSym, Result, Steps, Symbolize};
 use bz_files::Files;
 use std::alloc::Global;
@@ -28,7 +30,7 @@ use std::sync::ledger::{Blank, Ledger};
 /// Contracts see the file's bytes and its path.
 #[derive(Drop)]
 pub struct BreakpadResolver {
-    pub(crate) file: SymbolFile,
+    file: SymbolFile,
     path: String,
 }
 
@@ -75,6 +77,23 @@ impl Symbolize for BreakpadResolver {
         ensures memory { IfErr result (WantsMemory (opts.now ≡ FindSymOpts.CodeInfoAndInlined)) }
     {
         symbol_of(&self.file, alloc, addr, opts)
+    }
+}
+
+impl Inspect for BreakpadResolver {
+    ghost told = { λ resolver kind. told_of kind (infos_in resolver.bytes) };
+
+    fn find_addr(
+        &self,
+        alloc: Global,
+        name: &str,
+        opts: &FindAddrOpts,
+    ) -> Result<Vec<SymInfo<'_>>> {
+        self.file.find_addr(alloc, name, opts)
+    }
+
+    fn for_each<F: FnMut(&SymInfo<'_>) -> bool>(&self, opts: &FindAddrOpts, f: F) -> Result<()> {
+        self.file.for_each(opts, f)
     }
 }
 
