@@ -16,6 +16,8 @@ mod functions;
 #[cfg(test)]
 mod in_order;
 #[cfg(test)]
+mod inspected;
+#[cfg(test)]
 mod lines;
 #[cfg(test)]
 mod names;
@@ -23,5 +25,7 @@ mod names;
 mod names_in_order;
 #[cfg(test)]
 mod places;
+#[cfg(test)]
+mod resolvers;
 #[cfg(test)]
 mod texts;
