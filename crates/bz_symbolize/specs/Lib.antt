@@ -7,5 +7,6 @@ pub mod History
 pub mod Lookup
 pub mod Promise
 pub mod Registration
+pub mod SourceRead
 pub mod Sources
 pub mod State

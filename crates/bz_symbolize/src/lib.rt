@@ -4,9 +4,11 @@
 mod answering;
 mod breakpad;
 mod builder;
+mod copies;
 mod elf;
 mod gsym;
 mod held;
+pub mod helper;
 pub mod laws;
 mod lookups;
 mod settings;

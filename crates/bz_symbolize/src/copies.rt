@@ -1,0 +1,98 @@
+//! Copies of sources.
+
+ghost use Rattle.std.specs.Prelude.{◌≡◌, string_bytes, IfOk, IsOkUnless};
+ghost use Rattle.bz_base.specs.declared.error.Error.{Error};
+ghost use Rattle.bz_symbolize.specs.SourceRead.{gsym_read, source_read};
+
+use crate::source::{Breakpad, Elf, Gsym, GsymData, GsymFile, Source};
+use bz_base::{Error, Result};
+use std::alloc::Global;
+
+impl Breakpad {
+    /// The same file, by a path of its own.
+    pub fn try_clone(&self, alloc: Global) -> Result<Breakpad>
+        ensures same { IfOk result (λ copy. string_bytes copy.path ≡ string_bytes self.now.path) }
+        ensures memory { IsOkUnless result Error.OutOfMemory }
+    {
+        let path = String::from_str(alloc, self.path.as_str())?;
+        Ok(Breakpad { path })
+    }
+}
+
+impl<'d> GsymData<'d> {
+    /// The same bytes, which stay the caller's.
+    pub fn try_clone(&self, _alloc: Global) -> Result<GsymData<'d>>
+        ensures same { IfOk result (λ copy. copy.bytes.now ≡ self.now.bytes.now) }
+        ensures memory { IsOkUnless result Error.OutOfMemory }
+    {
+        Ok(GsymData { bytes: self.bytes })
+    }
+}
+
+impl GsymFile {
+    /// The same file, by a path of its own.
+    pub fn try_clone(&self, alloc: Global) -> Result<GsymFile>
+        ensures same { IfOk result (λ copy. string_bytes copy.path ≡ string_bytes self.now.path) }
+        ensures memory { IsOkUnless result Error.OutOfMemory }
+    {
+        let path = String::from_str(alloc, self.path.as_str())?;
+        Ok(GsymFile { path })
+    }
+}
+
+impl Elf {
+    /// The same file, by a path of its own, with the same settings.
+    pub fn try_clone(&self, alloc: Global) -> Result<Elf>
+        ensures same { IfOk result (λ copy. string_bytes copy.path ≡ string_bytes self.now.path) }
+        ensures debug_syms { IfOk result (λ copy. copy.debug_syms ≡ self.now.debug_syms) }
+        ensures memory { IsOkUnless result Error.OutOfMemory }
+    {
+        let path = String::from_str(alloc, self.path.as_str())?;
+        Ok(Elf {
+            path,
+            debug_syms: self.debug_syms,
+        })
+    }
+}
+
+impl<'d> Gsym<'d> {
+    /// The same source, with a path of its own.
+    pub fn try_clone(&self, alloc: Global) -> Result<Gsym<'d>>
+        ensures same { IfOk result (λ copy. gsym_read copy ≡ gsym_read self.now) }
+        ensures memory { IsOkUnless result Error.OutOfMemory }
+    {
+        match self {
+            Gsym::Data(data) => {
+                let data = data.try_clone(alloc)?;
+                Ok(Gsym::Data(data))
+            }
+            Gsym::File(file) => {
+                let file = file.try_clone(alloc)?;
+                Ok(Gsym::File(file))
+            }
+        }
+    }
+}
+
+impl<'d> Source<'d> {
+    /// The same source, with a path of its own.
+    pub fn try_clone(&self, alloc: Global) -> Result<Source<'d>>
+        ensures same { IfOk result (λ copy. source_read copy ≡ source_read self.now) }
+        ensures memory { IsOkUnless result Error.OutOfMemory }
+    {
+        match self {
+            Source::Breakpad(file) => {
+                let file = file.try_clone(alloc)?;
+                Ok(Source::Breakpad(file))
+            }
+            Source::Gsym(source) => {
+                let source = source.try_clone(alloc)?;
+                Ok(Source::Gsym(source))
+            }
+            Source::Elf(file) => {
+                let file = file.try_clone(alloc)?;
+                Ok(Source::Elf(file))
+            }
+        }
+    }
+}

@@ -1,0 +1,16 @@
+#!/usr/bin/env bash
+# Finds each item of SURFACE.md's first table as a public name in its crate. Prints those that are missing.
+cd "$(dirname "$0")/.." || exit 1
+missing=0
+while IFS='|' read -r _ crate items _; do
+    crate=$(echo "$crate" | tr -d ' ')
+    case "$crate" in bz_*) ;; *) continue ;; esac
+    for item in $(echo "$items" | tr ',' ' '); do
+        if ! grep -rqE "(^|[^a-z_])(fn|struct|enum|trait|type|const) $item([^A-Za-z0-9_]|\$)|^pub use .*[{:, ]$item[,;} ]" "crates/$crate/src"; then
+            echo "$crate: $item"
+            missing=$((missing + 1))
+        fi
+    done
+done < <(sed '/^Not there/,$d' docs/SURFACE.md)
+echo "$missing missing"
+[ "$missing" -eq 0 ]
