@@ -10,6 +10,8 @@ mod calling;
 #[cfg(test)]
 mod changes;
 #[cfg(test)]
+mod copies;
+#[cfg(test)]
 mod elf;
 #[cfg(test)]
 mod gsym;

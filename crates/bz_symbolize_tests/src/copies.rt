@@ -1,0 +1,58 @@
+//! Copies of sources read the same.
+
+use bz_base::Result;
+use bz_symbolize::source::{Breakpad, Elf, GsymData, GsymFile, Source};
+use std::alloc::Global;
+
+/// A Breakpad file at the path.
+fn breakpad(alloc: Global, path: &str) -> Result<Source<'static>> {
+    Ok(Source::from(Breakpad::new(String::from_str(alloc, path)?)))
+}
+
+/// A GSYM file at the path.
+fn gsym(alloc: Global, path: &str) -> Result<Source<'static>> {
+    Ok(Source::from(GsymFile::new(String::from_str(alloc, path)?)))
+}
+
+/// An ELF file at the path.
+fn elf(alloc: Global, path: &str) -> Result<Source<'static>> {
+    Ok(Source::from(Elf::new(String::from_str(alloc, path)?)))
+}
+
+/// Whether the source is printed so, and a copy of it too.
+fn is_copied(alloc: Global, source: &Source<'_>, text: &str) -> Result<bool> {
+    let copy = source.try_clone(alloc)?;
+    let printed = format!(in alloc; "{source:?} {copy:?}")?;
+    Ok(printed.as_str() == text)
+}
+
+/// Whether a copy of each kind of source that has a path reads the same.
+fn paths_are_copied(alloc: Global) -> Result<bool> {
+    Ok(
+        is_copied(
+            alloc,
+            &breakpad(alloc, "/a")?,
+            "Breakpad(\"/a\") Breakpad(\"/a\")",
+        )? && is_copied(
+            alloc,
+            &gsym(alloc, "/g")?,
+            "GsymFile(\"/g\") GsymFile(\"/g\")",
+        )? && is_copied(alloc, &elf(alloc, "/e")?, "Elf(\"/e\") Elf(\"/e\")")?,
+    )
+}
+
+#[test]
+fn copies_of_files_read_the_same(rt: HostRuntime) {
+    assert!(rt; paths_are_copied(rt.alloc()) == Ok(true));
+}
+
+#[test]
+fn copies_of_bytes_read_the_same(rt: HostRuntime) {
+    let source = Source::from(GsymData::new(b"12345"));
+    let copied = is_copied(
+        rt.alloc(),
+        &source,
+        "GsymData([49, 50, 51, 52, 53]) GsymData([49, 50, 51, 52, 53])",
+    );
+    assert!(rt; copied == Ok(true));
+}
