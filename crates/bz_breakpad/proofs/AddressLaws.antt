@@ -6,7 +6,8 @@ use Rattle.bz_base.specs.declared.error.Error.{Error}
 use Rattle.bz_base.specs.declared.types.FindSymOpts.{FindSymOpts}
 use Rattle.bz_base.specs.declared.types.Reason.TheVariants as reasons
 use Rattle.bz_base.proofs.NearestLemmas.{nearest_covering_is}
-use Rattle.bz_breakpad.specs.Plain.{Placed, any_between, by_function, by_place, by_public, by_records, function_at, placed_at, plain, public_at, public_symbol_at, symbol_at}
+use Rattle.bz_breakpad.specs.Plain.{any_between, by_function, by_place, by_public, by_records, function_at, plain, public_at, public_symbol_at, symbol_at}
+use Rattle.bz_breakpad_function.specs.Places.{Placed, placed_at}
 use Rattle.bz_breakpad_lines.specs.Table.{Function, PublicSymbol, Table}
 use Rattle.bz_breakpad.proofs.PublicLemmas.{public_one}
 

@@ -10,8 +10,9 @@ use Rattle.bz_base.specs.declared.types.FindSymOpts.{FindSymOpts}
 use Rattle.bz_base.specs.declared.types.Reason.TheVariants as reasons
 use Rattle.bz_breakpad.specs.Found.{IsFunctionFor, IsPublicFor}
 use Rattle.bz_breakpad_table.specs.Kept.{IsNested, IsTextAt, kept_public, function_seen}
-use Rattle.bz_breakpad.specs.Lent.{placed_seen}
-use Rattle.bz_breakpad.specs.Plain.{Placed, any_between, by_place, by_public, placed_at, plain, public_at, public_symbol_at, IsAnswerRefusal}
+use Rattle.bz_breakpad_function.specs.Lent.{placed_seen}
+use Rattle.bz_breakpad.specs.Plain.{any_between, by_place, by_public, plain, public_at, public_symbol_at}
+use Rattle.bz_breakpad_function.specs.Places.{Placed, placed_at, IsAnswerRefusal}
 use Rattle.bz_breakpad_table.specs.Search.{IsFunction}
 use Rattle.bz_breakpad_table.specs.Sorted.{StandsFor}
 use Rattle.bz_breakpad_lines.specs.Table.{Function, PublicSymbol, Table}
@@ -19,11 +20,20 @@ use Rattle.bz_breakpad_table.specs.declared.types.KeptFunction.{KeptFunction}
 use Rattle.bz_breakpad_table.specs.declared.types.KeptPublic.{KeptPublic}
 use Rattle.bz_breakpad_table.specs.declared.types.KeptTable.{KeptTable}
 use Rattle.bz_breakpad.proofs.AddressLaws.{public_below, starts_below}
-use Rattle.bz_breakpad.proofs.AsKept.{answer_same}
-use Rattle.bz_breakpad.proofs.IndexedLemmas.{fits_there, nested_there}
+use Rattle.bz_breakpad_function.proofs.AsKept.{placed_same}
+use Rattle.bz_breakpad_function.proofs.IndexedLemmas.{fits_there, nested_there}
 use Rattle.bz_breakpad_table.proofs.KeptLemmas.{all_get}
-use Rattle.bz_breakpad.proofs.PublicLemmas.{some_of}
+use Rattle.bz_breakpad_function.proofs.IndexedLemmas.{some_of}
 use Rattle.bz_breakpad.proofs.PlainLemmas.{plain-some}
+
+module _ (table : Table) (f k : Function) (is : IsNested f k) (addr : ℕ) where
+  placing : (p : Result Placed Error) → by_place table f addr p ≡ by_place table k addr p
+  placing (Ok placed) = ap (λ g. by_place table g addr (Ok placed)) (sym is.same)
+  placing (Err e) = refl
+
+  -- a function whose records are in order answers as in the order of the file
+  answer_same : (opts : FindSymOpts) → by_place table f addr (placed_at table opts f addr) ≡ by_place table k addr (placed_at table opts k addr)
+  answer_same opts = ap (by_place table f addr) (placed_same table f k is addr opts) ∙ placing (placed_at table opts k addr)
 
 -- a PUBLIC record that answers starts at or below the address
 answers_below : (table : Table) (addr : ℕ) (s : Symbol) → by_public table addr (public_at addr table.publics) ≡ Known s → s.addr ≤ addr

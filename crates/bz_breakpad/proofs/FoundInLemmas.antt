@@ -7,8 +7,9 @@ use Rattle.bz_base.specs.declared.error.Error.{Error}
 use Rattle.bz_base.specs.declared.error.Error.TheVariants as errors
 use Rattle.bz_base.specs.declared.types.FindSymOpts.{FindSymOpts}
 use Rattle.bz_base.specs.declared.types.Reason.{Reason}
-use Rattle.bz_breakpad.specs.Lent.{placed_seen}
-use Rattle.bz_breakpad.specs.Plain.{Placed, by_place, plain, IsAnswerRefusal}
+use Rattle.bz_breakpad_function.specs.Lent.{placed_seen}
+use Rattle.bz_breakpad.specs.Plain.{by_place, plain}
+use Rattle.bz_breakpad_function.specs.Places.{Placed, IsAnswerRefusal}
 use Rattle.bz_breakpad.specs.Resolver.{found_in, resolved_in, unmarked}
 use Rattle.bz_breakpad_lines.specs.Table.{Function, Table}
 use Rattle.bz_breakpad.proofs.AddressLaws.{known_at}

@@ -26,11 +26,11 @@ use Rattle.bz_breakpad_table.specs.declared.types.KeptTable.{KeptTable}
 use Rattle.bz_breakpad_table.proofs.KeptLemmas.{all_get}
 use Rattle.bz_breakpad_table.proofs.NestedLemmas.{nested_get}
 use Rattle.bz_breakpad_table.proofs.PublicKeyLemmas.{all_at}
-use Rattle.bz_breakpad.specs.Indexed.{functions_of}
+use Rattle.bz_breakpad_function.specs.Indexed.{functions_of}
 use Rattle.bz_breakpad.specs.Inspect.{CalledAtInfo, CalledInTurn, Info, function_info, infos_in, infos_of, named, told_of}
 use Rattle.bz_breakpad.specs.declared.inspect.SymInfo.{SymInfo}
 use Rattle.bz_breakpad.proofs.KeyLemmas.{tell, told}
-use Rattle.bz_breakpad.proofs.PublicLemmas.{some_of}
+use Rattle.bz_breakpad_function.proofs.IndexedLemmas.{some_of}
 
 module _ (bytes : List ℕ) (table : Table) (kept : KeptTable) (stands : StandsFor bytes table kept) where
   -- what the keys tell in their order are the functions in order

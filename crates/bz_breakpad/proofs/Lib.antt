@@ -2,16 +2,11 @@ pub use Rattle.bz_breakpad_lines.proofs.GrammarLaws
 pub use Rattle.bz_breakpad_lines.proofs.Turns
 pub mod AddressLaws
 pub mod AnsweredLemmas
-pub mod AsKept
+pub mod FileOrderLemmas
 pub mod FoundInLemmas
 pub mod FoundLemmas
-pub mod InOrderLemmas
-pub mod IndexedLemmas
 pub mod InspectLemmas
 pub mod KeyLemmas
-pub mod LineSearchLemmas
-pub mod PlacedLemmas
 pub mod PlainLemmas
 pub mod ProbeLemmas
 pub mod PublicLemmas
-pub mod RunFrontLemmas

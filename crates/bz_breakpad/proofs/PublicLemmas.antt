@@ -22,6 +22,7 @@ use Rattle.bz_breakpad_table.specs.declared.publics.PublicTable.{PublicTable}
 use Rattle.bz_breakpad_table.specs.declared.types.KeptPublic.{KeptPublic}
 use Rattle.bz_breakpad_table.specs.declared.types.KeptTable.{KeptTable}
 use Rattle.bz_breakpad.proofs.KeyLemmas.{starts_told}
+use Rattle.bz_breakpad_function.proofs.IndexedLemmas.{some_of}
 
 -- The record that is found.
 
@@ -100,11 +101,6 @@ module _ (addr : ℕ) where
 
 start_there : (publics : List KeptPublic) (i : ℕ) (p : KeptPublic) → slice_get publics i ≡ Some p → slice_get (starts_kept publics) i ≡ Some p.start
 start_there publics i p there = slice_get-map (λ (q : KeptPublic). q.start) publics i ∙ ap (option_map (λ (q : KeptPublic). q.start)) there
-
--- what a mapped option came from
-pub some_of : {A B : Type 0} (f : A → B) (o : Option A) (y : B) → option_map f o ≡ Some y → (x : A) × (o ≡ Some x) × (f x ≡ y)
-some_of f None y is = absurd (none-some y is)
-some_of f (Some x) y is = (x, refl, same_Some (f x) y is)
 
 of_start : (publics : List KeptPublic) (i s : ℕ) → slice_get (starts_kept publics) i ≡ Some s → (p : KeptPublic) × (slice_get publics i ≡ Some p) × (p.start ≡ s)
 of_start publics i s there = some_of (λ (q : KeptPublic). q.start) (slice_get publics i) s (sym (slice_get-map (λ (q : KeptPublic). q.start) publics i) ∙ there)

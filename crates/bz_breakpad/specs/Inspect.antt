@@ -8,7 +8,7 @@ use Rattle.bz_base.specs.declared.error.Error.{Error}
 use Rattle.bz_base.specs.declared.error.Error.TheVariants as errors
 use Rattle.bz_base.specs.declared.types.SymType.{SymType}
 use Rattle.bz_base.specs.declared.types.SymType.TheVariants as kinds
-use Rattle.bz_breakpad.specs.Indexed.{functions_of}
+use Rattle.bz_breakpad_function.specs.Indexed.{functions_of}
 use Rattle.bz_breakpad.specs.declared.inspect.SymInfo.{SymInfo}
 use Rattle.bz_breakpad_lines.specs.Reader.{table_in}
 use Rattle.bz_breakpad_lines.specs.Table.{Function}

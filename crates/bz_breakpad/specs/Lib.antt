@@ -6,11 +6,13 @@ pub use Rattle.bz_breakpad_lines.specs.Reader
 pub use Rattle.bz_breakpad_lines.specs.Records
 pub use Rattle.bz_breakpad_lines.specs.Table
 pub use Rattle.bz_breakpad_table.specs.Refusal
+pub use Rattle.bz_breakpad_function.specs.InOrder
+pub use Rattle.bz_breakpad_function.specs.Indexed
+pub use Rattle.bz_breakpad_function.specs.Lent
+pub use Rattle.bz_breakpad_function.specs.Places
 pub mod Found
-pub mod InOrder
-pub mod Indexed
 pub mod Inspect
-pub mod Lent
+pub mod LentPublic
 pub mod Plain
 pub mod Probes
 pub mod Resolver

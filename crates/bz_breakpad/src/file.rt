@@ -11,11 +11,12 @@ ghost use Rattle.bz_base.specs.Starts.{AreFew};
 ghost use Rattle.bz_base.specs.declared.error.Error.{Error};
 ghost use Rattle.bz_base.specs.declared.types.FindSymOpts.{FindSymOpts};
 ghost use Rattle.bz_breakpad.specs.Found.{AreRecordsFor, IsRecordFor};
-ghost use Rattle.bz_breakpad.specs.InOrder.{functions_in_order, publics_in_order};
-ghost use Rattle.bz_breakpad.specs.Indexed.{files_in, function_in, functions_in, origins_in, publics_in};
+ghost use Rattle.bz_breakpad_function.specs.InOrder.{functions_in_order, publics_in_order};
+ghost use Rattle.bz_breakpad_function.specs.Indexed.{files_in, function_in, functions_in, origins_in, publics_in};
 ghost use Rattle.bz_breakpad.specs.Inspect.{CalledInTurn, info_of, infos_in, named};
-ghost use Rattle.bz_breakpad.specs.Lent.{lent_public};
-ghost use Rattle.bz_breakpad.specs.Plain.{batch, function_at, plain, IsAnswerRefusal};
+ghost use Rattle.bz_breakpad.specs.LentPublic.{lent_public};
+ghost use Rattle.bz_breakpad.specs.Plain.{batch, function_at, plain};
+ghost use Rattle.bz_breakpad_function.specs.Places.{IsAnswerRefusal};
 ghost use Rattle.bz_breakpad.specs.Probes.{AreFewProbes, AreFewSteps};
 ghost use Rattle.bz_breakpad.specs.Resolver.{IsPlain};
 ghost use Rattle.bz_breakpad_lines.specs.Grammar.{Accepted, IsFile};
@@ -27,17 +28,16 @@ ghost use Rattle.bz_breakpad_table.specs.Sorted.{IsKept};
 
 use crate::find::{find_records, function_index, record_at};
 use crate::found::FoundRecord;
-use crate::function::Function;
 use crate::inspect::{SymInfo, each_info, infos_named};
-use crate::line_run::Cuts;
 use crate::lookups::{FoundAddrs, answer_from};
+use crate::publics::{lent_public, lent_publics};
 use crate::symbol::symbol_from;
 use crate::types::PublicSymbol;
-use crate::walks::{lent_public, lent_publics};
 use bz_base::{
     Addr, Error, FindSymOpts, Reason, ResolvedSym, Result, Starts, Steps, Symbolized, nearest,
     place_found,
 };
+use bz_breakpad_function::{Cuts, Function};
 use bz_breakpad_table::{
     KeptTable, PublicTable, name_of, names_of, read_table, sorted_publics, text_of,
 };
@@ -199,12 +199,7 @@ impl SymbolFile {
         requires { index < length (functions_in self.now) }
         ensures { result ≡ function_in self.now index }
     {
-        Function {
-            bytes: self.bytes.as_slice(),
-            code: &self.table.code,
-            kept: &self.table.code.functions[index as usize],
-            index,
-        }
+        Function::new(self.bytes.as_slice(), &self.table, index)
     }
 
     /// How many PUBLIC records the file has.

@@ -7,16 +7,18 @@ ghost use Rattle.bz_base.specs.Nearest.{IsNearestCovering};
 ghost use Rattle.bz_base.specs.Resolution.{answer_at};
 ghost use Rattle.bz_base.specs.declared.types.FindSymOpts.{FindSymOpts};
 ghost use Rattle.bz_base.specs.declared.types.Reason.{Reason};
-ghost use Rattle.bz_breakpad.specs.Lent.{lent_public};
-ghost use Rattle.bz_breakpad.specs.Plain.{IsSeen, function_at, plain, seen_from};
+ghost use Rattle.bz_breakpad.specs.LentPublic.{lent_public};
+ghost use Rattle.bz_breakpad.specs.Plain.{function_at, plain};
+ghost use Rattle.bz_breakpad_function.specs.Places.{IsSeen, seen_from};
 ghost use Rattle.bz_breakpad.specs.Resolver.{found_in, unmarked};
-ghost use Rattle.bz_breakpad.specs.declared.types.Inlinee.{Inlinee};
+ghost use Rattle.bz_breakpad_function.specs.declared.types.Inlinee.{Inlinee};
 ghost use Rattle.bz_breakpad.specs.declared.types.PublicSymbol.{PublicSymbol};
 ghost use Rattle.bz_breakpad_lines.specs.Table.{Function, Table};
 ghost use Rattle.bz_breakpad_lines.specs.Table as tables;
 ghost use Rattle.bz_breakpad_lines.specs.declared.record.SourceLine.{SourceLine};
 
-use crate::types::{Inlinee, PublicSymbol};
+use crate::types::PublicSymbol;
+use bz_breakpad_function::Inlinee;
 use bz_breakpad_lines::SourceLine;
 
 /// Line records and inlined calls are equal exactly where every field is.

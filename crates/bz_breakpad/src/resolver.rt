@@ -6,7 +6,7 @@ ghost use Rattle.bz_base.specs.Refusals.{WantsMemory};
 ghost use Rattle.bz_base.specs.Resolution.{MayGive, StartsBefore, found_of};
 ghost use Rattle.bz_base.specs.declared.types.FindSymOpts.{FindSymOpts};
 ghost use Rattle.bz_breakpad.specs.Inspect.{infos_in, told_of};
-ghost use Rattle.bz_breakpad.specs.Plain.{IsAnswerRefusal};
+ghost use Rattle.bz_breakpad_function.specs.Places.{IsAnswerRefusal};
 ghost use Rattle.bz_breakpad.specs.Resolver.{IsPlain, opened};
 ghost use Rattle.bz_breakpad.specs.Version.{format_test};
 ghost use Rattle.bz_breakpad_lines.specs.Grammar.{IsFile};

@@ -7,18 +7,18 @@ ghost use Rattle.bz_base.specs.Refusals.{WantsMemory};
 ghost use Rattle.bz_base.specs.Resolution.{MayGive, StartsBefore, found_of};
 ghost use Rattle.bz_base.specs.declared.types.FindSymOpts.{FindSymOpts};
 ghost use Rattle.bz_breakpad.specs.Found.{IsRecordFor};
-ghost use Rattle.bz_breakpad.specs.Lent.{IsLentPlaced, placed_seen};
-ghost use Rattle.bz_breakpad.specs.Plain.{plain, public_symbol_at, symbol_at, IsAnswerRefusal};
+ghost use Rattle.bz_breakpad_function.specs.Lent.{IsLentPlaced, placed_seen};
+ghost use Rattle.bz_breakpad.specs.Plain.{plain, public_symbol_at, symbol_at};
+ghost use Rattle.bz_breakpad_function.specs.Places.{IsAnswerRefusal};
 ghost use Rattle.bz_breakpad.specs.Resolver.{found_in, resolved_in};
 ghost use Rattle.bz_breakpad_lines.specs.Table.{Table};
 ghost use Rattle.bz_breakpad_table.specs.Kept.{IsTextAt, function_seen, kept_public, text_at};
 ghost use Rattle.bz_breakpad_table.specs.Sorted.{StandsFor};
 
 use crate::found::FoundRecord;
-use crate::line_run::Cuts;
 use crate::lookups::unanswered;
-use crate::places::{Placed, placed_at};
 use bz_base::{Addr, FindSymOpts, Reason, ResolvedSym, Result, SrcLang};
+use bz_breakpad_function::{Cuts, Placed, placed_at};
 use bz_breakpad_table::{KeptFunction, KeptPublic, KeptTable, text_of};
 use std::alloc::Global;
 

@@ -8,7 +8,7 @@ ghost use Rattle.bz_base.specs.Lent.{IsLent};
 ghost use Rattle.bz_base.specs.Refusals.{MayRefuse};
 ghost use Rattle.bz_base.specs.declared.error.Error.{Error};
 ghost use Rattle.bz_breakpad.specs.Reader.{table_in};
-ghost use Rattle.bz_breakpad.specs.Plain.{IsAnswerRefusal};
+ghost use Rattle.bz_breakpad.specs.Places.{IsAnswerRefusal};
 ghost use Rattle.bz_symbolize.specs.Batch.{BreakpadVersion, answers_to, batch_by};
 ghost use Rattle.bz_symbolize.specs.Counted.{BreakpadSteps, breakpad_steps};
 ghost use Rattle.bz_symbolize.specs.FileCall.{batch_of, query_given};

@@ -1,10 +1,10 @@
 use Rattle.std.proofs.Common.{◌≡◌, ◌<◌, Option, Some, length, sym, ap, subst, ◌∙◌}
 use Rattle.std.proofs.lemmas.Option.{same_Some, slice_get_within}
-use Rattle.bz_breakpad.specs.Indexed.{functions_of}
+use Rattle.bz_breakpad_function.specs.Indexed.{functions_of}
 use Rattle.bz_breakpad.specs.Plain.{function_at}
 use Rattle.bz_breakpad_lines.specs.Reader.{table_in}
 use Rattle.bz_breakpad_lines.specs.Table.{Table}
-use Rattle.bz_breakpad.proofs.IndexedLemmas.{function_is}
+use Rattle.bz_breakpad_function.proofs.IndexedLemmas.{function_is}
 use Rattle.bz_breakpad.proofs.file.SymbolFile.find_function.Goals as goal
 
 pub function_in_file-requires : goal.function_in_file-requires

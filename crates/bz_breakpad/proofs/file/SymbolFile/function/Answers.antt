@@ -2,10 +2,10 @@ use Rattle.std.proofs.Common.{◌≡◌, ◌<◌, Option, Some, length, subst, s
 use Rattle.std.specs.List.{slice_get}
 use Rattle.std.proofs.lemmas.Option.{slice_get_within}
 use Rattle.bz_base.specs.Sorting.{sorted}
-use Rattle.bz_breakpad.specs.Indexed.{functions_of}
+use Rattle.bz_breakpad_function.specs.Indexed.{functions_of}
 use Rattle.bz_breakpad_lines.specs.Reader.{table_in}
 use Rattle.bz_breakpad_lines.specs.Table.{Function, Table}
-use Rattle.bz_breakpad.proofs.IndexedLemmas.{function_is}
+use Rattle.bz_breakpad_function.proofs.IndexedLemmas.{function_is}
 use Rattle.bz_breakpad.proofs.KeyLemmas.{in_order_at, tells_at, told}
 use Rattle.bz_breakpad.proofs.file.SymbolFile.function.Goals as goal
 

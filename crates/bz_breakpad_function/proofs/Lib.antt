@@ -1,0 +1,6 @@
+pub mod AsKept
+pub mod InOrderLemmas
+pub mod IndexedLemmas
+pub mod LineSearchLemmas
+pub mod PlacedLemmas
+pub mod RunFrontLemmas

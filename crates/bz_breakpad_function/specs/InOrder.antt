@@ -1,0 +1,21 @@
+-- What a file and its functions have, in the orders in which a program walks them. What is alike in an order stands as in the file.
+use Rattle.std.specs.Prelude.{ℕ, List}
+use Rattle.bz_base.specs.Sorting.{sorted}
+use Rattle.bz_breakpad_function.specs.Indexed.{functions_in, publics_in}
+use Rattle.bz_breakpad_lines.specs.Table.{Function, Inlinee, PublicSymbol, SourceLine}
+
+-- the functions of a file, by start and size
+abbrev pub functions_in_order : List ℕ → List Function
+functions_in_order bytes = sorted (λ f. f.start) (λ f. f.size) (functions_in bytes)
+
+-- the PUBLIC records of a file, by address
+abbrev pub publics_in_order : List ℕ → List PublicSymbol
+publics_in_order bytes = sorted (λ p. p.start) (λ p. 0) (publics_in bytes)
+
+-- the line records of a function, by start and size
+abbrev pub lines_in_order : Function → List SourceLine
+lines_in_order f = sorted (λ l. l.start) (λ l. l.size) f.lines
+
+-- the inlined calls of a function, by depth and start
+abbrev pub calls_in_order : Function → List Inlinee
+calls_in_order f = sorted (λ i. i.depth) (λ i. i.start) f.inlinees

@@ -1,0 +1,29 @@
+-- What is told of a function: its inlined calls, and what a place in it lends of the file.
+use Rattle.std.specs.Prelude.{map, option_map, IfSome}
+use Rattle.std.specs.List.{AllByRecursion}
+use Rattle.bz_base.specs.Answer.{call_of, site_of}
+use Rattle.bz_base.specs.Lent.{IsLentCall, IsLentPlace}
+use Rattle.bz_breakpad_function.specs.Places.{Placed}
+use Rattle.bz_breakpad_function.specs.declared.places.Placed as places
+use Rattle.bz_breakpad_lines.specs.Table.{Inlinee}
+use Rattle.bz_breakpad_function.specs.declared.types.Inlinee.{Inlinee as KeptInlinee}
+
+-- where an address lies, as plain data
+abbrev pub placed_seen : places.Placed → Placed
+placed_seen p = record { site = option_map site_of p.code_info; calls = map call_of p.inlined.items }
+
+-- all its texts are lent
+pub record IsLentPlaced (p : places.Placed) : Type 0 where
+  pub site : IfSome p.code_info IsLentPlace
+  pub calls : AllByRecursion IsLentCall p.inlined.items
+
+-- an inlined call, as the file says it
+abbrev pub kept_inlinee : KeptInlinee → Inlinee
+kept_inlinee i = record {
+  depth = i.depth;
+  start = i.addr;
+  size = i.size;
+  call_line = i.call_line;
+  call_file = i.call_file;
+  origin = i.origin_id;
+}

@@ -1,0 +1,15 @@
+//! Breakpad symbol files: the records of one function, and where an address lies in it.
+#![tactic(auto)]
+
+mod calls;
+mod function;
+mod line_run;
+mod lines;
+mod places;
+mod types;
+mod walks;
+
+pub use function::Function;
+pub use line_run::{Cuts, Guess};
+pub use places::{Placed, placed_at};
+pub use types::Inlinee;

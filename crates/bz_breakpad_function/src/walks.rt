@@ -1,0 +1,209 @@
+//! The records of a function, one after another in their order.
+
+ghost use Rattle.std.specs.Prelude.{◌≡◌, ◌<◌, ◌-◌, Some, drop, length, map, slice_get, IfOk};
+ghost use Rattle.std.specs.List.{AllByRecursion};
+ghost use Rattle.bz_base.specs.Line as base;
+ghost use Rattle.bz_breakpad_function.specs.Lent.{kept_inlinee};
+ghost use Rattle.bz_breakpad_lines.specs.LineStarts.{ReadsLine, line_read};
+ghost use Rattle.bz_breakpad_lines.specs.Told.{line_seen};
+ghost use Rattle.bz_breakpad_table.specs.Kept.{function_seen, kept_call, kept_lines};
+ghost use Rattle.bz_breakpad_table.specs.LineRun.{AreLineRecords, lines_in};
+ghost use Rattle.bz_breakpad_table.specs.Search.{IsFunction};
+
+use crate::calls::inlinee_of;
+use crate::types::Inlinee;
+use bz_base::first_line;
+use bz_breakpad_lines::{SourceLine, line_at};
+use bz_breakpad_table::{CallRange, FunctionTable, KeptFunction, LineRecords};
+use std::alloc::{AllocError, Global};
+
+/// How many line records the function has.
+pub(crate) fn line_count(bytes: &[u8], code: &FunctionTable, function: &KeptFunction) -> usize
+    requires { IsFunction bytes.now code.now function.now }
+    ensures { result ≡ length (function_seen bytes.now code.now function.now).lines }
+{
+    match function.lines {
+        LineRecords::Run(part) => {
+            let text = &bytes[part.from as usize..part.to as usize];
+            count_lines(text)
+        }
+        LineRecords::Listed(part) => {
+            let places = &code.lines[part.from as usize..part.to as usize];
+            places.len()
+        }
+    }
+}
+
+/// The line record of the function at an index, in their order.
+pub(crate) fn line_at_index(
+    bytes: &[u8],
+    code: &FunctionTable,
+    function: &KeptFunction,
+    index: usize,
+) -> SourceLine
+    requires function { IsFunction bytes.now code.now function.now }
+    requires within { index < length (function_seen bytes.now code.now function.now).lines }
+    ensures { slice_get (function_seen bytes.now code.now function.now).lines index ≡ Some (line_seen result) }
+{
+    match function.lines {
+        LineRecords::Run(part) => {
+            let text = &bytes[part.from as usize..part.to as usize];
+            line_of_run(text, index)
+        }
+        LineRecords::Listed(part) => {
+            let places = &code.lines[part.from as usize..part.to as usize];
+            line_of_places(bytes, places, index)
+        }
+    }
+}
+
+/// The line records of the function, in their order.
+pub(crate) fn all_lines(
+    alloc: Global,
+    bytes: &[u8],
+    code: &FunctionTable,
+    function: &KeptFunction,
+) -> Result<Vec<SourceLine>, AllocError>
+    requires { IsFunction bytes.now code.now function.now }
+    ensures { IfOk result (λ lines. map line_seen lines.items ≡ (function_seen bytes.now code.now function.now).lines) }
+{
+    match function.lines {
+        LineRecords::Run(part) => {
+            let text = &bytes[part.from as usize..part.to as usize];
+            lines_of_run(alloc, text)
+        }
+        LineRecords::Listed(part) => {
+            let places = &code.lines[part.from as usize..part.to as usize];
+            lines_of_places(alloc, bytes, places)
+        }
+    }
+}
+
+/// The inlined call of the function at an index, in their order.
+pub(crate) fn inlinee_at_index(
+    bytes: &[u8],
+    code: &FunctionTable,
+    function: &KeptFunction,
+    index: usize,
+) -> Inlinee
+    requires function { IsFunction bytes.now code.now function.now }
+    requires within { index < function.now.inlinees.to - function.now.inlinees.from }
+    ensures { slice_get (function_seen bytes.now code.now function.now).inlinees index ≡ Some (kept_inlinee result) }
+{
+    let place = function.inlinees.from as usize + index;
+    inlinee_of(bytes, &code.inlinees[place])
+}
+
+/// The inlined calls of ranges, with what their records say.
+pub(crate) fn all_inlinees(
+    alloc: Global,
+    bytes: &[u8],
+    ranges: &[CallRange],
+) -> Result<Vec<Inlinee>, AllocError>
+    ensures { IfOk result (λ calls. map kept_inlinee calls.items ≡ map (kept_call bytes.now) ranges.now) }
+{
+    let mut calls = Vec::with_capacity(alloc, ranges.len())?;
+    for range in ranges {
+        calls.push(inlinee_of(bytes, range))?;
+    }
+    Ok(calls)
+}
+
+/// The line records that the lines of a text are.
+fn lines_of_run(alloc: Global, text: &[u8]) -> Result<Vec<SourceLine>, AllocError>
+    ensures { IfOk result (λ lines. map line_seen lines.items ≡ lines_in text.now) }
+{
+    let mut lines = Vec::new(alloc);
+    let mut rest = text;
+    while let Some((line, after)) = first_line(rest) {
+        if let Some(line) = line_at(line, 0) {
+            lines.push(line)?;
+        }
+        rest = after;
+    }
+    Ok(lines)
+}
+
+/// The line records that begin at places in the bytes.
+fn lines_of_places(
+    alloc: Global,
+    bytes: &[u8],
+    places: &[usize],
+) -> Result<Vec<SourceLine>, AllocError>
+    ensures { IfOk result (λ lines. map line_seen lines.items ≡ kept_lines bytes.now places.now) }
+{
+    let mut lines = Vec::with_capacity(alloc, places.len())?;
+    for place in places {
+        if let Some(line) = line_at(bytes, *place) {
+            lines.push(line)?;
+        }
+    }
+    Ok(lines)
+}
+
+/// The line record at an index of those that the lines of a text are.
+fn line_of_run(text: &[u8], index: usize) -> SourceLine
+    requires read { AreLineRecords text.now }
+    requires within { index < length (lines_in text.now) }
+    ensures { slice_get (lines_in text.now) index ≡ Some (line_seen result) }
+{
+    line_or_none(after_lines(text, index), 0)
+}
+
+/// The line record at an index of those that begin at places in the bytes.
+fn line_of_places(bytes: &[u8], places: &[usize], index: usize) -> SourceLine
+    requires read { AllByRecursion (ReadsLine bytes.now) places.now }
+    requires within { index < length places.now }
+    ensures { slice_get (kept_lines bytes.now places.now) index ≡ Some (line_seen result) }
+{
+    line_or_none(bytes, places[index])
+}
+
+/// How many lines a text has.
+fn count_lines(text: &[u8]) -> usize
+    ensures { result ≡ length (base.all_lines text.now) }
+{
+    let mut count = 0;
+    let mut rest = text;
+    while let Some((_line, after)) = first_line(rest) {
+        count += 1;
+        rest = after;
+    }
+    count
+}
+
+/// What is left of a text after so many of its lines.
+fn after_lines(text: &[u8], count: usize) -> &[u8]
+    ensures { base.all_lines result.now ≡ drop count (base.all_lines text.now) }
+{
+    let mut rest = text;
+    for _index in 0..count {
+        rest = after_line(rest);
+    }
+    rest
+}
+
+/// What is left of a text after its first line.
+fn after_line(text: &[u8]) -> &[u8]
+    ensures { base.all_lines result.now ≡ drop 1 (base.all_lines text.now) }
+{
+    match first_line(text) {
+        Some((_line, after)) => after,
+        None => text,
+    }
+}
+
+/// The line record at a place; one of zeros where none is.
+fn line_or_none(bytes: &[u8], place: usize) -> SourceLine
+    ensures { line_seen result ≡ line_read bytes.now place }
+{
+    match line_at(bytes, place) {
+        Some(line) => line,
+        None => SourceLine {
+            addr: 0,
+            size: 0,
+            line: 0,
+            file: 0,
+        },
+    }
+}
