@@ -3,12 +3,12 @@ use Rattle.std.proofs.Common.{◌≡◌, ℕ, suc, ◌+◌, ◌<◌, List, [], �
 use Rattle.std.specs.List.{AllByRecursion, slice_get, slice_index_or}
 use Rattle.std.proofs.lemmas.Option.{get_or_from_slice_get, slice_get-map, slice_get_read}
 use Rattle.bz_base.specs.Nearest.{IsTable, nearest_covering}
-use Rattle.bz_base.specs.Sorting.{sorted}
 use Rattle.bz_base.proofs.ViewLemmas.{covering_seen, table_seen}
 use Rattle.bz_search.proofs.SortingLaws.{table_sorted}
 use Rattle.bz_breakpad_table.specs.FunctionKeys.{AreSortedKeys, keys_from}
 use Rattle.bz_breakpad_table.specs.Kept.{AreNested, kept_functions, function_seen}
 use Rattle.bz_breakpad.specs.Plain.{function_at}
+use Rattle.bz_breakpad_function.specs.InOrder.{ordered_functions}
 use Rattle.bz_breakpad_lines.specs.Table.{Function}
 use Rattle.bz_breakpad_table.specs.declared.types.FunctionKey.{FunctionKey}
 use Rattle.bz_breakpad_table.specs.declared.types.FunctionTable.{FunctionTable}
@@ -79,13 +79,14 @@ module _ (bytes : List ℕ) (code : FunctionTable) (functions : List Function) w
 
     module _ (keys : List FunctionKey) (are_sorted : AreSortedKeys code.functions.items keys) where
       -- the keys in order tell the functions in order
-      told_in_order : map (told functions) keys ≡ sorted (λ (f : Function). f.start) (λ f. f.size) functions
+      pub told_in_order : map (told functions) keys ≡ ordered_functions functions
       told_in_order =
           table_sorted (λ (f : Function). f.start) (λ f. f.size) functions (map (told functions) keys)
           (subst (λ (fs : List Function). IsTable (λ (f : Function). f.start) (λ f. f.size) fs (map (told functions) keys)) tell.0
           (table_seen (λ (f : Function). f.start) (λ f. f.size) (told functions) (keys_from 0 code.functions.items) keys are_sorted.table))
 
-      all_tell : AllByRecursion (λ k. slice_get functions k.index ≡ Some (told functions k)) keys
+      -- each tells the function at its index
+      pub all_tell : AllByRecursion (λ k. slice_get functions k.index ≡ Some (told functions k)) keys
       all_tell =
           all_in_table (λ (k : FunctionKey). slice_get functions k.index ≡ Some (told functions k)) (λ (k : FunctionKey). k.start) (λ k. k.size)
           (keys_from 0 code.functions.items) keys are_sorted.table tell.1
@@ -98,7 +99,7 @@ module _ (bytes : List ℕ) (code : FunctionTable) (functions : List Function) w
             (all_get (λ (k : FunctionKey). slice_get functions k.index ≡ Some (told functions k)) keys index key all_tell within)
 
         -- which is the function at the index in order
-        pub in_order_at : slice_get (sorted (λ (f : Function). f.start) (λ f. f.size) functions) index ≡ Some (told functions key)
+        pub in_order_at : slice_get (ordered_functions functions) index ≡ Some (told functions key)
         in_order_at =
             ap (λ (fs : List Function). slice_get fs index) (sym told_in_order)
             ∙ slice_get-map (told functions) keys index

@@ -3,11 +3,11 @@ use Rattle.std.specs.Prelude.{◌≡◌, ◌⊎◌, ℕ, Bool, true, false, List
 use Rattle.std.specs.Borrow.{Bor}
 use Rattle.std.specs.Fn.{CalledAt, Mut}
 use Rattle.std.specs.List.{filter}
-use Rattle.bz_base.specs.Sorting.{sorted}
 use Rattle.bz_base.specs.declared.error.Error.{Error}
 use Rattle.bz_base.specs.declared.error.Error.TheVariants as errors
 use Rattle.bz_base.specs.declared.types.SymType.{SymType}
 use Rattle.bz_base.specs.declared.types.SymType.TheVariants as kinds
+use Rattle.bz_breakpad_function.specs.InOrder.{ordered_functions}
 use Rattle.bz_breakpad_function.specs.Indexed.{functions_of}
 use Rattle.bz_breakpad.specs.declared.inspect.SymInfo.{SymInfo}
 use Rattle.bz_breakpad_lines.specs.Reader.{table_in}
@@ -44,9 +44,9 @@ function_info f = record {
   «module» = None;
 }
 
--- what is told of functions, in the order of start, size and place in the list
+-- what is told of functions, in their order
 abbrev pub infos_of : List Function → List Info
-infos_of functions = map function_info (sorted (λ f. f.start) (λ f. f.size) functions)
+infos_of functions = map function_info (ordered_functions functions)
 
 -- what is told of the functions of a file
 abbrev pub infos_in : List ℕ → List Info

@@ -28,7 +28,7 @@ module _ (bytes : List ℕ) (table : Table) (kept : KeptTable) (stands : StandsF
       (f.0, f.1, subst (IsNested function) (sym f.2) k.2)
 
   -- the function of the index is kept
-  there_within : index < length kept.code.functions.items
+  pub there_within : index < length kept.code.functions.items
   there_within = slice_get_within kept.code.functions.items index kept_there.0 kept_there.1
 
   module _ (f : KeptFunction) (read : f ≡ get_or kept.code.functions.items index f) where

@@ -4,9 +4,13 @@ use Rattle.bz_base.specs.Sorting.{sorted}
 use Rattle.bz_breakpad_function.specs.Indexed.{functions_in, publics_in}
 use Rattle.bz_breakpad_lines.specs.Table.{Function, Inlinee, PublicSymbol, SourceLine}
 
--- the functions of a file, by start and size
+-- functions by start and size
+abbrev pub ordered_functions : List Function → List Function
+ordered_functions functions = sorted (λ f. f.start) (λ f. f.size) functions
+
+-- those of a file
 abbrev pub functions_in_order : List ℕ → List Function
-functions_in_order bytes = sorted (λ f. f.start) (λ f. f.size) (functions_in bytes)
+functions_in_order bytes = ordered_functions (functions_in bytes)
 
 -- the PUBLIC records of a file, by address
 abbrev pub publics_in_order : List ℕ → List PublicSymbol

@@ -1,10 +1,10 @@
 use Rattle.std.proofs.Common.{◌≡◌, ◌<◌, Option, Some, length, subst, sym, ap, arith, ◌∙◌}
 use Rattle.std.specs.List.{slice_get}
 use Rattle.std.proofs.lemmas.Option.{slice_get_within}
-use Rattle.bz_base.specs.Sorting.{sorted}
+use Rattle.bz_breakpad_function.specs.InOrder.{ordered_functions}
 use Rattle.bz_breakpad_function.specs.Indexed.{functions_of}
 use Rattle.bz_breakpad_lines.specs.Reader.{table_in}
-use Rattle.bz_breakpad_lines.specs.Table.{Function, Table}
+use Rattle.bz_breakpad_lines.specs.Table.{Table}
 use Rattle.bz_breakpad_function.proofs.IndexedLemmas.{function_is}
 use Rattle.bz_breakpad.proofs.KeyLemmas.{in_order_at, tells_at, told}
 use Rattle.bz_breakpad.proofs.file.SymbolFile.function.Goals as goal
@@ -31,6 +31,6 @@ returns-clause-function g c =
     let listed = subst (λ (o : Option Table). c.args.index < length (functions_of o)) read c.requires in
     let within : c.args.index < length code.keys.items = omega (arith, listed, kept.stands.count, kept.stands.keys.count) in
     let tells = tells_at bytes code functions kept.stands.functions code.keys.items kept.stands.keys c.args.index key within c.index.ensures in
-    ap (λ (o : Option Table). slice_get (sorted (λ (f : Function). f.start) (λ f. f.size) (functions_of o)) c.args.index) read
+    ap (λ (o : Option Table). slice_get (ordered_functions (functions_of o)) c.args.index) read
     ∙ in_order_at bytes code functions kept.stands.functions code.keys.items kept.stands.keys c.args.index key within c.index.ensures
     ∙ ap Some (sym (c.function_in_file.ensures ∙ function_is c.args.self.now kept.table key.index (told functions key) read tells))
