@@ -12,7 +12,7 @@ pub use Rattle.bz_breakpad_function.specs.Lent
 pub use Rattle.bz_breakpad_function.specs.Places
 pub mod Found
 pub mod Inspect
-pub mod LentPublic
+pub mod Listed
 pub mod Plain
 pub mod Probes
 pub mod Resolver

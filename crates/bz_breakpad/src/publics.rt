@@ -1,7 +1,7 @@
 //! PUBLIC records, which lend their names.
 
 ghost use Rattle.std.specs.Prelude.{◌≡◌, map, IfOk};
-ghost use Rattle.bz_breakpad.specs.LentPublic.{lent_public};
+ghost use Rattle.bz_breakpad.specs.Listed.{lent_public};
 ghost use Rattle.bz_breakpad_table.specs.Kept.{IsTextAt, PublicsFit, kept_public};
 
 use crate::types::PublicSymbol;

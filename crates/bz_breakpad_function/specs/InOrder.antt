@@ -1,8 +1,8 @@
--- What a file and its functions have, in the orders in which a program walks them. What is alike in an order stands as in the file.
+-- Functions and their records, in the orders in which a program walks them. What is alike in an order stands as in the file.
 use Rattle.std.specs.Prelude.{ℕ, List}
 use Rattle.bz_base.specs.Sorting.{sorted}
-use Rattle.bz_breakpad_function.specs.Indexed.{functions_in, publics_in}
-use Rattle.bz_breakpad_lines.specs.Table.{Function, Inlinee, PublicSymbol, SourceLine}
+use Rattle.bz_breakpad_function.specs.Indexed.{functions_in}
+use Rattle.bz_breakpad_lines.specs.Table.{Function, Inlinee, SourceLine}
 
 -- functions by start and size
 abbrev pub ordered_functions : List Function → List Function
@@ -11,10 +11,6 @@ ordered_functions functions = sorted (λ f. f.start) (λ f. f.size) functions
 -- those of a file
 abbrev pub functions_in_order : List ℕ → List Function
 functions_in_order bytes = ordered_functions (functions_in bytes)
-
--- the PUBLIC records of a file, by address
-abbrev pub publics_in_order : List ℕ → List PublicSymbol
-publics_in_order bytes = sorted (λ p. p.start) (λ p. 0) (publics_in bytes)
 
 -- the line records of a function, by start and size
 abbrev pub lines_in_order : Function → List SourceLine

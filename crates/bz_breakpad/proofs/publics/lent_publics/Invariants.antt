@@ -1,6 +1,6 @@
 use Rattle.std.proofs.Common.{◌≡◌, map, take}
 use Rattle.bz_breakpad_table.specs.Kept.{kept_public}
-use Rattle.bz_breakpad.specs.LentPublic.{lent_public}
+use Rattle.bz_breakpad.specs.Listed.{lent_public}
 use Rattle.bz_breakpad.proofs.publics.lent_publics.Given as goal
 
 -- the records so far

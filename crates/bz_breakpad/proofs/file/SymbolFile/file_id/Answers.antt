@@ -1,9 +1,9 @@
 use Rattle.std.proofs.Common.{◌≡◌, ◌<◌, Option, Some, length, ap, subst, sym, ◌∙◌}
 use Rattle.std.specs.List.{slice_get}
 use Rattle.std.specs.Map.{keys_of}
-use Rattle.bz_breakpad_function.specs.Indexed.{files_of}
 use Rattle.bz_breakpad_lines.specs.Reader.{table_in}
 use Rattle.bz_breakpad_lines.specs.Table.{Table}
+use Rattle.bz_breakpad.specs.Listed.{files_of}
 use Rattle.bz_breakpad.proofs.FileOrderLemmas.{id_kept, ids_within}
 use Rattle.bz_breakpad.proofs.file.SymbolFile.file_id.Goals as goal
 

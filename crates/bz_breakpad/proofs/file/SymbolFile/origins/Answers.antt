@@ -1,7 +1,7 @@
 use Rattle.std.proofs.Common.{◌≡◌, ℕ, List, Some, ap, sym, ◌∙◌}
-use Rattle.bz_breakpad_function.specs.Indexed.{origins_of}
 use Rattle.bz_breakpad_lines.specs.Reader.{table_in}
 use Rattle.bz_breakpad_table.specs.Kept.{kept_names}
+use Rattle.bz_breakpad.specs.Listed.{origins_of}
 use Rattle.bz_breakpad.proofs.file.SymbolFile.origins.Goals as goal
 
 pub returns-clause-origins : goal.returns-clause-origins

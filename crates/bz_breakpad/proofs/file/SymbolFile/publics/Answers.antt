@@ -1,11 +1,11 @@
 use Rattle.std.proofs.Common.{◌≡◌, ℕ, List, Option, Some, map, ap, ap₂, subst, sym, ◌∙◌}
 use Rattle.bz_base.specs.Nearest.{IsTable}
 use Rattle.bz_base.specs.Sorting.{sorted}
-use Rattle.bz_breakpad_function.specs.Indexed.{publics_of}
 use Rattle.bz_breakpad_lines.specs.Reader.{table_in}
 use Rattle.bz_breakpad_lines.specs.Table.{PublicSymbol, Table}
 use Rattle.bz_breakpad_table.specs.Kept.{PublicsFit, kept_public}
 use Rattle.bz_breakpad_table.specs.declared.types.KeptPublic.{KeptPublic}
+use Rattle.bz_breakpad.specs.Listed.{publics_of}
 use Rattle.bz_breakpad.proofs.FileOrderLemmas.{publics_fit, publics_kept}
 use Rattle.bz_breakpad.proofs.file.SymbolFile.publics.Goals as goal
 
