@@ -60,7 +60,7 @@ impl<'f, 'b> FoundAddrs<'f, 'b> {
         Ok(answers)
     }
 
-    /// The answer at the address of an index, with hints for `line_in_run`.
+    /// The answer at the address of an index, with hints for `placed_at`.
     fn answer_at(
         &self,
         alloc: Global,
@@ -195,7 +195,7 @@ impl Seed {
     }
 }
 
-/// The answer at an address, from the record that was found for it. The hints are for `line_in_run`.
+/// The answer at an address, from the record that was found for it. The hints are for `placed_at`.
 pub(crate) fn answer_from<'a>(
     alloc: Global,
     bytes: &'a [u8],

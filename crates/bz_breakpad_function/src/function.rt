@@ -52,7 +52,7 @@ impl<'a> Model for Function<'a> {
 impl<'a> Function<'a> {
     /// The function of an index in the order of a file, by the file's bytes and what is kept of them.
     pub fn new(bytes: &'a [u8], kept: &'a KeptTable, index: u32) -> Function<'a>
-        requires kept { (table : Table) × (table_in bytes.now ≡ Some table) × StandsFor bytes.now table kept.now }
+        requires stands { (table : Table) × (table_in bytes.now ≡ Some table) × StandsFor bytes.now table kept.now }
         requires within { index < length (functions_in bytes.now) }
         ensures { result ≡ function_in bytes.now index }
     {

@@ -33,7 +33,7 @@ pub struct Placed<'f> {
     pub inlined: Vec<InlinedFn<'f>>,
 }
 
-/// Where the address lies, as far as the options ask for it. The hints are for `line_in_run`.
+/// Where the address lies, as far as the options ask for it. It is the same whatever the hints are.
 pub fn placed_at<'f>(
     alloc: Global,
     bytes: &'f [u8],
