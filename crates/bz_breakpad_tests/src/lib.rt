@@ -6,6 +6,8 @@ mod answered;
 #[cfg(test)]
 mod answers;
 #[cfg(test)]
+mod calling;
+#[cfg(test)]
 mod cases;
 #[cfg(test)]
 mod files;

@@ -1,0 +1,38 @@
+//! A caller: the name of the symbol at an address of a Breakpad file.
+
+ghost use Rattle.std.specs.Prelude.{option_map, string_bytes, IfOk};
+ghost use Rattle.bz_breakpad_tests.specs.Calling.{IsNamed};
+ghost use Rattle.bz_files.specs.World.{in_view};
+
+use crate::files::USUAL;
+use bz_base::{Addr, FindSymOpts, Result, Symbolize};
+use bz_breakpad::BreakpadResolver;
+use bz_files::{Files, MemFiles};
+use std::alloc::Global;
+
+/// The name of the symbol at an address of the Breakpad file at a path, as its plain answer has it.
+fn name_at<F: Files>(alloc: Global, files: &mut F, path: &str, addr: Addr) -> Result<Option<String>>
+    ensures { IfOk result (λ name. IsNamed (in_view (F.worlds files.old)) path.now addr (option_map string_bytes name)) }
+{
+    let resolver = BreakpadResolver::open(alloc, files, path)?;
+    match resolver.find_sym(alloc, addr, &FindSymOpts::Basic)? {
+        Ok(found) => Ok(Some(String::from_str(alloc, found.name)?)),
+        Err(_) => Ok(None),
+    }
+}
+
+/// Whether the name at an address of the file that `dump_syms` writes is that.
+fn is_named(alloc: Global, addr: Addr, expected: &str) -> Result<bool> {
+    let mut files = MemFiles::new(alloc, 0);
+    files.put(alloc, "/app.sym", Vec::from_slice(alloc, USUAL)?)?;
+    match name_at(alloc, &mut files, "/app.sym", addr)? {
+        Some(name) => Ok(name.as_str() == expected),
+        None => Ok(false),
+    }
+}
+
+#[test]
+fn names_the_symbol_at_an_address(rt: HostRuntime) {
+    assert!(rt; is_named(rt.alloc(), 0x1174, "main") == Ok(true));
+    assert!(rt; is_named(rt.alloc(), 0x1020, "_start") == Ok(true));
+}
