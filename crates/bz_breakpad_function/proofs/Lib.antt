@@ -4,3 +4,4 @@ pub mod IndexedLemmas
 pub mod LineSearchLemmas
 pub mod PlacedLemmas
 pub mod RunFrontLemmas
+pub mod RunWalkLemmas

@@ -15,7 +15,7 @@ use bz_breakpad_lines::{SourceLine, line_feeds, line_len, start_at, start_of};
 use bz_breakpad_table::Part;
 
 /// About how long a line record is, in bytes.
-const LINE_LEN: usize = 16;
+pub(crate) const LINE_LEN: usize = 16;
 
 /// Where a run may be cut first and then, in front of lines; 0 where that isn't known.
 #[derive(Clone, Copy)]
@@ -54,7 +54,7 @@ pub(crate) fn line_in_run(bytes: &[u8], run: &Part, hints: Cuts, addr: Addr) -> 
 
 /// Whether the last line has its line feed.
 #[inline(always)]
-fn ends_line(text: &[u8]) -> bool
+pub(crate) fn ends_line(text: &[u8]) -> bool
     ensures { result ≡ true → (0 < length text.now) × (slice_index text.now (length text.now - 1) ≡ line_feed) }
 {
     !text.is_empty() && text[text.len() - 1] == b'\n'

@@ -1,20 +1,21 @@
 //! The records of a function, one after another in their order.
 
-ghost use Rattle.std.specs.Prelude.{◌≡◌, ◌<◌, ◌-◌, Some, drop, length, map, slice_get, IfOk};
+ghost use Rattle.std.specs.Prelude.{◌≡◌, ◌≤◌, ◌<◌, ◌-◌, ◌∷◌, Some, drop, length, map, slice_get, take, IfOk};
 ghost use Rattle.std.specs.List.{AllByRecursion};
 ghost use Rattle.bz_base.specs.Line as base;
 ghost use Rattle.bz_breakpad_function.specs.Lent.{kept_inlinee};
 ghost use Rattle.bz_breakpad_lines.specs.LineStarts.{ReadsLine, line_read};
 ghost use Rattle.bz_breakpad_lines.specs.Told.{line_seen};
-ghost use Rattle.bz_breakpad_table.specs.Kept.{function_seen, kept_call, kept_lines};
-ghost use Rattle.bz_breakpad_table.specs.LineRun.{AreLineRecords, lines_in};
+ghost use Rattle.bz_breakpad_table.specs.Kept.{IsRunAt, function_seen, kept_call, kept_lines, text_at};
+ghost use Rattle.bz_breakpad_table.specs.LineRun.{AreLineRecords, IsRunFront, lines_in};
 ghost use Rattle.bz_breakpad_table.specs.Search.{IsFunction};
 
 use crate::calls::inlinee_of;
+use crate::line_run::{LINE_LEN, ends_line};
 use crate::types::Inlinee;
 use bz_base::first_line;
-use bz_breakpad_lines::{SourceLine, line_at};
-use bz_breakpad_table::{CallRange, FunctionTable, KeptFunction, LineRecords};
+use bz_breakpad_lines::{SourceLine, line_at, line_len};
+use bz_breakpad_table::{CallRange, FunctionTable, KeptFunction, LineRecords, Part};
 use std::alloc::{AllocError, Global};
 
 /// How many line records the function has.
@@ -68,10 +69,7 @@ pub(crate) fn all_lines(
     ensures { IfOk result (λ lines. map line_seen lines.items ≡ (function_seen bytes.now code.now function.now).lines) }
 {
     match function.lines {
-        LineRecords::Run(part) => {
-            let text = &bytes[part.from as usize..part.to as usize];
-            lines_of_run(alloc, text)
-        }
+        LineRecords::Run(part) => lines_of_run(alloc, bytes, &part),
         LineRecords::Listed(part) => {
             let places = &code.lines[part.from as usize..part.to as usize];
             lines_of_places(alloc, bytes, places)
@@ -109,19 +107,50 @@ pub(crate) fn all_inlinees(
     Ok(calls)
 }
 
-/// The line records that the lines of a text are.
-fn lines_of_run(alloc: Global, text: &[u8]) -> Result<Vec<SourceLine>, AllocError>
-    ensures { IfOk result (λ lines. map line_seen lines.items ≡ lines_in text.now) }
+/// The line records of a run in a part of the bytes.
+fn lines_of_run(alloc: Global, bytes: &[u8], run: &Part) -> Result<Vec<SourceLine>, AllocError>
+    requires { IsRunAt bytes.now run.now }
+    ensures { IfOk result (λ lines. map line_seen lines.items ≡ lines_in (text_at bytes.now run.now)) }
 {
-    let mut lines = Vec::new(alloc);
+    let text = &bytes[run.from as usize..run.to as usize];
+    // Loads of the last lines' bytes show bytes after them, if the last line has its end.
+    let more = if ends_line(text) {
+        &bytes[run.from as usize..]
+    } else {
+        text
+    };
+    lines_in_front(alloc, more, text.len())
+}
+
+/// The line records of a run that is so many bytes of the text.
+fn lines_in_front(alloc: Global, text: &[u8], len: usize) -> Result<Vec<SourceLine>, AllocError>
+    requires { IsRunFront text.now len }
+    ensures { IfOk result (λ lines. map line_seen lines.items ≡ lines_in (take len text.now)) }
+{
+    let mut lines = Vec::with_capacity(alloc, len / LINE_LEN + 1)?;
     let mut rest = text;
-    while let Some((line, after)) = first_line(rest) {
-        if let Some(line) = line_at(line, 0) {
-            lines.push(line)?;
-        }
-        rest = after;
+    let mut left = len;
+    while left > 0 {
+        lines.push(line_or_none(rest, 0))?;
+        let first = first_len(rest, left);
+        rest = &rest[first..];
+        left -= first;
     }
     Ok(lines)
+}
+
+/// How many bytes the first line takes, with its end, of a run that is so many bytes of the text.
+#[inline(always)]
+fn first_len(text: &[u8], len: usize) -> usize
+    requires run { IsRunFront text.now len }
+    requires some { 0 < len }
+    ensures lines { lines_in (take len text.now) ≡ line_read text.now 0 ∷ lines_in (take (len - result) (drop result text.now)) }
+    ensures rest { IsRunFront (drop result text.now) (len - result) }
+    ensures some { 0 < result }
+    ensures within { result ≤ len }
+{
+    let end = line_len(text) + 1;
+    if end < len { end } else { len }
 }
 
 /// The line records that begin at places in the bytes.
