@@ -98,7 +98,7 @@ pub both : (source : Source) (P Q : FileSource → Type 0) → OnFile source P �
 both source P Q p q = by_form (form_of source) p q (λ file here there. (here, there))
 
 -- what reads as expected comes as expected
-comes_given : {A B : Type 0} (reading : A → B) (expected : Result B Error) (result : Result A Error) → Gives reading expected result → Comes reading expected result
+pub comes_given : {A B : Type 0} (reading : A → B) (expected : Result B Error) (result : Result A Error) → Gives reading expected result → Comes reading expected result
 comes_given reading expected (Ok given) is = is
 comes_given reading expected (Err errors.ReadFault) is = tt
 comes_given reading expected (Err errors.OutOfMemory) is = tt
@@ -111,7 +111,7 @@ leaves_same (Err errors.ReadFault) old now same = same
 leaves_same (Err errors.OutOfMemory) old now same = inl same
 leaves_same (Err _) old now same = same
 
-on_ok : {A P : Type 0} (result : Result A Error) → P → OnOk result P
+pub on_ok : {A P : Type 0} (result : Result A Error) → P → OnOk result P
 on_ok (Ok given) holds = holds
 on_ok (Err e) holds = tt
 

@@ -37,7 +37,7 @@ gives_all reading expected (Err errors.OutOfMemory) is memory = tt
 gives_all reading expected (Err _) is memory = cc memory
 
 -- no file fails where bytes refuse
-never_faulted : {A : Type 0} (result : Result A Error) → IfErr result MayRefuse → Faulted result → ⊥
+pub never_faulted : {A : Type 0} (result : Result A Error) → IfErr result MayRefuse → Faulted result → ⊥
 never_faulted (Ok given) may fault = fault
 never_faulted (Err errors.ReadFault) may fault = may
 never_faulted (Err _) may fault = cc fault

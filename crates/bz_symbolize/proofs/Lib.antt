@@ -6,6 +6,7 @@ pub mod FileLemmas
 pub mod Formats
 pub mod FoundLemmas
 pub mod GsymLemmas
+pub mod HeldLemmas
 pub mod HistoryLemmas
 pub mod LeaveLemmas
 pub mod NewLemmas

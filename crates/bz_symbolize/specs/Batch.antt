@@ -1,7 +1,8 @@
 -- A batch whose source was looked at.
-use Rattle.std.specs.Prelude.{◌≡◌, ℕ, Bool, true, false, List, map, slice_index, string_bytes, refl}
+use Rattle.std.specs.Prelude.{◌≡◌, ℕ, Bool, true, false, List, map, slice_index, string_bytes, Result, Ok, refl}
 use Rattle.bz_base.specs.Answer.{Answer, in_batch}
 use Rattle.bz_base.specs.InputKind.{AddressKind, InFile, InTable}
+use Rattle.bz_base.specs.declared.error.Error.{Error}
 use Rattle.bz_base.specs.declared.types.FindSymOpts.{FindSymOpts}
 use Rattle.bz_breakpad.specs.Reader.{table_in}
 use Rattle.bz_symbolize.specs.Sources.{breakpad_single, elf_single, gsym_single}
@@ -16,11 +17,15 @@ pub data Version : Type 0 where
   GsymVersion : List ℕ → Version
   ElfVersion : List ℕ → List ℕ → AddressKind → Version
 
+-- the answer of a version at an address alone, or its refusal
+abbrev pub single_by : Version → FindSymOpts → ℕ → Result Answer Error
+single_by (BreakpadVersion bytes) opts addr = breakpad_single opts (table_in bytes) addr
+single_by (GsymVersion bytes) opts addr = gsym_single opts bytes addr
+single_by (ElfVersion path bytes kind) opts addr = Ok (elf_single path bytes kind addr)
+
 -- the entry of a batch at an address, by a version; a refused address is an ignored error
 abbrev pub entry_by : Version → FindSymOpts → ℕ → Answer
-entry_by (BreakpadVersion bytes) opts addr = in_batch (breakpad_single opts (table_in bytes) addr)
-entry_by (GsymVersion bytes) opts addr = in_batch (gsym_single opts bytes addr)
-entry_by (ElfVersion path bytes kind) opts addr = elf_single path bytes kind addr
+entry_by version opts addr = in_batch (single_by version opts addr)
 
 -- whether addresses in their order are answered faster by a version; of a Breakpad file, what lies far is read together for some of them
 abbrev pub heeds_order : Version → Bool
@@ -59,7 +64,11 @@ kind_of kinds.File = InFile
 
 -- the version that is held
 abbrev pub version_of : Held → Version
-version_of (helds.Breakpad found) = BreakpadVersion found.file.value
+version_of (helds.Breakpad file) = BreakpadVersion file.value
 version_of (helds.Gsym table) = GsymVersion table.value
 version_of (helds.GsymData context) = GsymVersion context
 version_of (helds.Elf elf) = ElfVersion (string_bytes elf.path) elf.file.value (kind_of elf.kind)
+
+-- what is held answers at each address alone
+abbrev pub held_singles : FindSymOpts → Held → ℕ → Result Answer Error
+held_singles opts held addr = single_by (version_of held) opts addr

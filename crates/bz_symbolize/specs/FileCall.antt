@@ -127,6 +127,10 @@ batch_of kind addrs = record { kind = kind; given = λ answer_at. Ok (map (λ ad
 abbrev pub single_of : AddressKind → ℕ → Query Answer
 single_of kind addr = record { kind = kind; given = λ answer_at. answer_at addr }
 
+-- what is held of a version: its answer, or its refusal, at each address alone
+abbrev pub each_of : AddressKind → Query (ℕ → Result Answer Error)
+each_of kind = record { kind = kind; given = λ answer_at. Ok answer_at }
+
 -- the same of inputs
 abbrev pub batch_query : Input (Bor (List ℕ)) → Query (List Answer)
 batch_query input = batch_of (address_kind input) (payload input).now

@@ -1,22 +1,22 @@
 //! Batches whose answers are made one by one, or some at a time.
 
-ghost use Rattle.std.specs.Prelude.{◌≡◌, ◌<◌, All, length, map, slice_index, IfOk, IsOkUnless};
+ghost use Rattle.std.specs.Prelude.{◌≡◌, ◌<◌, All, length, map, slice_index, IfOk, IfErr, IsOkUnless};
 ghost use Rattle.std.specs.List.{AllByRecursion};
-ghost use Rattle.bz_base.specs.Answer.{in_batch, reading};
+ghost use Rattle.bz_base.specs.Answer.{Gives, reading};
 ghost use Rattle.bz_base.specs.Lent.{IsLent};
+ghost use Rattle.bz_base.specs.Refusals.{MayRefuse};
 ghost use Rattle.bz_base.specs.declared.error.Error.{Error};
-ghost use Rattle.bz_breakpad.specs.Reader.{table_in};
-ghost use Rattle.bz_symbolize.specs.Batch.{answer_at, answers_there, answers_to, batch_by, entry_by, heeds_order, version_of};
-ghost use Rattle.bz_symbolize.specs.Found.{IsHeldFor};
-ghost use Rattle.bz_symbolize.specs.Sources.{breakpad_single};
+ghost use Rattle.bz_symbolize.specs.Batch.{answer_at, answers_there, answers_to, batch_by, heeds_order, single_by, version_of};
+ghost use Rattle.bz_symbolize.specs.Counted.{VersionSteps};
+ghost use Rattle.bz_symbolize.specs.Found.{AreFoundIn};
 
-use crate::held::Held;
-use crate::{breakpad, elf, gsym};
-use bz_base::{Addr, Error, FindSymOpts, Result, Steps, Symbolized, in_batch};
-use bz_breakpad::SymbolFile;
+use crate::answering::owned_answer;
+use crate::held::{Held, record_at};
+use bz_base::{Addr, FindSymOpts, Result, Steps, Symbolized, in_batch};
+use bz_breakpad::FoundRecord;
 use std::alloc::Global;
-use std::marker::{Brand, Model};
-use std::sync::ledger::{Blank, Ledger};
+use std::marker::Model;
+use std::sync::ledger::Ledger;
 
 /// Addresses whose source was looked at, and which were searched for in it. Their answers are made one
 /// by one or some at a time, without a search, and lend their texts from
@@ -27,26 +27,60 @@ pub struct Lookups<'d> {
     held: Held<'d>,
     opts: FindSymOpts,
     addrs: Vec<u64>,
+    // Which records were found for the addresses, where the format finds them beforehand.
+    records: Vec<FoundRecord>,
 }
 
 impl<'d> Model for Lookups<'d> {
     ghost use Rattle.bz_symbolize.specs.Batch.{Batch, batch_by, version_of};
-    ghost use Rattle.bz_symbolize.specs.Found.{IsHeldFor};
+    ghost use Rattle.bz_symbolize.specs.Found.{AreFoundIn};
 
     ghost Value = { Batch };
 
     ghost view = { λ l. batch_by (version_of l.held) l.opts l.addrs.items };
 
-    ghost invariant = { λ l. IsHeldFor l.addrs.items l.held };
+    ghost invariant = { λ l. AreFoundIn l.held l.addrs.items l.records.items };
 }
 
 impl<'d> Lookups<'d> {
-    // A batch on a version.
-    pub(crate) fn new(held: Held<'d>, opts: FindSymOpts, addrs: Vec<u64>) -> Lookups<'d>
-        requires { IsHeldFor addrs.items held }
-        ensures { result ≡ batch_by (version_of held.entry) opts addrs.items }
+    /// The addresses, searched for in what is held at this call.
+    pub(crate) fn find<L: Ledger>(
+        alloc: Global,
+        held: Held<'d>,
+        opts: FindSymOpts,
+        addrs: Vec<u64>,
+        steps: &mut Steps<L>,
+    ) -> Result<Lookups<'d>>
+        ensures batch { IfOk result (λ lookups. lookups ≡ batch_by (version_of held.entry) opts addrs.items) }
+        ensures steps { VersionSteps (version_of held.entry) (length addrs.items) steps.old steps.new }
+        ensures memory { IsOkUnless result Error.OutOfMemory }
     {
-        Lookups { held, opts, addrs }
+        let records = held.find_records(alloc, &addrs, steps)?;
+        Ok(Lookups {
+            held,
+            opts,
+            addrs,
+            records,
+        })
+    }
+
+    /// The same, not counted.
+    pub(crate) fn find_uncounted(
+        alloc: Global,
+        held: Held<'d>,
+        opts: FindSymOpts,
+        addrs: Vec<u64>,
+    ) -> Result<Lookups<'d>>
+        ensures batch { IfOk result (λ lookups. lookups ≡ batch_by (version_of held.entry) opts addrs.items) }
+        ensures memory { IsOkUnless result Error.OutOfMemory }
+    {
+        let records = held.find_uncounted(alloc, &addrs)?;
+        Ok(Lookups {
+            held,
+            opts,
+            addrs,
+            records,
+        })
     }
 
     /// How many addresses there are.
@@ -74,6 +108,18 @@ impl<'d> Lookups<'d> {
         self.addrs[index]
     }
 
+    /// The answer at the address of an index, as a call on that address alone has it, or its refusal.
+    pub(crate) fn single(&self, alloc: Global, index: usize) -> Result<Symbolized<'_>>
+        requires { index < length self.now.addrs }
+        ensures answer { Gives reading (single_by self.now.version self.now.opts (slice_index self.now.addrs index)) result }
+        ensures lent { IfOk result IsLent }
+        ensures refusal { IfErr result MayRefuse }
+    {
+        let found = record_at(&self.records, index);
+        self.held
+            .answer_by(alloc, &self.opts, self.addrs[index], found)
+    }
+
     /// The answer at the address of an index; a refused address is an ignored error.
     pub fn answer(&self, alloc: Global, index: usize) -> Result<Symbolized<'_>>
         requires { index < length self.now.addrs }
@@ -81,20 +127,7 @@ impl<'d> Lookups<'d> {
         ensures lent { IfOk result IsLent }
         ensures memory { IsOkUnless result Error.OutOfMemory }
     {
-        let opts = &self.opts;
-        match &self.held {
-            Held::Breakpad(found) => {
-                let file = found.file.as_ref();
-                breakpad::entry_by(alloc, file, opts, &self.addrs, &found.records, index)
-            }
-            Held::Gsym(table) => {
-                in_batch(gsym::symbol_at(alloc, &table.context(), opts, self.addrs[index]))
-            }
-            Held::GsymData(context) => {
-                in_batch(gsym::symbol_at(alloc, context, opts, self.addrs[index]))
-            }
-            Held::Elf(elf) => elf::entry_at(alloc, elf, self.addrs[index]),
-        }
+        in_batch(self.single(alloc, index))
     }
 
     /// The answers at the addresses of some indices, in their order: what these say is read together,
@@ -105,82 +138,65 @@ impl<'d> Lookups<'d> {
         ensures lent { IfOk result (λ answers. AllByRecursion IsLent answers.items) }
         ensures memory { IsOkUnless result Error.OutOfMemory }
     {
-        match &self.held {
-            Held::Breakpad(found) => breakpad::entries_by(
-                alloc,
-                found.file.as_ref(),
-                &self.opts,
-                &self.addrs,
-                &found.records,
-                indices,
-            ),
-            Held::Gsym(_) | Held::GsymData(_) | Held::Elf(_) => self.answers_each(alloc, indices),
-        }
+        let some = found_at(alloc, &self.held, &self.addrs, &self.records, indices)?;
+        self.held
+            .answers_by(alloc, &self.opts, &some.addrs, &some.records)
     }
 
-    // The same, one by one.
-    fn answers_each(&self, alloc: Global, indices: &[usize]) -> Result<Vec<Symbolized<'_>>>
-        requires { All (λ index. index < length self.now.addrs) indices.now }
-        ensures answers { IfOk result (λ answers. map reading answers.items ≡ answers_there indices.now self.now) }
-        ensures lent { IfOk result (λ answers. AllByRecursion IsLent answers.items) }
-        ensures memory { IsOkUnless result Error.OutOfMemory }
-    {
-        let mut answers = Vec::with_capacity(alloc, indices.len())?;
-        for index in indices {
-            answers.push(self.answer(alloc, *index)?)?;
-        }
-        Ok(answers)
-    }
-
-    /// The answers at any addresses, in their order, which are searched for now. A refused address is an
-    /// ignored error.
+    /// The answers at any addresses, in their order, which are searched for at this call. A refused
+    /// address is an ignored error.
     pub fn answers_at(&self, alloc: Global, addrs: &[Addr]) -> Result<Vec<Symbolized<'_>>>
         ensures answers { IfOk result (λ answers. map reading answers.items ≡ answers_to addrs.now self.now) }
         ensures lent { IfOk result (λ answers. AllByRecursion IsLent answers.items) }
         ensures memory { IsOkUnless result Error.OutOfMemory }
     {
-        let answers = entries(alloc, &self.held, &self.opts, addrs)?;
+        let records = self.held.find_uncounted(alloc, addrs)?;
+        self.held.answers_by(alloc, &self.opts, addrs, &records)
+    }
+
+    /// All answers, with texts of their own.
+    pub(crate) fn owned_answers(&self, alloc: Global) -> Result<Vec<Symbolized<'static>>>
+        ensures answers { IfOk result (λ answers. map reading answers.items ≡ answers_to self.now.addrs self.now) }
+        ensures memory { IsOkUnless result Error.OutOfMemory }
+    {
+        let mut answers = Vec::with_capacity(alloc, self.addrs.len())?;
+        for index in 0..self.addrs.len() {
+            let answer = self.answer(alloc, index)?;
+            answers.push(owned_answer(alloc, answer)?)?;
+        }
         Ok(answers)
     }
 }
 
-// The entries of a batch at any addresses, by the version that is held.
-fn entries<'h>(
-    alloc: Global,
-    held: &'h Held<'_>,
-    opts: &FindSymOpts,
-    addrs: &[Addr],
-) -> Result<Vec<Symbolized<'h>>>
-    ensures entries { IfOk result (λ entries. map reading entries.items ≡ map (λ addr. entry_by (version_of held.now) opts.now addr) addrs.now) }
-    ensures lent { IfOk result (λ entries. AllByRecursion IsLent entries.items) }
-    ensures memory { IsOkUnless result Error.OutOfMemory }
-{
-    match held {
-        Held::Breakpad(found) => {
-            entries_blank::<Brand>(alloc, found.file.as_ref(), opts, addrs, Blank::new(1))
-        }
-        Held::Gsym(table) => gsym::entries_at(alloc, &table.context(), opts, addrs),
-        Held::GsymData(context) => gsym::entries_at(alloc, context, opts, addrs),
-        Held::Elf(elf) => elf::entries_at(alloc, elf, addrs),
-    }
+// Addresses of a batch, and what was found for them.
+#[derive(Drop)]
+struct Found {
+    addrs: Vec<u64>,
+    records: Vec<FoundRecord>,
 }
 
-// The entries of a Breakpad file at addresses, with a count that nobody reads.
-fn entries_blank<'f, L: Ledger>(
+// The addresses of some indices, in their order, with the records that were found for them.
+fn found_at(
     alloc: Global,
-    file: &'f SymbolFile,
-    opts: &FindSymOpts,
-    addrs: &[Addr],
-    blank: Blank,
-) -> Result<Vec<Symbolized<'f>>>
-    requires name { blank.name ≡ L.name }
-    requires parts { blank.parts ≡ L.parts }
-    requires some { 0 < L.parts }
-    ensures entries { IfOk result (λ entries. map reading entries.items ≡ map (λ addr. in_batch (breakpad_single opts.now (table_in file.now) addr)) addrs.now) }
-    ensures lent { IfOk result (λ entries. AllByRecursion IsLent entries.items) }
+    held: &Held<'_>,
+    addrs: &[u64],
+    records: &[FoundRecord],
+    indices: &[usize],
+) -> Result<Found>
+    requires found { AreFoundIn held.now addrs.now records.now }
+    requires within { All (λ index. index < length addrs.now) indices.now }
+    ensures addrs { IfOk result (λ some. some.addrs.items ≡ map (λ index. slice_index addrs.now index) indices.now) }
+    ensures found { IfOk result (λ some. AreFoundIn held.now some.addrs.items some.records.items) }
     ensures memory { IsOkUnless result Error.OutOfMemory }
 {
-    let mut steps = Steps::<L>::new(blank);
-    let entries = file.answer_batch(alloc, addrs, opts, &mut steps)?;
-    Ok(entries)
+    let _held = held;
+    let mut some = Found {
+        addrs: Vec::with_capacity(alloc, indices.len())?,
+        records: Vec::with_capacity(alloc, indices.len())?,
+    };
+    for index in indices {
+        some.addrs.push(addrs[*index])?;
+        some.records.push(record_at(records, *index))?;
+    }
+    Ok(some)
 }

@@ -1,32 +1,36 @@
 //! The symbolizer.
 
-ghost use Rattle.std.specs.Prelude.{◌≡◌, ◌<◌, ℕ, List, length, map, IfOk};
-ghost use Rattle.bz_base.specs.Answer.{reading};
+ghost use Rattle.std.specs.Prelude.{◌≡◌, ◌⊎◌, ◌<◌, ℕ, List, length, map, IfOk, IfErr, IsOkUnless};
+ghost use Rattle.bz_base.specs.Answer.{Gives, reading};
 ghost use Rattle.bz_base.specs.InputKind.{address_kind, payload};
+ghost use Rattle.bz_base.specs.Refusals.{MayRefuse};
+ghost use Rattle.bz_base.specs.declared.error.Error.{Error};
+ghost use Rattle.bz_base.specs.declared.types.FindSymOpts.{FindSymOpts};
 ghost use Rattle.bz_cache.specs.Cache.{new_cache};
-ghost use Rattle.bz_symbolize.specs.Batch.{answers_to};
-ghost use Rattle.bz_symbolize.specs.Counted.{SourceSteps};
-ghost use Rattle.bz_symbolize.specs.FileCall.{batch_of, batch_query, single_query};
+ghost use Rattle.bz_symbolize.specs.Batch.{answers_to, entry_by, held_singles, single_by, version_of};
+ghost use Rattle.bz_symbolize.specs.Counted.{SourceSteps, TakesSteps, VersionSteps};
+ghost use Rattle.bz_symbolize.specs.FileCall.{batch_of, batch_query, each_of, single_query};
 ghost use Rattle.bz_symbolize.specs.Promise.{AsksSource, Symbolizes};
 ghost use Rattle.bz_symbolize.specs.Registration.{Registers};
 ghost use Rattle.bz_symbolize.specs.State.{default_settings, new_state};
 
-use crate::answering::{answer_file, answer_file_at, look_up_file};
+use crate::answering::{hold_file, owned_answer};
 use crate::builder::Builder;
-use crate::gsym::{answer_of_data, answers_of_data, look_up_data};
+use crate::gsym::hold_data;
+use crate::held::Held;
 use crate::lookups::Lookups;
 use crate::settings::Settings;
 use crate::source::{Gsym, Source};
-use bz_base::{FindSymOpts, Input, Result, Steps, Symbolized};
+use bz_base::{Addr, FindSymOpts, Input, Result, Steps, Symbolized};
 use bz_breakpad::SymbolFile;
 use bz_cache::{FileCache, Version};
 use bz_elf::{ElfFile, ElfResolver};
 use bz_files::Files;
 use bz_gsym::GsymTable;
 use std::alloc::Global;
-use std::marker::{Brand, Model};
+use std::marker::Model;
 use std::rc::Rc;
-use std::sync::ledger::{Blank, Ledger};
+use std::sync::ledger::Ledger;
 
 /// Answers addresses, alone or in batches, and keeps the files that it has read.
 #[derive(Drop)]
@@ -95,7 +99,9 @@ impl Symbolizer {
     ) -> Result<Vec<Symbolized<'static>>>
         ensures { Symbolizes F.Files (λ answers. map reading answers.items) src.now (batch_query input.entry) result self.old self.new files.old files.new }
     {
-        self.symbolize_blank::<F, Brand>(alloc, files, src, input, Blank::new(1))
+        let opts = self.settings.opts();
+        let held = self.hold(alloc, files, src, &input)?;
+        answer_batch(alloc, held, opts, input.into_inner())
     }
 
     /// The answer of the source to an address alone. Beside the refusals of a batch it may be that of
@@ -110,13 +116,15 @@ impl Symbolizer {
     ) -> Result<Symbolized<'static>>
         ensures { Symbolizes F.Files reading src.now (single_query input) result self.old self.new files.old files.new }
     {
-        self.symbolize_single_blank::<F, Brand>(alloc, files, src, input, Blank::new(1))
+        let opts = self.settings.opts();
+        let held = self.hold(alloc, files, src, &input)?;
+        answer_alone(alloc, held, opts, input.into_inner())
     }
 
     /// The same answers as `symbolize`, made one by one or some at a time: they lend their texts from the
     /// version of the file that the call found, so that no list of them and no text of their own is in
-    /// memory. The addresses are searched for now, and the steps of this are counted; making the answers
-    /// searches no more.
+    /// memory. The addresses are searched for at this call, and the steps of this are counted; making the
+    /// answers searches no more.
     pub fn look_up<'d, F: Files, L: Ledger>(
         &mut self,
         alloc: Global,
@@ -132,7 +140,8 @@ impl Symbolizer {
         ensures steps { SourceSteps src.now self.new (length (payload input).items) steps.old steps.new }
     {
         let opts = self.settings.opts();
-        self.look_up_source(alloc, files, src, opts, input, steps)
+        let held = self.hold(alloc, files, src, &input)?;
+        Lookups::find(alloc, held, opts, input.into_inner(), steps)
     }
 
     /// The same answers as `symbolize`, with a count of the steps of their searches.
@@ -148,7 +157,8 @@ impl Symbolizer {
         ensures steps { SourceSteps src.now self.new (length (payload input.entry).now) steps.old steps.new }
     {
         let opts = self.settings.opts();
-        self.answer_source(alloc, files, src, &opts, input, steps)
+        let held = self.hold(alloc, files, src, &input)?;
+        count_batch(alloc, held, opts, input.into_inner(), steps)
     }
 
     /// Takes in the file of a resolver as the ELF file at the path, under the path's present stamp,
@@ -172,178 +182,82 @@ impl Symbolizer {
         cache.insert_value(alloc, files, path, file)
     }
 
-    // The batch, with a count that nobody reads.
-    fn symbolize_blank<F: Files, L: Ledger>(
-        &mut self,
-        alloc: Global,
-        files: &mut F,
-        src: &Source<'_>,
-        input: Input<&[u64]>,
-        blank: Blank,
-    ) -> Result<Vec<Symbolized<'static>>>
-        requires name { blank.name ≡ L.name }
-        requires parts { blank.parts ≡ L.parts }
-        requires some { 0 < L.parts }
-        ensures { Symbolizes F.Files (λ answers. map reading answers.items) src.now (batch_query input.entry) result self.old self.new files.old files.new }
-    {
-        let mut steps = Steps::<L>::new(blank);
-        self.symbolize_counted(alloc, files, src, input, &mut steps)
-    }
-
-    // The single answer, with a count that nobody reads.
-    fn symbolize_single_blank<F: Files, L: Ledger>(
-        &mut self,
-        alloc: Global,
-        files: &mut F,
-        src: &Source<'_>,
-        input: Input<u64>,
-        blank: Blank,
-    ) -> Result<Symbolized<'static>>
-        requires name { blank.name ≡ L.name }
-        requires parts { blank.parts ≡ L.parts }
-        requires some { 0 < L.parts }
-        ensures { Symbolizes F.Files reading src.now (single_query input) result self.old self.new files.old files.new }
-    {
-        let mut steps = Steps::<L>::new(blank);
-        let opts = self.settings.opts();
-        self.answer_source_at(alloc, files, src, &opts, input, &mut steps)
-    }
-
-    // The answers by the source's form and format.
-    fn answer_source<F: Files, L: Ledger>(
-        &mut self,
-        alloc: Global,
-        files: &mut F,
-        src: &Source<'_>,
-        opts: &FindSymOpts,
-        input: Input<&[u64]>,
-        steps: &mut Steps<L>,
-    ) -> Result<Vec<Symbolized<'static>>>
-        ensures asked { AsksSource F.Files (λ answers. map reading answers.items) src.now opts.now (batch_query input.entry) result self.old self.new files.old files.new }
-        ensures steps { SourceSteps src.now self.new (length (payload input.entry).now) steps.old steps.new }
-    {
-        match src {
-            Source::Breakpad(source) => answer_file(
-                &mut self.breakpad,
-                alloc,
-                files,
-                source.path.as_str(),
-                opts,
-                input,
-                steps,
-            ),
-            Source::Gsym(Gsym::File(source)) => answer_file(
-                &mut self.gsym,
-                alloc,
-                files,
-                source.path.as_str(),
-                opts,
-                input,
-                steps,
-            ),
-            Source::Elf(source) => answer_file(
-                &mut self.elf,
-                alloc,
-                files,
-                source.path.as_str(),
-                opts,
-                input,
-                steps,
-            ),
-            Source::Gsym(Gsym::Data(source)) => answers_of_data(alloc, source.bytes, opts, input),
-        }
-    }
-
-    // The answer to an address alone, by the source's form and format.
-    fn answer_source_at<F: Files, L: Ledger>(
-        &mut self,
-        alloc: Global,
-        files: &mut F,
-        src: &Source<'_>,
-        opts: &FindSymOpts,
-        input: Input<u64>,
-        steps: &mut Steps<L>,
-    ) -> Result<Symbolized<'static>>
-        ensures { AsksSource F.Files reading src.now opts.now (single_query input) result self.old self.new files.old files.new }
-    {
-        match src {
-            Source::Breakpad(source) => answer_file_at(
-                &mut self.breakpad,
-                alloc,
-                files,
-                source.path.as_str(),
-                opts,
-                input,
-                steps,
-            ),
-            Source::Gsym(Gsym::File(source)) => answer_file_at(
-                &mut self.gsym,
-                alloc,
-                files,
-                source.path.as_str(),
-                opts,
-                input,
-                steps,
-            ),
-            Source::Elf(source) => answer_file_at(
-                &mut self.elf,
-                alloc,
-                files,
-                source.path.as_str(),
-                opts,
-                input,
-                steps,
-            ),
-            Source::Gsym(Gsym::Data(source)) => answer_of_data(alloc, source.bytes, opts, input),
-        }
-    }
-
-    // The addresses with a version of the source, by its form and format.
-    fn look_up_source<'d, F: Files, L: Ledger>(
+    // The version of the source that answers at this call, held to answer addresses of the input's
+    // kind. This is the one place where a source's form and format are told apart.
+    fn hold<'d, F: Files, A>(
         &mut self,
         alloc: Global,
         files: &mut F,
         src: &Source<'d>,
-        opts: FindSymOpts,
-        input: Input<Vec<u64>>,
-        steps: &mut Steps<L>,
-    ) -> Result<Lookups<'d>>
-        ensures asked { AsksSource F.Files (λ lookups. lookups.answers) src.now opts (batch_of (address_kind input) (payload input).items) result self.old self.new files.old files.new }
-        ensures every { (others : List ℕ) → AsksSource F.Files (answers_to others) src.now opts (batch_of (address_kind input) others) result self.old self.new files.old files.new }
-        ensures addrs { IfOk result (λ lookups. lookups.addrs ≡ (payload input).items) }
-        ensures steps { SourceSteps src.now self.new (length (payload input).items) steps.old steps.new }
+        input: &Input<A>,
+    ) -> Result<Held<'d>>
+        ensures asked { (opts : FindSymOpts) → AsksSource F.Files (held_singles opts) src.now opts (each_of (address_kind input.now)) result self.old self.new files.old files.new }
+        ensures steps { IfOk result (λ held. TakesSteps (version_of held) (SourceSteps src.now self.new)) }
     {
         match src {
-            Source::Breakpad(source) => look_up_file(
-                &mut self.breakpad,
-                alloc,
-                files,
-                source.path.as_str(),
-                opts,
-                input,
-                steps,
-            ),
-            Source::Gsym(Gsym::File(source)) => look_up_file(
-                &mut self.gsym,
-                alloc,
-                files,
-                source.path.as_str(),
-                opts,
-                input,
-                steps,
-            ),
-            Source::Elf(source) => look_up_file(
-                &mut self.elf,
-                alloc,
-                files,
-                source.path.as_str(),
-                opts,
-                input,
-                steps,
-            ),
-            Source::Gsym(Gsym::Data(source)) => look_up_data(source.bytes, opts, input),
+            Source::Breakpad(source) => {
+                let path = source.path.as_str();
+                hold_file(&mut self.breakpad, alloc, files, path, input)
+            }
+            Source::Gsym(Gsym::File(source)) => {
+                let path = source.path.as_str();
+                hold_file(&mut self.gsym, alloc, files, path, input)
+            }
+            Source::Elf(source) => {
+                let path = source.path.as_str();
+                hold_file(&mut self.elf, alloc, files, path, input)
+            }
+            Source::Gsym(Gsym::Data(source)) => hold_data(source.bytes, input),
         }
     }
+}
+
+// The answers of what is held to addresses, with texts of their own.
+fn answer_batch(
+    alloc: Global,
+    held: Held<'_>,
+    opts: FindSymOpts,
+    addrs: &[u64],
+) -> Result<Vec<Symbolized<'static>>>
+    ensures answers { IfOk result (λ answers. map reading answers.items ≡ map (λ addr. entry_by (version_of held.entry) opts addr) addrs.now) }
+    ensures memory { IsOkUnless result Error.OutOfMemory }
+{
+    let addrs = Vec::from_slice(alloc, addrs)?;
+    let lookups = Lookups::find_uncounted(alloc, held, opts, addrs)?;
+    lookups.owned_answers(alloc)
+}
+
+// The same, with a count of the steps of their searches.
+fn count_batch<L: Ledger>(
+    alloc: Global,
+    held: Held<'_>,
+    opts: FindSymOpts,
+    addrs: &[u64],
+    steps: &mut Steps<L>,
+) -> Result<Vec<Symbolized<'static>>>
+    ensures answers { IfOk result (λ answers. map reading answers.items ≡ map (λ addr. entry_by (version_of held.entry) opts addr) addrs.now) }
+    ensures steps { (steps.new ≡ steps.old) ⊎ VersionSteps (version_of held.entry) (length addrs.now) steps.old steps.new }
+    ensures memory { IsOkUnless result Error.OutOfMemory }
+{
+    let addrs = Vec::from_slice(alloc, addrs)?;
+    let lookups = Lookups::find(alloc, held, opts, addrs, steps)?;
+    lookups.owned_answers(alloc)
+}
+
+// The answer of what is held to an address alone, or its refusal, with texts of its own.
+fn answer_alone(
+    alloc: Global,
+    held: Held<'_>,
+    opts: FindSymOpts,
+    addr: Addr,
+) -> Result<Symbolized<'static>>
+    ensures answer { Gives reading (single_by (version_of held.entry) opts addr) result }
+    ensures refusal { IfErr result MayRefuse }
+{
+    let addrs = Vec::from_slice(alloc, &[addr])?;
+    let lookups = Lookups::find_uncounted(alloc, held, opts, addrs)?;
+    let answer = lookups.single(alloc, 0)?;
+    owned_answer(alloc, answer)
 }
 
 // A cache that keeps nothing.

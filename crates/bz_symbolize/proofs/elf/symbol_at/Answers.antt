@@ -7,5 +7,5 @@ use Rattle.bz_symbolize.proofs.elf.symbol_at.Goals as goal
 -- the symbol that was found is lent, and so it is with its module
 pub returns-in-Ok-clause-lent : goal.returns-in-Ok-clause-lent
 returns-in-Ok-clause-lent c =
-    let found : plain None c.args.file.now c.in-Some.addr ≡ Ok (resolved_of c.in-Ok.symbol) = cc (rw c.in-Ok.is at c.in_ok-symbol.ensures.exact) in
-    c.into_sym.ensures.lent (c.named.ensures.lent (lent_found c.args.file.now c.in-Some.addr c.in-Ok.symbol found))
+    let found : plain None c.args.elf.now.file.value c.in-Some.addr ≡ Ok (resolved_of c.in-Ok.symbol) = cc (rw c.in-Ok.is at c.in_ok-symbol.ensures.exact) in
+    c.into_sym.ensures.lent (c.named.ensures.lent (lent_found c.args.elf.now.file.value c.in-Some.addr c.in-Ok.symbol found))

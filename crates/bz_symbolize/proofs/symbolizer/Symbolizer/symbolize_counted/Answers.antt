@@ -1,7 +1,8 @@
-use Rattle.std.proofs.Common.{ap, ◌∙◌, map, Vec, Global, List}
+use Rattle.std.proofs.Common.{Ok, Err, ap, ◌∙◌, map, Vec, Global, List}
+use Rattle.std.proofs.lemmas.Result.{err_from_is_err_and}
 use Rattle.bz_base.specs.Answer.{Answer, reading}
 use Rattle.bz_base.specs.declared.types.Symbolized.{Symbolized}
-use Rattle.bz_symbolize.proofs.CallLemmas.{promised}
+use Rattle.bz_symbolize.proofs.CallLemmas.{given_or_memory, promised_held}
 use Rattle.bz_symbolize.specs.State.{State, opts_of}
 use Rattle.bz_symbolize.specs.FileCall.{batch_query}
 use Rattle.bz_symbolize.proofs.symbolizer.Symbolizer.symbolize_counted.Goals as goal
@@ -9,10 +10,16 @@ use Rattle.bz_symbolize.proofs.symbolizer.Symbolizer.symbolize_counted.Goals as 
 abbrev read : Vec Symbolized Global → List Answer
 read answers = map reading answers.items
 
--- all that the call promises, from what it does on the source's file
-pub returns-clause-call : goal.returns-clause-call
-returns-clause-call g c = promised g.F.Files read c.args.src.now (batch_query c.args.input) c.answer_source.result c.args.self.now c.answer_source.new.self c.args.files.now c.answer_source.new.files
-    (rw (c.opts-opts.ensures ∙ ap (λ (s : State). opts_of s.settings) c.self.view_is) at c.answer_source.ensures.asked)
+-- nothing is held
+pub returns-in_err-held-clause-call : goal.returns-in_err-held-clause-call
+returns-in_err-held-clause-call g c =
+    let same = err_from_is_err_and c.from_residual.result c.from_residual.ensures.1 in
+    promised_held g.F.Files read c.args.src.now (batch_query c.args.input) (Err c.in_err-held.field-0.0) c.from_residual.result c.args.self.now c.hold.new.self c.args.files.now c.hold.new.files
+    c.in_err-held.ensures.asked (same.1 ∙ ap Err same.2)
 
-pub returns-clause-steps : goal.returns-clause-steps
-returns-clause-steps g c = c.answer_source.ensures.steps
+-- what is held answers
+pub returns-clause-call : goal.returns-clause-call
+returns-clause-call g c =
+    let answers = rw (c.opts-opts.ensures ∙ ap (λ (s : State). opts_of s.settings) c.self.view_is, c.into_inner.ensures) at c.count_batch.ensures.answers in
+    promised_held g.F.Files read c.args.src.now (batch_query c.args.input) (Ok c.in_ok-held.held) c.count_batch.result c.args.self.now c.hold.new.self c.args.files.now c.hold.new.files
+    c.in_ok-held.ensures.asked (given_or_memory read _ c.count_batch.result answers c.count_batch.ensures.memory)

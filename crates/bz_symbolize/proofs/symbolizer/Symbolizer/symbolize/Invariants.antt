@@ -1,5 +1,0 @@
-use Rattle.bz_symbolize.proofs.symbolizer.Symbolizer.symbolize.Given as goal
-
--- the count is kept in the name of the blank that it is made of
-abbrev pub ghosts-symbolize_blank : goal.ghosts-symbolize_blank
-ghosts-symbolize_blank g a = record { name = a.blank.name; parts = a.blank.parts }
