@@ -13,3 +13,4 @@ pub mod NewLemmas
 pub mod PromiseLemmas
 pub mod RegistrationLemmas
 pub mod Tables
+pub mod TogetherLemmas

@@ -10,3 +10,4 @@ pub mod Registration
 pub mod SourceRead
 pub mod Sources
 pub mod State
+pub mod Together

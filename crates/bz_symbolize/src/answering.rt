@@ -1,17 +1,16 @@
 //! How a parsed file is held, whatever its format, and the call on one file in one cache.
 
-ghost use Rattle.std.specs.Prelude.{◌≡◌, ℕ, List, IfOk, IfErr, IsOkUnless};
-ghost use Rattle.bz_base.specs.Answer.{Gives, reading};
+ghost use Rattle.std.specs.Prelude.{◌≡◌, ℕ, List, IfOk, IfErr};
+ghost use Rattle.bz_base.specs.Answer.{Gives};
 ghost use Rattle.bz_base.specs.InputKind.{address_kind};
 ghost use Rattle.bz_base.specs.Refusals.{MayRefuse};
-ghost use Rattle.bz_base.specs.declared.error.Error.{Error};
 ghost use Rattle.bz_base.specs.declared.types.FindSymOpts.{FindSymOpts};
 ghost use Rattle.bz_symbolize.specs.Batch.{held_singles, version_of};
 ghost use Rattle.bz_symbolize.specs.Counted.{FileSteps, TakesSteps};
 ghost use Rattle.bz_symbolize.specs.FileCall.{Answering, CallsFile, each_of, query_asked, query_given};
 
 use crate::held::Held;
-use bz_base::{Error, Input, Result, Sym, Symbolized};
+use bz_base::{Error, Input, Result};
 use bz_cache::{FileCache, Version};
 use bz_files::Files;
 use std::alloc::Global;
@@ -57,18 +56,4 @@ pub(crate) fn hold_file<'d, T: Answers + Drop, F: Files, A>(
     }
     let version = cache.shared(alloc, files, path)?;
     T::hold(alloc, version, path, input)
-}
-
-/// The same answer, with texts of its own.
-pub(crate) fn owned_answer(alloc: Global, answer: Symbolized<'_>) -> Result<Symbolized<'static>>
-    ensures same { IfOk result (λ own. reading own ≡ reading answer.entry) }
-    ensures memory { IsOkUnless result Error.OutOfMemory }
-{
-    match answer {
-        Symbolized::Sym(symbol) => {
-            let symbol: Sym<'static> = symbol.into_owned(alloc)?;
-            Ok(Symbolized::Sym(symbol))
-        }
-        Symbolized::Unknown(reason) => Ok(Symbolized::Unknown(reason)),
-    }
 }

@@ -14,7 +14,9 @@ mod lookups;
 mod settings;
 pub mod source;
 mod symbolizer;
+mod together;
 
 pub use builder::Builder;
 pub use lookups::Lookups;
 pub use symbolizer::Symbolizer;
+pub use together::TOGETHER;

@@ -10,7 +10,6 @@ ghost use Rattle.bz_symbolize.specs.Batch.{answer_at, answers_there, answers_to,
 ghost use Rattle.bz_symbolize.specs.Counted.{VersionSteps};
 ghost use Rattle.bz_symbolize.specs.Found.{AreFoundIn};
 
-use crate::answering::owned_answer;
 use crate::held::{Held, record_at};
 use bz_base::{Addr, FindSymOpts, Result, Steps, Symbolized, in_batch};
 use bz_breakpad::FoundRecord;
@@ -152,19 +151,6 @@ impl<'d> Lookups<'d> {
     {
         let records = self.held.find_uncounted(alloc, addrs)?;
         self.held.answers_by(alloc, &self.opts, addrs, &records)
-    }
-
-    /// All answers, with texts of their own.
-    pub(crate) fn owned_answers(&self, alloc: Global) -> Result<Vec<Symbolized<'static>>>
-        ensures answers { IfOk result (λ answers. map reading answers.items ≡ answers_to self.now.addrs self.now) }
-        ensures memory { IsOkUnless result Error.OutOfMemory }
-    {
-        let mut answers = Vec::with_capacity(alloc, self.addrs.len())?;
-        for index in 0..self.addrs.len() {
-            let answer = self.answer(alloc, index)?;
-            answers.push(owned_answer(alloc, answer)?)?;
-        }
-        Ok(answers)
     }
 }
 

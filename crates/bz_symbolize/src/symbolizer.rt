@@ -14,13 +14,14 @@ ghost use Rattle.bz_symbolize.specs.Promise.{AsksSource, Symbolizes};
 ghost use Rattle.bz_symbolize.specs.Registration.{Registers};
 ghost use Rattle.bz_symbolize.specs.State.{default_settings, new_state};
 
-use crate::answering::{hold_file, owned_answer};
+use crate::answering::hold_file;
 use crate::builder::Builder;
 use crate::gsym::hold_data;
 use crate::held::Held;
 use crate::lookups::Lookups;
 use crate::settings::Settings;
 use crate::source::{Gsym, Source};
+use crate::together::owned_answer;
 use bz_base::{Addr, FindSymOpts, Input, Result, Steps, Symbolized};
 use bz_breakpad::SymbolFile;
 use bz_cache::{FileCache, Version};

@@ -1,8 +1,15 @@
-use Rattle.std.proofs.Common.{◌≡◌, take, map}
-use Rattle.bz_base.specs.Answer.{reading}
-use Rattle.bz_symbolize.specs.Batch.{answers_to}
+use Rattle.std.proofs.Common.{◌≡◌, ◌-◌, ◌<◌, ◌≤◌, ℕ, length}
+use Rattle.bz_symbolize.specs.Together.{IsAnswered}
 use Rattle.bz_symbolize.proofs.lookups.Lookups.owned_answers.Given as goal
 
--- the answers so far are those at the first addresses
-abbrev pub invariant-loop-index : goal.invariant-loop-index
-invariant-loop-index l = map reading l.answers.items ≡ answers_to (take l.index l.self.addrs) l.self
+-- the answers so far are those of the batch
+abbrev pub invariant-loop-first : goal.invariant-loop-first
+invariant-loop-first l = record {
+  count : length l.answers.items ≡ l.first;
+  within : length l.answers.items ≤ length l.self.addrs;
+  are : (index : ℕ) → index < length l.answers.items → IsAnswered l.self l.answers.items index;
+}
+
+-- fewer are left
+abbrev pub decreases-loop-first : goal.decreases-loop-first
+decreases-loop-first l = length l.self.addrs - l.first
