@@ -1,5 +1,5 @@
 -- From what is held of a source to what a call makes of it, whatever the query.
-use Rattle.std.proofs.Common.{◌≡◌, ◌⊎◌, ℕ, Bool, true, false, cond, List, [], Option, Some, None, Result, Ok, Err, IfOk, IfErr, IsErrOf, IsOkUnless, inl, inr, refl, sym, ap, subst, ◌∙◌}
+use Rattle.std.proofs.Common.{◌≡◌, ℕ, Bool, true, false, cond, List, [], Option, Some, None, Result, Ok, Err, IfErr, IsErrOf, inl, inr, refl, sym, ap, subst}
 use Rattle.std.proofs.lemmas.Bool.{false≢true}
 use Rattle.bz_base.specs.Answer.{Answer, Gives}
 use Rattle.bz_base.specs.Refusals.{MayRefuse}
@@ -14,9 +14,9 @@ use Rattle.bz_cache.specs.Format.{Comes, FailsAs}
 use Rattle.bz_cache.specs.Look.{look}
 use Rattle.bz_symbolize.proofs.Formats.{comes_given, on_file, on_handed, on_ok}
 use Rattle.bz_symbolize.proofs.GsymLemmas.{never_faulted}
-use Rattle.bz_symbolize.specs.FileCall.{Answering, ByVersion, CallsFile, FileSome, FileTold, Leaves, Query, by_look, by_test, each_of, file_answer, query_asked, query_given}
+use Rattle.bz_symbolize.specs.FileCall.{Answering, ByVersion, CallsFile, Leaves, Query, by_look, by_test, each_of, file_answer, query_asked, query_given}
 use Rattle.bz_symbolize.specs.Promise.{AsksSource}
-use Rattle.bz_symbolize.specs.Sources.{HandedSource, asked_of, handed_answer}
+use Rattle.bz_symbolize.specs.Sources.{HandedSource, handed_answer}
 use Rattle.bz_symbolize.specs.State.{State}
 use Rattle.bz_symbolize.specs.declared.source.Source.{Source}
 

@@ -1,6 +1,6 @@
 -- Answers of a batch that are made together.
-use Rattle.std.proofs.Common.{◌≡◌, ◌≢◌, ◌⊎◌, ◌+◌, ◌-◌, ◌<◌, ◌≤◌, ℕ, zero, suc, Vec, Global, Result, Ok, Err, IfOk, List, [], ◌∷◌, ◌++◌, length, map, take, drop, slice_index, slice_index_or, slice_range, slice_set, refl, sym, ap, subst, inl, inr, ◌∙◌, arith}
-use Rattle.std.specs.List.{All, Contains}
+use Rattle.std.proofs.Common.{◌≡◌, ◌≢◌, ◌⊎◌, ◌+◌, ◌-◌, ◌<◌, ◌≤◌, ℕ, zero, suc, Vec, Global, Result, Ok, Err, IfOk, List, [], ◌∷◌, ◌++◌, length, map, drop, slice_index, slice_index_or, slice_range, slice_set, refl, sym, ap, subst, inl, inr, ◌∙◌, arith}
+use Rattle.std.specs.List.{All}
 use Rattle.std.specs.List.Sorted.{IsPermutation}
 use Rattle.std.proofs.Math.ListN.{get_or-append, length-set}
 use Rattle.std.proofs.Math.Seq.{get_or-append_seam}

@@ -1,4 +1,3 @@
-use Rattle.std.proofs.Common.{rules}
 use Rattle.bz_symbolize.proofs.BatchLemmas.{table_batch}
 use Rattle.bz_symbolize.proofs.held.Held.answers_by.Goals as goal
 

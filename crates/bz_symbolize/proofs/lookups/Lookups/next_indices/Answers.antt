@@ -1,4 +1,4 @@
-use Rattle.std.proofs.Common.{ℕ, map, rules}
+use Rattle.std.proofs.Common.{ℕ, map}
 use Rattle.std.proofs.lemmas.List.Sorted.{IsPermutation-map}
 use Rattle.bz_symbolize.proofs.TogetherLemmas.{next_moved, next_read}
 use Rattle.bz_symbolize.specs.Together.{AreNext}
