@@ -68,9 +68,9 @@ module _ (batch : Batch) where
       let nothing : Symbolized = symbolized.Unknown reasons.UnknownAddr in
       let entry = λ (addr : ℕ). answer_at batch addr in
       ext_get_or (reading nothing) (map reading answers) (map entry batch.addrs) (length-map answers reading ∙ count ∙ sym (length-map batch.addrs entry)) (λ i inside.
-          let within : i < length answers = omega (arith, inside, length-map answers reading) in
-          let there : i < length batch.addrs = omega (arith, within, count) in
-          get_or-map reading answers i nothing (reading nothing) within ∙ are i there nothing within ∙ sym (get_or-map entry batch.addrs i 0 (reading nothing) there))
+      let within : i < length answers = omega (arith, inside, length-map answers reading) in
+      let there : i < length batch.addrs = omega (arith, within, count) in
+      get_or-map reading answers i nothing (reading nothing) within ∙ are i there nothing within ∙ sym (get_or-map entry batch.addrs i 0 (reading nothing) there))
 
 -- the answers that are lent for indices, each at its place
 pub lent_there : (batch : Batch) (indices : List ℕ) (lent : List Symbolized) → map reading lent ≡ answers_there indices batch → (k : ℕ) (default : Symbolized) → k < length lent →

@@ -10,8 +10,9 @@ use Rattle.std.proofs.lemmas.Option.{slice_get-get_or, slice_get-map}
 use Rattle.bz_base.specs.Answer.{Answer}
 use Rattle.bz_symbolize.proofs.BatchLemmas.{answer_there}
 use Rattle.bz_symbolize.specs.Batch.{Batch, answer_at, answers_there}
+use Rattle.bz_symbolize.specs.Together.{IsAmong}
 use Rattle.bz_symq.specs.AnswerText.{answer_text}
-use Rattle.bz_symq.specs.Texts.{IsEntryAmong, IsTextIn, IsTextOf}
+use Rattle.bz_symq.specs.Texts.{IsTextIn, IsTextOf}
 use Rattle.bz_symq.specs.declared.texts.TextPart.{TextPart}
 
 -- a part of a text is the same part of the text with more behind it
@@ -97,44 +98,17 @@ pub entry_put : {A E : Type 0} (batch : Batch) (index : ℕ) (answer : Answer) (
 entry_put batch index answer old new (Ok given) there put = (answer, there, put)
 entry_put batch index answer old new (Err e) there put = tt
 
--- the index at a place of a part of the entries
-pub index_of : (order : List (ℕ × ℕ)) (from to place default : ℕ) → from + place < to → to ≤ length order →
-    slice_index_or (map (λ (e : ℕ × ℕ). e.1) (slice_range order from to)) place default ≡ (slice_index_or order (from + place) (0, 0)).1
-index_of order from to place default before within =
-    let part = slice_range order from to in
-    let count : length part ≡ to - from = omega (arith, length-take (to - from) (drop from order), length-drop from order) in
-    get_or-map (λ (e : ℕ × ℕ). e.1) part place (0, 0) default (omega (arith, count))
-    ∙ ap (λ (e : ℕ × ℕ). e.1) (get_or-take (to - from) (drop from order) place (0, 0) (omega arith) ∙ get_or-drop from order place (0, 0))
+-- the indices are of the batch
+pub indices_within : (batch : Batch) (first count : ℕ) (indices : List ℕ) → All (IsAmong batch first count) indices → All (λ i. i < length batch.addrs) indices
+indices_within batch first count indices among place default more = (among place default more).there
 
--- so many indices are those of a part of the entries
-pub index_count : (order : List (ℕ × ℕ)) (from to : ℕ) → to ≤ length order → length (map (λ (e : ℕ × ℕ). e.1) (slice_range order from to)) ≡ to - from
-index_count order from to within =
-    length-map (slice_range order from to) (λ (e : ℕ × ℕ). e.1) ∙ omega (arith, length-take (to - from) (drop from order), length-drop from order)
-
--- they are indices of the batch
-pub indices_within : (batch : Batch) (first count : ℕ) (order : List (ℕ × ℕ)) (from to : ℕ) → All (IsEntryAmong batch first count) order → to ≤ length order →
-    All (λ i. i < length batch.addrs) (map (λ (e : ℕ × ℕ). e.1) (slice_range order from to))
-indices_within batch first count order from to among within place default more =
-    let before : from + place < to = omega (arith, more, index_count order from to within) in
-    rw (index_of order from to place default before within) (among (from + place) (0, 0) (omega arith)).there
-
--- an answer at the index of an entry is that of the batch there
-pub answer_of : (batch : Batch) (first count : ℕ) (order : List (ℕ × ℕ)) (from to place : ℕ) (answers : List Answer) →
-    answers ≡ answers_there (map (λ (e : ℕ × ℕ). e.1) (slice_range order from to)) batch → All (IsEntryAmong batch first count) order → to ≤ length order → place < length answers →
-    slice_get batch.answers (slice_index_or order (from + place) (0, 0)).1 ≡ slice_get answers place
-answer_of batch first count order from to place answers are among within more =
-    let asked = map (λ (e : ℕ × ℕ). e.1) (slice_range order from to) in
+-- the answer at a place among those at some indices is that of the batch at the index there
+pub answer_of : (batch : Batch) (indices : List ℕ) (place : ℕ) (answers : List Answer) → answers ≡ answers_there indices batch → All (λ i. i < length batch.addrs) indices →
+    place < length answers → slice_get batch.answers (slice_index indices place) ≡ slice_get answers place
+answer_of batch indices place answers are within more =
     let single = λ (i : ℕ). answer_at batch (slice_index batch.addrs i) in
-    let as_many : length answers ≡ length asked = ap length are ∙ length-map asked single in
-    let before : from + place < to = omega (arith, as_many, index_count order from to within) in
-    let entry = among (from + place) (0, 0) (omega arith) in
-    answer_there batch (slice_index_or order (from + place) (0, 0)).1 entry.there
-    ∙ ap (λ (i : ℕ). Some (single i)) (sym (index_of order from to place 0 before within))
-    ∙ ap (option_map single) (sym (slice_get-get_or asked place 0 (omega (arith, as_many))))
-    ∙ sym (slice_get-map single asked place)
+    let inside : place < length indices = omega (arith, more, ap length are, length-map indices single) in
+    answer_there batch (slice_index indices place) (within place 0 inside)
+    ∙ ap (option_map single) (sym (slice_get-get_or indices place 0 inside))
+    ∙ sym (slice_get-map single indices place)
     ∙ sym (ap (λ (list : List Answer). slice_get list place) are)
-
--- what holds of each and of one more holds of all
-pub all_and_one : {X : Type 0} (P : X → Type 0) (xs : List X) (x : X) → AllByRecursion P xs → P x → AllByRecursion P (xs ++ x ∷ [])
-all_and_one P [] x all one = (one, tt)
-all_and_one P (y ∷ ys) x all one = (all.0, all_and_one P ys x all.1 one)

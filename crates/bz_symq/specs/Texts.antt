@@ -1,5 +1,5 @@
 -- Texts of answers that are made before they are written.
-use Rattle.std.specs.Prelude.{◌≡◌, ◌+◌, ◌<◌, ◌≤◌, ℕ, List, length, Some, None, slice_get, slice_index, slice_index_or, slice_range, string_bytes}
+use Rattle.std.specs.Prelude.{◌≡◌, ◌+◌, ◌≤◌, ℕ, List, length, Some, None, slice_get, slice_index, slice_index_or, slice_range, string_bytes}
 use Rattle.bz_base.specs.Answer.{Answer}
 use Rattle.bz_symbolize.specs.Batch.{Batch}
 use Rattle.bz_symq.specs.AnswerText.{answer_text}
@@ -28,10 +28,3 @@ pub record MakesMore (batch : Batch) (old new : Texts) : Type 0 where
   pub texts : AreTexts batch old → AreTexts batch new
   pub first : new.first ≡ old.first
   pub count : length new.parts.items ≡ length old.parts.items
-
--- the entry is an address of the batch with its index, which is one of so many from the first on
-pub record IsEntryAmong (batch : Batch) (first count : ℕ) (entry : ℕ × ℕ) : Type 0 where
-  pub from : first ≤ entry.1
-  pub before : entry.1 < first + count
-  pub there : entry.1 < length batch.addrs
-  pub addr : slice_index batch.addrs entry.1 ≡ entry.0

@@ -1,25 +1,18 @@
 //! The texts of answers that are made together, in the order of their addresses where that is
 //! faster: what stands near each other in a file is read together then.
 
-ghost use Rattle.std.specs.Prelude.{◌≡◌, ◌<◌, ◌≤◌, ◌++◌, length, map, slice_get, slice_index, string_bytes, All, Some, OnOk, IfOk, IfSome, IsOkUnless};
-ghost use Rattle.std.specs.List.{AllByRecursion};
+ghost use Rattle.std.specs.Prelude.{◌≡◌, ◌<◌, ◌++◌, length, slice_get, slice_index, string_bytes, All, Some, OnOk, IfSome, IsOkUnless};
 ghost use Rattle.bz_base.specs.Answer.{Answer, reading};
 ghost use Rattle.bz_base.specs.declared.error.Error.{Error};
 ghost use Rattle.bz_symbolize.specs.Batch.{Batch};
+ghost use Rattle.bz_symbolize.specs.Together.{IsAmong};
 ghost use Rattle.bz_symq.specs.AnswerText.{answer_text};
-ghost use Rattle.bz_symq.specs.Texts.{AreTexts, IsEntryAmong, IsTextOf, MakesMore};
+ghost use Rattle.bz_symq.specs.Texts.{AreTexts, IsTextOf, MakesMore};
 
 use crate::answer::push_answer;
-use bz_base::{Addr, Error, Result, Symbolized};
-use bz_symbolize::Lookups;
+use bz_base::{Error, Result, Symbolized};
+use bz_symbolize::{Lookups, TOGETHER};
 use std::alloc::Global;
-
-/// So many texts are made at a time in the order of their addresses. That they are many brings addresses
-/// near each other together.
-const IN_ORDER: usize = 32_768;
-
-/// So many answers are made together.
-const TOGETHER: usize = 32;
 
 /// How long the texts grow that are made at a time, in bytes. What is left then isn't made before it
 /// is written.
@@ -84,7 +77,7 @@ impl Texts {
         ensures ok { OnOk result (AreTexts lookups.now self.new) }
         ensures memory { IsOkUnless result Error.OutOfMemory }
     {
-        let order = in_order(alloc, lookups, first)?;
+        let order = lookups.next_indices(alloc, first)?;
         self.first = first;
         self.text.clear();
         self.parts.clear();
@@ -92,14 +85,9 @@ impl Texts {
         self.make_in(alloc, lookups, &order)
     }
 
-    // Makes the texts of these answers, as long as there is room.
-    fn make_in(
-        &mut self,
-        alloc: Global,
-        lookups: &Lookups<'_>,
-        order: &[(Addr, usize)],
-    ) -> Result<()>
-        requires among { All (IsEntryAmong lookups.now self.old.first (length self.old.parts.items)) order.now }
+    // Makes the texts of the answers at these indices, as long as there is room.
+    fn make_in(&mut self, alloc: Global, lookups: &Lookups<'_>, order: &[usize]) -> Result<()>
+        requires among { All (IsAmong lookups.now self.old.first (length self.old.parts.items)) order.now }
         requires texts { AreTexts lookups.now self.old }
         ensures ok { OnOk result (AreTexts lookups.now self.new) }
         ensures memory { IsOkUnless result Error.OutOfMemory }
@@ -107,103 +95,43 @@ impl Texts {
         let mut from = 0;
         while from < order.len() && self.text.len() <= ROOM {
             let to = order.len().min(from.saturating_add(TOGETHER));
-            self.make_some(alloc, lookups, order, from, to)?;
+            self.make_some(alloc, lookups, &order[from..to])?;
             from = to;
         }
         Ok(())
     }
 
-    // Makes the texts of some of these answers, which are made together.
-    fn make_some(
-        &mut self,
-        alloc: Global,
-        lookups: &Lookups<'_>,
-        order: &[(Addr, usize)],
-        from: usize,
-        to: usize,
-    ) -> Result<()>
-        requires among { All (IsEntryAmong lookups.now self.old.first (length self.old.parts.items)) order.now }
-        requires ascends { from ≤ to }
-        requires within { to ≤ length order.now }
+    // Makes the texts of the answers at some indices, which are made together.
+    fn make_some(&mut self, alloc: Global, lookups: &Lookups<'_>, indices: &[usize]) -> Result<()>
+        requires among { All (IsAmong lookups.now self.old.first (length self.old.parts.items)) indices.now }
         ensures ok { OnOk result (MakesMore lookups.now self.old self.new) }
         ensures memory { IsOkUnless result Error.OutOfMemory }
     {
-        let indices = indices_of(alloc, &order[from..to])?;
-        let answers = lookups.answers_of(alloc, &indices)?;
+        let answers = lookups.answers_of(alloc, indices)?;
         for place in 0..answers.len() {
-            let (addr, index) = order[from + place];
-            self.make_one(lookups, addr, index, &answers[place])?;
+            self.make_one(lookups, indices[place], &answers[place])?;
         }
         Ok(())
     }
 
-    // Makes the text of an answer, which is the batch's at an index.
+    // Makes the text of the answer at an index of the batch.
     fn make_one(
         &mut self,
         lookups: &Lookups<'_>,
-        addr: Addr,
         index: usize,
         answer: &Symbolized<'_>,
     ) -> Result<()>
-        requires among { IsEntryAmong lookups.now self.old.first (length self.old.parts.items) (addr, index) }
+        requires among { IsAmong lookups.now self.old.first (length self.old.parts.items) index }
         requires answer { slice_get lookups.now.answers index ≡ Some (reading answer.now) }
         ensures ok { OnOk result (MakesMore lookups.now self.old self.new) }
         ensures memory { IsOkUnless result Error.OutOfMemory }
     {
-        let _lookups = lookups;
         let from = self.text.len();
-        push_answer(&mut self.text, addr, answer)?;
+        push_answer(&mut self.text, lookups.addr(index), answer)?;
         let to = self.text.len();
         self.parts[index - self.first] = Some(TextPart { from, to });
         Ok(())
     }
-}
-
-// The addresses from an index on, as many as are answered at a time, with their indices: in the
-// order of the addresses, where that is faster.
-fn in_order(alloc: Global, lookups: &Lookups<'_>, first: usize) -> Result<Vec<(Addr, usize)>>
-    ensures among { IfOk result (λ order. All (IsEntryAmong lookups.now first (length order.items)) order.items) }
-    ensures memory { IsOkUnless result Error.OutOfMemory }
-{
-    let mut order = entries(alloc, lookups, first)?;
-    if lookups.heeds_order() {
-        order.sort_unstable_by_key(|entry| entry.0);
-    }
-    Ok(order)
-}
-
-// The addresses from an index on, as many as are answered at a time, with their indices.
-fn entries(alloc: Global, lookups: &Lookups<'_>, first: usize) -> Result<Vec<(Addr, usize)>>
-    ensures among { IfOk result (λ order. AllByRecursion (IsEntryAmong lookups.now first (length order.items)) order.items) }
-    ensures memory { IsOkUnless result Error.OutOfMemory }
-{
-    let end = lookups.len().min(first.saturating_add(at_a_time(lookups)));
-    let mut entries = Vec::new(alloc);
-    for index in first..end {
-        entries.push((lookups.addr(index), index))?;
-    }
-    Ok(entries)
-}
-
-// How many answers are made at a time.
-fn at_a_time(lookups: &Lookups<'_>) -> usize {
-    if lookups.heeds_order() {
-        IN_ORDER
-    } else {
-        TOGETHER
-    }
-}
-
-// The indices of entries, in their order.
-fn indices_of(alloc: Global, entries: &[(Addr, usize)]) -> Result<Vec<usize>>
-    ensures indices { IfOk result (λ indices. indices.items ≡ map (λ e. e.1) entries.now) }
-    ensures memory { IsOkUnless result Error.OutOfMemory }
-{
-    let mut indices = Vec::with_capacity(alloc, entries.len())?;
-    for entry in entries {
-        indices.push(entry.1)?;
-    }
-    Ok(indices)
 }
 
 /// Puts the text of the answer at the address of an index to the end of a text.

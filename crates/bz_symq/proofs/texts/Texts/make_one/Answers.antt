@@ -8,7 +8,7 @@ returns-clause-ok c =
     let among = c.requires.among in
     record {
       texts = texts_more c.args.lookups.now c.args.self.now.first c.args.index _ _ c.args.self.now.parts.items (search rules) (search rules) c.in_ok-push_answer.ensures.ok among.from among.before
-          (record { answer = _; there = c.requires.answer; is = rw among.addr refl });
+          (record { answer = _; there = c.requires.answer; is = rw c.addr.ensures refl });
       first = refl;
       count = length-set c.args.self.now.parts.items _ _;
     }

@@ -1,27 +1,22 @@
-use Rattle.std.proofs.Common.{◌≡◌, ◌<◌, ◌∙◌, ℕ, length, map, option_map, slice_range, Some, sym, ap, rules, arith}
+use Rattle.std.proofs.Common.{◌<◌, ◌∙◌, length, map, option_map, Some, sym, ap, rules, arith}
 use Rattle.std.proofs.lemmas.List.{length-map}
 use Rattle.std.proofs.lemmas.Option.{slice_get-get_or, slice_get-map}
 use Rattle.bz_base.specs.Answer.{reading}
-use Rattle.bz_symbolize.specs.Batch.{answers_there}
 use Rattle.bz_symq.proofs.TextsLemmas.{answer_of, indices_within}
 use Rattle.bz_symq.proofs.texts.Texts.make_some.Goals as goal
 
--- the indices are those of the entries
+-- the indices are of the batch
 pub answers_of-requires : goal.answers_of-requires
-answers_of-requires c =
-    rw (c.deref.ensures.value, c.in_ok-indices.ensures.indices) (indices_within c.args.lookups.now _ _ c.args.order.now c.args.from c.args.to c.requires.among c.requires.within)
+answers_of-requires c = indices_within c.args.lookups.now _ _ c.args.indices.now c.requires.among
 
--- the answer at the place is that of its entry
+-- the answer at the place is that of its index
 pub make_one-requires-clause-answer : goal.make_one-requires-clause-answer
 make_one-requires-clause-answer c =
     let batch = c.args.lookups.now in
-    let order = c.args.order.now in
     let place = c.loop-place.place in
     let answers = c.in_ok-answers.answers.items in
     let more : place < length answers = search rules in
-    let are : map reading answers ≡ answers_there (map (λ (e : ℕ × ℕ). e.1) (slice_range order c.args.from c.args.to)) batch =
-    rw (c.deref.ensures.value, c.in_ok-indices.ensures.indices) at c.in_ok-answers.ensures.answers in
-    answer_of batch _ _ order c.args.from c.args.to place (map reading answers) are c.requires.among c.requires.within (omega (arith, length-map answers reading))
+    answer_of batch c.args.indices.now place (map reading answers) c.in_ok-answers.ensures.answers (indices_within batch _ _ c.args.indices.now c.requires.among) (omega (arith, length-map answers reading))
     ∙ slice_get-map reading answers place
     ∙ ap (option_map reading) (slice_get-get_or answers place c.index.result.now more ∙ ap Some (sym c.index.ensures))
 
