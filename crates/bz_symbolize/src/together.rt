@@ -38,7 +38,7 @@ impl<'d> Lookups<'d> {
         ensures memory { IsOkUnless result Error.OutOfMemory }
     {
         let end = self.len().min(first.saturating_add(self.at_a_time()));
-        let mut entries = Vec::new(alloc);
+        let mut entries = Vec::with_capacity(alloc, end.saturating_sub(first))?;
         for index in first..end {
             entries.push((self.addr(index), index))?;
         }
@@ -119,8 +119,9 @@ fn grow(answers: &mut Vec<Symbolized<'static>>, count: usize) -> Result<()>
     ensures ok { OnOk result (Grows count answers.old.items answers.new.items) }
     ensures memory { IsOkUnless result Error.OutOfMemory }
 {
+    answers.reserve(count)?;
     for _place in 0..count {
-        answers.push(Symbolized::Unknown(Reason::UnknownAddr))?;
+        answers.push_reserved(Symbolized::Unknown(Reason::UnknownAddr));
     }
     Ok(())
 }
