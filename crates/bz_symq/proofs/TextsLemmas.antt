@@ -1,11 +1,11 @@
 -- Texts that are made before they are written.
-use Rattle.std.proofs.Common.{◌≡◌, ◌≢◌, ◌⊎◌, ◌+◌, ◌-◌, ◌<◌, ◌≤◌, ℕ, List, [], ◌∷◌, ◌++◌, length, map, drop, slice_get, slice_index, slice_index_or, All, slice_range, Option, option_map, Some, None, IfSome, Result, Ok, Err, OnOk, Bor, sym, ap, subst, inl, inr, length-append, length-drop, length-take, ◌∙◌, arith}
-use Rattle.std.specs.List.{AllByRecursion, slice_set}
+use Rattle.std.proofs.Common.{◌≡◌, ◌≢◌, ◌⊎◌, ◌+◌, ◌-◌, ◌<◌, ◌≤◌, ℕ, List, ◌++◌, length, drop, slice_get, slice_index, slice_index_or, All, slice_range, Option, option_map, Some, None, IfSome, Result, Ok, Err, OnOk, Bor, sym, ap, subst, inl, inr, length-append, length-drop, ◌∙◌, arith}
+use Rattle.std.specs.List.{slice_set}
 use Rattle.std.specs.Str.Pattern.{GetsRange}
 use Rattle.std.proofs.Math.Seq.{drop-append_seam, take-length}
 use Rattle.std.proofs.lemmas.Bool.{cases_lt}
 use Rattle.std.proofs.lemmas.Grind.{get_or-set_at}
-use Rattle.std.proofs.lemmas.List.{drop-append-le, get_or-drop, get_or-map, get_or-set_other, get_or-take, length-map, take-append-le}
+use Rattle.std.proofs.lemmas.List.{drop-append-le, get_or-set_other, length-map, take-append-le}
 use Rattle.std.proofs.lemmas.Option.{slice_get-get_or, slice_get-map}
 use Rattle.bz_base.specs.Answer.{Answer}
 use Rattle.bz_symbolize.proofs.BatchLemmas.{answer_there}
