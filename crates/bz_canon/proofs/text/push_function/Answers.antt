@@ -1,0 +1,13 @@
+use Rattle.std.proofs.Common.{map, string_bytes, ap, ◌∙◌}
+use Rattle.bz_breakpad.specs.Lent.{kept_inlinee}
+use Rattle.bz_breakpad_lines.specs.Told.{line_seen}
+use Rattle.bz_canon.proofs.TextLaws.{function_written}
+use Rattle.bz_canon.proofs.text.push_function.Goals as goal
+
+pub returns-clause-ok : goal.returns-clause-ok
+returns-clause-ok c =
+    let calls = ap (map kept_inlinee) c.deref.ensures.value ∙ c.in_ok-inlinees.ensures.calls in
+    let lines = ap (map line_seen) c.deref-2.ensures.value ∙ c.in_ok-lines.ensures.lines in
+    function_written c.args.function.now (string_bytes c.args.text.now) (string_bytes c.push_func.new.text) (string_bytes c.push_inlinees.new.text) (string_bytes c.push_lines.new.text)
+    (map kept_inlinee c.deref.result.now) (map line_seen c.deref-2.result.now) calls lines
+    c.in_ok-push_func.ensures.ok c.in_ok-push_inlinees.ensures.ok c.in_ok-push_lines.ensures.ok

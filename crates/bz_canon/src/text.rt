@@ -1,0 +1,137 @@
+//! The canonical text of a file.
+
+ghost use Rattle.std.specs.Prelude.{◌≡◌, ◌<◌, ◌++◌, Some, map, option_map, string_bytes, IfOk, OnOk, IsOkUnless};
+ghost use Rattle.bz_base.specs.declared.error.Error.{Error};
+ghost use Rattle.bz_breakpad.specs.Lent.{kept_inlinee, lent_public};
+ghost use Rattle.bz_breakpad_lines.specs.Printed.{function_records, inlinee_one, line_one, public_record, table_records};
+ghost use Rattle.bz_breakpad_lines.specs.Reader.{table_in};
+ghost use Rattle.bz_breakpad_lines.specs.Table.{Table};
+ghost use Rattle.bz_breakpad_lines.specs.Told.{line_seen};
+ghost use Rattle.bz_breakpad_lines.specs.Walk.Record.{OfFunc};
+ghost use Rattle.bz_breakpad_lines.specs.Written.{records_text};
+ghost use Rattle.bz_canon.specs.Canon.{canon, canon_function, canonical_text};
+ghost use Rattle.bz_canon.specs.Parts.{functions_of, functions_text, lines_of, named_lines};
+
+use crate::record::{push_func, push_inlinee, push_line, push_module, push_named, push_public};
+use bz_base::{Error, Result, Steps};
+use bz_breakpad::{Function, Inlinee, PublicSymbol, SourceLine, SymbolFile};
+use std::alloc::Global;
+use std::marker::Brand;
+use std::sync::ledger::{Blank, Ledger};
+
+/// The canonical text of a file: a Breakpad file that answers alike at every address. Files of equal
+/// records have the same one, in whatever order the records stand, but for the order of those that
+/// are alike. OutOfMemory: memory ran out.
+pub fn canonical(alloc: Global, file: &SymbolFile) -> Result<Vec<u8>>
+    ensures text { IfOk result (λ text. option_map canonical_text (table_in file.now) ≡ Some text.items) }
+    ensures memory { IsOkUnless result Error.OutOfMemory }
+{
+    let mut text = String::new(alloc);
+    push_records(alloc, &mut text, file)?;
+    if text.is_empty() {
+        text.push_str("INFO -\n")?;
+    }
+    Ok(text.into_bytes())
+}
+
+/// The records of a file, in the order of the canonical text.
+fn push_records(alloc: Global, text: &mut String, file: &SymbolFile) -> Result<()>
+    ensures ok { OnOk result (option_map (λ table. string_bytes text.old ++ records_text (table_records (canon table))) (table_in file.now) ≡ Some (string_bytes text.new)) }
+    ensures memory { IsOkUnless result Error.OutOfMemory }
+{
+    push_module(text, file.module())?;
+    let files = file.files(alloc)?;
+    push_names(text, "FILE", &files)?;
+    let origins = file.origins(alloc)?;
+    push_names(text, "INLINE_ORIGIN", &origins)?;
+    let publics = file.publics(alloc)?;
+    push_publics(text, &publics)?;
+    push_functions(alloc, text, file)?;
+    Ok(())
+}
+
+/// A record of the tag for each id and its name.
+fn push_names(text: &mut String, tag: &str, names: &[(u32, &str)]) -> Result<()>
+    ensures ok { OnOk result (string_bytes text.new ≡ string_bytes text.old ++ named_lines tag.now (map (λ name. (name.0, name.1.now)) names.now)) }
+    ensures memory { IsOkUnless result Error.OutOfMemory }
+{
+    for name in names {
+        push_named(text, tag, name.0, name.1)?;
+    }
+    Ok(())
+}
+
+/// PUBLIC records.
+fn push_publics(text: &mut String, publics: &[PublicSymbol<'_>]) -> Result<()>
+    ensures ok { OnOk result (string_bytes text.new ≡ string_bytes text.old ++ lines_of public_record (map lent_public publics.now)) }
+    ensures memory { IsOkUnless result Error.OutOfMemory }
+{
+    for public in publics {
+        push_public(text, public)?;
+    }
+    Ok(())
+}
+
+/// The functions of a file, by start and size.
+fn push_functions(alloc: Global, text: &mut String, file: &SymbolFile) -> Result<()>
+    ensures ok { OnOk result (string_bytes text.new ≡ string_bytes text.old ++ functions_text (functions_of file.now)) }
+    ensures memory { IsOkUnless result Error.OutOfMemory }
+{
+    push_functions_blank::<Brand>(alloc, text, file, Blank::new(1))
+}
+
+// The same, with a count that nobody reads.
+fn push_functions_blank<L: Ledger>(
+    alloc: Global,
+    text: &mut String,
+    file: &SymbolFile,
+    blank: Blank,
+) -> Result<()>
+    requires name { blank.name ≡ L.name }
+    requires parts { blank.parts ≡ L.parts }
+    requires some { 0 < L.parts }
+    ensures ok { OnOk result (string_bytes text.new ≡ string_bytes text.old ++ functions_text (functions_of file.now)) }
+    ensures memory { IsOkUnless result Error.OutOfMemory }
+{
+    let mut steps = Steps::<L>::new(blank);
+    for index in 0..file.function_count() {
+        let function = file.function(index, &mut steps);
+        push_function(alloc, text, &function)?;
+    }
+    Ok(())
+}
+
+/// A function, with its inlined calls by depth and start, and its lines by start and size.
+fn push_function(alloc: Global, text: &mut String, function: &Function<'_>) -> Result<()>
+    ensures ok { OnOk result (string_bytes text.new ≡ string_bytes text.old ++ records_text (function_records (canon_function function.now))) }
+    ensures memory { IsOkUnless result Error.OutOfMemory }
+{
+    push_func(text, function)?;
+    let inlinees = function.inlinees(alloc)?;
+    push_inlinees(text, &inlinees)?;
+    let lines = function.lines(alloc)?;
+    push_lines(text, &lines)?;
+    Ok(())
+}
+
+/// INLINE records.
+fn push_inlinees(text: &mut String, inlinees: &[Inlinee]) -> Result<()>
+    ensures ok { OnOk result (string_bytes text.new ≡ string_bytes text.old ++ lines_of (λ i. OfFunc (inlinee_one i)) (map kept_inlinee inlinees.now)) }
+    ensures memory { IsOkUnless result Error.OutOfMemory }
+{
+    for inlinee in inlinees {
+        push_inlinee(text, inlinee)?;
+    }
+    Ok(())
+}
+
+/// Line records.
+fn push_lines(text: &mut String, lines: &[SourceLine]) -> Result<()>
+    ensures ok { OnOk result (string_bytes text.new ≡ string_bytes text.old ++ lines_of (λ l. OfFunc (line_one l)) (map line_seen lines.now)) }
+    ensures memory { IsOkUnless result Error.OutOfMemory }
+{
+    for line in lines {
+        push_line(text, line)?;
+    }
+    Ok(())
+}

@@ -1,0 +1,130 @@
+//! Texts of files, and their canonical texts.
+
+use bz_base::Error;
+use bz_breakpad::SymbolFile;
+use bz_canon::canonical;
+use std::alloc::Global;
+use std::test::Fail;
+
+/// A file's text, and its canonical text: inlined calls inside one another; nothing that is kept; a
+/// module without name, and a function that is marked; records of every kind.
+const KINDS: [(&[u8], &[u8]); 5] = [
+    (
+        b"FILE 15 o.c\nFILE 4 m.c\nFILE 8 i2.c\nFUNC 1000 30 10 outer_func()\nINLINE_ORIGIN 1 inner_func_2()\nINLINE_ORIGIN 2 mid_func()\nINLINE_ORIGIN 3 inner_func_1()\nINLINE 0 60 15 2 1000 20\nINLINE 1 12 4 3 1000 10\nINLINE 1 17 4 1 1010 10\n1000 10 42 7\n1010 10 52 8\n1020 10 62 15\n",
+        b"FILE 4 m.c\nFILE 8 i2.c\nFILE 15 o.c\nINLINE_ORIGIN 1 inner_func_2()\nINLINE_ORIGIN 2 mid_func()\nINLINE_ORIGIN 3 inner_func_1()\nFUNC 1000 30 10 outer_func()\nINLINE 0 60 15 2 1000 20\nINLINE 1 12 4 3 1000 10\nINLINE 1 17 4 1 1010 10\n1000 10 42 7\n1010 10 52 8\n1020 10 62 15\n",
+    ),
+    (b"INFO x\n", b"INFO -\n"),
+    (
+        b"MODULE a b c \nFUNC m 0001 3 3 y\nFUNC 1 2 3 x\n",
+        b"MODULE - - - \nFUNC 1 2 3 x\nFUNC 1 3 3 y\n",
+    ),
+    (
+        b"MODULE Linux x86 ffff0000 bar\nFILE 53 bar.c\nPUBLIC 1234 10 some public\nFUNC 1000 30 10 another func\n1000 30 7 53\n",
+        b"MODULE - - - bar\nFILE 53 bar.c\nPUBLIC 1234 10 some public\nFUNC 1000 30 10 another func\n1000 30 7 53\n",
+    ),
+    (
+        b"MODULE Linux x86_64 D3096ED481217FD4C16B29CD9BC208BA0 app\nINFO CODE_ID D46E09D32181D47FC16B29CD9BC208BA\nFILE 0 /src/app/main.c\nFILE 1 /src/app/util.h\nINLINE_ORIGIN 0 clamp\nFUNC 1160 2a 0 main\nINLINE 0 12 0 0 1170 8\n1160 10 10 0\n1170 8 4 1\n1178 12 13 0\nPUBLIC 1020 0 _start\nSTACK CFI INIT 1160 2a .cfa: $rsp 8 + .ra: .cfa -8 + ^\nSTACK CFI 1161 .cfa: $rsp 16 +\n",
+        b"MODULE - - - app\nFILE 0 /src/app/main.c\nFILE 1 /src/app/util.h\nINLINE_ORIGIN 0 clamp\nPUBLIC 1020 0 _start\nFUNC 1160 2a 0 main\nINLINE 0 12 0 0 1170 8\n1160 10 10 0\n1170 8 4 1\n1178 12 13 0\n",
+    ),
+];
+
+/// The same of records in several orders. Those that are alike stand as in the file.
+const ORDERS: [(&[u8], &[u8]); 8] = [
+    (
+        b"PUBLIC 20 0 r\nPUBLIC 10 0 p\nPUBLIC 10 4 q\n",
+        b"PUBLIC 10 0 p\nPUBLIC 10 4 q\nPUBLIC 20 0 r\n",
+    ),
+    (
+        b"PUBLIC 10 4 q\nPUBLIC 20 0 r\nPUBLIC 10 0 p\n",
+        b"PUBLIC 10 4 q\nPUBLIC 10 0 p\nPUBLIC 20 0 r\n",
+    ),
+    (
+        b"FUNC 10 8 0 b\nFUNC 10 8 4 a\nFUNC 10 4 0 c\nPUBLIC 18 0 p\nFUNC 8 20 0 d\n",
+        b"PUBLIC 18 0 p\nFUNC 8 20 0 d\nFUNC 10 4 0 c\nFUNC 10 8 0 b\nFUNC 10 8 4 a\n",
+    ),
+    (
+        b"FUNC 10 8 4 a\nFUNC 8 20 0 d\nFUNC 10 4 0 c\nPUBLIC 18 0 p\nFUNC 10 8 0 b\n",
+        b"PUBLIC 18 0 p\nFUNC 8 20 0 d\nFUNC 10 4 0 c\nFUNC 10 8 4 a\nFUNC 10 8 0 b\n",
+    ),
+    (
+        b"FUNC 1000 60 0 f\n1010 8 3 2\n1000 10 1 1\n1010 8 2 1\n1010 4 9 1\n",
+        b"FUNC 1000 60 0 f\n1000 10 1 1\n1010 4 9 1\n1010 8 3 2\n1010 8 2 1\n",
+    ),
+    (
+        b"FUNC 1000 60 0 f\n1010 4 9 1\n1010 8 2 1\n1010 8 3 2\n1000 10 1 1\n",
+        b"FUNC 1000 60 0 f\n1000 10 1 1\n1010 4 9 1\n1010 8 2 1\n1010 8 3 2\n",
+    ),
+    (
+        b"FUNC 1000 60 0 f\n1000 60 1 1\nINLINE 1 12 4 3 1000 10\nINLINE 0 60 15 2 1010 10 1000 8\nINLINE 0 61 15 2 1000 20\n",
+        b"FUNC 1000 60 0 f\nINLINE 0 60 15 2 1000 8\nINLINE 0 61 15 2 1000 20\nINLINE 0 60 15 2 1010 10\nINLINE 1 12 4 3 1000 10\n1000 60 1 1\n",
+    ),
+    (
+        b"FUNC 1000 60 0 f\nINLINE 0 61 15 2 1000 20\nINLINE 0 60 15 2 1000 8 1010 10\nINLINE 1 12 4 3 1000 10\n1000 60 1 1\n",
+        b"FUNC 1000 60 0 f\nINLINE 0 61 15 2 1000 20\nINLINE 0 60 15 2 1000 8\nINLINE 0 60 15 2 1010 10\nINLINE 1 12 4 3 1000 10\n1000 60 1 1\n",
+    ),
+];
+
+/// The same of texts and numbers that may be written in several ways: blank lines and white space,
+/// zeros in front, upper case and marks; ids in any order, of which the last name counts; the greatest
+/// numbers.
+const SPELLINGS: [(&[u8], &[u8]); 5] = [
+    (
+        b"PUBLIC m 00AB 0F x y\n\n \tPUBLIC\t0  0 \r\n",
+        b"PUBLIC 0 0 \nPUBLIC ab f x y\n",
+    ),
+    (
+        b"FUNC 0Ab0 0c 000 f\n0ab0 0C 007 01\nINLINE  00 1 02 3 AB0 c\n",
+        b"FUNC ab0 c 0 f\nINLINE 0 1 2 3 ab0 c\nab0 c 7 1\n",
+    ),
+    (
+        b"FILE 20 c\nFILE 3 a\nINLINE_ORIGIN 7 o\nFILE 20 b\nINLINE_ORIGIN 1 i\n",
+        b"FILE 3 a\nFILE 20 b\nINLINE_ORIGIN 1 i\nINLINE_ORIGIN 7 o\n",
+    ),
+    (
+        b"FUNC FFFFFFFFFFFFFFFF FFFFFFFF FFFFFFFF z\nFFFFFFFFFFFFFFFF FFFFFFFF 4294967295 4294967295\n",
+        b"FUNC ffffffffffffffff ffffffff ffffffff z\nffffffffffffffff ffffffff 4294967295 4294967295\n",
+    ),
+    (b"INFO a\n\n \nINFO b\nSTACK WIN 4 x\n", b"INFO -\n"),
+];
+
+/// The file of a text.
+fn file_of(alloc: Global, text: &[u8]) -> Result<SymbolFile, Error> {
+    let bytes = Vec::from_slice(alloc, text)?;
+    SymbolFile::from_bytes(alloc, bytes)
+}
+
+/// Whether a text has this canonical text.
+fn has_canonical(alloc: Global, text: &[u8], expected: &[u8]) -> Result<bool, Error> {
+    let file = file_of(alloc, text)?;
+    let written = canonical(alloc, &file)?;
+    Ok(written.as_slice() == expected)
+}
+
+/// Whether a text has this canonical text, which is its own.
+fn holds(alloc: Global, row: &(&[u8], &[u8])) -> Result<bool, Error> {
+    Ok(has_canonical(alloc, row.0, row.1)? && has_canonical(alloc, row.1, row.1)?)
+}
+
+#[test]
+fn writes_records_of_every_kind(rt: HostRuntime) -> Result<(), Fail> {
+    for row in &KINDS {
+        assert!(rt; holds(rt.alloc(), row)?, "of {:?}", row.0);
+    }
+    Ok(())
+}
+
+#[test]
+fn writes_records_in_order(rt: HostRuntime) -> Result<(), Fail> {
+    for row in &ORDERS {
+        assert!(rt; holds(rt.alloc(), row)?, "of {:?}", row.0);
+    }
+    Ok(())
+}
+
+#[test]
+fn writes_the_plainest_text(rt: HostRuntime) -> Result<(), Fail> {
+    for row in &SPELLINGS {
+        assert!(rt; holds(rt.alloc(), row)?, "of {:?}", row.0);
+    }
+    Ok(())
+}
