@@ -17,8 +17,7 @@ use Rattle.bz_breakpad_lines.specs.Walk.{Record}
 use Rattle.bz_breakpad_lines.specs.Walk.Record.{OfFunc}
 use Rattle.bz_breakpad_lines.specs.Written.{record_text, records_text}
 use Rattle.bz_canon.specs.Canon.{canon, canon_function}
-use Rattle.bz_canon.specs.Parts.{functions_text, lines_of, named_line, named_lines}
-use Rattle.bz_canon.specs.Parts as parts
+use Rattle.bz_canon.specs.Parts.{canon_functions, functions_text, lines_of, named_line, named_lines}
 
 -- Records side by side.
 
@@ -93,10 +92,10 @@ canon_sorted fs =
 
 -- one function more is written
 pub function_more : (bytes : List ℕ) (index : ℕ) (f : Function) (old text more : List ℕ) → slice_get (functions_in_order bytes) index ≡ Some f →
-    text ≡ old ++ functions_text (take index (parts.functions_of bytes)) → more ≡ text ++ records_text (function_records (canon_function f)) →
-    more ≡ old ++ functions_text (take (index + 1) (parts.functions_of bytes))
+    text ≡ old ++ functions_text (take index (canon_functions bytes)) → more ≡ text ++ records_text (function_records (canon_function f)) →
+    more ≡ old ++ functions_text (take (index + 1) (canon_functions bytes))
 function_more bytes index f old text more found so_far longer =
-    let fs = parts.functions_of bytes in
+    let fs = canon_functions bytes in
     let g = canon_function f in
     let each = λ (h : Function). records_text (function_records h) in
     let there : slice_get fs index ≡ Some g = slice_get-map canon_function (functions_in_order bytes) index ∙ ap (option_map canon_function) found in
@@ -108,9 +107,9 @@ function_more bytes index f old text more found so_far longer =
     ∙ ap (λ hs. old ++ functions_text hs) (sym next)
 
 -- and all are
-pub functions_all : (bytes : List ℕ) (index : ℕ) → length (functions_in bytes) ≤ index → take index (parts.functions_of bytes) ≡ parts.functions_of bytes
+pub functions_all : (bytes : List ℕ) (index : ℕ) → length (functions_in bytes) ≤ index → take index (canon_functions bytes) ≡ canon_functions bytes
 functions_all bytes index past =
-    take_all index (parts.functions_of bytes)
+    take_all index (canon_functions bytes)
     (omega (arith, past, length-map (functions_in_order bytes) canon_function, sorted_length (λ (f : Function). f.start) (λ f. f.size) (functions_in bytes)))
 
 -- The table.
@@ -148,7 +147,7 @@ module _ (bytes : List ℕ) (name : Option (List ℕ)) (files origins : List (�
   publics_text = lines_of public_record publics
 
   abbrev pub code_text : List ℕ
-  code_text = functions_text (parts.functions_of bytes)
+  code_text = functions_text (canon_functions bytes)
 
   records_are : option_map (λ (t : Table). t.«module») (table_in bytes) ≡ Some name → files ≡ files_in bytes → origins ≡ origins_in bytes → publics ≡ publics_in_order bytes →
       option_map (λ (t : Table). records_text (table_records (canon t))) (table_in bytes) ≡ Some (module_text ++ (files_text ++ (origins_text ++ (publics_text ++ code_text))))
@@ -158,7 +157,7 @@ module _ (bytes : List ℕ) (name : Option (List ℕ)) (files origins : List (�
     by None is named = absurd (none-some name named)
     by (Some t) is named =
         let rest = λ (m : Option (List ℕ)) (x y : List (ℕ × List ℕ)) (p : List PublicSymbol) (g : List Function). records_text (module_records m) ++ (named_lines (codes "FILE") x ++ (named_lines (codes "INLINE_ORIGIN") y ++ (lines_of public_record p ++ functions_text g))) in
-        let functions_is : (canon t).functions ≡ parts.functions_of bytes
+        let functions_is : (canon t).functions ≡ canon_functions bytes
         = sym (canon_sorted t.functions) ∙ ap (λ (o : Option Table). map canon_function (sorted (λ (f : Function). f.start) (λ f. f.size) (functions_of o))) (sym is) in
         ap Some (parts_are (canon t)
         ∙ ap (λ m. rest m t.files t.origins (canon t).publics (canon t).functions) (same_Some t.«module» name named)

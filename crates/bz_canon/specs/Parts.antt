@@ -25,5 +25,5 @@ abbrev pub functions_text : List Function → List ℕ
 functions_text functions = flat_map (λ f. records_text (function_records f)) functions
 
 -- the functions of a file in order, each in its canonical form
-abbrev pub functions_of : List ℕ → List Function
-functions_of bytes = map canon_function (functions_in_order bytes)
+abbrev pub canon_functions : List ℕ → List Function
+canon_functions bytes = map canon_function (functions_in_order bytes)

@@ -17,7 +17,7 @@ pub fn canonical_forms_answer_alike()
     ensures { (table : Table) (opts : FindSymOpts) (addr : ℕ) → plain (canon table) opts addr ≡ plain table opts addr }
 {}
 
-/// The canonical form is its own, and so is its text.
+/// The canonical form of a canonical form is itself, and its text is the same.
 pub fn canonical_forms_stay()
     ensures form { (table : Table) → canon (canon table) ≡ canon table }
     ensures text { (table : Table) → canonical_text (canon table) ≡ canonical_text table }

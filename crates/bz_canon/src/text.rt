@@ -10,7 +10,7 @@ ghost use Rattle.bz_breakpad_lines.specs.Told.{line_seen};
 ghost use Rattle.bz_breakpad_lines.specs.Walk.Record.{OfFunc};
 ghost use Rattle.bz_breakpad_lines.specs.Written.{records_text};
 ghost use Rattle.bz_canon.specs.Canon.{canon, canon_function, canonical_text};
-ghost use Rattle.bz_canon.specs.Parts.{functions_of, functions_text, lines_of, named_lines};
+ghost use Rattle.bz_canon.specs.Parts.{canon_functions, functions_text, lines_of, named_lines};
 
 use crate::record::{push_func, push_inlinee, push_line, push_module, push_named, push_public};
 use bz_base::{Error, Result, Steps};
@@ -74,7 +74,7 @@ fn push_publics(text: &mut String, publics: &[PublicSymbol<'_>]) -> Result<()>
 
 /// The functions of a file, by start and size.
 fn push_functions(alloc: Global, text: &mut String, file: &SymbolFile) -> Result<()>
-    ensures ok { OnOk result (string_bytes text.new ≡ string_bytes text.old ++ functions_text (functions_of file.now)) }
+    ensures ok { OnOk result (string_bytes text.new ≡ string_bytes text.old ++ functions_text (canon_functions file.now)) }
     ensures memory { IsOkUnless result Error.OutOfMemory }
 {
     push_functions_blank::<Brand>(alloc, text, file, Blank::new(1))
@@ -90,7 +90,7 @@ fn push_functions_blank<L: Ledger>(
     requires name { blank.name ≡ L.name }
     requires parts { blank.parts ≡ L.parts }
     requires some { 0 < L.parts }
-    ensures ok { OnOk result (string_bytes text.new ≡ string_bytes text.old ++ functions_text (functions_of file.now)) }
+    ensures ok { OnOk result (string_bytes text.new ≡ string_bytes text.old ++ functions_text (canon_functions file.now)) }
     ensures memory { IsOkUnless result Error.OutOfMemory }
 {
     let mut steps = Steps::<L>::new(blank);
