@@ -14,7 +14,8 @@ use Rattle.bz_base.specs.declared.types.FindSymOpts.TheVariants as asked
 use Rattle.bz_base.proofs.ChainLemmas.{chain_through}
 use Rattle.bz_base.proofs.ViewLemmas.{covering_of_table, covering_seen}
 use Rattle.bz_breakpad_lines.specs.Grammar.{IsFile}
-use Rattle.bz_breakpad.specs.Plain.{Placed, any_between, by_function, by_line, by_place, by_public, by_records, by_seen, calls_around, calls_asked, function_at, line_at, placed_at, plain, public_at, public_symbol_at, seen_from}
+use Rattle.bz_breakpad.specs.Places.{Placed, by_line, by_seen, calls_around, calls_asked, line_at, placed_at, seen_from}
+use Rattle.bz_breakpad.specs.Plain.{any_between, by_function, by_place, by_public, by_records, function_at, plain, public_at, public_symbol_at}
 use Rattle.bz_breakpad_lines.specs.Printed.{FunctionFits, IsPrintable, inlinee_one, line_one, printed, public_record}
 use Rattle.bz_breakpad_lines.specs.Table.{Function, Inlinee, PublicSymbol, SourceLine, Table}
 use Rattle.bz_breakpad_lines.specs.Walk.Record.{OfFunc}

@@ -8,8 +8,9 @@ use Rattle.bz_base.specs.Line.{ended}
 use Rattle.bz_base.specs.Sorting.{sorted}
 use Rattle.bz_search.proofs.SortingLaws.{sorted_length, sorted_table, table_sorted}
 use Rattle.bz_base.proofs.ViewLemmas.{table_seen}
-use Rattle.bz_breakpad.specs.InOrder.{calls_in_order, functions_in_order, lines_in_order, publics_in_order}
-use Rattle.bz_breakpad.specs.Indexed.{files_in, files_of, functions_in, functions_of, origins_in, origins_of, publics_of}
+use Rattle.bz_breakpad.specs.InOrder.{calls_in_order, functions_in_order, lines_in_order}
+use Rattle.bz_breakpad.specs.Indexed.{functions_in, functions_of}
+use Rattle.bz_breakpad.specs.Listed.{files_in, files_of, origins_in, origins_of, publics_in_order, publics_of}
 use Rattle.bz_breakpad_lines.specs.Printed.{file_record, func_record, function_records, inlinee_one, line_one, module_records, origin_record, public_record, table_records}
 use Rattle.bz_breakpad_lines.specs.Reader.{table_in}
 use Rattle.bz_breakpad_lines.specs.Table.{Function, Inlinee, PublicSymbol, SourceLine, Table}

@@ -2,7 +2,8 @@
 
 ghost use Rattle.std.specs.Prelude.{◌≡◌, ◌<◌, ◌++◌, Some, map, option_map, string_bytes, IfOk, OnOk, IsOkUnless};
 ghost use Rattle.bz_base.specs.declared.error.Error.{Error};
-ghost use Rattle.bz_breakpad.specs.Lent.{kept_inlinee, lent_public};
+ghost use Rattle.bz_breakpad.specs.Lent.{kept_inlinee};
+ghost use Rattle.bz_breakpad.specs.Listed.{lent_public};
 ghost use Rattle.bz_breakpad_lines.specs.Printed.{function_records, inlinee_one, line_one, public_record, table_records};
 ghost use Rattle.bz_breakpad_lines.specs.Reader.{table_in};
 ghost use Rattle.bz_breakpad_lines.specs.Table.{Table};

@@ -1,5 +1,5 @@
 use Rattle.std.proofs.Common.{◌≡◌, ◌++◌, map, take, string_bytes}
-use Rattle.bz_breakpad.specs.Lent.{lent_public}
+use Rattle.bz_breakpad.specs.Listed.{lent_public}
 use Rattle.bz_breakpad_lines.specs.Printed.{public_record}
 use Rattle.bz_canon.specs.Parts.{lines_of}
 use Rattle.bz_canon.proofs.text.push_publics.Given as goal

@@ -1,5 +1,5 @@
 use Rattle.std.proofs.Common.{Bor, List, map, option_map, ℕ, string_bytes, ap, ◌∙◌}
-use Rattle.bz_breakpad.specs.Lent.{lent_public}
+use Rattle.bz_breakpad.specs.Listed.{lent_public}
 use Rattle.bz_canon.proofs.TextLaws.{written_parts}
 use Rattle.bz_canon.proofs.text.push_records.Goals as goal
 
