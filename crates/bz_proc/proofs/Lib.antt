@@ -1,0 +1,17 @@
+pub mod LineLemmas
+pub mod MapsLemmas
+pub mod NameLemmas
+pub mod NameOrderLemmas
+pub mod OwnerLemmas
+pub mod PerfAnswerLemmas
+pub mod PerfFieldLemmas
+pub mod PerfKeptLemmas
+pub mod PerfLineLemmas
+pub mod PerfMapLemmas
+pub mod PerfNumberLemmas
+pub mod PerfPartLemmas
+pub mod PerfTableLemmas
+pub mod RunLemmas
+pub mod StatusLaws
+pub mod StatusLemmas
+pub mod Utf8Lemmas

@@ -1,0 +1,12 @@
+pub mod MappingLine
+pub mod Maps
+pub mod MapsFile
+pub mod NameOrder
+pub mod PerfId
+pub mod PerfKept
+pub mod PerfLine
+pub mod PerfLines
+pub mod PerfMap
+pub mod PerfPath
+pub mod Reach
+pub mod Status

@@ -1,0 +1,38 @@
+-- The mappings of a process, by what lies at the path of their text.
+use Rattle.std.specs.Prelude.{Bool, true, false, ℕ, List, ◌++◌, codes, Option, Some, None, Result, Ok, Err}
+use Rattle.bz_base.specs.Pid.{pid_text}
+use Rattle.bz_base.specs.declared.error.Error.{Error}
+use Rattle.bz_base.specs.declared.error.Error.TheVariants as errors
+use Rattle.bz_base.specs.declared.pid.Pid.{Pid}
+use Rattle.bz_files.specs.World.{Entry, Denied, Present}
+use Rattle.bz_proc.specs.Maps.{Mapping, maps_in}
+
+-- where the text lies
+abbrev pub maps_path : Pid → List ℕ
+maps_path pid = codes "/proc/" ++ (pid_text pid ++ codes "/maps")
+
+-- the mappings, if the text tells some
+abbrev pub told_maps : Option (List Mapping) → Result (List Mapping) Error
+told_maps None = Err errors.InvalidData
+told_maps (Some mappings) = Ok mappings
+
+-- the mappings, or why there are none
+abbrev pub maps_told : Pid → Option Entry → Result (List Mapping) Error
+maps_told pid None = Err errors.NotFound
+maps_told pid (Some Denied) = Err errors.PermissionDenied
+maps_told pid (Some (Present stamp bytes)) = told_maps (maps_in pid bytes)
+
+-- whether there is a file that may be read
+abbrev pub has_file : Option Entry → Bool
+has_file None = false
+has_file (Some Denied) = false
+has_file (Some (Present stamp bytes)) = true
+
+-- reading a text of the system is refused by one of these
+abbrev pub IsReadRefusal : Error → Type 0
+IsReadRefusal errors.NotFound = Unit {0}
+IsReadRefusal errors.PermissionDenied = Unit {0}
+IsReadRefusal errors.InvalidData = Unit {0}
+IsReadRefusal errors.ReadFault = Unit {0}
+IsReadRefusal errors.OutOfMemory = Unit {0}
+IsReadRefusal _ = ⊥

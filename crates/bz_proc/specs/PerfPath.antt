@@ -1,0 +1,9 @@
+-- Where the perf map of a process lies: in `/tmp` as the process sees it, named after the id by which it knows itself.
+use Rattle.std.specs.Prelude.{ℕ, false, List, ◌++◌, codes}
+use Rattle.std.specs.Fmt.{digits}
+use Rattle.bz_base.specs.Pid.{resolved}
+use Rattle.bz_base.specs.declared.pid.Pid.{Pid}
+
+-- the path of the perf map of a process that knows itself by this id
+abbrev pub perf_map_path : Pid → ℕ → ℕ → List ℕ
+perf_map_path pid own id = codes "/proc/" ++ (digits 10 false (resolved pid own) ++ (codes "/root/tmp/perf-" ++ (digits 10 false id ++ codes ".map")))

@@ -1,0 +1,160 @@
+//! The fields of a line of mappings, read from its front.
+
+ghost use Rattle.std.specs.Prelude.{◌≡◌, ◌≤◌, length, option_map};
+ghost use Rattle.std.specs.List.{prefix_len};
+ghost use Rattle.bz_proc.specs.MappingLine.{after_dash, after_run, end_text, four, is_decimal, is_solid, is_space, last_at, line_in, offset_at, one_to_twenty, some, span_at};
+ghost use Rattle.bz_proc.specs.Maps.{line_of};
+
+use bz_base::{Addr, hex};
+
+/// What a line of mappings tells.
+#[derive(Drop)]
+pub struct MappingLine<'a> {
+    /// The first address.
+    pub(crate) start: Addr,
+    /// The address after the last one.
+    pub(crate) end: Addr,
+    /// The offset of the first byte in the file.
+    pub(crate) offset: u64,
+    /// What stands after the other fields.
+    pub(crate) text: &'a [u8],
+}
+
+/// What the line tells, if it is one of a mapping.
+pub fn mapping_line(line: &[u8]) -> Option<MappingLine<'_>>
+    ensures { option_map line_of result ≡ line_in line.now }
+{
+    let (start, end, rest) = span(line)?;
+    let (offset, rest) = offset(rest)?;
+    let text = last_text(rest)?;
+    if end < start {
+        return None;
+    }
+    Some(MappingLine {
+        start,
+        end,
+        offset,
+        text,
+    })
+}
+
+/// The addresses where the mapping begins and ends, and the text after them.
+fn span(line: &[u8]) -> Option<(Addr, Addr, &[u8])>
+    ensures { option_map (λ read. ((read.0, read.1), read.2.now)) result ≡ span_at line.now }
+{
+    let (start, rest) = hex(line, 16)?;
+    let (end, rest) = hex(after_dash(rest)?, 16)?;
+    Some((start, end, rest))
+}
+
+/// The offset behind the permissions, and the text after it.
+fn offset(text: &[u8]) -> Option<(u64, &[u8])>
+    ensures { option_map (λ read. (read.0, read.1.now)) result ≡ offset_at text.now }
+{
+    let rest = after_permissions(after_spaces(text)?)?;
+    hex(after_spaces(rest)?, 16)
+}
+
+/// The text that stands last, behind device and inode.
+fn last_text(text: &[u8]) -> Option<&[u8]>
+    ensures { option_map (λ last. last.now) result ≡ last_at text.now }
+{
+    let rest = after_device(after_spaces(text)?)?;
+    let rest = after_inode(after_spaces(rest)?)?;
+    end_text(rest)
+}
+
+/// The text after the dash in front.
+#[tactic(auto, unfolding(crate::specs::MappingLine::after_dash))]
+fn after_dash(text: &[u8]) -> Option<&[u8]>
+    ensures { option_map (λ rest. rest.now) result ≡ after_dash text.now }
+{
+    match text {
+        [b'-', rest @ ..] => Some(rest),
+        _ => None,
+    }
+}
+
+/// How many spaces stand in front.
+fn space_len(text: &[u8]) -> usize
+    ensures value { result ≡ prefix_len is_space text.now }
+    ensures within { result ≤ length text.now }
+{
+    text.iter().take_while(|b| **b == b' ').count()
+}
+
+/// How many bytes other than space stand in front.
+fn solid_len(text: &[u8]) -> usize
+    ensures value { result ≡ prefix_len is_solid text.now }
+    ensures within { result ≤ length text.now }
+{
+    text.iter().take_while(|b| **b != b' ').count()
+}
+
+/// How many decimal digits stand in front.
+fn digit_len(text: &[u8]) -> usize
+    ensures value { result ≡ prefix_len is_decimal text.now }
+    ensures within { result ≤ length text.now }
+{
+    text.iter().take_while(|b| b.is_ascii_digit()).count()
+}
+
+/// The text after one or more spaces.
+#[tactic(auto, unfolding(crate::specs::MappingLine::after_run))]
+fn after_spaces(text: &[u8]) -> Option<&[u8]>
+    ensures { option_map (λ rest. rest.now) result ≡ after_run is_space some text.now }
+{
+    let len = space_len(text);
+    if len == 0 {
+        return None;
+    }
+    Some(&text[len..])
+}
+
+/// The text after four bytes other than space.
+#[tactic(auto, unfolding(crate::specs::MappingLine::after_run))]
+fn after_permissions(text: &[u8]) -> Option<&[u8]>
+    ensures { option_map (λ rest. rest.now) result ≡ after_run is_solid four text.now }
+{
+    let len = solid_len(text);
+    if len != 4 {
+        return None;
+    }
+    Some(&text[len..])
+}
+
+/// The text after one or more bytes other than space.
+#[tactic(auto, unfolding(crate::specs::MappingLine::after_run))]
+fn after_device(text: &[u8]) -> Option<&[u8]>
+    ensures { option_map (λ rest. rest.now) result ≡ after_run is_solid some text.now }
+{
+    let len = solid_len(text);
+    if len == 0 {
+        return None;
+    }
+    Some(&text[len..])
+}
+
+/// The text after one to twenty decimal digits.
+#[tactic(auto, unfolding(crate::specs::MappingLine::after_run))]
+fn after_inode(text: &[u8]) -> Option<&[u8]>
+    ensures { option_map (λ rest. rest.now) result ≡ after_run is_decimal one_to_twenty text.now }
+{
+    let len = digit_len(text);
+    if len == 0 || len > 20 {
+        return None;
+    }
+    Some(&text[len..])
+}
+
+/// The text that stands last, behind at least one space; it is empty where nothing but spaces does.
+#[tactic(auto, unfolding(crate::specs::MappingLine::end_text))]
+fn end_text(rest: &[u8]) -> Option<&[u8]>
+    ensures { option_map (λ text. text.now) result ≡ end_text rest.now }
+{
+    match rest {
+        [] => Some(rest),
+        [b' ', more @ ..] => Some(&more[space_len(more)..]),
+        _ => None,
+    }
+}

@@ -1,0 +1,285 @@
+//! Which texts tell mappings, and what they tell.
+
+use bz_base::{Error, Pid};
+use bz_proc::{EntryPath, MapsEntry, PathName, parse_maps};
+use std::alloc::Global;
+
+/// A mapping: its start, its end and its offset, the path that stands for it and the file's own. A
+/// part of the system has no path that stands for it, and a mapping without a name has neither.
+type Told = (u64, u64, u64, &'static str, &'static str);
+
+/// Whether the name is this one.
+fn is_named(name: &Option<PathName>, maps_file: &str, text: &str) -> bool {
+    match name {
+        Some(
+            PathName::Path(
+                EntryPath {
+                    maps_file: file,
+                    symbolic_path: path,
+                },
+            ),
+        ) => !maps_file.is_empty() && file.as_str() == maps_file && path.as_str() == text,
+        Some(PathName::Component(part)) => {
+            maps_file.is_empty() && !text.is_empty() && part.as_str() == text
+        }
+        None => maps_file.is_empty() && text.is_empty(),
+    }
+}
+
+/// Whether the mapping is this one.
+fn is_told(entry: &MapsEntry, told: &Told) -> bool {
+    entry.range.start == told.0
+        && entry.range.end == told.1
+        && entry.offset == told.2
+        && is_named(&entry.path_name, told.3, told.4)
+}
+
+/// Whether the mappings are these, in this order.
+fn are_told(entries: &[MapsEntry], told: &[Told]) -> bool {
+    if entries.len() != told.len() {
+        return false;
+    }
+    for (entry, want) in entries.iter().zip(told) {
+        if !is_told(entry, want) {
+            return false;
+        }
+    }
+    true
+}
+
+/// Whether the text tells these mappings of the process.
+fn tells(alloc: Global, pid: Pid, text: &[u8], told: &[Told]) -> bool {
+    match parse_maps(alloc, pid, text) {
+        Ok(entries) => are_told(entries.as_slice(), told),
+        Err(_) => false,
+    }
+}
+
+/// Whether the text is refused as one that isn't of mappings.
+fn is_refused(alloc: Global, text: &[u8]) -> bool {
+    match parse_maps(alloc, Pid::Slf, text) {
+        Ok(_) => false,
+        Err(error) => error == Error::InvalidData,
+    }
+}
+
+/// The mappings of a process that maps a file, memory and a part of the system.
+pub(crate) const THREE: &[u8] =
+    b"1000-2000 r-xp 00000000 08:01 11 /bin/bad\n3000-4000 rw-p 00000000 00:00 0\n5000-6000 r-xp 00000000 00:00 0 [vdso]\n";
+
+#[test]
+fn a_text_tells_its_mappings(rt: HostRuntime) {
+    let told = &[
+        (0x1000, 0x2000, 0, "/proc/7/map_files/1000-2000", "/bin/bad"),
+        (0x3000, 0x4000, 0, "", ""),
+        (0x5000, 0x6000, 0, "", "[vdso]"),
+    ];
+    assert!(rt; tells(rt.alloc(), Pid::from(7), THREE, told));
+    assert!(rt; tells(rt.alloc(), Pid::from(7), b"", &[]));
+}
+
+/// Lines, and the mapping that each tells of the process that reads it.
+const LINES: &[(&[u8], Told)] = &[
+    // As the system writes them, with the text at a column.
+    (
+        b"7f5a3c200000-7f5a3c228000 r--p 00000000 103:05 1573                       /usr/lib/libc.so.6\n",
+        (
+            0x7f5a3c200000,
+            0x7f5a3c228000,
+            0,
+            "/proc/self/map_files/7f5a3c200000-7f5a3c228000",
+            "/usr/lib/libc.so.6",
+        ),
+    ),
+    (
+        b"ffffffffff600000-ffffffffff601000 --xp 00000000 00:00 0                  [vsyscall]\n",
+        (0xffffffffff600000, 0xffffffffff601000, 0, "", "[vsyscall]"),
+    ),
+    // Without an end, and between empty lines.
+    (
+        b"1-2 r--p 3 0:0 4 /a",
+        (1, 2, 3, "/proc/self/map_files/1-2", "/a"),
+    ),
+    (
+        b"\n\n1-2 r--p 3 0:0 4 /a\n\n",
+        (1, 2, 3, "/proc/self/map_files/1-2", "/a"),
+    ),
+    // Digits in either case, zeros in front, and the greatest numbers.
+    (
+        b"00ab-00CD r--p 0eF 0:0 4 /a\n",
+        (0xab, 0xcd, 0xef, "/proc/self/map_files/ab-cd", "/a"),
+    ),
+    (
+        b"0000000000000000-ffffffffffffffff r--p FFFFFFFFFFFFFFFF 0:0 4 /a\n",
+        (
+            0,
+            u64::MAX,
+            u64::MAX,
+            "/proc/self/map_files/0-ffffffffffffffff",
+            "/a",
+        ),
+    ),
+    (b"5-5 r--p 0 0:0 99999999999999999999\n", (5, 5, 0, "", "")),
+    // More spaces, also at the end; other blanks belong to a field.
+    (b"1-2   r--p   3   0:0   4   \n", (1, 2, 3, "", "")),
+    (
+        b"1-2 r--p 3 \t 4 /a\n",
+        (1, 2, 3, "/proc/self/map_files/1-2", "/a"),
+    ),
+    (
+        b"1-2 \t\r-p 3 0:0 4 /a\n",
+        (1, 2, 3, "/proc/self/map_files/1-2", "/a"),
+    ),
+    (
+        b"1-2 \xc3\xa9\xc3\xa9 3 \xc3\xbc 4 /\xc3\xa4\n",
+        (1, 2, 3, "/proc/self/map_files/1-2", "/ä"),
+    ),
+    // A text has spaces of its own, and a carriage return belongs to it.
+    (
+        b"1-2 r--p 3 0:0 4 /a b  c \n",
+        (1, 2, 3, "/proc/self/map_files/1-2", "/a b  c "),
+    ),
+    (
+        b"1-2 r--p 3 0:0 4 /a\r\n",
+        (1, 2, 3, "/proc/self/map_files/1-2", "/a\r"),
+    ),
+    (b"1-2 r--p 3 0:0 4 \t/a\n", (1, 2, 3, "", "\t/a")),
+    (b"1-2 r--p 3 0:0 4 a/b\n", (1, 2, 3, "", "a/b")),
+    // A mark of deletion is cut once, at the end of a path alone.
+    (
+        b"1-2 r--p 3 0:0 4 /a (deleted)\n",
+        (1, 2, 3, "/proc/self/map_files/1-2", "/a"),
+    ),
+    (
+        b"1-2 r--p 3 0:0 4 /a (deleted) (deleted)\n",
+        (1, 2, 3, "/proc/self/map_files/1-2", "/a (deleted)"),
+    ),
+    (
+        b"1-2 r--p 3 0:0 4 /a(deleted)\n",
+        (1, 2, 3, "/proc/self/map_files/1-2", "/a(deleted)"),
+    ),
+    (
+        b"1-2 r--p 3 0:0 4 /a (deleted) \n",
+        (1, 2, 3, "/proc/self/map_files/1-2", "/a (deleted) "),
+    ),
+    (
+        b"1-2 r--p 3 0:0 4 / (deleted)\n",
+        (1, 2, 3, "/proc/self/map_files/1-2", "/"),
+    ),
+    (
+        b"1-2 r--p 3 0:0 4 [heap] (deleted)\n",
+        (1, 2, 3, "", "[heap] (deleted)"),
+    ),
+];
+
+#[test]
+fn a_line_tells_its_mapping(rt: HostRuntime) {
+    for (line, told) in LINES {
+        assert!(rt; tells(rt.alloc(), Pid::Slf, line, &[*told]));
+    }
+}
+
+/// Texts of which some line is no mapping.
+const REFUSED: &[&[u8]] = &[
+    // A field is empty or absent.
+    b"-2 r--p 3 0:0 4 /a\n",
+    b"1- r--p 3 0:0 4 /a\n",
+    b"1 r--p 3 0:0 4 /a\n",
+    b"- r--p 3 0:0 4 /a\n",
+    b"1-2  3 0:0 4 /a\n",
+    b"1-2 r--p  0:0 4 /a\n",
+    b"1-2 r--p 3  4 /a\n",
+    b"1-2 r--p 3 0:0  /a\n",
+    b"1-2\n",
+    b"1-2 r--p\n",
+    b"1-2 r--p 3\n",
+    b"1-2 r--p 3 0:0\n",
+    b"1-2 r--p 3 0:0 \n",
+    b" \n",
+    // A digit too many, or none.
+    b"10000000000000000-2 r--p 3 0:0 4 /a\n",
+    b"00000000000000001-2 r--p 3 0:0 4 /a\n",
+    b"1-00000000000000002 r--p 3 0:0 4 /a\n",
+    b"1-2 r--p 00000000000000003 0:0 4 /a\n",
+    b"1-2 r--p 3 0:0 000000000000000000004 /a\n",
+    b"1-2 r--p 3 0:0 f /a\n",
+    b"1-2 r--p 3 0:0 4a /a\n",
+    b"g-h r--p 3 0:0 4 /a\n",
+    b"1-2 r--p 3g 0:0 4 /a\n",
+    // Signs and prefixes.
+    b"+1-2 r--p 3 0:0 4 /a\n",
+    b"1-+2 r--p 3 0:0 4 /a\n",
+    b"1--2 r--p 3 0:0 4 /a\n",
+    b"0x1-0x2 r--p 3 0:0 4 /a\n",
+    b"1-2 r--p +3 0:0 4 /a\n",
+    b"1-2 r--p 3 0:0 -4 /a\n",
+    // Other permissions.
+    b"1-2 r-p 3 0:0 4 /a\n",
+    b"1-2 r--ps 3 0:0 4 /a\n",
+    b"1-2 r-p\xc3\xa9 3 0:0 4 /a\n",
+    // Other blanks, and spaces where none stand.
+    b"1-2\tr--p 3 0:0 4 /a\n",
+    b"1-2 r--p\t3 0:0 4 /a\n",
+    b"1-2 r--p 3\t0:0 4 /a\n",
+    b"1-2 r--p 3 0:0\t4 /a\n",
+    b"1-2 r--p 3 0:0 4\t/a\n",
+    b"1-2 r--p 3 0:0 4/a\n",
+    b" 1-2 r--p 3 0:0 4 /a\n",
+    b"1 -2 r--p 3 0:0 4 /a\n",
+    b"1- 2 r--p 3 0:0 4 /a\n",
+    // A carriage return where no text stands, and as a line.
+    b"1-2 r--p 3 0:0 4\r\n",
+    b"\r\n",
+    b"1-2 r--p 3 0:0 4 /a\n\r\n",
+    b"1-2 r--p 3 0:0 4 /a\r5-6 r--p 3 0:0 4\n7\n",
+    // The end is before the start.
+    b"2000-1000 r-xp 0 0:0 1\n",
+    b"ffffffffffffffff-fffffffffffffffe r-xp 0 0:0 1 /a\n",
+    // One bad line among good ones.
+    b"1-2 r--p 3 0:0 4 /a\nx\n5-6 r--p 3 0:0 4 /a\n",
+    // The bytes aren't UTF-8.
+    b"1-2 r--p 3 0:0 4 /\xff\n",
+    b"1-2 r--p 3 0:0 4 /a\xc3\n",
+    b"1-2 r--p 3 \xff:0 4 /a\n",
+    b"1-2 r-\xc3p 3 0:0 4 /a\n",
+    b"1-2 r--p 3 0:0 4 /a\n\xed\xa0\x80",
+];
+
+#[test]
+fn other_lines_are_refused(rt: HostRuntime) {
+    for text in REFUSED {
+        assert!(rt; is_refused(rt.alloc(), text));
+    }
+}
+
+/// The name of the only mapping that a text tells.
+fn only_name(alloc: Global, text: &[u8]) -> Result<Option<PathName>, Error> {
+    let mut entries = parse_maps(alloc, Pid::Slf, text)?;
+    match entries.pop() {
+        Some(
+            MapsEntry {
+                range: _,
+                offset: _,
+                path_name,
+            },
+        ) => Ok(path_name),
+        None => Ok(None),
+    }
+}
+
+/// Whether the copy of a name is equal to it.
+fn is_copied(alloc: Global, text: &[u8]) -> Result<bool, Error> {
+    match only_name(alloc, text)? {
+        Some(name) => {
+            let copy = name.try_clone(alloc)?;
+            Ok(copy == name)
+        }
+        None => Ok(false),
+    }
+}
+
+#[test]
+fn names_are_copied(rt: HostRuntime) {
+    assert!(rt; is_copied(rt.alloc(), b"1-2 r--p 3 0:0 4 /a (deleted)\n") == Ok(true));
+    assert!(rt; is_copied(rt.alloc(), b"1-2 r--p 3 0:0 4 [heap]\n") == Ok(true));
+}

@@ -1,0 +1,240 @@
+//! Perf maps: what they answer, which bytes are taken, and where they lie.
+
+use bz_base::{Error, FindSymOpts, Pid, Reason, ResolvedSym, Symbolize};
+use bz_cache::FileCache;
+use bz_files::MemFiles;
+use bz_proc::{PerfMap, perf_laws};
+use std::alloc::Global;
+
+/// A function's name, start and size; or none, where the address isn't known.
+type Told = (&'static str, u64, usize);
+
+/// No function is there: a size of its own, since a name may be empty.
+const UNKNOWN: Told = ("", 0, usize::MAX);
+
+/// Three functions of a program in Python. The third name runs on into the line that comes after.
+const PYTHON: &[u8] = b"7fbf1fc21441 b py::MutableSequence:<frozen _collections_abc>\n\
+7fbf1fc2144c b py::<module>:<frozen posixpath>\n\
+7fbf1fc215ee b py::_getuserbase.<locals>.joinuser:<frozen sitej7fbf1fc215f9 b py::expanduser:<frozen posixpath>\n";
+
+const SEQUENCE: Told = (
+    "py::MutableSequence:<frozen _collections_abc>",
+    0x7fbf1fc21441,
+    11,
+);
+
+const MODULE: Told = ("py::<module>:<frozen posixpath>", 0x7fbf1fc2144c, 11);
+
+const RUN_ON: Told = (
+    "py::_getuserbase.<locals>.joinuser:<frozen sitej7fbf1fc215f9 b py::expanduser:<frozen posixpath>",
+    0x7fbf1fc215ee,
+    11,
+);
+
+/// Functions that start alike, in no order, and one around others.
+const ALIKE: &[u8] =
+    b"20 8 b\n10 30 around\n20 8 c\n20 4 a\n20 4 d\n20 9 e\n20 9 f\n30 0 g\n30 0 h\n";
+
+/// Perf maps, an address, and what is told there.
+const ANSWERS: &[(&[u8], u64, Told)] = &[
+    (PYTHON, 0x7fbf1fc21440, UNKNOWN),
+    (PYTHON, 0x7fbf1fc21441, SEQUENCE),
+    (PYTHON, 0x7fbf1fc2144b, SEQUENCE),
+    (PYTHON, 0x7fbf1fc2144c, MODULE),
+    (PYTHON, 0x7fbf1fc21456, MODULE),
+    (PYTHON, 0x7fbf1fc21457, UNKNOWN),
+    (PYTHON, 0x7fbf1fc215f0, RUN_ON),
+    (PYTHON, 0x7fbf1fc215f9, UNKNOWN),
+    // At the start itself the smallest answers, inside the largest; a function around them is never tried.
+    (ALIKE, 0x10, ("around", 0x10, 0x30)),
+    (ALIKE, 0x1f, ("around", 0x10, 0x30)),
+    (ALIKE, 0x20, ("a", 0x20, 4)),
+    (ALIKE, 0x21, ("f", 0x20, 9)),
+    (ALIKE, 0x28, ("f", 0x20, 9)),
+    (ALIKE, 0x29, UNKNOWN),
+    (ALIKE, 0x30, ("g", 0x30, 0)),
+    (ALIKE, 0x31, UNKNOWN),
+    // An end past 64 bits covers nothing; size 0 covers the start.
+    (b"ffffffffffffffff 1 x\n", u64::MAX, UNKNOWN),
+    (
+        b"fffffffffffffffe 1 x\n",
+        u64::MAX - 1,
+        ("x", u64::MAX - 1, 1),
+    ),
+    (b"ffffffffffffffff 0 x\n", u64::MAX, ("x", u64::MAX, 0)),
+    (b"10 0 x\n", 0x10, ("x", 0x10, 0)),
+    (b"10 0 x\n", 0x11, UNKNOWN),
+    (b"+10 +8 y\n", 0x17, ("y", 0x10, 8)),
+    // Any number of leading zeros, and digits in either case.
+    (
+        b"0000000000000000000abCD 00000000000000000Ff z",
+        0xabcd,
+        ("z", 0xabcd, 255),
+    ),
+    // A name may be empty, and begin with a blank and end with one.
+    (b"10 8 \n", 0x10, ("", 0x10, 8)),
+    (b"10 8   n  \n", 0x10, ("  n  ", 0x10, 8)),
+    (b"10\t8\x0c\x0bn\n", 0x10, ("\x0bn", 0x10, 8)),
+    (b"10 8 a\tb\x0cc d\n", 0x10, ("a\tb\x0cc d", 0x10, 8)),
+    (b"10 8 \xc3\xa4\n", 0x10, ("\u{e4}", 0x10, 8)),
+    (b"10 8 \0\n", 0x10, ("\0", 0x10, 8)),
+    // Lines end at a line feed, at a carriage return, or with the bytes. Empty ones are skipped.
+    (b"10 8 x\r20 8 y", 0x10, ("x", 0x10, 8)),
+    (b"10 8 x\r20 8 y", 0x20, ("y", 0x20, 8)),
+    (b"10 8 x\r\n20 8 y\r\n", 0x10, ("x", 0x10, 8)),
+    (b"\n\n\r10 8 x\n\n\r\r\n20 8 y\r", 0x20, ("y", 0x20, 8)),
+    (b"", 0, UNKNOWN),
+    (b"\n\r\n", 0, UNKNOWN),
+];
+
+/// Bytes that aren't a perf map.
+const REFUSED: &[&[u8]] = &[
+    b"123",
+    b"xxxx b py::foobar",
+    b"1234 yyy py::foobar",
+    // A field that is empty or isn't there.
+    b"10",
+    b"10 ",
+    b"10 8",
+    b" 10 8 x",
+    b"10  8 x",
+    b" ",
+    b"\t\n",
+    // Signs.
+    b"-10 8 x",
+    b"10 -8 x",
+    b"+ 8 x",
+    b"10 + x",
+    b"++10 8 x",
+    b"+-10 8 x",
+    b"-0 8 x",
+    // No digits of base 16, and bytes that part nothing here.
+    b"0x10 8 x",
+    b"10g 8 x",
+    b"10\x0b8 x",
+    b"10\0 8 x",
+    b"10,8 x",
+    b"10\xc2\xa08 x",
+    b"\xff 8 x",
+    b"10 8\xff x",
+    // Past 64 bits.
+    b"10000000000000000 8 x",
+    b"00010000000000000000 8 x",
+    b"10 fffffffffffffffff x",
+    // No UTF-8.
+    b"10 8 \xff",
+    b"10 8 \xc3",
+    b"10 8 \xc3\n\xa4",
+    b"10 8 \xed\xa0\x80",
+    // One line of many.
+    b"10 8 x\n20 8 y\n30\n",
+    b"10 8 x\r8 y\n",
+    b"10 8 x\n20 \r8 y\n",
+];
+
+/// Whether a symbol is this function.
+fn is_function(symbol: &ResolvedSym<'_>, told: &Told) -> bool {
+    let (name, start, size) = told;
+    symbol.name == *name
+        && symbol.addr == *start
+        && symbol.size == Some(*size)
+        && symbol.module.is_none()
+        && symbol.code_info.is_none()
+        && symbol.inlined.is_empty()
+}
+
+/// Whether this is told.
+fn is_told(found: &Result<ResolvedSym<'_>, Reason>, told: &Told) -> bool {
+    match found {
+        Ok(symbol) => is_function(symbol, told),
+        Err(reason) => *reason == Reason::UnknownAddr && told.2 == UNKNOWN.2,
+    }
+}
+
+/// Whether a perf map tells this of an address.
+fn tells(alloc: Global, map: &PerfMap, addr: u64, told: &Told) -> bool {
+    match map.find_sym(alloc, addr, &FindSymOpts::CodeInfoAndInlined) {
+        Ok(found) => is_told(&found, told),
+        Err(_) => false,
+    }
+}
+
+/// Whether the bytes are a perf map that tells this of an address.
+fn answers(alloc: Global, bytes: &[u8], addr: u64, told: &Told) -> Result<bool, Error> {
+    let map = PerfMap::parse(alloc, Vec::from_slice(alloc, bytes)?)?;
+    Ok(tells(alloc, &map, addr, told))
+}
+
+#[test]
+fn answers_by_the_nearest_function(rt: HostRuntime) {
+    perf_laws::perf_maps_are_cut();
+    perf_laws::perf_maps_are_exact();
+    perf_laws::perf_answers_start_before();
+    for (bytes, addr, told) in ANSWERS {
+        let answered = answers(rt.alloc(), bytes, *addr, told);
+        assert!(rt; answered == Ok(true), "{} at {addr}", told.0);
+    }
+}
+
+/// Whether the bytes are refused as no perf map.
+fn is_refused(alloc: Global, bytes: &[u8]) -> Result<bool, Error> {
+    match PerfMap::parse(alloc, Vec::from_slice(alloc, bytes)?) {
+        Ok(_) => Ok(false),
+        Err(error) => Ok(error == Error::InvalidData),
+    }
+}
+
+#[test]
+fn refuses_lines_of_another_form(rt: HostRuntime) {
+    for bytes in REFUSED {
+        assert!(rt;
+            is_refused(rt.alloc(), bytes) == Ok(true),
+            "{} bytes",
+            bytes.len()
+        );
+    }
+}
+
+/// Whether the perf map of a process lies here, where the own process is 7.
+fn lies_at(alloc: Global, process: u32, ns_tgid: u32, want: &str) -> Result<bool, Error> {
+    let path = PerfMap::path(alloc, Pid::from(process), 7, ns_tgid)?;
+    Ok(path.as_str() == want)
+}
+
+/// Processes, of which 0 is the own one, their own ids, and where their perf maps lie.
+const PATHS: &[(u32, u32, &str)] = &[
+    (1337, 1, "/proc/1337/root/tmp/perf-1.map"),
+    (0, 7, "/proc/7/root/tmp/perf-7.map"),
+    (0, 1, "/proc/7/root/tmp/perf-1.map"),
+    (
+        4294967295,
+        4294967295,
+        "/proc/4294967295/root/tmp/perf-4294967295.map",
+    ),
+    (1, 0, "/proc/1/root/tmp/perf-0.map"),
+];
+
+#[test]
+fn lies_in_the_folder_that_the_process_sees(rt: HostRuntime) {
+    for (process, ns_tgid, want) in PATHS {
+        assert!(rt;
+            lies_at(rt.alloc(), *process, *ns_tgid, want) == Ok(true),
+            "{want}"
+        );
+    }
+}
+
+/// Whether a perf map in a cache answers.
+fn cached_answers(alloc: Global, files: &mut MemFiles) -> Result<bool, Error> {
+    files.put(alloc, "/map", Vec::from_slice(alloc, PYTHON)?)?;
+    let mut cache = FileCache::<PerfMap>::builder().build(alloc);
+    let map = cache.entry(alloc, files, "/map")?;
+    Ok(tells(alloc, map, 0x7fbf1fc2144c, &MODULE))
+}
+
+#[test]
+fn answers_from_a_cache(rt: HostRuntime) {
+    let mut files = MemFiles::new(rt.alloc(), 0);
+    let answered = cached_answers(rt.alloc(), &mut files);
+    assert!(rt; answered == Ok(true));
+}
