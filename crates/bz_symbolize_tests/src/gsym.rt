@@ -10,8 +10,8 @@ use bz_symbolize::source::{GsymData, GsymFile, Source};
 use std::alloc::Global;
 use std::borrow::CowStr;
 
-/// An address before the first function, and one in it.
-const ADDRESSES: &[u64] = &[0xfff, 0x1004];
+/// An address past the end of `main`, and one in it: not in the order in which they are found.
+const ADDRESSES: &[u64] = &[0x1020, 0x1004];
 
 const MAIN: Expected = (Reason::UnknownAddr, "main");
 
