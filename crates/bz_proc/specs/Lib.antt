@@ -10,3 +10,4 @@ pub mod PerfMap
 pub mod PerfPath
 pub mod Reach
 pub mod Status
+pub mod SystemText

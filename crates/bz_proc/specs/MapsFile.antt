@@ -1,5 +1,5 @@
 -- The mappings of a process, by what lies at the path of their text.
-use Rattle.std.specs.Prelude.{Bool, true, false, ℕ, List, ◌++◌, codes, Option, Some, None, Result, Ok, Err}
+use Rattle.std.specs.Prelude.{ℕ, List, ◌++◌, codes, Option, Some, None, Result, Ok, Err}
 use Rattle.bz_base.specs.Pid.{pid_text}
 use Rattle.bz_base.specs.declared.error.Error.{Error}
 use Rattle.bz_base.specs.declared.error.Error.TheVariants as errors
@@ -21,18 +21,3 @@ abbrev pub maps_told : Pid → Option Entry → Result (List Mapping) Error
 maps_told pid None = Err errors.NotFound
 maps_told pid (Some Denied) = Err errors.PermissionDenied
 maps_told pid (Some (Present stamp bytes)) = told_maps (maps_in pid bytes)
-
--- whether there is a file that may be read
-abbrev pub has_file : Option Entry → Bool
-has_file None = false
-has_file (Some Denied) = false
-has_file (Some (Present stamp bytes)) = true
-
--- reading a text of the system is refused by one of these
-abbrev pub IsReadRefusal : Error → Type 0
-IsReadRefusal errors.NotFound = Unit {0}
-IsReadRefusal errors.PermissionDenied = Unit {0}
-IsReadRefusal errors.InvalidData = Unit {0}
-IsReadRefusal errors.ReadFault = Unit {0}
-IsReadRefusal errors.OutOfMemory = Unit {0}
-IsReadRefusal _ = ⊥

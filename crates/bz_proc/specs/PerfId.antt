@@ -1,5 +1,5 @@
 -- The id by which a process knows itself, as its status tells it.
-use Rattle.std.specs.Prelude.{ℕ, Bool, true, false, List, ◌++◌, Option, Some, None, Result, Ok, Err, codes}
+use Rattle.std.specs.Prelude.{ℕ, List, ◌++◌, Option, Some, None, Result, Ok, Err, codes}
 use Rattle.bz_base.specs.Pid.{pid_text, resolved}
 use Rattle.bz_base.specs.declared.error.Error.{Error}
 use Rattle.bz_base.specs.declared.error.Error.TheVariants as errors
@@ -22,18 +22,3 @@ abbrev pub ns_tgid_of : Pid → ℕ → Option Entry → Result ℕ Error
 ns_tgid_of pid own None = Err errors.NotFound
 ns_tgid_of pid own (Some Denied) = Err errors.PermissionDenied
 ns_tgid_of pid own (Some (Present stamp bytes)) = by_status pid own (ns_tgid_in bytes)
-
--- whether a file is there that may be read
-abbrev pub is_readable : Option Entry → Bool
-is_readable None = false
-is_readable (Some Denied) = false
-is_readable (Some (Present stamp bytes)) = true
-
--- reading a status is refused by one of these
-abbrev pub IsStatusRefusal : Error → Type 0
-IsStatusRefusal errors.NotFound = Unit {0}
-IsStatusRefusal errors.PermissionDenied = Unit {0}
-IsStatusRefusal errors.InvalidData = Unit {0}
-IsStatusRefusal errors.ReadFault = Unit {0}
-IsStatusRefusal errors.OutOfMemory = Unit {0}
-IsStatusRefusal _ = ⊥

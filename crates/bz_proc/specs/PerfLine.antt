@@ -6,15 +6,13 @@ use Rattle.std.specs.List.{list_all, prefix_len}
 use Rattle.std.specs.Str.{is_utf8}
 use Rattle.std.specs.Str.Parse.{IsNumeral, digits_value, without_leading_plus}
 use Rattle.bz_base.specs.Byte.{space, tab}
+use Rattle.bz_proc.specs.Status.{form_feed}
 
 -- a function: its name, its first address, and how many bytes it has
 pub record PerfFunction : Type 0 where
   pub name : List ℕ
   pub start : ℕ
   pub size : ℕ
-
-abbrev pub form_feed : ℕ
-form_feed = 12
 
 -- the byte parts a line's numbers and name
 abbrev pub separates : ℕ → Bool

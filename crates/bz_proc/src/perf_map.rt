@@ -9,11 +9,12 @@ ghost use Rattle.bz_cache.specs.Format.{Comes, IsRefusalBy};
 ghost use Rattle.bz_files.specs.Count.{counted};
 ghost use Rattle.bz_files.specs.Looked.{Faulted, Looked, ReadsOne};
 ghost use Rattle.bz_files.specs.World.{Told, entry_at, in_view};
-ghost use Rattle.bz_proc.specs.PerfId.{IsStatusRefusal, is_readable, ns_tgid_of, status_path};
+ghost use Rattle.bz_proc.specs.PerfId.{ns_tgid_of, status_path};
 ghost use Rattle.bz_proc.specs.PerfLine.{PerfFunction};
 ghost use Rattle.bz_proc.specs.PerfLines.{perf_functions_in};
 ghost use Rattle.bz_proc.specs.PerfMap.{IsPerfMap, answer_seen, format_refusals, format_test, plain};
 ghost use Rattle.bz_proc.specs.PerfPath.{perf_map_path};
+ghost use Rattle.bz_proc.specs.SystemText.{has_file, IsReadRefusal};
 
 mod entry;
 mod id;
@@ -80,10 +81,10 @@ impl PerfMap {
     pub fn ns_tgid<F: Files>(alloc: Global, files: &mut F, pid: Pid) -> Result<u32>
         ensures answer { Told (in_view (F.worlds files.old)) (λ world. Comes (λ id. id) (ns_tgid_of pid (F.pid files.old) (entry_at world (status_path pid))) result) }
         ensures opened { OnOk result (F.opens files.new ≡ counted (F.opens files.old)) }
-        ensures spared { Told (in_view (F.worlds files.old)) (λ world. is_readable (entry_at world (status_path pid)) ≡ false → F.opens files.new ≡ F.opens files.old) }
+        ensures spared { Told (in_view (F.worlds files.old)) (λ world. has_file (entry_at world (status_path pid)) ≡ false → F.opens files.new ≡ F.opens files.old) }
         ensures most { ReadsOne F.Files files.old files.new }
         ensures files { Looked F.Files files.old files.new (Faulted result) }
-        ensures refusal { IfErr result IsStatusRefusal }
+        ensures refusal { IfErr result IsReadRefusal }
     {
         let own = files.own_pid();
         ns_tgid_of(alloc, files, pid, own)

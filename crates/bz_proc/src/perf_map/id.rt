@@ -6,7 +6,8 @@ ghost use Rattle.bz_cache.specs.Format.{Comes};
 ghost use Rattle.bz_files.specs.Count.{counted};
 ghost use Rattle.bz_files.specs.Looked.{Faulted, Looked, ReadsOne};
 ghost use Rattle.bz_files.specs.World.{Told, entry_at, in_view};
-ghost use Rattle.bz_proc.specs.PerfId.{IsStatusRefusal, is_readable, ns_tgid_of, status_path};
+ghost use Rattle.bz_proc.specs.PerfId.{ns_tgid_of, status_path};
+ghost use Rattle.bz_proc.specs.SystemText.{has_file, IsReadRefusal};
 
 use crate::status::parse_ns_tgid;
 use bz_base::{Pid, Result};
@@ -17,10 +18,10 @@ use std::alloc::Global;
 pub(crate) fn ns_tgid_of<F: Files>(alloc: Global, files: &mut F, pid: Pid, own: u32) -> Result<u32>
     ensures answer { Told (in_view (F.worlds files.old)) (λ world. Comes (λ id. id) (ns_tgid_of pid own (entry_at world (status_path pid))) result) }
     ensures opened { OnOk result (F.opens files.new ≡ counted (F.opens files.old)) }
-    ensures spared { Told (in_view (F.worlds files.old)) (λ world. is_readable (entry_at world (status_path pid)) ≡ false → F.opens files.new ≡ F.opens files.old) }
+    ensures spared { Told (in_view (F.worlds files.old)) (λ world. has_file (entry_at world (status_path pid)) ≡ false → F.opens files.new ≡ F.opens files.old) }
     ensures most { ReadsOne F.Files files.old files.new }
     ensures files { Looked F.Files files.old files.new (Faulted result) }
-    ensures refusal { IfErr result IsStatusRefusal }
+    ensures refusal { IfErr result IsReadRefusal }
 {
     let path = status_path(alloc, pid)?;
     let status = files.read(alloc, path.as_str())?;
