@@ -1,6 +1,6 @@
 //! The symbolizer.
 
-ghost use Rattle.std.specs.Prelude.{◌≡◌, ◌⊎◌, ◌<◌, ℕ, List, length, map, IfOk, IfErr, IsOkUnless};
+ghost use Rattle.std.specs.Prelude.{◌≡◌, ◌⊎◌, ℕ, List, length, map, IfOk, IfErr, IsOkUnless};
 ghost use Rattle.bz_base.specs.Answer.{Gives, reading};
 ghost use Rattle.bz_base.specs.InputKind.{address_kind, payload};
 ghost use Rattle.bz_base.specs.Refusals.{MayRefuse};

@@ -1,6 +1,6 @@
 //! Answers of a batch that are made together.
 
-ghost use Rattle.std.specs.Prelude.{◌≡◌, ◌<◌, ◌+◌, length, map, All, IfOk, OnOk, IsOkUnless};
+ghost use Rattle.std.specs.Prelude.{◌≡◌, ◌<◌, length, map, All, IfOk, OnOk, IsOkUnless};
 ghost use Rattle.bz_base.specs.Answer.{reading};
 ghost use Rattle.bz_base.specs.declared.error.Error.{Error};
 ghost use Rattle.bz_symbolize.specs.Batch.{answers_to};
