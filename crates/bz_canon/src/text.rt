@@ -20,9 +20,8 @@ use std::alloc::Global;
 use std::marker::Brand;
 use std::sync::ledger::{Blank, Ledger};
 
-/// The canonical text of a file: a Breakpad file that answers alike at every address. Files of equal
-/// records have the same one, in whatever order the records stand, but for the order of those that
-/// are alike. OutOfMemory: memory ran out.
+/// The canonical text of a file: a Breakpad file that answers alike at every address. Files have the
+/// same one exactly where the canonical forms of their tables are equal. OutOfMemory: memory ran out.
 pub fn canonical(alloc: Global, file: &SymbolFile) -> Result<Vec<u8>>
     ensures text { IfOk result (λ text. option_map canonical_text (table_in file.now) ≡ Some text.items) }
     ensures memory { IsOkUnless result Error.OutOfMemory }

@@ -67,7 +67,7 @@ const ORDERS: [(&[u8], &[u8]); 8] = [
 /// The same of texts and numbers that may be written in several ways: blank lines and white space,
 /// zeros in front, upper case and marks; ids in any order, of which the last name counts; the greatest
 /// numbers.
-const SPELLINGS: [(&[u8], &[u8]); 5] = [
+const SPELLINGS: [(&[u8], &[u8]); 6] = [
     (
         b"PUBLIC m 00AB 0F x y\n\n \tPUBLIC\t0  0 \r\n",
         b"PUBLIC 0 0 \nPUBLIC ab f x y\n",
@@ -85,6 +85,10 @@ const SPELLINGS: [(&[u8], &[u8]); 5] = [
         b"FUNC ffffffffffffffff ffffffff ffffffff z\nffffffffffffffff ffffffff 4294967295 4294967295\n",
     ),
     (b"INFO a\n\n \nINFO b\nSTACK WIN 4 x\n", b"INFO -\n"),
+    (
+        b"FUNC 2 1 0 \nFUNC 1 1 0 \xc3\xa4\n",
+        b"FUNC 1 1 0 \xc3\xa4\nFUNC 2 1 0 \n",
+    ),
 ];
 
 /// The file of a text.

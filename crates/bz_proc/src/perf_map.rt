@@ -78,6 +78,7 @@ impl PerfMap {
 
     /// The id by which a process knows itself: the one that its status tells, or else the process's
     /// own. NotFound, PermissionDenied: there is no status that may be read. InvalidData: it isn't one.
+    /// ReadFault: reading it failed.
     pub fn ns_tgid<F: Files>(alloc: Global, files: &mut F, pid: Pid) -> Result<u32>
         ensures answer { Told (in_view (F.worlds files.old)) (λ world. Comes (λ id. id) (ns_tgid_of pid (F.pid files.old) (entry_at world (status_path pid))) result) }
         ensures opened { OnOk result (F.opens files.new ≡ counted (F.opens files.old)) }

@@ -10,9 +10,9 @@ use bz_base::{Error, Result, first_line};
 /// What the line of the ids begins with.
 const LABEL: &[u8] = b"NStgid:";
 
-/// The id by which the process names itself, as the text of its status tells it: the last one on the
-/// line `NStgid`. There is none where no line begins with that. InvalidData: the text isn't UTF-8, or
-/// the line doesn't end in a number of 32 bits.
+/// The id by which the process names itself, as the text of its status tells it: the last word behind
+/// `NStgid:` in the first line that begins so. There is none where no line does. InvalidData: the text
+/// isn't UTF-8, or that word isn't a number of 32 bits.
 pub fn parse_ns_tgid(status: &[u8]) -> Result<Option<u32>>
     ensures ok { IfOk result (λ id. ns_tgid_in status.now ≡ Some id) }
     ensures refusal { IfErr result (λ e. (ns_tgid_in status.now ≡ None) × (e ≡ Error.InvalidData)) }

@@ -62,6 +62,9 @@ const ANSWERS: &[(&[u8], u64, Told)] = &[
         ("x", u64::MAX - 1, 1),
     ),
     (b"ffffffffffffffff 0 x\n", u64::MAX, ("x", u64::MAX, 0)),
+    // The greatest end that 64 bits have is an end.
+    (b"0 ffffffffffffffff x\n", 0, ("x", 0, usize::MAX)),
+    (b"0 ffffffffffffffff x\n", u64::MAX, UNKNOWN),
     (b"10 0 x\n", 0x10, ("x", 0x10, 0)),
     (b"10 0 x\n", 0x11, UNKNOWN),
     (b"+10 +8 y\n", 0x17, ("y", 0x10, 8)),

@@ -12,11 +12,14 @@ fn put(alloc: Global, files: &mut MemFiles, path: &str, text: &[u8]) -> Result<(
     Ok(())
 }
 
-/// Puts the mappings of process 7 and a text that is none of the own process, and denies those of 8.
+/// Puts the mappings of process 7 and a text that is none of the own process, denies those of 8, and
+/// lets a call fail.
 fn fill(alloc: Global, files: &mut MemFiles) -> Result<(), Error> {
     put(alloc, files, "/proc/7/maps", THREE)?;
     put(alloc, files, "/proc/self/maps", b"x\n")?;
-    files.deny(alloc, "/proc/8/maps")
+    files.deny(alloc, "/proc/8/maps")?;
+    // Of the calls that follow one fails: the fifth.
+    files.fail_call(alloc, 5)
 }
 
 /// Whether reading the mappings of the process is refused so.
@@ -42,6 +45,7 @@ fn answers(alloc: Global, files: &mut MemFiles) -> bool {
         && is_refused(alloc, files, Pid::Slf, Error::InvalidData)
         && is_refused(alloc, files, Pid::from(8), Error::PermissionDenied)
         && is_refused(alloc, files, Pid::from(9), Error::NotFound)
+        && is_refused(alloc, files, Pid::from(7), Error::ReadFault)
         && files.opens() == 2
 }
 

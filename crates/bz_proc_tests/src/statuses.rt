@@ -37,6 +37,7 @@ const REFUSED: &[&[u8]] = &[
     b"NStgid:\n",
     b"NStgid:",
     b"NStgid: \t\r\n",
+    b"NStgid:\nNStgid:\t1\n",
     b"NStgid:\t1\t-\n",
     b"NStgid:\t-1\n",
     b"NStgid:\t+\n",
