@@ -12,8 +12,7 @@ use Rattle.bz_cache.specs.View.{View, Absent, Hidden, Shown}
 use Rattle.bz_symbolize.proofs.Formats.{any_file, on_each}
 use Rattle.bz_symbolize.proofs.PromiseLemmas.{IsFormatOf}
 use Rattle.bz_symbolize.specs.Alike.{batch_in_view, single_in_view, StandsAlone, AreAlike, IsFolded, EntriesStandAlone, OrderMovesAnswers, BatchesFoldRefusals, HandedStandAlone, OrderMovesHanded, HandedFold}
-use Rattle.bz_symbolize.specs.FileCall.{batch_of, single_of}
-use Rattle.bz_symbolize.specs.Lookup.{by_view, shown_answer}
+use Rattle.bz_symbolize.specs.FileCall.{batch_of, by_view, shown_answer, single_of}
 use Rattle.bz_symbolize.specs.Promise.{IsAnswerOf}
 use Rattle.bz_symbolize.specs.Sources.{FileSource, HandedSource, SourceForm, OneFile, Handed, OnFile, OnHanded, OnHandedForm, asked_of, form_of}
 use Rattle.bz_symbolize.specs.declared.source.Source.{Source}

@@ -1,8 +1,8 @@
+pub use Rattle.bz_calls.proofs.FileLemmas
 pub mod AlikeLemmas
 pub mod BatchLemmas
 pub mod CallLemmas
 pub mod ElfLemmas
-pub mod FileLemmas
 pub mod Formats
 pub mod FoundLemmas
 pub mod GsymLemmas

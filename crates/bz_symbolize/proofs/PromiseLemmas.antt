@@ -11,8 +11,7 @@ use Rattle.bz_cache.specs.Format.{Comes}
 use Rattle.bz_cache.specs.Look.{look}
 use Rattle.bz_cache.proofs.CoherenceLaws.{shown_by_view}
 use Rattle.bz_symbolize.proofs.FileLemmas.{look_by_view}
-use Rattle.bz_symbolize.specs.FileCall.{Query, by_test, by_look, query_given, file_answer, ByVersion, FileSome, MayBeRefused}
-use Rattle.bz_symbolize.specs.Lookup.{view_answer}
+use Rattle.bz_symbolize.specs.FileCall.{Query, by_test, by_look, query_given, file_answer, ByVersion, FileSome, MayBeRefused, view_answer}
 use Rattle.bz_symbolize.specs.Sources.{FileSource, asked_of}
 use Rattle.bz_symbolize.specs.Promise.{IsAnswerOf, IsVersionOf, AnswersView, AnswersLook, AnswersKept, IsValid, IsServedOrFails, IsServedKept, IsOwnRefusal}
 use Rattle.bz_symbolize.specs.State.{State}

@@ -6,8 +6,7 @@ use Rattle.bz_base.specs.InputKind.{AddressKind}
 use Rattle.bz_base.specs.declared.error.Error.{Error}
 use Rattle.bz_base.specs.declared.types.FindSymOpts.{FindSymOpts}
 use Rattle.bz_cache.specs.View.{View, Shown}
-use Rattle.bz_symbolize.specs.FileCall.{batch_of, single_of}
-use Rattle.bz_symbolize.specs.Lookup.{shown_answer}
+use Rattle.bz_symbolize.specs.FileCall.{batch_of, shown_answer, single_of}
 use Rattle.bz_symbolize.specs.Promise.{IsAnswerOf}
 use Rattle.bz_symbolize.specs.Sources.{FileSource, HandedSource, asked_of, handed_answer}
 use Rattle.bz_symbolize.specs.declared.source.Source.{Source}

@@ -1,7 +1,7 @@
+pub use Rattle.bz_calls.specs.FileCall
 pub mod Alike
 pub mod Batch
 pub mod Counted
-pub mod FileCall
 pub mod Found
 pub mod History
 pub mod Lookup

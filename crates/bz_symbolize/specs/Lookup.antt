@@ -7,14 +7,12 @@ use Rattle.bz_base.specs.declared.error.Error.TheVariants as errors
 use Rattle.bz_base.specs.declared.types.FindSymOpts.{FindSymOpts}
 use Rattle.bz_files.specs.World.{World, Entry, entry_at}
 use Rattle.bz_files.specs.World.Entry.{Denied, Present}
-use Rattle.bz_cache.specs.Cache.{Cache}
-use Rattle.bz_cache.specs.View.{View, Absent, Hidden, Shown, view}
 use Rattle.bz_breakpad.specs.Table.{Table}
 use Rattle.bz_breakpad.specs.Reader.{table_in}
 use Rattle.bz_breakpad.specs.Plain.{batch}
 use Rattle.bz_elf.specs.Format as elf
 use Rattle.bz_gsym.specs.Tables.{is_gsym}
-use Rattle.bz_symbolize.specs.FileCall.{Query, Question, by_version, file_answer, file_cache, file_opens}
+use Rattle.bz_symbolize.specs.FileCall.{Query, file_answer, file_cache, file_opens}
 use Rattle.bz_symbolize.specs.Sources.{SourceForm, OneFile, Handed, asked_of, elf_batch, gsym_batch, handed_answer, is_in_elf}
 use Rattle.bz_symbolize.specs.State.{State}
 
@@ -33,20 +31,6 @@ state_of state (Handed given) kind world = state
 abbrev pub opens_of : State → SourceForm → AddressKind → World → Bool
 opens_of state (OneFile file) kind world = file_opens (file.answering.takes kind) (file.cache state) file.path (entry_at world file.path)
 opens_of state (Handed given) kind world = false
-
--- what the version in view answers, or the refusal of a file that is absent, may not be read or isn't in the format
-abbrev pub by_view : {B : Type 0} → Question B → View → Result B Error
-by_view asked Absent = Err errors.NotFound
-by_view asked Hidden = Err errors.PermissionDenied
-by_view asked (Shown bytes) = by_version asked bytes
-
--- what a call on one file answers, by what is in view
-abbrev pub shown_answer : {B : Type 0} → Question B → View → Result B Error
-shown_answer asked shown = cond asked.taken (by_view asked shown) (Err errors.Unsupported)
-
--- what a call on one file answers by the version in view
-abbrev pub view_answer : {B : Type 0} → Question B → Cache → World → List ℕ → Result B Error
-view_answer asked cache world path = shown_answer asked (view cache world path)
 
 -- the batch of the table, or the refusal of bytes that have none
 abbrev pub by_table : FindSymOpts → List ℕ → Option Table → Result (List Answer) Error

@@ -1,6 +1,6 @@
 -- Sources as data: what each format answers, and which cache of a symbolizer keeps the source's file.
 use Rattle.std.specs.Prelude.{ℕ, Bool, true, false, cond, List, [], map, Option, Some, None, Result, Ok, Err, string_bytes}
-use Rattle.bz_base.specs.Answer.{Answer, Unknown, Resolved, in_batch}
+use Rattle.bz_base.specs.Answer.{Answer, Unknown, in_batch}
 use Rattle.bz_base.specs.InputKind.{AddressKind, InProcess, InTable, InFile}
 use Rattle.bz_base.specs.declared.error.Error.{Error}
 use Rattle.bz_base.specs.declared.error.Error.TheVariants as errors
@@ -11,14 +11,13 @@ use Rattle.bz_breakpad.specs.Plain.{plain}
 use Rattle.bz_breakpad.specs.Table.{Table}
 use Rattle.bz_breakpad.specs.Version.{format_test}
 use Rattle.bz_base.specs.Resolution as resolution
-use Rattle.bz_base.specs.declared.types.Reason.{Reason}
 use Rattle.bz_base.specs.declared.types.Reason.TheVariants as reasons
 use Rattle.bz_elf.specs.Format as elf_format
 use Rattle.bz_elf.specs.Plain as elf
 use Rattle.bz_elf.specs.Segments.{segments, translated}
 use Rattle.bz_gsym.specs.Plain as gsym
 use Rattle.bz_gsym.specs.Version as gsym_version
-use Rattle.bz_symbolize.specs.FileCall.{Answering, Query, Question, by_version, query_asked}
+use Rattle.bz_symbolize.specs.FileCall.{Answering, Query, Question, as_answer, by_version, query_asked}
 use Rattle.bz_symbolize.specs.State.{State}
 use Rattle.bz_symbolize.specs.declared.source.Source.{Source}
 use Rattle.bz_symbolize.specs.declared.source.Source.TheVariants as sources
@@ -43,11 +42,6 @@ abbrev pub is_in_table : AddressKind → Bool
 is_in_table InTable = true
 is_in_table InProcess = false
 is_in_table InFile = false
-
--- what was found as the answer for the address, or its refusal
-abbrev pub as_answer : ℕ → Result (Result Resolved Reason) Error → Result Answer Error
-as_answer addr (Ok found) = Ok (resolution.answer_at addr found)
-as_answer addr (Err e) = Err e
 
 -- the answer of a GSYM file at an address, or its refusal
 abbrev pub gsym_single : FindSymOpts → List ℕ → ℕ → Result Answer Error

@@ -7,7 +7,8 @@ ghost use Rattle.bz_symbolize.specs.Batch.{answers_to};
 ghost use Rattle.bz_symbolize.specs.Together.{AnswersMore, AreNext, Grows};
 
 use crate::lookups::Lookups;
-use bz_base::{Addr, Reason, Result, Sym, Symbolized};
+use bz_base::{Addr, Reason, Result, Symbolized};
+use bz_calls::owned_answer;
 use std::alloc::Global;
 
 /// So many answers are made together.
@@ -136,18 +137,4 @@ fn indices_of(alloc: Global, entries: &[(Addr, usize)]) -> Result<Vec<usize>>
         indices.push(entry.1)?;
     }
     Ok(indices)
-}
-
-/// The same answer, with texts of its own.
-pub(crate) fn owned_answer(alloc: Global, answer: Symbolized<'_>) -> Result<Symbolized<'static>>
-    ensures same { IfOk result (λ own. reading own ≡ reading answer.entry) }
-    ensures memory { IsOkUnless result Error.OutOfMemory }
-{
-    match answer {
-        Symbolized::Sym(symbol) => {
-            let symbol: Sym<'static> = symbol.into_owned(alloc)?;
-            Ok(Symbolized::Sym(symbol))
-        }
-        Symbolized::Unknown(reason) => Ok(Symbolized::Unknown(reason)),
-    }
 }

@@ -13,9 +13,8 @@ use Rattle.bz_cache.specs.Coherence.{Coherent}
 use Rattle.bz_cache.specs.Format.{Comes, FailsAs, MayFail}
 use Rattle.bz_cache.specs.Look.{look, will_open, by_test, by_entry, by_fixed, Lends, Shares, Unanswered}
 use Rattle.bz_cache.specs.View.{fixed, by_fixed_view, shown, view}
-use Rattle.bz_symbolize.specs.FileCall.{Question, by_version, by_look, Leaves, CallsFile, FileTold, ByVersion, MayBeRefused}
+use Rattle.bz_calls.specs.FileCall.{Question, by_version, by_look, by_view, Leaves, CallsFile, FileTold, ByVersion, MayBeRefused}
 use Rattle.bz_base.specs.Answer.{Gives}
-use Rattle.bz_symbolize.specs.Lookup.{by_view}
 
 -- the answer of a call that a look refuses
 comes_refused : {A B : Type 0} (reading : A → B) (asked : Question B) (looked : Result (List ℕ) Error) (e : Error) →

@@ -1,19 +1,21 @@
 -- What a call on one file in one cache does, whatever the format of the file and the question.
 use Rattle.std.specs.Prelude.{◌≡◌, ◌⊎◌, ℕ, Bool, true, false, ◌&&◌, cond, List, map, Option, Some, None, IsSome, Result, Ok, Err, IsErr, IsErrOf, IfErr, OnOk}
 use denote.Ref.{Bor}
-use Rattle.bz_base.specs.Answer.{Answer, Gives, in_batch}
+use Rattle.bz_base.specs.Answer.{Answer, Gives, Resolved, in_batch}
 use Rattle.bz_base.specs.InputKind.{AddressKind, address_kind, payload}
 use Rattle.bz_base.specs.declared.error.Error.{Error}
 use Rattle.bz_base.specs.declared.error.Error.TheVariants as errors
 use Rattle.bz_base.specs.declared.input.Input.{Input}
+use Rattle.bz_base.specs.Resolution as resolution
 use Rattle.bz_base.specs.declared.types.FindSymOpts.{FindSymOpts}
+use Rattle.bz_base.specs.declared.types.Reason.{Reason}
 use Rattle.bz_files.specs.Looked.{Faulted, Looked, ReadsOne}
-use Rattle.bz_files.specs.World.{Entry, Told, in_view, entry_at}
+use Rattle.bz_files.specs.World.{World, Entry, Told, in_view, entry_at}
 use Rattle.bz_files.specs.declared.files.Files.{Ghosts}
 use Rattle.bz_cache.specs.Cache.{Cache, Consistent}
 use Rattle.bz_cache.specs.Format.{Comes, MayFail}
 use Rattle.bz_cache.specs.Look.{look, will_open, opens_after, IsKeptAt, IsSomeLook}
-use Rattle.bz_cache.specs.View.{fixed}
+use Rattle.bz_cache.specs.View.{View, Absent, Hidden, Shown, fixed, view}
 
 -- what a call asks of a file: which refusal bytes give, whether the kind of address is taken before the look, and what bytes
 -- in the format answer
@@ -39,6 +41,20 @@ by_look asked (Err e) = Err e
 -- the answer, by what lies at the path
 abbrev pub file_answer : {B : Type 0} → Question B → Cache → List ℕ → Option Entry → Result B Error
 file_answer asked cache path there = cond asked.taken (by_look asked (look asked.test cache path there).0) (Err errors.Unsupported)
+
+-- what the version in view answers, or the refusal of a file that is absent, may not be read or isn't in the format
+abbrev pub by_view : {B : Type 0} → Question B → View → Result B Error
+by_view asked Absent = Err errors.NotFound
+by_view asked Hidden = Err errors.PermissionDenied
+by_view asked (Shown bytes) = by_version asked bytes
+
+-- what a call on one file answers, by what is in view
+abbrev pub shown_answer : {B : Type 0} → Question B → View → Result B Error
+shown_answer asked shown = cond asked.taken (by_view asked shown) (Err errors.Unsupported)
+
+-- what a call on one file answers by the version in view
+abbrev pub view_answer : {B : Type 0} → Question B → Cache → World → List ℕ → Result B Error
+view_answer asked cache world path = shown_answer asked (view cache world path)
 
 -- the cache that is left, by the test and by whether the kind of address is taken
 abbrev pub file_cache : (List ℕ → Option Error) → Bool → Cache → List ℕ → Option Entry → Cache
@@ -105,6 +121,11 @@ pub record CallsFile {A B X : Type 0} (files : Ghosts X) (reading : A → B) (as
   -- of the files: they are only looked at, and one at most is read
   pub looked : Looked files before after (Faulted result)
   pub most : ReadsOne files before after
+
+-- what was found as the answer for the address, or its refusal
+abbrev pub as_answer : ℕ → Result (Result Resolved Reason) Error → Result Answer Error
+as_answer addr (Ok found) = Ok (resolution.answer_at addr found)
+as_answer addr (Err e) = Err e
 
 -- how a format answers
 pub record Answering : Type 0 where
