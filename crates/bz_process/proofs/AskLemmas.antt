@@ -1,0 +1,403 @@
+-- Addresses of a process that are asked one after another, and what is said for them.
+use Rattle.std.proofs.Common.{◌≡◌, ◌⊎◌, ℕ, ◌+◌, ◌≤◌, ◌<◌, true, List, [], ◌∷◌, ◌++◌, map, append-nil, length, take, drop, get_or, suc, Option, Some, None, Result, Ok, Err, IfErr, IsErrOf, Vec, Global, inl, inr, refl, sym, ap, ap₂, subst, ◌∙◌, arith}
+use Rattle.std.specs.BTreeMap.{is_at}
+use Rattle.std.specs.List.{AllByRecursion, Contains}
+use Rattle.std.proofs.lemmas.List.{map-append, take-append-drop}
+use Rattle.std.proofs.lemmas.List.Elements.{Contains-append_left, Contains-append_right}
+use Rattle.std.proofs.Math.Seq.{drop-cons}
+use Rattle.bz_base.specs.Answer.{Answer, Gives, Unknown, in_batch, reading}
+use Rattle.bz_base.specs.Refusals.{IsFailure}
+use Rattle.bz_base.specs.declared.error.Error.{Error}
+use Rattle.bz_base.specs.declared.error.Error.TheVariants as errors
+use Rattle.bz_base.specs.declared.resolve.Symbolize.{Ghosts as Finds}
+use Rattle.bz_base.specs.declared.resolve.TranslateFileOffset.{Ghosts as Translates}
+use Rattle.bz_base.specs.declared.types.FindSymOpts.{FindSymOpts}
+use Rattle.bz_base.specs.declared.types.Reason.TheVariants as reasons
+use Rattle.bz_base.specs.declared.types.Symbolized.{Symbolized}
+use Rattle.bz_base.specs.declared.types.Symbolized.TheVariants as symbolized
+use Rattle.bz_files.specs.Looked.{Faulted, Looked}
+use Rattle.bz_files.specs.World.{World, in_view}
+use Rattle.bz_files.specs.declared.files.Files.{Ghosts}
+use Rattle.bz_cache.specs.Format.{Comes}
+use Rattle.bz_elf.specs.Format as elf
+use Rattle.bz_proc.specs.Maps.{Mapping, Name, name_of, owner_of}
+use Rattle.bz_proc.specs.NameOrder.{name_order}
+use Rattle.bz_proc.specs.PerfMap as perf
+use Rattle.bz_proc.specs.declared.maps.PathName.{PathName}
+use Rattle.bz_process.specs.Dispatch.{Adds, Answers, IsSaid, Keeps, SaysKept, Test, kept_for}
+use Rattle.bz_process.specs.Member.{as_member}
+use Rattle.bz_process.specs.Process.{Batched, Outcome, Said, at_address, at_addresses, batched, by_asked, by_mapping, by_owner, by_said, offset_in, unsaid}
+use Rattle.bz_process.specs.ProcessAsk.{AddsAmong, AddsIn, AsksAll, AsksFront, AsksOne, IsAdded, IsSaidAt, IsSaidBy, IsSaidIn}
+use Rattle.bz_process.specs.ProcessCall.{Reaches, TakesStep, UnlessFailed}
+use Rattle.bz_process.specs.Asked.{Asked}
+use Rattle.bz_process.specs.Caches.{ProcessCaches}
+use Rattle.bz_process.proofs.ProcessLemmas.{looked_both, reaches_both, reaches_same, stays, stays_both, still, unlooked, wants_memory}
+
+-- what holds holds unless a file failed
+pub unless : {A : Type 0} (result : Result A Error) (P : Type 0) → P → UnlessFailed result P
+unless (Ok x) P p = p
+unless (Err errors.ReadFault) P p = tt
+unless (Err errors.OutOfMemory) P p = tt
+unless (Err _) P p = p
+
+-- the same refusal of another call
+pub unless_same : (A C : Type 0) (e : Error) (P : Type 0) → UnlessFailed {A = A} (Err e) P → UnlessFailed {A = C} (Err e) P
+unless_same A C errors.ReadFault P p = tt
+unless_same A C errors.OutOfMemory P p = tt
+unless_same A C _ P p = p
+
+pub unless_map : {A : Type 0} (result : Result A Error) (P Q : Type 0) → (P → Q) → UnlessFailed result P → UnlessFailed result Q
+unless_map (Ok x) P Q f p = f p
+unless_map (Err errors.ReadFault) P Q f p = tt
+unless_map (Err errors.OutOfMemory) P Q f p = tt
+unless_map (Err _) P Q f p = f p
+
+-- an answer that a batch has as an entry is no failure
+unfailing : (result : Result Symbolized Error) (entry : Symbolized) (P : Type 0) → IfErr result (λ e. IsFailure e → IsErrOf {T = Symbolized} (Ok entry) e) → UnlessFailed result P → P
+unfailing (Ok x) entry P none p = p
+unfailing (Err errors.ReadFault) entry P none p = cc (none tt)
+unfailing (Err errors.OutOfMemory) entry P none p = cc (none tt)
+unfailing (Err _) entry P none p = p
+
+-- what comes of it is what it gives
+gives_comes : (result : Result Symbolized Error) (entry : Symbolized) (expected : Result Answer Error) → IfErr result (λ e. IsFailure e → IsErrOf {T = Symbolized} (Ok entry) e) → Comes reading expected result → Gives reading expected result
+gives_comes (Ok x) entry expected none is = is
+gives_comes (Err errors.ReadFault) entry expected none is = cc (none tt)
+gives_comes (Err errors.OutOfMemory) entry expected none is = tt
+gives_comes (Err _) entry expected none is = is
+
+unfaulted : (result : Result Symbolized Error) (entry : Symbolized) → IfErr result (λ e. IsFailure e → IsErrOf {T = Symbolized} (Ok entry) e) → Faulted result → ⊥
+unfaulted (Ok x) entry none fault = fault
+unfaulted (Err errors.ReadFault) entry none fault = cc (none tt)
+unfaulted (Err _) entry none fault = cc fault
+
+-- only a failure comes whatever is expected
+comes_failed : {A B : Type 0} (read : A → B) (expected : Result B Error) (e : Error) → IsFailure e → Comes read expected (Err e)
+comes_failed read expected errors.ReadFault is = tt
+comes_failed read expected errors.OutOfMemory is = tt
+comes_failed read expected _ is = absurd is
+
+left_failed : (A : Type 0) (e : Error) (P : Type 0) → IsFailure e → UnlessFailed {A = A} (Err e) P
+left_failed A errors.ReadFault P is = tt
+left_failed A errors.OutOfMemory P is = tt
+left_failed A _ P is = absurd is
+
+-- a refusal is what was said
+pub refused_so : {A B : Type 0} (read : A → B) (e : Error) → Comes read (Err e) (Err e)
+refused_so read errors.ReadFault = tt
+refused_so read errors.OutOfMemory = tt
+refused_so read _ = refl
+
+abbrev pub read : Vec Symbolized Global → List Answer
+read answers = map reading answers.items
+
+-- files that were looked at for an entry
+pub looked_ok : {X : Type 0} (files : Ghosts X) (result : Result Symbolized Error) (entry : Symbolized) (middle after : X) → IfErr result (λ e. IsFailure e → IsErrOf {T = Symbolized} (Ok entry) e) →
+    Looked files middle after (Faulted result) → Looked files middle after ⊥
+looked_ok files result entry middle after unfailed looked = record {
+  worlds = looked.worlds;
+  pid = looked.pid;
+  faults = record { grows = looked.faults.grows; fault = λ none. absurd none; steady = still_in looked.faults.steady };
+}
+  where
+    still_in : {P : Type 0} → Faulted result ⊎ P → ⊥ ⊎ P
+    still_in (inl fault) = inl (unfaulted result entry unfailed fault)
+    still_in (inr same) = inr same
+
+module _ {X : Type 0} (files : Ghosts X) (asked : Asked) where
+  -- something was said, and nothing was looked at
+  pub says : (mapping : Mapping) (addr : ℕ) (name : Name) (given : Result Answer Error) (result : Result Symbolized Error) (kept : ProcessCaches) (at : X) →
+      Comes reading given result → (Faulted result → ⊥) → TakesStep files asked.own reading (by_said asked mapping addr name (Some given)) result kept kept at at
+  says mapping addr name given result kept at is none = record {
+    told = λ world seen. record { answer = is; left = unless result _ refl; opened = omega arith };
+    reached = reaches_same asked.own _ kept;
+    elf = stays elf.format_test kept.elf;
+    perf_maps = stays perf.format_test kept.perf_maps;
+    looked = unlooked files asked.own at none;
+  }
+
+  pub says_refusal : (mapping : Mapping) (addr : ℕ) (name : Name) (e : Error) (kept : ProcessCaches) (at : X) →
+      (Faulted {A = Symbolized} (Err e) → ⊥) → TakesStep files asked.own reading (by_said asked mapping addr name (Some (Err e))) (Err e) kept kept at at
+  says_refusal mapping addr name e kept at none = says mapping addr name (Err e) (Err e) kept at (refused_so reading e) none
+
+  -- where nothing is in charge at least as many files may be read
+  opens_mapping : (mapping : Mapping) (addr : ℕ) (said : Said) (name : Option Name) (world : World) (kept : ProcessCaches) →
+      (by_mapping asked mapping addr said name world kept).opens ≤ (by_mapping asked mapping addr None name world kept).opens
+  opens_mapping mapping addr said None world kept = omega arith
+  opens_mapping mapping addr None (Some name) world kept = omega arith
+  opens_mapping mapping addr (Some given) (Some name) world kept = omega arith
+
+  opens_owner : (addr : ℕ) (said : Said) (owner : Option Mapping) (world : World) (kept : ProcessCaches) →
+      (by_owner asked addr said owner world kept).opens ≤ (by_owner asked addr None owner world kept).opens
+  opens_owner addr said None world kept = omega arith
+  opens_owner addr said (Some mapping) world kept = opens_mapping mapping addr said mapping.name world kept
+
+  module _ (mappings : List Mapping) where
+    opens_unsaid : (addr : ℕ) (said : Said) (world : World) (kept : ProcessCaches) →
+        (at_address asked mappings (addr, said) world kept).opens ≤ (at_address asked mappings (unsaid addr) world kept).opens
+    opens_unsaid addr said world kept = opens_owner addr said (owner_of mappings addr) world kept
+
+    abbrev B : List (ℕ × Said) → World → ProcessCaches → Batched
+    B = batched asked mappings
+
+    abbrev O : ℕ × Said → World → ProcessCaches → Outcome Answer
+    O = at_address asked mappings
+
+    opens_split : (front : List (ℕ × Said)) (item : ℕ × Said) (more : List (ℕ × Said)) (world : World) (kept : ProcessCaches) →
+        (B front world kept).opens + (O item world (B front world kept).left).opens ≤ (B (front ++ item ∷ more) world kept).opens
+    opens_split [] item more world kept = omega arith
+    opens_split (first ∷ front) item more world kept = omega (arith, opens_split front item more world (O first world kept).left)
+
+    left_last : (front : List (ℕ × Said)) (item : ℕ × Said) (world : World) (kept : ProcessCaches) →
+        (B (front ++ item ∷ []) world kept).left ≡ (O item world (B front world kept).left).left
+    left_last [] item world kept = refl
+    left_last (first ∷ front) item world kept = left_last front item world (O first world kept).left
+
+    answers_last : (front : List (ℕ × Said)) (item : ℕ × Said) (world : World) (kept : ProcessCaches) →
+        (B (front ++ item ∷ []) world kept).answers ≡ (B front world kept).answers ++ in_batch (O item world (B front world kept).left).answer ∷ []
+    answers_last [] item world kept = refl
+    answers_last (first ∷ front) item world kept = ap (λ (answers : List Answer). in_batch (O first world kept).answer ∷ answers) (answers_last front item world (O first world kept).left)
+
+    -- no address was asked
+    pub step_none : (answers : Vec Symbolized Global) (kept : ProcessCaches) (at : X) → answers.items ≡ [] → TakesStep files asked.own read (at_addresses asked mappings []) (Ok answers) kept kept at at
+    step_none answers kept at is = record {
+      told = λ world seen. record { answer = ap (λ (items : List Symbolized). Ok (map reading items)) (sym is); left = refl; opened = omega arith };
+      reached = reaches_same asked.own _ kept;
+      elf = stays elf.format_test kept.elf;
+      perf_maps = stays perf.format_test kept.perf_maps;
+      looked = unlooked files asked.own at (λ none. none);
+    }
+
+    -- one more address was asked, and its answer is an entry
+    pub step_more : (front : List (ℕ × Said)) (item : ℕ × Said) (answers more : Vec Symbolized Global) (result : Result Symbolized Error) (entry : Symbolized) (old mid now : ProcessCaches) (before middle after : X) →
+        TakesStep files asked.own read (at_addresses asked mappings front) (Ok answers) old mid before middle →
+        TakesStep files asked.own reading (at_address asked mappings item) result mid now middle after →
+        ((expected : Result Answer Error) → Gives reading expected result → reading entry ≡ in_batch expected) →
+        IfErr result (λ e. IsFailure e → IsErrOf {T = Symbolized} (Ok entry) e) → more.items ≡ answers.items ++ entry ∷ [] →
+        TakesStep files asked.own read (at_addresses asked mappings (front ++ item ∷ [])) (Ok more) old now before after
+    step_more front item answers more result entry old mid now before middle after one two is unfailed pushed =
+        let same : in_view (files.worlds middle) ≡ in_view (files.worlds before) = ap in_view one.looked.worlds in
+        record {
+          told = λ world seen.
+              let first = one.told world seen in
+              let second = two.told world (same ∙ seen) in
+              let kept_is : mid ≡ (B front world old).left = first.left in
+              let left_is : now ≡ (O item world mid).left = unfailing result entry _ unfailed second.left in
+              let answers_are : (B front world old).answers ≡ read answers = cc first.answer in
+              let entry_is : reading entry ≡ in_batch (O item world mid).answer = is _ (gives_comes result entry _ unfailed second.answer) in
+              let opened : files.opens after ≤ files.opens middle + (O item world (B front world old).left).opens = subst (λ (k : ProcessCaches). files.opens after ≤ files.opens middle + (O item world k).opens) kept_is second.opened in
+              record {
+                answer = ap Ok (answers_last front item world old
+                    ∙ ap₂ (λ (all : List Answer) (k : ProcessCaches). all ++ in_batch (O item world k).answer ∷ []) answers_are (sym kept_is)
+                    ∙ ap (λ (a : Answer). read answers ++ a ∷ []) (sym entry_is)
+                    ∙ sym (map-append reading answers.items (entry ∷ []))
+                    ∙ ap (map reading) (sym pushed));
+                left = left_is ∙ ap (λ (k : ProcessCaches). (O item world k).left) kept_is ∙ sym (left_last front item world old);
+                opened = omega (arith, first.opened, opened, opens_split front item [] world old);
+              };
+          reached = reaches_both asked.own _ old mid now one.reached (subst (λ (v : Option World). Reaches asked.own v mid now) same two.reached);
+          elf = stays_both elf.format_test old.elf mid.elf now.elf one.elf two.elf;
+          perf_maps = stays_both perf.format_test old.perf_maps mid.perf_maps now.perf_maps one.perf_maps two.perf_maps;
+          looked = looked_both files asked.own before middle after one.looked (looked_ok files result entry middle after unfailed two.looked);
+        }
+
+    -- the batch failed at an address, or after it
+    pub step_fails : (front : List (ℕ × Said)) (addr : ℕ) (said : Said) (rest : List ℕ) (answers : Vec Symbolized Global) (result : Result Symbolized Error) (e : Error) (old mid now : ProcessCaches) (before middle after : X) →
+        TakesStep files asked.own read (at_addresses asked mappings front) (Ok answers) old mid before middle →
+        TakesStep files asked.own reading (at_address asked mappings (addr, said)) result mid now middle after →
+        IsFailure e → Looked files before after (Faulted {A = Vec Symbolized Global} (Err e)) →
+        TakesStep files asked.own read (at_addresses asked mappings (front ++ map unsaid (addr ∷ rest))) (Err e) old now before after
+    step_fails front addr said rest answers result e old mid now before middle after one two failure looked =
+        let same : in_view (files.worlds middle) ≡ in_view (files.worlds before) = ap in_view one.looked.worlds in
+        record {
+          told = λ world seen.
+              let first = one.told world seen in
+              let second = two.told world (same ∙ seen) in
+              let kept_is : mid ≡ (B front world old).left = first.left in
+              let opened : files.opens after ≤ files.opens middle + (O (addr, said) world (B front world old).left).opens =
+              subst (λ (k : ProcessCaches). files.opens after ≤ files.opens middle + (O (addr, said) world k).opens) kept_is second.opened in
+              record {
+                answer = comes_failed read _ e failure;
+                left = left_failed (Vec Symbolized Global) e _ failure;
+                opened = omega (arith, first.opened, opened, opens_unsaid addr said world (B front world old).left, opens_split front (unsaid addr) (map unsaid rest) world old);
+              };
+          reached = reaches_both asked.own _ old mid now one.reached (subst (λ (v : Option World). Reaches asked.own v mid now) same two.reached);
+          elf = stays_both elf.format_test old.elf mid.elf now.elf one.elf two.elf;
+          perf_maps = stays_both perf.format_test old.perf_maps mid.perf_maps now.perf_maps one.perf_maps two.perf_maps;
+          looked = looked;
+        }
+
+module _ {R : Type 0} (test : Test R) (translates : Translates R) (finds : Finds R) (opts : FindSymOpts) where
+  -- what is said stays so as answers are added before and after
+  kept_by : (offset : Option ℕ) (now later : Option (Option R)) (said : Said) → ((answer : Option R) → now ≡ Some answer → later ≡ Some answer) →
+      SaysKept test translates finds opts offset now said → SaysKept test translates finds opts offset later said
+  kept_by offset None later said keeps is = absurd is
+  kept_by offset (Some answer) later said keeps is = rw (keeps answer refl) is
+
+  not_kept : (old mid : Answers R) (name : PathName) → Keeps old mid → kept_for mid name ≡ None → kept_for old name ≡ None
+  not_kept old mid name keeps none = by_found (kept_for old name) refl
+    where
+      by_found : (found : Option (Option R)) → kept_for old name ≡ found → kept_for old name ≡ None
+      by_found None is = is
+      by_found (Some answer) is = let there : None ≡ Some answer = sym none ∙ keeps name answer is in cc there
+
+  said_longer : (mapping : Mapping) (name : PathName) (addr : ℕ) (old mid now later : Answers R) (said : Said) → Keeps old mid → Keeps now later →
+      IsSaid test translates finds opts mapping name addr mid now said → IsSaid test translates finds opts mapping name addr old later said
+  said_longer mapping name addr old mid now later said before after (inl refused) =
+      inl (record { refusal = refused.refusal; asked = not_kept old mid name before refused.asked; allowed = refused.allowed; is = refused.is })
+  said_longer mapping name addr old mid now later said before after (inr kept) = inr (kept_by (offset_in mapping addr) (kept_for now name) (kept_for later name) said (after name) kept)
+
+  said_in_longer : (mapping : Mapping) (name : Option Name) (addr : ℕ) (old mid now later : Answers R) (said : Said) → Keeps old mid → Keeps now later →
+      IsSaidIn test translates finds opts mapping name addr mid now said → IsSaidIn test translates finds opts mapping name addr old later said
+  said_in_longer mapping None addr old mid now later said before after is = is
+  said_in_longer mapping (Some name) addr old mid now later said before after is = (is.0, is.1, said_longer mapping is.0 addr old mid now later said before after is.2)
+
+  said_by_longer : (owner : Option Mapping) (addr : ℕ) (old mid now later : Answers R) (said : Said) → Keeps old mid → Keeps now later →
+      IsSaidBy test translates finds opts owner addr mid now said → IsSaidBy test translates finds opts owner addr old later said
+  said_by_longer None addr old mid now later said before after is = is
+  said_by_longer (Some mapping) addr old mid now later said before after is = said_in_longer mapping mapping.name addr old mid now later said before after is
+
+  module _ (mappings : List Mapping) where
+    abbrev At : Answers R → Answers R → ℕ × Said → Type 0
+    At old now item = IsSaidAt test translates finds opts mappings item.0 old now item.1
+
+    all_longer : (old now later : Answers R) (front : List (ℕ × Said)) → Keeps now later → AllByRecursion (At old now) front → AllByRecursion (At old later) front
+    all_longer old now later [] keeps all = tt
+    all_longer old now later (item ∷ front) keeps all = (said_by_longer (owner_of mappings item.0) item.0 old old now later item.1 (λ n a k. k) keeps all.0, all_longer old now later front keeps all.1)
+
+    all_last : (P : ℕ × Said → Type 0) (front : List (ℕ × Said)) (item : ℕ × Said) → AllByRecursion P front → P item → AllByRecursion P (front ++ item ∷ [])
+    all_last P [] item all one = (one, tt)
+    all_last P (first ∷ front) item all one = (all.0, all_last P front item all.1 one)
+
+    keeps_both : (old mid now : Answers R) → Keeps old mid → Keeps mid now → Keeps old now
+    keeps_both old mid now one two name answer kept = two name answer (one name answer kept)
+
+    added_among : (addrs more : List ℕ) (other : PathName) (answer : Option R) → ((addr : ℕ) → Contains addrs addr → Contains more addr) → IsAdded test mappings addrs other answer → IsAdded test mappings more other answer
+    added_among addrs more other answer within is =
+        record { addr = is.addr; there = within is.addr is.there; mapping = is.mapping; owner = is.owner; name = is.name; named = is.named; same = is.same; allowed = is.allowed }
+
+    adds_both : (addrs one more : List ℕ) (old mid now : Answers R) → ((addr : ℕ) → Contains addrs addr → Contains more addr) → ((addr : ℕ) → Contains one addr → Contains more addr) →
+        AddsAmong test mappings addrs old mid → AddsAmong test mappings one mid now → AddsAmong test mappings more old now
+    adds_both addrs one more old mid now within within_one first second other answer kept = by_second (second other answer kept)
+      where
+        by_first : (kept_for old other ≡ Some answer) ⊎ IsAdded test mappings addrs other answer → (kept_for old other ≡ Some answer) ⊎ IsAdded test mappings more other answer
+        by_first (inl was) = inl was
+        by_first (inr added) = inr (added_among addrs more other answer within added)
+
+        by_second : (kept_for mid other ≡ Some answer) ⊎ IsAdded test mappings one other answer → (kept_for old other ≡ Some answer) ⊎ IsAdded test mappings more other answer
+        by_second (inl was) = by_first (first other answer was)
+        by_second (inr added) = inr (added_among one more other answer within_one added)
+
+-- the first addresses, the next one, and those after it
+pub split_at_next : (addrs : List ℕ) (i : ℕ) → i < length addrs → take i addrs ++ (get_or addrs i 0 ∷ drop (suc i) addrs) ≡ addrs
+split_at_next addrs i lt = ap (λ (rest : List ℕ). take i addrs ++ rest) (sym (drop-cons addrs i 0 lt)) ∙ take-append-drop i addrs
+
+module _ {R X : Type 0} (files : Ghosts X) (test : Test R) (translates : Translates R) (finds : Finds R) (opts : FindSymOpts) (asked : Asked) where
+  -- an address of a mapping of this
+  pub in_named : (mapping : Mapping) (name : PathName) (named : Option Name) (addr : ℕ) (result : Result Symbolized Error) (old now : ProcessCaches) (answers answers_now : Answers R) (before after : X) →
+      named ≡ Some (name_of name) →
+      AsksOne files asked.own reading (IsSaid test translates finds opts mapping name addr answers answers_now) (by_said asked mapping addr (name_of name)) result old now before after →
+      AsksOne files asked.own reading (IsSaidIn test translates finds opts mapping named addr answers answers_now) (λ said. by_mapping asked mapping addr said named) result old now before after
+  in_named mapping name named addr result old now answers answers_now before after is one =
+      rw is (record { said = one.said; allowed = unless_map result _ _ (λ allowed. (name, refl, allowed)) one.allowed; step = one.step })
+
+  -- an address of a mapping that is of nothing
+  pub in_unnamed : (mapping : Mapping) (named : Option Name) (addr : ℕ) (result : Result Symbolized Error) (old now : ProcessCaches) (answers : Answers R) (before after : X) → named ≡ None →
+      TakesStep files asked.own reading (by_asked asked.perf_map asked addr) result old now before after →
+      AsksOne files asked.own reading (IsSaidIn test translates finds opts mapping named addr answers answers) (λ said. by_mapping asked mapping addr said named) result old now before after
+  in_unnamed mapping named addr result old now answers before after is step = rw is (record { said = None; allowed = unless result _ refl; step = step })
+
+  pub adds_named : (mapping : Mapping) (name : PathName) (answers answers_now : Answers R) → mapping.name ≡ Some (name_of name) → Adds test mapping name answers answers_now → AddsIn test mapping answers answers_now
+  adds_named mapping name answers answers_now named adds other answer kept = by_added (adds other answer kept)
+    where
+      by_added : (kept_for answers other ≡ Some answer) ⊎ ((is_at (name_order other) name ≡ true) × test (as_member mapping (name_of name)) (Ok answer)) →
+          (kept_for answers other ≡ Some answer) ⊎ ((own : PathName) × (mapping.name ≡ Some (name_of own)) × (is_at (name_order other) own ≡ true) × test (as_member mapping (name_of own)) (Ok answer))
+      by_added (inl was) = inl was
+      by_added (inr added) = inr (name, named, added.0, added.1)
+
+  module _ (mappings : List Mapping) where
+    -- an address that no mapping has
+    pub unmapped : (addr : ℕ) (kept : ProcessCaches) (answers : Answers R) (at : X) → owner_of mappings addr ≡ None →
+        AsksOne files asked.own reading (IsSaidAt test translates finds opts mappings addr answers answers) (λ said. at_address asked mappings (addr, said)) (Ok (symbolized.Unknown reasons.Unmapped)) kept kept at at
+    unmapped addr kept answers at none = record {
+      said = None;
+      allowed = subst (λ (o : Option Mapping). IsSaidBy test translates finds opts o addr answers answers None) (sym none) refl;
+      step = rw none (still files asked.own reading (Unknown reasons.Unmapped) _ kept at refl);
+    }
+
+    pub adds_owned : (addr : ℕ) (mapping : Mapping) (answers answers_now : Answers R) → owner_of mappings addr ≡ Some mapping → AddsIn test mapping answers answers_now → AddsAmong test mappings (addr ∷ []) answers answers_now
+    adds_owned addr mapping answers answers_now owner adds other answer kept = by_added (adds other answer kept)
+      where
+        by_added : (kept_for answers other ≡ Some answer) ⊎ ((own : PathName) × (mapping.name ≡ Some (name_of own)) × (is_at (name_order other) own ≡ true) × test (as_member mapping (name_of own)) (Ok answer)) →
+            (kept_for answers other ≡ Some answer) ⊎ IsAdded test mappings (addr ∷ []) other answer
+        by_added (inl was) = inl was
+        by_added (inr added) = inr (record { addr = addr; there = (0, omega arith, refl); mapping = mapping; owner = owner; name = added.0; named = added.1; same = added.2; allowed = added.3 })
+
+    abbrev Front : List ℕ → Vec Symbolized Global → ProcessCaches → ProcessCaches → Answers R → Answers R → X → X → Type 0
+    Front addrs given old now answers answers_now before after = AsksFront files read test translates finds opts asked mappings addrs given old now answers answers_now before after
+
+    abbrev One : ℕ → Result Symbolized Error → ProcessCaches → ProcessCaches → Answers R → Answers R → X → X → Type 0
+    One addr result old now answers answers_now before after =
+        AsksOne files asked.own reading (IsSaidAt test translates finds opts mappings addr answers answers_now) (λ said. at_address asked mappings (addr, said)) result old now before after
+
+    abbrev All : List ℕ → Result (Vec Symbolized Global) Error → ProcessCaches → ProcessCaches → Answers R → Answers R → X → X → Type 0
+    All addrs result old now answers answers_now before after = AsksAll files read test translates finds opts asked mappings addrs result old now answers answers_now before after
+
+    pub front_none : (given : Vec Symbolized Global) (kept : ProcessCaches) (answers : Answers R) (at : X) → given.items ≡ [] → Front [] given kept kept answers answers at at
+    front_none given kept answers at is =
+        record { front = []; addrs_are = refl; allowed = tt; step = step_none files asked mappings given kept at is; keeps = λ n a kept. kept; adds = λ n a kept. inl kept }
+
+    pub front_more : (addrs : List ℕ) (addr : ℕ) (given more : Vec Symbolized Global) (result : Result Symbolized Error) (entry : Symbolized) (old mid now : ProcessCaches) (answers answers_mid answers_now : Answers R) (before middle after : X) →
+        Front addrs given old mid answers answers_mid before middle → One addr result mid now answers_mid answers_now middle after →
+        Keeps answers_mid answers_now → AddsAmong test mappings (addr ∷ []) answers_mid answers_now →
+        ((expected : Result Answer Error) → Gives reading expected result → reading entry ≡ in_batch expected) →
+        IfErr result (λ e. IsFailure e → IsErrOf {T = Symbolized} (Ok entry) e) → more.items ≡ given.items ++ entry ∷ [] →
+        Front (addrs ++ addr ∷ []) more old now answers answers_now before after
+    front_more addrs addr given more result entry old mid now answers answers_mid answers_now before middle after front one keeps adds is unfailed pushed = record {
+      front = front.front ++ (addr, one.said) ∷ [];
+      addrs_are = map-append (λ (item : ℕ × Said). item.0) front.front ((addr, one.said) ∷ []) ∙ ap (λ (xs : List ℕ). xs ++ addr ∷ []) front.addrs_are;
+      allowed = all_last test translates finds opts mappings _ front.front (addr, one.said)
+          (all_longer test translates finds opts mappings answers answers_mid answers_now front.front keeps front.allowed)
+          (said_by_longer test translates finds opts (owner_of mappings addr) addr answers answers_mid answers_now answers_now one.said front.keeps (λ n a k. k) (unfailing result entry _ unfailed one.allowed));
+      step = step_more files asked mappings front.front (addr, one.said) given more result entry old mid now before middle after front.step one.step is unfailed pushed;
+      keeps = keeps_both test translates finds opts mappings answers answers_mid answers_now front.keeps keeps;
+      adds = adds_both test translates finds opts mappings addrs (addr ∷ []) (addrs ++ addr ∷ []) answers answers_mid answers_now
+          (Contains-append_left addrs (addr ∷ [])) (Contains-append_right addrs (addr ∷ [])) front.adds adds;
+    }
+
+    pub all_done : (addrs : List ℕ) (given : Vec Symbolized Global) (old now : ProcessCaches) (answers answers_now : Answers R) (before after : X) →
+        Front addrs given old now answers answers_now before after → All addrs (Ok given) old now answers answers_now before after
+    all_done addrs given old now answers answers_now before after front = record {
+      front = front.front;
+      rest = [];
+      addrs_are = append-nil _ ∙ front.addrs_are;
+      all = refl;
+      allowed = front.allowed;
+      step = rw append-nil front.step;
+    }
+
+    pub all_fail : (addrs : List ℕ) (addr : ℕ) (rest whole : List ℕ) (given : Vec Symbolized Global) (result : Result Symbolized Error) (e : Error) (old mid now : ProcessCaches) (answers answers_mid answers_now : Answers R) (before middle after : X) →
+        addrs ++ (addr ∷ rest) ≡ whole →
+        Front addrs given old mid answers answers_mid before middle → One addr result mid now answers_mid answers_now middle after → Keeps answers_mid answers_now →
+        IsFailure e → Looked files before after (Faulted {A = Vec Symbolized Global} (Err e)) → All whole (Err e) old now answers answers_now before after
+    all_fail addrs addr rest whole given result e old mid now answers answers_mid answers_now before middle after whole_is front one keeps failure looked = record {
+      front = front.front;
+      rest = addr ∷ rest;
+      addrs_are = ap (λ (xs : List ℕ). xs ++ (addr ∷ rest)) front.addrs_are ∙ whole_is;
+      all = tt;
+      allowed = all_longer test translates finds opts mappings answers answers_mid answers_now front.front keeps front.allowed;
+      step = step_fails files asked mappings front.front addr one.said rest given result e old mid now before middle after front.step one.step failure looked;
+    }
+
+    -- and what the answers are that were added then
+    pub adds_fail : (addrs : List ℕ) (addr : ℕ) (rest whole : List ℕ) (answers answers_mid answers_now : Answers R) → addrs ++ (addr ∷ rest) ≡ whole →
+        AddsAmong test mappings addrs answers answers_mid → AddsAmong test mappings (addr ∷ []) answers_mid answers_now → AddsAmong test mappings whole answers answers_now
+    adds_fail addrs addr rest whole answers answers_mid answers_now whole_is one two =
+        subst (λ (xs : List ℕ). AddsAmong test mappings xs answers answers_now) whole_is
+        (adds_both test translates finds opts mappings addrs (addr ∷ []) (addrs ++ (addr ∷ rest)) answers answers_mid answers_now
+        (Contains-append_left addrs (addr ∷ rest)) (λ x there. Contains-append_right addrs (addr ∷ rest) x (Contains-append_left (addr ∷ []) rest x there)) one two)
+
+    -- memory ran out before any address was asked
+    pub none_asked : (addrs : List ℕ) (kept : ProcessCaches) (answers : Answers R) (at : X) → All addrs (Err errors.OutOfMemory) kept kept answers answers at at
+    none_asked addrs kept answers at =
+        record { front = []; rest = addrs; addrs_are = refl; all = tt; allowed = tt; step = wants_memory files asked.own read (at_addresses asked mappings (map unsaid addrs)) kept at }

@@ -1,0 +1,6 @@
+pub mod AskLemmas
+pub mod DispatchLemmas
+pub mod MappedLemmas
+pub mod NobodyLemmas
+pub mod ProcessLemmas
+pub mod PromiseLemmas

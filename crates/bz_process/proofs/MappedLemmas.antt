@@ -1,0 +1,161 @@
+-- What is asked of a process, from its mappings and its addresses.
+use Rattle.std.proofs.Common.{◌≡◌, ℕ, false, List, [], ◌∷◌, ◌++◌, map, Option, Some, None, Result, Ok, Err, OnOk, IfOk, IsOkUnless, Vec, Global, inl, refl, sym, subst, ◌∙◌, arith}
+use Rattle.bz_base.specs.Answer.{reading}
+use Rattle.bz_base.specs.declared.error.Error.{Error}
+use Rattle.bz_base.specs.declared.error.Error.TheVariants as errors
+use Rattle.bz_base.specs.declared.resolve.Symbolize.{Ghosts as Finds}
+use Rattle.bz_base.specs.declared.resolve.TranslateFileOffset.{Ghosts as Translates}
+use Rattle.bz_base.specs.declared.types.FindSymOpts.{FindSymOpts}
+use Rattle.bz_base.specs.declared.types.Symbolized.{Symbolized}
+use Rattle.bz_files.specs.Looked.{Faulted, Looked, ReadsOne}
+use Rattle.bz_files.specs.World.{Entry, Told, in_view, entry_at}
+use Rattle.bz_files.specs.declared.files.Files.{Ghosts}
+use Rattle.bz_cache.specs.Format.{Comes, FailsAs}
+use Rattle.bz_elf.specs.Format as elf
+use Rattle.bz_proc.specs.Maps.{Mapping}
+use Rattle.bz_proc.specs.SystemText.{has_file}
+use Rattle.bz_proc.specs.PerfMap as perf
+use Rattle.bz_base.specs.declared.pid.Pid.{Pid}
+use Rattle.bz_process.specs.Dispatch.{Answers, Keeps, Test}
+use Rattle.bz_process.specs.Mapped.{AsksProcess, AsksProcessAt, checked, if_some, mappings_of, of_text, some_mappings}
+use Rattle.bz_process.specs.Process.{at_address, at_addresses, gives, unsaid}
+use Rattle.bz_process.specs.ProcessAsk.{AddsAmong, AsksAll, AsksOne, IsSaidAt}
+use Rattle.bz_process.specs.ProcessCall.{TakesStep, UnlessFailed}
+use Rattle.bz_process.specs.Asked.{Asked}
+use Rattle.bz_process.specs.Caches.{ProcessCaches}
+use Rattle.bz_process.proofs.AskLemmas.{read, unless}
+use Rattle.bz_process.proofs.ProcessLemmas.{in_order, opened_by, reaches_same, refused, stays, still, unlooked, wants_memory}
+
+module _ {X : Type 0} (files : Ghosts X) (own : ℕ) where
+  -- a text was looked at
+  pub text_told : {A B : Type 0} (reads : A → B) (told : Option Entry → Result B Error) (path : List ℕ) (result : Result A Error) (kept : ProcessCaches) (before after : X) →
+      Told (in_view (files.worlds before)) (λ world. Comes reads (told (entry_at world path)) result) →
+      Told (in_view (files.worlds before)) (λ world. has_file (entry_at world path) ≡ false → files.opens after ≡ files.opens before) →
+      ReadsOne files before after → Looked files before after (Faulted result) → TakesStep files own reads (of_text told path) result kept kept before after
+  text_told reads told path result kept before after answer spared most looked = record {
+    told = λ world seen. record { answer = answer world seen; left = unless result _ refl; opened = opened_by (has_file (entry_at world path)) _ _ (spared world seen) most };
+    reached = reaches_same own _ kept;
+    elf = stays elf.format_test kept.elf;
+    perf_maps = stays perf.format_test kept.perf_maps;
+    looked = looked;
+  }
+
+  -- what is kept is given, unless memory ran out
+  pub given_again : {B : Type 0} (result : Result B Error) (known : B) (kept : ProcessCaches) (at : X) → IfOk result (λ k. k ≡ known) → IsOkUnless result errors.OutOfMemory →
+      TakesStep files own (λ (k : B). k) (gives known) result kept kept at at
+  given_again {B} (Ok k) known kept at is memory = still files own (λ (k : B). k) known k kept at (sym is)
+  given_again {B} (Err e) known kept at is memory = rw memory (wants_memory files own (λ (k : B). k) (gives known) kept at)
+
+  pub kept_again : (pid : Pid) (known : Option (List Mapping)) (mappings : List Mapping) (result : Result (List Mapping) Error) (kept : ProcessCaches) (at : X) → known ≡ Some mappings →
+      IfOk result (λ k. k ≡ mappings) → IsOkUnless result errors.OutOfMemory → TakesStep files own (λ (k : List Mapping). k) (mappings_of pid known) result kept kept at at
+  kept_again pid known mappings result kept at found is memory = rw found (given_again result mappings kept at is memory)
+
+  -- whether there are mappings
+  checks : (mappings : List Mapping) (result : Result (List Mapping) Error) (kept : ProcessCaches) (at : X) → result ≡ if_some mappings →
+      TakesStep files own (λ (k : List Mapping). k) (checked mappings) result kept kept at at
+  checks mappings result kept at is = record {
+    told = λ world seen. record { answer = comes_so mappings result is; left = unless result _ refl; opened = omega arith };
+    reached = reaches_same own _ kept;
+    elf = stays elf.format_test kept.elf;
+    perf_maps = stays perf.format_test kept.perf_maps;
+    looked = unlooked files own at (no_fault mappings result is);
+  }
+    where
+      comes_so : (mappings : List Mapping) (result : Result (List Mapping) Error) → result ≡ if_some mappings → Comes (λ (k : List Mapping). k) (if_some mappings) result
+      comes_so [] result is = rw is refl
+      comes_so (mapping ∷ later) result is = rw is refl
+
+      no_fault : (mappings : List Mapping) (result : Result (List Mapping) Error) → result ≡ if_some mappings → Faulted result → ⊥
+      no_fault [] result is fault = let same : Faulted {A = List Mapping} (Err errors.UnexpectedEof) = subst Faulted is fault in cc same
+      no_fault (mapping ∷ later) result is fault = let same : Faulted {A = List Mapping} (Ok (mapping ∷ later)) = subst Faulted is fault in same
+
+  pub mapped_checked : (pid : Pid) (known : Option (List Mapping)) (mappings : List Mapping) (result : Result (List Mapping) Error) (kept : ProcessCaches) (before after : X) →
+      TakesStep files own (λ (k : List Mapping). k) (mappings_of pid known) (Ok mappings) kept kept before after → result ≡ if_some mappings →
+      TakesStep files own (λ (k : List Mapping). k) (some_mappings pid known) result kept kept before after
+  mapped_checked pid known mappings result kept before after one is =
+      in_order files own (λ (k : List Mapping). k) (λ (k : List Mapping). k) (mappings_of pid known) checked mappings result kept kept kept before after after one (checks mappings result kept after is)
+
+  pub mapped_refused : (pid : Pid) (known : Option (List Mapping)) (e : Error) (kept : ProcessCaches) (before after : X) →
+      TakesStep files own (λ (k : List Mapping). k) (mappings_of pid known) (Err e) kept kept before after →
+      TakesStep files own (λ (k : List Mapping). k) (some_mappings pid known) (Err e) kept kept before after
+  mapped_refused pid known e kept before after one = refused files own (λ (k : List Mapping). k) (λ (k : List Mapping). k) (mappings_of pid known) checked e kept kept before after one
+
+-- what holds holds of an answered call
+on_ok : {A : Type 0} (result : Result A Error) (P : Type 0) → P → OnOk result P
+on_ok (Ok x) P p = p
+on_ok (Err e) P p = tt
+
+module _ {R X : Type 0} (files : Ghosts X) (test : Test R) (translates : Translates R) (finds : Finds R) (opts : FindSymOpts) (asked : Asked) (known : Option (List Mapping)) (addrs : List ℕ) where
+  abbrev Asks : Result (Vec Symbolized Global) Error → ProcessCaches → ProcessCaches → Answers R → Answers R → X → X → Type 0
+  Asks result old now answers answers_now before after = AsksProcess files read test translates finds opts asked known addrs result old now answers answers_now before after
+
+  -- the mappings, and then the addresses
+  pub asks_mapped : (mappings : List Mapping) (result : Result (Vec Symbolized Global) Error) (old now : ProcessCaches) (answers answers_now : Answers R) (before middle after : X) →
+      TakesStep files asked.own (λ (k : List Mapping). k) (some_mappings asked.pid known) (Ok mappings) old old before middle →
+      AsksAll files read test translates finds opts asked mappings addrs result old now answers answers_now middle after →
+      Keeps answers answers_now → AddsAmong test mappings addrs answers answers_now → Asks result old now answers answers_now before after
+  asks_mapped mappings result old now answers answers_now before middle after one all keeps adds = record {
+    mappings = mappings;
+    mapped = λ world seen. on_ok result _ (one.told world seen).answer;
+    front = all.front;
+    rest = all.rest;
+    addrs_are = all.addrs_are;
+    all = all.all;
+    allowed = all.allowed;
+    keeps = keeps;
+    adds = adds;
+    step = in_order files asked.own (λ (k : List Mapping). k) read (some_mappings asked.pid known) (λ maps. at_addresses asked maps (all.front ++ map unsaid all.rest)) mappings result old old now before middle after one all.step;
+  }
+
+  -- the mappings are refused
+  pub asks_unmapped : (e : Error) (old : ProcessCaches) (answers : Answers R) (before after : X) →
+      TakesStep files asked.own (λ (k : List Mapping). k) (some_mappings asked.pid known) (Err e) old old before after → Asks (Err e) old old answers answers before after
+  asks_unmapped e old answers before after one = record {
+    mappings = [];
+    mapped = λ world seen. tt;
+    front = [];
+    rest = addrs;
+    addrs_are = refl;
+    all = tt;
+    allowed = tt;
+    keeps = λ n a kept. kept;
+    adds = λ n a kept. inl kept;
+    step = refused files asked.own (λ (k : List Mapping). k) read (some_mappings asked.pid known) (λ maps. at_addresses asked maps (map unsaid addrs)) e old old before after one;
+  }
+
+module _ {R X : Type 0} (files : Ghosts X) (test : Test R) (translates : Translates R) (finds : Finds R) (opts : FindSymOpts) (asked : Asked) (known : Option (List Mapping)) (addr : ℕ) where
+  abbrev AsksAt : Result Symbolized Error → ProcessCaches → ProcessCaches → Answers R → Answers R → X → X → Type 0
+  AsksAt result old now answers answers_now before after = AsksProcessAt files reading test translates finds opts asked known addr result old now answers answers_now before after
+
+  -- the mappings, and then the address
+  pub asks_mapped_at : (mappings : List Mapping) (result : Result Symbolized Error) (old now : ProcessCaches) (answers answers_now : Answers R) (before middle after : X) →
+      TakesStep files asked.own (λ (k : List Mapping). k) (some_mappings asked.pid known) (Ok mappings) old old before middle →
+      AsksOne files asked.own reading (IsSaidAt test translates finds opts mappings addr answers answers_now) (λ said. at_address asked mappings (addr, said)) result old now middle after →
+      Keeps answers answers_now → AddsAmong test mappings (addr ∷ []) answers answers_now → AsksAt result old now answers answers_now before after
+  asks_mapped_at mappings result old now answers answers_now before middle after one asks keeps adds = record {
+    mappings = mappings;
+    mapped = λ world seen. unless result _ (λ told is. let same : Ok told ≡ Ok mappings = sym is ∙ (one.told world seen).answer in cc same);
+    said = asks.said;
+    allowed = asks.allowed;
+    keeps = keeps;
+    adds = adds;
+    step = in_order files asked.own (λ (k : List Mapping). k) reading (some_mappings asked.pid known) (λ maps. at_address asked maps (addr, asks.said)) mappings result old old now before middle after one asks.step;
+  }
+
+  unread : (expected : Result (List Mapping) Error) (e : Error) → FailsAs expected e → UnlessFailed {A = Symbolized} (Err e) ((told : List Mapping) → expected ≡ Ok told → told ≡ [])
+  unread expected errors.ReadFault fails = tt
+  unread expected errors.OutOfMemory fails = tt
+  unread expected _ fails = λ told is. let none : Err _ ≡ Ok told = sym fails ∙ is in cc none
+
+  -- the mappings are refused
+  pub asks_unmapped_at : (e : Error) (old : ProcessCaches) (answers : Answers R) (before after : X) →
+      TakesStep files asked.own (λ (k : List Mapping). k) (some_mappings asked.pid known) (Err e) old old before after → AsksAt (Err e) old old answers answers before after
+  asks_unmapped_at e old answers before after one = record {
+    mappings = [];
+    mapped = λ world seen. unread _ e (one.told world seen).answer;
+    said = None;
+    allowed = unless {A = Symbolized} (Err e) _ refl;
+    keeps = λ n a kept. kept;
+    adds = λ n a kept. inl kept;
+    step = refused files asked.own (λ (k : List Mapping). k) reading (some_mappings asked.pid known) (λ maps. at_address asked maps (addr, None)) e old old before after one;
+  }

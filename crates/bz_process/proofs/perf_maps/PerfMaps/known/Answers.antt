@@ -1,0 +1,14 @@
+use Rattle.std.proofs.Common.{sym}
+use Rattle.bz_process.specs.Caches.{caches}
+use Rattle.bz_process.proofs.ProcessLemmas.{recalls}
+use Rattle.bz_process.proofs.perf_maps.PerfMaps.known.Goals as goal
+
+-- the process is remembered
+pub returns-in-Some : goal.returns-in-Some
+returns-in-Some g c elf =
+    rw c.get.follows.holds-at-none
+    (recalls g.F.Files c.args.pid (g.F.Files.pid c.args.files.now) c.share.result c.in-Some.known.now (caches elf c.args.self.now) c.args.files.now (sym c.in-Some.ensures.value) c.share.ensures.known c.share.ensures.memory)
+
+-- it is remembered now
+pub returns-in-None : goal.returns-in-None
+returns-in-None g c elf = rw c.get.follows.holds-at-none at (c.remember.ensures elf)

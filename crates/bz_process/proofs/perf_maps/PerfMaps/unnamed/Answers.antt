@@ -1,0 +1,13 @@
+use Rattle.std.proofs.Common.{refl}
+use Rattle.bz_base.specs.Answer.{reading}
+use Rattle.bz_process.specs.Caches.{caches}
+use Rattle.bz_process.proofs.ProcessLemmas.{still}
+use Rattle.bz_process.proofs.perf_maps.PerfMaps.unnamed.Goals as goal
+
+-- the perf map isn't asked
+pub returns-else-query : goal.returns-else-query
+returns-else-query g c elf = rw c.if-query.false (still g.F.Files (g.F.Files.pid c.args.files.now) reading _ _ (caches elf c.args.self.now) c.args.files.now refl)
+
+-- the perf map is asked
+pub returns-then-query : goal.returns-then-query
+returns-then-query g c elf = rw c.if-query.true (c.in_perf_map.ensures elf)

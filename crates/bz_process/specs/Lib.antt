@@ -1,0 +1,10 @@
+pub mod Asked
+pub mod Caches
+pub mod Dispatch
+pub mod Mapped
+pub mod Member
+pub mod Process
+pub mod ProcessAsk
+pub mod ProcessCall
+pub mod Processes
+pub mod Remembered

@@ -1,0 +1,75 @@
+-- The mappings that a process is answered by: the kept ones, else those of the text that lies there.
+use Rattle.std.specs.Prelude.{◌≡◌, ℕ, List, [], ◌∷◌, ◌++◌, map, Option, Some, None, Result, Ok, Err, OnOk}
+use Rattle.std.specs.List.{AllByRecursion}
+use Rattle.bz_base.specs.Answer.{Answer}
+use Rattle.bz_base.specs.declared.error.Error.{Error}
+use Rattle.bz_base.specs.declared.error.Error.TheVariants as errors
+use Rattle.bz_base.specs.declared.resolve.Symbolize.{Ghosts as Finds}
+use Rattle.bz_base.specs.declared.resolve.TranslateFileOffset.{Ghosts as Translates}
+use Rattle.bz_base.specs.declared.types.FindSymOpts.{FindSymOpts}
+use Rattle.bz_files.specs.World.{Entry, Told, entry_at, in_view}
+use Rattle.bz_files.specs.declared.files.Files.{Ghosts}
+use Rattle.bz_proc.specs.Maps.{Mapping}
+use Rattle.bz_proc.specs.MapsFile.{maps_path, maps_told}
+use Rattle.bz_proc.specs.SystemText.{has_file}
+use Rattle.bz_base.specs.declared.pid.Pid.{Pid}
+use Rattle.bz_process.specs.Dispatch.{Answers, Keeps, Test}
+use Rattle.bz_process.specs.Process.{Said, Step, and_then, at_address, at_addresses, count_of, gives, unsaid}
+use Rattle.bz_process.specs.ProcessAsk.{AddsAmong, IsSaidAt}
+use Rattle.bz_process.specs.ProcessCall.{TakesStep, UnlessFailed}
+use Rattle.bz_process.specs.Asked.{Asked}
+use Rattle.bz_process.specs.Caches.{ProcessCaches}
+
+-- what a text at a path tells
+abbrev pub of_text : {B : Type 0} → (Option Entry → Result B Error) → List ℕ → Step B
+of_text told path world kept = record { answer = told (entry_at world path); left = kept; opens = count_of (has_file (entry_at world path)) }
+
+-- the mappings, if there are any
+abbrev pub if_some : List Mapping → Result (List Mapping) Error
+if_some [] = Err errors.UnexpectedEof
+if_some (mapping ∷ later) = Ok (mapping ∷ later)
+
+abbrev pub checked : List Mapping → Step (List Mapping)
+checked mappings world kept = record { answer = if_some mappings; left = kept; opens = 0 }
+
+-- the kept mappings, else those that are told
+abbrev pub mappings_of : Pid → Option (List Mapping) → Step (List Mapping)
+mappings_of pid (Some mappings) = gives mappings
+mappings_of pid None = of_text (maps_told pid) (maps_path pid)
+
+abbrev pub some_mappings : Pid → Option (List Mapping) → Step (List Mapping)
+some_mappings pid kept = and_then (mappings_of pid kept) checked
+
+-- all that is asked of a process: its mappings, and the addresses one after another
+abbrev pub asks_process : Asked → Option (List Mapping) → List (ℕ × Said) → Step (List Answer)
+asks_process asked kept items = and_then (some_mappings asked.pid kept) (λ mappings. at_addresses asked mappings items)
+
+-- a process was asked: by these mappings, of a front of the addresses something allowed was said, of all where the call is answered
+pub record AsksProcess {A R X : Type 0} (files : Ghosts X) (reading : A → List Answer) (test : Test R) (translates : Translates R) (finds : Finds R) (opts : FindSymOpts)
+    (asked : Asked) (kept : Option (List Mapping)) (addrs : List ℕ) (result : Result A Error) (old now : ProcessCaches) (answers answers_now : Answers R) (before after : X) : Type 0 where
+  pub mappings : List Mapping
+  pub mapped : Told (in_view (files.worlds before)) (λ world. OnOk result ((some_mappings asked.pid kept world old).answer ≡ Ok mappings))
+  pub front : List (ℕ × Said)
+  pub rest : List ℕ
+  pub addrs_are : map (λ item. item.0) front ++ rest ≡ addrs
+  pub all : OnOk result (rest ≡ [])
+  pub allowed : AllByRecursion (λ item. IsSaidAt test translates finds opts mappings item.0 answers answers_now item.1) front
+  -- kept answers stay, and others are added for owners of these addresses alone
+  pub keeps : Keeps answers answers_now
+  pub adds : AddsAmong test mappings addrs answers answers_now
+  pub step : TakesStep files asked.own reading (asks_process asked kept (front ++ map unsaid rest)) result old now before after
+
+-- all that is asked of a process for an address alone
+abbrev pub asks_process_at : Asked → Option (List Mapping) → ℕ × Said → Step Answer
+asks_process_at asked kept item = and_then (some_mappings asked.pid kept) (λ mappings. at_address asked mappings item)
+
+-- a process was asked for an address alone: by these mappings something allowed was said
+pub record AsksProcessAt {A R X : Type 0} (files : Ghosts X) (reading : A → Answer) (test : Test R) (translates : Translates R) (finds : Finds R) (opts : FindSymOpts)
+    (asked : Asked) (kept : Option (List Mapping)) (addr : ℕ) (result : Result A Error) (old now : ProcessCaches) (answers answers_now : Answers R) (before after : X) : Type 0 where
+  pub mappings : List Mapping
+  pub mapped : Told (in_view (files.worlds before)) (λ world. UnlessFailed result ((told : List Mapping) → (some_mappings asked.pid kept world old).answer ≡ Ok told → told ≡ mappings))
+  pub said : Said
+  pub allowed : UnlessFailed result (IsSaidAt test translates finds opts mappings addr answers answers_now said)
+  pub keeps : Keeps answers answers_now
+  pub adds : AddsAmong test mappings (addr ∷ []) answers answers_now
+  pub step : TakesStep files asked.own reading (asks_process_at asked kept (addr, said)) result old now before after

@@ -1,0 +1,90 @@
+-- What a call asks of a process with a dispatcher: what was said for each address, and what the steps are then.
+use Rattle.std.specs.Prelude.{◌≡◌, ◌⊎◌, ℕ, true, List, [], ◌++◌, map, Option, Some, None, Result, Ok, OnOk, Contains}
+use Rattle.std.specs.BTreeMap.{is_at}
+use Rattle.std.specs.List.{AllByRecursion}
+use Rattle.bz_base.specs.Answer.{Answer}
+use Rattle.bz_base.specs.declared.error.Error.{Error}
+use Rattle.bz_base.specs.declared.resolve.Symbolize.{Ghosts as Finds}
+use Rattle.bz_base.specs.declared.resolve.TranslateFileOffset.{Ghosts as Translates}
+use Rattle.bz_base.specs.declared.types.FindSymOpts.{FindSymOpts}
+use Rattle.bz_files.specs.declared.files.Files.{Ghosts}
+use Rattle.bz_proc.specs.Maps.{Mapping, Name, name_of, owner_of}
+use Rattle.bz_proc.specs.NameOrder.{name_order}
+use Rattle.bz_proc.specs.declared.maps.PathName.{PathName}
+use Rattle.bz_process.specs.Dispatch.{Answers, IsSaid, Keeps, Test, kept_for}
+use Rattle.bz_process.specs.Member.{Member, as_member}
+use Rattle.bz_process.specs.Process.{Said, Step, at_addresses, unsaid}
+use Rattle.bz_process.specs.ProcessCall.{TakesStep, UnlessFailed}
+use Rattle.bz_process.specs.Asked.{Asked}
+use Rattle.bz_process.specs.Caches.{ProcessCaches}
+
+-- something allowed was said, and the step is the one that is expected then; after a failure nothing needs to have been said
+pub record AsksOne {A B X : Type 0} (files : Ghosts X) (own : ℕ) (reading : A → B) (IsAllowed : Said → Type 0) (expected : Said → Step B) (result : Result A Error)
+    (old now : ProcessCaches) (before after : X) : Type 0 where
+  pub said : Said
+  pub allowed : UnlessFailed result (IsAllowed said)
+  pub step : TakesStep files own reading (expected said) result old now before after
+
+module _ {R : Type 0} (test : Test R) (translates : Translates R) (finds : Finds R) (opts : FindSymOpts) where
+  -- what is said for an address of a mapping
+  abbrev pub IsSaidIn : Mapping → Option Name → ℕ → Answers R → Answers R → Said → Type 0
+  IsSaidIn mapping None addr old now said = said ≡ None
+  IsSaidIn mapping (Some name) addr old now said = (own : PathName) × (name_of own ≡ name) × IsSaid test translates finds opts mapping own addr old now said
+
+  -- by the mapping that answers for it
+  abbrev pub IsSaidBy : Option Mapping → ℕ → Answers R → Answers R → Said → Type 0
+  IsSaidBy None addr old now said = said ≡ None
+  IsSaidBy (Some mapping) addr old now said = IsSaidIn mapping mapping.name addr old now said
+
+  abbrev pub IsSaidAt : List Mapping → ℕ → Answers R → Answers R → Said → Type 0
+  IsSaidAt mappings addr old now said = IsSaidBy (owner_of mappings addr) addr old now said
+
+-- an answer for this was added by the test of a dispatcher: some address has it
+pub record IsAdded {R : Type 0} (test : Test R) (mappings : List Mapping) (addrs : List ℕ) (other : PathName) (answer : Option R) : Type 0 where
+  pub addr : ℕ
+  pub there : Contains addrs addr
+  pub mapping : Mapping
+  pub owner : owner_of mappings addr ≡ Some mapping
+  pub name : PathName
+  pub named : mapping.name ≡ Some (name_of name)
+  pub same : is_at (name_order other) name ≡ true
+  pub allowed : test (as_member mapping (name_of name)) (Ok answer)
+
+-- an answer was added for this mapping alone
+abbrev pub AddsIn : {R : Type 0} → Test R → Mapping → Answers R → Answers R → Type 0
+AddsIn {R} test mapping old now = (other : PathName) (answer : Option R) → kept_for now other ≡ Some answer →
+    (kept_for old other ≡ Some answer) ⊎ ((name : PathName) × (mapping.name ≡ Some (name_of name)) × (is_at (name_order other) name ≡ true) × test (as_member mapping (name_of name)) (Ok answer))
+
+-- answers were added for owners of these addresses alone
+abbrev pub AddsAmong : {R : Type 0} → Test R → List Mapping → List ℕ → Answers R → Answers R → Type 0
+AddsAmong {R} test mappings addrs old now = (other : PathName) (answer : Option R) → kept_for now other ≡ Some answer →
+    (kept_for old other ≡ Some answer) ⊎ IsAdded test mappings addrs other answer
+
+-- addresses were asked one after another: of a front of them something allowed was said, of all where the call is answered; and the
+-- step is the batch's, where no resolver is in charge of the others
+pub record AsksAll {A R X : Type 0} (files : Ghosts X) (reading : A → List Answer) (test : Test R) (translates : Translates R) (finds : Finds R) (opts : FindSymOpts)
+    (asked : Asked) (mappings : List Mapping) (addrs : List ℕ) (result : Result A Error) (old now : ProcessCaches) (answers answers_now : Answers R) (before after : X) : Type 0 where
+  pub front : List (ℕ × Said)
+  pub rest : List ℕ
+  pub addrs_are : map (λ item. item.0) front ++ rest ≡ addrs
+  pub all : OnOk result (rest ≡ [])
+  pub allowed : AllByRecursion (λ item. IsSaidAt test translates finds opts mappings item.0 answers answers_now item.1) front
+  pub step : TakesStep files asked.own reading (at_addresses asked mappings (front ++ map unsaid rest)) result old now before after
+
+-- these addresses were asked and answered, and something allowed was said for each
+pub record AsksFront {A R X : Type 0} (files : Ghosts X) (reading : A → List Answer) (test : Test R) (translates : Translates R) (finds : Finds R) (opts : FindSymOpts)
+    (asked : Asked) (mappings : List Mapping) (addrs : List ℕ) (given : A) (old now : ProcessCaches) (answers answers_now : Answers R) (before after : X) : Type 0 where
+  pub front : List (ℕ × Said)
+  pub addrs_are : map (λ item. item.0) front ≡ addrs
+  pub allowed : AllByRecursion (λ item. IsSaidAt test translates finds opts mappings item.0 answers answers_now item.1) front
+  pub step : TakesStep files asked.own reading (at_addresses asked mappings front) (Ok given) old now before after
+  pub keeps : Keeps answers answers_now
+  pub adds : AddsAmong test mappings addrs answers answers_now
+
+-- every answer that is kept is one that the dispatcher's test allows
+abbrev pub AreAllowed : {R : Type 0} → Test R → Answers R → Type 0
+AreAllowed {R} test answers = (name : PathName) (answer : Option R) → kept_for answers name ≡ Some answer → (member : Member) × test member (Ok answer)
+
+-- a dispatcher that never gives a resolver, and never refuses
+abbrev pub GivesNone : {R : Type 0} → Test R → Type 0
+GivesNone {R} test = (member : Member) (answer : Result (Option R) Error) → test member answer → answer ≡ Ok None

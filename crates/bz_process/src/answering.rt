@@ -1,0 +1,150 @@
+//! What answers addresses by the mappings of their process.
+
+ghost use Rattle.std.specs.Prelude.{◌≡◌, ◌∷◌, [], ℕ, map};
+ghost use Rattle.bz_base.specs.Answer.{reading};
+ghost use Rattle.bz_proc.specs.Maps.{mapping_of, name_of};
+ghost use Rattle.bz_process.specs.Asked.{asked_of};
+ghost use Rattle.bz_process.specs.Caches.{caches};
+ghost use Rattle.bz_process.specs.Dispatch.{Adds, IsSaid, Keeps};
+ghost use Rattle.bz_process.specs.Process.{at_address, by_mapping, by_said};
+ghost use Rattle.bz_process.specs.ProcessAsk.{AddsAmong, AddsIn, AsksAll, AsksOne, IsSaidAt, IsSaidIn};
+ghost use Rattle.bz_process.specs.declared.perf_maps.PerfMaps.{PerfMaps};
+
+use crate::dispatch::ProcessDispatch;
+use crate::dispatching::Dispatching;
+use crate::mapped_file::named;
+use crate::perf_maps::PerfMaps;
+use crate::query::ProcessQuery;
+use bz_base::{Addr, FindSymOpts, Reason, Result, Symbolized, in_batch};
+use bz_cache::FileCache;
+use bz_elf::ElfFile;
+use bz_files::Files;
+use bz_proc::{Mappings, MapsEntry, PathName};
+use std::alloc::Global;
+
+/// The answers to addresses by the mappings of their process, in their order; an address that is refused
+/// is an ignored error.
+pub(crate) fn answers_at<D: ProcessDispatch + Drop, F: Files>(
+    elf: &mut FileCache<ElfFile>,
+    perf_maps: &mut PerfMaps,
+    dispatching: &mut Dispatching<D>,
+    alloc: Global,
+    files: &mut F,
+    query: &ProcessQuery,
+    opts: &FindSymOpts,
+    mappings: &Mappings,
+    addrs: &[Addr],
+) -> Result<Vec<Symbolized<'static>>>
+    ensures asks { AsksAll F.Files (λ answers. map reading answers.items) (D.may_dispatch dispatching.old.dispatch) D.Resolver.TranslateFileOffset D.Resolver.Symbolize opts.now (asked_of (F.pid files.old) query.now) mappings.now addrs.now result (caches elf.old perf_maps.old) (caches elf.new perf_maps.new) dispatching.old.answers dispatching.new.answers files.old files.new }
+    ensures keeps { Keeps dispatching.old.answers dispatching.new.answers }
+    ensures adds { AddsAmong (D.may_dispatch dispatching.old.dispatch) mappings.now addrs.now dispatching.old.answers dispatching.new.answers }
+    ensures dispatch { dispatching.new.dispatch ≡ dispatching.old.dispatch }
+{
+    let mut answers = Vec::with_capacity(alloc, addrs.len())?;
+    for addr in addrs {
+        let answer = answer_at(
+            elf,
+            perf_maps,
+            dispatching,
+            alloc,
+            files,
+            query,
+            opts,
+            mappings,
+            *addr,
+        );
+        let entry = in_batch(answer)?;
+        answers.push(entry)?;
+    }
+    Ok(answers)
+}
+
+/// The answer to an address by the mappings of its process.
+pub(crate) fn answer_at<D: ProcessDispatch + Drop, F: Files>(
+    elf: &mut FileCache<ElfFile>,
+    perf_maps: &mut PerfMaps,
+    dispatching: &mut Dispatching<D>,
+    alloc: Global,
+    files: &mut F,
+    query: &ProcessQuery,
+    opts: &FindSymOpts,
+    mappings: &Mappings,
+    addr: Addr,
+) -> Result<Symbolized<'static>>
+    ensures asks { AsksOne F.Files (F.pid files.old) reading (IsSaidAt (D.may_dispatch dispatching.old.dispatch) D.Resolver.TranslateFileOffset D.Resolver.Symbolize opts.now mappings.now addr dispatching.old.answers dispatching.new.answers) (λ said. at_address (asked_of (F.pid files.old) query.now) mappings.now (addr, said)) result (caches elf.old perf_maps.old) (caches elf.new perf_maps.new) files.old files.new }
+    ensures keeps { Keeps dispatching.old.answers dispatching.new.answers }
+    ensures adds { AddsAmong (D.may_dispatch dispatching.old.dispatch) mappings.now (addr ∷ []) dispatching.old.answers dispatching.new.answers }
+    ensures dispatch { dispatching.new.dispatch ≡ dispatching.old.dispatch }
+{
+    match mappings.owner_entry(addr) {
+        None => Ok(Symbolized::Unknown(Reason::Unmapped)),
+        Some(entry) => in_mapping(
+            elf,
+            perf_maps,
+            dispatching,
+            alloc,
+            files,
+            query,
+            opts,
+            entry,
+            addr,
+        ),
+    }
+}
+
+// The answer to an address of a mapping.
+fn in_mapping<D: ProcessDispatch + Drop, F: Files>(
+    elf: &mut FileCache<ElfFile>,
+    perf_maps: &mut PerfMaps,
+    dispatching: &mut Dispatching<D>,
+    alloc: Global,
+    files: &mut F,
+    query: &ProcessQuery,
+    opts: &FindSymOpts,
+    entry: &MapsEntry,
+    addr: Addr,
+) -> Result<Symbolized<'static>>
+    ensures asks { AsksOne F.Files (F.pid files.old) reading (IsSaidIn (D.may_dispatch dispatching.old.dispatch) D.Resolver.TranslateFileOffset D.Resolver.Symbolize opts.now (mapping_of entry.now) (mapping_of entry.now).name addr dispatching.old.answers dispatching.new.answers) (λ said. by_mapping (asked_of (F.pid files.old) query.now) (mapping_of entry.now) addr said (mapping_of entry.now).name) result (caches elf.old perf_maps.old) (caches elf.new perf_maps.new) files.old files.new }
+    ensures keeps { Keeps dispatching.old.answers dispatching.new.answers }
+    ensures adds { AddsIn (D.may_dispatch dispatching.old.dispatch) (mapping_of entry.now) dispatching.old.answers dispatching.new.answers }
+    ensures dispatch { dispatching.new.dispatch ≡ dispatching.old.dispatch }
+{
+    match &entry.path_name {
+        None => perf_maps.unnamed(alloc, files, query, addr),
+        Some(name) => in_member(
+            elf,
+            dispatching,
+            alloc,
+            files,
+            query,
+            opts,
+            entry,
+            name,
+            addr,
+        ),
+    }
+}
+
+// The answer to an address of a mapping of this.
+fn in_member<D: ProcessDispatch + Drop, F: Files>(
+    elf: &mut FileCache<ElfFile>,
+    dispatching: &mut Dispatching<D>,
+    alloc: Global,
+    files: &mut F,
+    query: &ProcessQuery,
+    opts: &FindSymOpts,
+    entry: &MapsEntry,
+    name: &PathName,
+    addr: Addr,
+) -> Result<Symbolized<'static>>
+    ensures asks { (own : ℕ) (kept : PerfMaps) → AsksOne F.Files own reading (IsSaid (D.may_dispatch dispatching.old.dispatch) D.Resolver.TranslateFileOffset D.Resolver.Symbolize opts.now (mapping_of entry.now) name.now addr dispatching.old.answers dispatching.new.answers) (by_said (asked_of own query.now) (mapping_of entry.now) addr (name_of name.now)) result (caches elf.old kept) (caches elf.new kept) files.old files.new }
+    ensures keeps { Keeps dispatching.old.answers dispatching.new.answers }
+    ensures adds { Adds (D.may_dispatch dispatching.old.dispatch) (mapping_of entry.now) name.now dispatching.old.answers dispatching.new.answers }
+    ensures dispatch { dispatching.new.dispatch ≡ dispatching.old.dispatch }
+{
+    match dispatching.say(alloc, opts, entry, name, addr) {
+        Ok(None) => named(elf, alloc, files, query, entry, name, addr),
+        Ok(Some(answer)) => Ok(answer),
+        Err(error) => Err(error),
+    }
+}

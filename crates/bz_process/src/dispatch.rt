@@ -1,0 +1,54 @@
+//! Who else may answer for what a process has mapped.
+
+ghost use Rattle.std.specs.Prelude.{◌≡◌, None, Ok, IfErr, Option, Result};
+ghost use Rattle.bz_base.specs.Resolution.{MayGive};
+ghost use Rattle.bz_base.specs.declared.error.Error.{Error};
+ghost use Rattle.bz_process.specs.Member.{Member, MayRefuseMember, member_of};
+
+use bz_base::{Addr, Resolve, Result};
+use bz_elf::ElfResolver;
+use bz_proc::PathName;
+use std::alloc::Global;
+use std::ops::Range;
+
+/// What a process has mapped: the addresses, and what is mapped there.
+#[derive(Clone, Debug, Drop)]
+pub struct ProcessMemberInfo<'a> {
+    /// The addresses, absolute in the process.
+    pub range: Range<Addr>,
+    /// What is mapped.
+    pub member_entry: &'a PathName,
+}
+
+/// What says which resolver answers for what a process has mapped.
+pub trait ProcessDispatch {
+    /// What answers addresses, by their offsets in what is mapped.
+    type Resolver: Resolve + Drop;
+
+    /// Which answers it may give for a member: a resolver, none, or a refusal; want of memory may come
+    /// beside that.
+    ghost may_dispatch: { Self → Member → Result (Option Self.Resolver) Error → Type 0 };
+
+    /// The resolver for a member; none where the mapped file itself is to answer. It refuses a member by
+    /// Unsupported, NotFound, PermissionDenied, InvalidInput, InvalidData or UnexpectedEof alone, or by
+    /// OutOfMemory.
+    fn dispatch(&self, alloc: Global, info: ProcessMemberInfo<'_>) -> Result<Option<Self::Resolver>>
+        ensures answer { MayGive (λ given. given) (may_dispatch self.now (member_of info.entry)) result }
+        ensures refusal { IfErr result MayRefuseMember };
+}
+
+/// Gives no resolver.
+#[derive(Drop)]
+pub struct NoDispatch;
+
+impl ProcessDispatch for NoDispatch {
+    type Resolver = ElfResolver;
+
+    ghost may_dispatch = { λ _ member answer. answer ≡ Ok None };
+
+    fn dispatch(&self, alloc: Global, info: ProcessMemberInfo<'_>) -> Result<Option<ElfResolver>> {
+        let _alloc = alloc;
+        let _info = info;
+        Ok(None)
+    }
+}

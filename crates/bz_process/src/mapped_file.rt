@@ -1,0 +1,134 @@
+//! Files that processes have mapped.
+
+ghost use Rattle.std.specs.Prelude.{◌≡◌, ℕ, Ok, None, Some, cond, option_and_then, string_bytes, IfOk, IsOkUnless};
+ghost use Rattle.bz_base.specs.Answer.{reading, resolved_of};
+ghost use Rattle.bz_base.specs.declared.error.Error.{Error};
+ghost use Rattle.bz_calls.specs.FileCall.{CallsFile};
+ghost use Rattle.bz_elf.specs.Segments.{segments, translated};
+ghost use Rattle.bz_proc.specs.Maps.{mapping_of, name_of};
+ghost use Rattle.bz_process.specs.Asked.{asked_of};
+ghost use Rattle.bz_process.specs.Caches.{caches};
+ghost use Rattle.bz_process.specs.Process.{asks_elf, by_name, elf_at, elf_by_table, offset_in};
+ghost use Rattle.bz_process.specs.ProcessCall.{TakesStep};
+ghost use Rattle.bz_process.specs.declared.perf_maps.PerfMaps.{PerfMaps};
+
+use crate::query::ProcessQuery;
+use bz_base::{
+    Addr, Error, FindSymOpts, Reason, ResolvedSym, Result, Symbolize, Symbolized,
+    TranslateFileOffset,
+};
+use bz_cache::FileCache;
+use bz_calls::owned_answer;
+use bz_elf::ElfFile;
+use bz_files::Files;
+use bz_proc::{EntryPath, MapsEntry, PathName};
+use std::alloc::Global;
+
+/// The answer to an address of a mapping of this, where no resolver is in charge.
+pub(crate) fn named<F: Files>(
+    elf: &mut FileCache<ElfFile>,
+    alloc: Global,
+    files: &mut F,
+    query: &ProcessQuery,
+    entry: &MapsEntry,
+    name: &PathName,
+    addr: Addr,
+) -> Result<Symbolized<'static>>
+    ensures { (own : ℕ) (kept : PerfMaps) → TakesStep F.Files own reading (by_name (asked_of own query.now) (mapping_of entry.now) addr (name_of name.now)) result (caches elf.old kept) (caches elf.new kept) files.old files.new }
+{
+    match name {
+        PathName::Component(_) => Ok(Symbolized::Unknown(Reason::Unsupported)),
+        PathName::Path(path) => {
+            let file = file_of(query, path);
+            let offset = offset_in(entry, addr);
+            elf_answer(elf, alloc, files, file, path.symbolic_path.as_str(), offset)
+        }
+    }
+}
+
+// The path at which a mapped file is looked at.
+fn file_of<'p>(query: &ProcessQuery, path: &'p EntryPath) -> &'p str
+    ensures { result.now ≡ cond query.now.map_files (string_bytes path.now.maps_file) (string_bytes path.now.symbolic_path) }
+{
+    if query.map_files {
+        path.maps_file.as_str()
+    } else {
+        path.symbolic_path.as_str()
+    }
+}
+
+/// The offset of an address in the file that is mapped there; none where it is past 64 bits.
+pub(crate) fn offset_in(entry: &MapsEntry, addr: Addr) -> Option<u64>
+    ensures { result ≡ offset_in (mapping_of entry.now) addr }
+{
+    addr.saturating_sub(entry.range.start)
+        .checked_add(entry.offset)
+}
+
+// The answer of the ELF file at the path to an offset in it.
+fn elf_answer<F: Files>(
+    cache: &mut FileCache<ElfFile>,
+    alloc: Global,
+    files: &mut F,
+    path: &str,
+    module_path: &str,
+    offset: Option<u64>,
+) -> Result<Symbolized<'static>>
+    ensures { CallsFile F.Files reading (asks_elf module_path.now offset) path.now result cache.old cache.new files.old files.new }
+{
+    let file = cache.entry(alloc, files, path)?;
+    at_offset(alloc, file, module_path, offset)
+}
+
+// What an ELF file says of an offset in it, if there is one.
+fn at_offset(
+    alloc: Global,
+    file: &ElfFile,
+    module_path: &str,
+    offset: Option<u64>,
+) -> Result<Symbolized<'static>>
+    ensures answer { IfOk result (λ answer. reading answer ≡ elf_at module_path.now offset file.now) }
+    ensures memory { IsOkUnless result Error.OutOfMemory }
+{
+    match loaded_at(file, offset)? {
+        Some(addr) => {
+            let answer = symbol_at(alloc, file, module_path, addr)?;
+            owned_answer(alloc, answer)
+        }
+        None => Ok(Symbolized::Unknown(Reason::InvalidFileOffset)),
+    }
+}
+
+// The address at which the file's byte at an offset is loaded, if there is one.
+fn loaded_at(file: &ElfFile, offset: Option<u64>) -> Result<Option<Addr>>
+    ensures { result ≡ Ok (option_and_then (translated (segments file.now)) offset) }
+{
+    match offset {
+        Some(offset) => file.file_offset_to_virt_offset(offset),
+        None => Ok(None),
+    }
+}
+
+// What an ELF file says of an address as its symbol table has it. The texts are lent.
+fn symbol_at<'a>(
+    alloc: Global,
+    file: &'a ElfFile,
+    module_path: &'a str,
+    addr: Addr,
+) -> Result<Symbolized<'a>>
+    ensures answer { IfOk result (λ answer. reading answer ≡ elf_by_table module_path.now file.now (Some addr)) }
+    ensures memory { IsOkUnless result Error.OutOfMemory }
+{
+    match file.find_sym(alloc, addr, &FindSymOpts::Basic)? {
+        Ok(symbol) => Ok(Symbolized::Sym(named_so(symbol, module_path).into_sym(addr))),
+        Err(reason) => Ok(Symbolized::Unknown(reason)),
+    }
+}
+
+// The symbol, of the module that the path names.
+fn named_so<'a>(mut symbol: ResolvedSym<'a>, module_path: &'a str) -> ResolvedSym<'a>
+    ensures { resolved_of result ≡ record (resolved_of symbol.entry) { «module» = Some module_path.now } }
+{
+    symbol.module = Some(module_path);
+    symbol
+}
