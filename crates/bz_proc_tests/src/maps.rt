@@ -145,7 +145,10 @@ const LINES: &[(&[u8], Told)] = &[
     ),
     (b"1-2 r--p 3 0:0 4 \t/a\n", (1, 2, 3, "", "\t/a")),
     (b"1-2 r--p 3 0:0 4 a/b\n", (1, 2, 3, "", "a/b")),
-    (b"1-2 r--p 3 0:0 4 /\n", (1, 2, 3, "/proc/self/map_files/1-2", "/")),
+    (
+        b"1-2 r--p 3 0:0 4 /\n",
+        (1, 2, 3, "/proc/self/map_files/1-2", "/"),
+    ),
     // A mark of deletion is cut once, at the end of a path alone.
     (b"1-2 r--p 3 0:0 4 (deleted)\n", (1, 2, 3, "", "(deleted)")),
     (
