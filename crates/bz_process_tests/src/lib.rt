@@ -1,0 +1,9 @@
+//! Tests of bz_process, over what it makes public.
+#![tactic(auto)]
+
+#[cfg(test)]
+mod answers;
+#[cfg(test)]
+mod dispatchers;
+#[cfg(test)]
+mod files;
