@@ -1,5 +1,5 @@
 -- What is asked of a process, from its mappings and its addresses.
-use Rattle.std.proofs.Common.{◌≡◌, ℕ, false, List, [], ◌∷◌, ◌++◌, map, Option, Some, None, Result, Ok, Err, OnOk, IfOk, IsOkUnless, Vec, Global, inl, refl, sym, subst, ◌∙◌, arith}
+use Rattle.std.proofs.Common.{◌≡◌, ℕ, false, List, [], ◌∷◌, ◌++◌, map, Option, Some, None, Result, Ok, Err, OnOk, IfOk, IsOkUnless, Vec, Global, inl, inr, refl, sym, subst, ◌∙◌, arith}
 use Rattle.bz_base.specs.Answer.{reading}
 use Rattle.bz_base.specs.declared.error.Error.{Error}
 use Rattle.bz_base.specs.declared.error.Error.TheVariants as errors
@@ -97,6 +97,7 @@ module _ {R X : Type 0} (files : Ghosts X) (test : Test R) (translates : Transla
   asks_mapped mappings result old now answers answers_now before middle after one all keeps adds = record {
     mappings = mappings;
     mapped = λ world seen. on_ok result _ (one.told world seen).answer;
+    tied = λ world seen. inl (one.told world seen).answer;
     front = all.front;
     rest = all.rest;
     addrs_are = all.addrs_are;
@@ -113,6 +114,7 @@ module _ {R X : Type 0} (files : Ghosts X) (test : Test R) (translates : Transla
   asks_unmapped e old answers before after one = record {
     mappings = [];
     mapped = λ world seen. tt;
+    tied = λ world seen. inr refl;
     front = [];
     rest = addrs;
     addrs_are = refl;
@@ -135,6 +137,7 @@ module _ {R X : Type 0} (files : Ghosts X) (test : Test R) (translates : Transla
   asks_mapped_at mappings result old now answers answers_now before middle after one asks keeps adds = record {
     mappings = mappings;
     mapped = λ world seen. unless result _ (λ told is. let same : Ok told ≡ Ok mappings = sym is ∙ (one.told world seen).answer in cc same);
+    tied = λ world seen. inl (one.told world seen).answer;
     said = asks.said;
     allowed = asks.allowed;
     keeps = keeps;
@@ -153,6 +156,7 @@ module _ {R X : Type 0} (files : Ghosts X) (test : Test R) (translates : Transla
   asks_unmapped_at e old answers before after one = record {
     mappings = [];
     mapped = λ world seen. unread _ e (one.told world seen).answer;
+    tied = λ world seen. inr refl;
     said = None;
     allowed = unless {A = Symbolized} (Err e) _ refl;
     keeps = λ n a kept. kept;

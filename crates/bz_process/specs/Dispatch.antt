@@ -1,7 +1,6 @@
 -- What a dispatcher and its resolvers may say, and which of its answers are kept.
-use Rattle.std.specs.Prelude.{◌≡◌, ◌⊎◌, ℕ, Bool, true, false, ◌||◌, List, Option, Some, None, Result, Ok, Err, OnOk, OnErr, IfErr}
+use Rattle.std.specs.Prelude.{◌≡◌, ◌⊎◌, ℕ, true, List, Option, Some, None, Result, Ok, Err, OnOk, OnErr, IfErr}
 use Rattle.std.specs.BTreeMap.{is_at}
-use Rattle.std.specs.Str.{bytes_eq}
 use Rattle.bz_base.specs.Answer.{Answer, Resolved, Unknown, reading}
 use Rattle.bz_base.specs.declared.error.Error.{Error}
 use Rattle.bz_base.specs.declared.error.Error.TheVariants as errors
@@ -12,7 +11,7 @@ use Rattle.bz_base.specs.declared.types.Reason.{Reason}
 use Rattle.bz_base.specs.declared.types.Reason.TheVariants as reasons
 use Rattle.bz_base.specs.declared.types.Symbolized.{Symbolized}
 use Rattle.bz_cache.specs.InsertMap.{value_at}
-use Rattle.bz_proc.specs.Maps.{Mapping, Name, File, Component, name_of}
+use Rattle.bz_proc.specs.Maps.{Mapping, name_of}
 use Rattle.bz_proc.specs.NameOrder.{name_order}
 use Rattle.bz_proc.specs.declared.maps.PathName.{PathName}
 use Rattle.bz_process.specs.Member.{Member, MayRefuseMember, as_member}
@@ -89,8 +88,3 @@ pub record Asks {R : Type 0} (test : Test R) (mapping : Mapping) (name : PathNam
   pub refused : IfErr result (λ e. (e ≡ errors.OutOfMemory) ⊎ ((kept_for old name ≡ None) × test (as_member mapping (name_of name)) (Err e)))
   pub refusal : IfErr result MayRefuseMember
   pub err : OnErr result (now ≡ old)
-
--- it is a file at the path, by the path of a mapping or its own
-abbrev pub is_at_path : List ℕ → Name → Bool
-is_at_path path (File maps_file symbolic_path) = bytes_eq maps_file path || bytes_eq symbolic_path path
-is_at_path path (Component text) = false

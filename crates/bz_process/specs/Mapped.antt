@@ -1,5 +1,5 @@
 -- The mappings that a process is answered by: the kept ones, else those of the text that lies there.
-use Rattle.std.specs.Prelude.{◌≡◌, ℕ, List, [], ◌∷◌, ◌++◌, map, Option, Some, None, Result, Ok, Err, OnOk}
+use Rattle.std.specs.Prelude.{◌≡◌, ◌⊎◌, ℕ, List, [], ◌∷◌, ◌++◌, map, Option, Some, None, Result, Ok, Err, OnOk}
 use Rattle.std.specs.List.{AllByRecursion}
 use Rattle.bz_base.specs.Answer.{Answer}
 use Rattle.bz_base.specs.declared.error.Error.{Error}
@@ -49,6 +49,8 @@ pub record AsksProcess {A R X : Type 0} (files : Ghosts X) (reading : A → List
     (asked : Asked) (kept : Option (List Mapping)) (addrs : List ℕ) (result : Result A Error) (old now : ProcessCaches) (answers answers_now : Answers R) (before after : X) : Type 0 where
   pub mappings : List Mapping
   pub mapped : Told (in_view (files.worlds before)) (λ world. OnOk result ((some_mappings asked.pid kept world old).answer ≡ Ok mappings))
+  -- also after a refusal or a failure, unless no answer was added
+  pub tied : Told (in_view (files.worlds before)) (λ world. ((some_mappings asked.pid kept world old).answer ≡ Ok mappings) ⊎ (answers_now ≡ answers))
   pub front : List (ℕ × Said)
   pub rest : List ℕ
   pub addrs_are : map (λ item. item.0) front ++ rest ≡ addrs
@@ -68,6 +70,8 @@ pub record AsksProcessAt {A R X : Type 0} (files : Ghosts X) (reading : A → An
     (asked : Asked) (kept : Option (List Mapping)) (addr : ℕ) (result : Result A Error) (old now : ProcessCaches) (answers answers_now : Answers R) (before after : X) : Type 0 where
   pub mappings : List Mapping
   pub mapped : Told (in_view (files.worlds before)) (λ world. UnlessFailed result ((told : List Mapping) → (some_mappings asked.pid kept world old).answer ≡ Ok told → told ≡ mappings))
+  -- also after a refusal or a failure, unless no answer was added
+  pub tied : Told (in_view (files.worlds before)) (λ world. ((some_mappings asked.pid kept world old).answer ≡ Ok mappings) ⊎ (answers_now ≡ answers))
   pub said : Said
   pub allowed : UnlessFailed result (IsSaidAt test translates finds opts mappings addr answers answers_now said)
   pub keeps : Keeps answers answers_now
