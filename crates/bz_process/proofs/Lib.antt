@@ -1,6 +1,10 @@
 pub mod AskLemmas
 pub mod DispatchLemmas
+pub mod LawLemmas
+pub mod LookedLemmas
 pub mod MappedLemmas
 pub mod NobodyLemmas
 pub mod ProcessLemmas
 pub mod PromiseLemmas
+pub mod ReachLemmas
+pub mod RememberedLemmas

@@ -7,4 +7,5 @@ pub mod Process
 pub mod ProcessAsk
 pub mod ProcessCall
 pub mod Processes
+pub mod Reached
 pub mod Remembered

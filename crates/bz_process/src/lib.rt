@@ -6,6 +6,7 @@ mod answering;
 mod dispatch;
 mod dispatching;
 mod known;
+pub mod laws;
 mod mapped;
 mod mapped_file;
 mod perf_maps;
