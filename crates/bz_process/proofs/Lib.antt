@@ -1,5 +1,7 @@
 pub mod AskLemmas
+pub mod BoundLemmas
 pub mod DispatchLemmas
+pub mod EntryLemmas
 pub mod LawLemmas
 pub mod LookedLemmas
 pub mod MappedLemmas
@@ -7,4 +9,7 @@ pub mod NobodyLemmas
 pub mod ProcessLemmas
 pub mod PromiseLemmas
 pub mod ReachLemmas
+pub mod ReadsLemmas
 pub mod RememberedLemmas
+pub mod StepLemmas
+pub mod ViewLemmas

@@ -1,6 +1,7 @@
 pub mod Asked
 pub mod Caches
 pub mod Dispatch
+pub mod InView
 pub mod Mapped
 pub mod Member
 pub mod Process
@@ -8,4 +9,5 @@ pub mod ProcessAsk
 pub mod ProcessCall
 pub mod Processes
 pub mod Reached
+pub mod Reads
 pub mod Remembered

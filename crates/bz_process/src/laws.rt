@@ -1,19 +1,26 @@
 //! What holds of calls on processes.
 
-ghost use Rattle.std.specs.Prelude.{ℕ, List, Some, Result, Contains};
+ghost use Rattle.std.specs.Prelude.{◌≡◌, ◌∷◌, [], ℕ, ◌+◌, ◌≤◌, true, map, List, Option, Some, Result, Ok, IfOk, Contains};
 ghost use Rattle.std.specs.List.{AllByRecursion};
-ghost use Rattle.bz_base.specs.Answer.{Answer};
+ghost use Rattle.bz_base.specs.Answer.{Answer, in_batch};
 ghost use Rattle.bz_base.specs.InputKind.{AddressKind};
 ghost use Rattle.bz_base.specs.declared.error.Error.{Error};
 ghost use Rattle.bz_base.specs.declared.types.FindSymOpts.{FindSymOpts};
 ghost use Rattle.bz_files.specs.Agreement.{Agree};
 ghost use Rattle.bz_files.specs.World.{World, in_view};
 ghost use Rattle.bz_cache.specs.Cache.{Cache};
+ghost use Rattle.bz_cache.specs.Format.{Comes};
+ghost use Rattle.bz_proc.specs.Maps.{Mapping};
 ghost use Rattle.bz_process.specs.Asked.{Asked};
 ghost use Rattle.bz_process.specs.Caches.{ProcessCaches};
+ghost use Rattle.bz_process.specs.InView.{CoheresIn, process_in_view};
+ghost use Rattle.bz_process.specs.Mapped.{asks_process_at, some_mappings};
+ghost use Rattle.bz_process.specs.Process.{unsaid};
+ghost use Rattle.bz_process.specs.ProcessAsk.{GivesNone};
 ghost use Rattle.bz_process.specs.ProcessCall.{Change, IsTold, Reaches, after_changes};
-ghost use Rattle.bz_process.specs.Processes.{KeptProcesses, SymbolizesAddress, SymbolizesProcess, caches_of};
+ghost use Rattle.bz_process.specs.Processes.{KeptProcesses, SymbolizesAddress, SymbolizesProcess, caches_of, is_in_process, kept_mappings};
 ghost use Rattle.bz_process.specs.Reached.{AreLookedOver, CohereWithAll};
+ghost use Rattle.bz_process.specs.Reads.{HavePaths, reads_again, reads_once};
 
 use crate::dispatch::ProcessDispatch;
 use bz_files::Files;
@@ -43,4 +50,35 @@ pub fn looks_stay_coherent()
 /// a call on a process, whatever it answers.
 pub fn paths_are_as_looked()
     ensures { (own : ℕ) (world : World) (old now : ProcessCaches) → Reaches own (Some world) old now → AreLookedOver own world old now }
+{}
+
+/// With a dispatcher that gives no resolver, where versions cohere with the world in view, every entry of
+/// a batch is answered by what is in view when the call begins, at its address alone, where a refusal is an
+/// ignored error; and so is an address that is asked alone. So entries stand alone, addresses in another
+/// order have their answers in that order, and an entry is the answer of the single call or folds its
+/// refusal.
+pub fn entries_are_in_view<D: ProcessDispatch + Drop, F: Files, A>()
+    ensures batch { (reading : A → List Answer) (opts : FindSymOpts) (asked : Asked) (kind : AddressKind) (addrs : List ℕ) (result : Result A Error) (elf elf_now : Cache) (old now : KeptProcesses D D.Resolver) (before after : F) (world : World) →
+        SymbolizesProcess F.Files reading (D.may_dispatch old.dispatcher) D.Resolver.TranslateFileOffset D.Resolver.Symbolize opts asked kind addrs result elf elf_now old now before after → GivesNone (D.may_dispatch old.dispatcher) → in_view (F.worlds before) ≡ Some world → CoheresIn world (caches_of elf old) →
+        IfOk result (λ answers. reading answers ≡ map (λ addr. in_batch (process_in_view asked world (caches_of elf old) (kept_mappings old asked.pid) addr)) addrs) }
+    ensures single { (reading : A → Answer) (opts : FindSymOpts) (asked : Asked) (kind : AddressKind) (addr : ℕ) (result : Result A Error) (elf elf_now : Cache) (old now : KeptProcesses D D.Resolver) (before after : F) (world : World) →
+        SymbolizesAddress F.Files reading (D.may_dispatch old.dispatcher) D.Resolver.TranslateFileOffset D.Resolver.Symbolize opts asked kind addr result elf elf_now old now before after → is_in_process kind ≡ true → GivesNone (D.may_dispatch old.dispatcher) → in_view (F.worlds before) ≡ Some world → CoheresIn world (caches_of elf old) →
+        Comes reading (process_in_view asked world (caches_of elf old) (kept_mappings old asked.pid) addr) result }
+    ensures alone { (asked : Asked) (known : Option (List Mapping)) (world : World) (kept : ProcessCaches) (addr : ℕ) →
+        CoheresIn world kept → (asks_process_at asked known (unsaid addr) world kept).answer ≡ process_in_view asked world kept known addr }
+{}
+
+/// Where the world is told, a call on a process reads no more files than were left to read: the text of
+/// the mappings where none are kept, the status of a process of which nothing is remembered, and each
+/// mapped file and perf map whose present stamp isn't kept, once; and in a batch one for each address that
+/// is refused. The paths are any that have those of the mapped files.
+pub fn reads_are_few<D: ProcessDispatch + Drop, F: Files, A>()
+    ensures batch { (reading : A → List Answer) (opts : FindSymOpts) (asked : Asked) (kind : AddressKind) (addrs : List ℕ) (result : Result A Error) (elf elf_now : Cache) (old now : KeptProcesses D D.Resolver) (before after : F) (world : World) (paths : List (List ℕ)) →
+        SymbolizesProcess F.Files reading (D.may_dispatch old.dispatcher) D.Resolver.TranslateFileOffset D.Resolver.Symbolize opts asked kind addrs result elf elf_now old now before after → in_view (F.worlds before) ≡ Some world →
+        ((mappings : List Mapping) → (some_mappings asked.pid (kept_mappings old asked.pid) world (caches_of elf old)).answer ≡ Ok mappings → HavePaths asked paths mappings addrs) →
+        F.opens after ≤ F.opens before + (reads_once asked world paths (kept_mappings old asked.pid) (caches_of elf old) + reads_again reading addrs result) }
+    ensures single { (reading : A → Answer) (opts : FindSymOpts) (asked : Asked) (kind : AddressKind) (addr : ℕ) (result : Result A Error) (elf elf_now : Cache) (old now : KeptProcesses D D.Resolver) (before after : F) (world : World) (paths : List (List ℕ)) →
+        SymbolizesAddress F.Files reading (D.may_dispatch old.dispatcher) D.Resolver.TranslateFileOffset D.Resolver.Symbolize opts asked kind addr result elf elf_now old now before after → in_view (F.worlds before) ≡ Some world →
+        ((mappings : List Mapping) → (some_mappings asked.pid (kept_mappings old asked.pid) world (caches_of elf old)).answer ≡ Ok mappings → HavePaths asked paths mappings (addr ∷ [])) →
+        F.opens after ≤ F.opens before + reads_once asked world paths (kept_mappings old asked.pid) (caches_of elf old) }
 {}
