@@ -1,1 +1,2 @@
 pub mod FileCall
+pub mod Pinning

@@ -1,11 +1,14 @@
 //! A call on one file in one cache: what it answers, and what it leaves.
 #![tactic(auto)]
 
+mod pinning;
+
 ghost use Rattle.std.specs.Prelude.{◌≡◌, IfOk, IsOkUnless};
 ghost use Rattle.bz_base.specs.Answer.{reading};
 ghost use Rattle.bz_base.specs.declared.error.Error.{Error};
 
 use bz_base::{Result, Sym, Symbolized};
+pub use pinning::pin_file;
 use std::alloc::Global;
 
 /// The same answer, with texts of its own. OutOfMemory: there was none for the texts.

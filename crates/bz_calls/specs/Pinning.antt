@@ -1,0 +1,63 @@
+-- Pinning a path at the version that a look gives, where a refusal changes nothing.
+use Rattle.std.specs.Prelude.{◌≡◌, ℕ, Bool, true, false, List, Option, IsSome, Result, Ok, Err, IsOk, OnOk, OnErr, IfErr}
+use Rattle.bz_base.specs.declared.error.Error.{Error}
+use Rattle.bz_files.specs.Looked.{Faulted, Looked, ReadsOne}
+use Rattle.bz_files.specs.World.{World, Entry, Told, entry_at, in_view}
+use Rattle.bz_files.specs.declared.files.Files.{Ghosts}
+use Rattle.bz_cache.specs.Cache.{Cache, Consistent, with_pin}
+use Rattle.bz_cache.specs.Format.{Comes, FailsAs, MayFail}
+use Rattle.bz_cache.specs.Look.{look, will_open, opens_after, Lends}
+use Rattle.bz_cache.specs.View.{fixed}
+
+-- a path at which a look gave a version is pinned there; a look that is refused changes nothing
+abbrev pub pinned_by : Cache → List ℕ → Result (List ℕ) Error × Cache → Result (Unit {0}) Error × Cache
+pinned_by cache path (Ok version, looked) = (Ok tt, with_pin true looked path)
+pinned_by cache path (Err e, looked) = (Err e, cache)
+
+-- the path is looked at as if it weren't pinned, and is pinned then
+abbrev pub pinning : (List ℕ → Option Error) → Cache → List ℕ → Option Entry → Result (Unit {0}) Error × Cache
+pinning test cache path there = pinned_by cache path (look test (with_pin false cache path) path there)
+
+-- something that may lie at the path is answered, and this cache is left; where it is told what lies there, it is that
+pub record IsLeft (expected : Option Entry → Result (Unit {0}) Error × Cache) (path : List ℕ) (in_view : Option World) (now : Cache) : Type 0 where
+  pub there : Option Entry
+  pub told : Told in_view (λ world. there ≡ entry_at world path)
+  pub leaves : expected there ≡ (Ok tt, now)
+
+-- a call that looks at the path reads the file exactly where it has to: where it is answered, and never else; and once at most
+pub record ReadsAt {A X : Type 0} (files : Ghosts X) (opens : Option Entry → Bool) (path : List ℕ) (result : Result A Error) (before after : X) : Type 0 where
+  pub opened : Told (in_view (files.worlds before)) (λ world. OnOk result (files.opens after ≡ opens_after (opens (entry_at world path)) (files.opens before)))
+  pub spared : Told (in_view (files.worlds before)) (λ world. opens (entry_at world path) ≡ false → files.opens after ≡ files.opens before)
+  pub most : ReadsOne files before after
+
+-- all that pinning a path does
+pub record PinsFile {X : Type 0} (files : Ghosts X) (test : List ℕ → Option Error) (path : List ℕ) (result : Result (Unit {0}) Error) (old now : Cache) (before after : X) : Type 0 where
+  -- where it is told what lies at the path, it is answered or refused by that
+  pub answer : Told (in_view (files.worlds before)) (λ world. Comes (λ (done : Unit {0}). done) (pinning test old path (entry_at world path)).0 result)
+  -- an answer leaves the path pinned at the version of a look; a refusal, whichever it is, changes nothing
+  pub left : OnOk result (IsLeft (pinning test old path) path (in_view (files.worlds before)) now)
+  pub err : OnErr result (now ≡ old)
+  -- a held path of a cache that doesn't look anew is pinned as it is
+  pub sure : IsSome (fixed (with_pin false old path) path) → IsOk result × (after ≡ before)
+  -- the cache stays well kept
+  pub consistent : Consistent test old → Consistent test now
+  pub reload : now.reload ≡ old.reload
+  -- of the files: they are only looked at, and one at most is read
+  pub reads : ReadsAt files (will_open (with_pin false old path) path) path result before after
+  pub looked : Looked files before after (Faulted result)
+  pub refusal : IfErr result (MayFail test)
+
+-- a look gave some version, or was refused so
+abbrev pub Sees : Result (List ℕ) Error → Result (Unit {0}) Error → Type 0
+Sees looked (Ok done) = (version : List ℕ) × (looked ≡ Ok version)
+Sees looked (Err e) = FailsAs looked e
+
+-- all that a look at a path does, of whose version nothing is asked
+pub record LooksAt {X : Type 0} (files : Ghosts X) (test : List ℕ → Option Error) (path : List ℕ) (result : Result (Unit {0}) Error) (old now : Cache) (before after : X) : Type 0 where
+  pub answer : Told (in_view (files.worlds before)) (λ world. Sees (look test old path (entry_at world path)).0 result)
+  pub lent : OnOk result ((version : List ℕ) × Lends test old now path version (in_view (files.worlds before)))
+  pub err : OnErr result (now ≡ old)
+  pub sure : IsSome (fixed old path) → IsOk result × (after ≡ before)
+  pub reads : ReadsAt files (will_open old path) path result before after
+  pub looked : Looked files before after (Faulted result)
+  pub refusal : IfErr result (MayFail test)
