@@ -1,7 +1,12 @@
 pub mod AskLemmas
 pub mod BoundLemmas
+pub mod CachingLaws
+pub mod CachingLemmas
+pub mod CachingPromise
 pub mod DispatchLemmas
 pub mod EntryLemmas
+pub mod ForgettingLemmas
+pub mod KeptLemmas
 pub mod LawLemmas
 pub mod LookedLemmas
 pub mod MappedLemmas

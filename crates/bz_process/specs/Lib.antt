@@ -1,6 +1,9 @@
 pub mod Asked
 pub mod Caches
+pub mod Caching
+pub mod CachingCall
 pub mod Dispatch
+pub mod Forgetting
 pub mod InView
 pub mod Mapped
 pub mod Member

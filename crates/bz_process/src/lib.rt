@@ -3,8 +3,11 @@
 #![tactic(auto)]
 
 mod answering;
+mod caching;
+pub mod caching_laws;
 mod dispatch;
 mod dispatching;
+mod forgetting;
 mod known;
 pub mod laws;
 mod mapped;
@@ -13,6 +16,7 @@ mod perf_maps;
 mod processes;
 mod query;
 
+pub use caching::ProcessCaching;
 pub use dispatch::{NoDispatch, ProcessDispatch, ProcessMemberInfo};
 pub use processes::Processes;
 pub use query::ProcessQuery;

@@ -97,8 +97,8 @@ fn known_or_read<F: Files>(
     }
 }
 
-// The mappings of the text that lies there.
-fn read_mapped<F: Files>(alloc: Global, files: &mut F, pid: Pid) -> Result<Mapped>
+/// The mappings of the text that lies there.
+pub(crate) fn read_mapped<F: Files>(alloc: Global, files: &mut F, pid: Pid) -> Result<Mapped>
     ensures { (own : ℕ) (kept : ProcessCaches) → TakesStep F.Files own (λ (mapped : List Mapping). mapped) (of_text (maps_told pid) (maps_path pid)) result kept kept files.old files.new }
 {
     let mappings = read_mappings(alloc, files, pid)?;

@@ -1,12 +1,12 @@
 //! The perf maps of processes, and what is remembered of processes to find them.
 
-ghost use Rattle.std.specs.Prelude.{◌≡◌, None, false, IfErr, IfOk, IsOkUnless};
+ghost use Rattle.std.specs.Prelude.{◌≡◌, None, false, IfErr, IfOk, IsOkUnless, OnErr};
 ghost use Rattle.bz_base.specs.Answer.{reading};
 ghost use Rattle.bz_base.specs.Resolution as resolution;
 ghost use Rattle.bz_base.specs.declared.error.Error.{Error};
 ghost use Rattle.bz_cache.specs.Cache.{Cache};
 ghost use Rattle.bz_cache.specs.Format.{Comes};
-ghost use Rattle.bz_cache.specs.InsertMap.{value_at};
+ghost use Rattle.bz_cache.specs.InsertMap.{value_at, with_absent};
 ghost use Rattle.bz_calls.specs.FileCall.{CallsFile};
 ghost use Rattle.bz_files.specs.Looked.{Faulted, Looked, ReadsOne};
 ghost use Rattle.bz_files.specs.World.{Told, entry_at, in_view};
@@ -81,10 +81,17 @@ impl PerfMaps {
         perf_map_answer(&mut self.files, alloc, files, known.perf_map(), addr)
     }
 
-    // What is remembered of the process; if nothing is, what its status tells, which is then
-    // remembered.
-    fn known<F: Files>(&mut self, alloc: Global, files: &mut F, pid: Pid) -> Result<Known>
-        ensures { (elf : Cache) → TakesStep F.Files (F.pid files.old) (λ known. known) (remember pid (F.pid files.old)) result (caches elf self.old) (caches elf self.new) files.old files.new }
+    /// What is remembered of the process; if nothing is, what its status tells, which is then
+    /// remembered.
+    pub(crate) fn known<F: Files>(
+        &mut self,
+        alloc: Global,
+        files: &mut F,
+        pid: Pid,
+    ) -> Result<Known>
+        ensures step { (elf : Cache) → TakesStep F.Files (F.pid files.old) (λ known. known) (remember pid (F.pid files.old)) result (caches elf self.old) (caches elf self.new) files.old files.new }
+        ensures ok { IfOk result (λ known. self.new ≡ record self.old { ids = with_absent pid_cmp self.old.ids pid known }) }
+        ensures err { OnErr result (self.new ≡ self.old) }
     {
         match self.ids.get(&pid) {
             Some(known) => known.share(),
@@ -95,7 +102,9 @@ impl PerfMaps {
     // Remembers a process by its status.
     fn remember<F: Files>(&mut self, alloc: Global, files: &mut F, pid: Pid) -> Result<Known>
         requires { value_at pid_cmp self.old.ids pid ≡ None }
-        ensures { (elf : Cache) → TakesStep F.Files (F.pid files.old) (λ known. known) (remember pid (F.pid files.old)) result (caches elf self.old) (caches elf self.new) files.old files.new }
+        ensures step { (elf : Cache) → TakesStep F.Files (F.pid files.old) (λ known. known) (remember pid (F.pid files.old)) result (caches elf self.old) (caches elf self.new) files.old files.new }
+        ensures ok { IfOk result (λ known. self.new ≡ record self.old { ids = with_absent pid_cmp self.old.ids pid known }) }
+        ensures err { OnErr result (self.new ≡ self.old) }
     {
         let known = read_known(alloc, files, pid)?;
         let shared = known.share()?;

@@ -23,6 +23,8 @@ use bz_files::Files;
 use std::alloc::Global;
 use std::marker::Model;
 
+mod keeping;
+
 /// What is kept to answer for processes: perf maps, what is remembered of processes, mappings, and a
 /// dispatcher with its answers. The ELF files are handed in at each call, so that sources may share them.
 #[derive(Drop)]

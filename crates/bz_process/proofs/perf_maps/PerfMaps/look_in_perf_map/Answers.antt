@@ -13,7 +13,7 @@ returns-in_err-known g c elf =
     let same = err_from_is_err_and c.from_residual.result c.from_residual.ensures.1 in
     rw (same.1, same.2)
     (refused g.F.Files own (λ (k : Remembered). k) reading (remember c.args.pid own) (λ k. of_perf_map (asks_perf_map c.args.addr) k.perf_map)
-    c.in_err-known.field-0.0 (caches elf c.args.self.now) (caches elf c.known.new.self) c.args.files.now c.known.new.files (c.in_err-known.ensures elf))
+    c.in_err-known.field-0.0 (caches elf c.args.self.now) (caches elf c.known.new.self) c.args.files.now c.known.new.files (c.in_err-known.ensures.step elf))
 
 -- the perf map is looked at by what is remembered
 pub returns : goal.returns
@@ -23,5 +23,5 @@ returns g c elf =
     let called = rw c.perf_map.ensures at c.perf_map_answer.ensures in
     in_order g.F.Files own (λ (k : Remembered). k) reading (remember c.args.pid own) (λ k. of_perf_map (asks_perf_map c.args.addr) k.perf_map)
     known c.perf_map_answer.result (caches elf c.args.self.now) (caches elf c.known.new.self) _ c.args.files.now c.known.new.files c.perf_map_answer.new.files
-    (c.in_ok-known.ensures elf)
+    (c.in_ok-known.ensures.step elf)
     (looks_at_perf_map g.F.Files own reading _ known.perf_map c.perf_map_answer.result (caches elf c.known.new.self) c.perf_map_answer.new.cache c.known.new.files c.perf_map_answer.new.files called)

@@ -1,0 +1,30 @@
+use Rattle.std.proofs.Common.{[], refl}
+use Rattle.bz_process.specs.Caching.{caching_of}
+use Rattle.bz_process.specs.CachingCall.{MayKeep}
+use Rattle.bz_process.proofs.CachingPromise.{may_keep, on_err, on_ok}
+use Rattle.bz_process.proofs.caching.cache_process.Goals as goal
+
+-- the mappings are asked for
+pub returns-then-request-clause-step : goal.returns-then-request-clause-step
+returns-then-request-clause-step g c elf = rw c.if-request.true (c.cache_mapped.ensures.step elf)
+
+pub returns-then-request-clause-mappings : goal.returns-then-request-clause-mappings
+returns-then-request-clause-mappings g c world seen = rw c.if-request.true (c.cache_mapped.ensures.mappings world seen)
+
+pub returns-then-request-clause-some : goal.returns-then-request-clause-some
+returns-then-request-clause-some g c =
+    may_keep (caching_of (g.F.Files.pid c.args.files.now) c.args.request.now) c.cache_mapped.result c.args.mappings.now c.cache_mapped.new.mappings c.if-request.true c.cache_mapped.ensures.some
+
+-- they aren't
+pub returns-else-request-clause-step : goal.returns-else-request-clause-step
+returns-else-request-clause-step g c elf = rw c.if-request.false (c.cache.ensures elf)
+
+pub returns-else-request-clause-mappings : goal.returns-else-request-clause-mappings
+returns-else-request-clause-mappings g c world seen = on_ok c.cache.result _ (rw c.if-request.false refl)
+
+pub returns-else-request-clause-some : goal.returns-else-request-clause-some
+returns-else-request-clause-some g c =
+    on_ok c.cache.result (MayKeep (caching_of (g.F.Files.pid c.args.files.now) c.args.request.now) c.args.mappings.now c.args.mappings.now) (record { mappings = []; kept = rw c.if-request.false refl })
+
+pub returns-else-request-clause-err : goal.returns-else-request-clause-err
+returns-else-request-clause-err g c = on_err c.cache.result _ refl

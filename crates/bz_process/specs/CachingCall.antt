@@ -1,0 +1,75 @@
+-- What caching a process does: all of what it is asked for, or nothing.
+use Rattle.std.specs.Prelude.{◌≡◌, ℕ, ◌+◌, ◌≤◌, Bool, cond, List, [], ◌∷◌, Option, Result, OnOk, OnErr}
+use Rattle.std.specs.List.{AllByRecursion}
+use Rattle.bz_base.specs.declared.error.Error.{Error}
+use Rattle.bz_files.specs.Looked.{Faulted, Looked}
+use Rattle.bz_files.specs.World.{World, Told, in_view}
+use Rattle.bz_files.specs.declared.files.Files.{Ghosts}
+use Rattle.bz_cache.specs.Cache.{Cache, with_pin}
+use Rattle.bz_cache.specs.Format.{Comes}
+use Rattle.bz_proc.specs.Maps.{Mapping}
+use Rattle.bz_proc.specs.PerfMap as perf
+use Rattle.bz_process.specs.Caches.{ProcessCaches}
+use Rattle.bz_process.specs.Caching.{Caching, KeptMappings, caches_process, mappings_after, with_mappings}
+use Rattle.bz_process.specs.Process.{Outcome, Step}
+use Rattle.bz_process.specs.ProcessCall.{Change, IsTold, StaysKept, changed}
+use Rattle.bz_process.specs.Processes.{KeptProcesses, caches_of}
+
+-- what caching may change: what a call may that answers, and whether the path of a perf map is pinned, if it is held
+pub data CachingChange : Type 0 where
+  Called : Change → CachingChange
+  PinPerfMap : Bool → List ℕ → CachingChange
+
+abbrev pub cached_so : CachingChange → ProcessCaches → ProcessCaches
+cached_so (Called change) kept = changed change kept
+cached_so (PinPerfMap pinned path) kept = record kept { perf_maps = with_pin pinned kept.perf_maps path }
+
+abbrev pub after_caching : List CachingChange → ProcessCaches → ProcessCaches
+after_caching [] kept = kept
+after_caching (change ∷ later) kept = after_caching later (cached_so change kept)
+
+-- looks and ids are those that the world tells
+abbrev pub IsCachedTold : ℕ → World → CachingChange → Type 0
+IsCachedTold own world (Called change) = IsTold own world change
+IsCachedTold own world (PinPerfMap pinned path) = Unit {0}
+
+-- some looks, ids and pins lead from one to the other; where the world in view is told, they are those that it tells
+pub record CachingReaches (own : ℕ) (in_view : Option World) (old now : ProcessCaches) : Type 0 where
+  pub changes : List CachingChange
+  pub told : Told in_view (λ world. AllByRecursion (IsCachedTold own world) changes)
+  pub leads : now ≡ after_caching changes old
+
+-- such a step where it is told what lies at each path: its answer, what an answer leaves; and it reads no more files
+pub record HasWhole {A B : Type 0} (reading : A → B) (expected : Outcome B) (result : Result A Error) (now : ProcessCaches) (before after : ℕ) : Type 0 where
+  pub answer : Comes reading expected.answer result
+  pub left : OnOk result (now ≡ expected.left)
+  pub opened : after ≤ before + expected.opens
+
+-- a step that is taken whole, or changes nothing where it is refused
+pub record TakesWhole {A B X : Type 0} (files : Ghosts X) (own : ℕ) (reading : A → B) (expected : Step B) (result : Result A Error) (old now : ProcessCaches) (before after : X) : Type 0 where
+  pub told : Told (in_view (files.worlds before)) (λ world. HasWhole reading (expected world old) result now (files.opens before) (files.opens after))
+  -- whatever is told, and whichever the refusal is
+  pub err : OnErr result (now ≡ old)
+  pub reached : CachingReaches own (in_view (files.worlds before)) old now
+  pub perf_maps : StaysKept perf.format_test old.perf_maps now.perf_maps
+  -- of the files: they are only looked at
+  pub looked : Looked files before after (Faulted result)
+
+-- the mappings of this process alone may be others, and only where they are asked for
+pub record MayKeep (asked : Caching) (old now : KeptMappings) : Type 0 where
+  pub mappings : List Mapping
+  pub kept : now ≡ cond asked.vmas (with_mappings asked.pid old mappings) old
+
+-- all that caching a process promises
+pub record CachesProcess {D R X : Type 0} (files : Ghosts X) (asked : Caching) (result : Result (Unit {0}) Error) (old now : KeptProcesses D R) (before after : X) : Type 0 where
+  -- beside any ELF files: where it is told what lies at each path, it is answered or refused by that, and an answer leaves these
+  -- perf maps and ids; whatever is told, looks, ids and pins lead to them; and the files are only looked at
+  pub step : (elf : Cache) → TakesWhole files asked.own (λ (done : Unit {0}). done) (caches_process asked) result (caches_of elf old) (caches_of elf now) before after
+  -- an answer leaves these mappings
+  pub mappings : Told (in_view (files.worlds before)) (λ world. OnOk result (now.mappings ≡ mappings_after asked world old.mappings))
+  pub some : OnOk result (MayKeep asked old.mappings now.mappings)
+  -- a refusal, whichever it is, changes nothing
+  pub err : OnErr result (now ≡ old)
+  -- nothing else changes
+  pub dispatcher : now.dispatcher ≡ old.dispatcher
+  pub answers : now.answers ≡ old.answers

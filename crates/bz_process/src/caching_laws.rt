@@ -1,0 +1,21 @@
+//! What holds of caching and forgetting processes.
+
+ghost use Rattle.std.specs.Prelude.{ℕ, List, Some, Contains};
+ghost use Rattle.bz_base.specs.declared.pid.Pid.{Pid};
+ghost use Rattle.bz_cache.specs.Coherence.{CoherentWithAll};
+ghost use Rattle.bz_files.specs.Agreement.{Agree};
+ghost use Rattle.bz_files.specs.World.{World};
+ghost use Rattle.bz_process.specs.Caches.{ProcessCaches};
+ghost use Rattle.bz_process.specs.CachingCall.{CachingReaches};
+ghost use Rattle.bz_process.specs.Forgetting.{without_process};
+ghost use Rattle.bz_process.specs.Processes.{KeptProcesses};
+
+/// Where kept versions cohere with all of some worlds that agree, they still do once a process was cached
+/// in one of these worlds, and once one was forgotten.
+pub fn caching_stays_coherent<D, R>()
+    ensures cached { (own : ℕ) (worlds : List World) (world : World) (old now : ProcessCaches) →
+        Agree worlds → Contains worlds world → CachingReaches own (Some world) old now →
+        CoherentWithAll old.elf.kept worlds × CoherentWithAll old.perf_maps.kept worlds → CoherentWithAll now.elf.kept worlds × CoherentWithAll now.perf_maps.kept worlds }
+    ensures forgotten { (worlds : List World) (pid : Pid) (kept : KeptProcesses D R) →
+        CoherentWithAll kept.perf_maps.kept worlds → CoherentWithAll (without_process pid kept).perf_maps.kept worlds }
+{}
