@@ -14,7 +14,7 @@ use Rattle.bz_symbolize.proofs.PromiseLemmas.{IsFormatOf}
 use Rattle.bz_symbolize.specs.Alike.{batch_in_view, single_in_view, StandsAlone, AreAlike, IsFolded, EntriesStandAlone, OrderMovesAnswers, BatchesFoldRefusals, HandedStandAlone, OrderMovesHanded, HandedFold}
 use Rattle.bz_symbolize.specs.FileCall.{batch_of, by_view, shown_answer, single_of}
 use Rattle.bz_symbolize.specs.Promise.{IsAnswerOf}
-use Rattle.bz_symbolize.specs.Sources.{FileSource, HandedSource, SourceForm, OneFile, Handed, OnFile, OnHanded, OnHandedForm, asked_of, form_of}
+use Rattle.bz_symbolize.specs.Sources.{FileSource, HandedSource, SourceForm, OneFile, Handed, OneProcess, OnFile, OnHanded, OnHandedForm, asked_of, form_of}
 use Rattle.bz_symbolize.specs.declared.source.Source.{Source}
 
 -- an address of some kind
@@ -117,6 +117,7 @@ as_file given = record { test = given.test; answering = given.answering; path = 
 by_handed_form : (form : SourceForm) {Q : HandedSource → Type 0} → ((given : HandedSource) → Q given) → OnHandedForm form Q
 by_handed_form (OneFile file) f = tt
 by_handed_form (Handed given) f = f given
+by_handed_form (OneProcess asked) f = tt
 
 any_handed : (source : Source) {Q : HandedSource → Type 0} → ((given : HandedSource) → Q given) → OnHanded source Q
 any_handed source f = by_handed_form (form_of source) f

@@ -24,6 +24,7 @@ pub never_refused : (source : Source) (opts : FindSymOpts) (bytes : List ℕ) (k
 never_refused (sources.Breakpad source) opts bytes kind addrs e is = let plain = is.plain in cc
 never_refused (sources.Gsym source) opts bytes kind addrs e is = let plain = is.plain in cc
 never_refused (sources.Elf source) opts bytes kind addrs e is = let plain = is.plain in cc
+never_refused (sources.Process source) opts bytes kind addrs e is = is
 
 -- what a Breakpad file answers to a batch is the batch of its table
 pub batch_answered : (opts : FindSymOpts) (bytes : List ℕ) (kind : AddressKind) (addrs : List ℕ) (answers : List Answer) →

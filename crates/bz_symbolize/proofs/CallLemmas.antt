@@ -7,7 +7,7 @@ use Rattle.bz_base.specs.declared.error.Error.TheVariants as errors
 use Rattle.bz_base.specs.declared.types.FindSymOpts.{FindSymOpts}
 use Rattle.bz_files.specs.World.{Told, in_view}
 use Rattle.bz_files.specs.declared.files.Files.{Ghosts}
-use Rattle.bz_symbolize.proofs.Formats.{on_file, on_handed, both, told_by_form}
+use Rattle.bz_symbolize.proofs.Formats.{on_file, on_handed, both, told_by_form, unless_process}
 use Rattle.bz_symbolize.proofs.GsymLemmas.{gives_all}
 use Rattle.bz_symbolize.proofs.HeldLemmas.{Follows, asks_held}
 use Rattle.bz_symbolize.proofs.LeaveLemmas.{told_from_file, step_from_told, leaves_from_some, unchanged}
@@ -15,7 +15,7 @@ use Rattle.bz_symbolize.proofs.PromiseLemmas.{look_from_told, view_from_told, ca
 use Rattle.bz_symbolize.specs.Batch.{held_singles}
 use Rattle.bz_symbolize.specs.FileCall.{Query, CallsFile, each_of}
 use Rattle.bz_symbolize.specs.Promise.{AsksSource, CallTold, Symbolizes}
-use Rattle.bz_symbolize.specs.Sources.{FileSource, OnFile, asked_of, form_of}
+use Rattle.bz_symbolize.specs.Sources.{FileSource, OnFile, UnlessProcess, asked_of, form_of}
 use Rattle.bz_symbolize.specs.State.{State, opts_of}
 use Rattle.bz_symbolize.specs.declared.held.Held.{Held}
 use Rattle.bz_symbolize.specs.declared.source.Source.{Source}
@@ -32,7 +32,7 @@ module _ {A B X : Type 0} (files : Ghosts X) (reading : A → B) (source : Sourc
   promised did =
       let opts : FindSymOpts = opts_of old.settings in
       let whole : OnFile source (λ file. Calls file × Rests file) = both source Calls Rests did.called did.rest in
-      let told_all : Told (in_view (files.worlds before)) (λ world. CallTold reading opts (form_of source) query result old now world (files.opens before) (files.opens after)) = λ world seen. told_by_form reading opts (form_of source) query result old now world _ _
+      let told_all : Told (in_view (files.worlds before)) (λ world. UnlessProcess source (CallTold reading opts (form_of source) query result old now world (files.opens before) (files.opens after))) = λ world seen. told_by_form reading opts (form_of source) query result old now world _ _
       (on_file query source whole (λ file laws all. told_from_file opts source file query laws old reading now all.1 world _ _ result (all.0.told world seen)))
       (on_handed source did.handed (λ given is. (is.0, is.1, ap files.opens is.2))) in
       record {
@@ -42,7 +42,7 @@ module _ {A B X : Type 0} (files : Ghosts X) (reading : A → B) (source : Sourc
         causes = on_file query source did.called (λ file laws all world seen coherent. causes_from_told opts source file query laws old reading world result coherent (all.told world seen).answer);
         complete = on_file query source did.called (λ file laws all world seen coherent. complete_from_told opts source file query laws old reading world result coherent (all.told world seen).answer);
         told = told_all;
-        history = λ world seen. step_from_told result old now _ (told_all world seen).state;
+        history = λ world seen. unless_process source (told_all world seen) (λ told. step_from_told result old now _ told.state);
         leaves = on_file query source whole (λ file laws all. leaves_from_some opts source file query laws old reading now all.1 result
             (λ other. unchanged opts source file query laws old reading now all.1 (all.0.untaken other).1) all.0.some);
         handed = did.handed;

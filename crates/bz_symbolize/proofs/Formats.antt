@@ -1,5 +1,5 @@
 -- What the format of each source means in the words of its subject.
-use Rattle.std.proofs.Common.{◌≡◌, ℕ, Bool, true, false, List, Option, Some, None, Result, Ok, Err, OnOk, refl, inl}
+use Rattle.std.proofs.Common.{◌≡◌, ℕ, Bool, true, false, List, Option, Some, None, Result, Ok, Err, OnOk, refl, inl, ap}
 use Rattle.bz_base.specs.declared.error.Error.{Error}
 use Rattle.bz_base.specs.declared.types.FindSymOpts.{FindSymOpts}
 use Rattle.bz_files.specs.World.{World}
@@ -19,7 +19,8 @@ use Rattle.bz_base.specs.declared.error.Error.TheVariants as errors
 use Rattle.bz_cache.specs.Format.{Comes}
 use Rattle.bz_symbolize.specs.FileCall.{Leaves}
 use Rattle.bz_symbolize.specs.Promise.{CallTold, IsBreakpadAnswer}
-use Rattle.bz_symbolize.specs.Sources.{FileSource, HandedSource, SourceForm, OneFile, Handed, form_of, OnFileForm, OnFile, OnHandedForm, OnHanded, breakpad_single, handed_answer}
+use Rattle.bz_process.specs.declared.query.ProcessQuery.{ProcessQuery}
+use Rattle.bz_symbolize.specs.Sources.{FileSource, HandedSource, SourceForm, OneFile, Handed, OneProcess, form_of, OnFileForm, OnFile, OnHandedForm, OnHanded, OnProcessForm, OnProcess, UnlessProcessForm, UnlessProcess, breakpad_single, handed_answer, query_in}
 use Rattle.bz_symbolize.specs.State.{State}
 use Rattle.bz_symbolize.specs.declared.source.Source.{Source}
 use Rattle.bz_symbolize.specs.declared.source.Source.TheVariants as sources
@@ -63,10 +64,12 @@ is_format query (sources.Elf source) = record {
   answers = λ opts bytes formed served. record { accepted = profiles.profile bytes formed; served = served; plain = refl };
 }
 is_format query (sources.Gsym (gsyms.Data source)) = tt
+is_format query (sources.Process source) = tt
 
 by_form : (form : SourceForm) {P Q R : FileSource → Type 0} → OnFileForm form P → OnFileForm form Q → ((file : FileSource) → P file → Q file → R file) → OnFileForm form R
 by_form (OneFile file) p q f = f file p q
 by_form (Handed given) p q f = tt
+by_form (OneProcess asked) p q f = tt
 
 -- from a fact of the file of a source to another, by the laws of its format
 pub on_file : {B : Type 0} (query : Query B) (source : Source) {P Q : FileSource → Type 0} → OnFile source P →
@@ -76,6 +79,7 @@ on_file query source holds f = by_form (form_of source) (is_format query source)
 by_any : (form : SourceForm) {Q : FileSource → Type 0} → ((file : FileSource) → Q file) → OnFileForm form Q
 by_any (OneFile file) f = f file
 by_any (Handed given) f = tt
+by_any (OneProcess asked) f = tt
 
 -- what holds of any file holds of that of a source
 pub any_file : (source : Source) {Q : FileSource → Type 0} → ((file : FileSource) → Q file) → OnFile source Q
@@ -84,10 +88,12 @@ any_file source f = by_any (form_of source) f
 by_each : {I : Type 0} (form : SourceForm) (P : I → FileSource → Type 0) → ((i : I) → OnFileForm form (P i)) → OnFileForm form (λ file. (i : I) → P i file)
 by_each (OneFile file) P holds = holds
 by_each (Handed given) P holds = tt
+by_each (OneProcess asked) P holds = tt
 
 by_laws : (form : SourceForm) {P Q : FileSource → Type 0} → OnFileForm form P → ((file : FileSource) → P file → Q file) → OnFileForm form Q
 by_laws (OneFile file) p f = f file p
 by_laws (Handed given) p f = tt
+by_laws (OneProcess asked) p f = tt
 
 -- a fact of the file of a source, by the laws of its format for each of many queries
 pub on_each : {I B : Type 0} (query : I → Query B) (source : Source) {Q : FileSource → Type 0} → ((file : FileSource) → ((i : I) → IsFormatOf (query i) source file) → Q file) → OnFile source Q
@@ -119,15 +125,41 @@ on_ok (Err e) holds = tt
 pub told_by_form : {A B : Type 0} (reading : A → B) (opts : FindSymOpts) (form : SourceForm) (query : Query B) (result : Result A Error) (old now : State) (world : World) (before after : ℕ) →
     OnFileForm form (λ file. CallTold reading opts (OneFile file) query result old now world before after) →
     OnHandedForm form (λ given. Gives reading (handed_answer given opts query) result × (now ≡ old) × (after ≡ before)) →
-    CallTold reading opts form query result old now world before after
+    UnlessProcessForm form (CallTold reading opts form query result old now world before after)
 told_by_form reading opts (OneFile file) query result old now world before after told handed = told
 told_by_form reading opts (Handed given) query result old now world before after told handed =
     record { answer = comes_given reading _ result handed.0; state = leaves_same result old now handed.1; opened = on_ok result handed.2; spared = λ closed. handed.2 }
+told_by_form reading opts (OneProcess asked) query result old now world before after told handed = tt
+
+by_unless : (form : SourceForm) {P Q : Type 0} → UnlessProcessForm form P → (P → Q) → UnlessProcessForm form Q
+by_unless (OneFile file) p f = f p
+by_unless (Handed given) p f = f p
+by_unless (OneProcess asked) p f = tt
+
+-- a fact of a call to another, where its source is no process
+pub unless_process : (source : Source) {P Q : Type 0} → UnlessProcess source P → (P → Q) → UnlessProcess source Q
+unless_process source p f = by_unless (form_of source) p f
+
+-- a source that is asked as a process is one
+pub form_asked : (form : SourceForm) (query : ProcessQuery) → query_in form ≡ Some query → form ≡ OneProcess query
+form_asked (OneFile file) query is = cc
+form_asked (Handed given) query is = cc
+form_asked (OneProcess asked) query is = let same : asked ≡ query = cc is in ap OneProcess same
+
+by_any_process : (form : SourceForm) {P : ProcessQuery → Type 0} → ((query : ProcessQuery) → P query) → OnProcessForm form P
+by_any_process (OneFile file) f = tt
+by_any_process (Handed given) f = tt
+by_any_process (OneProcess query) f = f query
+
+-- what holds of any process holds of that of a source
+pub any_process : (source : Source) {P : ProcessQuery → Type 0} → ((query : ProcessQuery) → P query) → OnProcess source P
+any_process source f = by_any_process (form_of source) f
 
 -- a fact of handed-in bytes to another
 by_handed : (form : SourceForm) {P Q : HandedSource → Type 0} → OnHandedForm form P → ((given : HandedSource) → P given → Q given) → OnHandedForm form Q
 by_handed (OneFile file) p f = tt
 by_handed (Handed given) p f = f given p
+by_handed (OneProcess asked) p f = tt
 
 pub on_handed : (source : Source) {P Q : HandedSource → Type 0} → OnHanded source P → ((given : HandedSource) → P given → Q given) → OnHanded source Q
 on_handed source p f = by_handed (form_of source) p f

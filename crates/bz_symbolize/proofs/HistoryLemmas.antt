@@ -4,7 +4,7 @@ use Rattle.std.specs.Prelude.{Contains}
 use Rattle.std.specs.List.{AllByRecursion}
 use Rattle.bz_base.specs.declared.error.Error.{Error}
 use Rattle.bz_files.specs.World.{World, entry_at}
-use Rattle.bz_cache.specs.Cache.{Cache}
+use Rattle.bz_cache.specs.Cache.{Cache, new_cache}
 use Rattle.bz_files.specs.Agreement.{Agree}
 use Rattle.bz_cache.specs.Coherence.{Coherent, CoherentWithAll}
 use Rattle.bz_cache.proofs.CoherenceLaws.{insertion_coherent, look_coherent, new_coherent}
@@ -12,7 +12,8 @@ use Rattle.bz_breakpad.specs.Version.{format_test}
 use Rattle.bz_elf.specs.Format as elf
 use Rattle.bz_gsym.specs.Version as gsym
 use Rattle.bz_symbolize.specs.FileCall.{file_cache}
-use Rattle.bz_symbolize.specs.History.{Call, Symbolize, Register, RegistersTruly, Coheres, MayLeave, MayReach, state_after}
+use Rattle.bz_proc.specs.PerfMap as perf
+use Rattle.bz_symbolize.specs.History.{Call, LookAtElf, LookAtPerfMap, Symbolize, Register, RegistersTruly, Coheres, MayLeave, MayReach, PerfMapsMayLeave, PerfMapsMayReach, perf_maps_after, state_after}
 use Rattle.bz_symbolize.specs.Sources.{is_in_file, is_in_table}
 use Rattle.bz_symbolize.specs.State.{Settings, State, new_state}
 use Rattle.bz_symbolize.specs.declared.source.Source.TheVariants as sources
@@ -72,15 +73,46 @@ module _ (worlds : List World) (agree : Agree worlds) where
       (coherent.0, after_file gsym.format_test (is_in_table kind) s.gsym (string_bytes source.path) w has coherent.1)
   read_after (Symbolize (sources.Elf source) kind) s w has _ coherent = coherent
   read_after (Symbolize (sources.Gsym (gsyms.Data source)) kind) s w has _ coherent = coherent
+  read_after (Symbolize (sources.Process source) kind) s w has _ coherent = coherent
   read_after (Register path bytes) s w has _ coherent = coherent
+  read_after (LookAtElf path) s w has _ coherent = coherent
+  read_after (LookAtPerfMap path) s w has _ coherent = coherent
 
   elf_after : (call : Call) (s : State) (w : World) → Contains worlds w → RegistersTruly w call → ElfCoheres s → ElfCoheres (state_after s w call)
   elf_after (Symbolize (sources.Elf source) kind) s w has truly coherent = after_file elf.format_test true s.elf (string_bytes source.path) w has coherent
   elf_after (Symbolize (sources.Breakpad source) kind) s w has truly coherent = coherent
   elf_after (Symbolize (sources.Gsym (gsyms.File source)) kind) s w has truly coherent = coherent
   elf_after (Symbolize (sources.Gsym (gsyms.Data source)) kind) s w has truly coherent = coherent
+  elf_after (Symbolize (sources.Process source) kind) s w has truly coherent = coherent
+  elf_after (LookAtElf path) s w has truly coherent = after_file elf.format_test true s.elf path w has coherent
+  elf_after (LookAtPerfMap path) s w has truly coherent = coherent
   elf_after (Register path bytes) s w has truly coherent =
       λ v has_v. insertion_coherent elf.format_test s.elf w v path (agree w v has has_v) (coherent v has_v) bytes truly
+
+-- over a list of calls, perf maps stay coherent with all the worlds
+module _ (worlds : List World) (agree : Agree worlds) where
+  perf_map_after : (call : Call) (c : Cache) (w : World) → Contains worlds w → CoherentWithAll c.kept worlds → CoherentWithAll (perf_maps_after c w call).kept worlds
+  perf_map_after (Symbolize source kind) c w has coherent = coherent
+  perf_map_after (Register path bytes) c w has coherent = coherent
+  perf_map_after (LookAtElf path) c w has coherent = coherent
+  perf_map_after (LookAtPerfMap path) c w has coherent = after_file worlds agree perf.format_test true c path w has coherent
+
+  perf_map_step : (call : Call) (c now : Cache) (w : World) → Contains worlds w → CoherentWithAll c.kept worlds → PerfMapsMayLeave c w call now → CoherentWithAll now.kept worlds
+  perf_map_step call c now w has before (inl same) = subst (λ (k : Cache). CoherentWithAll k.kept worlds) (sym same) before
+  perf_map_step call c now w has before (inr is) = subst (λ (k : Cache). CoherentWithAll k.kept worlds) (sym is) (perf_map_after call c w has before)
+
+  perf_maps_reached : (calls : List (World × Call)) (c end : Cache) → ((w : World) → Contains (worlds_of calls) w → Contains worlds w) → CoherentWithAll c.kept worlds → PerfMapsMayReach c calls end →
+      CoherentWithAll end.kept worlds
+  perf_maps_reached [] c end among before same = subst (λ (k : Cache). CoherentWithAll k.kept worlds) (sym same) before
+  perf_maps_reached (step ∷ later) c end among before (next, leaves, rest) =
+      perf_maps_reached later next end (λ w has. among w (among_later step.0 w (worlds_of later) has)) (perf_map_step step.1 c next step.0 (among step.0 (among_first step.0 (worlds_of later))) before leaves) rest
+
+-- from a new symbolizer on
+pub perf_maps_cohere : (settings : Settings) (calls : List (World × Call)) (perf_maps : Cache) (world : World) → Agree (world ∷ worlds_of calls) → PerfMapsMayReach (new_cache settings.reload) calls perf_maps →
+    Coherent perf_maps.kept world
+perf_maps_cohere settings calls perf_maps world agree reach =
+    perf_maps_reached (world ∷ worlds_of calls) agree calls (new_cache settings.reload) perf_maps (λ w has. among_later world w (worlds_of calls) has) (λ w has. new_coherent settings.reload w) reach
+    world (among_first world (worlds_of calls))
 
 module _ (settings : Settings) (calls : List (World × Call)) (state : State) (world : World) (agree : Agree (world ∷ worlds_of calls)) (reach : MayReach (new_state settings) calls state) where
   -- from a new symbolizer on, whatever is registered

@@ -1,5 +1,6 @@
 pub use Rattle.bz_calls.proofs.FileLemmas
 pub mod AlikeLemmas
+pub mod AskingLemmas
 pub mod BatchLemmas
 pub mod CallLemmas
 pub mod ElfLemmas

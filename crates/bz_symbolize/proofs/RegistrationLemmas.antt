@@ -17,7 +17,7 @@ use Rattle.bz_elf.specs.Format as elf
 use Rattle.bz_elf.specs.Profile.{IsElf}
 use Rattle.bz_symbolize.proofs.NewLemmas.{by_profile}
 use Rattle.bz_symbolize.specs.FileCall.{batch_of, by_look, query_asked, single_of}
-use Rattle.bz_symbolize.specs.History.{Call, Register, Symbolize, MayLeave, state_after}
+use Rattle.bz_symbolize.specs.History.{Call, LookAtElf, LookAtPerfMap, Register, Symbolize, MayLeave, state_after}
 use Rattle.bz_symbolize.specs.Registration.{AnswersElf, IsAt, MayReachKeeping, StaysRegistered}
 use Rattle.bz_symbolize.specs.Sources.{elf_answering}
 use Rattle.bz_symbolize.specs.State.{State}
@@ -78,6 +78,9 @@ module _ (stamp : Stamp) (b : List ℕ) where
   after_call (Symbolize (sources.Breakpad source) kind) s w kept = kept
   after_call (Symbolize (sources.Gsym (gsyms.File source)) kind) s w kept = kept
   after_call (Symbolize (sources.Gsym (gsyms.Data source)) kind) s w kept = kept
+  after_call (Symbolize (sources.Process source) kind) s w kept = kept
+  after_call (LookAtElf path) s w kept = look_keeps s.elf stamp b kept elf.format_test path (entry_at w path)
+  after_call (LookAtPerfMap path) s w kept = kept
   after_call (Register path bytes) s w kept = insertion_keeps s.elf stamp b kept path bytes (entry_at w path)
 
   after_step : (call : Call) (s now : State) (w : World) → Keeps s → MayLeave s w call now → Keeps now

@@ -35,7 +35,7 @@ TakesSteps version steps = (addrs before after : ℕ) → VersionSteps version a
 abbrev pub FileSteps : (List ℕ → ℕ → ℕ → ℕ → Type 0) → Cache → List ℕ → ℕ → ℕ → ℕ → Type 0
 FileSteps steps now path addrs before after = (after ≡ before) ⊎ ((bytes : List ℕ) × (kept_at now path ≡ Some bytes) × steps bytes addrs before after)
 
--- those of a call on a source
+-- those of a call on a source: of a process none are counted
 abbrev pub SourceSteps : Source → State → ℕ → ℕ → ℕ → Type 0
 SourceSteps (sources.Breakpad source) now addrs before after = FileSteps breakpad_steps now.breakpad (string_bytes source.path) addrs before after
 SourceSteps _ now addrs before after = after ≡ before

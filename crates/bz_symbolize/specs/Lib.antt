@@ -5,6 +5,7 @@ pub mod Counted
 pub mod Found
 pub mod History
 pub mod Lookup
+pub mod OfProcess
 pub mod Promise
 pub mod Registration
 pub mod SourceRead

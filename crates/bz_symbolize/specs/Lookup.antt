@@ -13,24 +13,28 @@ use Rattle.bz_breakpad.specs.Plain.{batch}
 use Rattle.bz_elf.specs.Format as elf
 use Rattle.bz_gsym.specs.Tables.{is_gsym}
 use Rattle.bz_symbolize.specs.FileCall.{Query, file_answer, file_cache, file_opens}
-use Rattle.bz_symbolize.specs.Sources.{SourceForm, OneFile, Handed, asked_of, elf_batch, gsym_batch, handed_answer, is_in_elf}
+use Rattle.bz_symbolize.specs.Sources.{SourceForm, OneFile, Handed, OneProcess, asked_of, elf_batch, gsym_batch, handed_answer, is_in_elf}
 use Rattle.bz_symbolize.specs.State.{State}
 
--- what a call answers
+-- what a call answers by a version; a process has none
 abbrev pub answer_of : {B : Type 0} → FindSymOpts → State → SourceForm → Query B → World → Result B Error
 answer_of opts state (OneFile file) query world = file_answer (asked_of file opts query) (file.cache state) file.path (entry_at world file.path)
 answer_of opts state (Handed given) query world = handed_answer given opts query
+answer_of opts state (OneProcess asked) query world = Err errors.Unsupported
 
--- the state that a call leaves: of what is asked, the kind of address alone matters to it
+-- the state that a call leaves: of what is asked, the kind of address alone matters to it. A process has no version that is
+-- looked at here: what a call on one leaves is that of its looks.
 abbrev pub state_of : State → SourceForm → AddressKind → World → State
 state_of state (OneFile file) kind world =
     file.with_cache state (file_cache file.test (file.answering.takes kind) (file.cache state) file.path (entry_at world file.path))
 state_of state (Handed given) kind world = state
+state_of state (OneProcess asked) kind world = state
 
 -- whether a call reads a file
 abbrev pub opens_of : State → SourceForm → AddressKind → World → Bool
 opens_of state (OneFile file) kind world = file_opens (file.answering.takes kind) (file.cache state) file.path (entry_at world file.path)
 opens_of state (Handed given) kind world = false
+opens_of state (OneProcess asked) kind world = false
 
 -- the batch of the table, or the refusal of bytes that have none
 abbrev pub by_table : FindSymOpts → List ℕ → Option Table → Result (List Answer) Error

@@ -21,7 +21,7 @@ use Rattle.bz_gsym.specs.Tables.{IsGsym}
 use Rattle.bz_symbolize.specs.FileCall.{CallsFile, Leaves, MayBeRefused, Query, view_answer}
 use Rattle.bz_symbolize.specs.History.{MayLeave, Symbolize}
 use Rattle.bz_symbolize.specs.Lookup.{answer_of, state_of, opens_of}
-use Rattle.bz_symbolize.specs.Sources.{FileSource, SourceForm, OnFile, OnHanded, asked_of, elf_batch, elf_single, form_of, gsym_batch, gsym_single, handed_answer, is_in_elf}
+use Rattle.bz_symbolize.specs.Sources.{FileSource, SourceForm, OnFile, OnHanded, UnlessProcess, asked_of, elf_batch, elf_single, form_of, gsym_batch, gsym_single, handed_answer, is_in_elf}
 use Rattle.bz_symbolize.specs.State.{State, WellKept, opts_of}
 use Rattle.bz_symbolize.specs.declared.source.Source.{Source}
 use Rattle.bz_symbolize.specs.declared.source.Source.TheVariants as sources
@@ -63,17 +63,20 @@ pub record IsElfAnswer {B : Type 0} (path bytes : List ℕ) (query : Query B) (a
   pub served : is_in_elf query.kind ≡ true
   pub plain : query.given (λ addr. Ok (elf_single path bytes query.kind addr)) ≡ answer
 
--- the bytes are a version of the source, and it answers the query so, or refuses it, in the words of the source's format
+-- the bytes are a version of the source, and it answers the query so, or refuses it, in the words of the source's format; a
+-- process has no version
 abbrev pub IsAnswerOf : {B : Type 0} → Source → FindSymOpts → List ℕ → Query B → Result B Error → Type 0
 IsAnswerOf (sources.Breakpad source) opts bytes query answer = IsBreakpadAnswer opts bytes query answer
 IsAnswerOf (sources.Gsym source) opts bytes query answer = IsGsymAnswer opts bytes query answer
 IsAnswerOf (sources.Elf source) opts bytes query answer = IsElfAnswer (string_bytes source.path) bytes query answer
+IsAnswerOf (sources.Process source) opts bytes query answer = ⊥
 
--- the bytes are a version of the source, in the words of the source's format
+-- the bytes are a version of the source, in the words of the source's format; a process has none
 abbrev pub IsVersionOf : Source → List ℕ → Type 0
 IsVersionOf (sources.Breakpad source) bytes = (table : Table) × IsFile bytes table
 IsVersionOf (sources.Gsym source) bytes = IsGsym bytes
 IsVersionOf (sources.Elf source) bytes = IsElf bytes
+IsVersionOf (sources.Process source) bytes = ⊥
 
 -- the version in view at the path gives this answer
 pub record AnswersView {B : Type 0} (opts : FindSymOpts) (source : Source) (file : FileSource) (state : State) (world : World) (query : Query B) (answer : B) : Type 0 where
@@ -147,7 +150,8 @@ IsServedKept opts source file query (Err e) now = AnswersKept opts source file n
 abbrev pub IsOwnRefusal : {B : Type 0} → Source → FindSymOpts → Query B → Error → Type 0
 IsOwnRefusal source opts query e = (bytes : List ℕ) × IsAnswerOf source opts bytes query (Err e)
 
--- all that a call promises of its answer, its refusals, and the state and the files that it leaves
+-- all that a call promises of its answer, its refusals, and the state and the files that it leaves; of a process this is said
+-- of the files that are kept alone, and a record of its own says the rest
 pub record Symbolizes {A B X : Type 0} (files : Ghosts X) (reading : A → B) (source : Source) (query : Query B)
     (result : Result A Error) (old now : State) (before after : X) : Type 0 where
   -- where kept versions cohere with the world in view, the version in view is answered
@@ -165,10 +169,10 @@ pub record Symbolizes {A B X : Type 0} (files : Ghosts X) (reading : A → B) (s
   -- what is asked, unless something fails
   pub complete : OnFile source (λ file. Told (in_view (files.worlds before)) (λ world. Coherent (file.cache old).kept world →
       (valid : IsValid source file old world query.kind) → IsServedOrFails source (opts_of old.settings) valid.bytes query result))
-  -- the answer, the state that is left and the file that is read are those of the definitions
-  pub told : Told (in_view (files.worlds before)) (λ world. CallTold reading (opts_of old.settings) (form_of source) query result old now world (files.opens before) (files.opens after))
+  -- the answer, the state that is left and the file that is read are those of the definitions, but for a process
+  pub told : Told (in_view (files.worlds before)) (λ world. UnlessProcess source (CallTold reading (opts_of old.settings) (form_of source) query result old now world (files.opens before) (files.opens after)))
   -- so the call is one of those whose lists keep versions coherent
-  pub history : Told (in_view (files.worlds before)) (λ world. MayLeave old world (Symbolize source query.kind) now)
+  pub history : Told (in_view (files.worlds before)) (λ world. UnlessProcess source (MayLeave old world (Symbolize source query.kind) now))
   -- whatever is told and answered, the state is the old one, or the one after some look at the path
   pub leaves : OnFile source (λ file. FileLeaves (opts_of old.settings) source file query result old now)
   -- bytes that are handed in are answered with no look, and nothing changes

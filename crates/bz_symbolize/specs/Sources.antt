@@ -1,6 +1,6 @@
 -- Sources as data: what each format answers, and which cache of a symbolizer keeps the source's file.
 use Rattle.std.specs.Prelude.{ℕ, Bool, true, false, cond, List, [], map, Option, Some, None, Result, Ok, Err, string_bytes}
-use Rattle.bz_base.specs.Answer.{Answer, Unknown, in_batch}
+use Rattle.bz_base.specs.Answer.{Answer, in_batch}
 use Rattle.bz_base.specs.InputKind.{AddressKind, InProcess, InTable, InFile}
 use Rattle.bz_base.specs.declared.error.Error.{Error}
 use Rattle.bz_base.specs.declared.error.Error.TheVariants as errors
@@ -10,15 +10,15 @@ use Rattle.bz_breakpad.specs.Reader.{table_in}
 use Rattle.bz_breakpad.specs.Plain.{plain}
 use Rattle.bz_breakpad.specs.Table.{Table}
 use Rattle.bz_breakpad.specs.Version.{format_test}
-use Rattle.bz_base.specs.Resolution as resolution
-use Rattle.bz_base.specs.declared.types.Reason.TheVariants as reasons
 use Rattle.bz_elf.specs.Format as elf_format
-use Rattle.bz_elf.specs.Plain as elf
 use Rattle.bz_elf.specs.Segments.{segments, translated}
 use Rattle.bz_gsym.specs.Plain as gsym
 use Rattle.bz_gsym.specs.Version as gsym_version
+use Rattle.bz_process.specs.Process.{elf_by_table}
+use Rattle.bz_process.specs.declared.query.ProcessQuery.{ProcessQuery}
 use Rattle.bz_symbolize.specs.FileCall.{Answering, Query, Question, as_answer, by_version, query_asked}
 use Rattle.bz_symbolize.specs.State.{State}
+use Rattle.bz_symbolize.specs.declared.source.Process.{Process}
 use Rattle.bz_symbolize.specs.declared.source.Source.{Source}
 use Rattle.bz_symbolize.specs.declared.source.Source.TheVariants as sources
 use Rattle.bz_symbolize.specs.declared.source.Gsym.TheVariants as gsyms
@@ -67,12 +67,7 @@ virtual_offset bytes InFile offset = translated (segments bytes) offset
 virtual_offset bytes InTable addr = Some addr
 virtual_offset bytes InProcess addr = Some addr
 
--- what the symbol table says of such an address, if there is one; the module is the path that names the file
-abbrev pub elf_by_table : List ℕ → List ℕ → Option ℕ → Answer
-elf_by_table path bytes None = Unknown reasons.InvalidFileOffset
-elf_by_table path bytes (Some addr) = resolution.answer_at addr (elf.plain (Some path) bytes addr)
-
--- the answer of an ELF file at an address, which it never refuses
+-- the answer of an ELF file at an address, which it never refuses, by its symbol table; the module is the path that names it
 abbrev pub elf_single : List ℕ → List ℕ → AddressKind → ℕ → Answer
 elf_single path bytes kind addr = elf_by_table path bytes (virtual_offset bytes kind addr)
 
@@ -113,10 +108,15 @@ pub record FileSource : Type 0 where
 abbrev pub asked_of : {B : Type 0} → FileSource → FindSymOpts → Query B → Question B
 asked_of file opts query = query_asked file.test file.answering opts file.path query
 
+-- how a process that is a source is asked
+abbrev pub process_query : Process → ProcessQuery
+process_query source = record { pid = source.pid; perf_map = source.perf_map; map_files = source.map_files }
+
 -- the forms that a source may have
 pub data SourceForm : Type 0 where
   OneFile : FileSource → SourceForm
   Handed : HandedSource → SourceForm
+  OneProcess : ProcessQuery → SourceForm
 
 -- the form of each source
 abbrev pub form_of : Source → SourceForm
@@ -142,11 +142,13 @@ form_of (sources.Elf source) = OneFile (record {
   with_cache = λ s c. record s { elf = c };
 })
 form_of (sources.Gsym (gsyms.Data source)) = Handed (gsym_handed source.bytes.now)
+form_of (sources.Process source) = OneProcess (process_query source)
 
 -- a fact of the file of a source that is one
 abbrev pub OnFileForm : SourceForm → (FileSource → Type 0) → Type 0
 OnFileForm (OneFile file) P = P file
 OnFileForm (Handed given) P = Unit {0}
+OnFileForm (OneProcess query) P = Unit {0}
 
 -- the same of a source
 abbrev pub OnFile : Source → (FileSource → Type 0) → Type 0
@@ -156,7 +158,34 @@ OnFile source P = OnFileForm (form_of source) P
 abbrev pub OnHandedForm : SourceForm → (HandedSource → Type 0) → Type 0
 OnHandedForm (OneFile file) P = Unit {0}
 OnHandedForm (Handed given) P = P given
+OnHandedForm (OneProcess query) P = Unit {0}
 
 -- the same of a source
 abbrev pub OnHanded : Source → (HandedSource → Type 0) → Type 0
 OnHanded source P = OnHandedForm (form_of source) P
+
+-- a fact of a source that is a process
+abbrev pub OnProcessForm : SourceForm → (ProcessQuery → Type 0) → Type 0
+OnProcessForm (OneFile file) P = Unit {0}
+OnProcessForm (Handed given) P = Unit {0}
+OnProcessForm (OneProcess query) P = P query
+
+-- the same of a source
+abbrev pub OnProcess : Source → (ProcessQuery → Type 0) → Type 0
+OnProcess source P = OnProcessForm (form_of source) P
+
+-- a fact of a call whose source is no process
+abbrev pub UnlessProcessForm : SourceForm → Type 0 → Type 0
+UnlessProcessForm (OneFile file) P = P
+UnlessProcessForm (Handed given) P = P
+UnlessProcessForm (OneProcess query) P = Unit {0}
+
+-- the same by its source
+abbrev pub UnlessProcess : Source → Type 0 → Type 0
+UnlessProcess source P = UnlessProcessForm (form_of source) P
+
+-- how a process is asked, where the form is one
+abbrev pub query_in : SourceForm → Option ProcessQuery
+query_in (OneFile file) = None
+query_in (Handed given) = None
+query_in (OneProcess query) = Some query

@@ -4,7 +4,7 @@ ghost use Rattle.std.specs.Prelude.{◌≡◌, string_bytes, IfOk, IsOkUnless};
 ghost use Rattle.bz_base.specs.declared.error.Error.{Error};
 ghost use Rattle.bz_symbolize.specs.SourceRead.{gsym_read, source_read};
 
-use crate::source::{Breakpad, Elf, Gsym, GsymData, GsymFile, Source};
+use crate::source::{Breakpad, Elf, Gsym, GsymData, GsymFile, Process, Source};
 use bz_base::{Error, Result};
 use std::alloc::Global;
 
@@ -55,6 +55,22 @@ impl Elf {
     }
 }
 
+impl Process {
+    /// The same process, asked in the same way.
+    pub fn try_clone(&self, _alloc: Global) -> Result<Process>
+        ensures same { IfOk result (λ copy. copy ≡ self.now) }
+        ensures memory { IsOkUnless result Error.OutOfMemory }
+    {
+        Ok(Process {
+            pid: self.pid,
+            debug_syms: self.debug_syms,
+            perf_map: self.perf_map,
+            map_files: self.map_files,
+            vdso: self.vdso,
+        })
+    }
+}
+
 impl<'d> Gsym<'d> {
     /// The same source, with a path of its own.
     pub fn try_clone(&self, alloc: Global) -> Result<Gsym<'d>>
@@ -92,6 +108,10 @@ impl<'d> Source<'d> {
             Source::Elf(file) => {
                 let file = file.try_clone(alloc)?;
                 Ok(Source::Elf(file))
+            }
+            Source::Process(process) => {
+                let process = process.try_clone(alloc)?;
+                Ok(Source::Process(process))
             }
         }
     }

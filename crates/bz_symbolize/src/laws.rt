@@ -10,6 +10,7 @@ ghost use Rattle.bz_base.specs.declared.input.Input.TheVariants.{FileOffset, Vir
 ghost use Rattle.bz_base.specs.declared.types.FindSymOpts.{FindSymOpts};
 ghost use Rattle.bz_files.specs.Agreement.{Agree};
 ghost use Rattle.bz_breakpad.specs.Version.{format_test};
+ghost use Rattle.bz_cache.specs.Cache.{Cache, new_cache};
 ghost use Rattle.bz_cache.specs.Coherence.{Coherent};
 ghost use Rattle.bz_cache.specs.Insertion.{insertion};
 ghost use Rattle.bz_files.specs.World.{World, entry_at};
@@ -18,7 +19,7 @@ ghost use Rattle.bz_elf.specs.Profile.{IsElf};
 ghost use Rattle.bz_gsym.specs.Version as gsym;
 ghost use Rattle.bz_symbolize.specs.Alike.{BatchesFoldRefusals, EntriesStandAlone, HandedFold, HandedStandAlone, OrderMovesAnswers, OrderMovesHanded};
 ghost use Rattle.bz_symbolize.specs.FileCall.{batch_of, batch_query, file_answer, query_asked};
-ghost use Rattle.bz_symbolize.specs.History.{Call, Coheres, MayReach, RegistersTruly};
+ghost use Rattle.bz_symbolize.specs.History.{Call, Coheres, MayReach, PerfMapsMayReach, RegistersTruly};
 ghost use Rattle.bz_symbolize.specs.Lookup.{breakpad_answer, elf_answer, fresh_answer, gsym_answer};
 ghost use Rattle.bz_symbolize.specs.Promise.{IsAnswerOf, IsBreakpadAnswer, IsBreakpadBatch, IsElfAnswer, IsElfBatch, IsGsymAnswer, IsGsymBatch};
 ghost use Rattle.bz_symbolize.specs.Registration.{StaysRegistered};
@@ -37,14 +38,16 @@ pub fn new_symbolizer_answers()
 {}
 
 /// From a new symbolizer on, over any list of calls whose worlds agree with each other and with the
-/// present one, kept versions cohere with the world in view: those of Breakpad and GSYM files whatever
-/// was registered, and those of ELF files too where each registration was of the bytes that its file
-/// had, as where none was made.
+/// present one, kept versions cohere with the world in view: those of Breakpad and GSYM files and of
+/// perf maps whatever was registered, and those of ELF files too where each registration was of the
+/// bytes that its file had, as where none was made. A call on a process is the list of its looks.
 pub fn runs_stay_coherent()
     ensures read { (settings : Settings) (calls : List (World × Call)) (state : State) (world : World) →
         Agree (world ∷ map (λ call. call.0) calls) → MayReach (new_state settings) calls state → Coherent state.breakpad.kept world × Coherent state.gsym.kept world }
     ensures registered { (settings : Settings) (calls : List (World × Call)) (state : State) (world : World) →
         Agree (world ∷ map (λ call. call.0) calls) → AllByRecursion (λ call. RegistersTruly call.0 call.1) calls → MayReach (new_state settings) calls state → Coheres state world }
+    ensures perf_maps { (settings : Settings) (calls : List (World × Call)) (perf_maps : Cache) (world : World) →
+        Agree (world ∷ map (λ call. call.0) calls) → PerfMapsMayReach (new_cache settings.reload) calls perf_maps → Coherent perf_maps.kept world }
 {}
 
 /// After a registration that is answered, an ELF source at the path is answered by the registered

@@ -9,6 +9,7 @@ mod elf;
 mod gsym;
 mod held;
 pub mod helper;
+mod kept_files;
 pub mod laws;
 mod lookups;
 mod settings;
@@ -17,6 +18,9 @@ mod symbolizer;
 mod together;
 
 pub use builder::Builder;
+pub use bz_base::Pid;
+pub use bz_proc::{EntryPath as ProcessMemberPath, PathName as ProcessMemberType};
+pub use bz_process::{NoDispatch, ProcessDispatch, ProcessMemberInfo};
 pub use lookups::Lookups;
 pub use symbolizer::Symbolizer;
 pub use together::TOGETHER;

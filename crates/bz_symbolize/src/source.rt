@@ -1,9 +1,12 @@
 //! What a symbolizer reads symbols from.
 
 ghost use Rattle.std.specs.Prelude.{◌≡◌, true};
+ghost use Rattle.bz_symbolize.specs.Sources.{form_of, process_query, query_in};
 ghost use Rattle.bz_symbolize.specs.declared.source.Gsym.TheVariants as gsyms;
 ghost use Rattle.bz_symbolize.specs.declared.source.Source.TheVariants as sources;
 
+use bz_base::Pid;
+use bz_process::ProcessQuery;
 use std::fmt;
 
 /// A Breakpad file. It takes file offsets: addresses relative to the module's base, as the file's
@@ -106,6 +109,54 @@ impl fmt::Debug for Elf {
     }
 }
 
+/// A process. It takes absolute addresses: those of its memory. What it has mapped there answers.
+#[derive(Drop)]
+pub struct Process {
+    /// The process.
+    pub pid: Pid,
+    /// Whether debug symbols are looked for. It has no effect: none are.
+    pub debug_syms: bool,
+    /// Whether its perf map answers for addresses of mappings that are of nothing.
+    pub perf_map: bool,
+    /// Whether mapped files are looked at by the paths that stand for their mappings, and not by their own.
+    pub map_files: bool,
+    /// Whether the symbols of the vDSO are looked for. It has no effect: none are.
+    pub vdso: bool,
+}
+
+impl Process {
+    /// The process, with all that it may be asked for.
+    pub fn new(pid: Pid) -> Process
+        ensures { result ≡ record { pid = pid; debug_syms = true; perf_map = true; map_files = true; vdso = true } }
+    {
+        Process {
+            pid,
+            debug_syms: true,
+            perf_map: true,
+            map_files: true,
+            vdso: true,
+        }
+    }
+
+    // How it is asked.
+    fn query(&self) -> ProcessQuery
+        ensures { result ≡ process_query self.now }
+    {
+        ProcessQuery {
+            pid: self.pid,
+            perf_map: self.perf_map,
+            map_files: self.map_files,
+        }
+    }
+}
+
+impl fmt::Debug for Process {
+    fn fmt<W: fmt::Write>(&self, f: &mut fmt::Formatter<W>) -> fmt::Result {
+        let pid = &self.pid;
+        write!(f, "Process({pid})")
+    }
+}
+
 /// GSYM, handed in or in a file.
 #[derive(Drop)]
 pub enum Gsym<'d> {
@@ -133,6 +184,21 @@ pub enum Source<'d> {
     Gsym(Gsym<'d>),
     /// An ELF file.
     Elf(Elf),
+    /// A process.
+    Process(Process),
+}
+
+impl Source<'_> {
+    /// How a process is asked, where the source is one. This is the one place where a process is told
+    /// from sources that a version answers for.
+    pub(crate) fn query(&self) -> Option<ProcessQuery>
+        ensures { result ≡ query_in (form_of self.now) }
+    {
+        match self {
+            Source::Process(process) => Some(process.query()),
+            Source::Breakpad(_) | Source::Gsym(_) | Source::Elf(_) => None,
+        }
+    }
 }
 
 impl fmt::Debug for Source<'_> {
@@ -141,6 +207,7 @@ impl fmt::Debug for Source<'_> {
             Source::Breakpad(source) => write!(f, "{source:?}"),
             Source::Gsym(source) => write!(f, "{source:?}"),
             Source::Elf(source) => write!(f, "{source:?}"),
+            Source::Process(source) => write!(f, "{source:?}"),
         }
     }
 }
@@ -158,6 +225,14 @@ impl<'d> From<Elf> for Source<'d> {
 
     fn from(source: Elf) -> Source<'d> {
         Source::Elf(source)
+    }
+}
+
+impl<'d> From<Process> for Source<'d> {
+    ghost from_gives = { λ source given. given ≡ sources.Process source };
+
+    fn from(source: Process) -> Source<'d> {
+        Source::Process(source)
     }
 }
 

@@ -1,87 +1,78 @@
 //! The symbolizer.
 
-ghost use Rattle.std.specs.Prelude.{◌≡◌, ◌⊎◌, ℕ, List, length, map, IfOk, IfErr, IsOkUnless};
-ghost use Rattle.bz_base.specs.Answer.{Gives, reading};
+ghost use Rattle.std.specs.Prelude.{◌≡◌, ℕ, List, length, map, IfOk, IsErrOf};
+ghost use Rattle.bz_base.specs.Answer.{reading};
 ghost use Rattle.bz_base.specs.InputKind.{address_kind, payload};
-ghost use Rattle.bz_base.specs.Refusals.{MayRefuse};
 ghost use Rattle.bz_base.specs.declared.error.Error.{Error};
-ghost use Rattle.bz_base.specs.declared.types.FindSymOpts.{FindSymOpts};
-ghost use Rattle.bz_cache.specs.Cache.{new_cache};
-ghost use Rattle.bz_symbolize.specs.Batch.{answers_to, entry_by, held_singles, single_by, version_of};
-ghost use Rattle.bz_symbolize.specs.Counted.{SourceSteps, TakesSteps, VersionSteps};
-ghost use Rattle.bz_symbolize.specs.FileCall.{batch_of, batch_query, each_of, single_query};
-ghost use Rattle.bz_symbolize.specs.Promise.{AsksSource, Symbolizes};
+ghost use Rattle.bz_process.specs.Processes.{new_processes};
+ghost use Rattle.bz_symbolize.specs.Batch.{answers_to};
+ghost use Rattle.bz_symbolize.specs.Counted.{SourceSteps};
+ghost use Rattle.bz_symbolize.specs.FileCall.{batch_of, batch_query, single_query};
+ghost use Rattle.bz_symbolize.specs.OfProcess.{AddressOfProcess, BatchOfProcess};
+ghost use Rattle.bz_symbolize.specs.Promise.{Symbolizes};
 ghost use Rattle.bz_symbolize.specs.Registration.{Registers};
-ghost use Rattle.bz_symbolize.specs.State.{default_settings, new_state};
+ghost use Rattle.bz_symbolize.specs.Sources.{OnProcess};
+ghost use Rattle.bz_symbolize.specs.State.{default_settings, new_state, new_whole};
 
-use crate::answering::hold_file;
 use crate::builder::Builder;
-use crate::gsym::hold_data;
-use crate::held::Held;
+use crate::kept_files::KeptFiles;
 use crate::lookups::Lookups;
 use crate::settings::Settings;
-use crate::source::{Gsym, Source};
-use bz_base::{Addr, FindSymOpts, Input, Result, Steps, Symbolized};
-use bz_breakpad::SymbolFile;
-use bz_cache::{FileCache, Version};
-use bz_calls::owned_answer;
-use bz_elf::{ElfFile, ElfResolver};
+use crate::source::Source;
+use bz_base::{Input, Result, Steps, Symbolized};
+use bz_elf::ElfResolver;
 use bz_files::Files;
-use bz_gsym::GsymTable;
+use bz_process::{NoDispatch, ProcessDispatch, Processes};
 use std::alloc::Global;
 use std::marker::Model;
 use std::rc::Rc;
 use std::sync::ledger::Ledger;
 
-/// Answers addresses, alone or in batches, and keeps the files that it has read.
+/// Answers addresses, alone or in batches, and keeps the files that it has read. Of what processes
+/// have mapped, the resolvers that its dispatcher gives answer too.
 #[derive(Drop)]
-pub struct Symbolizer {
-    settings: Settings,
-    breakpad: FileCache<SymbolFile>,
-    gsym: FileCache<GsymTable>,
-    elf: FileCache<ElfFile>,
+pub struct Symbolizer<D: ProcessDispatch + Drop = NoDispatch> {
+    files: KeptFiles,
+    processes: Processes<D>,
 }
 
-impl Model for Symbolizer {
-    ghost use Rattle.bz_symbolize.specs.State.{State, WellKept, coded_state};
+impl<D: ProcessDispatch + Drop> Model for Symbolizer<D> {
+    ghost use Rattle.bz_symbolize.specs.State.{IsSetAlike, WholeState, coded_whole};
 
-    ghost Value = { State };
+    ghost Value = { WholeState D D.Resolver };
 
-    ghost coded = { coded_state };
+    ghost coded = { coded_whole D.code D.Resolver.code };
 
-    ghost view = { λ s. record { settings = s.settings; breakpad = s.breakpad; gsym = s.gsym; elf = s.elf } };
+    ghost view = { λ s. record { files = s.files; processes = s.processes } };
 
-    ghost invariant = { λ s. WellKept (record { settings = s.settings; breakpad = s.breakpad; gsym = s.gsym; elf = s.elf }) };
+    ghost invariant = { λ s. IsSetAlike (record { files = s.files; processes = s.processes }) };
 }
 
-impl Symbolizer {
+impl Symbolizer<NoDispatch> {
     /// A symbolizer that keeps nothing yet, with all features on.
-    pub fn new(alloc: Global) -> Symbolizer
-        ensures { result ≡ new_state default_settings }
+    pub fn new(alloc: Global) -> Symbolizer<NoDispatch>
+        ensures files { result.files ≡ new_state default_settings }
+        ensures processes { result.processes ≡ new_processes default_settings.reload result.processes.dispatcher }
     {
         Builder::new().build(alloc)
     }
 
     /// A builder with all features on.
-    pub fn builder() -> Builder
-        ensures { result ≡ default_settings }
+    pub fn builder() -> Builder<NoDispatch>
+        ensures { result.settings ≡ default_settings }
     {
         Builder::new()
     }
+}
 
-    // A symbolizer that keeps nothing yet, with these settings.
-    pub(crate) fn with_settings(alloc: Global, settings: Settings) -> Symbolizer
-        ensures { result ≡ new_state settings }
+impl<D: ProcessDispatch + Drop> Symbolizer<D> {
+    // A symbolizer that keeps nothing yet, with these settings and this dispatcher.
+    pub(crate) fn with_settings(alloc: Global, settings: Settings, dispatch: D) -> Symbolizer<D>
+        ensures { result ≡ new_whole settings dispatch }
     {
-        let breakpad = empty_cache(alloc, settings.reload);
-        let gsym = empty_cache(alloc, settings.reload);
-        let elf = empty_cache(alloc, settings.reload);
-        Symbolizer {
-            settings,
-            breakpad,
-            gsym,
-            elf,
-        }
+        let processes = Processes::new(alloc, settings.reload, dispatch);
+        let files = KeptFiles::new(alloc, settings);
+        Symbolizer { files, processes }
     }
 
     /// The answers of the source to the addresses, in their order; an address that is refused is an
@@ -91,6 +82,10 @@ impl Symbolizer {
     /// bytes aren't in it, and by `OutOfMemory`. A refused call leaves the symbolizer as it was; where
     /// memory ran out, the file may have been taken in, and where an ELF file is asked for addresses of
     /// a process, which it refuses after the look, it has been.
+    ///
+    /// The file of a process is the text of its mappings. Where there are none, the call is refused by
+    /// `UnexpectedEof`. A mapped file that can't be read refuses its addresses alone, but `ReadFault`
+    /// and `OutOfMemory` refuse the call, and what was looked at before stays looked at.
     pub fn symbolize<F: Files>(
         &mut self,
         alloc: Global,
@@ -98,11 +93,16 @@ impl Symbolizer {
         src: &Source<'_>,
         input: Input<&[u64]>,
     ) -> Result<Vec<Symbolized<'static>>>
-        ensures { Symbolizes F.Files (λ answers. map reading answers.items) src.now (batch_query input.entry) result self.old self.new files.old files.new }
+        ensures call { Symbolizes F.Files (λ answers. map reading answers.items) src.now (batch_query input.entry) result self.old.files self.new.files files.old files.new }
+        ensures process { BatchOfProcess F.Files (λ answers. map reading answers.items) (D.may_dispatch self.old.processes.dispatcher) D.Resolver.TranslateFileOffset D.Resolver.Symbolize src.now (address_kind input.entry) (payload input.entry).now result self.old self.new files.old files.new }
     {
-        let opts = self.settings.opts();
-        let held = self.hold(alloc, files, src, &input)?;
-        answer_batch(alloc, held, opts, input.into_inner())
+        match src.query() {
+            Some(query) => {
+                self.files
+                    .symbolize_process(&mut self.processes, alloc, files, &query, input)
+            }
+            None => self.files.symbolize(alloc, files, src, input),
+        }
     }
 
     /// The answer of the source to an address alone. Beside the refusals of a batch it may be that of
@@ -115,17 +115,22 @@ impl Symbolizer {
         src: &Source<'_>,
         input: Input<u64>,
     ) -> Result<Symbolized<'static>>
-        ensures { Symbolizes F.Files reading src.now (single_query input) result self.old self.new files.old files.new }
+        ensures call { Symbolizes F.Files reading src.now (single_query input) result self.old.files self.new.files files.old files.new }
+        ensures process { AddressOfProcess F.Files reading (D.may_dispatch self.old.processes.dispatcher) D.Resolver.TranslateFileOffset D.Resolver.Symbolize src.now (address_kind input) (payload input) result self.old self.new files.old files.new }
     {
-        let opts = self.settings.opts();
-        let held = self.hold(alloc, files, src, &input)?;
-        answer_alone(alloc, held, opts, input.into_inner())
+        match src.query() {
+            Some(query) => {
+                self.files
+                    .symbolize_in_process(&mut self.processes, alloc, files, &query, input)
+            }
+            None => self.files.symbolize_single(alloc, files, src, input),
+        }
     }
 
     /// The same answers as `symbolize`, made one by one or some at a time: they lend their texts from the
     /// version of the file that the call found, so that no list of them and no text of their own is in
     /// memory. The addresses are searched for at this call, and the steps of this are counted; making the
-    /// answers searches no more.
+    /// answers searches no more. A process, whose answers are of many files, is refused by `Unsupported`.
     pub fn look_up<'d, F: Files, L: Ledger>(
         &mut self,
         alloc: Global,
@@ -134,15 +139,15 @@ impl Symbolizer {
         input: Input<Vec<u64>>,
         steps: &mut Steps<L>,
     ) -> Result<Lookups<'d>>
-        ensures call { Symbolizes F.Files (λ lookups. lookups.answers) src.now (batch_of (address_kind input) (payload input).items) result self.old self.new files.old files.new }
+        ensures call { Symbolizes F.Files (λ lookups. lookups.answers) src.now (batch_of (address_kind input) (payload input).items) result self.old.files self.new.files files.old files.new }
         // At any other addresses it answers as the same call with these would have.
-        ensures every { (others : List ℕ) → Symbolizes F.Files (answers_to others) src.now (batch_of (address_kind input) others) result self.old self.new files.old files.new }
+        ensures every { (others : List ℕ) → Symbolizes F.Files (answers_to others) src.now (batch_of (address_kind input) others) result self.old.files self.new.files files.old files.new }
+        ensures process { OnProcess src.now (λ _. IsErrOf result Error.Unsupported × (self.new ≡ self.old) × (files.new ≡ files.old)) }
+        ensures processes { self.new.processes ≡ self.old.processes }
         ensures addrs { IfOk result (λ lookups. lookups.addrs ≡ (payload input).items) }
-        ensures steps { SourceSteps src.now self.new (length (payload input).items) steps.old steps.new }
+        ensures steps { SourceSteps src.now self.new.files (length (payload input).items) steps.old steps.new }
     {
-        let opts = self.settings.opts();
-        let held = self.hold(alloc, files, src, &input)?;
-        Lookups::find(alloc, held, opts, input.into_inner(), steps)
+        self.files.look_up(alloc, files, src, input, steps)
     }
 
     /// The same answers as `symbolize`, with a count of the steps of their searches.
@@ -154,12 +159,20 @@ impl Symbolizer {
         input: Input<&[u64]>,
         steps: &mut Steps<L>,
     ) -> Result<Vec<Symbolized<'static>>>
-        ensures call { Symbolizes F.Files (λ answers. map reading answers.items) src.now (batch_query input.entry) result self.old self.new files.old files.new }
-        ensures steps { SourceSteps src.now self.new (length (payload input.entry).now) steps.old steps.new }
+        ensures call { Symbolizes F.Files (λ answers. map reading answers.items) src.now (batch_query input.entry) result self.old.files self.new.files files.old files.new }
+        ensures process { BatchOfProcess F.Files (λ answers. map reading answers.items) (D.may_dispatch self.old.processes.dispatcher) D.Resolver.TranslateFileOffset D.Resolver.Symbolize src.now (address_kind input.entry) (payload input.entry).now result self.old self.new files.old files.new }
+        ensures steps { SourceSteps src.now self.new.files (length (payload input.entry).now) steps.old steps.new }
     {
-        let opts = self.settings.opts();
-        let held = self.hold(alloc, files, src, &input)?;
-        count_batch(alloc, held, opts, input.into_inner(), steps)
+        match src.query() {
+            Some(query) => {
+                self.files
+                    .symbolize_process(&mut self.processes, alloc, files, &query, input)
+            }
+            None => {
+                self.files
+                    .symbolize_counted(alloc, files, src, input, steps)
+            }
+        }
     }
 
     /// Takes in the file of a resolver as the ELF file at the path, under the path's present stamp,
@@ -176,94 +189,10 @@ impl Symbolizer {
         path: &str,
         resolver: Rc<ElfResolver>,
     ) -> Result<()>
-        ensures { Registers F.Files path.now resolver.value.bytes result self.old self.new files.old files.new }
+        ensures call { Registers F.Files path.now resolver.value.bytes result self.old.files self.new.files files.old files.new }
+        ensures processes { self.new.processes ≡ self.old.processes }
     {
-        let cache = &mut self.elf;
-        let file = resolver.as_ref().file().clone()?;
-        cache.insert_value(alloc, files, path, file)
+        self.files
+            .register_elf_resolver(alloc, files, path, resolver)
     }
-
-    // The version of the source that answers at this call, held to answer addresses of the input's
-    // kind. This is the one place where a source's form and format are told apart.
-    fn hold<'d, F: Files, A>(
-        &mut self,
-        alloc: Global,
-        files: &mut F,
-        src: &Source<'d>,
-        input: &Input<A>,
-    ) -> Result<Held<'d>>
-        ensures asked { (opts : FindSymOpts) → AsksSource F.Files (held_singles opts) src.now opts (each_of (address_kind input.now)) result self.old self.new files.old files.new }
-        ensures steps { IfOk result (λ held. TakesSteps (version_of held) (SourceSteps src.now self.new)) }
-    {
-        match src {
-            Source::Breakpad(source) => {
-                let path = source.path.as_str();
-                hold_file(&mut self.breakpad, alloc, files, path, input)
-            }
-            Source::Gsym(Gsym::File(source)) => {
-                let path = source.path.as_str();
-                hold_file(&mut self.gsym, alloc, files, path, input)
-            }
-            Source::Elf(source) => {
-                let path = source.path.as_str();
-                hold_file(&mut self.elf, alloc, files, path, input)
-            }
-            Source::Gsym(Gsym::Data(source)) => hold_data(source.bytes, input),
-        }
-    }
-}
-
-// The answers of what is held to addresses, with texts of their own.
-fn answer_batch(
-    alloc: Global,
-    held: Held<'_>,
-    opts: FindSymOpts,
-    addrs: &[u64],
-) -> Result<Vec<Symbolized<'static>>>
-    ensures answers { IfOk result (λ answers. map reading answers.items ≡ map (λ addr. entry_by (version_of held.entry) opts addr) addrs.now) }
-    ensures memory { IsOkUnless result Error.OutOfMemory }
-{
-    let addrs = Vec::from_slice(alloc, addrs)?;
-    let lookups = Lookups::find_uncounted(alloc, held, opts, addrs)?;
-    lookups.owned_answers(alloc)
-}
-
-// The same, with a count of the steps of their searches.
-fn count_batch<L: Ledger>(
-    alloc: Global,
-    held: Held<'_>,
-    opts: FindSymOpts,
-    addrs: &[u64],
-    steps: &mut Steps<L>,
-) -> Result<Vec<Symbolized<'static>>>
-    ensures answers { IfOk result (λ answers. map reading answers.items ≡ map (λ addr. entry_by (version_of held.entry) opts addr) addrs.now) }
-    ensures steps { (steps.new ≡ steps.old) ⊎ VersionSteps (version_of held.entry) (length addrs.now) steps.old steps.new }
-    ensures memory { IsOkUnless result Error.OutOfMemory }
-{
-    let addrs = Vec::from_slice(alloc, addrs)?;
-    let lookups = Lookups::find(alloc, held, opts, addrs, steps)?;
-    lookups.owned_answers(alloc)
-}
-
-// The answer of what is held to an address alone, or its refusal, with texts of its own.
-fn answer_alone(
-    alloc: Global,
-    held: Held<'_>,
-    opts: FindSymOpts,
-    addr: Addr,
-) -> Result<Symbolized<'static>>
-    ensures answer { Gives reading (single_by (version_of held.entry) opts addr) result }
-    ensures refusal { IfErr result MayRefuse }
-{
-    let addrs = Vec::from_slice(alloc, &[addr])?;
-    let lookups = Lookups::find_uncounted(alloc, held, opts, addrs)?;
-    let answer = lookups.single(alloc, 0)?;
-    owned_answer(alloc, answer)
-}
-
-// A cache that keeps nothing.
-fn empty_cache<T: Version + Drop>(alloc: Global, reload: bool) -> FileCache<T>
-    ensures { result ≡ new_cache reload }
-{
-    FileCache::builder().enable_auto_reload(reload).build(alloc)
 }

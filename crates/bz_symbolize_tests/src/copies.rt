@@ -1,7 +1,8 @@
 //! Copies of sources read the same.
 
 use bz_base::Result;
-use bz_symbolize::source::{Breakpad, Elf, GsymData, GsymFile, Source};
+use bz_symbolize::Pid;
+use bz_symbolize::source::{Breakpad, Elf, GsymData, GsymFile, Process, Source};
 use std::alloc::Global;
 
 /// A Breakpad file at the path.
@@ -55,4 +56,16 @@ fn copies_of_bytes_read_the_same(rt: HostRuntime) {
         "GsymData([49, 50, 51, 52, 53]) GsymData([49, 50, 51, 52, 53])",
     );
     assert!(rt; copied == Ok(true));
+}
+
+/// Whether the process of this number, which is the own one for 0, is printed so, and a copy of it too.
+fn is_copied_process(alloc: Global, number: u32, text: &str) -> bool {
+    let source = Source::from(Process::new(Pid::from(number)));
+    is_copied(alloc, &source, text) == Ok(true)
+}
+
+#[test]
+fn copies_of_processes_read_the_same(rt: HostRuntime) {
+    assert!(rt; is_copied_process(rt.alloc(), 7, "Process(7) Process(7)"));
+    assert!(rt; is_copied_process(rt.alloc(), 0, "Process(self) Process(self)"));
 }

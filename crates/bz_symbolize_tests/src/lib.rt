@@ -12,10 +12,14 @@ mod changes;
 #[cfg(test)]
 mod copies;
 #[cfg(test)]
+mod dispatchers;
+#[cfg(test)]
 mod elf;
 #[cfg(test)]
 mod gsym;
 #[cfg(test)]
 mod lookups;
+#[cfg(test)]
+mod process;
 #[cfg(test)]
 mod trials;

@@ -25,7 +25,7 @@ use Rattle.bz_symbolize.specs.Counted.{SourceSteps, breakpad_steps}
 use Rattle.bz_symbolize.specs.FileCall.{batch_of}
 use Rattle.bz_symbolize.specs.Lookup.{answer_of, opens_of, by_table, breakpad_answer, elf_answer, fresh_answer, gsym_answer}
 use Rattle.bz_symbolize.specs.Promise.{AnswersKept}
-use Rattle.bz_symbolize.specs.Sources.{OnFile, elf_batch, form_of, gsym_batch}
+use Rattle.bz_symbolize.specs.Sources.{OnFile, UnlessProcess, elf_batch, form_of, gsym_batch}
 use Rattle.bz_symbolize.specs.State.{State, WellKept, default_settings, new_state}
 use Rattle.bz_symbolize.specs.declared.source.Gsym.TheVariants as gsyms
 use Rattle.bz_symbolize.specs.declared.source.Source.{Source}
@@ -54,6 +54,9 @@ answer_new (Breakpad path) (sources.Elf source) addrs world is = absurd is
 answer_new (Gsym path) (sources.Elf source) addrs world is = absurd is
 answer_new (Elf path) (sources.Breakpad source) addrs world is = absurd is
 answer_new (Elf path) (sources.Gsym source) addrs world is = absurd is
+answer_new (Breakpad path) (sources.Process source) addrs world is = absurd is
+answer_new (Gsym path) (sources.Process source) addrs world is = absurd is
+answer_new (Elf path) (sources.Process source) addrs world is = absurd is
 
 -- and reads its file where it answers
 pub opened_by_command : {A : Type 0} (view : A → List Answer) (command : Command) (source : Source) (addrs : List ℕ) (world : World) (before after : ℕ) (result : Result A Error) →
@@ -73,6 +76,9 @@ opened_by_command view (Breakpad path) (sources.Elf source) addrs world before a
 opened_by_command view (Gsym path) (sources.Elf source) addrs world before after result is comes opens = absurd is
 opened_by_command view (Elf path) (sources.Breakpad source) addrs world before after result is comes opens = absurd is
 opened_by_command view (Elf path) (sources.Gsym source) addrs world before after result is comes opens = absurd is
+opened_by_command view (Breakpad path) (sources.Process source) addrs world before after result is comes opens = absurd is
+opened_by_command view (Gsym path) (sources.Process source) addrs world before after result is comes opens = absurd is
+opened_by_command view (Elf path) (sources.Process source) addrs world before after result is comes opens = absurd is
 
 -- what the symbolizer keeps is what it answers, so whatever is told, some bytes in the format are answered
 pub some_from_kept : {A : Type 0} (view : A → List Answer) (command : Command) (source : Source) (addrs : List ℕ) (now : State) (result : Result A Error) →
@@ -88,6 +94,9 @@ some_from_kept view (Breakpad path) (sources.Elf source) addrs now (Ok given) is
 some_from_kept view (Gsym path) (sources.Elf source) addrs now (Ok given) is kept = absurd is
 some_from_kept view (Elf path) (sources.Breakpad source) addrs now (Ok given) is kept = absurd is
 some_from_kept view (Elf path) (sources.Gsym source) addrs now (Ok given) is kept = absurd is
+some_from_kept view (Breakpad path) (sources.Process source) addrs now (Ok given) is kept = absurd is
+some_from_kept view (Gsym path) (sources.Process source) addrs now (Ok given) is kept = absurd is
+some_from_kept view (Elf path) (sources.Process source) addrs now (Ok given) is kept = absurd is
 some_from_kept view command source addrs now (Err e) is kept = tt
 
 -- what is kept as one thing is one thing
@@ -114,6 +123,9 @@ few_from_kept view (Gsym path) (sources.Gsym (gsyms.Data source)) addrs now befo
 few_from_kept view (Gsym path) (sources.Elf source) addrs now before after (Ok given) is kept steps = absurd is
 few_from_kept view (Elf path) (sources.Breakpad source) addrs now before after (Ok given) is kept steps = absurd is
 few_from_kept view (Elf path) (sources.Gsym source) addrs now before after (Ok given) is kept steps = absurd is
+few_from_kept view (Breakpad path) (sources.Process source) addrs now before after (Ok given) is kept steps = absurd is
+few_from_kept view (Gsym path) (sources.Process source) addrs now before after (Ok given) is kept steps = absurd is
+few_from_kept view (Elf path) (sources.Process source) addrs now before after (Ok given) is kept steps = absurd is
 few_from_kept view command source addrs now before after (Err e) is kept steps = tt
 
 -- what is kept as a Breakpad file is one
@@ -143,6 +155,9 @@ takes_few (Gsym path) (sources.Gsym (gsyms.Data source)) now addrs before after 
 takes_few (Gsym path) (sources.Elf source) now addrs before after is kept steps = absurd is
 takes_few (Elf path) (sources.Breakpad source) now addrs before after is kept steps = absurd is
 takes_few (Elf path) (sources.Gsym source) now addrs before after is kept steps = absurd is
+takes_few (Breakpad path) (sources.Process source) now addrs before after is kept steps = absurd is
+takes_few (Gsym path) (sources.Process source) now addrs before after is kept steps = absurd is
+takes_few (Elf path) (sources.Process source) now addrs before after is kept steps = absurd is
 
 -- what holds of the file of a command's source holds
 pub of_its_file : (command : Command) (source : Source) (P : Type 0) → IsSourceOf command source → OnFile source (λ file. P) → P
@@ -156,6 +171,25 @@ of_its_file (Breakpad path) (sources.Elf source) P is holds = absurd is
 of_its_file (Gsym path) (sources.Elf source) P is holds = absurd is
 of_its_file (Elf path) (sources.Breakpad source) P is holds = absurd is
 of_its_file (Elf path) (sources.Gsym source) P is holds = absurd is
+of_its_file (Breakpad path) (sources.Process source) P is holds = absurd is
+of_its_file (Gsym path) (sources.Process source) P is holds = absurd is
+of_its_file (Elf path) (sources.Process source) P is holds = absurd is
+
+-- a command's source is no process
+pub of_its_source : (command : Command) (source : Source) (P : Type 0) → IsSourceOf command source → UnlessProcess source P → P
+of_its_source (Breakpad path) (sources.Breakpad source) P is holds = holds
+of_its_source (Gsym path) (sources.Gsym (gsyms.File source)) P is holds = holds
+of_its_source (Elf path) (sources.Elf source) P is holds = holds
+of_its_source (Breakpad path) (sources.Gsym source) P is holds = absurd is
+of_its_source (Breakpad path) (sources.Elf source) P is holds = absurd is
+of_its_source (Breakpad path) (sources.Process source) P is holds = absurd is
+of_its_source (Gsym path) (sources.Gsym (gsyms.Data source)) P is holds = absurd is
+of_its_source (Gsym path) (sources.Breakpad source) P is holds = absurd is
+of_its_source (Gsym path) (sources.Elf source) P is holds = absurd is
+of_its_source (Gsym path) (sources.Process source) P is holds = absurd is
+of_its_source (Elf path) (sources.Breakpad source) P is holds = absurd is
+of_its_source (Elf path) (sources.Gsym source) P is holds = absurd is
+of_its_source (Elf path) (sources.Process source) P is holds = absurd is
 
 -- bytes that answer are in the source's format, and these are their answers
 batch_by : (command : Command) (addrs bytes : List ℕ) (answers : List Answer) → answer_by command addrs bytes ≡ Ok answers → IsBatch command bytes addrs answers

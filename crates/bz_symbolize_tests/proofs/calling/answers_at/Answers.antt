@@ -23,5 +23,5 @@ some_from_kept view source addrs now (Err e) kept = tt
 pub returns : goal.returns
 returns g c =
     let from : c.from-src.result ≡ sources.Breakpad _ = c.from-src.ensures in
-    let made : c.new-symbolizer.result ≡ new_state default_settings = c.new-symbolizer.ensures in
-    some_from_kept (λ answers. map reading answers.items) _ c.args.addrs _ c.symbolize.result (rw (from, made) at c.symbolize.ensures.kept)
+    let made : c.new-symbolizer.result.files ≡ new_state default_settings = c.new-symbolizer.ensures.files in
+    some_from_kept (λ answers. map reading answers.items) _ c.args.addrs _ c.symbolize.result (rw (from, made) at c.symbolize.ensures.call.kept)

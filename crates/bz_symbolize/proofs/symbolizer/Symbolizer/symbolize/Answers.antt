@@ -1,25 +1,30 @@
-use Rattle.std.proofs.Common.{Ok, Err, ap, ◌∙◌, map, Vec, Global, List}
-use Rattle.std.proofs.lemmas.Result.{err_from_is_err_and}
-use Rattle.bz_base.specs.Answer.{Answer, reading}
-use Rattle.bz_base.specs.declared.types.Symbolized.{Symbolized}
-use Rattle.bz_symbolize.proofs.CallLemmas.{given_or_memory, promised_held}
-use Rattle.bz_symbolize.specs.State.{State, opts_of}
+use Rattle.std.proofs.Common.{map, sym}
+use Rattle.bz_base.specs.Answer.{reading}
+use Rattle.bz_base.specs.InputKind.{address_kind, payload}
+use Rattle.bz_process.specs.Asked.{asked_of}
+use Rattle.bz_process.specs.Processes.{SymbolizesProcess}
 use Rattle.bz_symbolize.specs.FileCall.{batch_query}
+use Rattle.bz_symbolize.specs.State.{opts_of}
+use Rattle.bz_symbolize.proofs.AskingLemmas.{batch_leaves, of_process, process_promised}
 use Rattle.bz_symbolize.proofs.symbolizer.Symbolizer.symbolize.Goals as goal
 
-abbrev read : Vec Symbolized Global → List Answer
-read answers = map reading answers.items
+-- a process is asked
+pub returns-in-Some-clause-call : goal.returns-in-Some-clause-call
+returns-in-Some-clause-call g c =
+    let leaves = batch_leaves g.F.Files c.symbolize_process.result c.self.inside.files c.symbolize_process.new.self.elf c.self.inside.processes c.symbolize_process.new.processes c.args.files.now c.symbolize_process.new.files
+    (g.D.ProcessDispatch.may_dispatch c.self.inside.processes.dispatcher) g.D.Resolver.TranslateFileOffset g.D.Resolver.Symbolize (opts_of c.self.inside.files.settings) (asked_of (g.F.Files.pid c.args.files.now) c.in-Some.query) (address_kind c.args.input)
+    (λ answers. map reading answers.items) (payload c.args.input).now c.symbolize_process.ensures.asked in
+    rw (← c.self.view_is) (process_promised g.F.Files c.args.src.now c.in-Some.query (sym c.in-Some.ensures) c.symbolize_process.result (record { files = c.self.inside.files; processes = c.self.inside.processes })
+    (record { files = c.symbolize_process.new.self; processes = c.symbolize_process.new.processes }) c.args.files.now c.symbolize_process.new.files c.symbolize_process.ensures.rest leaves
+    (λ answers. map reading answers.items) (batch_query c.args.input) c.symbolize_process.ensures.caches)
 
--- nothing is held
-pub returns-in_err-held : goal.returns-in_err-held
-returns-in_err-held g c =
-    let same = err_from_is_err_and c.from_residual.result c.from_residual.ensures.1 in
-    promised_held g.F.Files read c.args.src.now (batch_query c.args.input) (Err c.in_err-held.field-0.0) c.from_residual.result c.args.self.now c.hold.new.self c.args.files.now c.hold.new.files
-    c.in_err-held.ensures.asked (same.1 ∙ ap Err same.2)
-
--- what is held answers
-pub returns : goal.returns
-returns g c =
-    let answers = rw (c.opts-opts.ensures ∙ ap (λ (s : State). opts_of s.settings) c.self.view_is, c.into_inner.ensures) at c.answer_batch.ensures.answers in
-    promised_held g.F.Files read c.args.src.now (batch_query c.args.input) (Ok c.in_ok-held.held) c.answer_batch.result c.args.self.now c.hold.new.self c.args.files.now c.hold.new.files
-    c.in_ok-held.ensures.asked (given_or_memory read _ c.answer_batch.result answers c.answer_batch.ensures.memory)
+pub returns-in-Some-clause-process : goal.returns-in-Some-clause-process
+returns-in-Some-clause-process g c =
+    let leaves = batch_leaves g.F.Files c.symbolize_process.result c.self.inside.files c.symbolize_process.new.self.elf c.self.inside.processes c.symbolize_process.new.processes c.args.files.now c.symbolize_process.new.files
+    (g.D.ProcessDispatch.may_dispatch c.self.inside.processes.dispatcher) g.D.Resolver.TranslateFileOffset g.D.Resolver.Symbolize (opts_of c.self.inside.files.settings) (asked_of (g.F.Files.pid c.args.files.now) c.in-Some.query) (address_kind c.args.input)
+    (λ answers. map reading answers.items) (payload c.args.input).now c.symbolize_process.ensures.asked in
+    rw (← c.self.view_is) (of_process g.F.Files c.args.src.now c.in-Some.query (sym c.in-Some.ensures) c.symbolize_process.result (record { files = c.self.inside.files; processes = c.self.inside.processes })
+    (record { files = c.symbolize_process.new.self; processes = c.symbolize_process.new.processes }) c.args.files.now c.symbolize_process.new.files c.symbolize_process.ensures.rest leaves
+    (λ query. SymbolizesProcess g.F.Files (λ answers. map reading answers.items) (g.D.ProcessDispatch.may_dispatch c.self.inside.processes.dispatcher) g.D.Resolver.TranslateFileOffset g.D.Resolver.Symbolize (opts_of c.self.inside.files.settings)
+    (asked_of (g.F.Files.pid c.args.files.now) query) (address_kind c.args.input) (payload c.args.input).now c.symbolize_process.result c.self.inside.files.elf c.symbolize_process.new.self.elf c.self.inside.processes c.symbolize_process.new.processes c.args.files.now c.symbolize_process.new.files)
+    c.symbolize_process.ensures.asked)
