@@ -4,6 +4,8 @@
 #[cfg(test)]
 mod answers;
 #[cfg(test)]
+mod caching;
+#[cfg(test)]
 mod dispatchers;
 #[cfg(test)]
 mod files;
