@@ -10,6 +10,7 @@ use Rattle.bz_symq.specs.Outcome.{Outcome, run_outcome}
 use Rattle.bz_symq.specs.Reply.{outcome_of, IsDoneReply, RepliesToWords}
 use Rattle.bz_symq.specs.Run.{Ends, Fails, IsNoFailure, IsOrFails, Runs}
 use Rattle.bz_symq.specs.Turns.{FailsAtOne, ReadsOneFor, TakesTurns}
+use Rattle.bz_symq.specs.Words.{seen_in}
 use Rattle.bz_symq.specs.Writing.{Finishes}
 use Rattle.bz_symq.specs.declared.reply.Reply.{Reply}
 use Rattle.bz_symq.specs.declared.status.Status.{Status}
@@ -53,7 +54,7 @@ failed_ends expected old ended new (inr memory) unwritten = rw memory ([], expec
 module _ {R W F : Type 0} (reads : input_trait.Ghosts R) (writes : output_trait.Ghosts W) (looks : files_trait.Ghosts F) (words : List (List ℕ)) (ended : Status)
     (input_before input_after : R) (output_before output_after : W) (files_before files_after : F) where
   -- a reply was given, and its writing ended the run
-  pub runs_with_reply : (reply : Reply) → RepliesToWords words (reads.left input_before) (in_view (looks.worlds files_before)) (Ok reply) →
+  pub runs_with_reply : (reply : Reply) → RepliesToWords words (seen_in words (reads.left input_before)) (in_view (looks.worlds files_before)) (Ok reply) →
       TakesTurns reads looks words (Ok reply) input_before input_after files_before files_after → ReadsOneFor looks (IsDoneReply (Ok reply)) files_before files_after →
       FailsAtOne reads looks (Faulted (Ok reply)) input_before input_after files_before files_after → Finishes writes (outcome_of reply) ended output_before output_after →
       Runs reads writes looks words ended input_before input_after output_before output_after files_before files_after
@@ -71,6 +72,7 @@ module _ {R W F : Type 0} (reads : input_trait.Ghosts R) (writes : output_trait.
     complete = λ text left world seen is. rw (answerable_is_done words text world is) at (status text left world seen);
     refuses = λ text left world seen is. rw (refusable_is_refused words text world is) at (status text left world seen);
     unread = turns.unread;
+    unasked = turns.unasked;
     unlooked = turns.unlooked;
     read = λ _. turns.read;
     bounded = turns.bounded;
@@ -87,11 +89,11 @@ module _ {R W F : Type 0} (reads : input_trait.Ghosts R) (writes : output_trait.
       by_reply : (status : Status) → IsNoFailure status → ended ≡ status → reply.status ≡ status
       by_reply other no_failure is = status_from reply.status ended other no_failure finished.status is
 
-      ends : Told (reads.left input_before) (λ text. Told (in_view (looks.worlds files_before)) (λ world. Told (writes.written output_before) (λ old.
+      ends : Told (seen_in words (reads.left input_before)) (λ text. Told (in_view (looks.worlds files_before)) (λ world. Told (writes.written output_before) (λ old.
           Ends (run_outcome words text world) old ended (writes.written output_after))))
       ends text left world seen old written = subst (λ expected. Ends expected old ended (writes.written output_after)) (given.reply text left world seen) (finished.ends old written)
 
-      status : Told (reads.left input_before) (λ text. Told (in_view (looks.worlds files_before)) (λ world. IsOrFails (run_outcome words text world).status ended))
+      status : Told (seen_in words (reads.left input_before)) (λ text. Told (in_view (looks.worlds files_before)) (λ world. IsOrFails (run_outcome words text world).status ended))
       status text left world seen = subst (λ (expected : Outcome). IsOrFails expected.status ended) (given.reply text left world seen) finished.status
 
       fails : Fails reads writes looks ended input_before input_after output_before output_after files_before files_after
@@ -113,6 +115,7 @@ module _ {R W F : Type 0} (reads : input_trait.Ghosts R) (writes : output_trait.
     complete = λ text left world seen is. inr failed;
     refuses = λ text left world seen is. inr failed;
     unread = turns.unread;
+    unasked = turns.unasked;
     unlooked = turns.unlooked;
     read = λ no_failure. absurd (never ended ended no_failure failed refl);
     bounded = turns.bounded;

@@ -1,5 +1,4 @@
 mod AnswerTextLemmas
-mod CommandLemmas
 mod EndLemmas
 mod FaultLemmas
 mod InputGrammarLemmas
@@ -7,6 +6,8 @@ mod InputTextLemmas
 mod OpenLemmas
 mod OutputLemmas
 mod PieceLemmas
+mod ProductLemmas
 mod ReplyLemmas
 mod RunLemmas
+mod TargetLemmas
 mod TextsLemmas

@@ -3,32 +3,33 @@ use Rattle.std.specs.Prelude.{◌≡◌, ◌⊎◌, ℕ, List, length, Option, S
 use Rattle.bz_base.specs.Answer.{Answer}
 use Rattle.bz_files.specs.World.{Told}
 use Rattle.bz_symbolize.specs.Counted.{breakpad_steps, no_steps}
-use Rattle.bz_symq.specs.Commands.{IsBatch, IsVersion}
+use Rattle.bz_symq.specs.Targets.{IsBatch, IsVersion}
 use Rattle.bz_symq.specs.InputText.{addresses_in}
-use Rattle.bz_symq.specs.Words.{Command, Breakpad, Gsym, Elf}
+use Rattle.bz_symq.specs.Words.{Command, Batch, Make, Target, Breakpad, Gsym, Elf}
 
--- those of a batch of so many addresses in bytes of the command's source: of a Breakpad file few for its table; none of others
-abbrev pub StepsIn : Command → List ℕ → ℕ → ℕ → ℕ → Type 0
+-- those of a batch of so many addresses in bytes of the target's source: of a Breakpad file few for its table; none of others
+abbrev pub StepsIn : Target → List ℕ → ℕ → ℕ → ℕ → Type 0
 StepsIn (Breakpad path) bytes addrs before after = breakpad_steps bytes addrs before after
 StepsIn (Gsym path) bytes addrs before after = no_steps bytes addrs before after
 StepsIn (Elf path) bytes addrs before after = no_steps bytes addrs before after
 
--- the answers are those of some bytes in the format of the command's source, in which the addresses were found in few steps
-abbrev pub AnswersInFew : Command → List ℕ → List Answer → ℕ → ℕ → Type 0
-AnswersInFew command addrs answers before after =
-    (bytes : List ℕ) × IsBatch command bytes addrs answers × StepsIn command bytes (length addrs) before after
+-- the answers are those of some bytes in the format of the target's source, in which the addresses were found in few steps
+abbrev pub AnswersInFew : Target → List ℕ → List Answer → ℕ → ℕ → Type 0
+AnswersInFew target addrs answers before after =
+    (bytes : List ℕ) × IsBatch target bytes addrs answers × StepsIn target bytes (length addrs) before after
 
--- a batch of so many addresses, answered or refused: no step was taken, or few in some bytes in the format of the command's source
-abbrev pub TakesFew : Command → ℕ → ℕ → ℕ → Type 0
-TakesFew command addrs before after =
-    (after ≡ before) ⊎ ((bytes : List ℕ) × IsVersion command bytes × StepsIn command bytes addrs before after)
+-- a batch of so many addresses, answered or refused: no step was taken, or few in some bytes in the format of the target's source
+abbrev pub TakesFew : Target → ℕ → ℕ → ℕ → Type 0
+TakesFew target addrs before after =
+    (after ≡ before) ⊎ ((bytes : List ℕ) × IsVersion target bytes × StepsIn target bytes addrs before after)
 
 -- an input: none where a line isn't well formed, and else those of its addresses
-abbrev pub InputTakesFew : Command → Result (List ℕ) ℕ → ℕ → ℕ → Type 0
-InputTakesFew command (Err n) before after = after ≡ before
-InputTakesFew command (Ok addrs) before after = TakesFew command (length addrs) before after
+abbrev pub InputTakesFew : Target → Result (List ℕ) ℕ → ℕ → ℕ → Type 0
+InputTakesFew target (Err n) before after = after ≡ before
+InputTakesFew target (Ok addrs) before after = TakesFew target (length addrs) before after
 
 -- a run, by its command and by what is left of its input: none, or those of that input
 abbrev pub RunTakesFew : Option Command → Option (List ℕ) → ℕ → ℕ → Type 0
 RunTakesFew None left before after = after ≡ before
-RunTakesFew (Some command) left before after = Told left (λ text. (after ≡ before) ⊎ InputTakesFew command (addresses_in text) before after)
+RunTakesFew (Some (Make product)) left before after = after ≡ before
+RunTakesFew (Some (Batch target)) left before after = Told left (λ text. (after ≡ before) ⊎ InputTakesFew target (addresses_in text) before after)

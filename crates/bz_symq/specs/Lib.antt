@@ -1,11 +1,12 @@
 pub mod AnswerText
-pub mod Commands
 pub mod Counted
 pub mod InputText
 pub mod Outcome
 pub mod Piece
+pub mod Products
 pub mod Reply
 pub mod Run
+pub mod Targets
 pub mod Texts
 pub mod Turns
 pub mod Words

@@ -5,9 +5,10 @@ use Rattle.bz_base.specs.ErrorNames.{name_of}
 use Rattle.bz_base.specs.declared.error.Error.{Error}
 use Rattle.bz_files.specs.World.{World}
 use Rattle.bz_symq.specs.AnswerText.{answer_texts}
-use Rattle.bz_symq.specs.Commands.{answer_to}
 use Rattle.bz_symq.specs.InputText.{addresses_in, greatest_input}
-use Rattle.bz_symq.specs.Words.{Command, command_in}
+use Rattle.bz_symq.specs.Products.{made_in}
+use Rattle.bz_symq.specs.Targets.{answer_to}
+use Rattle.bz_symq.specs.Words.{Command, Batch, Make, Target, command_in}
 use Rattle.bz_symq.specs.declared.status.Status.{Status}
 use Rattle.bz_symq.specs.declared.status.Status.TheVariants as statuses
 
@@ -36,8 +37,11 @@ abbrev pub usage : Outcome
 usage = record { status = statuses.Usage; text = codes "usage: symq [OPTION] KIND [ARG]...\n" }
 
 -- a refusal is written by its name
+abbrev pub refused_as : List ℕ → Outcome
+refused_as name = record { status = statuses.Refused; text = codes "refused: " ++ (name ++ codes "\n") }
+
 abbrev pub refused : Error → Outcome
-refused e = record { status = statuses.Refused; text = codes "refused: " ++ (name_of e ++ codes "\n") }
+refused e = refused_as (name_of e)
 
 -- the answers' texts, or the refusal
 abbrev pub by_answer : List ℕ → Result (List Answer) Error → Outcome
@@ -48,28 +52,34 @@ by_answer addrs (Err e) = refused e
 abbrev pub bad_line : ℕ → Outcome
 bad_line n = record { status = statuses.Input; text = codes "input: line " ++ (decimal n ++ codes "\n") }
 
--- a bad line is named, and addresses are answered by the command's source
-abbrev pub by_addresses : Command → World → Result (List ℕ) ℕ → Outcome
-by_addresses command world (Err n) = bad_line n
-by_addresses command world (Ok addrs) = by_answer addrs (answer_to command addrs world)
+-- a bad line is named, and addresses are answered by the target
+abbrev pub by_addresses : Target → World → Result (List ℕ) ℕ → Outcome
+by_addresses target world (Err n) = bad_line n
+by_addresses target world (Ok addrs) = by_answer addrs (answer_to target addrs world)
 
 -- an input that is too long is named as such
 abbrev pub too_long : Outcome
 too_long = record { status = statuses.Input; text = codes "input: too long\n" }
 
 -- and that before its lines are read
-abbrev pub by_length : Command → List ℕ → World → Bool → Outcome
-by_length command input world true = too_long
-by_length command input world false = by_addresses command world (addresses_in input)
+abbrev pub by_length : Target → List ℕ → World → Bool → Outcome
+by_length target input world true = too_long
+by_length target input world false = by_addresses target world (addresses_in input)
 
--- the whole input comes first, then the source
-abbrev pub outcome : Command → List ℕ → World → Outcome
-outcome command input world = by_length command input world (nat_lt greatest_input (length input))
+-- the whole input comes first, then the target
+abbrev pub outcome : Target → List ℕ → World → Outcome
+outcome target input world = by_length target input world (nat_lt greatest_input (length input))
+
+-- what was made, or the refusal
+abbrev pub by_product : Result (List ℕ) (List ℕ) → Outcome
+by_product (Ok made) = record { status = statuses.Done; text = made }
+by_product (Err name) = refused_as name
 
 -- by the command, if there is one
 abbrev pub by_command : Option Command → List ℕ → World → Outcome
 by_command None input world = usage
-by_command (Some command) input world = outcome command input world
+by_command (Some (Batch target)) input world = outcome target input world
+by_command (Some (Make product)) input world = by_product (made_in product world)
 
 -- and before both the words
 abbrev pub run_outcome : List (List ℕ) → List ℕ → World → Outcome

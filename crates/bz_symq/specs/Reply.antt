@@ -6,11 +6,12 @@ use Rattle.bz_base.specs.declared.error.Error.{Error}
 use Rattle.bz_base.specs.declared.error.Error.TheVariants as errors
 use Rattle.bz_files.specs.World.{World, Told}
 use Rattle.bz_symq.specs.AnswerText.{answer_texts}
-use Rattle.bz_symq.specs.Commands.{AnswersSome}
 use Rattle.bz_symq.specs.InputText.{addresses_in}
 use Rattle.bz_symq.specs.Outcome.{Outcome, refused, run_outcome}
-use Rattle.bz_symq.specs.Run.{IsBadInput, IsNoFailure, IsSomeDone}
-use Rattle.bz_symq.specs.Words.{Command, command_in}
+use Rattle.bz_symq.specs.Products.{MadeOfSome}
+use Rattle.bz_symq.specs.Run.{IsBadInput, IsNoFailure, IsSomeDone, IsSomeMade}
+use Rattle.bz_symq.specs.Targets.{AnswersSome}
+use Rattle.bz_symq.specs.Words.{Product, Target, command_in}
 use Rattle.bz_symq.specs.declared.reply.Reply.{Reply}
 use Rattle.bz_symq.specs.declared.reply.Said.{Said}
 use Rattle.bz_symq.specs.declared.reply.Said.TheVariants as saids
@@ -21,6 +22,7 @@ use Rattle.bz_symq.specs.declared.status.Status.TheVariants as statuses
 abbrev pub text_of : Said → List ℕ
 text_of (saids.Text text) = cow_str_bytes text
 text_of (saids.Answers lookups) = answer_texts lookups.addrs lookups.answers
+text_of (saids.Made bytes) = bytes.items
 
 -- the outcome that a reply is
 abbrev pub outcome_of : Reply → Outcome
@@ -40,23 +42,32 @@ RepliesTo errors.OutOfMemory result = result ≡ Err errors.OutOfMemory
 RepliesTo refusal (Ok reply) = outcome_of reply ≡ refused refusal
 RepliesTo refusal (Err e) = e ≡ errors.OutOfMemory
 
--- the text is that of answers to the addresses, by some bytes in the format of the command's source
-pub record IsBatchText (command : Command) (addrs text : List ℕ) : Type 0 where
+-- the text is that of answers to the addresses, by some bytes in the format of the target's source
+pub record IsBatchText (target : Target) (addrs text : List ℕ) : Type 0 where
   pub answers : List Answer
-  pub answers_are : AnswersSome command addrs answers
+  pub answers_are : AnswersSome target addrs answers
   pub text_is : text ≡ answer_texts addrs answers
 
 -- a reply that the run is done has such a text
-abbrev pub IsBatchReply : Command → List ℕ → Reply → Type 0
-IsBatchReply command addrs reply = reply.status ≡ statuses.Done → IsBatchText command addrs (text_of reply.said)
+abbrev pub IsBatchReply : Target → List ℕ → Reply → Type 0
+IsBatchReply target addrs reply = reply.status ≡ statuses.Done → IsBatchText target addrs (text_of reply.said)
 
 -- and its addresses are those of the input
-abbrev pub IsInputReply : Command → List ℕ → Reply → Type 0
-IsInputReply command input reply = reply.status ≡ statuses.Done → (addrs : List ℕ) × (addresses_in input ≡ Ok addrs) × IsBatchText command addrs (text_of reply.said)
+abbrev pub IsInputReply : Target → List ℕ → Reply → Type 0
+IsInputReply target input reply = reply.status ≡ statuses.Done → (addrs : List ℕ) × (addresses_in input ≡ Ok addrs) × IsBatchText target addrs (text_of reply.said)
 
--- and once it is written, the run has answered
+-- a reply that the run is done says what some Breakpad file makes
+abbrev pub IsProductReply : Product → Reply → Type 0
+IsProductReply product reply = reply.status ≡ statuses.Done → MadeOfSome product (text_of reply.said)
+
+-- the status of a reply to words that ask for a product
+abbrev pub IsProductStatus : Status → Type 0
+IsProductStatus status = (status ≡ statuses.Done) ⊎ (status ≡ statuses.Refused)
+
+-- and once a reply that the run is done is written, the run has answered, or has written the product
 abbrev pub IsRunReply : List (List ℕ) → List ℕ → Reply → Type 0
-IsRunReply words input reply = reply.status ≡ statuses.Done → (old : List ℕ) (new : Option (List ℕ)) → new ≡ Some (old ++ text_of reply.said) → IsSomeDone words input old new
+IsRunReply words input reply = reply.status ≡ statuses.Done → (old : List ℕ) (new : Option (List ℕ)) → new ≡ Some (old ++ text_of reply.said) →
+    IsSomeDone words input old new ⊎ IsSomeMade words old new
 
 -- the call was answered by a reply that the run is done
 abbrev pub IsDoneReply : Result Reply Error → Type 0
@@ -68,11 +79,11 @@ abbrev pub IsInputStatus : Result (List ℕ) ℕ → Status → Type 0
 IsInputStatus (Err n) status = status ≡ statuses.Input
 IsInputStatus (Ok addrs) status = (status ≡ statuses.Done) ⊎ (status ≡ statuses.Refused)
 
--- a reply to the words was to be made, with what was left of the input and the world in view
+-- a reply to the words was to be made, with what they see of the input and the world in view
 pub record RepliesToWords (words : List (List ℕ)) (left : Option (List ℕ)) (seen : Option World) (result : Result Reply Error) : Type 0 where
   -- it is the outcome of the run
   pub reply : Told left (λ text. Told seen (λ world. Replies (run_outcome words text world) result))
-  -- and whatever the files tell, answers are those that the run was asked for
+  -- and whatever the files tell, answers or product are those that the run was asked for
   pub answered : Told left (λ text. IfOk result (λ given. IsRunReply words text given))
   pub no_failure : IfOk result (λ given. IsNoFailure given.status)
   -- the words alone decide on status 2, and words and input alone on status 3

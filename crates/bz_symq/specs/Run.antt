@@ -9,10 +9,11 @@ use Rattle.bz_files.specs.declared.files.Files as files_trait
 use Rattle.bz_files.specs.declared.text.TextIn as input_trait
 use Rattle.bz_files.specs.declared.text.TextOut as output_trait
 use Rattle.bz_symq.specs.AnswerText.{answer_texts}
-use Rattle.bz_symq.specs.Commands.{HasAnswers, AnswersIn, AnswersSome, IsCause}
 use Rattle.bz_symq.specs.InputText.{AreAddresses, HasBadLine, greatest_input, left_over, MovesAtMost}
-use Rattle.bz_symq.specs.Outcome.{Outcome, refused, run_outcome}
-use Rattle.bz_symq.specs.Words.{Command, command_in}
+use Rattle.bz_symq.specs.Outcome.{Outcome, refused, refused_as, run_outcome}
+use Rattle.bz_symq.specs.Products.{MadeIn, MadeOfSome, UnmadeIn}
+use Rattle.bz_symq.specs.Targets.{HasAnswers, AnswersIn, AnswersSome, IsCause}
+use Rattle.bz_symq.specs.Words.{Batch, Make, Product, Target, command_in, seen_in}
 use Rattle.bz_symq.specs.declared.status.Status.{Status}
 use Rattle.bz_symq.specs.declared.status.Status.TheVariants as statuses
 
@@ -34,61 +35,93 @@ IsOrFails expected status = (status ≡ expected) ⊎ ((status ≡ statuses.Faul
 abbrev pub IsNoFailure : Status → Type 0
 IsNoFailure status = (status ≢ statuses.Fault) × (status ≢ statuses.Memory)
 
--- the words give the command, and the input is the addresses
-pub record Asks (words : List (List ℕ)) (input : List ℕ) (command : Command) (addrs : List ℕ) : Type 0 where
-  pub command_is : command_in words ≡ Some command
+-- the words ask for the answers of the target, and the input is the addresses
+pub record Asks (words : List (List ℕ)) (input : List ℕ) (target : Target) (addrs : List ℕ) : Type 0 where
+  pub command_is : command_in words ≡ Some (Batch target)
   pub short : length input ≤ greatest_input
   pub input_is : AreAddresses input addrs
 
 -- the run is asked for addresses of a source that has answers: a file in its format
 pub record IsAnswerable (words : List (List ℕ)) (input : List ℕ) (world : World) : Type 0 where
-  pub command : Command
+  pub target : Target
   pub addrs : List ℕ
-  pub asks : Asks words input command addrs
-  pub answerable : HasAnswers command world
+  pub asks : Asks words input target addrs
+  pub answerable : HasAnswers target world
 
 -- the run was asked for addresses of a source that has answers: the texts of its plain answers at the addresses, in their
 -- order, are what was written
 pub record IsDone (words : List (List ℕ)) (input : List ℕ) (world : World) (old : List ℕ) (new : Option (List ℕ)) : Type 0 where
-  pub command : Command
+  pub target : Target
   pub addrs : List ℕ
   pub answers : List Answer
-  pub asks : Asks words input command addrs
-  pub answers_are : AnswersIn command world addrs answers
+  pub asks : Asks words input target addrs
+  pub answers_are : AnswersIn target world addrs answers
   pub written : new ≡ Some (old ++ answer_texts addrs answers)
 
 -- the run was asked for addresses, and whatever the files tell, the texts of the plain answers of some bytes in the format of
 -- its source, at the addresses, in their order, are what was written
 pub record IsSomeDone (words : List (List ℕ)) (input old : List ℕ) (new : Option (List ℕ)) : Type 0 where
-  pub command : Command
+  pub target : Target
   pub addrs : List ℕ
   pub answers : List Answer
-  pub asks : Asks words input command addrs
-  pub answers_are : AnswersSome command addrs answers
+  pub asks : Asks words input target addrs
+  pub answers_are : AnswersSome target addrs answers
   pub written : new ≡ Some (old ++ answer_texts addrs answers)
 
 -- the run is asked for addresses of a source that has no answers
 pub record IsRefusable (words : List (List ℕ)) (input : List ℕ) (world : World) : Type 0 where
-  pub command : Command
+  pub target : Target
   pub addrs : List ℕ
   pub refusal : Error
-  pub asks : Asks words input command addrs
-  pub cause : IsCause command world refusal
+  pub asks : Asks words input target addrs
+  pub cause : IsCause target world refusal
 
 -- the run was asked for addresses of a source that has no answers: the refusal is what was written
 pub record IsRefused (words : List (List ℕ)) (input : List ℕ) (world : World) (old : List ℕ) (new : Option (List ℕ)) : Type 0 where
   pub refusable : IsRefusable words input world
   pub written : new ≡ Some (old ++ (refused refusable.refusal).text)
 
--- the words are a command, and the input is too long for it, or has a line that isn't well formed
+-- the run is asked for a product that can be made of its file
+pub record IsMakeable (words : List (List ℕ)) (world : World) : Type 0 where
+  pub product : Product
+  pub made : List ℕ
+  pub asks : command_in words ≡ Some (Make product)
+  pub made_is : MadeIn product world made
+
+-- the run was asked for a product, which was made of its file, and is what was written
+pub record IsMade (words : List (List ℕ)) (world : World) (old : List ℕ) (new : Option (List ℕ)) : Type 0 where
+  pub makeable : IsMakeable words world
+  pub written : new ≡ Some (old ++ makeable.made)
+
+-- the run was asked for a product, and whatever the files tell, what some Breakpad file makes is what was written
+pub record IsSomeMade (words : List (List ℕ)) (old : List ℕ) (new : Option (List ℕ)) : Type 0 where
+  pub product : Product
+  pub made : List ℕ
+  pub asks : command_in words ≡ Some (Make product)
+  pub made_is : MadeOfSome product made
+  pub written : new ≡ Some (old ++ made)
+
+-- the run is asked for a product that can't be made of its file
+pub record IsUnmakeable (words : List (List ℕ)) (world : World) : Type 0 where
+  pub product : Product
+  pub name : List ℕ
+  pub asks : command_in words ≡ Some (Make product)
+  pub cause : UnmadeIn product world name
+
+-- the run was asked for such a product: the refusal is what was written
+pub record IsUnmade (words : List (List ℕ)) (world : World) (old : List ℕ) (new : Option (List ℕ)) : Type 0 where
+  pub unmakeable : IsUnmakeable words world
+  pub written : new ≡ Some (old ++ (refused_as unmakeable.name).text)
+
+-- the words ask for answers, and the input is too long for that, or has a line that isn't well formed
 abbrev pub IsBadInput : List (List ℕ) → List ℕ → Type 0
 IsBadInput words input =
-    (command : Command) × (command_in words ≡ Some command)
+    (target : Target) × (command_in words ≡ Some (Batch target))
     × ((greatest_input < length input) ⊎ HasBadLine input)
 
--- the input that a command asks for was read: to its end, or to the byte that makes it too long
+-- the input at which answers are asked for was read: to its end, or to the byte that makes it too long
 abbrev pub IsReadWhole : List (List ℕ) → Option (List ℕ) → Option (List ℕ) → Type 0
-IsReadWhole words before after = (command : Command) → command_in words ≡ Some command → Told before (λ text. after ≡ Some (left_over text))
+IsReadWhole words before after = (target : Target) → command_in words ≡ Some (Batch target) → Told before (λ text. after ≡ Some (left_over text))
 
 -- the sides of a run: what it reads, what it looks at and what it writes to
 pub data Side : Type 0 where
@@ -114,28 +147,34 @@ pub record Runs {R W F : Type 0} (reads : input_trait.Ghosts R) (writes : output
     (input_before input_after : R) (output_before output_after : W) (files_before files_after : F) : Type 0 where
   -- what was written is the outcome's text, or a front of it where the run failed; and the run ends as the outcome, if it
   -- doesn't fail
-  pub ends : Told (reads.left input_before) (λ text. Told (in_view (looks.worlds files_before)) (λ world. Told (writes.written output_before) (λ old.
+  pub ends : Told (seen_in words (reads.left input_before)) (λ text. Told (in_view (looks.worlds files_before)) (λ world. Told (writes.written output_before) (λ old.
       Ends (run_outcome words text world) old ended (writes.written output_after))))
-  pub status : Told (reads.left input_before) (λ text. Told (in_view (looks.worlds files_before)) (λ world.
+  pub status : Told (seen_in words (reads.left input_before)) (λ text. Told (in_view (looks.worlds files_before)) (λ world.
       IsOrFails (run_outcome words text world).status ended))
-  -- status 0 means that the input was addresses of a source that has answers, and that these are what was written
-  pub done : ended ≡ statuses.Done → Told (reads.left input_before) (λ text. Told (in_view (looks.worlds files_before)) (λ world.
-      Told (writes.written output_before) (λ old. IsDone words text world old (writes.written output_after))))
-  -- and whatever the files tell, that they are those of some bytes in the format of the source
-  pub answered : ended ≡ statuses.Done → Told (reads.left input_before) (λ text. Told (writes.written output_before) (λ old.
-      IsSomeDone words text old (writes.written output_after)))
-  -- status 1 means that the input was addresses of a source that has no answers, and that its refusal is what was written
-  pub refused : ended ≡ statuses.Refused → Told (reads.left input_before) (λ text. Told (in_view (looks.worlds files_before)) (λ world.
-      Told (writes.written output_before) (λ old. IsRefused words text world old (writes.written output_after))))
+  -- status 0 means that the input was addresses of a source that has answers, and that these are what was written; or that a
+  -- product was asked for, which is what was written
+  pub done : ended ≡ statuses.Done → Told (seen_in words (reads.left input_before)) (λ text. Told (in_view (looks.worlds files_before)) (λ world.
+      Told (writes.written output_before) (λ old. IsDone words text world old (writes.written output_after) ⊎ IsMade words world old (writes.written output_after))))
+  -- and whatever the files tell, that they are those of some bytes in the format of the source, or that some file makes it
+  pub answered : ended ≡ statuses.Done → Told (seen_in words (reads.left input_before)) (λ text. Told (writes.written output_before) (λ old.
+      IsSomeDone words text old (writes.written output_after) ⊎ IsSomeMade words old (writes.written output_after)))
+  -- status 1 means that the input was addresses of a source that has no answers, or that a product was asked for that can't be
+  -- made, and that the refusal is what was written
+  pub refused : ended ≡ statuses.Refused → Told (seen_in words (reads.left input_before)) (λ text. Told (in_view (looks.worlds files_before)) (λ world.
+      Told (writes.written output_before) (λ old. IsRefused words text world old (writes.written output_after) ⊎ IsUnmade words world old (writes.written output_after))))
   -- the words alone decide on status 2, and words and input alone on status 3
   pub usage : (ended ≡ statuses.Usage → command_in words ≡ None) × (command_in words ≡ None → IsOrFails statuses.Usage ended)
-  pub input : Told (reads.left input_before) (λ text. (ended ≡ statuses.Input → IsBadInput words text) × (IsBadInput words text → IsOrFails statuses.Input ended))
-  -- a source that has answers is answered, unless something fails or memory runs out
-  pub complete : Told (reads.left input_before) (λ text. Told (in_view (looks.worlds files_before)) (λ world. IsAnswerable words text world → IsOrFails statuses.Done ended))
-  -- a source that has none is refused, unless something fails or memory runs out
-  pub refuses : Told (reads.left input_before) (λ text. Told (in_view (looks.worlds files_before)) (λ world. IsRefusable words text world → IsOrFails statuses.Refused ended))
+  pub input : Told (seen_in words (reads.left input_before)) (λ text. (ended ≡ statuses.Input → IsBadInput words text) × (IsBadInput words text → IsOrFails statuses.Input ended))
+  -- a source that has answers is answered, and a product that can be made is made, unless something fails or memory runs out
+  pub complete : Told (seen_in words (reads.left input_before)) (λ text. Told (in_view (looks.worlds files_before)) (λ world.
+      IsAnswerable words text world ⊎ IsMakeable words world → IsOrFails statuses.Done ended))
+  -- a source that has none is refused, and a product that can't be made, unless something fails or memory runs out
+  pub refuses : Told (seen_in words (reads.left input_before)) (λ text. Told (in_view (looks.worlds files_before)) (λ world.
+      IsRefusable words text world ⊎ IsUnmakeable words world → IsOrFails statuses.Refused ended))
   -- the words come first, then the input: what a run doesn't come to, it leaves alone
   pub unread : command_in words ≡ None → (input_after ≡ input_before) × (files_after ≡ files_before)
+  -- for a product no input is read
+  pub unasked : (product : Product) → command_in words ≡ Some (Make product) → input_after ≡ input_before
   pub unlooked : Told (reads.left input_before) (λ text. IsBadInput words text → files_after ≡ files_before)
   -- a run that doesn't fail has read the input, and no run reads on past the byte that makes it too long
   pub read : IsNoFailure ended → IsReadWhole words (reads.left input_before) (reads.left input_after)
@@ -143,8 +182,8 @@ pub record Runs {R W F : Type 0} (reads : input_trait.Ghosts R) (writes : output
   -- until the input is read, no file is looked at and nothing is written
   pub order : ((files_after ≡ files_before) × (output_after ≡ output_before)) ⊎ IsReadWhole words (reads.left input_before) (reads.left input_after)
   -- where there is nothing to write, the output is left alone
-  pub silent : Told (reads.left input_before) (λ text. Told (in_view (looks.worlds files_before)) (λ world. (run_outcome words text world).text ≡ [] → output_after ≡ output_before))
-  -- one file at most is read, and where answers were written one was
+  pub silent : Told (seen_in words (reads.left input_before)) (λ text. Told (in_view (looks.worlds files_before)) (λ world. (run_outcome words text world).text ≡ [] → output_after ≡ output_before))
+  -- one file at most is read, and where a run is done one was
   pub most : ReadsOne looks files_before files_after
   pub opened : Told (in_view (looks.worlds files_before)) (λ world. ended ≡ statuses.Done → looks.opens files_after ≡ counted (looks.opens files_before))
   -- one side at most failed, and files only before the output; a fault comes only where a call failed, and at any other status

@@ -1,5 +1,5 @@
 -- What a reply comes to of words, input and files, and in which turn.
-use Rattle.std.specs.Prelude.{◌≡◌, ◌⊎◌, ℕ, ◌+◌, List, None, Result, IfOk}
+use Rattle.std.specs.Prelude.{◌≡◌, ◌⊎◌, ℕ, ◌+◌, List, Some, None, Result, IfOk}
 use Rattle.bz_base.specs.declared.error.Error.{Error}
 use Rattle.bz_files.specs.Count.{CountsFaults, counted}
 use Rattle.bz_files.specs.Looked.{Looked, ReadsOne}
@@ -8,7 +8,7 @@ use Rattle.bz_files.specs.declared.files.Files as files_trait
 use Rattle.bz_files.specs.declared.text.TextIn as input_trait
 use Rattle.bz_symq.specs.InputText.{greatest_input, MovesAtMost}
 use Rattle.bz_symq.specs.Run.{IsBadInput, IsReadWhole}
-use Rattle.bz_symq.specs.Words.{command_in}
+use Rattle.bz_symq.specs.Words.{Make, Product, command_in}
 use Rattle.bz_symq.specs.declared.reply.Reply.{Reply}
 
 -- a reply was to be made: the words come first, then the input, then the files
@@ -16,6 +16,7 @@ pub record TakesTurns {R F : Type 0} (reads : input_trait.Ghosts R) (looks : fil
     (input_before input_after : R) (files_before files_after : F) : Type 0 where
   -- what isn't come to is left alone
   pub unread : command_in words ≡ None → (input_after ≡ input_before) × (files_after ≡ files_before)
+  pub unasked : (product : Product) → command_in words ≡ Some (Make product) → input_after ≡ input_before
   pub unlooked : Told (reads.left input_before) (λ text. IsBadInput words text → files_after ≡ files_before)
   -- a reply that is given has read the input, and none reads on past the byte that makes it too long
   pub read : IfOk result (λ given. IsReadWhole words (reads.left input_before) (reads.left input_after))
@@ -23,7 +24,7 @@ pub record TakesTurns {R F : Type 0} (reads : input_trait.Ghosts R) (looks : fil
   -- until the input is read, no file is looked at
   pub order : (files_after ≡ files_before) ⊎ IsReadWhole words (reads.left input_before) (reads.left input_after)
 
--- one file at most was read, and where answers were given one was
+-- one file at most was read, and where the run is done one was
 pub record ReadsOneFor {F : Type 0} (looks : files_trait.Ghosts F) (answered : Type 0) (before after : F) : Type 0 where
   pub most : ReadsOne looks before after
   pub opened : Told (in_view (looks.worlds before)) (λ world. answered → looks.opens after ≡ counted (looks.opens before))

@@ -6,6 +6,7 @@ mod input;
 pub mod laws;
 mod output;
 mod piece;
+mod product;
 mod program;
 mod reply;
 mod status;

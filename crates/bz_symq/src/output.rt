@@ -42,6 +42,7 @@ fn write_said<W: TextOut>(
     match said {
         Said::Text(text) => write_all(output, text.as_str().as_bytes()),
         Said::Answers(lookups) => write_answers(alloc, output, lookups),
+        Said::Made(bytes) => write_all(output, bytes.as_slice()),
     }
 }
 

@@ -1,24 +1,25 @@
 //! One run of the program.
 
-ghost use Rattle.std.specs.Prelude.{◌≡◌, ◌⊎◌, ◌↔◌, ◌<◌, length, map, string_bytes, IfOk, Ok, IsErr, IsOk, IsOkUnless};
+ghost use Rattle.std.specs.Prelude.{◌≡◌, ◌⊎◌, ◌↔◌, ◌<◌, ℕ, List, length, map, string_bytes, IfOk, Ok, Some, IsErr, IsOk, IsOkUnless};
 ghost use Rattle.bz_base.specs.InputKind.{address_kind, payload};
 ghost use Rattle.bz_files.specs.Looked.{Faulted, Looked};
 ghost use Rattle.bz_files.specs.World.{Told, in_view};
 ghost use Rattle.bz_cache.specs.Format.{Comes};
-ghost use Rattle.bz_symq.specs.Commands.{answer_to, kind_of, AnswersSome, IsSourceOf};
 ghost use Rattle.bz_symq.specs.Counted.{AnswersInFew, InputTakesFew, RunTakesFew, TakesFew};
 ghost use Rattle.bz_symq.specs.InputText.{addresses_in};
 ghost use Rattle.bz_symq.specs.Outcome.{by_answer, by_addresses};
 ghost use Rattle.bz_symq.specs.Reply.{IsBatchReply, IsDoneReply, IsInputReply, IsInputStatus, Replies, RepliesToWords};
 ghost use Rattle.bz_symq.specs.Run.{Runs};
+ghost use Rattle.bz_symq.specs.Targets.{answer_to, kind_of, AnswersSome, IsSourceOf};
 ghost use Rattle.bz_symq.specs.Turns.{FailsAtOne, ReadsOneFor, TakesTurns};
-ghost use Rattle.bz_symq.specs.Words.{command_in, command_of};
+ghost use Rattle.bz_symq.specs.Words.{command_in, seen_in, target_of, Batch};
 
 use crate::input::{self, BadInput, ReadStop};
 use crate::output::finish;
+use crate::product::reply_with_product;
 use crate::reply::{Reply, Said, bad_line, refusal, stored_reply};
 use crate::status::Status;
-use crate::words::{self, Command};
+use crate::words::{self, Command, Target};
 use bz_base::{Error, Input, Result, Steps};
 use bz_files::{Files, TextIn, TextOut};
 use bz_symbolize::source::{Breakpad, Elf, GsymFile, Source};
@@ -95,17 +96,35 @@ fn reply_to_words<R: TextIn, F: Files, L: Ledger>(
     files: &mut F,
     steps: &mut Steps<L>,
 ) -> Result<Reply>
-    ensures reply { RepliesToWords (map string_bytes words.now) (R.left input.old) (in_view (F.worlds files.old)) result }
+    ensures reply { RepliesToWords (map string_bytes words.now) (seen_in (map string_bytes words.now) (R.left input.old)) (in_view (F.worlds files.old)) result }
     ensures turns { TakesTurns R.TextIn F.Files (map string_bytes words.now) result input.old input.new files.old files.new }
     ensures opens { ReadsOneFor F.Files (IsDoneReply result) files.old files.new }
     ensures fails { FailsAtOne R.TextIn F.Files (Faulted result) input.old input.new files.old files.new }
     ensures steps { RunTakesFew (command_in (map string_bytes words.now)) (R.left input.old) steps.old steps.new }
 {
-    let Some(command) = words::command_in(words) else {
-        return Ok(stored_reply(Status::Usage, "usage: symq [OPTION] KIND [ARG]...\n"));
-    };
+    match words::command_in(words) {
+        Some(Command::Batch(target)) => reply_with_answers(alloc, &target, input, files, steps),
+        Some(Command::Make(product)) => reply_with_product(alloc, &product, files),
+        None => Ok(stored_reply(Status::Usage, "usage: symq [OPTION] KIND [ARG]...\n")),
+    }
+}
+
+// The whole input is read, and its addresses are answered by the target.
+fn reply_with_answers<R: TextIn, F: Files, L: Ledger>(
+    alloc: Global,
+    target: &Target<'_>,
+    input: &mut R,
+    files: &mut F,
+    steps: &mut Steps<L>,
+) -> Result<Reply>
+    ensures reply { (words : List (List ℕ)) → command_in words ≡ Some (Batch (target_of target.now)) → RepliesToWords words (R.left input.old) (in_view (F.worlds files.old)) result }
+    ensures turns { (words : List (List ℕ)) → command_in words ≡ Some (Batch (target_of target.now)) → TakesTurns R.TextIn F.Files words result input.old input.new files.old files.new }
+    ensures opens { ReadsOneFor F.Files (IsDoneReply result) files.old files.new }
+    ensures fails { FailsAtOne R.TextIn F.Files (Faulted result) input.old input.new files.old files.new }
+    ensures steps { RunTakesFew (Some (Batch (target_of target.now))) (R.left input.old) steps.old steps.new }
+{
     match input::read_input(alloc, input) {
-        Ok(text) => reply_to_input(alloc, &command, text, files, steps),
+        Ok(text) => reply_to_input(alloc, target, text, files, steps),
         Err(ReadStop::TooLong) => Ok(stored_reply(Status::Input, "input: too long\n")),
         Err(ReadStop::Fault) => Err(Error::ReadFault),
         Err(ReadStop::Memory) => Err(Error::OutOfMemory),
@@ -115,23 +134,23 @@ fn reply_to_words<R: TextIn, F: Files, L: Ledger>(
 // The input's text is let go before the source is looked at.
 fn reply_to_input<F: Files, L: Ledger>(
     alloc: Global,
-    command: &Command<'_>,
+    target: &Target<'_>,
     text: Vec<u8>,
     files: &mut F,
     steps: &mut Steps<L>,
 ) -> Result<Reply>
-    ensures reply { Told (in_view (F.worlds files.old)) (λ world. Replies (by_addresses (command_of command.now) world (addresses_in text.items)) result) }
-    ensures answered { IfOk result (λ given. IsInputReply (command_of command.now) text.items given) }
+    ensures reply { Told (in_view (F.worlds files.old)) (λ world. Replies (by_addresses (target_of target.now) world (addresses_in text.items)) result) }
+    ensures answered { IfOk result (λ given. IsInputReply (target_of target.now) text.items given) }
     ensures status { IfOk result (λ given. IsInputStatus (addresses_in text.items) given.status) }
     ensures unlooked { IsErr (addresses_in text.items) → files.new ≡ files.old }
     ensures opens { ReadsOneFor F.Files (IsDoneReply result) files.old files.new }
     ensures files { Looked F.Files files.old files.new (Faulted result) }
-    ensures steps { InputTakesFew (command_of command.now) (addresses_in text.items) steps.old steps.new }
+    ensures steps { InputTakesFew (target_of target.now) (addresses_in text.items) steps.old steps.new }
 {
     let read = input::read_addrs(alloc, text.as_slice());
     drop(text);
     match read {
-        Ok(addrs) => reply_to_batch(alloc, command, addrs, files, steps),
+        Ok(addrs) => reply_to_batch(alloc, target, addrs, files, steps),
         Err(BadInput::Line(number)) => bad_line(alloc, number),
         Err(BadInput::OutOfMemory) => Err(Error::OutOfMemory),
     }
@@ -139,19 +158,19 @@ fn reply_to_input<F: Files, L: Ledger>(
 
 fn reply_to_batch<F: Files, L: Ledger>(
     alloc: Global,
-    command: &Command<'_>,
+    target: &Target<'_>,
     addrs: Vec<u64>,
     files: &mut F,
     steps: &mut Steps<L>,
 ) -> Result<Reply>
-    ensures reply { Told (in_view (F.worlds files.old)) (λ world. Replies (by_answer addrs.items (answer_to (command_of command.now) addrs.items world)) result) }
-    ensures answered { IfOk result (λ given. IsBatchReply (command_of command.now) addrs.items given) }
+    ensures reply { Told (in_view (F.worlds files.old)) (λ world. Replies (by_answer addrs.items (answer_to (target_of target.now) addrs.items world)) result) }
+    ensures answered { IfOk result (λ given. IsBatchReply (target_of target.now) addrs.items given) }
     ensures status { IfOk result (λ given. IsInputStatus (Ok addrs.items) given.status) }
     ensures opens { ReadsOneFor F.Files (IsDoneReply result) files.old files.new }
     ensures files { Looked F.Files files.old files.new (Faulted result) }
-    ensures steps { TakesFew (command_of command.now) (length addrs.items) steps.old steps.new }
+    ensures steps { TakesFew (target_of target.now) (length addrs.items) steps.old steps.new }
 {
-    match look_up(alloc, command, addrs, files, steps) {
+    match look_up(alloc, target, addrs, files, steps) {
         Ok(lookups) => Ok(Reply {
             status: Status::Done,
             said: Said::Answers(lookups),
@@ -160,54 +179,54 @@ fn reply_to_batch<F: Files, L: Ledger>(
     }
 }
 
-// The command's source, looked at for the addresses, which are searched for in it.
+// The target's source, looked at for the addresses, which are searched for in it.
 fn look_up<F: Files, L: Ledger>(
     alloc: Global,
-    command: &Command<'_>,
+    target: &Target<'_>,
     addrs: Vec<u64>,
     files: &mut F,
     steps: &mut Steps<L>,
 ) -> Result<Lookups<'static>>
-    ensures answer { Told (in_view (F.worlds files.old)) (λ world. Comes (λ lookups. lookups.answers) (answer_to (command_of command.now) addrs.items world) result) }
-    ensures answered { IfOk result (λ lookups. AnswersSome (command_of command.now) addrs.items lookups.answers) }
+    ensures answer { Told (in_view (F.worlds files.old)) (λ world. Comes (λ lookups. lookups.answers) (answer_to (target_of target.now) addrs.items world) result) }
+    ensures answered { IfOk result (λ lookups. AnswersSome (target_of target.now) addrs.items lookups.answers) }
     ensures addrs { IfOk result (λ lookups. lookups.addrs ≡ addrs.items) }
     ensures opens { ReadsOneFor F.Files (IsOk result) files.old files.new }
     ensures files { Looked F.Files files.old files.new (Faulted result) }
-    ensures found { IfOk result (λ lookups. AnswersInFew (command_of command.now) addrs.items lookups.answers steps.old steps.new) }
-    ensures steps { TakesFew (command_of command.now) (length addrs.items) steps.old steps.new }
+    ensures found { IfOk result (λ lookups. AnswersInFew (target_of target.now) addrs.items lookups.answers steps.old steps.new) }
+    ensures steps { TakesFew (target_of target.now) (length addrs.items) steps.old steps.new }
 {
-    let src = source(alloc, command)?;
-    Symbolizer::new(alloc).look_up(alloc, files, &src, input_for(command, addrs), steps)
+    let src = source(alloc, target)?;
+    Symbolizer::new(alloc).look_up(alloc, files, &src, input_for(target, addrs), steps)
 }
 
-// The source that the command asks.
-fn source(alloc: Global, command: &Command<'_>) -> Result<Source<'static>>
-    ensures ok { IfOk result (λ src. IsSourceOf (command_of command.now) src) }
+// The source that is the target's.
+fn source(alloc: Global, target: &Target<'_>) -> Result<Source<'static>>
+    ensures ok { IfOk result (λ src. IsSourceOf (target_of target.now) src) }
     ensures memory { IsOkUnless result Error.OutOfMemory }
 {
-    match command {
-        Command::Breakpad(path) => {
+    match target {
+        Target::Breakpad(path) => {
             let path = String::from_str(alloc, path)?;
             Ok(Source::from(Breakpad::new(path)))
         }
-        Command::Gsym(path) => {
+        Target::Gsym(path) => {
             let path = String::from_str(alloc, path)?;
             Ok(Source::from(GsymFile::new(path)))
         }
-        Command::Elf(path) => {
+        Target::Elf(path) => {
             let path = String::from_str(alloc, path)?;
             Ok(Source::from(Elf::new(path)))
         }
     }
 }
 
-// The addresses, as the source of the command takes them.
-fn input_for(command: &Command<'_>, addrs: Vec<u64>) -> Input<Vec<u64>>
-    ensures kind { address_kind result ≡ kind_of (command_of command.now) }
+// The addresses, as the target takes them.
+fn input_for(target: &Target<'_>, addrs: Vec<u64>) -> Input<Vec<u64>>
+    ensures kind { address_kind result ≡ kind_of (target_of target.now) }
     ensures addrs { payload result ≡ addrs }
 {
-    match command {
-        Command::Breakpad(_) => Input::FileOffset(addrs),
-        Command::Gsym(_) | Command::Elf(_) => Input::VirtOffset(addrs),
+    match target {
+        Target::Breakpad(_) => Input::FileOffset(addrs),
+        Target::Gsym(_) | Target::Elf(_) => Input::VirtOffset(addrs),
     }
 }

@@ -27,6 +27,8 @@ pub enum Said {
     Text(CowStr<'static>),
     /// The texts of the answers at the addresses, which are made, answer by answer, as they are written.
     Answers(Lookups<'static>),
+    /// What was made of a file.
+    Made(Vec<u8>),
 }
 
 /// A reply whose text is always the same.
@@ -36,6 +38,16 @@ pub fn stored_reply(status: Status, text: &'static str) -> Reply
     Reply {
         status,
         said: Said::Text(CowStr::Borrowed(text)),
+    }
+}
+
+/// The reply that says what was made of a file.
+pub fn product_reply(bytes: Vec<u8>) -> Reply
+    ensures { outcome_of result ≡ record { status = Status.Done; text = bytes.items } }
+{
+    Reply {
+        status: Status::Done,
+        said: Said::Made(bytes),
     }
 }
 

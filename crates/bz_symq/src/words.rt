@@ -3,15 +3,31 @@
 ghost use Rattle.std.specs.Prelude.{◌≡◌, ◌∷◌, [], map, option_map, string_bytes};
 ghost use Rattle.bz_symq.specs.Words.{begins_with_dash, command_in, command_of};
 
-/// What the words ask for, in words that are lent.
+/// What answers addresses, in words that are lent.
+#[derive(Clone, Copy, Debug)]
+pub enum Target<'a> {
+    /// The Breakpad file at a path.
+    Breakpad(&'a str),
+    /// The GSYM file at a path.
+    Gsym(&'a str),
+    /// The ELF file at a path.
+    Elf(&'a str),
+}
+
+/// What is made of one file, in words that are lent.
+#[derive(Clone, Copy, Debug)]
+pub enum Product<'a> {
+    /// The canonical text of the Breakpad file at a path.
+    Canonical(&'a str),
+}
+
+/// What the words ask for.
 #[derive(Clone, Copy, Debug)]
 pub enum Command<'a> {
-    /// The answers of the Breakpad file at a path.
-    Breakpad(&'a str),
-    /// The answers of the GSYM file at a path.
-    Gsym(&'a str),
-    /// The answers of the ELF file at a path.
-    Elf(&'a str),
+    /// The answers of a target to the addresses of the input.
+    Batch(Target<'a>),
+    /// A product; the input isn't read.
+    Make(Product<'a>),
 }
 
 /// The command that the words give.
@@ -30,11 +46,13 @@ fn named_command<'a>(kind: &str, path: &'a str) -> Option<Command<'a>>
     if begins_with_dash(path) {
         None
     } else if kind == "breakpad" {
-        Some(Command::Breakpad(path))
+        Some(Command::Batch(Target::Breakpad(path)))
     } else if kind == "gsym" {
-        Some(Command::Gsym(path))
+        Some(Command::Batch(Target::Gsym(path)))
     } else if kind == "elf" {
-        Some(Command::Elf(path))
+        Some(Command::Batch(Target::Elf(path)))
+    } else if kind == "canon" {
+        Some(Command::Make(Product::Canonical(path)))
     } else {
         None
     }

@@ -4,6 +4,8 @@
 #[cfg(test)]
 mod answers;
 #[cfg(test)]
+mod canon;
+#[cfg(test)]
 mod elf;
 #[cfg(test)]
 mod endings;

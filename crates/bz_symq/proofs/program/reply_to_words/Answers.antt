@@ -1,34 +1,25 @@
-use Rattle.std.proofs.Common.{◌≤◌, length, map, string_bytes, sym, refl, inr, arith, rules}
-use Rattle.bz_symq.specs.InputText.{greatest_input}
-use Rattle.bz_symq.specs.Words.{command_of}
-use Rattle.bz_symq.proofs.InputTextLemmas.{over_at_end}
-use Rattle.bz_symq.proofs.ReplyLemmas.{given_always, words_from_input, words_from_long}
-use Rattle.bz_symq.proofs.RunLemmas.{err_from_bad}
+use Rattle.std.proofs.Common.{map, string_bytes, sym}
+use Rattle.bz_symq.specs.Words.{product_of, target_of}
+use Rattle.bz_symq.proofs.ReplyLemmas.{turns_from_product, words_from_product, words_see}
 use Rattle.bz_symq.proofs.program.reply_to_words.Goals as goal
 
--- the input was read whole, and the reply to it is the reply to the words
-pub returns-in-Ok-clause-reply : goal.returns-in-Ok-clause-reply
-returns-in-Ok-clause-reply g c =
-    let short : length c.in-Ok.text.items ≤ greatest_input = omega (arith, c.in-Ok.text.ok.0, c.in-Ok.ensures.short) in
-    words_from_input (map string_bytes c.args.words.now) (command_of c.in-Some.command) c.in-Ok.text.items (sym c.in-Some.ensures) short _ _ c.reply_to_input.result
-    c.in-Ok.ensures.whole c.reply_to_input.ensures.reply c.reply_to_input.ensures.answered c.reply_to_input.ensures.status
-
--- words, input and files in their turn
-pub returns-in-Ok-clause-turns : goal.returns-in-Ok-clause-turns
-returns-in-Ok-clause-turns g c =
-    let short : length c.in-Ok.text.items ≤ greatest_input = omega (arith, c.in-Ok.text.ok.0, c.in-Ok.ensures.short) in
+-- answers are asked for
+pub returns-in-Some-Batch-clause-reply : goal.returns-in-Some-Batch-clause-reply
+returns-in-Some-Batch-clause-reply g c =
     let words = map string_bytes c.args.words.now in
-    record {
-      unread = search rules;
-      unlooked = λ text left bad. c.reply_to_input.ensures.unlooked
-          (err_from_bad words (command_of c.in-Some.command) c.in-Ok.text.items (sym c.in-Some.ensures) short (rw (c.in-Ok.ensures.whole text left) bad));
-      read = given_always c.reply_to_input.result (λ command given. over_at_end _ _ c.in-Ok.text.items short c.in-Ok.ensures.whole c.in-Ok.ensures.end);
-      bounded = c.in-Ok.ensures.bounded;
-      order = inr (λ command given. over_at_end _ _ c.in-Ok.text.items short c.in-Ok.ensures.whole c.in-Ok.ensures.end);
-    }
+    let is = sym (rw c.in-Some-Batch.field-0-is at c.in-Some-Batch.ensures) in
+    words_see words (target_of c.in-Some-Batch.target) is _ _ c.reply_with_answers.result
+    (c.reply_with_answers.ensures.reply words is)
 
--- the input is too long
-pub returns-in-Err-TooLong-clause-reply : goal.returns-in-Err-TooLong-clause-reply
-returns-in-Err-TooLong-clause-reply g c =
-    let long = rw (c.in-Err-TooLong.field-0-is) at c.in-Err-TooLong.ensures.long in
-    words_from_long (map string_bytes c.args.words.now) (command_of c.in-Some.command) (sym c.in-Some.ensures) _ _ _ (λ text left. long text left refl) c.stored_reply-in-Err-TooLong.ensures
+-- a product is asked for
+pub returns-in-Some-Make-clause-reply : goal.returns-in-Some-Make-clause-reply
+returns-in-Some-Make-clause-reply g c =
+    let made = c.reply_with_product.ensures in
+    let is = sym (rw c.in-Some-Make.field-0-is at c.in-Some-Make.ensures) in
+    words_from_product (map string_bytes c.args.words.now) (product_of c.in-Some-Make.product) is _ _ c.reply_with_product.result
+    made.reply made.answered made.status
+
+pub returns-in-Some-Make-clause-turns : goal.returns-in-Some-Make-clause-turns
+returns-in-Some-Make-clause-turns g c =
+    let is = sym (rw c.in-Some-Make.field-0-is at c.in-Some-Make.ensures) in
+    turns_from_product (map string_bytes c.args.words.now) (product_of c.in-Some-Make.product) is g.R.TextIn g.F.Files c.reply_with_product.result _ _ _

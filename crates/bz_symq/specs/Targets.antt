@@ -1,4 +1,4 @@
--- Command by command: which source is asked, what it answers, and why it may have no answers.
+-- Target by target: which source is asked, what it answers, and why it may have no answers.
 use Rattle.std.specs.Prelude.{◌≡◌, ℕ, List, Option, Some, None, Result, string_bytes}
 use Rattle.bz_base.specs.Answer.{Answer}
 use Rattle.bz_base.specs.InputKind.{AddressKind, InFile, InTable}
@@ -19,55 +19,55 @@ use Rattle.bz_symbolize.specs.State.{default_settings, opts_of}
 use Rattle.bz_symbolize.specs.declared.source.Gsym.TheVariants as gsyms
 use Rattle.bz_symbolize.specs.declared.source.Source.{Source}
 use Rattle.bz_symbolize.specs.declared.source.Source.TheVariants as sources
-use Rattle.bz_symq.specs.Words.{Command, Breakpad, Gsym, Elf}
+use Rattle.bz_symq.specs.Words.{Target, Breakpad, Gsym, Elf}
 
 -- the options of a run: those of a symbolizer with all features on
 abbrev pub run_opts : FindSymOpts
 run_opts = opts_of default_settings
 
--- the source that a command asks
-abbrev pub IsSourceOf : Command → Source → Type 0
+-- the source that is a target's
+abbrev pub IsSourceOf : Target → Source → Type 0
 IsSourceOf (Breakpad path) (sources.Breakpad source) = string_bytes source.path ≡ path
 IsSourceOf (Gsym path) (sources.Gsym (gsyms.File source)) = string_bytes source.path ≡ path
 IsSourceOf (Elf path) (sources.Elf source) = string_bytes source.path ≡ path
 IsSourceOf _ _ = ⊥
 
 -- what the addresses of its input are relative to
-abbrev pub kind_of : Command → AddressKind
+abbrev pub kind_of : Target → AddressKind
 kind_of (Breakpad path) = InFile
 kind_of (Gsym path) = InTable
 kind_of (Elf path) = InTable
 
 -- what lies at the source's path
-abbrev pub file_of : Command → World → Option Entry
+abbrev pub file_of : Target → World → Option Entry
 file_of (Breakpad path) world = entry_at world path
 file_of (Gsym path) world = entry_at world path
 file_of (Elf path) world = entry_at world path
 
 -- what bytes answer as those of the source
-abbrev pub answer_by : Command → List ℕ → List ℕ → Result (List Answer) Error
+abbrev pub answer_by : Target → List ℕ → List ℕ → Result (List Answer) Error
 answer_by (Breakpad path) addrs bytes = breakpad_answer run_opts addrs bytes
 answer_by (Gsym path) addrs bytes = gsym_answer run_opts addrs bytes
 answer_by (Elf path) addrs bytes = elf_answer path InTable addrs bytes
 
 -- what a symbolizer that keeps nothing answers
-abbrev pub answer_to : Command → List ℕ → World → Result (List Answer) Error
-answer_to command addrs world = fresh_answer (answer_by command addrs) (file_of command world)
+abbrev pub answer_to : Target → List ℕ → World → Result (List Answer) Error
+answer_to target addrs world = fresh_answer (answer_by target addrs) (file_of target world)
 
 -- the bytes are in the source's format
-abbrev pub IsVersion : Command → List ℕ → Type 0
+abbrev pub IsVersion : Target → List ℕ → Type 0
 IsVersion (Breakpad path) bytes = (table : Table) × IsFile bytes table
 IsVersion (Gsym path) bytes = IsGsym bytes
 IsVersion (Elf path) bytes = IsElf bytes
 
 -- the bytes are in the source's format, and the answers are their plain ones, each at its own address, in order
-abbrev pub IsBatch : Command → List ℕ → List ℕ → List Answer → Type 0
+abbrev pub IsBatch : Target → List ℕ → List ℕ → List Answer → Type 0
 IsBatch (Breakpad path) bytes addrs answers = IsBreakpadBatch run_opts bytes addrs answers
 IsBatch (Gsym path) bytes addrs answers = IsGsymBatch run_opts bytes addrs answers
 IsBatch (Elf path) bytes addrs answers = IsElfBatch path bytes InTable addrs answers
 
 -- the bytes aren't in the source's format, and this is the refusal of such bytes: of ELF that of the first check that they fail
-abbrev pub IsRefusalOf : Command → List ℕ → Error → Type 0
+abbrev pub IsRefusalOf : Target → List ℕ → Error → Type 0
 IsRefusalOf (Breakpad path) bytes e = (e ≡ errors.InvalidInput) × ((table : Table) → IsFile bytes table → ⊥)
 IsRefusalOf (Gsym path) bytes e = (e ≡ errors.InvalidData) × ¬ (IsGsym bytes)
 IsRefusalOf (Elf path) bytes e = (index : ℕ) × IsFirstFailing checks bytes index e
@@ -79,17 +79,17 @@ pub record HasFile (P : List ℕ → Type 0) (there : Option Entry) : Type 0 whe
   pub present : there ≡ Some (Present stamp bytes)
   pub such : P bytes
 
--- the command has answers in the world: its file is there, with bytes in its format
-abbrev pub HasAnswers : Command → World → Type 0
-HasAnswers command world = HasFile (IsVersion command) (file_of command world)
+-- the target has answers in the world: its file is there, with bytes in its format
+abbrev pub HasAnswers : Target → World → Type 0
+HasAnswers target world = HasFile (IsVersion target) (file_of target world)
 
--- the answers are those of the command's file in the world
-abbrev pub AnswersIn : Command → World → List ℕ → List Answer → Type 0
-AnswersIn command world addrs answers = HasFile (λ bytes. IsBatch command bytes addrs answers) (file_of command world)
+-- the answers are those of the target's file in the world
+abbrev pub AnswersIn : Target → World → List ℕ → List Answer → Type 0
+AnswersIn target world addrs answers = HasFile (λ bytes. IsBatch target bytes addrs answers) (file_of target world)
 
--- whatever the files tell, the answers are those of some bytes in the format of the command's source
-abbrev pub AnswersSome : Command → List ℕ → List Answer → Type 0
-AnswersSome command addrs answers = (bytes : List ℕ) × IsBatch command bytes addrs answers
+-- whatever the files tell, the answers are those of some bytes in the format of the target's source
+abbrev pub AnswersSome : Target → List ℕ → List Answer → Type 0
+AnswersSome target addrs answers = (bytes : List ℕ) × IsBatch target bytes addrs answers
 
 -- why a file has no answers: it is absent, it may not be read, or its bytes are refused
 abbrev pub IsFileCause : (List ℕ → Error → Type 0) → Option Entry → Error → Type 0
@@ -97,6 +97,6 @@ IsFileCause IsRefusal None e = e ≡ errors.NotFound
 IsFileCause IsRefusal (Some Denied) e = e ≡ errors.PermissionDenied
 IsFileCause IsRefusal (Some (Present stamp bytes)) e = IsRefusal bytes e
 
--- why a command has no answers in the world
-abbrev pub IsCause : Command → World → Error → Type 0
-IsCause command world e = IsFileCause (IsRefusalOf command) (file_of command world) e
+-- why a target has no answers in the world
+abbrev pub IsCause : Target → World → Error → Type 0
+IsCause target world e = IsFileCause (IsRefusalOf target) (file_of target world) e

@@ -1,4 +1,4 @@
--- What each command is answered: from the symbolizer's promises to the words of commands, and to the causes of refusals.
+-- What each target answers: from the symbolizer's promises to the words of targets, and to the causes of refusals.
 use Rattle.std.proofs.Common.{◌≡◌, ℕ, Bool, true, false, List, length, Option, Some, None, option_and_then, Result, Ok, Err, IfOk, OnOk, inl, inr, refl, sym, ap, subst, ◌∙◌}
 use Rattle.std.specs.FinMap as map
 use Rattle.bz_base.specs.Answer.{Answer}
@@ -33,14 +33,14 @@ use Rattle.bz_symbolize.specs.declared.source.Source.TheVariants as sources
 use Rattle.bz_symbolize.proofs.BatchLemmas.{batch_answered, elf_answered, gsym_answered}
 use Rattle.bz_symbolize.proofs.NewLemmas.{new_breakpad, new_elf, new_gsym}
 use Rattle.bz_symbolize.proofs.Tables.{table_found, table_again}
-use Rattle.bz_symq.specs.Commands.{run_opts, IsSourceOf, kind_of, answer_by, answer_to, file_of, HasFile, HasAnswers, AnswersIn, AnswersSome, IsBatch, IsFileCause, IsRefusalOf, IsCause, IsVersion}
+use Rattle.bz_symq.specs.Targets.{run_opts, IsSourceOf, kind_of, answer_by, answer_to, file_of, HasFile, HasAnswers, AnswersIn, AnswersSome, IsBatch, IsFileCause, IsRefusalOf, IsCause, IsVersion}
 use Rattle.bz_symq.specs.Counted.{AnswersInFew, TakesFew}
-use Rattle.bz_symq.specs.Words.{Command, Breakpad, Gsym, Elf}
+use Rattle.bz_symq.specs.Words.{Target, Breakpad, Gsym, Elf}
 use Rattle.bz_symq.proofs.OpenLemmas.{opened_new}
 
--- a symbolizer that keeps nothing answers the command's source as the command is answered
-pub answer_new : (command : Command) (source : Source) (addrs : List ℕ) (world : World) → IsSourceOf command source →
-    answer_of run_opts (new_state default_settings) (form_of source) (batch_of (kind_of command) addrs) world ≡ answer_to command addrs world
+-- a symbolizer that keeps nothing answers the target's source as the target answers
+pub answer_new : (target : Target) (source : Source) (addrs : List ℕ) (world : World) → IsSourceOf target source →
+    answer_of run_opts (new_state default_settings) (form_of source) (batch_of (kind_of target) addrs) world ≡ answer_to target addrs world
 answer_new (Breakpad path) (sources.Breakpad source) addrs world is =
     rw is (new_breakpad run_opts default_settings.reload path addrs (entry_at world path))
 answer_new (Gsym path) (sources.Gsym (gsyms.File source)) addrs world is =
@@ -59,31 +59,31 @@ answer_new (Gsym path) (sources.Process source) addrs world is = absurd is
 answer_new (Elf path) (sources.Process source) addrs world is = absurd is
 
 -- and reads its file where it answers
-pub opened_by_command : {A : Type 0} (view : A → List Answer) (command : Command) (source : Source) (addrs : List ℕ) (world : World) (before after : ℕ) (result : Result A Error) →
-    IsSourceOf command source → Comes view (answer_to command addrs world) result →
-    OnOk result (after ≡ opens_after (opens_of (new_state default_settings) (form_of source) (kind_of command) world) before) →
+pub opened_by_target : {A : Type 0} (view : A → List Answer) (target : Target) (source : Source) (addrs : List ℕ) (world : World) (before after : ℕ) (result : Result A Error) →
+    IsSourceOf target source → Comes view (answer_to target addrs world) result →
+    OnOk result (after ≡ opens_after (opens_of (new_state default_settings) (form_of source) (kind_of target) world) before) →
     OnOk result (after ≡ counted before)
-opened_by_command view (Breakpad path) (sources.Breakpad source) addrs world before after result is comes opens =
+opened_by_target view (Breakpad path) (sources.Breakpad source) addrs world before after result is comes opens =
     opened_new view (breakpad_answer run_opts addrs) path (entry_at world path) before after result comes (rw is at opens)
-opened_by_command view (Gsym path) (sources.Gsym (gsyms.File source)) addrs world before after result is comes opens =
+opened_by_target view (Gsym path) (sources.Gsym (gsyms.File source)) addrs world before after result is comes opens =
     opened_new view (gsym_answer run_opts addrs) path (entry_at world path) before after result comes (rw is at opens)
-opened_by_command view (Breakpad path) (sources.Gsym source) addrs world before after result is comes opens = absurd is
-opened_by_command view (Gsym path) (sources.Breakpad source) addrs world before after result is comes opens = absurd is
-opened_by_command view (Gsym path) (sources.Gsym (gsyms.Data source)) addrs world before after result is comes opens = absurd is
-opened_by_command view (Elf path) (sources.Elf source) addrs world before after result is comes opens =
+opened_by_target view (Breakpad path) (sources.Gsym source) addrs world before after result is comes opens = absurd is
+opened_by_target view (Gsym path) (sources.Breakpad source) addrs world before after result is comes opens = absurd is
+opened_by_target view (Gsym path) (sources.Gsym (gsyms.Data source)) addrs world before after result is comes opens = absurd is
+opened_by_target view (Elf path) (sources.Elf source) addrs world before after result is comes opens =
     opened_new view (elf_answer path InTable addrs) path (entry_at world path) before after result comes (rw is at opens)
-opened_by_command view (Breakpad path) (sources.Elf source) addrs world before after result is comes opens = absurd is
-opened_by_command view (Gsym path) (sources.Elf source) addrs world before after result is comes opens = absurd is
-opened_by_command view (Elf path) (sources.Breakpad source) addrs world before after result is comes opens = absurd is
-opened_by_command view (Elf path) (sources.Gsym source) addrs world before after result is comes opens = absurd is
-opened_by_command view (Breakpad path) (sources.Process source) addrs world before after result is comes opens = absurd is
-opened_by_command view (Gsym path) (sources.Process source) addrs world before after result is comes opens = absurd is
-opened_by_command view (Elf path) (sources.Process source) addrs world before after result is comes opens = absurd is
+opened_by_target view (Breakpad path) (sources.Elf source) addrs world before after result is comes opens = absurd is
+opened_by_target view (Gsym path) (sources.Elf source) addrs world before after result is comes opens = absurd is
+opened_by_target view (Elf path) (sources.Breakpad source) addrs world before after result is comes opens = absurd is
+opened_by_target view (Elf path) (sources.Gsym source) addrs world before after result is comes opens = absurd is
+opened_by_target view (Breakpad path) (sources.Process source) addrs world before after result is comes opens = absurd is
+opened_by_target view (Gsym path) (sources.Process source) addrs world before after result is comes opens = absurd is
+opened_by_target view (Elf path) (sources.Process source) addrs world before after result is comes opens = absurd is
 
 -- what the symbolizer keeps is what it answers, so whatever is told, some bytes in the format are answered
-pub some_from_kept : {A : Type 0} (view : A → List Answer) (command : Command) (source : Source) (addrs : List ℕ) (now : State) (result : Result A Error) →
-    IsSourceOf command source → OnFile source (λ file. IfOk result (λ given. AnswersKept run_opts source file now (batch_of (kind_of command) addrs) (Ok (view given)))) →
-    IfOk result (λ given. AnswersSome command addrs (view given))
+pub some_from_kept : {A : Type 0} (view : A → List Answer) (target : Target) (source : Source) (addrs : List ℕ) (now : State) (result : Result A Error) →
+    IsSourceOf target source → OnFile source (λ file. IfOk result (λ given. AnswersKept run_opts source file now (batch_of (kind_of target) addrs) (Ok (view given)))) →
+    IfOk result (λ given. AnswersSome target addrs (view given))
 some_from_kept view (Breakpad path) (sources.Breakpad source) addrs now (Ok given) is kept = (kept.bytes, batch_answered run_opts kept.bytes InFile addrs (view given) kept.answered)
 some_from_kept view (Gsym path) (sources.Gsym (gsyms.File source)) addrs now (Ok given) is kept = (kept.bytes, gsym_answered run_opts kept.bytes InTable addrs (view given) kept.answered)
 some_from_kept view (Breakpad path) (sources.Gsym source) addrs now (Ok given) is kept = absurd is
@@ -97,16 +97,16 @@ some_from_kept view (Elf path) (sources.Gsym source) addrs now (Ok given) is kep
 some_from_kept view (Breakpad path) (sources.Process source) addrs now (Ok given) is kept = absurd is
 some_from_kept view (Gsym path) (sources.Process source) addrs now (Ok given) is kept = absurd is
 some_from_kept view (Elf path) (sources.Process source) addrs now (Ok given) is kept = absurd is
-some_from_kept view command source addrs now (Err e) is kept = tt
+some_from_kept view target source addrs now (Err e) is kept = tt
 
 -- what is kept as one thing is one thing
 same_kept : (a b : List ℕ) → Some a ≡ Some b → a ≡ b
 same_kept a b same = cc same
 
 -- and that in few steps, since the version that was searched is the one that answers
-pub few_from_kept : {A : Type 0} (view : A → List Answer) (command : Command) (source : Source) (addrs : List ℕ) (now : State) (before after : ℕ) (result : Result A Error) →
-    IsSourceOf command source → OnFile source (λ file. IfOk result (λ given. AnswersKept run_opts source file now (batch_of (kind_of command) addrs) (Ok (view given)))) →
-    SourceSteps source now (length addrs) before after → IfOk result (λ given. AnswersInFew command addrs (view given) before after)
+pub few_from_kept : {A : Type 0} (view : A → List Answer) (target : Target) (source : Source) (addrs : List ℕ) (now : State) (before after : ℕ) (result : Result A Error) →
+    IsSourceOf target source → OnFile source (λ file. IfOk result (λ given. AnswersKept run_opts source file now (batch_of (kind_of target) addrs) (Ok (view given)))) →
+    SourceSteps source now (length addrs) before after → IfOk result (λ given. AnswersInFew target addrs (view given) before after)
 few_from_kept view (Breakpad path) (sources.Breakpad source) addrs now before after (Ok given) is kept (inl none) =
     (kept.bytes, batch_answered run_opts kept.bytes InFile addrs (view given) kept.answered, inl none)
 few_from_kept view (Breakpad path) (sources.Breakpad source) addrs now before after (Ok given) is kept (inr searched) = (
@@ -126,7 +126,7 @@ few_from_kept view (Elf path) (sources.Gsym source) addrs now before after (Ok g
 few_from_kept view (Breakpad path) (sources.Process source) addrs now before after (Ok given) is kept steps = absurd is
 few_from_kept view (Gsym path) (sources.Process source) addrs now before after (Ok given) is kept steps = absurd is
 few_from_kept view (Elf path) (sources.Process source) addrs now before after (Ok given) is kept steps = absurd is
-few_from_kept view command source addrs now before after (Err e) is kept steps = tt
+few_from_kept view target source addrs now before after (Err e) is kept steps = tt
 
 -- what is kept as a Breakpad file is one
 kept_file : (cache : Cache) (path bytes : List ℕ) → Consistent breakpad_version.format_test cache → kept_at cache path ≡ Some bytes → (table : Table) × IsFile bytes table
@@ -141,8 +141,8 @@ kept_file cache path bytes consistent kept = by_stamp (current_of cache path) ke
     by_stamp (Some stamp) is = by_read (table_in bytes) refl (consistent.formed stamp bytes is)
 
 -- answered or refused, few steps are taken
-pub takes_few : (command : Command) (source : Source) (now : State) (addrs before after : ℕ) → IsSourceOf command source → WellKept now → SourceSteps source now addrs before after →
-    TakesFew command addrs before after
+pub takes_few : (target : Target) (source : Source) (now : State) (addrs before after : ℕ) → IsSourceOf target source → WellKept now → SourceSteps source now addrs before after →
+    TakesFew target addrs before after
 takes_few (Breakpad path) (sources.Breakpad source) now addrs before after is kept (inl none) = inl none
 takes_few (Breakpad path) (sources.Breakpad source) now addrs before after is kept (inr searched) =
     inr (searched.0, kept_file now.breakpad _ searched.0 kept.breakpad.consistent searched.1, searched.2)
@@ -159,8 +159,8 @@ takes_few (Breakpad path) (sources.Process source) now addrs before after is kep
 takes_few (Gsym path) (sources.Process source) now addrs before after is kept steps = absurd is
 takes_few (Elf path) (sources.Process source) now addrs before after is kept steps = absurd is
 
--- what holds of the file of a command's source holds
-pub of_its_file : (command : Command) (source : Source) (P : Type 0) → IsSourceOf command source → OnFile source (λ file. P) → P
+-- what holds of the file of a target's source holds
+pub of_its_file : (target : Target) (source : Source) (P : Type 0) → IsSourceOf target source → OnFile source (λ file. P) → P
 of_its_file (Breakpad path) (sources.Breakpad source) P is holds = holds
 of_its_file (Gsym path) (sources.Gsym (gsyms.File source)) P is holds = holds
 of_its_file (Breakpad path) (sources.Gsym source) P is holds = absurd is
@@ -175,8 +175,8 @@ of_its_file (Breakpad path) (sources.Process source) P is holds = absurd is
 of_its_file (Gsym path) (sources.Process source) P is holds = absurd is
 of_its_file (Elf path) (sources.Process source) P is holds = absurd is
 
--- a command's source is no process
-pub of_its_source : (command : Command) (source : Source) (P : Type 0) → IsSourceOf command source → UnlessProcess source P → P
+-- a target's source is no process
+pub of_its_source : (target : Target) (source : Source) (P : Type 0) → IsSourceOf target source → UnlessProcess source P → P
 of_its_source (Breakpad path) (sources.Breakpad source) P is holds = holds
 of_its_source (Gsym path) (sources.Gsym (gsyms.File source)) P is holds = holds
 of_its_source (Elf path) (sources.Elf source) P is holds = holds
@@ -192,7 +192,7 @@ of_its_source (Elf path) (sources.Gsym source) P is holds = absurd is
 of_its_source (Elf path) (sources.Process source) P is holds = absurd is
 
 -- bytes that answer are in the source's format, and these are their answers
-batch_by : (command : Command) (addrs bytes : List ℕ) (answers : List Answer) → answer_by command addrs bytes ≡ Ok answers → IsBatch command bytes addrs answers
+batch_by : (target : Target) (addrs bytes : List ℕ) (answers : List Answer) → answer_by target addrs bytes ≡ Ok answers → IsBatch target bytes addrs answers
 batch_by (Breakpad path) addrs bytes answers given = by_read (table_in bytes) refl given
   where
     by_read : (read : Option Table) → table_in bytes ≡ read → by_table run_opts addrs read ≡ Ok answers → IsBatch (Breakpad path) bytes addrs answers
@@ -210,19 +210,19 @@ batch_by (Elf path) addrs bytes answers given = by_test (format_test bytes) refl
     by_test (Some e) is = let refused = rw is at given in cc
 
 -- and bytes in the format do answer
-answers_by : (command : Command) (addrs bytes : List ℕ) → IsVersion command bytes → (answers : List Answer) × (answer_by command addrs bytes ≡ Ok answers)
+answers_by : (target : Target) (addrs bytes : List ℕ) → IsVersion target bytes → (answers : List Answer) × (answer_by target addrs bytes ≡ Ok answers)
 answers_by (Breakpad path) addrs bytes version = (batch version.0 run_opts addrs, rw (table_again bytes version.0 version.1) refl)
 answers_by (Gsym path) addrs bytes version = (gsym_batch run_opts bytes addrs, rw (passes bytes version) refl)
 answers_by (Elf path) addrs bytes version = (elf_batch path bytes InTable addrs, rw (taken bytes version) refl)
 
 -- bytes that are answered are in the format
-version_by : (command : Command) (addrs bytes : List ℕ) (answers : List Answer) → IsBatch command bytes addrs answers → IsVersion command bytes
+version_by : (target : Target) (addrs bytes : List ℕ) (answers : List Answer) → IsBatch target bytes addrs answers → IsVersion target bytes
 version_by (Breakpad path) addrs bytes answers is = (is.table, is.accepted)
 version_by (Gsym path) addrs bytes answers is = is.accepted
 version_by (Elf path) addrs bytes answers is = is.accepted
 
 -- bytes are refused exactly where they aren't
-refusal_by : (command : Command) (addrs bytes : List ℕ) (e : Error) → answer_by command addrs bytes ≡ Err e → IsRefusalOf command bytes e
+refusal_by : (target : Target) (addrs bytes : List ℕ) (e : Error) → answer_by target addrs bytes ≡ Err e → IsRefusalOf target bytes e
 refusal_by (Breakpad path) addrs bytes e given = by_read (table_in bytes) refl given
   where
     by_read : (read : Option Table) → table_in bytes ≡ read → by_table run_opts addrs read ≡ Err e → IsRefusalOf (Breakpad path) bytes e
@@ -239,7 +239,7 @@ refusal_by (Elf path) addrs bytes e given = by_test (format_test bytes) refl
     by_test None is = let answered = rw is at given in cc
     by_test (Some refusal) is = let refused = rw is at given in fails_first bytes checks e cc
 
-refused_by : (command : Command) (addrs bytes : List ℕ) (e : Error) → IsRefusalOf command bytes e → answer_by command addrs bytes ≡ Err e
+refused_by : (target : Target) (addrs bytes : List ℕ) (e : Error) → IsRefusalOf target bytes e → answer_by target addrs bytes ≡ Err e
 refused_by (Breakpad path) addrs bytes e refusal = by_read (table_in bytes) refl
   where
     by_read : (read : Option Table) → table_in bytes ≡ read → by_table run_opts addrs read ≡ Err e
@@ -253,38 +253,38 @@ refused_by (Gsym path) addrs bytes e refusal = by_test (is_gsym bytes) refl
 refused_by (Elf path) addrs bytes e refusal = rw (refused_by_first bytes checks refusal.0 e refusal.1) refl
 
 -- the same of what lies at the source's path
-module _ (command : Command) (addrs : List ℕ) where
-  batch_from_file : (answers : List Answer) (there : Option Entry) → fresh_answer (answer_by command addrs) there ≡ Ok answers → HasFile (λ bytes. IsBatch command bytes addrs answers) there
+module _ (target : Target) (addrs : List ℕ) where
+  batch_from_file : (answers : List Answer) (there : Option Entry) → fresh_answer (answer_by target addrs) there ≡ Ok answers → HasFile (λ bytes. IsBatch target bytes addrs answers) there
   batch_from_file answers None given = cc
   batch_from_file answers (Some Denied) given = cc
-  batch_from_file answers (Some (Present stamp bytes)) given = record { stamp = stamp; bytes = bytes; present = refl; such = batch_by command addrs bytes answers given }
+  batch_from_file answers (Some (Present stamp bytes)) given = record { stamp = stamp; bytes = bytes; present = refl; such = batch_by target addrs bytes answers given }
 
-  cause_from_file : (e : Error) (there : Option Entry) → fresh_answer (answer_by command addrs) there ≡ Err e → IsFileCause (IsRefusalOf command) there e
+  cause_from_file : (e : Error) (there : Option Entry) → fresh_answer (answer_by target addrs) there ≡ Err e → IsFileCause (IsRefusalOf target) there e
   cause_from_file e None given = cc
   cause_from_file e (Some Denied) given = cc
-  cause_from_file e (Some (Present stamp bytes)) given = refusal_by command addrs bytes e given
+  cause_from_file e (Some (Present stamp bytes)) given = refusal_by target addrs bytes e given
 
-  file_from_cause : (e : Error) (there : Option Entry) → IsFileCause (IsRefusalOf command) there e → fresh_answer (answer_by command addrs) there ≡ Err e
+  file_from_cause : (e : Error) (there : Option Entry) → IsFileCause (IsRefusalOf target) there e → fresh_answer (answer_by target addrs) there ≡ Err e
   file_from_cause e None cause = ap Err (sym cause)
   file_from_cause e (Some Denied) cause = ap Err (sym cause)
-  file_from_cause e (Some (Present stamp bytes)) cause = refused_by command addrs bytes e cause
+  file_from_cause e (Some (Present stamp bytes)) cause = refused_by target addrs bytes e cause
 
-module _ (command : Command) (world : World) (addrs : List ℕ) where
-  -- answers that are given are those of the command's file
-  pub answers_found : (answers : List Answer) → answer_to command addrs world ≡ Ok answers → AnswersIn command world addrs answers
-  answers_found answers given = batch_from_file command addrs answers (file_of command world) given
+module _ (target : Target) (world : World) (addrs : List ℕ) where
+  -- answers that are given are those of the target's file
+  pub answers_found : (answers : List Answer) → answer_to target addrs world ≡ Ok answers → AnswersIn target world addrs answers
+  answers_found answers given = batch_from_file target addrs answers (file_of target world) given
 
-  -- and a command that has answers is given some
-  pub answers_given : HasAnswers command world → (answers : List Answer) × (answer_to command addrs world ≡ Ok answers)
-  answers_given has = let given = answers_by command addrs has.bytes has.such in (given.0, rw has.present given.1)
+  -- and a target that has answers is given some
+  pub answers_given : HasAnswers target world → (answers : List Answer) × (answer_to target addrs world ≡ Ok answers)
+  answers_given has = let given = answers_by target addrs has.bytes has.such in (given.0, rw has.present given.1)
 
-  -- where the command's file is answered, it has answers
-  pub has_answers : (answers : List Answer) → AnswersIn command world addrs answers → HasAnswers command world
-  has_answers answers has = record { stamp = has.stamp; bytes = has.bytes; present = has.present; such = version_by command addrs has.bytes answers has.such }
+  -- where the target's file is answered, it has answers
+  pub has_answers : (answers : List Answer) → AnswersIn target world addrs answers → HasAnswers target world
+  has_answers answers has = record { stamp = has.stamp; bytes = has.bytes; present = has.present; such = version_by target addrs has.bytes answers has.such }
 
-  -- a command is refused exactly where its file has the cause
-  pub cause_found : (e : Error) → answer_to command addrs world ≡ Err e → IsCause command world e
-  cause_found e given = cause_from_file command addrs e (file_of command world) given
+  -- a target is refused exactly where its file has the cause
+  pub cause_found : (e : Error) → answer_to target addrs world ≡ Err e → IsCause target world e
+  cause_found e given = cause_from_file target addrs e (file_of target world) given
 
-  pub refusal_given : (e : Error) → IsCause command world e → answer_to command addrs world ≡ Err e
-  refusal_given e cause = file_from_cause command addrs e (file_of command world) cause
+  pub refusal_given : (e : Error) → IsCause target world e → answer_to target addrs world ≡ Err e
+  refusal_given e cause = file_from_cause target addrs e (file_of target world) cause

@@ -1,0 +1,76 @@
+//! What is made of one file.
+
+ghost use Rattle.std.specs.Prelude.{◌≡◌, Some, IfOk, OnOk, IsOkUnless};
+ghost use Rattle.bz_base.specs.declared.error.Error.{Error};
+ghost use Rattle.bz_breakpad.specs.Grammar.{IsFile};
+ghost use Rattle.bz_breakpad.specs.Reader.{table_in};
+ghost use Rattle.bz_breakpad.specs.Resolver.{opened};
+ghost use Rattle.bz_breakpad.specs.Table.{Table};
+ghost use Rattle.bz_cache.specs.Format.{Comes};
+ghost use Rattle.bz_files.specs.Count.{counted};
+ghost use Rattle.bz_files.specs.Looked.{Faulted, Looked, ReadsOne};
+ghost use Rattle.bz_files.specs.World.{Told, entry_at, in_view};
+ghost use Rattle.bz_symq.specs.Outcome.{by_product};
+ghost use Rattle.bz_symq.specs.Products.{made_in, made_of, path_of};
+ghost use Rattle.bz_symq.specs.Reply.{outcome_of, IsDoneReply, IsProductReply, IsProductStatus, Replies};
+ghost use Rattle.bz_symq.specs.Turns.{ReadsOneFor};
+ghost use Rattle.bz_symq.specs.Words.{product_of};
+
+use crate::reply::{Reply, product_reply, refusal};
+use crate::words::Product;
+use bz_base::{Error, Result};
+use bz_breakpad::SymbolFile;
+use bz_canon::canonical;
+use bz_files::Files;
+use std::alloc::Global;
+
+/// The reply to words that ask for a product: what its file makes, or the refusal.
+pub fn reply_with_product<F: Files>(
+    alloc: Global,
+    product: &Product<'_>,
+    files: &mut F,
+) -> Result<Reply>
+    ensures reply { Told (in_view (F.worlds files.old)) (λ world. Replies (by_product (made_in (product_of product.now) world)) result) }
+    ensures answered { IfOk result (λ given. IsProductReply (product_of product.now) given) }
+    ensures status { IfOk result (λ given. IsProductStatus given.status) }
+    ensures opens { ReadsOneFor F.Files (IsDoneReply result) files.old files.new }
+    ensures files { Looked F.Files files.old files.new (Faulted result) }
+{
+    match read_file(alloc, path_of(product), files) {
+        Ok(file) => reply_of(alloc, product, &file),
+        Err(error) => refusal(alloc, error),
+    }
+}
+
+// The path of the Breakpad file that the product is made of.
+fn path_of<'a>(product: &Product<'a>) -> &'a str
+    ensures { result.now ≡ path_of (product_of product.now) }
+{
+    match product {
+        Product::Canonical(path) => path,
+    }
+}
+
+// The Breakpad file at the path.
+fn read_file<F: Files>(alloc: Global, path: &str, files: &mut F) -> Result<SymbolFile>
+    ensures answer { Told (in_view (F.worlds files.old)) (λ world. Comes (λ file. file) (opened (entry_at world path.now)) result) }
+    ensures accepted { IfOk result (λ file. (table : Table) × (table_in file ≡ Some table) × IsFile file table) }
+    ensures opened { OnOk result (F.opens files.new ≡ counted (F.opens files.old)) }
+    ensures most { ReadsOne F.Files files.old files.new }
+    ensures files { Looked F.Files files.old files.new (Faulted result) }
+{
+    let bytes = files.read(alloc, path)?;
+    let file = SymbolFile::from_bytes(alloc, bytes)?;
+    Ok(file)
+}
+
+// What a file makes.
+fn reply_of(alloc: Global, product: &Product<'_>, file: &SymbolFile) -> Result<Reply>
+    ensures reply { (table : Table) → table_in file.now ≡ Some table → IfOk result (λ given. outcome_of given ≡ by_product (made_of (product_of product.now) table)) }
+    ensures status { IfOk result (λ given. IsProductStatus given.status) }
+    ensures memory { IsOkUnless result Error.OutOfMemory }
+{
+    match product {
+        Product::Canonical(_) => Ok(product_reply(canonical(alloc, file)?)),
+    }
+}
