@@ -15,7 +15,7 @@ use Rattle.bz_cache.specs.Cache.{Cache}
 use Rattle.bz_cache.specs.Look.{look}
 use Rattle.bz_elf.specs.Format as elf
 use Rattle.bz_proc.specs.PerfMap as perf
-use Rattle.bz_process.specs.Asked.{Asked}
+use Rattle.bz_process.specs.Asked.{Asked, asked_of}
 use Rattle.bz_process.specs.Caches.{ProcessCaches}
 use Rattle.bz_process.specs.Dispatch.{Test}
 use Rattle.bz_process.specs.Process.{Step}
@@ -25,10 +25,10 @@ use Rattle.bz_process.specs.declared.query.ProcessQuery.{ProcessQuery}
 use Rattle.bz_symbolize.proofs.Formats.{form_asked}
 use Rattle.bz_symbolize.specs.FileCall.{Query}
 use Rattle.bz_symbolize.specs.History.{Call, IsLook, LookAtElf, LookAtPerfMap, LooksLead, MayReach, PerfMapsMayReach, all_in}
-use Rattle.bz_symbolize.specs.OfProcess.{OfProcess}
+use Rattle.bz_symbolize.specs.OfProcess.{AddressOfProcess, BatchOfProcess, OfProcess}
 use Rattle.bz_symbolize.specs.Promise.{AsksSource, Symbolizes}
 use Rattle.bz_symbolize.specs.Sources.{OneProcess, form_of, query_in}
-use Rattle.bz_symbolize.specs.State.{State, WellKept, WholeState}
+use Rattle.bz_symbolize.specs.State.{State, WellKept, WholeState, opts_of}
 use Rattle.bz_symbolize.specs.declared.source.Source.{Source}
 
 -- the looks among changes, in their order
@@ -131,43 +131,73 @@ module _ {A D R X : Type 0} (files : Ghosts X) (result : Result A Error) (state 
     elf = record { consistent = leaves.elf_stays.consistent well.elf.consistent; reload = leaves.elf_stays.reload ∙ well.elf.reload };
   }
 
-module _ {A D R X : Type 0} (files : Ghosts X) (source : Source) (query : ProcessQuery) (is : query_in (form_of source) ≡ Some query) (result : Result A Error) (old now : WholeState D R) (before after : X)
-    (rest : now.files ≡ record old.files { elf = now.files.elf })
-    (leaves : LeavesFiles files result old.files now.files.elf old.processes.perf_maps now.processes.perf_maps before after) where
+module _ {A D R X : Type 0} (files : Ghosts X) (source : Source) (query : ProcessQuery) (is : Some query ≡ query_in (form_of source)) (result : Result A Error) (old now : WholeState D R) (before after : X)
+    (rest : now.files ≡ record old.files { elf = now.files.elf }) where
+  form : form_of source ≡ OneProcess query
+  form = form_asked (form_of source) query (sym is)
+
+  abbrev LeavesAll : Type 0
+  LeavesAll = LeavesFiles files result old.files now.files.elf old.processes.perf_maps now.processes.perf_maps before after
+
   -- what a call on a process promises of the files that are kept
-  pub process_promised : {B : Type 0} (reading : A → B) (asks : Query B) → WellKept now.files → Symbolizes files reading source asks result old.files now.files before after
-  process_promised reading asks well =
-      let form : form_of source ≡ OneProcess query = form_asked (form_of source) query is in
-      record {
-        view = rw form tt;
-        look = rw form tt;
-        kept = rw form tt;
-        causes = rw form tt;
-        complete = rw form tt;
-        told = λ world seen. rw form tt;
-        history = λ world seen. rw form tt;
-        leaves = rw form tt;
-        handed = rw form tt;
-        untaken = rw form tt;
-        stays = rw form tt;
-        ready = rw form tt;
-        refusal = rw form tt;
-        settings = ap (λ (s : State). s.settings) rest;
-        caches = well;
-        looked = leaves.looked;
-        most = rw form tt;
-      }
+  called : {B : Type 0} (reading : A → B) (asks : Query B) → LeavesAll → WellKept now.files → Symbolizes files reading source asks result old.files now.files before after
+  called reading asks leaves well = record {
+    view = rw form tt;
+    look = rw form tt;
+    kept = rw form tt;
+    causes = rw form tt;
+    complete = rw form tt;
+    told = λ world seen. rw form tt;
+    history = λ world seen. rw form tt;
+    leaves = rw form tt;
+    handed = rw form tt;
+    untaken = rw form tt;
+    stays = rw form tt;
+    ready = rw form tt;
+    refusal = rw form tt;
+    settings = ap (λ (s : State). s.settings) rest;
+    caches = well;
+    looked = leaves.looked;
+    most = rw form tt;
+  }
 
   -- and of the process
-  pub of_process : (promise : ProcessQuery → Type 0) → promise query → OfProcess files source promise old now before
-  of_process promise holds =
-      let form : form_of source ≡ OneProcess query = form_asked (form_of source) query is in
-      record {
-        asked = rw form holds;
-        rest = rw form rest;
-        history = rw form (λ world seen. subst (λ (s : State). LooksLead world old.files s old.processes.perf_maps now.processes.perf_maps) (sym rest) (leaves.history world seen));
-        others = rw form tt;
-      }
+  asked : (promise : ProcessQuery → Type 0) → LeavesAll → promise query → OfProcess files source promise old now before
+  asked promise leaves holds = record {
+    asked = rw form holds;
+    rest = rw form rest;
+    history = rw form (λ world seen. subst (λ (s : State). LooksLead world old.files s old.processes.perf_maps now.processes.perf_maps) (sym rest) (leaves.history world seen));
+    others = rw form tt;
+  }
+
+  module _ (test : Test R) (translates : Translates R) (finds : Finds R) (kind : AddressKind) where
+    -- of a batch
+    module _ (reading : A → List Answer) (addrs : List ℕ) where
+      abbrev AsksBatch : ProcessQuery → Type 0
+      AsksBatch process = SymbolizesProcess files reading test translates finds (opts_of old.files.settings) (asked_of (files.pid before) process) kind addrs result old.files.elf now.files.elf old.processes now.processes before after
+
+      leaves_batch : AsksBatch query → LeavesAll
+      leaves_batch promise = batch_leaves files result old.files now.files.elf old.processes now.processes before after test translates finds (opts_of old.files.settings) (asked_of (files.pid before) query) kind reading addrs promise
+
+      pub batch_called : AsksBatch query → WellKept now.files → (asks : Query (List Answer)) → Symbolizes files reading source asks result old.files now.files before after
+      batch_called promise well asks = called reading asks (leaves_batch promise) well
+
+      pub batch_asked : AsksBatch query → BatchOfProcess files reading test translates finds source kind addrs result old now before after
+      batch_asked promise = asked AsksBatch (leaves_batch promise) promise
+
+    -- of an address alone
+    module _ (reading : A → Answer) (addr : ℕ) where
+      abbrev AsksAddress : ProcessQuery → Type 0
+      AsksAddress process = SymbolizesAddress files reading test translates finds (opts_of old.files.settings) (asked_of (files.pid before) process) kind addr result old.files.elf now.files.elf old.processes now.processes before after
+
+      leaves_address : AsksAddress query → LeavesAll
+      leaves_address promise = address_leaves files result old.files now.files.elf old.processes now.processes before after test translates finds (opts_of old.files.settings) (asked_of (files.pid before) query) kind reading addr promise
+
+      pub address_called : AsksAddress query → WellKept now.files → (asks : Query Answer) → Symbolizes files reading source asks result old.files now.files before after
+      address_called promise well asks = called reading asks (leaves_address promise) well
+
+      pub address_asked : AsksAddress query → AddressOfProcess files reading test translates finds source kind addr result old now before after
+      address_asked promise = asked AsksAddress (leaves_address promise) promise
 
 -- a process has no version: it is refused, and nothing changes
 pub asks_none : {A B X : Type 0} (files : Ghosts X) (reading : A → B) (source : Source) (opts : FindSymOpts) (query : Query B) (state : State) (before : X) (process : ProcessQuery) →

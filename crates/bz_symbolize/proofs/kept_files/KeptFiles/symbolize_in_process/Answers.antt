@@ -11,7 +11,7 @@ invariant_of-self g c =
     let state : State = record { settings = c.self.inside.settings; breakpad = c.self.inside.breakpad; gsym = c.self.inside.gsym; elf = c.self.inside.elf } in
     stays_well g.F.Files c.symbolize_single.result state c.symbolize_single.new.elf c.args.processes.now c.symbolize_single.new.self c.args.files.now c.symbolize_single.new.files c.self.invariant
     (address_leaves g.F.Files c.symbolize_single.result state c.symbolize_single.new.elf c.args.processes.now c.symbolize_single.new.self c.args.files.now c.symbolize_single.new.files
-    (g.D.ProcessDispatch.may_dispatch c.args.processes.now.dispatcher) g.D.Resolver.TranslateFileOffset g.D.Resolver.Symbolize c.opts-opts.result (asked_of (g.F.Files.pid c.args.files.now) c.args.query.now) (address_kind c.args.input)
+    (g.D.ProcessDispatch.may_dispatch c.args.processes.now.dispatcher) g.D.Resolver.TranslateFileOffset g.D.Resolver.Symbolize _ (asked_of (g.F.Files.pid c.args.files.now) c.args.query.now) (address_kind c.args.input)
     reading (payload c.args.input) c.symbolize_single.ensures)
 
 pub returns-clause-caches : goal.returns-clause-caches

@@ -12,7 +12,7 @@ invariant_of-self g c =
     let state : State = record { settings = c.self.inside.settings; breakpad = c.self.inside.breakpad; gsym = c.self.inside.gsym; elf = c.self.inside.elf } in
     stays_well g.F.Files c.symbolize.result state c.symbolize.new.elf c.args.processes.now c.symbolize.new.self c.args.files.now c.symbolize.new.files c.self.invariant
     (batch_leaves g.F.Files c.symbolize.result state c.symbolize.new.elf c.args.processes.now c.symbolize.new.self c.args.files.now c.symbolize.new.files
-    (g.D.ProcessDispatch.may_dispatch c.args.processes.now.dispatcher) g.D.Resolver.TranslateFileOffset g.D.Resolver.Symbolize c.opts-opts.result (asked_of (g.F.Files.pid c.args.files.now) c.args.query.now) (address_kind c.args.input)
+    (g.D.ProcessDispatch.may_dispatch c.args.processes.now.dispatcher) g.D.Resolver.TranslateFileOffset g.D.Resolver.Symbolize _ (asked_of (g.F.Files.pid c.args.files.now) c.args.query.now) (address_kind c.args.input)
     (λ answers. map reading answers.items) (payload c.args.input).now c.symbolize.ensures)
 
 pub returns-clause-caches : goal.returns-clause-caches
