@@ -3,6 +3,7 @@
 ghost use Rattle.std.specs.Prelude.{◌≡◌, ◌<◌};
 
 use crate::asking::{answers_single, is_named, is_unknown, look_up, put};
+use crate::calling::answers_in;
 use bz_base::{Error, Input, Reason, Result, Steps, Symbolized};
 use bz_files::MemFiles;
 use bz_samples::ELF_FUNCTION;
@@ -124,6 +125,23 @@ fn answers_process(alloc: Global) -> bool {
 #[test]
 fn answers_a_process_by_its_mappings(rt: HostRuntime) {
     assert!(rt; answers_process(rt.alloc()));
+}
+
+/// Whether a caller gets these answers of a new symbolizer.
+fn answers_caller(alloc: Global) -> bool {
+    let mut files = MemFiles::new(alloc, 0);
+    if !put_process(alloc, &mut files) {
+        return false;
+    }
+    match answers_in(alloc, &mut files, Pid::from(7), ADDRS) {
+        Ok(answers) => are_answered(answers.as_slice()),
+        Err(_) => false,
+    }
+}
+
+#[test]
+fn a_caller_gets_the_answers_of_a_process(rt: HostRuntime) {
+    assert!(rt; answers_caller(rt.alloc()));
 }
 
 /// Whether the batch is answered so with a count of its steps.
