@@ -23,7 +23,7 @@ pub enum ErrorKind {
     InvalidInput,
     /// Binary tables outside their format.
     InvalidData,
-    /// A table of mappings without an entry. It isn't given yet.
+    /// A process has no mappings.
     UnexpectedEof,
     /// There is a version already, where one was to be taken in.
     AlreadyExists,
@@ -46,7 +46,7 @@ pub enum Error {
     InvalidInput,
     /// Binary tables outside their format.
     InvalidData,
-    /// A table of mappings without an entry. It isn't given yet.
+    /// A process has no mappings.
     UnexpectedEof,
     /// There is a version already, where one was to be taken in.
     AlreadyExists,
