@@ -1,5 +1,5 @@
 -- The mappings of a process, by what lies at the path of their text.
-use Rattle.std.specs.Prelude.{ℕ, List, ◌++◌, codes, Option, Some, None, Result, Ok, Err}
+use Rattle.std.specs.Prelude.{◌≡◌, ℕ, List, ◌++◌, codes, Option, Some, None, Result, Ok, Err}
 use Rattle.bz_base.specs.Pid.{pid_text}
 use Rattle.bz_base.specs.declared.error.Error.{Error}
 use Rattle.bz_base.specs.declared.error.Error.TheVariants as errors
@@ -21,3 +21,8 @@ abbrev pub maps_told : Pid → Option Entry → Result (List Mapping) Error
 maps_told pid None = Err errors.NotFound
 maps_told pid (Some Denied) = Err errors.PermissionDenied
 maps_told pid (Some (Present stamp bytes)) = told_maps (maps_in pid bytes)
+
+-- whatever is told, some text tells these mappings
+pub record AreOfText (pid : Pid) (mappings : List Mapping) : Type 0 where
+  pub text : List ℕ
+  pub tells : maps_in pid text ≡ Some mappings

@@ -1,5 +1,5 @@
 -- The id by which a process knows itself, as its status tells it.
-use Rattle.std.specs.Prelude.{ℕ, List, ◌++◌, Option, Some, None, Result, Ok, Err, codes}
+use Rattle.std.specs.Prelude.{◌≡◌, ℕ, List, ◌++◌, Option, Some, None, Result, Ok, Err, codes}
 use Rattle.bz_base.specs.Pid.{pid_text, resolved}
 use Rattle.bz_base.specs.declared.error.Error.{Error}
 use Rattle.bz_base.specs.declared.error.Error.TheVariants as errors
@@ -22,3 +22,8 @@ abbrev pub ns_tgid_of : Pid → ℕ → Option Entry → Result ℕ Error
 ns_tgid_of pid own None = Err errors.NotFound
 ns_tgid_of pid own (Some Denied) = Err errors.PermissionDenied
 ns_tgid_of pid own (Some (Present stamp bytes)) = by_status pid own (ns_tgid_in bytes)
+
+-- whatever is told, some text is a status by which the process knows itself so
+pub record IsOfStatus (pid : Pid) (own id : ℕ) : Type 0 where
+  pub text : List ℕ
+  pub tells : by_status pid own (ns_tgid_in text) ≡ Ok id

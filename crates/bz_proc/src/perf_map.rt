@@ -9,7 +9,7 @@ ghost use Rattle.bz_cache.specs.Format.{Comes, IsRefusalBy};
 ghost use Rattle.bz_files.specs.Count.{counted};
 ghost use Rattle.bz_files.specs.Looked.{Faulted, Looked, ReadsOne};
 ghost use Rattle.bz_files.specs.World.{Told, entry_at, in_view};
-ghost use Rattle.bz_proc.specs.PerfId.{ns_tgid_of, status_path};
+ghost use Rattle.bz_proc.specs.PerfId.{IsOfStatus, ns_tgid_of, status_path};
 ghost use Rattle.bz_proc.specs.PerfLine.{PerfFunction};
 ghost use Rattle.bz_proc.specs.PerfLines.{perf_functions_in};
 ghost use Rattle.bz_proc.specs.PerfMap.{IsPerfMap, answer_seen, format_refusals, format_test, plain};
@@ -85,6 +85,7 @@ impl PerfMap {
         ensures spared { Told (in_view (F.worlds files.old)) (λ world. has_file (entry_at world (status_path pid)) ≡ false → F.opens files.new ≡ F.opens files.old) }
         ensures most { ReadsOne F.Files files.old files.new }
         ensures files { Looked F.Files files.old files.new (Faulted result) }
+        ensures some { IfOk result (IsOfStatus pid (F.pid files.old)) }
         ensures refusal { IfErr result IsReadRefusal }
     {
         let own = files.own_pid();

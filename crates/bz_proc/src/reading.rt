@@ -6,7 +6,7 @@ ghost use Rattle.bz_cache.specs.Format.{Comes};
 ghost use Rattle.bz_files.specs.Looked.{Faulted, Looked, ReadsOne};
 ghost use Rattle.bz_files.specs.World.{Told, entry_at, in_view};
 ghost use Rattle.bz_proc.specs.Maps.{mapping_of};
-ghost use Rattle.bz_proc.specs.MapsFile.{maps_path, maps_told};
+ghost use Rattle.bz_proc.specs.MapsFile.{AreOfText, maps_path, maps_told};
 ghost use Rattle.bz_proc.specs.SystemText.{has_file, IsReadRefusal};
 
 use crate::maps::{MapsEntry, parse_maps};
@@ -22,6 +22,7 @@ pub fn read_maps<F: Files>(alloc: Global, files: &mut F, pid: Pid) -> Result<Vec
     ensures spared { Told (in_view (F.worlds files.old)) (λ world. has_file (entry_at world (maps_path pid)) ≡ false → F.opens files.new ≡ F.opens files.old) }
     ensures most { ReadsOne F.Files files.old files.new }
     ensures files { Looked F.Files files.old files.new (Faulted result) }
+    ensures some { IfOk result (λ entries. AreOfText pid (map mapping_of entries.items)) }
     ensures refusal { IfErr result IsReadRefusal }
 {
     let path = maps_path(alloc, pid)?;

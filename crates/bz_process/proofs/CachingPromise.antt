@@ -8,6 +8,7 @@ use Rattle.bz_cache.specs.Cache.{Cache, Consistent, new_cache}
 use Rattle.bz_cache.specs.InsertMap.{value_at}
 use Rattle.bz_cache.proofs.Evicting.{consistent_evicted}
 use Rattle.bz_proc.specs.Maps.{Mapping}
+use Rattle.bz_proc.specs.MapsFile.{AreOfText}
 use Rattle.bz_proc.specs.PerfMap as perf
 use Rattle.bz_process.specs.Caches.{ProcessCaches}
 use Rattle.bz_process.specs.Caching.{Caching, KeptMappings, caches_process, mappings_after, with_mappings}
@@ -29,8 +30,8 @@ on_err (Ok given) P holds = tt
 on_err (Err e) P holds = holds
 
 -- the mappings of this process alone are others
-pub may_keep : (asked : Caching) (result : Result (Unit {0}) Error) (old now : KeptMappings) → asked.vmas ≡ true → OnOk result ((told : List Mapping) × (now ≡ with_mappings asked.pid old told)) → OnOk result (MayKeep asked old now)
-may_keep asked (Ok done) old now wanted kept = record { mappings = kept.0; kept = rw wanted kept.1 }
+pub may_keep : (asked : Caching) (result : Result (Unit {0}) Error) (old now : KeptMappings) → asked.vmas ≡ true → OnOk result ((told : List Mapping) × AreOfText asked.pid told × (now ≡ with_mappings asked.pid old told)) → OnOk result (MayKeep asked old now)
+may_keep asked (Ok done) old now wanted kept = record { mappings = kept.0; some = λ _. kept.1; kept = rw wanted kept.2 }
 may_keep asked (Err e) old now wanted kept = tt
 
 -- a perf map that is forgotten leaves the others well kept

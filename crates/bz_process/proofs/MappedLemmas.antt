@@ -1,5 +1,5 @@
 -- What is asked of a process, from its mappings and its addresses.
-use Rattle.std.proofs.Common.{◌≡◌, ℕ, false, List, [], ◌∷◌, ◌++◌, map, Option, Some, None, Result, Ok, Err, OnOk, IfOk, IsOkUnless, Vec, Global, inl, inr, refl, sym, subst, ◌∙◌, arith}
+use Rattle.std.proofs.Common.{◌≡◌, ℕ, false, List, [], ◌∷◌, ◌++◌, map, Option, Some, None, Result, Ok, Err, OnOk, IfErr, IfOk, IsOkUnless, Vec, Global, inl, inr, refl, sym, ap, subst, ◌∙◌, arith}
 use Rattle.bz_base.specs.Answer.{reading}
 use Rattle.bz_base.specs.declared.error.Error.{Error}
 use Rattle.bz_base.specs.declared.error.Error.TheVariants as errors
@@ -13,11 +13,11 @@ use Rattle.bz_files.specs.declared.files.Files.{Ghosts}
 use Rattle.bz_cache.specs.Format.{Comes, FailsAs}
 use Rattle.bz_elf.specs.Format as elf
 use Rattle.bz_proc.specs.Maps.{Mapping}
-use Rattle.bz_proc.specs.SystemText.{has_file}
+use Rattle.bz_proc.specs.SystemText.{IsReadRefusal, has_file}
 use Rattle.bz_proc.specs.PerfMap as perf
 use Rattle.bz_base.specs.declared.pid.Pid.{Pid}
 use Rattle.bz_process.specs.Dispatch.{Answers, Keeps, Test}
-use Rattle.bz_process.specs.Mapped.{AsksProcess, AsksProcessAt, checked, if_some, mappings_of, of_text, some_mappings}
+use Rattle.bz_process.specs.Mapped.{AreFrom, AreUsed, AsksProcess, AsksProcessAt, LacksMappings, checked, if_some, mappings_of, of_text, some_mappings}
 use Rattle.bz_process.specs.Process.{at_address, at_addresses, gives, unsaid}
 use Rattle.bz_process.specs.ProcessAsk.{AddsAmong, AsksAll, AsksOne, IsSaidAt}
 use Rattle.bz_process.specs.ProcessCall.{TakesStep, UnlessFailed}
@@ -80,6 +80,40 @@ module _ {X : Type 0} (files : Ghosts X) (own : ℕ) where
       TakesStep files own (λ (k : List Mapping). k) (some_mappings pid known) (Err e) kept kept before after
   mapped_refused pid known e kept before after one = refused files own (λ (k : List Mapping). k) (λ (k : List Mapping). k) (mappings_of pid known) checked e kept kept before after one
 
+module _ (pid : Pid) (known : Option (List Mapping)) where
+  -- kept mappings are given as they are
+  pub from_kept : (mappings : List Mapping) (result : Result (List Mapping) Error) → known ≡ Some mappings → IfOk result (λ k. k ≡ mappings) → IfOk result (AreFrom pid known)
+  from_kept mappings (Ok k) found is = rw found is
+  from_kept mappings (Err e) found is = tt
+
+  -- and are used, where there are some
+  pub some_used : (mappings : List Mapping) (result : Result (List Mapping) Error) → AreFrom pid known mappings → result ≡ if_some mappings → IfOk result (AreUsed pid known)
+  some_used [] result from is = rw is tt
+  some_used (mapping ∷ later) result from is = rw is (record { from = from; some = refl })
+
+none_lacks : (pid : Pid) (known : Option (List Mapping)) → AreFrom pid known [] → LacksMappings known errors.UnexpectedEof
+none_lacks pid (Some kept) from = ap if_some (sym from)
+none_lacks pid None from = tt
+
+pub some_lack : (pid : Pid) (known : Option (List Mapping)) (mappings : List Mapping) (result : Result (List Mapping) Error) → AreFrom pid known mappings → result ≡ if_some mappings → IfErr result (LacksMappings known)
+some_lack pid known [] result from is = rw is (none_lacks pid known from)
+some_lack pid known (mapping ∷ later) result from is = rw is tt
+
+-- memory ran out for kept mappings
+pub kept_lacks : (known : Option (List Mapping)) (result : Result (List Mapping) Error) → IsOkUnless result errors.OutOfMemory → IfErr result (LacksMappings known)
+kept_lacks known (Ok k) memory = tt
+kept_lacks known (Err e) memory = rw memory tt
+
+-- their text was refused
+pub text_lacks : (result : Result (List Mapping) Error) → IfErr result IsReadRefusal → IfErr result (LacksMappings None)
+text_lacks (Ok k) refusal = tt
+text_lacks (Err e) refusal = lacks e refusal
+  where
+    lacks : (e : Error) → IsReadRefusal e → LacksMappings None e
+    lacks errors.OutOfMemory is = tt
+    lacks errors.UnexpectedEof is = tt
+    lacks _ is = is
+
 -- what holds holds of an answered call
 on_ok : {A : Type 0} (result : Result A Error) (P : Type 0) → P → OnOk result P
 on_ok (Ok x) P p = p
@@ -91,12 +125,13 @@ module _ {R X : Type 0} (files : Ghosts X) (test : Test R) (translates : Transla
 
   -- the mappings, and then the addresses
   pub asks_mapped : (mappings : List Mapping) (result : Result (Vec Symbolized Global) Error) (old now : ProcessCaches) (answers answers_now : Answers R) (before middle after : X) →
-      TakesStep files asked.own (λ (k : List Mapping). k) (some_mappings asked.pid known) (Ok mappings) old old before middle →
+      TakesStep files asked.own (λ (k : List Mapping). k) (some_mappings asked.pid known) (Ok mappings) old old before middle → AreUsed asked.pid known mappings →
       AsksAll files read test translates finds opts asked mappings addrs result old now answers answers_now middle after →
       Keeps answers answers_now → AddsAmong test mappings addrs answers answers_now → Asks result old now answers answers_now before after
-  asks_mapped mappings result old now answers answers_now before middle after one all keeps adds = record {
+  asks_mapped mappings result old now answers answers_now before middle after one used all keeps adds = record {
     mappings = mappings;
     mapped = λ world seen. on_ok result _ (one.told world seen).answer;
+    used = inl used;
     tied = λ world seen. inl (one.told world seen).answer;
     front = all.front;
     rest = all.rest;
@@ -110,10 +145,11 @@ module _ {R X : Type 0} (files : Ghosts X) (test : Test R) (translates : Transla
 
   -- the mappings are refused
   pub asks_unmapped : (e : Error) (old : ProcessCaches) (answers : Answers R) (before after : X) →
-      TakesStep files asked.own (λ (k : List Mapping). k) (some_mappings asked.pid known) (Err e) old old before after → Asks (Err e) old old answers answers before after
-  asks_unmapped e old answers before after one = record {
+      TakesStep files asked.own (λ (k : List Mapping). k) (some_mappings asked.pid known) (Err e) old old before after → LacksMappings known e → Asks (Err e) old old answers answers before after
+  asks_unmapped e old answers before after one lacks = record {
     mappings = [];
     mapped = λ world seen. tt;
+    used = inr (record { refused = refl; refusal = lacks; unchanged = refl; unsaid = refl });
     tied = λ world seen. inr refl;
     front = [];
     rest = addrs;
@@ -131,12 +167,13 @@ module _ {R X : Type 0} (files : Ghosts X) (test : Test R) (translates : Transla
 
   -- the mappings, and then the address
   pub asks_mapped_at : (mappings : List Mapping) (result : Result Symbolized Error) (old now : ProcessCaches) (answers answers_now : Answers R) (before middle after : X) →
-      TakesStep files asked.own (λ (k : List Mapping). k) (some_mappings asked.pid known) (Ok mappings) old old before middle →
+      TakesStep files asked.own (λ (k : List Mapping). k) (some_mappings asked.pid known) (Ok mappings) old old before middle → AreUsed asked.pid known mappings →
       AsksOne files asked.own reading (IsSaidAt test translates finds opts mappings addr answers answers_now) (λ said. at_address asked mappings (addr, said)) result old now middle after →
       Keeps answers answers_now → AddsAmong test mappings (addr ∷ []) answers answers_now → AsksAt result old now answers answers_now before after
-  asks_mapped_at mappings result old now answers answers_now before middle after one asks keeps adds = record {
+  asks_mapped_at mappings result old now answers answers_now before middle after one used asks keeps adds = record {
     mappings = mappings;
     mapped = λ world seen. unless result _ (λ told is. let same : Ok told ≡ Ok mappings = sym is ∙ (one.told world seen).answer in cc same);
+    used = inl used;
     tied = λ world seen. inl (one.told world seen).answer;
     said = asks.said;
     allowed = asks.allowed;
@@ -152,10 +189,11 @@ module _ {R X : Type 0} (files : Ghosts X) (test : Test R) (translates : Transla
 
   -- the mappings are refused
   pub asks_unmapped_at : (e : Error) (old : ProcessCaches) (answers : Answers R) (before after : X) →
-      TakesStep files asked.own (λ (k : List Mapping). k) (some_mappings asked.pid known) (Err e) old old before after → AsksAt (Err e) old old answers answers before after
-  asks_unmapped_at e old answers before after one = record {
+      TakesStep files asked.own (λ (k : List Mapping). k) (some_mappings asked.pid known) (Err e) old old before after → LacksMappings known e → AsksAt (Err e) old old answers answers before after
+  asks_unmapped_at e old answers before after one lacks = record {
     mappings = [];
     mapped = λ world seen. unread _ e (one.told world seen).answer;
+    used = inr (record { refused = refl; refusal = lacks; unchanged = refl; unsaid = refl });
     tied = λ world seen. inr refl;
     said = None;
     allowed = unless {A = Symbolized} (Err e) _ refl;

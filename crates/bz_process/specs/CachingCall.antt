@@ -1,5 +1,5 @@
 -- What caching a process does: all of what it is asked for, or nothing.
-use Rattle.std.specs.Prelude.{◌≡◌, ℕ, ◌+◌, ◌≤◌, Bool, cond, List, [], ◌∷◌, Option, Result, OnOk, OnErr}
+use Rattle.std.specs.Prelude.{◌≡◌, ℕ, ◌+◌, ◌≤◌, Bool, true, cond, List, [], ◌∷◌, Option, Result, OnOk, OnErr}
 use Rattle.std.specs.List.{AllByRecursion}
 use Rattle.bz_base.specs.declared.error.Error.{Error}
 use Rattle.bz_files.specs.Looked.{Faulted, Looked}
@@ -8,6 +8,7 @@ use Rattle.bz_files.specs.declared.files.Files.{Ghosts}
 use Rattle.bz_cache.specs.Cache.{Cache, with_pin}
 use Rattle.bz_cache.specs.Format.{Comes}
 use Rattle.bz_proc.specs.Maps.{Mapping}
+use Rattle.bz_proc.specs.MapsFile.{AreOfText}
 use Rattle.bz_proc.specs.PerfMap as perf
 use Rattle.bz_process.specs.Caches.{ProcessCaches}
 use Rattle.bz_process.specs.Caching.{Caching, KeptMappings, caches_process, mappings_after, with_mappings}
@@ -58,6 +59,8 @@ pub record TakesWhole {A B X : Type 0} (files : Ghosts X) (own : ℕ) (reading :
 -- the mappings of this process alone may be others, and only where they are asked for
 pub record MayKeep (asked : Caching) (old now : KeptMappings) : Type 0 where
   pub mappings : List Mapping
+  -- whatever is told, some text tells them
+  pub some : asked.vmas ≡ true → AreOfText asked.pid mappings
   pub kept : now ≡ cond asked.vmas (with_mappings asked.pid old mappings) old
 
 -- all that caching a process promises

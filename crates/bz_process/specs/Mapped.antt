@@ -1,5 +1,5 @@
 -- The mappings that a process is answered by: the kept ones, else those of the text that lies there.
-use Rattle.std.specs.Prelude.{◌≡◌, ◌⊎◌, ℕ, List, [], ◌∷◌, ◌++◌, map, Option, Some, None, Result, Ok, Err, OnOk}
+use Rattle.std.specs.Prelude.{◌≡◌, ◌⊎◌, ℕ, List, [], ◌∷◌, ◌++◌, map, Option, Some, None, Result, Ok, Err, IfErr, IsErr, OnOk}
 use Rattle.std.specs.List.{AllByRecursion}
 use Rattle.bz_base.specs.Answer.{Answer}
 use Rattle.bz_base.specs.declared.error.Error.{Error}
@@ -10,8 +10,8 @@ use Rattle.bz_base.specs.declared.types.FindSymOpts.{FindSymOpts}
 use Rattle.bz_files.specs.World.{Entry, Told, entry_at, in_view}
 use Rattle.bz_files.specs.declared.files.Files.{Ghosts}
 use Rattle.bz_proc.specs.Maps.{Mapping}
-use Rattle.bz_proc.specs.MapsFile.{maps_path, maps_told}
-use Rattle.bz_proc.specs.SystemText.{has_file}
+use Rattle.bz_proc.specs.MapsFile.{AreOfText, maps_path, maps_told}
+use Rattle.bz_proc.specs.SystemText.{IsReadRefusal, has_file}
 use Rattle.bz_base.specs.declared.pid.Pid.{Pid}
 use Rattle.bz_process.specs.Dispatch.{Answers, Keeps, Test}
 use Rattle.bz_process.specs.Process.{Said, Step, and_then, at_address, at_addresses, count_of, gives, unsaid}
@@ -40,6 +40,38 @@ mappings_of pid None = of_text (maps_told pid) (maps_path pid)
 abbrev pub some_mappings : Pid → Option (List Mapping) → Step (List Mapping)
 some_mappings pid kept = and_then (mappings_of pid kept) checked
 
+-- whatever is told, where mappings come from: they are the kept ones, or else those of some text
+abbrev pub AreFrom : Pid → Option (List Mapping) → List Mapping → Type 0
+AreFrom pid (Some kept) mappings = mappings ≡ kept
+AreFrom pid None mappings = AreOfText pid mappings
+
+-- and then a process is answered by them, of which there are some
+pub record AreUsed (pid : Pid) (kept : Option (List Mapping)) (mappings : List Mapping) : Type 0 where
+  pub from : AreFrom pid kept mappings
+  pub some : if_some mappings ≡ Ok mappings
+
+-- a process lacks mappings where its text is refused, or tells none
+abbrev pub MayLackMappings : Error → Type 0
+MayLackMappings errors.UnexpectedEof = Unit {0}
+MayLackMappings e = IsReadRefusal e
+
+-- kept mappings are refused only where there are none, but for want of memory
+abbrev pub LacksMappings : Option (List Mapping) → Error → Type 0
+LacksMappings kept errors.OutOfMemory = Unit {0}
+LacksMappings (Some kept) e = if_some kept ≡ Err e
+LacksMappings None e = MayLackMappings e
+
+-- a call was refused before it had mappings, and nothing has changed
+pub record RefusedUnmapped {A R : Type 0} (kept : Option (List Mapping)) (result : Result A Error) (old now : ProcessCaches) (answers answers_now : Answers R) : Type 0 where
+  pub refused : IsErr result
+  pub refusal : IfErr result (LacksMappings kept)
+  pub unchanged : now ≡ old
+  pub unsaid : answers_now ≡ answers
+
+-- whatever is told: the call went by these mappings, or was refused before it had any
+abbrev pub UsesMappings : {A R : Type 0} → Pid → Option (List Mapping) → List Mapping → Result A Error → ProcessCaches → ProcessCaches → Answers R → Answers R → Type 0
+UsesMappings pid kept mappings result old now answers answers_now = AreUsed pid kept mappings ⊎ RefusedUnmapped kept result old now answers answers_now
+
 -- all that is asked of a process: its mappings, and the addresses one after another
 abbrev pub asks_process : Asked → Option (List Mapping) → List (ℕ × Said) → Step (List Answer)
 asks_process asked kept items = and_then (some_mappings asked.pid kept) (λ mappings. at_addresses asked mappings items)
@@ -49,6 +81,8 @@ pub record AsksProcess {A R X : Type 0} (files : Ghosts X) (reading : A → List
     (asked : Asked) (kept : Option (List Mapping)) (addrs : List ℕ) (result : Result A Error) (old now : ProcessCaches) (answers answers_now : Answers R) (before after : X) : Type 0 where
   pub mappings : List Mapping
   pub mapped : Told (in_view (files.worlds before)) (λ world. OnOk result ((some_mappings asked.pid kept world old).answer ≡ Ok mappings))
+  -- whatever is told, they are the kept ones, or else those of some text
+  pub used : UsesMappings asked.pid kept mappings result old now answers answers_now
   -- also after a refusal or a failure, unless no answer was added
   pub tied : Told (in_view (files.worlds before)) (λ world. ((some_mappings asked.pid kept world old).answer ≡ Ok mappings) ⊎ (answers_now ≡ answers))
   pub front : List (ℕ × Said)
@@ -70,6 +104,8 @@ pub record AsksProcessAt {A R X : Type 0} (files : Ghosts X) (reading : A → An
     (asked : Asked) (kept : Option (List Mapping)) (addr : ℕ) (result : Result A Error) (old now : ProcessCaches) (answers answers_now : Answers R) (before after : X) : Type 0 where
   pub mappings : List Mapping
   pub mapped : Told (in_view (files.worlds before)) (λ world. UnlessFailed result ((told : List Mapping) → (some_mappings asked.pid kept world old).answer ≡ Ok told → told ≡ mappings))
+  -- whatever is told, they are the kept ones, or else those of some text
+  pub used : UsesMappings asked.pid kept mappings result old now answers answers_now
   -- also after a refusal or a failure, unless no answer was added
   pub tied : Told (in_view (files.worlds before)) (λ world. ((some_mappings asked.pid kept world old).answer ≡ Ok mappings) ⊎ (answers_now ≡ answers))
   pub said : Said

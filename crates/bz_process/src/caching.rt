@@ -7,7 +7,7 @@ ghost use Rattle.bz_cache.specs.Cache.{Cache};
 ghost use Rattle.bz_cache.specs.InsertMap.{value_at, without};
 ghost use Rattle.bz_files.specs.World.{Told, entry_at, in_view};
 ghost use Rattle.bz_proc.specs.Maps.{Mapping};
-ghost use Rattle.bz_proc.specs.MapsFile.{maps_path, maps_told};
+ghost use Rattle.bz_proc.specs.MapsFile.{AreOfText, maps_path, maps_told};
 ghost use Rattle.bz_process.specs.Caches.{caches};
 ghost use Rattle.bz_process.specs.Caching.{after_mappings, caches_perf_map, caches_process, caching_of, is_gone, mappings_after, pins_perf_map, with_former, with_mappings, with_told};
 ghost use Rattle.bz_process.specs.CachingCall.{MayKeep, TakesWhole};
@@ -65,7 +65,7 @@ fn cache_mapped<F: Files>(
 ) -> Result<()>
     ensures step { (elf : Cache) → TakesWhole F.Files (F.pid files.old) (λ (done : Unit {0}). done) (after_mappings true request.now.pid (caches_perf_map request.now.cache_perf_map request.now.pid (F.pid files.old))) result (caches elf perf_maps.old) (caches elf perf_maps.new) files.old files.new }
     ensures mappings { Told (in_view (F.worlds files.old)) (λ world. OnOk result (mappings.new ≡ with_told request.now.pid mappings.old (maps_told request.now.pid (entry_at world (maps_path request.now.pid))))) }
-    ensures some { OnOk result ((told : List Mapping) × (mappings.new ≡ with_mappings request.now.pid mappings.old told)) }
+    ensures some { OnOk result ((told : List Mapping) × AreOfText request.now.pid told × (mappings.new ≡ with_mappings request.now.pid mappings.old told)) }
     ensures err { OnErr result (mappings.new ≡ mappings.old) }
 {
     let mapped = read_mapped(alloc, files, request.pid)?;

@@ -1,6 +1,6 @@
 //! The mappings that processes are answered by.
 
-ghost use Rattle.std.specs.Prelude.{◌≡◌, false, ℕ, List, IfOk, IsOkUnless};
+ghost use Rattle.std.specs.Prelude.{◌≡◌, false, ℕ, List, IfErr, IfOk, IsOkUnless};
 ghost use Rattle.bz_base.specs.declared.error.Error.{Error};
 ghost use Rattle.bz_cache.specs.Format.{Comes};
 ghost use Rattle.bz_cache.specs.InsertMap.{value_at};
@@ -8,9 +8,9 @@ ghost use Rattle.bz_files.specs.Looked.{Faulted, Looked, ReadsOne};
 ghost use Rattle.bz_files.specs.World.{Told, entry_at, in_view};
 ghost use Rattle.bz_proc.specs.Maps.{Mapping};
 ghost use Rattle.bz_process.specs.Caches.{ProcessCaches};
-ghost use Rattle.bz_process.specs.Mapped.{if_some, mappings_of, of_text, some_mappings};
-ghost use Rattle.bz_proc.specs.MapsFile.{maps_path, maps_told};
-ghost use Rattle.bz_proc.specs.SystemText.{has_file};
+ghost use Rattle.bz_process.specs.Mapped.{AreFrom, AreUsed, LacksMappings, if_some, mappings_of, of_text, some_mappings};
+ghost use Rattle.bz_proc.specs.MapsFile.{AreOfText, maps_path, maps_told};
+ghost use Rattle.bz_proc.specs.SystemText.{IsReadRefusal, has_file};
 ghost use Rattle.bz_process.specs.Process.{pid_cmp};
 ghost use Rattle.bz_process.specs.ProcessCall.{TakesStep};
 
@@ -75,6 +75,8 @@ pub(crate) fn some_mappings<F: Files>(
     pid: Pid,
 ) -> Result<Mapped>
     ensures step { (own : ℕ) (kept : ProcessCaches) → TakesStep F.Files own (λ (mapped : List Mapping). mapped) (some_mappings pid (value_at pid_cmp mappings.old pid)) result kept kept files.old files.new }
+    ensures some { IfOk result (AreUsed pid (value_at pid_cmp mappings.old pid)) }
+    ensures refusal { IfErr result (LacksMappings (value_at pid_cmp mappings.old pid)) }
     ensures mappings { mappings.new ≡ mappings.old }
 {
     let mapped = known_or_read(mappings, alloc, files, pid)?;
@@ -89,6 +91,8 @@ fn known_or_read<F: Files>(
     pid: Pid,
 ) -> Result<Mapped>
     ensures step { (own : ℕ) (kept : ProcessCaches) → TakesStep F.Files own (λ (mapped : List Mapping). mapped) (mappings_of pid (value_at pid_cmp mappings.old pid)) result kept kept files.old files.new }
+    ensures some { IfOk result (AreFrom pid (value_at pid_cmp mappings.old pid)) }
+    ensures refusal { IfErr result (LacksMappings (value_at pid_cmp mappings.old pid)) }
     ensures mappings { mappings.new ≡ mappings.old }
 {
     match mappings.get(&pid) {
@@ -99,7 +103,9 @@ fn known_or_read<F: Files>(
 
 /// The mappings of the text that lies there.
 pub(crate) fn read_mapped<F: Files>(alloc: Global, files: &mut F, pid: Pid) -> Result<Mapped>
-    ensures { (own : ℕ) (kept : ProcessCaches) → TakesStep F.Files own (λ (mapped : List Mapping). mapped) (of_text (maps_told pid) (maps_path pid)) result kept kept files.old files.new }
+    ensures step { (own : ℕ) (kept : ProcessCaches) → TakesStep F.Files own (λ (mapped : List Mapping). mapped) (of_text (maps_told pid) (maps_path pid)) result kept kept files.old files.new }
+    ensures some { IfOk result (AreOfText pid) }
+    ensures refusal { IfErr result IsReadRefusal }
 {
     let mappings = read_mappings(alloc, files, pid)?;
     let mappings = Rc::new(alloc, mappings)?;
@@ -112,6 +118,8 @@ fn read_mappings<F: Files>(alloc: Global, files: &mut F, pid: Pid) -> Result<Map
     ensures spared { Told (in_view (F.worlds files.old)) (λ world. has_file (entry_at world (maps_path pid)) ≡ false → F.opens files.new ≡ F.opens files.old) }
     ensures most { ReadsOne F.Files files.old files.new }
     ensures files { Looked F.Files files.old files.new (Faulted result) }
+    ensures some { IfOk result (AreOfText pid) }
+    ensures refusal { IfErr result IsReadRefusal }
 {
     let entries = read_maps(alloc, files, pid)?;
     Mappings::new(alloc, entries)

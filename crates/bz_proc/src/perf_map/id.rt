@@ -6,7 +6,7 @@ ghost use Rattle.bz_cache.specs.Format.{Comes};
 ghost use Rattle.bz_files.specs.Count.{counted};
 ghost use Rattle.bz_files.specs.Looked.{Faulted, Looked, ReadsOne};
 ghost use Rattle.bz_files.specs.World.{Told, entry_at, in_view};
-ghost use Rattle.bz_proc.specs.PerfId.{ns_tgid_of, status_path};
+ghost use Rattle.bz_proc.specs.PerfId.{IsOfStatus, ns_tgid_of, status_path};
 ghost use Rattle.bz_proc.specs.SystemText.{has_file, IsReadRefusal};
 
 use crate::status::parse_ns_tgid;
@@ -21,6 +21,7 @@ pub(crate) fn ns_tgid_of<F: Files>(alloc: Global, files: &mut F, pid: Pid, own: 
     ensures spared { Told (in_view (F.worlds files.old)) (λ world. has_file (entry_at world (status_path pid)) ≡ false → F.opens files.new ≡ F.opens files.old) }
     ensures most { ReadsOne F.Files files.old files.new }
     ensures files { Looked F.Files files.old files.new (Faulted result) }
+    ensures some { IfOk result (IsOfStatus pid own) }
     ensures refusal { IfErr result IsReadRefusal }
 {
     let path = status_path(alloc, pid)?;

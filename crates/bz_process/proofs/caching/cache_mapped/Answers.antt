@@ -18,7 +18,7 @@ returns-in_err-mapped-clause-step g c elf =
     let kept = caches elf c.args.perf_maps.now in
     rw (same.1, same.2)
     (whole_refused g.F.Files own (λ (k : List Mapping). k) (of_text (maps_told c.args.request.now.pid) (maps_path c.args.request.now.pid)) (λ mappings. caches_perf_map c.args.request.now.cache_perf_map c.args.request.now.pid own)
-    c.in_err-mapped.field-0.0 kept kept c.args.files.now c.read_mapped.new.files refl (c.in_err-mapped.ensures own kept))
+    c.in_err-mapped.field-0.0 kept kept c.args.files.now c.read_mapped.new.files refl (c.in_err-mapped.ensures.step own kept))
 
 -- memory ran out for their place
 pub returns-in_err-former-clause-step : goal.returns-in_err-former-clause-step
@@ -28,7 +28,7 @@ returns-in_err-former-clause-step g c elf =
     let kept = caches elf c.args.perf_maps.now in
     rw (same.1, same.2, c.in_err-former.ensures.memory)
     (whole_next g.F.Files own (λ (k : List Mapping). k) (of_text (maps_told c.args.request.now.pid) (maps_path c.args.request.now.pid)) (λ mappings. caches_perf_map c.args.request.now.cache_perf_map c.args.request.now.pid own)
-    c.in_ok-mapped.mapped (Err errors.OutOfMemory) kept kept kept kept c.args.files.now c.read_mapped.new.files c.read_mapped.new.files (c.in_ok-mapped.ensures own kept)
+    c.in_ok-mapped.mapped (Err errors.OutOfMemory) kept kept kept kept c.args.files.now c.read_mapped.new.files c.read_mapped.new.files (c.in_ok-mapped.ensures.step own kept)
     (whole_wants_memory g.F.Files own (caches_perf_map c.args.request.now.cache_perf_map c.args.request.now.pid own) kept c.read_mapped.new.files) tt refl)
 
 -- all is kept
@@ -36,7 +36,7 @@ pub returns-in-Ok-clause-step : goal.returns-in-Ok-clause-step
 returns-in-Ok-clause-step g c elf =
     let own = g.F.Files.pid c.args.files.now in
     let kept = caches elf c.args.perf_maps.now in
-    let step = c.in_ok-mapped.ensures own kept in
+    let step = c.in_ok-mapped.ensures.step own kept in
     let cached = rw step.looked.pid at (c.in-Ok.ensures elf) in
     whole_next g.F.Files own (λ (k : List Mapping). k) (of_text (maps_told c.args.request.now.pid) (maps_path c.args.request.now.pid)) (λ mappings. caches_perf_map c.args.request.now.cache_perf_map c.args.request.now.pid own)
     c.in_ok-mapped.mapped (Ok tt) kept kept (caches elf c.cache.new.self) (caches elf c.cache.new.self) c.args.files.now c.read_mapped.new.files c.cache.new.files step cached refl tt
@@ -44,18 +44,18 @@ returns-in-Ok-clause-step g c elf =
 pub returns-in-Ok-clause-mappings : goal.returns-in-Ok-clause-mappings
 returns-in-Ok-clause-mappings g c world seen =
     let own = g.F.Files.pid c.args.files.now in
-    let told = ((c.in_ok-mapped.ensures own (caches c.args.perf_maps.now.files c.args.perf_maps.now)).told world seen).answer in
+    let told = ((c.in_ok-mapped.ensures.step own (caches c.args.perf_maps.now.files c.args.perf_maps.now)).told world seen).answer in
     rw told c.in_ok-former.ensures.ok
 
 pub returns-in-Ok-clause-some : goal.returns-in-Ok-clause-some
-returns-in-Ok-clause-some g c = (c.in_ok-mapped.mapped, c.in_ok-former.ensures.ok)
+returns-in-Ok-clause-some g c = (c.in_ok-mapped.mapped, c.in_ok-mapped.ensures.some, c.in_ok-former.ensures.ok)
 
 -- the perf map is refused, and all is put back
 pub returns-in-Err-clause-step : goal.returns-in-Err-clause-step
 returns-in-Err-clause-step g c elf =
     let own = g.F.Files.pid c.args.files.now in
     let kept = caches elf c.args.perf_maps.now in
-    let step = c.in_ok-mapped.ensures own kept in
+    let step = c.in_ok-mapped.ensures.step own kept in
     let cached = rw step.looked.pid at (c.in-Err.ensures elf) in
     whole_next g.F.Files own (λ (k : List Mapping). k) (of_text (maps_told c.args.request.now.pid) (maps_path c.args.request.now.pid)) (λ mappings. caches_perf_map c.args.request.now.cache_perf_map c.args.request.now.pid own)
     c.in_ok-mapped.mapped (Err c.in-Err.error) kept kept (caches elf c.cache.new.self) (caches elf c.cache.new.self) c.args.files.now c.read_mapped.new.files c.cache.new.files step cached tt cached.err

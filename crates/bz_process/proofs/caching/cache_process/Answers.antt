@@ -1,4 +1,4 @@
-use Rattle.std.proofs.Common.{[], refl}
+use Rattle.std.proofs.Common.{[], refl, sym, ◌∙◌}
 use Rattle.bz_process.specs.Caching.{caching_of}
 use Rattle.bz_process.specs.CachingCall.{MayKeep}
 use Rattle.bz_process.proofs.CachingPromise.{may_keep, on_err, on_ok}
@@ -24,7 +24,7 @@ returns-else-request-clause-mappings g c world seen = on_ok c.cache.result _ (rw
 
 pub returns-else-request-clause-some : goal.returns-else-request-clause-some
 returns-else-request-clause-some g c =
-    on_ok c.cache.result (MayKeep (caching_of (g.F.Files.pid c.args.files.now) c.args.request.now) c.args.mappings.now c.args.mappings.now) (record { mappings = []; kept = rw c.if-request.false refl })
+    on_ok c.cache.result (MayKeep (caching_of (g.F.Files.pid c.args.files.now) c.args.request.now) c.args.mappings.now c.args.mappings.now) (record { mappings = []; some = λ wanted. cc (sym c.if-request.false ∙ wanted); kept = rw c.if-request.false refl })
 
 pub returns-else-request-clause-err : goal.returns-else-request-clause-err
 returns-else-request-clause-err g c = on_err c.cache.result _ refl

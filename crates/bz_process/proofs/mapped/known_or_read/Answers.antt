@@ -1,5 +1,5 @@
 use Rattle.std.proofs.Common.{sym}
-use Rattle.bz_process.proofs.MappedLemmas.{kept_again}
+use Rattle.bz_process.proofs.MappedLemmas.{from_kept, kept_again, kept_lacks, text_lacks}
 use Rattle.bz_process.proofs.mapped.known_or_read.Goals as goal
 
 -- the mappings are kept
@@ -9,4 +9,17 @@ returns-in-Some-clause-step g c own kept =
 
 -- they are read
 pub returns-in-None-clause-step : goal.returns-in-None-clause-step
-returns-in-None-clause-step g c own kept = rw (sym c.in-None.ensures.value) (c.read_mapped.ensures own kept)
+returns-in-None-clause-step g c own kept = rw (sym c.in-None.ensures.value) (c.read_mapped.ensures.step own kept)
+
+-- so they are the kept ones, or those of some text
+pub returns-in-Some-clause-some : goal.returns-in-Some-clause-some
+returns-in-Some-clause-some g c = from_kept c.args.pid _ c.in-Some.mapped.now c.share.result (sym c.in-Some.ensures.value) c.share.ensures.mapped
+
+pub returns-in-None-clause-some : goal.returns-in-None-clause-some
+returns-in-None-clause-some g c = rw (sym c.in-None.ensures.value) c.read_mapped.ensures.some
+
+pub returns-in-Some-clause-refusal : goal.returns-in-Some-clause-refusal
+returns-in-Some-clause-refusal g c = kept_lacks _ c.share.result c.share.ensures.memory
+
+pub returns-in-None-clause-refusal : goal.returns-in-None-clause-refusal
+returns-in-None-clause-refusal g c = rw (sym c.in-None.ensures.value) (text_lacks c.read_mapped.result c.read_mapped.ensures.refusal)

@@ -1,5 +1,5 @@
 use Rattle.std.proofs.lemmas.Result.{err_from_is_err_and}
-use Rattle.bz_process.proofs.MappedLemmas.{mapped_checked, mapped_refused}
+use Rattle.bz_process.proofs.MappedLemmas.{mapped_checked, mapped_refused, some_lack, some_used}
 use Rattle.bz_process.proofs.mapped.some_mappings.Goals as goal
 
 -- the mappings are refused
@@ -12,3 +12,9 @@ returns-in_err-mapped-clause-step g c own kept =
 pub returns-clause-step : goal.returns-clause-step
 returns-clause-step g c own kept =
     mapped_checked g.F.Files own c.args.pid _ c.in_ok-mapped.mapped c.if_some.result kept c.args.files.now c.known_or_read.new.files (c.in_ok-mapped.ensures.step own kept) c.if_some.ensures
+
+pub returns-clause-some : goal.returns-clause-some
+returns-clause-some g c = some_used c.args.pid _ c.in_ok-mapped.mapped c.if_some.result c.in_ok-mapped.ensures.some c.if_some.ensures
+
+pub returns-clause-refusal : goal.returns-clause-refusal
+returns-clause-refusal g c = some_lack c.args.pid _ c.in_ok-mapped.mapped c.if_some.result c.in_ok-mapped.ensures.some c.if_some.ensures
