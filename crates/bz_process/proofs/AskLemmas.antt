@@ -31,6 +31,8 @@ use Rattle.bz_process.specs.ProcessAsk.{AddsAmong, AddsIn, AsksAll, AsksFront, A
 use Rattle.bz_process.specs.ProcessCall.{Reaches, TakesStep, UnlessFailed}
 use Rattle.bz_process.specs.Asked.{Asked}
 use Rattle.bz_process.specs.Caches.{ProcessCaches}
+use Rattle.bz_process.specs.Untold.{SomeAtAddress, SomeAtAddresses, SomeByAsked, SomeByMapping, SomeByOwner, SomeBySaid, as_read}
+use Rattle.bz_process.proofs.UntoldLemmas.{gives_self, some_last}
 use Rattle.bz_process.proofs.ProcessLemmas.{looked_both, reaches_both, reaches_same, stays, stays_both, still, unlooked, wants_memory}
 
 -- what holds holds unless a file failed
@@ -296,16 +298,17 @@ module _ {R X : Type 0} (files : Ghosts X) (test : Test R) (translates : Transla
   -- an address of a mapping of this
   pub in_named : (mapping : Mapping) (name : PathName) (named : Option Name) (addr : ℕ) (result : Result Symbolized Error) (old now : ProcessCaches) (answers answers_now : Answers R) (before after : X) →
       named ≡ Some (name_of name) →
-      AsksOne files asked.own reading (IsSaid test translates finds opts mapping name addr answers answers_now) (by_said asked mapping addr (name_of name)) result old now before after →
-      AsksOne files asked.own reading (IsSaidIn test translates finds opts mapping named addr answers answers_now) (λ said. by_mapping asked mapping addr said named) result old now before after
+      AsksOne files asked.own reading (IsSaid test translates finds opts mapping name addr answers answers_now) (SomeBySaid asked (as_read reading result) old now mapping addr (name_of name)) (by_said asked mapping addr (name_of name)) result old now before after →
+      AsksOne files asked.own reading (IsSaidIn test translates finds opts mapping named addr answers answers_now) (λ said. SomeByMapping asked (as_read reading result) old now mapping addr said named) (λ said. by_mapping asked mapping addr said named) result old now before after
   in_named mapping name named addr result old now answers answers_now before after is one =
-      rw is (record { said = one.said; allowed = unless_map result _ _ (λ allowed. (name, refl, allowed)) one.allowed; step = one.step })
+      rw is (record { said = one.said; allowed = unless_map result _ _ (λ allowed. (name, refl, allowed)) one.allowed; some = one.some; step = one.step })
 
   -- an address of a mapping that is of nothing
   pub in_unnamed : (mapping : Mapping) (named : Option Name) (addr : ℕ) (result : Result Symbolized Error) (old now : ProcessCaches) (answers : Answers R) (before after : X) → named ≡ None →
       TakesStep files asked.own reading (by_asked asked.perf_map asked addr) result old now before after →
-      AsksOne files asked.own reading (IsSaidIn test translates finds opts mapping named addr answers answers) (λ said. by_mapping asked mapping addr said named) result old now before after
-  in_unnamed mapping named addr result old now answers before after is step = rw is (record { said = None; allowed = unless result _ refl; step = step })
+      SomeByAsked asked (as_read reading result) old now asked.perf_map addr →
+      AsksOne files asked.own reading (IsSaidIn test translates finds opts mapping named addr answers answers) (λ said. SomeByMapping asked (as_read reading result) old now mapping addr said named) (λ said. by_mapping asked mapping addr said named) result old now before after
+  in_unnamed mapping named addr result old now answers before after is step some = rw is (record { said = None; allowed = unless result _ refl; some = some; step = step })
 
   pub adds_named : (mapping : Mapping) (name : PathName) (answers answers_now : Answers R) → mapping.name ≡ Some (name_of name) → Adds test mapping name answers answers_now → AddsIn test mapping answers answers_now
   adds_named mapping name answers answers_now named adds other answer kept = by_added (adds other answer kept)
@@ -318,10 +321,11 @@ module _ {R X : Type 0} (files : Ghosts X) (test : Test R) (translates : Transla
   module _ (mappings : List Mapping) where
     -- an address that no mapping has
     pub unmapped : (addr : ℕ) (kept : ProcessCaches) (answers : Answers R) (at : X) → owner_of mappings addr ≡ None →
-        AsksOne files asked.own reading (IsSaidAt test translates finds opts mappings addr answers answers) (λ said. at_address asked mappings (addr, said)) (Ok (symbolized.Unknown reasons.Unmapped)) kept kept at at
+        AsksOne files asked.own reading (IsSaidAt test translates finds opts mappings addr answers answers) (λ said. SomeAtAddress asked (Ok (Unknown reasons.Unmapped)) kept kept mappings (addr, said)) (λ said. at_address asked mappings (addr, said)) (Ok (symbolized.Unknown reasons.Unmapped)) kept kept at at
     unmapped addr kept answers at none = record {
       said = None;
       allowed = subst (λ (o : Option Mapping). IsSaidBy test translates finds opts o addr answers answers None) (sym none) refl;
+      some = subst (λ (o : Option Mapping). SomeByOwner asked (Ok (Unknown reasons.Unmapped)) kept kept addr None o) (sym none) (refl, refl);
       step = rw none (still files asked.own reading (Unknown reasons.Unmapped) _ kept at refl);
     }
 
@@ -338,14 +342,14 @@ module _ {R X : Type 0} (files : Ghosts X) (test : Test R) (translates : Transla
 
     abbrev One : ℕ → Result Symbolized Error → ProcessCaches → ProcessCaches → Answers R → Answers R → X → X → Type 0
     One addr result old now answers answers_now before after =
-        AsksOne files asked.own reading (IsSaidAt test translates finds opts mappings addr answers answers_now) (λ said. at_address asked mappings (addr, said)) result old now before after
+        AsksOne files asked.own reading (IsSaidAt test translates finds opts mappings addr answers answers_now) (λ said. SomeAtAddress asked (as_read reading result) old now mappings (addr, said)) (λ said. at_address asked mappings (addr, said)) result old now before after
 
     abbrev All : List ℕ → Result (Vec Symbolized Global) Error → ProcessCaches → ProcessCaches → Answers R → Answers R → X → X → Type 0
     All addrs result old now answers answers_now before after = AsksAll files read test translates finds opts asked mappings addrs result old now answers answers_now before after
 
     pub front_none : (given : Vec Symbolized Global) (kept : ProcessCaches) (answers : Answers R) (at : X) → given.items ≡ [] → Front [] given kept kept answers answers at at
     front_none given kept answers at is =
-        record { front = []; addrs_are = refl; allowed = tt; step = step_none files asked mappings given kept at is; keeps = λ n a kept. kept; adds = λ n a kept. inl kept }
+        record { front = []; addrs_are = refl; allowed = tt; some = (ap (map reading) is, refl); step = step_none files asked mappings given kept at is; keeps = λ n a kept. kept; adds = λ n a kept. inl kept }
 
     pub front_more : (addrs : List ℕ) (addr : ℕ) (given more : Vec Symbolized Global) (result : Result Symbolized Error) (entry : Symbolized) (old mid now : ProcessCaches) (answers answers_mid answers_now : Answers R) (before middle after : X) →
         Front addrs given old mid answers answers_mid before middle → One addr result mid now answers_mid answers_now middle after →
@@ -359,6 +363,12 @@ module _ {R X : Type 0} (files : Ghosts X) (test : Test R) (translates : Transla
       allowed = all_last test translates finds opts mappings _ front.front (addr, one.said)
           (all_longer test translates finds opts mappings answers answers_mid answers_now front.front keeps front.allowed)
           (said_by_longer test translates finds opts (owner_of mappings addr) addr answers answers_mid answers_now answers_now one.said front.keeps (λ n a k. k) (unfailing result entry _ unfailed one.allowed));
+      some =
+          let entry_is : reading entry ≡ in_batch (as_read reading result) = is (as_read reading result) (gives_self reading result) in
+          let answers_are : read more ≡ read given ++ in_batch (as_read reading result) ∷ [] =
+          ap (map reading) pushed ∙ map-append reading given.items (entry ∷ []) ∙ ap (λ (a : Answer). read given ++ a ∷ []) entry_is in
+          subst (λ (all : List Answer). SomeAtAddresses asked mappings (front.front ++ (addr, one.said) ∷ []) all old now) (sym answers_are)
+          (some_last asked mappings front.front (addr, one.said) (read given) (as_read reading result) old mid now front.some one.some);
       step = step_more files asked mappings front.front (addr, one.said) given more result entry old mid now before middle after front.step one.step is unfailed pushed;
       keeps = keeps_both test translates finds opts mappings answers answers_mid answers_now front.keeps keeps;
       adds = adds_both test translates finds opts mappings addrs (addr ∷ []) (addrs ++ addr ∷ []) answers answers_mid answers_now
@@ -373,6 +383,7 @@ module _ {R X : Type 0} (files : Ghosts X) (test : Test R) (translates : Transla
       addrs_are = append-nil _ ∙ front.addrs_are;
       all = refl;
       allowed = front.allowed;
+      some = front.some;
       step = rw append-nil front.step;
     }
 
@@ -386,6 +397,7 @@ module _ {R X : Type 0} (files : Ghosts X) (test : Test R) (translates : Transla
       addrs_are = ap (λ (xs : List ℕ). xs ++ (addr ∷ rest)) front.addrs_are ∙ whole_is;
       all = tt;
       allowed = all_longer test translates finds opts mappings answers answers_mid answers_now front.front keeps front.allowed;
+      some = tt;
       step = step_fails files asked mappings front.front addr one.said rest given result e old mid now before middle after front.step one.step failure looked;
     }
 
@@ -400,4 +412,4 @@ module _ {R X : Type 0} (files : Ghosts X) (test : Test R) (translates : Transla
     -- memory ran out before any address was asked
     pub none_asked : (addrs : List ℕ) (kept : ProcessCaches) (answers : Answers R) (at : X) → All addrs (Err errors.OutOfMemory) kept kept answers answers at at
     none_asked addrs kept answers at =
-        record { front = []; rest = addrs; addrs_are = refl; all = tt; allowed = tt; step = wants_memory files asked.own read (at_addresses asked mappings (map unsaid addrs)) kept at }
+        record { front = []; rest = addrs; addrs_are = refl; all = tt; allowed = tt; some = tt; step = wants_memory files asked.own read (at_addresses asked mappings (map unsaid addrs)) kept at }

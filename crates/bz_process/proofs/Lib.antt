@@ -17,4 +17,5 @@ pub mod ReachLemmas
 pub mod ReadsLemmas
 pub mod RememberedLemmas
 pub mod StepLemmas
+pub mod UntoldLemmas
 pub mod ViewLemmas

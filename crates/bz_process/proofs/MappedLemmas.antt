@@ -23,6 +23,7 @@ use Rattle.bz_process.specs.ProcessAsk.{AddsAmong, AsksAll, AsksOne, IsSaidAt}
 use Rattle.bz_process.specs.ProcessCall.{TakesStep, UnlessFailed}
 use Rattle.bz_process.specs.Asked.{Asked}
 use Rattle.bz_process.specs.Caches.{ProcessCaches}
+use Rattle.bz_process.specs.Untold.{SomeAtAddress, as_read}
 use Rattle.bz_process.proofs.AskLemmas.{read, unless}
 use Rattle.bz_process.proofs.ProcessLemmas.{in_order, opened_by, reaches_same, refused, stays, still, unlooked, wants_memory}
 
@@ -131,7 +132,7 @@ module _ {R X : Type 0} (files : Ghosts X) (test : Test R) (translates : Transla
   asks_mapped mappings result old now answers answers_now before middle after one used all keeps adds = record {
     mappings = mappings;
     mapped = λ world seen. on_ok result _ (one.told world seen).answer;
-    used = inl used;
+    used = inl (used, all.some);
     tied = λ world seen. inl (one.told world seen).answer;
     front = all.front;
     rest = all.rest;
@@ -168,12 +169,12 @@ module _ {R X : Type 0} (files : Ghosts X) (test : Test R) (translates : Transla
   -- the mappings, and then the address
   pub asks_mapped_at : (mappings : List Mapping) (result : Result Symbolized Error) (old now : ProcessCaches) (answers answers_now : Answers R) (before middle after : X) →
       TakesStep files asked.own (λ (k : List Mapping). k) (some_mappings asked.pid known) (Ok mappings) old old before middle → AreUsed asked.pid known mappings →
-      AsksOne files asked.own reading (IsSaidAt test translates finds opts mappings addr answers answers_now) (λ said. at_address asked mappings (addr, said)) result old now middle after →
+      AsksOne files asked.own reading (IsSaidAt test translates finds opts mappings addr answers answers_now) (λ said. SomeAtAddress asked (as_read reading result) old now mappings (addr, said)) (λ said. at_address asked mappings (addr, said)) result old now middle after →
       Keeps answers answers_now → AddsAmong test mappings (addr ∷ []) answers answers_now → AsksAt result old now answers answers_now before after
   asks_mapped_at mappings result old now answers answers_now before middle after one used asks keeps adds = record {
     mappings = mappings;
     mapped = λ world seen. unless result _ (λ told is. let same : Ok told ≡ Ok mappings = sym is ∙ (one.told world seen).answer in cc same);
-    used = inl used;
+    used = inl (used, asks.some);
     tied = λ world seen. inl (one.told world seen).answer;
     said = asks.said;
     allowed = asks.allowed;

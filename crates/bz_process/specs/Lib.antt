@@ -14,3 +14,4 @@ pub mod Processes
 pub mod Reached
 pub mod Reads
 pub mod Remembered
+pub mod Untold

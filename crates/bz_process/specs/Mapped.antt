@@ -1,5 +1,5 @@
 -- The mappings that a process is answered by: the kept ones, else those of the text that lies there.
-use Rattle.std.specs.Prelude.{◌≡◌, ◌⊎◌, ℕ, List, [], ◌∷◌, ◌++◌, map, Option, Some, None, Result, Ok, Err, IfErr, IsErr, OnOk}
+use Rattle.std.specs.Prelude.{◌≡◌, ◌⊎◌, ℕ, List, [], ◌∷◌, ◌++◌, map, Option, Some, None, Result, Ok, Err, IfErr, IfOk, IsErr, OnOk}
 use Rattle.std.specs.List.{AllByRecursion}
 use Rattle.bz_base.specs.Answer.{Answer}
 use Rattle.bz_base.specs.declared.error.Error.{Error}
@@ -19,6 +19,7 @@ use Rattle.bz_process.specs.ProcessAsk.{AddsAmong, IsSaidAt}
 use Rattle.bz_process.specs.ProcessCall.{TakesStep, UnlessFailed}
 use Rattle.bz_process.specs.Asked.{Asked}
 use Rattle.bz_process.specs.Caches.{ProcessCaches}
+use Rattle.bz_process.specs.Untold.{SomeAtAddress, SomeAtAddresses, as_read}
 
 -- what a text at a path tells
 abbrev pub of_text : {B : Type 0} → (Option Entry → Result B Error) → List ℕ → Step B
@@ -68,9 +69,9 @@ pub record RefusedUnmapped {A R : Type 0} (kept : Option (List Mapping)) (result
   pub unchanged : now ≡ old
   pub unsaid : answers_now ≡ answers
 
--- whatever is told: the call went by these mappings, or was refused before it had any
-abbrev pub UsesMappings : {A R : Type 0} → Pid → Option (List Mapping) → List Mapping → Result A Error → ProcessCaches → ProcessCaches → Answers R → Answers R → Type 0
-UsesMappings pid kept mappings result old now answers answers_now = AreUsed pid kept mappings ⊎ RefusedUnmapped kept result old now answers answers_now
+-- whatever is told: the call went by these mappings, and what it did follows from them, or it was refused before it had any
+abbrev pub UsesMappings : {A R : Type 0} → Type 0 → Pid → Option (List Mapping) → List Mapping → Result A Error → ProcessCaches → ProcessCaches → Answers R → Answers R → Type 0
+UsesMappings Follows pid kept mappings result old now answers answers_now = (AreUsed pid kept mappings × Follows) ⊎ RefusedUnmapped kept result old now answers answers_now
 
 -- all that is asked of a process: its mappings, and the addresses one after another
 abbrev pub asks_process : Asked → Option (List Mapping) → List (ℕ × Said) → Step (List Answer)
@@ -81,8 +82,6 @@ pub record AsksProcess {A R X : Type 0} (files : Ghosts X) (reading : A → List
     (asked : Asked) (kept : Option (List Mapping)) (addrs : List ℕ) (result : Result A Error) (old now : ProcessCaches) (answers answers_now : Answers R) (before after : X) : Type 0 where
   pub mappings : List Mapping
   pub mapped : Told (in_view (files.worlds before)) (λ world. OnOk result ((some_mappings asked.pid kept world old).answer ≡ Ok mappings))
-  -- whatever is told, they are the kept ones, or else those of some text
-  pub used : UsesMappings asked.pid kept mappings result old now answers answers_now
   -- also after a refusal or a failure, unless no answer was added
   pub tied : Told (in_view (files.worlds before)) (λ world. ((some_mappings asked.pid kept world old).answer ≡ Ok mappings) ⊎ (answers_now ≡ answers))
   pub front : List (ℕ × Said)
@@ -90,6 +89,9 @@ pub record AsksProcess {A R X : Type 0} (files : Ghosts X) (reading : A → List
   pub addrs_are : map (λ item. item.0) front ++ rest ≡ addrs
   pub all : OnOk result (rest ≡ [])
   pub allowed : AllByRecursion (λ item. IsSaidAt test translates finds opts mappings item.0 answers answers_now item.1) front
+  -- whatever is told, the mappings are the kept ones, or else those of some text, and each answer is by some version that a look
+  -- gave, or refused as a look is
+  pub used : UsesMappings (IfOk result (λ given. SomeAtAddresses asked mappings front (reading given) old now)) asked.pid kept mappings result old now answers answers_now
   -- kept answers stay, and others are added for owners of these addresses alone
   pub keeps : Keeps answers answers_now
   pub adds : AddsAmong test mappings addrs answers answers_now
@@ -104,12 +106,13 @@ pub record AsksProcessAt {A R X : Type 0} (files : Ghosts X) (reading : A → An
     (asked : Asked) (kept : Option (List Mapping)) (addr : ℕ) (result : Result A Error) (old now : ProcessCaches) (answers answers_now : Answers R) (before after : X) : Type 0 where
   pub mappings : List Mapping
   pub mapped : Told (in_view (files.worlds before)) (λ world. UnlessFailed result ((told : List Mapping) → (some_mappings asked.pid kept world old).answer ≡ Ok told → told ≡ mappings))
-  -- whatever is told, they are the kept ones, or else those of some text
-  pub used : UsesMappings asked.pid kept mappings result old now answers answers_now
   -- also after a refusal or a failure, unless no answer was added
   pub tied : Told (in_view (files.worlds before)) (λ world. ((some_mappings asked.pid kept world old).answer ≡ Ok mappings) ⊎ (answers_now ≡ answers))
   pub said : Said
   pub allowed : UnlessFailed result (IsSaidAt test translates finds opts mappings addr answers answers_now said)
+  -- whatever is told, the mappings are the kept ones, or else those of some text, and the answer is by some version that a look
+  -- gave, or refused as a look is
+  pub used : UsesMappings (SomeAtAddress asked (as_read reading result) old now mappings (addr, said)) asked.pid kept mappings result old now answers answers_now
   pub keeps : Keeps answers answers_now
   pub adds : AddsAmong test mappings (addr ∷ []) answers answers_now
   pub step : TakesStep files asked.own reading (asks_process_at asked kept (addr, said)) result old now before after

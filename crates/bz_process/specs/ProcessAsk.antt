@@ -1,5 +1,5 @@
 -- What a call asks of a process with a dispatcher: what was said for each address, and what the steps are then.
-use Rattle.std.specs.Prelude.{◌≡◌, ◌⊎◌, ℕ, true, List, [], ◌++◌, map, Option, Some, None, Result, Ok, OnOk, Contains}
+use Rattle.std.specs.Prelude.{◌≡◌, ◌⊎◌, ℕ, true, List, [], ◌++◌, map, Option, Some, None, Result, Ok, IfOk, OnOk, Contains}
 use Rattle.std.specs.BTreeMap.{is_at}
 use Rattle.std.specs.List.{AllByRecursion}
 use Rattle.bz_base.specs.Answer.{Answer}
@@ -17,12 +17,15 @@ use Rattle.bz_process.specs.Process.{Said, Step, at_addresses, unsaid}
 use Rattle.bz_process.specs.ProcessCall.{TakesStep, UnlessFailed}
 use Rattle.bz_process.specs.Asked.{Asked}
 use Rattle.bz_process.specs.Caches.{ProcessCaches}
+use Rattle.bz_process.specs.Untold.{SomeAtAddresses}
 
--- something allowed was said, and the step is the one that is expected then; after a failure nothing needs to have been said
-pub record AsksOne {A B X : Type 0} (files : Ghosts X) (own : ℕ) (reading : A → B) (IsAllowed : Said → Type 0) (expected : Said → Step B) (result : Result A Error)
+-- something allowed was said, and the step is the one that is expected then; after a failure nothing needs to have been said.
+-- Where nothing is told, what was given and is left is what may be shown then
+pub record AsksOne {A B X : Type 0} (files : Ghosts X) (own : ℕ) (reading : A → B) (IsAllowed Shows : Said → Type 0) (expected : Said → Step B) (result : Result A Error)
     (old now : ProcessCaches) (before after : X) : Type 0 where
   pub said : Said
   pub allowed : UnlessFailed result (IsAllowed said)
+  pub some : Shows said
   pub step : TakesStep files own reading (expected said) result old now before after
 
 module _ {R : Type 0} (test : Test R) (translates : Translates R) (finds : Finds R) (opts : FindSymOpts) where
@@ -69,6 +72,8 @@ pub record AsksAll {A R X : Type 0} (files : Ghosts X) (reading : A → List Ans
   pub addrs_are : map (λ item. item.0) front ++ rest ≡ addrs
   pub all : OnOk result (rest ≡ [])
   pub allowed : AllByRecursion (λ item. IsSaidAt test translates finds opts mappings item.0 answers answers_now item.1) front
+  -- whatever is told, each answer is by some version that a look gave, or refused as a look is
+  pub some : IfOk result (λ given. SomeAtAddresses asked mappings front (reading given) old now)
   pub step : TakesStep files asked.own reading (at_addresses asked mappings (front ++ map unsaid rest)) result old now before after
 
 -- these addresses were asked and answered, and something allowed was said for each
@@ -77,6 +82,7 @@ pub record AsksFront {A R X : Type 0} (files : Ghosts X) (reading : A → List A
   pub front : List (ℕ × Said)
   pub addrs_are : map (λ item. item.0) front ≡ addrs
   pub allowed : AllByRecursion (λ item. IsSaidAt test translates finds opts mappings item.0 answers answers_now item.1) front
+  pub some : SomeAtAddresses asked mappings front (reading given) old now
   pub step : TakesStep files asked.own reading (at_addresses asked mappings front) (Ok given) old now before after
   pub keeps : Keeps answers answers_now
   pub adds : AddsAmong test mappings addrs answers answers_now

@@ -8,6 +8,7 @@ ghost use Rattle.bz_process.specs.Caches.{caches};
 ghost use Rattle.bz_process.specs.Dispatch.{Adds, IsSaid, Keeps};
 ghost use Rattle.bz_process.specs.Process.{at_address, by_mapping, by_said};
 ghost use Rattle.bz_process.specs.ProcessAsk.{AddsAmong, AddsIn, AsksAll, AsksOne, IsSaidAt, IsSaidIn};
+ghost use Rattle.bz_process.specs.Untold.{SomeAtAddress, SomeByMapping, SomeBySaid, as_read};
 ghost use Rattle.bz_process.specs.declared.perf_maps.PerfMaps.{PerfMaps};
 
 use crate::dispatch::ProcessDispatch;
@@ -71,7 +72,7 @@ pub(crate) fn answer_at<D: ProcessDispatch + Drop, F: Files>(
     mappings: &Mappings,
     addr: Addr,
 ) -> Result<Symbolized<'static>>
-    ensures asks { AsksOne F.Files (F.pid files.old) reading (IsSaidAt (D.may_dispatch dispatching.old.dispatch) D.Resolver.TranslateFileOffset D.Resolver.Symbolize opts.now mappings.now addr dispatching.old.answers dispatching.new.answers) (λ said. at_address (asked_of (F.pid files.old) query.now) mappings.now (addr, said)) result (caches elf.old perf_maps.old) (caches elf.new perf_maps.new) files.old files.new }
+    ensures asks { AsksOne F.Files (F.pid files.old) reading (IsSaidAt (D.may_dispatch dispatching.old.dispatch) D.Resolver.TranslateFileOffset D.Resolver.Symbolize opts.now mappings.now addr dispatching.old.answers dispatching.new.answers) (λ said. SomeAtAddress (asked_of (F.pid files.old) query.now) (as_read reading result) (caches elf.old perf_maps.old) (caches elf.new perf_maps.new) mappings.now (addr, said)) (λ said. at_address (asked_of (F.pid files.old) query.now) mappings.now (addr, said)) result (caches elf.old perf_maps.old) (caches elf.new perf_maps.new) files.old files.new }
     ensures keeps { Keeps dispatching.old.answers dispatching.new.answers }
     ensures adds { AddsAmong (D.may_dispatch dispatching.old.dispatch) mappings.now (addr ∷ []) dispatching.old.answers dispatching.new.answers }
     ensures dispatch { dispatching.new.dispatch ≡ dispatching.old.dispatch }
@@ -104,7 +105,7 @@ fn in_mapping<D: ProcessDispatch + Drop, F: Files>(
     entry: &MapsEntry,
     addr: Addr,
 ) -> Result<Symbolized<'static>>
-    ensures asks { AsksOne F.Files (F.pid files.old) reading (IsSaidIn (D.may_dispatch dispatching.old.dispatch) D.Resolver.TranslateFileOffset D.Resolver.Symbolize opts.now (mapping_of entry.now) (mapping_of entry.now).name addr dispatching.old.answers dispatching.new.answers) (λ said. by_mapping (asked_of (F.pid files.old) query.now) (mapping_of entry.now) addr said (mapping_of entry.now).name) result (caches elf.old perf_maps.old) (caches elf.new perf_maps.new) files.old files.new }
+    ensures asks { AsksOne F.Files (F.pid files.old) reading (IsSaidIn (D.may_dispatch dispatching.old.dispatch) D.Resolver.TranslateFileOffset D.Resolver.Symbolize opts.now (mapping_of entry.now) (mapping_of entry.now).name addr dispatching.old.answers dispatching.new.answers) (λ said. SomeByMapping (asked_of (F.pid files.old) query.now) (as_read reading result) (caches elf.old perf_maps.old) (caches elf.new perf_maps.new) (mapping_of entry.now) addr said (mapping_of entry.now).name) (λ said. by_mapping (asked_of (F.pid files.old) query.now) (mapping_of entry.now) addr said (mapping_of entry.now).name) result (caches elf.old perf_maps.old) (caches elf.new perf_maps.new) files.old files.new }
     ensures keeps { Keeps dispatching.old.answers dispatching.new.answers }
     ensures adds { AddsIn (D.may_dispatch dispatching.old.dispatch) (mapping_of entry.now) dispatching.old.answers dispatching.new.answers }
     ensures dispatch { dispatching.new.dispatch ≡ dispatching.old.dispatch }
@@ -137,7 +138,7 @@ fn in_member<D: ProcessDispatch + Drop, F: Files>(
     name: &PathName,
     addr: Addr,
 ) -> Result<Symbolized<'static>>
-    ensures asks { (own : ℕ) (kept : PerfMaps) → AsksOne F.Files own reading (IsSaid (D.may_dispatch dispatching.old.dispatch) D.Resolver.TranslateFileOffset D.Resolver.Symbolize opts.now (mapping_of entry.now) name.now addr dispatching.old.answers dispatching.new.answers) (by_said (asked_of own query.now) (mapping_of entry.now) addr (name_of name.now)) result (caches elf.old kept) (caches elf.new kept) files.old files.new }
+    ensures asks { (own : ℕ) (kept : PerfMaps) → AsksOne F.Files own reading (IsSaid (D.may_dispatch dispatching.old.dispatch) D.Resolver.TranslateFileOffset D.Resolver.Symbolize opts.now (mapping_of entry.now) name.now addr dispatching.old.answers dispatching.new.answers) (SomeBySaid (asked_of own query.now) (as_read reading result) (caches elf.old kept) (caches elf.new kept) (mapping_of entry.now) addr (name_of name.now)) (by_said (asked_of own query.now) (mapping_of entry.now) addr (name_of name.now)) result (caches elf.old kept) (caches elf.new kept) files.old files.new }
     ensures keeps { Keeps dispatching.old.answers dispatching.new.answers }
     ensures adds { Adds (D.may_dispatch dispatching.old.dispatch) (mapping_of entry.now) name.now dispatching.old.answers dispatching.new.answers }
     ensures dispatch { dispatching.new.dispatch ≡ dispatching.old.dispatch }

@@ -10,6 +10,7 @@ ghost use Rattle.bz_process.specs.Asked.{asked_of};
 ghost use Rattle.bz_process.specs.Caches.{caches};
 ghost use Rattle.bz_process.specs.Process.{asks_elf, by_name, elf_at, elf_by_table, offset_in};
 ghost use Rattle.bz_process.specs.ProcessCall.{TakesStep};
+ghost use Rattle.bz_process.specs.Untold.{SomeByName, as_read};
 ghost use Rattle.bz_process.specs.declared.perf_maps.PerfMaps.{PerfMaps};
 
 use crate::query::ProcessQuery;
@@ -34,7 +35,8 @@ pub(crate) fn named<F: Files>(
     name: &PathName,
     addr: Addr,
 ) -> Result<Symbolized<'static>>
-    ensures { (own : ℕ) (kept : PerfMaps) → TakesStep F.Files own reading (by_name (asked_of own query.now) (mapping_of entry.now) addr (name_of name.now)) result (caches elf.old kept) (caches elf.new kept) files.old files.new }
+    ensures step { (own : ℕ) (kept : PerfMaps) → TakesStep F.Files own reading (by_name (asked_of own query.now) (mapping_of entry.now) addr (name_of name.now)) result (caches elf.old kept) (caches elf.new kept) files.old files.new }
+    ensures some { (own : ℕ) (kept : PerfMaps) → SomeByName (asked_of own query.now) (as_read reading result) (caches elf.old kept) (caches elf.new kept) (mapping_of entry.now) addr (name_of name.now) }
 {
     match name {
         PathName::Component(_) => Ok(Symbolized::Unknown(Reason::Unsupported)),

@@ -10,13 +10,14 @@ ghost use Rattle.bz_cache.specs.InsertMap.{value_at, with_absent};
 ghost use Rattle.bz_calls.specs.FileCall.{CallsFile};
 ghost use Rattle.bz_files.specs.Looked.{Faulted, Looked, ReadsOne};
 ghost use Rattle.bz_files.specs.World.{Told, entry_at, in_view};
-ghost use Rattle.bz_proc.specs.PerfId.{ns_tgid_of, status_path};
-ghost use Rattle.bz_proc.specs.SystemText.{has_file};
+ghost use Rattle.bz_proc.specs.PerfId.{IsOfStatus, ns_tgid_of, status_path};
+ghost use Rattle.bz_proc.specs.SystemText.{IsReadRefusal, has_file};
 ghost use Rattle.bz_proc.specs.PerfMap as perf;
 ghost use Rattle.bz_process.specs.Asked.{asked_of};
 ghost use Rattle.bz_process.specs.Caches.{caches};
 ghost use Rattle.bz_process.specs.Process.{and_then, asks_perf_map, by_asked, by_perf_map, of_perf_map, pid_cmp, remember, remembered};
 ghost use Rattle.bz_process.specs.ProcessCall.{TakesStep, softened};
+ghost use Rattle.bz_process.specs.Untold.{IsKnown, LooksAtPerfMap, LooksSoftly, MayLackId, SomeByAsked, as_read};
 
 use crate::known::Known;
 use crate::query::ProcessQuery;
@@ -45,7 +46,8 @@ impl PerfMaps {
         query: &ProcessQuery,
         addr: Addr,
     ) -> Result<Symbolized<'static>>
-        ensures { (elf : Cache) → TakesStep F.Files (F.pid files.old) reading (by_asked query.now.perf_map (asked_of (F.pid files.old) query.now) addr) result (caches elf self.old) (caches elf self.new) files.old files.new }
+        ensures step { (elf : Cache) → TakesStep F.Files (F.pid files.old) reading (by_asked query.now.perf_map (asked_of (F.pid files.old) query.now) addr) result (caches elf self.old) (caches elf self.new) files.old files.new }
+        ensures some { (elf : Cache) → SomeByAsked (asked_of (F.pid files.old) query.now) (as_read reading result) (caches elf self.old) (caches elf self.new) query.now.perf_map addr }
     {
         if query.perf_map {
             self.in_perf_map(alloc, files, query.pid, addr)
@@ -62,7 +64,8 @@ impl PerfMaps {
         pid: Pid,
         addr: Addr,
     ) -> Result<Symbolized<'static>>
-        ensures { (elf : Cache) → TakesStep F.Files (F.pid files.old) reading (by_perf_map pid (F.pid files.old) addr) result (caches elf self.old) (caches elf self.new) files.old files.new }
+        ensures step { (elf : Cache) → TakesStep F.Files (F.pid files.old) reading (by_perf_map pid (F.pid files.old) addr) result (caches elf self.old) (caches elf self.new) files.old files.new }
+        ensures some { (elf : Cache) → LooksSoftly (as_read reading result) (caches elf self.old) (caches elf self.new) pid (F.pid files.old) addr }
     {
         unless_absent(self.look_in_perf_map(alloc, files, pid, addr))
     }
@@ -75,7 +78,8 @@ impl PerfMaps {
         pid: Pid,
         addr: Addr,
     ) -> Result<Symbolized<'static>>
-        ensures { (elf : Cache) → TakesStep F.Files (F.pid files.old) reading (and_then (remember pid (F.pid files.old)) (λ known. of_perf_map (asks_perf_map addr) known.perf_map)) result (caches elf self.old) (caches elf self.new) files.old files.new }
+        ensures step { (elf : Cache) → TakesStep F.Files (F.pid files.old) reading (and_then (remember pid (F.pid files.old)) (λ known. of_perf_map (asks_perf_map addr) known.perf_map)) result (caches elf self.old) (caches elf self.new) files.old files.new }
+        ensures some { (elf : Cache) → LooksAtPerfMap (as_read reading result) (caches elf self.old) (caches elf self.new) pid (F.pid files.old) addr }
     {
         let known = self.known(alloc, files, pid)?;
         perf_map_answer(&mut self.files, alloc, files, known.perf_map(), addr)
@@ -92,6 +96,8 @@ impl PerfMaps {
         ensures step { (elf : Cache) → TakesStep F.Files (F.pid files.old) (λ known. known) (remember pid (F.pid files.old)) result (caches elf self.old) (caches elf self.new) files.old files.new }
         ensures ok { IfOk result (λ known. self.new ≡ record self.old { ids = with_absent pid_cmp self.old.ids pid known }) }
         ensures err { OnErr result (self.new ≡ self.old) }
+        ensures some { IfOk result (IsKnown pid (F.pid files.old) (value_at pid_cmp self.old.ids pid)) }
+        ensures refusal { IfErr result (MayLackId (value_at pid_cmp self.old.ids pid)) }
     {
         match self.ids.get(&pid) {
             Some(known) => known.share(),
@@ -105,6 +111,8 @@ impl PerfMaps {
         ensures step { (elf : Cache) → TakesStep F.Files (F.pid files.old) (λ known. known) (remember pid (F.pid files.old)) result (caches elf self.old) (caches elf self.new) files.old files.new }
         ensures ok { IfOk result (λ known. self.new ≡ record self.old { ids = with_absent pid_cmp self.old.ids pid known }) }
         ensures err { OnErr result (self.new ≡ self.old) }
+        ensures some { IfOk result (IsKnown pid (F.pid files.old) None) }
+        ensures refusal { IfErr result IsReadRefusal }
     {
         let known = read_known(alloc, files, pid)?;
         let shared = known.share()?;
@@ -117,6 +125,8 @@ impl PerfMaps {
 fn read_known<F: Files>(alloc: Global, files: &mut F, pid: Pid) -> Result<Known>
     ensures answer { Told (in_view (F.worlds files.old)) (λ world. Comes (λ known. known.id) (ns_tgid_of pid (F.pid files.old) (entry_at world (status_path pid))) result) }
     ensures known { IfOk result (λ known. known ≡ remembered pid (F.pid files.old) known.id) }
+    ensures some { IfOk result (λ known. IsOfStatus pid (F.pid files.old) known.id) }
+    ensures refusal { IfErr result IsReadRefusal }
     ensures spared { Told (in_view (F.worlds files.old)) (λ world. has_file (entry_at world (status_path pid)) ≡ false → F.opens files.new ≡ F.opens files.old) }
     ensures most { ReadsOne F.Files files.old files.new }
     ensures files { Looked F.Files files.old files.new (Faulted result) }

@@ -25,4 +25,4 @@ returns-in-None-clause-asks g c =
     let none : option_map name_of c.args.entry.now.path_name ≡ None = ap (option_map name_of) c.in-None.is in
     in_unnamed g.F.Files (g.D.ProcessDispatch.may_dispatch c.args.dispatching.now.dispatch) g.D.Resolver.TranslateFileOffset g.D.Resolver.Symbolize c.args.opts.now (asked_of (g.F.Files.pid c.args.files.now) c.args.query.now)
     (mapping_of c.args.entry.now) _ c.args.addr c.unnamed.result (caches c.args.elf.now c.args.perf_maps.now) (caches c.args.elf.now c.unnamed.new.self) c.args.dispatching.now.answers c.args.files.now c.unnamed.new.files
-    none (c.unnamed.ensures c.args.elf.now)
+    none (c.unnamed.ensures.step c.args.elf.now) (c.unnamed.ensures.some c.args.elf.now)

@@ -12,6 +12,7 @@ pub returns-in-Ok-Some-clause-asks : goal.returns-in-Ok-Some-clause-asks
 returns-in-Ok-Some-clause-asks g c own kept = record {
   said = Some (Ok (reading c.in-Ok-Some.answer));
   allowed = (rw c.in-Ok-Some.field-0-is at c.in-Ok-Some.ensures).said;
+  some = (refl, refl);
   step = says g.F.Files (asked_of own c.args.query.now) (mapping_of c.args.entry.now) c.args.addr (name_of c.args.name.now) (Ok (reading c.in-Ok-Some.answer)) (Ok c.in-Ok-Some.answer) (caches c.args.elf.now kept) c.args.files.now refl (λ none. none);
 }
 
@@ -20,6 +21,7 @@ pub returns-in-Err-clause-asks : goal.returns-in-Err-clause-asks
 returns-in-Err-clause-asks g c own kept = record {
   said = Some (Err c.in-Err.error);
   allowed = unless_same (Option Symbolized) Symbolized c.in-Err.error _ c.in-Err.ensures.said;
+  some = (refl, refl);
   step = says_refusal g.F.Files (asked_of own c.args.query.now) (mapping_of c.args.entry.now) c.args.addr (name_of c.args.name.now) c.in-Err.error (caches c.args.elf.now kept) c.args.files.now c.in-Err.ensures.faultless;
 }
 
@@ -28,5 +30,6 @@ pub returns-in-Ok-None-clause-asks : goal.returns-in-Ok-None-clause-asks
 returns-in-Ok-None-clause-asks g c own kept = record {
   said = None;
   allowed = unless c.named.result _ (rw c.in-Ok-None.field-0-is at c.in-Ok-None.ensures).said;
-  step = c.named.ensures own kept;
+  some = c.named.ensures.some own kept;
+  step = c.named.ensures.step own kept;
 }

@@ -5,9 +5,16 @@ use Rattle.bz_process.proofs.ProcessLemmas.{still}
 use Rattle.bz_process.proofs.perf_maps.PerfMaps.unnamed.Goals as goal
 
 -- the perf map isn't asked
-pub returns-else-query : goal.returns-else-query
-returns-else-query g c elf = rw c.if-query.false (still g.F.Files (g.F.Files.pid c.args.files.now) reading _ _ (caches elf c.args.self.now) c.args.files.now refl)
+pub returns-else-query-clause-step : goal.returns-else-query-clause-step
+returns-else-query-clause-step g c elf = rw c.if-query.false (still g.F.Files (g.F.Files.pid c.args.files.now) reading _ _ (caches elf c.args.self.now) c.args.files.now refl)
 
 -- the perf map is asked
-pub returns-then-query : goal.returns-then-query
-returns-then-query g c elf = rw c.if-query.true (c.in_perf_map.ensures elf)
+pub returns-then-query-clause-step : goal.returns-then-query-clause-step
+returns-then-query-clause-step g c elf = rw c.if-query.true (c.in_perf_map.ensures.step elf)
+
+-- the same where files tell nothing
+pub returns-else-query-clause-some : goal.returns-else-query-clause-some
+returns-else-query-clause-some g c elf = rw c.if-query.false (refl, refl)
+
+pub returns-then-query-clause-some : goal.returns-then-query-clause-some
+returns-then-query-clause-some g c elf = rw c.if-query.true (c.in_perf_map.ensures.some elf)
