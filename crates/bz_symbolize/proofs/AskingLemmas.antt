@@ -72,11 +72,11 @@ module _ (own : ℕ) (world : World) where
       LooksLead world (record state { elf = old.elf }) (record state { elf = now.elf }) old.perf_maps now.perf_maps
   looks_lead changes state old now told leads =
       subst (λ (k : ProcessCaches). LooksLead world (record state { elf = old.elf }) (record state { elf = k.elf }) old.perf_maps k.perf_maps) (sym leads)
-      (record { looks = looks_of changes; are_looks = are_looks_of changes; files = reach_files changes state old told; perf_maps = reach_perf_maps changes old told })
+      (record { calls = looks_of changes; are_of_kind = are_looks_of changes; files = reach_files changes state old told; perf_maps = reach_perf_maps changes old told })
 
 -- no look leads anywhere
 no_looks : (world : World) (state : State) (perf_maps : Cache) → LooksLead world state state perf_maps perf_maps
-no_looks world state perf_maps = record { looks = []; are_looks = tt; files = refl; perf_maps = refl }
+no_looks world state perf_maps = record { calls = []; are_of_kind = tt; files = refl; perf_maps = refl }
 
 -- what a call on a process does to files, whatever is asked
 pub record LeavesFiles {A X : Type 0} (files : Ghosts X) (result : Result A Error) (state : State) (elf_now perf_maps perf_maps_now : Cache) (before after : X) : Type 0 where

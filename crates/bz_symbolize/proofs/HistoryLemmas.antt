@@ -7,13 +7,13 @@ use Rattle.bz_files.specs.World.{World, entry_at}
 use Rattle.bz_cache.specs.Cache.{Cache, new_cache}
 use Rattle.bz_files.specs.Agreement.{Agree}
 use Rattle.bz_cache.specs.Coherence.{Coherent, CoherentWithAll}
-use Rattle.bz_cache.proofs.CoherenceLaws.{insertion_coherent, look_coherent, new_coherent}
+use Rattle.bz_cache.proofs.CoherenceLaws.{evicted_coherent, insertion_coherent, look_coherent, new_coherent}
 use Rattle.bz_breakpad.specs.Version.{format_test}
 use Rattle.bz_elf.specs.Format as elf
 use Rattle.bz_gsym.specs.Version as gsym
 use Rattle.bz_symbolize.specs.FileCall.{file_cache}
 use Rattle.bz_proc.specs.PerfMap as perf
-use Rattle.bz_symbolize.specs.History.{Call, LookAtElf, LookAtPerfMap, Symbolize, Register, RegistersTruly, Coheres, MayLeave, MayReach, PerfMapsMayLeave, PerfMapsMayReach, perf_maps_after, state_after}
+use Rattle.bz_symbolize.specs.History.{Call, Symbolize, Register, LookAtElf, PinElf, ForgetElf, LookAtPerfMap, PinPerfMap, ForgetPerfMap, RegistersTruly, Coheres, MayLeave, MayReach, PerfMapsMayLeave, PerfMapsMayReach, perf_maps_after, state_after}
 use Rattle.bz_symbolize.specs.Sources.{is_in_file, is_in_table}
 use Rattle.bz_symbolize.specs.State.{Settings, State, new_state}
 use Rattle.bz_symbolize.specs.declared.source.Source.TheVariants as sources
@@ -76,7 +76,11 @@ module _ (worlds : List World) (agree : Agree worlds) where
   read_after (Symbolize (sources.Process source) kind) s w has _ coherent = coherent
   read_after (Register path bytes) s w has _ coherent = coherent
   read_after (LookAtElf path) s w has _ coherent = coherent
+  read_after (PinElf pinned path) s w has _ coherent = coherent
+  read_after (ForgetElf path) s w has _ coherent = coherent
   read_after (LookAtPerfMap path) s w has _ coherent = coherent
+  read_after (PinPerfMap pinned path) s w has _ coherent = coherent
+  read_after (ForgetPerfMap path) s w has _ coherent = coherent
 
   elf_after : (call : Call) (s : State) (w : World) → Contains worlds w → RegistersTruly w call → ElfCoheres s → ElfCoheres (state_after s w call)
   elf_after (Symbolize (sources.Elf source) kind) s w has truly coherent = after_file elf.format_test true s.elf (string_bytes source.path) w has coherent
@@ -85,7 +89,11 @@ module _ (worlds : List World) (agree : Agree worlds) where
   elf_after (Symbolize (sources.Gsym (gsyms.Data source)) kind) s w has truly coherent = coherent
   elf_after (Symbolize (sources.Process source) kind) s w has truly coherent = coherent
   elf_after (LookAtElf path) s w has truly coherent = after_file elf.format_test true s.elf path w has coherent
+  elf_after (PinElf pinned path) s w has truly coherent = coherent
+  elf_after (ForgetElf path) s w has truly coherent = λ v has_v. evicted_coherent s.elf v path (coherent v has_v)
   elf_after (LookAtPerfMap path) s w has truly coherent = coherent
+  elf_after (PinPerfMap pinned path) s w has truly coherent = coherent
+  elf_after (ForgetPerfMap path) s w has truly coherent = coherent
   elf_after (Register path bytes) s w has truly coherent =
       λ v has_v. insertion_coherent elf.format_test s.elf w v path (agree w v has has_v) (coherent v has_v) bytes truly
 
@@ -95,7 +103,11 @@ module _ (worlds : List World) (agree : Agree worlds) where
   perf_map_after (Symbolize source kind) c w has coherent = coherent
   perf_map_after (Register path bytes) c w has coherent = coherent
   perf_map_after (LookAtElf path) c w has coherent = coherent
+  perf_map_after (PinElf pinned path) c w has coherent = coherent
+  perf_map_after (ForgetElf path) c w has coherent = coherent
   perf_map_after (LookAtPerfMap path) c w has coherent = after_file worlds agree perf.format_test true c path w has coherent
+  perf_map_after (PinPerfMap pinned path) c w has coherent = coherent
+  perf_map_after (ForgetPerfMap path) c w has coherent = λ v has_v. evicted_coherent c v path (coherent v has_v)
 
   perf_map_step : (call : Call) (c now : Cache) (w : World) → Contains worlds w → CoherentWithAll c.kept worlds → PerfMapsMayLeave c w call now → CoherentWithAll now.kept worlds
   perf_map_step call c now w has before (inl same) = subst (λ (k : Cache). CoherentWithAll k.kept worlds) (sym same) before

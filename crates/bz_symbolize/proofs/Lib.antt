@@ -2,13 +2,16 @@ pub use Rattle.bz_calls.proofs.FileLemmas
 pub mod AlikeLemmas
 pub mod AskingLemmas
 pub mod BatchLemmas
+pub mod CachingLemmas
 pub mod CallLemmas
 pub mod ElfLemmas
+pub mod EvictingLemmas
 pub mod Formats
 pub mod FoundLemmas
 pub mod GsymLemmas
 pub mod HeldLemmas
 pub mod HistoryLemmas
+pub mod InViewLemmas
 pub mod LeaveLemmas
 pub mod NewLemmas
 pub mod PromiseLemmas

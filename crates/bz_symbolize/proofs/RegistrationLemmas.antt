@@ -1,14 +1,16 @@
 -- What comes of a registration.
-use Rattle.std.proofs.Common.{◌≡◌, ℕ, Bool, true, false, not, ◌||◌, cond, List, [], ◌∷◌, Option, Some, None, option_and_then, unwrap_or, Ok, inl, inr, refl, sym, ap, subst, ◌∙◌}
+use Rattle.std.proofs.Common.{◌≡◌, ℕ, Bool, true, false, not, ◌||◌, cond, List, [], ◌∷◌, Option, Some, None, option_and_then, unwrap_or, is_some, IsSome, Ok, inl, inr, refl, sym, ap, subst, ◌∙◌}
 use Rattle.std.specs.FinMap as map
 use Rattle.std.specs.Cmp.Lexicographic.{nat_list_cmp_total}
 use Rattle.bz_base.specs.declared.error.Error.{Error}
 use Rattle.bz_files.specs.World.{World, Entry, Denied, Present, entry_at}
 use Rattle.bz_files.specs.declared.stamp.Stamp.{Stamp}
 use Rattle.bz_cache.specs.Cache.{Cache, PathState, stamp_eq}
+use Rattle.bz_cache.specs.Eviction.{evicted, is_named}
 use Rattle.bz_cache.specs.Insertion.{insertion, insertion_by_entry, insertion_by_fixed, insertion_by_kept}
 use Rattle.bz_cache.specs.Look.{by_entry, by_fixed, by_test, look, moved, named, with_earlier}
 use Rattle.bz_cache.specs.View.{fixed}
+use Rattle.bz_cache.proofs.Evicting.{found_retained, retained}
 use Rattle.bz_cache.proofs.FiniteMaps.{get_inserted, insert_cases}
 use Rattle.bz_cache.proofs.Naming.{paths_apart}
 use Rattle.bz_cache.proofs.Stamps.{same_stamp, stamp_total, stamps_apart}
@@ -17,7 +19,7 @@ use Rattle.bz_elf.specs.Format as elf
 use Rattle.bz_elf.specs.Profile.{IsElf}
 use Rattle.bz_symbolize.proofs.NewLemmas.{by_profile}
 use Rattle.bz_symbolize.specs.FileCall.{batch_of, by_look, query_asked, single_of}
-use Rattle.bz_symbolize.specs.History.{Call, LookAtElf, LookAtPerfMap, Register, Symbolize, MayLeave, state_after}
+use Rattle.bz_symbolize.specs.History.{Call, Symbolize, Register, LookAtElf, PinElf, ForgetElf, LookAtPerfMap, PinPerfMap, ForgetPerfMap, MayLeave, state_after}
 use Rattle.bz_symbolize.specs.Registration.{AnswersElf, IsAt, MayReachKeeping, StaysRegistered}
 use Rattle.bz_symbolize.specs.Sources.{elf_answering}
 use Rattle.bz_symbolize.specs.State.{State}
@@ -69,28 +71,42 @@ module _ (c : Cache) (s : Stamp) (b : List ℕ) (kept : map.get c.kept s ≡ Som
       by_fix None = by_there there
       by_fix (Some t) = kept
 
+-- and where a path is forgotten, if the stamp is kept then
+evicted_keeps : (c : Cache) (s : Stamp) (b : List ℕ) (p : List ℕ) → map.get c.kept s ≡ Some b → IsSome (map.get (evicted c p).kept s) → map.get (evicted c p).kept s ≡ Some b
+evicted_keeps c s b p kept still =
+    let is = retained c.kept (is_named (map.remove c.paths p)) s in
+    let named_s = (found_retained (is_named (map.remove c.paths p) s) (map.get c.kept s) (ap is_some (sym is) ∙ still)).0 in
+    is ∙ ap (λ (x : Bool). cond x (map.get c.kept s) None) named_s ∙ kept
+
 module _ (stamp : Stamp) (b : List ℕ) where
   abbrev Keeps : State → Type 0
   Keeps s = map.get s.elf.kept stamp ≡ Some b
 
-  after_call : (call : Call) (s : State) (w : World) → Keeps s → Keeps (state_after s w call)
-  after_call (Symbolize (sources.Elf source) kind) s w kept = look_keeps s.elf stamp b kept elf.format_test _ _
-  after_call (Symbolize (sources.Breakpad source) kind) s w kept = kept
-  after_call (Symbolize (sources.Gsym (gsyms.File source)) kind) s w kept = kept
-  after_call (Symbolize (sources.Gsym (gsyms.Data source)) kind) s w kept = kept
-  after_call (Symbolize (sources.Process source) kind) s w kept = kept
-  after_call (LookAtElf path) s w kept = look_keeps s.elf stamp b kept elf.format_test path (entry_at w path)
-  after_call (LookAtPerfMap path) s w kept = kept
-  after_call (Register path bytes) s w kept = insertion_keeps s.elf stamp b kept path bytes (entry_at w path)
+  abbrev StillKeeps : State → Type 0
+  StillKeeps s = IsSome (map.get s.elf.kept stamp)
 
-  after_step : (call : Call) (s now : State) (w : World) → Keeps s → MayLeave s w call now → Keeps now
-  after_step call s now w kept (inl same) = subst Keeps (sym same) kept
-  after_step call s now w kept (inr is) = subst Keeps (sym is) (after_call call s w kept)
+  after_call : (call : Call) (s : State) (w : World) → Keeps s → StillKeeps (state_after s w call) → Keeps (state_after s w call)
+  after_call (Symbolize (sources.Elf source) kind) s w kept still = look_keeps s.elf stamp b kept elf.format_test _ _
+  after_call (Symbolize (sources.Breakpad source) kind) s w kept still = kept
+  after_call (Symbolize (sources.Gsym (gsyms.File source)) kind) s w kept still = kept
+  after_call (Symbolize (sources.Gsym (gsyms.Data source)) kind) s w kept still = kept
+  after_call (Symbolize (sources.Process source) kind) s w kept still = kept
+  after_call (Register path bytes) s w kept still = insertion_keeps s.elf stamp b kept path bytes (entry_at w path)
+  after_call (LookAtElf path) s w kept still = look_keeps s.elf stamp b kept elf.format_test path (entry_at w path)
+  after_call (PinElf pinned path) s w kept still = kept
+  after_call (ForgetElf path) s w kept still = evicted_keeps s.elf stamp b path kept still
+  after_call (LookAtPerfMap path) s w kept still = kept
+  after_call (PinPerfMap pinned path) s w kept still = kept
+  after_call (ForgetPerfMap path) s w kept still = kept
+
+  after_step : (call : Call) (s now : State) (w : World) → Keeps s → StillKeeps now → MayLeave s w call now → Keeps now
+  after_step call s now w kept still (inl same) = subst Keeps (sym same) kept
+  after_step call s now w kept still (inr is) = subst Keeps (sym is) (after_call call s w kept (subst StillKeeps is still))
 
   -- a stamp that stays kept keeps its version
   reached : (calls : List (World × Call)) (s end : State) → Keeps s → MayReachKeeping stamp s calls end → Keeps end
   reached [] s end kept same = subst Keeps (sym same) kept
-  reached (step ∷ later) s end kept (next, leaves, _, rest) = reached later next end (after_step step.1 s next step.0 kept leaves) rest
+  reached (step ∷ later) s end kept (next, leaves, still, rest) = reached later next end (after_step step.1 s next step.0 kept still leaves) rest
 
 module _ (c : Cache) (w : World) (p : List ℕ) (s : Stamp) (b : List ℕ) (kept : map.get c.kept s ≡ Some b) where
   -- a look at a path that is at the stamp gives its version

@@ -1,13 +1,16 @@
 pub use Rattle.bz_calls.specs.FileCall
 pub mod Alike
 pub mod Batch
+pub mod Caching
 pub mod Counted
+pub mod Evicting
 pub mod Found
 pub mod History
 pub mod Lookup
 pub mod OfProcess
 pub mod Promise
 pub mod Registration
+pub mod Requests
 pub mod SourceRead
 pub mod Sources
 pub mod State

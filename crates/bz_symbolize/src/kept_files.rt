@@ -7,6 +7,9 @@ ghost use Rattle.bz_base.specs.Refusals.{MayRefuse};
 ghost use Rattle.bz_base.specs.declared.error.Error.{Error};
 ghost use Rattle.bz_base.specs.declared.types.FindSymOpts.{FindSymOpts};
 ghost use Rattle.bz_cache.specs.Cache.{new_cache};
+ghost use Rattle.bz_cache.specs.Eviction.{evicted};
+ghost use Rattle.bz_calls.specs.Pinning.{PinsFile};
+ghost use Rattle.bz_elf.specs.Format as elf_format;
 ghost use Rattle.bz_process.specs.Asked.{asked_of};
 ghost use Rattle.bz_process.specs.Processes.{SymbolizesAddress, SymbolizesProcess};
 ghost use Rattle.bz_symbolize.specs.Batch.{answers_to, entry_by, held_singles, single_by, version_of};
@@ -26,7 +29,7 @@ use crate::source::{Gsym, Source};
 use bz_base::{Addr, Error, FindSymOpts, Input, Result, Steps, Symbolized};
 use bz_breakpad::SymbolFile;
 use bz_cache::{FileCache, Version};
-use bz_calls::owned_answer;
+use bz_calls::{owned_answer, pin_file};
 use bz_elf::{ElfFile, ElfResolver};
 use bz_files::Files;
 use bz_gsym::GsymTable;
@@ -156,6 +159,26 @@ impl KeptFiles {
         let cache = &mut self.elf;
         let file = resolver.as_ref().file().clone()?;
         cache.insert_value(alloc, files, path, file)
+    }
+
+    /// Looks at the ELF file at the path as if the path weren't pinned, and pins it.
+    pub(crate) fn pin_elf<F: Files>(
+        &mut self,
+        alloc: Global,
+        files: &mut F,
+        path: &str,
+    ) -> Result<()>
+        ensures pins { PinsFile F.Files elf_format.format_test path.now result self.old.elf self.new.elf files.old files.new }
+        ensures rest { self.new ≡ record self.old { elf = self.new.elf } }
+    {
+        pin_file(&mut self.elf, alloc, files, path)
+    }
+
+    /// Forgets the ELF file at the path.
+    pub(crate) fn forget_elf(&mut self, path: &str)
+        ensures { self.new ≡ record self.old { elf = evicted self.old.elf path.now } }
+    {
+        let _dropped = self.elf.evict(path);
     }
 
     /// The answers of a process, which may look at ELF files.

@@ -40,7 +40,8 @@ pub fn new_symbolizer_answers()
 /// From a new symbolizer on, over any list of calls whose worlds agree with each other and with the
 /// present one, kept versions cohere with the world in view: those of Breakpad and GSYM files and of
 /// perf maps whatever was registered, and those of ELF files too where each registration was of the
-/// bytes that its file had, as where none was made. A call on a process is the list of its looks.
+/// bytes that its file had, as where none was made. A call on a process is the list of its looks, and one
+/// that keeps or forgets what answers is that of its looks, pins and paths that are forgotten.
 pub fn runs_stay_coherent()
     ensures read { (settings : Settings) (calls : List (World × Call)) (state : State) (world : World) →
         Agree (world ∷ map (λ call. call.0) calls) → MayReach (new_state settings) calls state → Coherent state.breakpad.kept world × Coherent state.gsym.kept world }

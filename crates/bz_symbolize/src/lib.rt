@@ -4,8 +4,10 @@
 mod answering;
 mod breakpad;
 mod builder;
+pub mod cache;
 mod copies;
 mod elf;
+pub mod evict;
 mod gsym;
 mod held;
 pub mod helper;

@@ -28,6 +28,8 @@ use std::marker::Model;
 use std::rc::Rc;
 use std::sync::ledger::Ledger;
 
+mod keeping;
+
 /// Answers addresses, alone or in batches, and keeps the files that it has read. Of what processes
 /// have mapped, the resolvers that its dispatcher gives answer too.
 #[derive(Drop)]

@@ -1,7 +1,9 @@
-//! Copies of sources read the same.
+//! Copies of sources and of requests read the same.
 
 use bz_base::Result;
 use bz_symbolize::Pid;
+use bz_symbolize::cache::{Cache, Elf as ElfToKeep, Process as ProcessToKeep};
+use bz_symbolize::evict::{Elf as ElfToForget, Evict, Process as ProcessToForget};
 use bz_symbolize::source::{Breakpad, Elf, GsymData, GsymFile, Process, Source};
 use std::alloc::Global;
 
@@ -68,4 +70,43 @@ fn is_copied_process(alloc: Global, number: u32, text: &str) -> bool {
 fn copies_of_processes_read_the_same(rt: HostRuntime) {
     assert!(rt; is_copied_process(rt.alloc(), 7, "Process(7) Process(7)"));
     assert!(rt; is_copied_process(rt.alloc(), 0, "Process(self) Process(self)"));
+}
+
+/// Whether the request is printed so, and a copy of it too.
+fn is_copied_cache(alloc: Global, request: &Cache, text: &str) -> Result<bool> {
+    let copy = request.try_clone(alloc)?;
+    let printed = format!(in alloc; "{request:?} {copy:?}")?;
+    Ok(printed.as_str() == text)
+}
+
+/// Whether the request is printed so, and a copy of it too.
+fn is_copied_evict(alloc: Global, request: &Evict, text: &str) -> Result<bool> {
+    let copy = request.try_clone(alloc)?;
+    let printed = format!(in alloc; "{request:?} {copy:?}")?;
+    Ok(printed.as_str() == text)
+}
+
+/// Whether requests for the ELF file at `/e` are copied.
+fn elf_requests_are_copied(alloc: Global) -> Result<bool> {
+    let keep = Cache::from(ElfToKeep::new(String::from_str(alloc, "/e")?));
+    let forget = Evict::from(ElfToForget::new(String::from_str(alloc, "/e")?));
+    Ok(
+        is_copied_cache(alloc, &keep, "Elf(\"/e\") Elf(\"/e\")")?
+            && is_copied_evict(alloc, &forget, "Elf(\"/e\") Elf(\"/e\")")?,
+    )
+}
+
+/// Whether requests for the process of this number, which is the own one for 0, are copied.
+fn process_requests_are_copied(alloc: Global, number: u32, text: &str) -> bool {
+    let keep = Cache::from(ProcessToKeep::new(Pid::from(number)));
+    let forget = Evict::from(ProcessToForget::new(Pid::from(number)));
+    is_copied_cache(alloc, &keep, text) == Ok(true)
+        && is_copied_evict(alloc, &forget, text) == Ok(true)
+}
+
+#[test]
+fn copies_of_requests_read_the_same(rt: HostRuntime) {
+    assert!(rt; elf_requests_are_copied(rt.alloc()) == Ok(true));
+    assert!(rt; process_requests_are_copied(rt.alloc(), 7, "Process(7) Process(7)"));
+    assert!(rt; process_requests_are_copied(rt.alloc(), 0, "Process(self) Process(self)"));
 }

@@ -18,6 +18,8 @@ mod elf;
 #[cfg(test)]
 mod gsym;
 #[cfg(test)]
+mod keeping;
+#[cfg(test)]
 mod lookups;
 #[cfg(test)]
 mod process;

@@ -19,7 +19,7 @@ const THREE: &[u8] =
 
 /// Puts the files of process 7: its mapped file isn't an ELF file, and its perf map has a function.
 /// Says whether memory was left.
-fn put_process(alloc: Global, files: &mut MemFiles) -> bool {
+pub(crate) fn put_process(alloc: Global, files: &mut MemFiles) -> bool {
     put(alloc, files, "/proc/7/maps", THREE)
         && put(alloc, files, "/proc/7/map_files/1000-2000", b"\x7fELF")
         && put(alloc, files, "/proc/7/status", b"Name:\tx\n")
@@ -32,7 +32,7 @@ fn put_process(alloc: Global, files: &mut MemFiles) -> bool {
 }
 
 /// Process 7.
-fn process() -> Source<'static> {
+pub(crate) fn process() -> Source<'static> {
     Source::from(Process::new(Pid::from(7)))
 }
 

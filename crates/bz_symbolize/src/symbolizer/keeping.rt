@@ -1,0 +1,63 @@
+//! What is kept ahead of addresses, and what is forgotten.
+
+ghost use Rattle.bz_symbolize.specs.Caching.{Caches};
+ghost use Rattle.bz_symbolize.specs.Evicting.{Evicts};
+ghost use Rattle.bz_symbolize.specs.Requests.{cache_read, evict_read};
+
+use super::Symbolizer;
+use crate::cache::Cache;
+use crate::evict::Evict;
+use bz_base::Result;
+use bz_files::Files;
+use bz_process::ProcessDispatch;
+use std::alloc::Global;
+
+impl<D: ProcessDispatch + Drop> Symbolizer<D> {
+    /// Keeps what answers ahead of addresses, so that it answers also once the files have changed or
+    /// are gone.
+    ///
+    /// An ELF file is looked at as if its path weren't pinned, and the path is pinned at the version
+    /// that this look gives. A symbolizer that doesn't look at files anew pins a held path as it is. It
+    /// is refused as the look is: by `NotFound`, `PermissionDenied`, `Unsupported` or `InvalidData`.
+    ///
+    /// Of a process, where they are asked for, the mappings are read and kept; then its id is
+    /// remembered, for which its status is read unless it is remembered already; and then its perf map
+    /// is looked at as if it weren't pinned, and pinned. An absent perf map is no refusal: a version that
+    /// is held is pinned then. It is refused by the first of the three files that is absent
+    /// (`NotFound`), may not be read (`PermissionDenied`) or isn't in its format (`InvalidData`).
+    ///
+    /// Either may be refused by `ReadFault` and `OutOfMemory` too. After a refusal, whichever it is, the
+    /// symbolizer is as before.
+    pub fn cache<F: Files>(&mut self, alloc: Global, files: &mut F, cache: &Cache) -> Result<()>
+        ensures { Caches F.Files (cache_read cache.now) result self.old self.new files.old files.new }
+    {
+        match cache {
+            Cache::Elf(file) => self.files.pin_elf(alloc, files, file.path.as_str()),
+            Cache::Process(process) => {
+                let request = process.caching();
+                self.processes.cache(alloc, files, &request)
+            }
+        }
+    }
+
+    /// Forgets an ELF file: its path, pinned or not, with the versions that no other path names, and what
+    /// a dispatcher said of mapped files with this path, their own or the one that stands for the
+    /// mapping. Or forgets a process: its mappings, its id and its perf map. It is always answered, and
+    /// takes no memory.
+    pub fn evict(&mut self, evict: &Evict) -> Result<()>
+        ensures { Evicts (evict_read evict.now) result self.old self.new }
+    {
+        match evict {
+            Evict::Elf(file) => {
+                let path = file.path.as_str();
+                self.files.forget_elf(path);
+                self.processes.forget_path(path);
+                Ok(())
+            }
+            Evict::Process(process) => {
+                self.processes.evict_process(process.pid);
+                Ok(())
+            }
+        }
+    }
+}
