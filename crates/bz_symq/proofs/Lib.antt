@@ -6,8 +6,11 @@ mod InputTextLemmas
 mod OpenLemmas
 mod OutputLemmas
 mod PieceLemmas
+mod ProcessLemmas
 mod ProductLemmas
+mod ReadLemmas
 mod ReplyLemmas
 mod RunLemmas
+mod StandAloneLemmas
 mod TargetLemmas
 mod TextsLemmas

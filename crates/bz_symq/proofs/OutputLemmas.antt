@@ -1,9 +1,11 @@
 -- A text that is written piece by piece.
-use Rattle.std.proofs.Common.{◌≡◌, ◌⊎◌, ◌<◌, ℕ, ◌+◌, ◌-◌, false, List, [], ◌∷◌, ◌++◌, length, take, drop, slice_get, slice_index, Option, Some, Result, Ok, Err, IsErr, IsErrOf, OnOk, OnErr, refl, sym, ap, ◌∙◌, inl, inr, append_assoc, append-nil, length-append, arith, eqb}
+use Rattle.std.proofs.Common.{◌≡◌, ◌⊎◌, ◌<◌, ◌≤◌, ℕ, ◌+◌, ◌-◌, false, List, [], ◌∷◌, ◌++◌, length, map, min, take, drop, slice_get, slice_index, get_or, Option, option_map, Some, Result, Ok, Err, IsErr, IsErrOf, OnOk, OnErr, refl, sym, ap, subst, ◌∙◌, inl, inr, append_assoc, append-nil, length-append, arith, eqb}
 use Rattle.std.proofs.Math.Seq.{take-length}
-use Rattle.std.proofs.lemmas.List.{take-append-drop, length-drop, drop_more}
-use Rattle.std.proofs.lemmas.Option.{slice_get_within, get_or_from_slice_get}
-use Rattle.bz_base.specs.Answer.{Answer}
+use Rattle.std.proofs.lemmas.Bool.{cases_lt}
+use Rattle.std.proofs.lemmas.List.{take-append-drop, length-drop, drop_more, get_or_read}
+use Rattle.std.proofs.lemmas.Option.{slice_get_within, get_or_from_slice_get, slice_get-map, slice_get_read}
+use Rattle.bz_base.specs.Answer.{Answer, reading}
+use Rattle.bz_base.specs.declared.types.Symbolized.{Symbolized}
 use Rattle.bz_files.specs.TextEnd.{Puts}
 use Rattle.bz_files.specs.World.{Told}
 use Rattle.bz_files.specs.declared.text.IoFault.{IoFault}
@@ -136,3 +138,21 @@ module _ {W : Type 0} (writes : output_trait.Ghosts W) where
     silent = wrote.silent;
     counts = counts_still _ _ _ no_failure.0 (no_fault _ _ (IsErrOf (Ok given) faults.Fault) (λ fault. cc) wrote.counts);
   }
+
+-- Answers that were all given.
+
+-- the text of the next of them, as it stands in the piece
+pub owned_next : (addrs : List ℕ) (owned : List Symbolized) (index addr : ℕ) (answer : Symbolized) (old new : List ℕ) → index < length addrs → index < length owned →
+    addr ≡ get_or addrs index addr → answer ≡ get_or owned index answer → new ≡ old ++ answer_text addr (reading answer) →
+    (slice_get (map reading owned) index ≡ Some (reading answer)) × (new ≡ old ++ answer_text (slice_index addrs index) (reading answer))
+owned_next addrs owned index addr answer old new in_addrs in_owned is_addr is_answer grows = (
+  slice_get-map reading owned index ∙ ap (option_map reading) (slice_get_read owned (length owned) index answer refl in_owned is_answer),
+  subst (λ (a : ℕ). new ≡ old ++ answer_text a (reading answer)) (get_or_read addrs index addr in_addrs is_addr 0) grows,
+)
+
+-- past the lesser of two lengths one of them is past
+pub past_either : (a b n : ℕ) → min a b ≤ n → (a ≤ n) ⊎ (b ≤ n)
+past_either a b n past = elim (cases_lt n a) [
+  | inl below ↦ inr (first_of (omega (arith, past), grind (arith, past)))
+  | inr above ↦ inl above
+]

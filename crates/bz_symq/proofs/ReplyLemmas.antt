@@ -98,22 +98,22 @@ module _ (words : List (List ℕ)) (target : Target) (input : List ℕ) (command
       )
 
   -- an input that isn't too long is replied to by what is read of it
-  outcome_read : (text : List ℕ) (world : World) → input ≡ text → by_addresses target world (addresses_in input) ≡ run_outcome words text world
-  outcome_read text world same = rw (← same, command_is, le-ltb _ _ short) refl
+  outcome_read : (text : List ℕ) (world : World) (own : ℕ) → input ≡ text → by_addresses target world own (addresses_in input) ≡ run_outcome words text world own
+  outcome_read text world own same = rw (← same, command_is, le-ltb _ _ short) refl
 
   -- so the reply to it is the reply to the words
-  pub words_from_input : (left : Option (List ℕ)) (seen : Option World) (result : Result Reply Error) → Told left (λ text. input ≡ text) →
-      Told seen (λ world. Replies (by_addresses target world (addresses_in input)) result) → IfOk result (λ given. IsInputReply target input given) →
-      IfOk result (λ given. IsInputStatus (addresses_in input) given.status) → RepliesToWords words left seen result
-  words_from_input left seen (Ok reply) whole replies answered status = record {
-    reply = λ text told world sees. subst (λ expected. Replies expected (Ok reply)) (outcome_read text world (whole text told)) (replies world sees);
+  pub words_from_input : (left : Option (List ℕ)) (seen : Option World) (own : ℕ) (result : Result Reply Error) → Told left (λ text. input ≡ text) →
+      Told seen (λ world. Replies (by_addresses target world own (addresses_in input)) result) → IfOk result (λ given. IsInputReply target input given) →
+      IfOk result (λ given. IsInputStatus (addresses_in input) given.status) → RepliesToWords words left seen own result
+  words_from_input left seen own (Ok reply) whole replies answered status = record {
+    reply = λ text told world sees. subst (λ expected. Replies expected (Ok reply)) (outcome_read text world own (whole text told)) (replies world sees);
     answered = λ text told. rw (← whole text told) (run_from_input reply answered);
     no_failure = no_failure_from (addresses_in input) reply.status status;
     usage = (λ is. absurd (never_usage (addresses_in input) reply.status status is), λ none. absurd (no_none words (Batch target) command_is none));
     input = λ text told. rw (← whole text told) (bad_iff reply.status status);
   }
-  words_from_input left seen (Err e) whole replies answered status = record {
-    reply = λ text told world sees. subst (λ expected. Replies expected (Err e)) (outcome_read text world (whole text told)) (replies world sees);
+  words_from_input left seen own (Err e) whole replies answered status = record {
+    reply = λ text told world sees. subst (λ expected. Replies expected (Err e)) (outcome_read text world own (whole text told)) (replies world sees);
     answered = λ text told. tt;
     no_failure = tt;
     usage = tt;
@@ -121,9 +121,9 @@ module _ (words : List (List ℕ)) (target : Target) (input : List ℕ) (command
   }
 
 -- the reply to an input that is too long
-pub words_from_long : (words : List (List ℕ)) (target : Target) → command_in words ≡ Some (Batch target) → (left : Option (List ℕ)) (seen : Option World) (reply : Reply) →
-    Told left (λ text. greatest_input < length text) → outcome_of reply ≡ too_long → RepliesToWords words left seen (Ok reply)
-words_from_long words target command_is left seen reply long is =
+pub words_from_long : (words : List (List ℕ)) (target : Target) → command_in words ≡ Some (Batch target) → (left : Option (List ℕ)) (seen : Option World) (own : ℕ) (reply : Reply) →
+    Told left (λ text. greatest_input < length text) → outcome_of reply ≡ too_long → RepliesToWords words left seen own (Ok reply)
+words_from_long words target command_is left seen own reply long is =
     let status : reply.status ≡ statuses.Input = ap (λ (o : Outcome). o.status) is in
     record {
       reply = λ text told world sees. rw (command_is, lt-ltb _ _ (long text told)) is;
@@ -147,17 +147,17 @@ module _ (words : List (List ℕ)) (product : Product) (command_is : command_in 
       inr (record { product = product; made = text_of reply.said; asks = command_is; made_is = answered done; written = written })
 
   -- the reply that says a product, or why there is none, is the reply to the words
-  pub words_from_product : (left : Option (List ℕ)) (seen : Option World) (result : Result Reply Error) → Told seen (λ world. Replies (by_product (made_in product world)) result) →
-      IfOk result (λ given. IsProductReply product given) → IfOk result (λ given. IsProductStatus given.status) → RepliesToWords words left seen result
-  words_from_product left seen (Ok reply) replies answered status = record {
-    reply = λ text told world sees. subst (λ command. Replies (by_command command text world) (Ok reply)) (sym command_is) (replies world sees);
+  pub words_from_product : (left : Option (List ℕ)) (seen : Option World) (own : ℕ) (result : Result Reply Error) → Told seen (λ world. Replies (by_product (made_in product world)) result) →
+      IfOk result (λ given. IsProductReply product given) → IfOk result (λ given. IsProductStatus given.status) → RepliesToWords words left seen own result
+  words_from_product left seen own (Ok reply) replies answered status = record {
+    reply = λ text told world sees. subst (λ command. Replies (by_command command text world own) (Ok reply)) (sym command_is) (replies world sees);
     answered = λ text told. run_from_product text reply answered;
     no_failure = product_no_failure reply.status status;
     usage = (λ is. absurd (product_no_usage reply.status status is), λ none. absurd (no_none words (Make product) command_is none));
     input = λ text told. (λ is. absurd (product_no_input reply.status status is), λ bad. absurd (no_batch words product command_is bad.0 bad.1));
   }
-  words_from_product left seen (Err e) replies answered status = record {
-    reply = λ text told world sees. subst (λ command. Replies (by_command command text world) (Err e)) (sym command_is) (replies world sees);
+  words_from_product left seen own (Err e) replies answered status = record {
+    reply = λ text told world sees. subst (λ command. Replies (by_command command text world own) (Err e)) (sym command_is) (replies world sees);
     answered = λ text told. tt;
     no_failure = tt;
     usage = tt;
@@ -177,6 +177,6 @@ module _ (words : List (List ℕ)) (product : Product) (command_is : command_in 
   }
 
 -- words that ask for answers see the whole input
-pub words_see : (words : List (List ℕ)) (target : Target) → command_in words ≡ Some (Batch target) → (left : Option (List ℕ)) (seen : Option World) (result : Result Reply Error) →
-    RepliesToWords words left seen result → RepliesToWords words (seen_in words left) seen result
-words_see words target is left seen result replies = subst (λ command. RepliesToWords words (seen_by command left) seen result) (sym is) replies
+pub words_see : (words : List (List ℕ)) (target : Target) → command_in words ≡ Some (Batch target) → (left : Option (List ℕ)) (seen : Option World) (own : ℕ) (result : Result Reply Error) →
+    RepliesToWords words left seen own result → RepliesToWords words (seen_in words left) seen own result
+words_see words target is left seen own result replies = subst (λ command. RepliesToWords words (seen_by command left) seen own result) (sym is) replies

@@ -35,12 +35,13 @@ use Rattle.bz_symbolize.proofs.NewLemmas.{new_breakpad, new_elf, new_gsym}
 use Rattle.bz_symbolize.proofs.Tables.{table_found, table_again}
 use Rattle.bz_symq.specs.Targets.{run_opts, IsSourceOf, kind_of, answer_by, answer_to, file_of, HasFile, HasAnswers, AnswersIn, AnswersSome, IsBatch, IsFileCause, IsRefusalOf, IsCause, IsVersion}
 use Rattle.bz_symq.specs.Counted.{AnswersInFew, TakesFew}
-use Rattle.bz_symq.specs.Words.{Target, Breakpad, Gsym, Elf}
+use Rattle.bz_symq.specs.Words.{FileTarget, Breakpad, Gsym, Elf, Target, OneFile, OneProcess}
 use Rattle.bz_symq.proofs.OpenLemmas.{opened_new}
+use Rattle.bz_symq.proofs.ProcessLemmas.{process_answered, process_answers, process_cause, process_refused}
 
 -- a symbolizer that keeps nothing answers the target's source as the target answers
-pub answer_new : (target : Target) (source : Source) (addrs : List ℕ) (world : World) → IsSourceOf target source →
-    answer_of run_opts (new_state default_settings) (form_of source) (batch_of (kind_of target) addrs) world ≡ answer_to target addrs world
+pub answer_new : (target : FileTarget) (source : Source) (addrs : List ℕ) (world : World) → IsSourceOf target source →
+    answer_of run_opts (new_state default_settings) (form_of source) (batch_of (kind_of target) addrs) world ≡ fresh_answer (answer_by target addrs) (file_of target world)
 answer_new (Breakpad path) (sources.Breakpad source) addrs world is =
     rw is (new_breakpad run_opts default_settings.reload path addrs (entry_at world path))
 answer_new (Gsym path) (sources.Gsym (gsyms.File source)) addrs world is =
@@ -59,8 +60,8 @@ answer_new (Gsym path) (sources.Process source) addrs world is = absurd is
 answer_new (Elf path) (sources.Process source) addrs world is = absurd is
 
 -- and reads its file where it answers
-pub opened_by_target : {A : Type 0} (view : A → List Answer) (target : Target) (source : Source) (addrs : List ℕ) (world : World) (before after : ℕ) (result : Result A Error) →
-    IsSourceOf target source → Comes view (answer_to target addrs world) result →
+pub opened_by_target : {A : Type 0} (view : A → List Answer) (target : FileTarget) (source : Source) (addrs : List ℕ) (world : World) (before after : ℕ) (result : Result A Error) →
+    IsSourceOf target source → Comes view (fresh_answer (answer_by target addrs) (file_of target world)) result →
     OnOk result (after ≡ opens_after (opens_of (new_state default_settings) (form_of source) (kind_of target) world) before) →
     OnOk result (after ≡ counted before)
 opened_by_target view (Breakpad path) (sources.Breakpad source) addrs world before after result is comes opens =
@@ -81,9 +82,9 @@ opened_by_target view (Gsym path) (sources.Process source) addrs world before af
 opened_by_target view (Elf path) (sources.Process source) addrs world before after result is comes opens = absurd is
 
 -- what the symbolizer keeps is what it answers, so whatever is told, some bytes in the format are answered
-pub some_from_kept : {A : Type 0} (view : A → List Answer) (target : Target) (source : Source) (addrs : List ℕ) (now : State) (result : Result A Error) →
+pub some_from_kept : {A : Type 0} (view : A → List Answer) (target : FileTarget) (source : Source) (addrs : List ℕ) (now : State) (result : Result A Error) →
     IsSourceOf target source → OnFile source (λ file. IfOk result (λ given. AnswersKept run_opts source file now (batch_of (kind_of target) addrs) (Ok (view given)))) →
-    IfOk result (λ given. AnswersSome target addrs (view given))
+    IfOk result (λ given. AnswersSome (OneFile target) addrs (view given))
 some_from_kept view (Breakpad path) (sources.Breakpad source) addrs now (Ok given) is kept = (kept.bytes, batch_answered run_opts kept.bytes InFile addrs (view given) kept.answered)
 some_from_kept view (Gsym path) (sources.Gsym (gsyms.File source)) addrs now (Ok given) is kept = (kept.bytes, gsym_answered run_opts kept.bytes InTable addrs (view given) kept.answered)
 some_from_kept view (Breakpad path) (sources.Gsym source) addrs now (Ok given) is kept = absurd is
@@ -104,7 +105,7 @@ same_kept : (a b : List ℕ) → Some a ≡ Some b → a ≡ b
 same_kept a b same = cc same
 
 -- and that in few steps, since the version that was searched is the one that answers
-pub few_from_kept : {A : Type 0} (view : A → List Answer) (target : Target) (source : Source) (addrs : List ℕ) (now : State) (before after : ℕ) (result : Result A Error) →
+pub few_from_kept : {A : Type 0} (view : A → List Answer) (target : FileTarget) (source : Source) (addrs : List ℕ) (now : State) (before after : ℕ) (result : Result A Error) →
     IsSourceOf target source → OnFile source (λ file. IfOk result (λ given. AnswersKept run_opts source file now (batch_of (kind_of target) addrs) (Ok (view given)))) →
     SourceSteps source now (length addrs) before after → IfOk result (λ given. AnswersInFew target addrs (view given) before after)
 few_from_kept view (Breakpad path) (sources.Breakpad source) addrs now before after (Ok given) is kept (inl none) =
@@ -141,8 +142,8 @@ kept_file cache path bytes consistent kept = by_stamp (current_of cache path) ke
     by_stamp (Some stamp) is = by_read (table_in bytes) refl (consistent.formed stamp bytes is)
 
 -- answered or refused, few steps are taken
-pub takes_few : (target : Target) (source : Source) (now : State) (addrs before after : ℕ) → IsSourceOf target source → WellKept now → SourceSteps source now addrs before after →
-    TakesFew target addrs before after
+pub takes_few : (target : FileTarget) (source : Source) (now : State) (addrs before after : ℕ) → IsSourceOf target source → WellKept now → SourceSteps source now addrs before after →
+    TakesFew (OneFile target) addrs before after
 takes_few (Breakpad path) (sources.Breakpad source) now addrs before after is kept (inl none) = inl none
 takes_few (Breakpad path) (sources.Breakpad source) now addrs before after is kept (inr searched) =
     inr (searched.0, kept_file now.breakpad _ searched.0 kept.breakpad.consistent searched.1, searched.2)
@@ -160,7 +161,7 @@ takes_few (Gsym path) (sources.Process source) now addrs before after is kept st
 takes_few (Elf path) (sources.Process source) now addrs before after is kept steps = absurd is
 
 -- what holds of the file of a target's source holds
-pub of_its_file : (target : Target) (source : Source) (P : Type 0) → IsSourceOf target source → OnFile source (λ file. P) → P
+pub of_its_file : (target : FileTarget) (source : Source) (P : Type 0) → IsSourceOf target source → OnFile source (λ file. P) → P
 of_its_file (Breakpad path) (sources.Breakpad source) P is holds = holds
 of_its_file (Gsym path) (sources.Gsym (gsyms.File source)) P is holds = holds
 of_its_file (Breakpad path) (sources.Gsym source) P is holds = absurd is
@@ -176,7 +177,7 @@ of_its_file (Gsym path) (sources.Process source) P is holds = absurd is
 of_its_file (Elf path) (sources.Process source) P is holds = absurd is
 
 -- a target's source is no process
-pub of_its_source : (target : Target) (source : Source) (P : Type 0) → IsSourceOf target source → UnlessProcess source P → P
+pub of_its_source : (target : FileTarget) (source : Source) (P : Type 0) → IsSourceOf target source → UnlessProcess source P → P
 of_its_source (Breakpad path) (sources.Breakpad source) P is holds = holds
 of_its_source (Gsym path) (sources.Gsym (gsyms.File source)) P is holds = holds
 of_its_source (Elf path) (sources.Elf source) P is holds = holds
@@ -192,7 +193,7 @@ of_its_source (Elf path) (sources.Gsym source) P is holds = absurd is
 of_its_source (Elf path) (sources.Process source) P is holds = absurd is
 
 -- bytes that answer are in the source's format, and these are their answers
-batch_by : (target : Target) (addrs bytes : List ℕ) (answers : List Answer) → answer_by target addrs bytes ≡ Ok answers → IsBatch target bytes addrs answers
+batch_by : (target : FileTarget) (addrs bytes : List ℕ) (answers : List Answer) → answer_by target addrs bytes ≡ Ok answers → IsBatch target bytes addrs answers
 batch_by (Breakpad path) addrs bytes answers given = by_read (table_in bytes) refl given
   where
     by_read : (read : Option Table) → table_in bytes ≡ read → by_table run_opts addrs read ≡ Ok answers → IsBatch (Breakpad path) bytes addrs answers
@@ -210,19 +211,19 @@ batch_by (Elf path) addrs bytes answers given = by_test (format_test bytes) refl
     by_test (Some e) is = let refused = rw is at given in cc
 
 -- and bytes in the format do answer
-answers_by : (target : Target) (addrs bytes : List ℕ) → IsVersion target bytes → (answers : List Answer) × (answer_by target addrs bytes ≡ Ok answers)
+answers_by : (target : FileTarget) (addrs bytes : List ℕ) → IsVersion target bytes → (answers : List Answer) × (answer_by target addrs bytes ≡ Ok answers)
 answers_by (Breakpad path) addrs bytes version = (batch version.0 run_opts addrs, rw (table_again bytes version.0 version.1) refl)
 answers_by (Gsym path) addrs bytes version = (gsym_batch run_opts bytes addrs, rw (passes bytes version) refl)
 answers_by (Elf path) addrs bytes version = (elf_batch path bytes InTable addrs, rw (taken bytes version) refl)
 
 -- bytes that are answered are in the format
-version_by : (target : Target) (addrs bytes : List ℕ) (answers : List Answer) → IsBatch target bytes addrs answers → IsVersion target bytes
+version_by : (target : FileTarget) (addrs bytes : List ℕ) (answers : List Answer) → IsBatch target bytes addrs answers → IsVersion target bytes
 version_by (Breakpad path) addrs bytes answers is = (is.table, is.accepted)
 version_by (Gsym path) addrs bytes answers is = is.accepted
 version_by (Elf path) addrs bytes answers is = is.accepted
 
 -- bytes are refused exactly where they aren't
-refusal_by : (target : Target) (addrs bytes : List ℕ) (e : Error) → answer_by target addrs bytes ≡ Err e → IsRefusalOf target bytes e
+refusal_by : (target : FileTarget) (addrs bytes : List ℕ) (e : Error) → answer_by target addrs bytes ≡ Err e → IsRefusalOf target bytes e
 refusal_by (Breakpad path) addrs bytes e given = by_read (table_in bytes) refl given
   where
     by_read : (read : Option Table) → table_in bytes ≡ read → by_table run_opts addrs read ≡ Err e → IsRefusalOf (Breakpad path) bytes e
@@ -239,7 +240,7 @@ refusal_by (Elf path) addrs bytes e given = by_test (format_test bytes) refl
     by_test None is = let answered = rw is at given in cc
     by_test (Some refusal) is = let refused = rw is at given in fails_first bytes checks e cc
 
-refused_by : (target : Target) (addrs bytes : List ℕ) (e : Error) → IsRefusalOf target bytes e → answer_by target addrs bytes ≡ Err e
+refused_by : (target : FileTarget) (addrs bytes : List ℕ) (e : Error) → IsRefusalOf target bytes e → answer_by target addrs bytes ≡ Err e
 refused_by (Breakpad path) addrs bytes e refusal = by_read (table_in bytes) refl
   where
     by_read : (read : Option Table) → table_in bytes ≡ read → by_table run_opts addrs read ≡ Err e
@@ -253,7 +254,7 @@ refused_by (Gsym path) addrs bytes e refusal = by_test (is_gsym bytes) refl
 refused_by (Elf path) addrs bytes e refusal = rw (refused_by_first bytes checks refusal.0 e refusal.1) refl
 
 -- the same of what lies at the source's path
-module _ (target : Target) (addrs : List ℕ) where
+module _ (target : FileTarget) (addrs : List ℕ) where
   batch_from_file : (answers : List Answer) (there : Option Entry) → fresh_answer (answer_by target addrs) there ≡ Ok answers → HasFile (λ bytes. IsBatch target bytes addrs answers) there
   batch_from_file answers None given = cc
   batch_from_file answers (Some Denied) given = cc
@@ -269,22 +270,27 @@ module _ (target : Target) (addrs : List ℕ) where
   file_from_cause e (Some Denied) cause = ap Err (sym cause)
   file_from_cause e (Some (Present stamp bytes)) cause = refused_by target addrs bytes e cause
 
-module _ (target : Target) (world : World) (addrs : List ℕ) where
-  -- answers that are given are those of the target's file
-  pub answers_found : (answers : List Answer) → answer_to target addrs world ≡ Ok answers → AnswersIn target world addrs answers
-  answers_found answers given = batch_from_file target addrs answers (file_of target world) given
+module _ (world : World) (own : ℕ) (addrs : List ℕ) where
+  -- answers that are given are those of the target
+  pub answers_found : (target : Target) (answers : List Answer) → answer_to target addrs world own ≡ Ok answers → AnswersIn target world own addrs answers
+  answers_found (OneFile file) answers given = batch_from_file file addrs answers (file_of file world) given
+  answers_found (OneProcess number) answers given = process_answered number own addrs world answers given
 
   -- and a target that has answers is given some
-  pub answers_given : HasAnswers target world → (answers : List Answer) × (answer_to target addrs world ≡ Ok answers)
-  answers_given has = let given = answers_by target addrs has.bytes has.such in (given.0, rw has.present given.1)
+  pub answers_given : (target : Target) → HasAnswers target world → (answers : List Answer) × (answer_to target addrs world own ≡ Ok answers)
+  answers_given (OneFile file) has = let given = answers_by file addrs has.bytes has.such in (given.0, rw has.present given.1)
+  answers_given (OneProcess number) has = process_answers number own addrs world has
 
-  -- where the target's file is answered, it has answers
-  pub has_answers : (answers : List Answer) → AnswersIn target world addrs answers → HasAnswers target world
-  has_answers answers has = record { stamp = has.stamp; bytes = has.bytes; present = has.present; such = version_by target addrs has.bytes answers has.such }
+  -- where the target is answered, it has answers
+  pub has_answers : (target : Target) (answers : List Answer) → AnswersIn target world own addrs answers → HasAnswers target world
+  has_answers (OneFile file) answers has = record { stamp = has.stamp; bytes = has.bytes; present = has.present; such = version_by file addrs has.bytes answers has.such }
+  has_answers (OneProcess number) answers has = record { stamp = has.stamp; bytes = has.bytes; present = has.present; such = has.such.tells }
 
-  -- a target is refused exactly where its file has the cause
-  pub cause_found : (e : Error) → answer_to target addrs world ≡ Err e → IsCause target world e
-  cause_found e given = cause_from_file target addrs e (file_of target world) given
+  -- a target is refused exactly where it has the cause
+  pub cause_found : (target : Target) (e : Error) → answer_to target addrs world own ≡ Err e → IsCause target world e
+  cause_found (OneFile file) e given = cause_from_file file addrs e (file_of file world) given
+  cause_found (OneProcess number) e given = process_cause number own addrs world e given
 
-  pub refusal_given : (e : Error) → IsCause target world e → answer_to target addrs world ≡ Err e
-  refusal_given e cause = file_from_cause target addrs e (file_of target world) cause
+  pub refusal_given : (target : Target) (e : Error) → IsCause target world e → answer_to target addrs world own ≡ Err e
+  refusal_given (OneFile file) e cause = file_from_cause file addrs e (file_of file world) cause
+  refusal_given (OneProcess number) e cause = process_refused number own addrs world e cause

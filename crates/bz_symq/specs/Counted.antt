@@ -5,23 +5,25 @@ use Rattle.bz_files.specs.World.{Told}
 use Rattle.bz_symbolize.specs.Counted.{breakpad_steps, no_steps}
 use Rattle.bz_symq.specs.Targets.{IsBatch, IsVersion}
 use Rattle.bz_symq.specs.InputText.{addresses_in}
-use Rattle.bz_symq.specs.Words.{Command, Batch, Make, Target, Breakpad, Gsym, Elf}
+use Rattle.bz_symq.specs.Words.{Command, Batch, Make, FileTarget, Breakpad, Gsym, Elf, Target, OneFile, OneProcess}
 
--- those of a batch of so many addresses in bytes of the target's source: of a Breakpad file few for its table; none of others
-abbrev pub StepsIn : Target → List ℕ → ℕ → ℕ → ℕ → Type 0
+-- those of a batch of so many addresses in bytes of the file's source: of a Breakpad file few for its table; none of others
+abbrev pub StepsIn : FileTarget → List ℕ → ℕ → ℕ → ℕ → Type 0
 StepsIn (Breakpad path) bytes addrs before after = breakpad_steps bytes addrs before after
 StepsIn (Gsym path) bytes addrs before after = no_steps bytes addrs before after
 StepsIn (Elf path) bytes addrs before after = no_steps bytes addrs before after
 
--- the answers are those of some bytes in the format of the target's source, in which the addresses were found in few steps
-abbrev pub AnswersInFew : Target → List ℕ → List Answer → ℕ → ℕ → Type 0
-AnswersInFew target addrs answers before after =
-    (bytes : List ℕ) × IsBatch target bytes addrs answers × StepsIn target bytes (length addrs) before after
+-- the answers are those of some bytes in the format of the file's source, in which the addresses were found in few steps
+abbrev pub AnswersInFew : FileTarget → List ℕ → List Answer → ℕ → ℕ → Type 0
+AnswersInFew file addrs answers before after =
+    (bytes : List ℕ) × IsBatch file bytes addrs answers × StepsIn file bytes (length addrs) before after
 
--- a batch of so many addresses, answered or refused: no step was taken, or few in some bytes in the format of the target's source
+-- a batch of so many addresses, answered or refused: no step was taken, or few in some bytes in the format of the file's source; of a
+-- process none are counted
 abbrev pub TakesFew : Target → ℕ → ℕ → ℕ → Type 0
-TakesFew target addrs before after =
-    (after ≡ before) ⊎ ((bytes : List ℕ) × IsVersion target bytes × StepsIn target bytes addrs before after)
+TakesFew (OneFile file) addrs before after =
+    (after ≡ before) ⊎ ((bytes : List ℕ) × IsVersion file bytes × StepsIn file bytes addrs before after)
+TakesFew (OneProcess number) addrs before after = after ≡ before
 
 -- an input: none where a line isn't well formed, and else those of its addresses
 abbrev pub InputTakesFew : Target → Result (List ℕ) ℕ → ℕ → ℕ → Type 0

@@ -2,7 +2,9 @@ pub mod AnswerText
 pub mod Counted
 pub mod InputText
 pub mod Outcome
+pub mod OwnPid
 pub mod Piece
+pub mod Processes
 pub mod Products
 pub mod Reply
 pub mod Run

@@ -1,4 +1,4 @@
--- What a run writes and ends with where nothing fails: a function of words, input and world.
+-- What a run writes and ends with where nothing fails: a function of words, input, world and the id of the own process.
 use Rattle.std.specs.Prelude.{ℕ, Bool, true, false, nat_lt, List, ◌++◌, length, codes, decimal, Option, Some, None, Result, Ok, Err}
 use Rattle.bz_base.specs.Answer.{Answer}
 use Rattle.bz_base.specs.ErrorNames.{name_of}
@@ -53,22 +53,22 @@ abbrev pub bad_line : ℕ → Outcome
 bad_line n = record { status = statuses.Input; text = codes "input: line " ++ (decimal n ++ codes "\n") }
 
 -- a bad line is named, and addresses are answered by the target
-abbrev pub by_addresses : Target → World → Result (List ℕ) ℕ → Outcome
-by_addresses target world (Err n) = bad_line n
-by_addresses target world (Ok addrs) = by_answer addrs (answer_to target addrs world)
+abbrev pub by_addresses : Target → World → ℕ → Result (List ℕ) ℕ → Outcome
+by_addresses target world own (Err n) = bad_line n
+by_addresses target world own (Ok addrs) = by_answer addrs (answer_to target addrs world own)
 
 -- an input that is too long is named as such
 abbrev pub too_long : Outcome
 too_long = record { status = statuses.Input; text = codes "input: too long\n" }
 
 -- and that before its lines are read
-abbrev pub by_length : Target → List ℕ → World → Bool → Outcome
-by_length target input world true = too_long
-by_length target input world false = by_addresses target world (addresses_in input)
+abbrev pub by_length : Target → List ℕ → World → ℕ → Bool → Outcome
+by_length target input world own true = too_long
+by_length target input world own false = by_addresses target world own (addresses_in input)
 
 -- the whole input comes first, then the target
-abbrev pub outcome : Target → List ℕ → World → Outcome
-outcome target input world = by_length target input world (nat_lt greatest_input (length input))
+abbrev pub outcome : Target → List ℕ → World → ℕ → Outcome
+outcome target input world own = by_length target input world own (nat_lt greatest_input (length input))
 
 -- what was made, or the refusal
 abbrev pub by_product : Result (List ℕ) (List ℕ) → Outcome
@@ -76,11 +76,11 @@ by_product (Ok made) = record { status = statuses.Done; text = made }
 by_product (Err name) = refused_as name
 
 -- by the command, if there is one
-abbrev pub by_command : Option Command → List ℕ → World → Outcome
-by_command None input world = usage
-by_command (Some (Batch target)) input world = outcome target input world
-by_command (Some (Make product)) input world = by_product (made_in product world)
+abbrev pub by_command : Option Command → List ℕ → World → ℕ → Outcome
+by_command None input world own = usage
+by_command (Some (Batch target)) input world own = outcome target input world own
+by_command (Some (Make product)) input world own = by_product (made_in product world)
 
 -- and before both the words
-abbrev pub run_outcome : List (List ℕ) → List ℕ → World → Outcome
-run_outcome words input world = by_command (command_in words) input world
+abbrev pub run_outcome : List (List ℕ) → List ℕ → World → ℕ → Outcome
+run_outcome words input world own = by_command (command_in words) input world own

@@ -1,7 +1,7 @@
 -- What a run is about to end with and write.
-use Rattle.std.specs.Prelude.{◌≡◌, ◌⊎◌, ◌↔◌, ℕ, List, ◌++◌, Option, Some, None, Result, Ok, Err, IfOk}
+use Rattle.std.specs.Prelude.{◌≡◌, ◌⊎◌, ◌↔◌, ℕ, List, ◌++◌, map, Option, Some, None, Result, Ok, Err, IfOk}
 use Rattle.std.specs.Cow.{cow_str_bytes}
-use Rattle.bz_base.specs.Answer.{Answer}
+use Rattle.bz_base.specs.Answer.{Answer, reading}
 use Rattle.bz_base.specs.declared.error.Error.{Error}
 use Rattle.bz_base.specs.declared.error.Error.TheVariants as errors
 use Rattle.bz_files.specs.World.{World, Told}
@@ -22,6 +22,7 @@ use Rattle.bz_symq.specs.declared.status.Status.TheVariants as statuses
 abbrev pub text_of : Said → List ℕ
 text_of (saids.Text text) = cow_str_bytes text
 text_of (saids.Answers lookups) = answer_texts lookups.addrs lookups.answers
+text_of (saids.Owned owned) = answer_texts owned.addrs.items (map reading owned.answers.items)
 text_of (saids.Made bytes) = bytes.items
 
 -- the outcome that a reply is
@@ -42,7 +43,7 @@ RepliesTo errors.OutOfMemory result = result ≡ Err errors.OutOfMemory
 RepliesTo refusal (Ok reply) = outcome_of reply ≡ refused refusal
 RepliesTo refusal (Err e) = e ≡ errors.OutOfMemory
 
--- the text is that of answers to the addresses, by some bytes in the format of the target's source
+-- the text is that of answers to the addresses; those of a file are by some bytes in its format
 pub record IsBatchText (target : Target) (addrs text : List ℕ) : Type 0 where
   pub answers : List Answer
   pub answers_are : AnswersSome target addrs answers
@@ -79,10 +80,10 @@ abbrev pub IsInputStatus : Result (List ℕ) ℕ → Status → Type 0
 IsInputStatus (Err n) status = status ≡ statuses.Input
 IsInputStatus (Ok addrs) status = (status ≡ statuses.Done) ⊎ (status ≡ statuses.Refused)
 
--- a reply to the words was to be made, with what they see of the input and the world in view
-pub record RepliesToWords (words : List (List ℕ)) (left : Option (List ℕ)) (seen : Option World) (result : Result Reply Error) : Type 0 where
+-- a reply to the words was to be made, with what they see of the input and the world in view, and the id of the own process
+pub record RepliesToWords (words : List (List ℕ)) (left : Option (List ℕ)) (seen : Option World) (own : ℕ) (result : Result Reply Error) : Type 0 where
   -- it is the outcome of the run
-  pub reply : Told left (λ text. Told seen (λ world. Replies (run_outcome words text world) result))
+  pub reply : Told left (λ text. Told seen (λ world. Replies (run_outcome words text world own) result))
   -- and whatever the files tell, answers or product are those that the run was asked for
   pub answered : Told left (λ text. IfOk result (λ given. IsRunReply words text given))
   pub no_failure : IfOk result (λ given. IsNoFailure given.status)

@@ -11,9 +11,10 @@ use Rattle.bz_files.specs.declared.text.TextOut as output_trait
 use Rattle.bz_symq.specs.AnswerText.{answer_texts}
 use Rattle.bz_symq.specs.InputText.{AreAddresses, HasBadLine, greatest_input, left_over, MovesAtMost}
 use Rattle.bz_symq.specs.Outcome.{Outcome, refused, refused_as, run_outcome}
+use Rattle.bz_symq.specs.Processes.{process_batch}
 use Rattle.bz_symq.specs.Products.{MadeIn, MadeOfSome, UnmadeIn}
 use Rattle.bz_symq.specs.Targets.{HasAnswers, AnswersIn, AnswersSome, IsCause}
-use Rattle.bz_symq.specs.Words.{Batch, Make, Product, Target, command_in, seen_in}
+use Rattle.bz_symq.specs.Words.{Batch, Command, Make, OneFile, OneProcess, Product, Target, command_in, seen_in}
 use Rattle.bz_symq.specs.declared.status.Status.{Status}
 use Rattle.bz_symq.specs.declared.status.Status.TheVariants as statuses
 
@@ -41,7 +42,7 @@ pub record Asks (words : List (List ℕ)) (input : List ℕ) (target : Target) (
   pub short : length input ≤ greatest_input
   pub input_is : AreAddresses input addrs
 
--- the run is asked for addresses of a source that has answers: a file in its format
+-- the run is asked for addresses of a source that has answers: a file in its format, or a process of which mappings are told
 pub record IsAnswerable (words : List (List ℕ)) (input : List ℕ) (world : World) : Type 0 where
   pub target : Target
   pub addrs : List ℕ
@@ -50,16 +51,16 @@ pub record IsAnswerable (words : List (List ℕ)) (input : List ℕ) (world : Wo
 
 -- the run was asked for addresses of a source that has answers: the texts of its plain answers at the addresses, in their
 -- order, are what was written
-pub record IsDone (words : List (List ℕ)) (input : List ℕ) (world : World) (old : List ℕ) (new : Option (List ℕ)) : Type 0 where
+pub record IsDone (words : List (List ℕ)) (input : List ℕ) (world : World) (own : ℕ) (old : List ℕ) (new : Option (List ℕ)) : Type 0 where
   pub target : Target
   pub addrs : List ℕ
   pub answers : List Answer
   pub asks : Asks words input target addrs
-  pub answers_are : AnswersIn target world addrs answers
+  pub answers_are : AnswersIn target world own addrs answers
   pub written : new ≡ Some (old ++ answer_texts addrs answers)
 
 -- the run was asked for addresses, and whatever the files tell, the texts of the plain answers of some bytes in the format of
--- its source, at the addresses, in their order, are what was written
+-- its source, at the addresses, in their order, are what was written; of a process, those of some answers
 pub record IsSomeDone (words : List (List ℕ)) (input old : List ℕ) (new : Option (List ℕ)) : Type 0 where
   pub target : Target
   pub addrs : List ℕ
@@ -123,6 +124,13 @@ IsBadInput words input =
 abbrev pub IsReadWhole : List (List ℕ) → Option (List ℕ) → Option (List ℕ) → Type 0
 IsReadWhole words before after = (target : Target) → command_in words ≡ Some (Batch target) → Told before (λ text. after ≡ Some (left_over text))
 
+-- this holds, unless the command asks a process
+abbrev pub UnlessProcess : Option Command → Type 0 → Type 0
+UnlessProcess None P = P
+UnlessProcess (Some (Make product)) P = P
+UnlessProcess (Some (Batch (OneFile file))) P = P
+UnlessProcess (Some (Batch (OneProcess number))) P = Unit {0}
+
 -- the sides of a run: what it reads, what it looks at and what it writes to
 pub data Side : Type 0 where
   AtInput : Side
@@ -148,13 +156,13 @@ pub record Runs {R W F : Type 0} (reads : input_trait.Ghosts R) (writes : output
   -- what was written is the outcome's text, or a front of it where the run failed; and the run ends as the outcome, if it
   -- doesn't fail
   pub ends : Told (seen_in words (reads.left input_before)) (λ text. Told (in_view (looks.worlds files_before)) (λ world. Told (writes.written output_before) (λ old.
-      Ends (run_outcome words text world) old ended (writes.written output_after))))
+      Ends (run_outcome words text world (looks.pid files_before)) old ended (writes.written output_after))))
   pub status : Told (seen_in words (reads.left input_before)) (λ text. Told (in_view (looks.worlds files_before)) (λ world.
-      IsOrFails (run_outcome words text world).status ended))
+      IsOrFails (run_outcome words text world (looks.pid files_before)).status ended))
   -- status 0 means that the input was addresses of a source that has answers, and that these are what was written; or that a
   -- product was asked for, which is what was written
   pub done : ended ≡ statuses.Done → Told (seen_in words (reads.left input_before)) (λ text. Told (in_view (looks.worlds files_before)) (λ world.
-      Told (writes.written output_before) (λ old. IsDone words text world old (writes.written output_after) ⊎ IsMade words world old (writes.written output_after))))
+      Told (writes.written output_before) (λ old. IsDone words text world (looks.pid files_before) old (writes.written output_after) ⊎ IsMade words world old (writes.written output_after))))
   -- and whatever the files tell, that they are those of some bytes in the format of the source, or that some file makes it
   pub answered : ended ≡ statuses.Done → Told (seen_in words (reads.left input_before)) (λ text. Told (writes.written output_before) (λ old.
       IsSomeDone words text old (writes.written output_after) ⊎ IsSomeMade words old (writes.written output_after)))
@@ -182,10 +190,13 @@ pub record Runs {R W F : Type 0} (reads : input_trait.Ghosts R) (writes : output
   -- until the input is read, no file is looked at and nothing is written
   pub order : ((files_after ≡ files_before) × (output_after ≡ output_before)) ⊎ IsReadWhole words (reads.left input_before) (reads.left input_after)
   -- where there is nothing to write, the output is left alone
-  pub silent : Told (seen_in words (reads.left input_before)) (λ text. Told (in_view (looks.worlds files_before)) (λ world. (run_outcome words text world).text ≡ [] → output_after ≡ output_before))
-  -- one file at most is read, and where a run is done one was
-  pub most : ReadsOne looks files_before files_after
-  pub opened : Told (in_view (looks.worlds files_before)) (λ world. ended ≡ statuses.Done → looks.opens files_after ≡ counted (looks.opens files_before))
+  pub silent : Told (seen_in words (reads.left input_before)) (λ text. Told (in_view (looks.worlds files_before)) (λ world. (run_outcome words text world (looks.pid files_before)).text ≡ [] → output_after ≡ output_before))
+  -- one file at most is read, and where a run is done one was; unless a process is asked
+  pub most : UnlessProcess (command_in words) (ReadsOne looks files_before files_after)
+  pub opened : UnlessProcess (command_in words) (Told (in_view (looks.worlds files_before)) (λ world. ended ≡ statuses.Done → looks.opens files_after ≡ counted (looks.opens files_before)))
+  -- for a process no more files are read than its batch reads
+  pub process : Told (seen_in words (reads.left input_before)) (λ text. Told (in_view (looks.worlds files_before)) (λ world. (number : ℕ) (addrs : List ℕ) → Asks words text (OneProcess number) addrs →
+      looks.opens files_after ≤ looks.opens files_before + (process_batch number (looks.pid files_before) addrs world).opens))
   -- one side at most failed, and files only before the output; a fault comes only where a call failed, and at any other status
   -- none has
   pub fails : Fails reads writes looks ended input_before input_after output_before output_after files_before files_after

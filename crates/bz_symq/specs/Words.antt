@@ -1,21 +1,31 @@
 -- The words of a command line, without the program's name, and the command that they give.
-use Rattle.std.specs.Prelude.{ℕ, Bool, ◌==◌, List, [], ◌∷◌, codes, Option, Some, None, if◌then◌else◌, bytes_eq}
+use Rattle.std.specs.Prelude.{ℕ, Bool, ◌==◌, List, [], ◌∷◌, codes, Option, Some, None, option_map, if◌then◌else◌, bytes_eq}
 use Rattle.bz_base.specs.Byte.{begins_with, dash}
+use Rattle.bz_base.specs.Number.{decimal_at, whole}
 use Rattle.bz_symq.specs.declared.words.Command as lent_command
 use Rattle.bz_symq.specs.declared.words.Command.TheVariants as commands
+use Rattle.bz_symq.specs.declared.words.FileTarget as lent_file
+use Rattle.bz_symq.specs.declared.words.FileTarget.TheVariants as files
 use Rattle.bz_symq.specs.declared.words.Product as lent_product
 use Rattle.bz_symq.specs.declared.words.Product.TheVariants as products
 use Rattle.bz_symq.specs.declared.words.Target as lent_target
 use Rattle.bz_symq.specs.declared.words.Target.TheVariants as targets
 
+-- a file that answers addresses
+pub data FileTarget : Type 0 where
+  -- the Breakpad file at a path
+  Breakpad : List ℕ → FileTarget
+  -- the GSYM file at a path
+  Gsym : List ℕ → FileTarget
+  -- the ELF file at a path
+  Elf : List ℕ → FileTarget
+
 -- what answers addresses
 pub data Target : Type 0 where
-  -- the Breakpad file at a path
-  Breakpad : List ℕ → Target
-  -- the GSYM file at a path
-  Gsym : List ℕ → Target
-  -- the ELF file at a path
-  Elf : List ℕ → Target
+  -- a file
+  OneFile : FileTarget → Target
+  -- the process with an id; 0 stands for the own one
+  OneProcess : ℕ → Target
 
 -- what is made of one file, and written as it is
 pub data Product : Type 0 where
@@ -29,11 +39,15 @@ pub data Command : Type 0 where
   -- a product; the input isn't read
   Make : Product → Command
 
--- the target, the product and the command whose words are lent
+-- the file, the target, the product and the command whose words are lent
+abbrev pub file_target_of : lent_file.FileTarget → FileTarget
+file_target_of (files.Breakpad path) = Breakpad path.now
+file_target_of (files.Gsym path) = Gsym path.now
+file_target_of (files.Elf path) = Elf path.now
+
 abbrev pub target_of : lent_target.Target → Target
-target_of (targets.Breakpad path) = Breakpad path.now
-target_of (targets.Gsym path) = Gsym path.now
-target_of (targets.Elf path) = Elf path.now
+target_of (targets.File file) = OneFile (file_target_of file)
+target_of (targets.Process number) = OneProcess number
 
 abbrev pub product_of : lent_product.Product → Product
 product_of (products.Canonical path) = Canonical path.now
@@ -45,17 +59,26 @@ command_of (commands.Make product) = Make (product_of product)
 abbrev pub begins_with_dash : List ℕ → Bool
 begins_with_dash text = begins_with (λ b. b == dash) text
 
--- `breakpad PATH`, `gsym PATH`, `elf PATH` or `canon PATH`
-abbrev pub command_of_kind : List ℕ → List ℕ → Option Command
-command_of_kind kind path =
-    if bytes_eq kind (codes "breakpad") then Some (Batch (Breakpad path))
-    else (if bytes_eq kind (codes "gsym") then Some (Batch (Gsym path))
-    else (if bytes_eq kind (codes "elf") then Some (Batch (Elf path))
-    else (if bytes_eq kind (codes "canon") then Some (Make (Canonical path)) else None)))
+-- the greatest id of a process
+abbrev pub greatest_id : ℕ
+greatest_id = 4294967295
 
--- with a path that doesn't begin with a dash
+-- the number that names a process: one to ten decimal digits
+abbrev pub number_in : List ℕ → Option ℕ
+number_in word = whole (decimal_at 10 greatest_id word)
+
+-- `breakpad PATH`, `gsym PATH`, `elf PATH`, `process PID` or `canon PATH`
+abbrev pub command_of_kind : List ℕ → List ℕ → Option Command
+command_of_kind kind word =
+    if bytes_eq kind (codes "breakpad") then Some (Batch (OneFile (Breakpad word)))
+    else (if bytes_eq kind (codes "gsym") then Some (Batch (OneFile (Gsym word)))
+    else (if bytes_eq kind (codes "elf") then Some (Batch (OneFile (Elf word)))
+    else (if bytes_eq kind (codes "process") then option_map (λ number. Batch (OneProcess number)) (number_in word)
+    else (if bytes_eq kind (codes "canon") then Some (Make (Canonical word)) else None))))
+
+-- with a second word that doesn't begin with a dash
 abbrev pub command_in : List (List ℕ) → Option Command
-command_in (kind ∷ path ∷ []) = if begins_with_dash path then None else command_of_kind kind path
+command_in (kind ∷ word ∷ []) = if begins_with_dash word then None else command_of_kind kind word
 command_in _ = None
 
 -- an input as a command sees it: whole where answers are asked for, and else as if it were empty, since it isn't read

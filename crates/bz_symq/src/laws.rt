@@ -1,11 +1,16 @@
 //! What holds of this crate's definitions.
 
-ghost use Rattle.std.specs.Prelude.{◌≡◌, ◌⊎◌, ◌↔◌, ℕ, List, Option, None, Ok, Err};
+ghost use Rattle.std.specs.Prelude.{◌≡◌, ◌⊎◌, ◌↔◌, ℕ, List, map, Option, None, Ok, Err};
+ghost use Rattle.bz_base.specs.Answer.{Answer, in_batch};
+ghost use Rattle.bz_files.specs.Agreement.{AgreeOn};
 ghost use Rattle.bz_files.specs.World.{World};
+ghost use Rattle.bz_process.specs.InView.{process_in_view};
 ghost use Rattle.bz_symq.specs.InputText.{AreAddresses, IsFirstBad, addresses_in};
 ghost use Rattle.bz_symq.specs.Outcome.{run_outcome};
+ghost use Rattle.bz_symq.specs.Processes.{asked_by, nothing_kept};
 ghost use Rattle.bz_symq.specs.Run.{Ends, IsAnswerable, IsBadInput, IsDone, IsMade, IsMakeable, IsRefusable, IsRefused, IsUnmade, IsUnmakeable};
-ghost use Rattle.bz_symq.specs.Words.{command_in};
+ghost use Rattle.bz_symq.specs.Targets.{AnswersIn};
+ghost use Rattle.bz_symq.specs.Words.{command_in, OneProcess};
 ghost use Rattle.bz_symq.specs.declared.status.Status.TheVariants as statuses;
 
 /// The addresses that are read of an input are those that its lines say, and the number that is read
@@ -17,14 +22,21 @@ pub fn input_is_read()
 
 /// The outcome of a run is each status exactly where the status has its cause.
 pub fn outcomes_have_causes()
-    ensures done { (words : List (List ℕ)) (input : List ℕ) (world : World) → ((run_outcome words input world).status ≡ statuses.Done) ↔ (IsAnswerable words input world ⊎ IsMakeable words world) }
-    ensures refused { (words : List (List ℕ)) (input : List ℕ) (world : World) → ((run_outcome words input world).status ≡ statuses.Refused) ↔ (IsRefusable words input world ⊎ IsUnmakeable words world) }
-    ensures usage { (words : List (List ℕ)) (input : List ℕ) (world : World) → ((run_outcome words input world).status ≡ statuses.Usage) ↔ (command_in words ≡ None) }
-    ensures input { (words : List (List ℕ)) (input : List ℕ) (world : World) → ((run_outcome words input world).status ≡ statuses.Input) ↔ IsBadInput words input }
+    ensures done { (words : List (List ℕ)) (input : List ℕ) (world : World) (own : ℕ) → ((run_outcome words input world own).status ≡ statuses.Done) ↔ (IsAnswerable words input world ⊎ IsMakeable words world) }
+    ensures refused { (words : List (List ℕ)) (input : List ℕ) (world : World) (own : ℕ) → ((run_outcome words input world own).status ≡ statuses.Refused) ↔ (IsRefusable words input world ⊎ IsUnmakeable words world) }
+    ensures usage { (words : List (List ℕ)) (input : List ℕ) (world : World) (own : ℕ) → ((run_outcome words input world own).status ≡ statuses.Usage) ↔ (command_in words ≡ None) }
+    ensures input { (words : List (List ℕ)) (input : List ℕ) (world : World) (own : ℕ) → ((run_outcome words input world own).status ≡ statuses.Input) ↔ IsBadInput words input }
 {}
 
 /// A run that ends as its outcome, done or refused, has written the answers, the product or the refusal.
 pub fn endings_have_causes()
-    ensures done { (words : List (List ℕ)) (input : List ℕ) (world : World) (old : List ℕ) (new : Option (List ℕ)) → Ends (run_outcome words input world) old statuses.Done new → IsDone words input world old new ⊎ IsMade words world old new }
-    ensures refused { (words : List (List ℕ)) (input : List ℕ) (world : World) (old : List ℕ) (new : Option (List ℕ)) → Ends (run_outcome words input world) old statuses.Refused new → IsRefused words input world old new ⊎ IsUnmade words world old new }
+    ensures done { (words : List (List ℕ)) (input : List ℕ) (world : World) (own : ℕ) (old : List ℕ) (new : Option (List ℕ)) → Ends (run_outcome words input world own) old statuses.Done new → IsDone words input world own old new ⊎ IsMade words world old new }
+    ensures refused { (words : List (List ℕ)) (input : List ℕ) (world : World) (own : ℕ) (old : List ℕ) (new : Option (List ℕ)) → Ends (run_outcome words input world own) old statuses.Refused new → IsRefused words input world old new ⊎ IsUnmade words world old new }
+{}
+
+/// Where equal stamps have equal bytes in the world, each answer of a process is what is in view for its
+/// address alone, where a refusal is an ignored error. So answers don't depend on what else is asked.
+pub fn process_answers_stand_alone()
+    ensures { (number own : ℕ) (addrs : List ℕ) (world : World) (answers : List Answer) → AgreeOn world world → AnswersIn (OneProcess number) world own addrs answers →
+        answers ≡ map (λ addr. in_batch (process_in_view (asked_by number own) world nothing_kept None addr)) addrs }
 {}

@@ -5,7 +5,9 @@ mod answer;
 mod input;
 pub mod laws;
 mod output;
+mod own_process;
 mod piece;
+mod process;
 mod product;
 mod program;
 mod reply;
@@ -14,5 +16,6 @@ mod texts;
 mod words;
 
 pub use answer::answer_text;
+pub use own_process::own_pid;
 pub use program::{run, run_counted};
 pub use status::Status;

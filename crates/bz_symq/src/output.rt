@@ -1,7 +1,7 @@
 //! The output.
 
-ghost use Rattle.std.specs.Prelude.{◌≡◌, ◌<◌, ◌++◌, [], length, slice_get, slice_index, Some, string_bytes, OnOk, IsOkUnless};
-ghost use Rattle.bz_base.specs.Answer.{Answer};
+ghost use Rattle.std.specs.Prelude.{◌≡◌, ◌<◌, ◌++◌, [], length, map, slice_get, slice_index, Some, string_bytes, OnOk, IsOkUnless};
+ghost use Rattle.bz_base.specs.Answer.{Answer, reading};
 ghost use Rattle.bz_base.specs.declared.error.Error.{Error};
 ghost use Rattle.bz_symq.specs.AnswerText.{answer_text, answer_texts};
 ghost use Rattle.bz_symq.specs.Reply.{outcome_of, text_of};
@@ -9,7 +9,8 @@ ghost use Rattle.bz_symq.specs.Run.{IsNoFailure};
 ghost use Rattle.bz_symq.specs.Texts.{AreTexts};
 ghost use Rattle.bz_symq.specs.Writing.{Finishes, WritesText};
 
-use crate::reply::{Reply, Said};
+use crate::answer::push_answer;
+use crate::reply::{OwnedAnswers, Reply, Said};
 use crate::status::Status;
 use crate::texts::{Texts, push_entry};
 use bz_base::{Error, Result};
@@ -42,6 +43,7 @@ fn write_said<W: TextOut>(
     match said {
         Said::Text(text) => write_all(output, text.as_str().as_bytes()),
         Said::Answers(lookups) => write_answers(alloc, output, lookups),
+        Said::Owned(owned) => write_owned(alloc, output, owned),
         Said::Made(bytes) => write_all(output, bytes.as_slice()),
     }
 }
@@ -59,6 +61,28 @@ fn write_answers<W: TextOut>(
     let mut texts = Texts::new(alloc);
     for index in 0..lookups.len() {
         let Ok(()) = push_next(alloc, &mut piece, &mut texts, lookups, index) else {
+            return Err(IoFault::OutOfMemory);
+        };
+        if piece.len() >= PIECE {
+            write_piece(output, &mut piece)?;
+        }
+    }
+    write_piece(output, &mut piece)
+}
+
+// Writes the texts of answers that were all given, one after the other. However many there are, some
+// of their texts are in memory.
+fn write_owned<W: TextOut>(
+    alloc: Global,
+    output: &mut W,
+    owned: &OwnedAnswers,
+) -> std::result::Result<(), IoFault>
+    ensures { WritesText W.TextOut (answer_texts owned.now.addrs.items (map reading owned.now.answers.items)) result output.old output.new }
+{
+    let mut piece = String::new(alloc);
+    let count = owned.addrs.len().min(owned.answers.len());
+    for index in 0..count {
+        let Ok(()) = push_answer(&mut piece, owned.addrs[index], &owned.answers[index]) else {
             return Err(IoFault::OutOfMemory);
         };
         if piece.len() >= PIECE {

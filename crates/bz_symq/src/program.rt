@@ -11,15 +11,16 @@ ghost use Rattle.bz_symq.specs.Outcome.{by_answer, by_addresses};
 ghost use Rattle.bz_symq.specs.Reply.{IsBatchReply, IsDoneReply, IsInputReply, IsInputStatus, Replies, RepliesToWords};
 ghost use Rattle.bz_symq.specs.Run.{Runs};
 ghost use Rattle.bz_symq.specs.Targets.{answer_to, kind_of, AnswersSome, IsSourceOf};
-ghost use Rattle.bz_symq.specs.Turns.{FailsAtOne, ReadsOneFor, TakesTurns};
-ghost use Rattle.bz_symq.specs.Words.{command_in, seen_in, target_of, Batch};
+ghost use Rattle.bz_symq.specs.Turns.{FailsAtOne, ReadsFor, ReadsForInput, ReadsOneFor, TakesTurns};
+ghost use Rattle.bz_symq.specs.Words.{command_in, file_target_of, seen_in, target_of, Batch, OneFile};
 
 use crate::input::{self, BadInput, ReadStop};
 use crate::output::finish;
+use crate::process::reply_of_process;
 use crate::product::reply_with_product;
 use crate::reply::{Reply, Said, bad_line, refusal, stored_reply};
 use crate::status::Status;
-use crate::words::{self, Command, Target};
+use crate::words::{self, Command, FileTarget, Target};
 use bz_base::{Error, Input, Result, Steps};
 use bz_files::{Files, TextIn, TextOut};
 use bz_symbolize::source::{Breakpad, Elf, GsymFile, Source};
@@ -96,9 +97,9 @@ fn reply_to_words<R: TextIn, F: Files, L: Ledger>(
     files: &mut F,
     steps: &mut Steps<L>,
 ) -> Result<Reply>
-    ensures reply { RepliesToWords (map string_bytes words.now) (seen_in (map string_bytes words.now) (R.left input.old)) (in_view (F.worlds files.old)) result }
+    ensures reply { RepliesToWords (map string_bytes words.now) (seen_in (map string_bytes words.now) (R.left input.old)) (in_view (F.worlds files.old)) (F.pid files.old) result }
     ensures turns { TakesTurns R.TextIn F.Files (map string_bytes words.now) result input.old input.new files.old files.new }
-    ensures opens { ReadsOneFor F.Files (IsDoneReply result) files.old files.new }
+    ensures opens { ReadsFor F.Files (command_in (map string_bytes words.now)) (R.left input.old) (IsDoneReply result) files.old files.new }
     ensures fails { FailsAtOne R.TextIn F.Files (Faulted result) input.old input.new files.old files.new }
     ensures steps { RunTakesFew (command_in (map string_bytes words.now)) (R.left input.old) steps.old steps.new }
 {
@@ -117,9 +118,9 @@ fn reply_with_answers<R: TextIn, F: Files, L: Ledger>(
     files: &mut F,
     steps: &mut Steps<L>,
 ) -> Result<Reply>
-    ensures reply { (words : List (List ℕ)) → command_in words ≡ Some (Batch (target_of target.now)) → RepliesToWords words (R.left input.old) (in_view (F.worlds files.old)) result }
+    ensures reply { (words : List (List ℕ)) → command_in words ≡ Some (Batch (target_of target.now)) → RepliesToWords words (R.left input.old) (in_view (F.worlds files.old)) (F.pid files.old) result }
     ensures turns { (words : List (List ℕ)) → command_in words ≡ Some (Batch (target_of target.now)) → TakesTurns R.TextIn F.Files words result input.old input.new files.old files.new }
-    ensures opens { ReadsOneFor F.Files (IsDoneReply result) files.old files.new }
+    ensures opens { ReadsFor F.Files (Some (Batch (target_of target.now))) (R.left input.old) (IsDoneReply result) files.old files.new }
     ensures fails { FailsAtOne R.TextIn F.Files (Faulted result) input.old input.new files.old files.new }
     ensures steps { RunTakesFew (Some (Batch (target_of target.now))) (R.left input.old) steps.old steps.new }
 {
@@ -139,11 +140,11 @@ fn reply_to_input<F: Files, L: Ledger>(
     files: &mut F,
     steps: &mut Steps<L>,
 ) -> Result<Reply>
-    ensures reply { Told (in_view (F.worlds files.old)) (λ world. Replies (by_addresses (target_of target.now) world (addresses_in text.items)) result) }
+    ensures reply { Told (in_view (F.worlds files.old)) (λ world. Replies (by_addresses (target_of target.now) world (F.pid files.old) (addresses_in text.items)) result) }
     ensures answered { IfOk result (λ given. IsInputReply (target_of target.now) text.items given) }
     ensures status { IfOk result (λ given. IsInputStatus (addresses_in text.items) given.status) }
     ensures unlooked { IsErr (addresses_in text.items) → files.new ≡ files.old }
-    ensures opens { ReadsOneFor F.Files (IsDoneReply result) files.old files.new }
+    ensures opens { ReadsForInput F.Files (target_of target.now) (addresses_in text.items) (IsDoneReply result) files.old files.new }
     ensures files { Looked F.Files files.old files.new (Faulted result) }
     ensures steps { InputTakesFew (target_of target.now) (addresses_in text.items) steps.old steps.new }
 {
@@ -156,6 +157,7 @@ fn reply_to_input<F: Files, L: Ledger>(
     }
 }
 
+// The addresses are answered by the target.
 fn reply_to_batch<F: Files, L: Ledger>(
     alloc: Global,
     target: &Target<'_>,
@@ -163,14 +165,35 @@ fn reply_to_batch<F: Files, L: Ledger>(
     files: &mut F,
     steps: &mut Steps<L>,
 ) -> Result<Reply>
-    ensures reply { Told (in_view (F.worlds files.old)) (λ world. Replies (by_answer addrs.items (answer_to (target_of target.now) addrs.items world)) result) }
+    ensures reply { Told (in_view (F.worlds files.old)) (λ world. Replies (by_answer addrs.items (answer_to (target_of target.now) addrs.items world (F.pid files.old))) result) }
     ensures answered { IfOk result (λ given. IsBatchReply (target_of target.now) addrs.items given) }
     ensures status { IfOk result (λ given. IsInputStatus (Ok addrs.items) given.status) }
-    ensures opens { ReadsOneFor F.Files (IsDoneReply result) files.old files.new }
+    ensures opens { ReadsForInput F.Files (target_of target.now) (Ok addrs.items) (IsDoneReply result) files.old files.new }
     ensures files { Looked F.Files files.old files.new (Faulted result) }
     ensures steps { TakesFew (target_of target.now) (length addrs.items) steps.old steps.new }
 {
-    match look_up(alloc, target, addrs, files, steps) {
+    match target {
+        Target::File(file) => reply_of_file(alloc, file, addrs, files, steps),
+        Target::Process(number) => reply_of_process(alloc, *number, addrs, files, steps),
+    }
+}
+
+// The addresses are answered by a file.
+fn reply_of_file<F: Files, L: Ledger>(
+    alloc: Global,
+    file: &FileTarget<'_>,
+    addrs: Vec<u64>,
+    files: &mut F,
+    steps: &mut Steps<L>,
+) -> Result<Reply>
+    ensures reply { Told (in_view (F.worlds files.old)) (λ world. Replies (by_answer addrs.items (answer_to (OneFile (file_target_of file.now)) addrs.items world (F.pid files.old))) result) }
+    ensures answered { IfOk result (λ given. IsBatchReply (OneFile (file_target_of file.now)) addrs.items given) }
+    ensures status { IfOk result (λ given. IsInputStatus (Ok addrs.items) given.status) }
+    ensures opens { ReadsOneFor F.Files (IsDoneReply result) files.old files.new }
+    ensures files { Looked F.Files files.old files.new (Faulted result) }
+    ensures steps { TakesFew (OneFile (file_target_of file.now)) (length addrs.items) steps.old steps.new }
+{
+    match look_up(alloc, file, addrs, files, steps) {
         Ok(lookups) => Ok(Reply {
             status: Status::Done,
             said: Said::Answers(lookups),
@@ -179,54 +202,54 @@ fn reply_to_batch<F: Files, L: Ledger>(
     }
 }
 
-// The target's source, looked at for the addresses, which are searched for in it.
+// The file's source, looked at for the addresses, which are searched for in it.
 fn look_up<F: Files, L: Ledger>(
     alloc: Global,
-    target: &Target<'_>,
+    file: &FileTarget<'_>,
     addrs: Vec<u64>,
     files: &mut F,
     steps: &mut Steps<L>,
 ) -> Result<Lookups<'static>>
-    ensures answer { Told (in_view (F.worlds files.old)) (λ world. Comes (λ lookups. lookups.answers) (answer_to (target_of target.now) addrs.items world) result) }
-    ensures answered { IfOk result (λ lookups. AnswersSome (target_of target.now) addrs.items lookups.answers) }
+    ensures answer { Told (in_view (F.worlds files.old)) (λ world. Comes (λ lookups. lookups.answers) (answer_to (OneFile (file_target_of file.now)) addrs.items world (F.pid files.old)) result) }
+    ensures answered { IfOk result (λ lookups. AnswersSome (OneFile (file_target_of file.now)) addrs.items lookups.answers) }
     ensures addrs { IfOk result (λ lookups. lookups.addrs ≡ addrs.items) }
     ensures opens { ReadsOneFor F.Files (IsOk result) files.old files.new }
     ensures files { Looked F.Files files.old files.new (Faulted result) }
-    ensures found { IfOk result (λ lookups. AnswersInFew (target_of target.now) addrs.items lookups.answers steps.old steps.new) }
-    ensures steps { TakesFew (target_of target.now) (length addrs.items) steps.old steps.new }
+    ensures found { IfOk result (λ lookups. AnswersInFew (file_target_of file.now) addrs.items lookups.answers steps.old steps.new) }
+    ensures steps { TakesFew (OneFile (file_target_of file.now)) (length addrs.items) steps.old steps.new }
 {
-    let src = source(alloc, target)?;
-    Symbolizer::new(alloc).look_up(alloc, files, &src, input_for(target, addrs), steps)
+    let src = source(alloc, file)?;
+    Symbolizer::new(alloc).look_up(alloc, files, &src, input_for(file, addrs), steps)
 }
 
-// The source that is the target's.
-fn source(alloc: Global, target: &Target<'_>) -> Result<Source<'static>>
-    ensures ok { IfOk result (λ src. IsSourceOf (target_of target.now) src) }
+// The source that is the file's.
+fn source(alloc: Global, file: &FileTarget<'_>) -> Result<Source<'static>>
+    ensures ok { IfOk result (λ src. IsSourceOf (file_target_of file.now) src) }
     ensures memory { IsOkUnless result Error.OutOfMemory }
 {
-    match target {
-        Target::Breakpad(path) => {
+    match file {
+        FileTarget::Breakpad(path) => {
             let path = String::from_str(alloc, path)?;
             Ok(Source::from(Breakpad::new(path)))
         }
-        Target::Gsym(path) => {
+        FileTarget::Gsym(path) => {
             let path = String::from_str(alloc, path)?;
             Ok(Source::from(GsymFile::new(path)))
         }
-        Target::Elf(path) => {
+        FileTarget::Elf(path) => {
             let path = String::from_str(alloc, path)?;
             Ok(Source::from(Elf::new(path)))
         }
     }
 }
 
-// The addresses, as the target takes them.
-fn input_for(target: &Target<'_>, addrs: Vec<u64>) -> Input<Vec<u64>>
-    ensures kind { address_kind result ≡ kind_of (target_of target.now) }
+// The addresses, as the file takes them.
+fn input_for(file: &FileTarget<'_>, addrs: Vec<u64>) -> Input<Vec<u64>>
+    ensures kind { address_kind result ≡ kind_of (file_target_of file.now) }
     ensures addrs { payload result ≡ addrs }
 {
-    match target {
-        Target::Breakpad(_) => Input::FileOffset(addrs),
-        Target::Gsym(_) | Target::Elf(_) => Input::VirtOffset(addrs),
+    match file {
+        FileTarget::Breakpad(_) => Input::FileOffset(addrs),
+        FileTarget::Gsym(_) | FileTarget::Elf(_) => Input::VirtOffset(addrs),
     }
 }

@@ -6,7 +6,7 @@ ghost use Rattle.bz_symq.specs.Outcome.{bad_line};
 ghost use Rattle.bz_symq.specs.Reply.{outcome_of, RepliesTo};
 
 use crate::status::Status;
-use bz_base::{Error, Result};
+use bz_base::{Error, Result, Symbolized};
 use bz_symbolize::Lookups;
 use std::alloc::Global;
 use std::borrow::CowStr;
@@ -27,8 +27,19 @@ pub enum Said {
     Text(CowStr<'static>),
     /// The texts of the answers at the addresses, which are made, answer by answer, as they are written.
     Answers(Lookups<'static>),
+    /// The texts of answers that were all given, which are made as they are written.
+    Owned(OwnedAnswers),
     /// What was made of a file.
     Made(Vec<u8>),
+}
+
+/// The answers of a process at addresses, in their order.
+#[derive(Drop)]
+pub struct OwnedAnswers {
+    /// The addresses, absolute in the process.
+    pub addrs: Vec<u64>,
+    /// The answer at each of them.
+    pub answers: Vec<Symbolized<'static>>,
 }
 
 /// A reply whose text is always the same.

@@ -1,8 +1,9 @@
-//! Symbolizes addresses: the answers of a symbol file to the addresses on standard input.
+//! Symbolizes addresses: the answers of a symbol file, or of a process, to the addresses on standard
+//! input.
 #![tactic(auto)]
 
-use bz_files::{RealFiles, RealIn, RealOut};
-use bz_symq::{Status, run};
+use bz_files::{Files, RealFiles, RealIn, RealOut};
+use bz_symq::{Status, own_pid, run};
 use std::process::ExitCode;
 use std::{env, io};
 
@@ -26,7 +27,7 @@ fn run_real(rt: &HostRuntime) -> Status {
     let Ok(files_rt) = rt.clone() else {
         return Status::Memory;
     };
-    let mut files = RealFiles::new(files_rt, 0);
+    let mut files = RealFiles::new(files_rt, read_own_pid(rt));
     let mut input = RealIn::new(rt.reader());
     let mut output = RealOut::new(io::writer(rt));
     run(
@@ -36,6 +37,19 @@ fn run_real(rt: &HostRuntime) -> Status {
         &mut output,
         &mut files,
     )
+}
+
+// The id of the own process, as the system tells it; 0 where that can't be read.
+fn read_own_pid(rt: &HostRuntime) -> u32 {
+    let Ok(files_rt) = rt.clone() else {
+        return 0;
+    };
+    // A fault in here is none of the run.
+    let mut files = RealFiles::new(files_rt, 0);
+    match files.read(rt.alloc(), "/proc/self/stat") {
+        Ok(stat) => own_pid(stat.as_slice()),
+        Err(_) => 0,
+    }
 }
 
 // The words of the command line, without the program's name.

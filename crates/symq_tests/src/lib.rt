@@ -20,6 +20,8 @@ mod nested;
 #[cfg(test)]
 mod outputs;
 #[cfg(test)]
+mod processes;
+#[cfg(test)]
 mod runs;
 #[cfg(test)]
 mod texts;

@@ -77,13 +77,28 @@ fn put_files(alloc: Global, files: &mut MemFiles, row: &Row<'_>) -> bool {
         && files.fail_call(alloc, row.faults.0).is_ok()
 }
 
-/// The words of a row.
-fn words_of(alloc: Global, row: &Row<'_>) -> Result<Vec<String>> {
+/// Two words.
+fn two_words(alloc: Global, kind: &str, word: &str) -> Result<Vec<String>> {
     let mut words = Vec::new(alloc);
-    for word in [row.kind, row.path] {
-        words.push(String::from_str(alloc, word)?)?;
+    for text in [kind, word] {
+        words.push(String::from_str(alloc, text)?)?;
     }
     Ok(words)
+}
+
+/// How a run with two words ends, if memory was left for them and the input.
+pub(crate) fn run_on(
+    alloc: Global,
+    kind: &str,
+    word: &str,
+    input: &[u8],
+    files: &mut MemFiles,
+    output: &mut MemOut,
+) -> Option<Status> {
+    let words = two_words(alloc, kind, word).ok()?;
+    let bytes = Vec::from_slice(alloc, input).ok()?;
+    let mut input = MemIn::new(bytes);
+    Some(run(alloc, words.as_slice(), &mut input, output, files))
 }
 
 /// Whether the run of a row with these words ends by its status.
@@ -101,7 +116,7 @@ fn ends_on(alloc: Global, row: &Row<'_>, words: &[String], output: &mut MemOut) 
 /// Whether the run of a row that writes into the output ends by its status.
 pub(crate) fn ends_into(alloc: Global, row: &Row<'_>, output: &mut MemOut) -> bool {
     output.fail_call(row.faults.2);
-    match words_of(alloc, row) {
+    match two_words(alloc, row.kind, row.path) {
         Ok(words) => ends_on(alloc, row, words.as_slice(), output),
         Err(_) => false,
     }

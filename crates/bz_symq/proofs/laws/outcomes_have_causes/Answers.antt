@@ -3,8 +3,8 @@ use Rattle.bz_symq.proofs.laws.outcomes_have_causes.Goals as goal
 
 pub returns : goal.returns
 returns c = record {
-  done = λ words input world. (done_is_answerable words input world, answerable_is_done words input world);
-  refused = λ words input world. (refused_is_refusable words input world, refusable_is_refused words input world);
-  usage = λ words input world. (usage_is_cause words input world, cause_is_usage words input world);
-  input = λ words input world. (input_is_bad words input world, bad_is_input words input world);
+  done = λ words input world own. (done_is_answerable words input world own, answerable_is_done words input world own);
+  refused = λ words input world own. (refused_is_refusable words input world own, refusable_is_refused words input world own);
+  usage = λ words input world own. (usage_is_cause words input world own, cause_is_usage words input world own);
+  input = λ words input world own. (input_is_bad words input world own, bad_is_input words input world own);
 }

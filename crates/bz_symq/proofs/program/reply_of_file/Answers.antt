@@ -2,7 +2,7 @@ use Rattle.std.proofs.Common.{List}
 use Rattle.bz_base.specs.Answer.{Answer}
 use Rattle.bz_symbolize.specs.declared.lookups.Lookups.{Lookups}
 use Rattle.bz_symq.proofs.ReplyLemmas.{replies_refused}
-use Rattle.bz_symq.proofs.program.reply_to_batch.Goals as goal
+use Rattle.bz_symq.proofs.program.reply_of_file.Goals as goal
 
 abbrev read : Lookups → List Answer
 read lookups = lookups.answers

@@ -1,0 +1,63 @@
+-- How many files a run reads.
+use Rattle.std.proofs.Common.{◌≡◌, ℕ, ◌+◌, ◌≤◌, List, Option, Some, None, Result, Ok, Err, refl, ap, subst, ◌∙◌, inl, arith}
+use Rattle.bz_files.specs.Count.{counted}
+use Rattle.bz_files.specs.Looked.{ReadsOne}
+use Rattle.bz_files.specs.World.{Told, in_view}
+use Rattle.bz_files.specs.declared.files.Files as files_trait
+use Rattle.bz_symq.specs.InputText.{addresses_in}
+use Rattle.bz_symq.specs.Outcome.{Outcome, too_long}
+use Rattle.bz_symq.specs.Processes.{process_batch}
+use Rattle.bz_symq.specs.Reply.{outcome_of}
+use Rattle.bz_symq.specs.Run.{Asks, UnlessProcess}
+use Rattle.bz_symq.specs.Turns.{ReadsFor, ReadsForInput}
+use Rattle.bz_symq.specs.Words.{Command, Batch, Make, Target, OneFile, OneProcess, command_in, seen_by, seen_in}
+use Rattle.bz_symq.specs.declared.reply.Reply.{Reply}
+use Rattle.bz_symq.specs.declared.status.Status.TheVariants as statuses
+use Rattle.bz_symq.proofs.InputGrammarLemmas.{addresses_again}
+
+-- a run whose input is too long isn't done
+pub never_done : (reply : Reply) → outcome_of reply ≡ too_long → reply.status ≡ statuses.Done → ⊥
+never_done reply long done = let status : reply.status ≡ statuses.Input = ap (λ (o : Outcome). o.status) long in cc
+
+module _ {F : Type 0} (looks : files_trait.Ghosts F) (answered : Type 0) (before after : F) where
+  -- one file at most was read, unless a process was asked
+  pub most_read : (command : Option Command) (left : Option (List ℕ)) → ReadsFor looks command left answered before after → UnlessProcess command (ReadsOne looks before after)
+  most_read None left reads = reads.most
+  most_read (Some (Make product)) left reads = reads.most
+  most_read (Some (Batch (OneFile file))) left reads = reads.most
+  most_read (Some (Batch (OneProcess number))) left reads = tt
+
+  -- and one where the run is done
+  pub one_opened : (done : Type 0) (command : Option Command) (left : Option (List ℕ)) → (done → answered) → ReadsFor looks command left answered before after →
+      UnlessProcess command (Told (in_view (looks.worlds before)) (λ world. done → looks.opens after ≡ counted (looks.opens before)))
+  one_opened done None left from reads = λ world seen is. reads.opened world seen (from is)
+  one_opened done (Some (Make product)) left from reads = λ world seen is. reads.opened world seen (from is)
+  one_opened done (Some (Batch (OneFile file))) left from reads = λ world seen is. reads.opened world seen (from is)
+  one_opened done (Some (Batch (OneProcess number))) left from reads = tt
+
+  -- for a process no more than its batch reads
+  pub few_read : (words : List (List ℕ)) (left : Option (List ℕ)) → ReadsFor looks (command_in words) left answered before after →
+      Told (seen_in words left) (λ text. Told (in_view (looks.worlds before)) (λ world. (number : ℕ) (addrs : List ℕ) → Asks words text (OneProcess number) addrs →
+      looks.opens after ≤ looks.opens before + (process_batch number (looks.pid before) addrs world).opens))
+  few_read words left reads text seen world told number addrs asks =
+      let of_process = subst (λ command. ReadsFor looks command left answered before after) asks.command_is reads in
+      let whole = subst (λ command. seen_by command left ≡ Some text) asks.command_is seen in
+      of_process text whole addrs (addresses_again text addrs asks.input_is) world told
+
+  -- where nothing is looked at, and the run isn't done, no file was read
+  pub none_read : (target : Target) (read : Result (List ℕ) ℕ) → (answered → ⊥) → after ≡ before → ReadsForInput looks target read answered before after
+  none_read (OneFile file) read never same = record { most = inl (rw same refl); opened = λ world seen done. absurd (never done) }
+  none_read (OneProcess number) (Err n) never same = rw same refl
+  none_read (OneProcess number) (Ok addrs) never same = λ world seen. rw same (omega arith)
+
+  -- what was read for the answers to an input was read for the command
+  pub input_reads : (target : Target) (left : Option (List ℕ)) (text : List ℕ) → Told left (λ whole. text ≡ whole) → ReadsForInput looks target (addresses_in text) answered before after →
+      ReadsFor looks (Some (Batch target)) left answered before after
+  input_reads (OneFile file) left text whole reads = reads
+  input_reads (OneProcess number) left text whole reads = λ given told addrs is.
+      subst (λ read. ReadsForInput looks (OneProcess number) read answered before after) (ap addresses_in (whole given told) ∙ is) reads
+
+  -- and where nothing is looked at none is
+  pub none_read_for : (target : Target) (left : Option (List ℕ)) → (answered → ⊥) → after ≡ before → ReadsFor looks (Some (Batch target)) left answered before after
+  none_read_for (OneFile file) left never same = none_read (OneFile file) (Err 0) never same
+  none_read_for (OneProcess number) left never same = λ text told addrs is. none_read (OneProcess number) (Ok addrs) never same

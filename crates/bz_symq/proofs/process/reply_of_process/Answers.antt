@@ -1,0 +1,18 @@
+use Rattle.std.proofs.Common.{List, map, refl}
+use Rattle.bz_base.specs.Answer.{Answer, reading}
+use Rattle.bz_symq.proofs.ReplyLemmas.{replies_refused}
+use Rattle.bz_symq.proofs.process.reply_of_process.Goals as goal
+
+-- the texts of the answers that were given
+pub returns-in-Ok-clause-reply : goal.returns-in-Ok-clause-reply
+returns-in-Ok-clause-reply g c world told =
+    let given = rw c.as_slice.ensures.value at (c.in-Ok.ensures.answer world told) in
+    rw given refl
+
+pub returns-in-Ok-clause-answered : goal.returns-in-Ok-clause-answered
+returns-in-Ok-clause-answered g c done = record { answers = map reading c.in-Ok.answers.items; answers_are = tt; text_is = refl }
+
+-- the process was refused
+pub returns-in-Err-clause-reply : goal.returns-in-Err-clause-reply
+returns-in-Err-clause-reply g c world told =
+    replies_refused (λ (answers : List Answer). answers) c.args.addrs.items _ c.in-Err.error c.refusal.result (rw c.as_slice.ensures.value at (c.in-Err.ensures.answer world told)) c.refusal.ensures.reply

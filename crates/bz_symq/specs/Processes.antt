@@ -1,0 +1,54 @@
+-- A process as a run asks it: with a symbolizer that keeps nothing, and no resolver in charge of what is mapped.
+use Rattle.std.specs.Prelude.{◌≡◌, ◌⊎◌, ℕ, zero, suc, true, List, [], ◌∷◌, map, Option, None}
+use Rattle.std.proofs.Common.{arith}
+use Rattle.bz_base.specs.Answer.{Answer}
+use Rattle.bz_base.specs.declared.error.Error.{Error}
+use Rattle.bz_base.specs.declared.error.Error.TheVariants as errors
+use Rattle.bz_base.specs.declared.pid.Pid.{Pid}
+use Rattle.bz_base.specs.declared.pid.Pid.TheVariants as pids
+use Rattle.bz_cache.specs.Cache.{new_cache}
+use Rattle.bz_files.specs.World.{World, Entry, entry_at}
+use Rattle.bz_proc.specs.Maps.{Mapping, AreMappings}
+use Rattle.bz_proc.specs.MapsFile.{maps_path}
+use Rattle.bz_process.specs.Asked.{Asked}
+use Rattle.bz_process.specs.Caches.{ProcessCaches}
+use Rattle.bz_process.specs.Mapped.{asks_process}
+use Rattle.bz_process.specs.Process.{Outcome, batched, unsaid}
+
+-- the process that a number names: the own one for 0, and else the one with this id
+abbrev pub pid_of : ℕ → Pid
+pid_of zero = pids.Slf
+pid_of (suc n) = pids.Pid (record { value = suc n; ok = omega arith })
+
+-- how it is asked, where the own one has this id: by its perf map too, and by the paths that stand for its mappings
+abbrev pub asked_by : ℕ → ℕ → Asked
+asked_by number own = record { pid = pid_of number; own = own; perf_map = true; map_files = true }
+
+-- no file is kept, and of no process anything is remembered
+abbrev pub nothing_kept : ProcessCaches
+nothing_kept = record { elf = new_cache true; perf_maps = new_cache true; ids = [] }
+
+-- what it gives at addresses, one after another, where nothing is kept and no resolver is in charge: its answers or the refusal, and
+-- how many files are read at most
+abbrev pub process_batch : ℕ → ℕ → List ℕ → World → Outcome (List Answer)
+process_batch number own addrs world = asks_process (asked_by number own) None (map unsaid addrs) world nothing_kept
+
+-- what lies where the text of its mappings does
+abbrev pub maps_of : ℕ → World → Option Entry
+maps_of number world = entry_at world (maps_path (pid_of number))
+
+-- a text tells mappings, one at least
+abbrev pub TellsMappings : ℕ → List ℕ → Type 0
+TellsMappings number text = (mapping : Mapping) × (later : List Mapping) × AreMappings (pid_of number) text (mapping ∷ later)
+
+-- a text tells mappings, one at least, and the answers are those of the process by these, at each address in order, where a refused
+-- address is an ignored error
+pub record IsProcessBatch (number own : ℕ) (world : World) (text addrs : List ℕ) (answers : List Answer) : Type 0 where
+  pub tells : TellsMappings number text
+  pub answers_are : answers ≡ (batched (asked_by number own) (tells.0 ∷ tells.1) (map unsaid addrs) world nothing_kept).answers
+
+-- why a text gives no answers: it tells no mappings, or it tells that there are none
+abbrev pub IsMapsCause : ℕ → List ℕ → Error → Type 0
+IsMapsCause number text e =
+    ((e ≡ errors.InvalidData) × ((mappings : List Mapping) → AreMappings (pid_of number) text mappings → ⊥))
+    ⊎ ((e ≡ errors.UnexpectedEof) × AreMappings (pid_of number) text [])
