@@ -1,0 +1,4 @@
+//! What the generated text says as a Breakpad file.
+#![tactic(auto)]
+
+pub mod laws;

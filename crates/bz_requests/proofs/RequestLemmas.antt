@@ -1,0 +1,193 @@
+-- The request that is read of a text is the one that it spells.
+use Rattle.std.proofs.Common.{◌≡◌, ℕ, Bool, true, false, ◌&&◌, nat_lt, cond, List, [], ◌∷◌, length, codes, Option, Some, None, option_map, option_and_then, bytes_eq, refl, sym, ap, subst, ◌∙◌}
+use Rattle.std.specs.List.{AllZip}
+use Rattle.std.specs.Str.{is_utf8}
+use Rattle.std.proofs.lemmas.Bool.{and_parts, cond_both, ltb-true}
+use Rattle.std.proofs.lemmas.Slice.Eq.{bytes_eq-Decides}
+use Rattle.std.proofs.lemmas.Str.{IsUtf8-from_is_utf8}
+use Rattle.bz_base.proofs.NumberLemmas.{decimal_whole_found, decimal_whole_again}
+use Rattle.bz_lines.specs.Addresses.{IsAddress, address_in}
+use Rattle.bz_lines.specs.Fields.{fields}
+use Rattle.bz_lines.specs.Lines.{Agrees}
+use Rattle.bz_lines.proofs.AddressLemmas.{address_found, address_again}
+use Rattle.bz_lines.proofs.FieldLemmas.{are_fields, fields_are}
+use Rattle.bz_requests.specs.Requests.{Target, Breakpad, Gsym, Elf, Process, Request, Batch, Single, CacheElf, CacheProcess, EvictElf, EvictProcess, IsPath, IsTarget, IsRequest, Spell, path_in, pid_in, target_in, each_address_in, batch_in, single_in, cache_in, evict_in, other_in, request_by, request_in}
+use Rattle.bz_requests.proofs.ReadingLemmas.{path_some}
+
+-- what is made of a value is made of some value
+map_some : {A B : Type 0} (f : A → B) (o : Option A) (y : B) → option_map f o ≡ Some y → (x : A) × (o ≡ Some x) × (f x ≡ y)
+map_some f None y is = cc
+map_some f (Some x) y is = let same : f x ≡ y = cc in (x, refl, same)
+
+-- what comes of a value comes of some value
+then_some : {A B : Type 0} (f : A → Option B) (o : Option A) (y : B) → option_and_then f o ≡ Some y → (x : A) × (o ≡ Some x) × (f x ≡ Some y)
+then_some f None y is = cc
+then_some f (Some x) y is = (x, refl, is)
+
+-- a text that is tested to be a word is the word
+is_word : (text word : List ℕ) → bytes_eq text word ≡ true → text ≡ word
+is_word text word is = (bytes_eq-Decides text word).0 is
+
+-- What is read is what the fields spell.
+
+path_found : (field path : List ℕ) → path_in field ≡ Some path → IsPath field path
+path_found field path read = by_test (nat_lt 0 (length field) && is_utf8 field) refl read
+  where
+    by_test : (test : Bool) → (nat_lt 0 (length field) && is_utf8 field) ≡ test → cond test (Some field) None ≡ Some path → IsPath field path
+    by_test false is from = cc
+    by_test true is from =
+        let same : field ≡ path = cc in
+        let parts = and_parts (nat_lt 0 (length field)) (is_utf8 field) is in
+        record { same = same; some = ltb-true 0 (length field) parts.0; utf8 = IsUtf8-from_is_utf8 field parts.1 }
+
+target_found : (kind field : List ℕ) (target : Target) → target_in kind field ≡ Some target → IsTarget kind field target
+target_found kind field target =
+    cond_both (bytes_eq kind (codes "breakpad")) _ _ (λ read. read ≡ Some target → IsTarget kind field target)
+    (λ is read. let path = map_some (λ path. Breakpad path) (path_in field) target read in
+    subst (IsTarget kind field) path.2 (is_word kind (codes "breakpad") is, path_found field path.0 path.1))
+    (λ other. cond_both (bytes_eq kind (codes "gsym")) _ _ (λ read. read ≡ Some target → IsTarget kind field target)
+    (λ is read. let path = map_some (λ path. Gsym path) (path_in field) target read in
+    subst (IsTarget kind field) path.2 (is_word kind (codes "gsym") is, path_found field path.0 path.1))
+    (λ other. cond_both (bytes_eq kind (codes "elf")) _ _ (λ read. read ≡ Some target → IsTarget kind field target)
+    (λ is read. let path = map_some (λ path. Elf path) (path_in field) target read in
+    subst (IsTarget kind field) path.2 (is_word kind (codes "elf") is, path_found field path.0 path.1))
+    (λ other. cond_both (bytes_eq kind (codes "process")) _ _ (λ read. read ≡ Some target → IsTarget kind field target)
+    (λ is read. let pid = map_some (λ pid. Process pid) (pid_in field) target read in
+    subst (IsTarget kind field) pid.2 (is_word kind (codes "process") is, decimal_whole_found 10 4294967295 field pid.0 pid.1))
+    (λ other read. cc))))
+
+addresses_found : (texts : List (List ℕ)) (addrs : List ℕ) → each_address_in texts ≡ Some addrs → AllZip IsAddress texts addrs
+addresses_found [] [] read = tt
+addresses_found [] (addr ∷ addrs) read = cc
+addresses_found (text ∷ texts) addrs read = by_parts (addresses_found texts) addrs read
+  where
+    by_parts : ((rest : List ℕ) → each_address_in texts ≡ Some rest → AllZip IsAddress texts rest) → (all : List ℕ) → each_address_in (text ∷ texts) ≡ Some all → AllZip IsAddress (text ∷ texts) all
+    by_parts more all from =
+        let first = then_some (λ addr. option_map (λ addrs. addr ∷ addrs) (each_address_in texts)) (address_in text) all from in
+        let others = map_some (λ addrs. first.0 ∷ addrs) (each_address_in texts) all first.2 in
+        subst (AllZip IsAddress (text ∷ texts)) others.2 (address_found text first.0 first.1, more others.0 others.1)
+
+batch_found : (kind field : List ℕ) (others : List (List ℕ)) (request : Request) → batch_in kind field others ≡ Some request → Spell (kind ∷ field ∷ others) request
+batch_found kind field others request read =
+    let target = then_some (λ target. option_map (λ addrs. Batch target addrs) (each_address_in others)) (target_in kind field) request read in
+    let addrs = map_some (λ addrs. Batch target.0 addrs) (each_address_in others) request target.2 in
+    subst (Spell (kind ∷ field ∷ others)) addrs.2 (kind, field, others, refl, target_found kind field target.0 target.1, addresses_found others addrs.0 addrs.1)
+
+single_found : (all : List (List ℕ)) (request : Request) → single_in all ≡ Some request → Spell (codes "single" ∷ all) request
+single_found [] request read = cc
+single_found (kind ∷ []) request read = cc
+single_found (kind ∷ field ∷ []) request read = cc
+single_found (kind ∷ field ∷ other ∷ []) request read =
+    let target = then_some (λ target. option_map (λ addr. Single target addr) (address_in other)) (target_in kind field) request read in
+    let addr = map_some (λ addr. Single target.0 addr) (address_in other) request target.2 in
+    subst (Spell (codes "single" ∷ kind ∷ field ∷ other ∷ [])) addr.2 (kind, field, other, refl, target_found kind field target.0 target.1, address_found other addr.0 addr.1)
+single_found (kind ∷ field ∷ other ∷ more ∷ others) request read = cc
+
+cache_found : (all : List (List ℕ)) (request : Request) → cache_in all ≡ Some request → Spell (codes "cache" ∷ all) request
+cache_found [] request read = cc
+cache_found (kind ∷ []) request read = cc
+cache_found (kind ∷ field ∷ []) request read = by_kind read
+  where
+    by_kind : cache_in (kind ∷ field ∷ []) ≡ Some request → Spell (codes "cache" ∷ kind ∷ field ∷ []) request
+    by_kind =
+        cond_both (bytes_eq kind (codes "elf")) _ _ (λ found. found ≡ Some request → Spell (codes "cache" ∷ kind ∷ field ∷ []) request)
+        (λ is from. let path = map_some (λ path. CacheElf path) (path_in field) request from in
+        subst (Spell (codes "cache" ∷ kind ∷ field ∷ [])) path.2 (field, ap (λ k. codes "cache" ∷ k ∷ field ∷ []) (is_word kind (codes "elf") is), path_found field path.0 path.1))
+        (λ other. cond_both (bytes_eq kind (codes "process")) _ _ (λ found. found ≡ Some request → Spell (codes "cache" ∷ kind ∷ field ∷ []) request)
+        (λ is from. let pid = map_some (λ pid. CacheProcess pid) (pid_in field) request from in
+        subst (Spell (codes "cache" ∷ kind ∷ field ∷ [])) pid.2 (field, ap (λ k. codes "cache" ∷ k ∷ field ∷ []) (is_word kind (codes "process") is), decimal_whole_found 10 4294967295 field pid.0 pid.1))
+        (λ none from. cc))
+cache_found (kind ∷ field ∷ more ∷ others) request read = cc
+
+evict_found : (all : List (List ℕ)) (request : Request) → evict_in all ≡ Some request → Spell (codes "evict" ∷ all) request
+evict_found [] request read = cc
+evict_found (kind ∷ []) request read = cc
+evict_found (kind ∷ field ∷ []) request read = by_kind read
+  where
+    by_kind : evict_in (kind ∷ field ∷ []) ≡ Some request → Spell (codes "evict" ∷ kind ∷ field ∷ []) request
+    by_kind =
+        cond_both (bytes_eq kind (codes "elf")) _ _ (λ found. found ≡ Some request → Spell (codes "evict" ∷ kind ∷ field ∷ []) request)
+        (λ is from. let path = map_some (λ path. EvictElf path) (path_in field) request from in
+        subst (Spell (codes "evict" ∷ kind ∷ field ∷ [])) path.2 (field, ap (λ k. codes "evict" ∷ k ∷ field ∷ []) (is_word kind (codes "elf") is), path_found field path.0 path.1))
+        (λ other. cond_both (bytes_eq kind (codes "process")) _ _ (λ found. found ≡ Some request → Spell (codes "evict" ∷ kind ∷ field ∷ []) request)
+        (λ is from. let pid = map_some (λ pid. EvictProcess pid) (pid_in field) request from in
+        subst (Spell (codes "evict" ∷ kind ∷ field ∷ [])) pid.2 (field, ap (λ k. codes "evict" ∷ k ∷ field ∷ []) (is_word kind (codes "process") is), decimal_whole_found 10 4294967295 field pid.0 pid.1))
+        (λ none from. cc))
+evict_found (kind ∷ field ∷ more ∷ others) request read = cc
+
+other_found : (kind : List ℕ) (all : List (List ℕ)) (request : Request) → other_in kind all ≡ Some request → Spell (kind ∷ all) request
+other_found kind [] request read = cc
+other_found kind (field ∷ others) request read = batch_found kind field others request read
+
+-- fields by the word in front
+fields_found : (all : List (List ℕ)) (request : Request) → request_by all ≡ Some request → Spell all request
+fields_found [] request read = cc
+fields_found (first ∷ others) request read = by_word read
+  where
+    behind : (word : List ℕ) → first ≡ word → Spell (word ∷ others) request → Spell (first ∷ others) request
+    behind word is spelled = subst (λ f. Spell (f ∷ others) request) (sym is) spelled
+
+    by_word : request_by (first ∷ others) ≡ Some request → Spell (first ∷ others) request
+    by_word =
+        cond_both (bytes_eq first (codes "single")) _ _ (λ found. found ≡ Some request → Spell (first ∷ others) request)
+        (λ is from. behind (codes "single") (is_word first (codes "single") is) (single_found others request from))
+        (λ other. cond_both (bytes_eq first (codes "cache")) _ _ (λ found. found ≡ Some request → Spell (first ∷ others) request)
+        (λ is from. behind (codes "cache") (is_word first (codes "cache") is) (cache_found others request from))
+        (λ other. cond_both (bytes_eq first (codes "evict")) _ _ (λ found. found ≡ Some request → Spell (first ∷ others) request)
+        (λ is from. behind (codes "evict") (is_word first (codes "evict") is) (evict_found others request from))
+        (λ other from. other_found first others request from)))
+
+-- What the fields spell is read.
+
+path_again : (field path : List ℕ) → IsPath field path → path_in field ≡ Some path
+path_again field path is = path_some field is.some is.utf8 ∙ ap Some is.same
+
+target_again : (kind field : List ℕ) (target : Target) → IsTarget kind field target → target_in kind field ≡ Some target
+target_again kind field (Breakpad path) (is, spelled) = ap (λ k. target_in k field) is ∙ ap (option_map (λ path. Breakpad path)) (path_again field path spelled)
+target_again kind field (Gsym path) (is, spelled) = ap (λ k. target_in k field) is ∙ ap (option_map (λ path. Gsym path)) (path_again field path spelled)
+target_again kind field (Elf path) (is, spelled) = ap (λ k. target_in k field) is ∙ ap (option_map (λ path. Elf path)) (path_again field path spelled)
+target_again kind field (Process pid) (is, spelled) =
+    ap (λ k. target_in k field) is ∙ ap (option_map (λ pid. Process pid)) (decimal_whole_again 10 4294967295 field pid spelled)
+
+addresses_again : (texts : List (List ℕ)) (addrs : List ℕ) → AllZip IsAddress texts addrs → each_address_in texts ≡ Some addrs
+addresses_again [] [] each = refl
+addresses_again [] (addr ∷ addrs) each = absurd each
+addresses_again (text ∷ texts) [] each = absurd each
+addresses_again (text ∷ texts) (addr ∷ addrs) each = rw (address_again text addr each.0, addresses_again texts addrs each.1) refl
+
+batch_again : (kind field : List ℕ) (others : List (List ℕ)) (target : Target) (addrs : List ℕ) → IsTarget kind field target → AllZip IsAddress others addrs →
+    batch_in kind field others ≡ Some (Batch target addrs)
+batch_again kind field others target addrs named each = rw (target_again kind field target named, addresses_again others addrs each) refl
+
+-- a target's kind is none of the other words
+by_kind : (kind field : List ℕ) (others : List (List ℕ)) (target : Target) → IsTarget kind field target → request_by (kind ∷ field ∷ others) ≡ batch_in kind field others
+by_kind kind field others (Breakpad path) (is, spelled) = rw is refl
+by_kind kind field others (Gsym path) (is, spelled) = rw is refl
+by_kind kind field others (Elf path) (is, spelled) = rw is refl
+by_kind kind field others (Process pid) (is, spelled) = rw is refl
+
+fields_again : (all : List (List ℕ)) (request : Request) → Spell all request → request_by all ≡ Some request
+fields_again all (Batch target addrs) (kind, field, others, are, named, each) =
+    ap request_by are ∙ by_kind kind field others target named ∙ batch_again kind field others target addrs named each
+fields_again all (Single target addr) (kind, field, other, are, named, spelled) =
+    ap request_by are ∙ rw (target_again kind field target named, address_again other addr spelled) refl
+fields_again all (CacheElf path) (field, are, spelled) = ap request_by are ∙ ap (option_map (λ path. CacheElf path)) (path_again field path spelled)
+fields_again all (CacheProcess pid) (field, are, spelled) =
+    ap request_by are ∙ ap (option_map (λ pid. CacheProcess pid)) (decimal_whole_again 10 4294967295 field pid spelled)
+fields_again all (EvictElf path) (field, are, spelled) = ap request_by are ∙ ap (option_map (λ path. EvictElf path)) (path_again field path spelled)
+fields_again all (EvictProcess pid) (field, are, spelled) =
+    ap request_by are ∙ ap (option_map (λ pid. EvictProcess pid)) (decimal_whole_again 10 4294967295 field pid spelled)
+
+-- Texts.
+
+pub request_found : (text : List ℕ) (request : Request) → request_in text ≡ Some request → IsRequest text request
+unfolding request_in
+request_found text request read = record { all = fields text; are_fields = are_fields text; spelled = fields_found (fields text) request read }
+
+pub request_again : (text : List ℕ) (request : Request) → IsRequest text request → request_in text ≡ Some request
+unfolding request_in
+request_again text request is = ap request_by (fields_are text is.all is.are_fields) ∙ fields_again is.all request is.spelled
+
+-- so reader and relation agree
+pub request_agrees : Agrees request_in IsRequest
+request_agrees b content request = (request_found (b ∷ content) request, request_again (b ∷ content) request)

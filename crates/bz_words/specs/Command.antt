@@ -1,0 +1,164 @@
+-- What the words of the command line ask for.
+use Rattle.std.specs.Prelude.{◌≡◌, ℕ, Bool, false, not, ◌||◌, List, [], ◌∷◌, codes, Option, Some, None, Result, Ok, Err, option_map, option_and_then, unwrap_or, if◌then◌else◌, bytes_eq, nat_le, string_bytes}
+use Rattle.bz_base.specs.InputKind.{AddressKind, InProcess, InTable, InFile, address_kind}
+use Rattle.bz_base.specs.Number.{decimal_at, whole}
+use Rattle.bz_requests.specs.Requests.{Target, Breakpad, Gsym, Elf, Process, target_of, usual_kind}
+use Rattle.bz_requests.specs.declared.requests.Config.{Config}
+use Rattle.clap.specs.Words.{Row, Text, all_of, first_of}
+use Rattle.bz_words.specs.Definition.{faults, rows}
+use Rattle.bz_words.specs.declared.words.BadWords.{BadWords}
+use Rattle.bz_words.specs.declared.words.BadWords.TheVariants as bad_words
+use Rattle.bz_words.specs.declared.given.Command as made
+use Rattle.bz_words.specs.declared.given.Job as made_job
+use Rattle.bz_words.specs.declared.given.Job.TheVariants as made_jobs
+use Rattle.bz_words.specs.declared.given.Product as made_product
+use Rattle.bz_words.specs.declared.given.Product.TheVariants as made_products
+
+-- what is made of one file, and written as it is: the GSYM bytes or the canonical text of the Breakpad file at a path
+pub data Product : Type 0 where
+  Converted : Text → Product
+  Canonical : Text → Product
+
+-- what is to be done: one batch of addresses of a kind; the requests of the input; the generated job, by seed, functions and
+-- addresses; a product; the stacks of the input, over the Breakpad file at a path; the frames of the input, over the store at one
+pub data Job : Type 0 where
+  Batch : Target → AddressKind → Job
+  Serve : Job
+  Generate : ℕ → ℕ → ℕ → Job
+  Make : Product → Job
+  Stacks : Text → Job
+  Frames : Text → Job
+
+pub record Command : Type 0 where
+  pub config : Config
+  pub job : Job
+
+-- the same of the values that the code has
+abbrev pub product_of : made_product.Product → Product
+product_of (made_products.Converted path) = Converted (string_bytes path)
+product_of (made_products.Canonical path) = Canonical (string_bytes path)
+
+abbrev pub job_of : made_job.Job → Job
+job_of (made_jobs.Batch target kind) = Batch (target_of target) (address_kind kind)
+job_of made_jobs.Serve = Serve
+job_of (made_jobs.Generate seed functions addresses) = Generate seed functions addresses
+job_of (made_jobs.Make product) = Make (product_of product)
+job_of (made_jobs.Stacks path) = Stacks (string_bytes path)
+job_of (made_jobs.Frames path) = Frames (string_bytes path)
+
+abbrev pub command_of : made.Command → Command
+command_of command = record { config = command.config; job = job_of command.job }
+
+-- a number of one to ten decimal digits that isn't above the greatest
+abbrev pub number_in : ℕ → Text → Option ℕ
+number_in greatest text = whole (decimal_at 10 greatest text)
+
+-- `breakpad`, `gsym` and `elf` name a path, and `process` an id
+abbrev pub target_in : Text → Text → Option Target
+target_in kind text =
+    if bytes_eq kind (codes "breakpad") then Some (Breakpad text)
+    else (if bytes_eq kind (codes "gsym") then Some (Gsym text)
+    else (if bytes_eq kind (codes "elf") then Some (Elf text)
+    else (if bytes_eq kind (codes "process") then option_map (λ pid. Process pid) (number_in 4294967295 text) else None)))
+
+-- `abs`, `virt` or `file`
+abbrev pub kind_named : Text → Option AddressKind
+kind_named text =
+    if bytes_eq text (codes "abs") then Some InProcess
+    else (if bytes_eq text (codes "virt") then Some InTable else (if bytes_eq text (codes "file") then Some InFile else None))
+
+abbrev pub kind_for : Target → Option Text → Option AddressKind
+kind_for target None = Some (usual_kind target)
+kind_for target (Some text) = kind_named text
+
+-- a batch has one argument
+abbrev pub batch_in : Text → Option Text → List Text → Option Job
+batch_in kind input (arg ∷ []) = option_and_then (λ target. option_map (λ relative. Batch target relative) (kind_for target input)) (target_in kind arg)
+batch_in kind input _ = None
+
+-- `serve` has no argument, and no kind of address
+abbrev pub serve_in : Option Text → List Text → Option Job
+serve_in None [] = Some Serve
+serve_in _ _ = None
+
+-- a number from 1 on
+abbrev pub some_in : ℕ → Text → Option ℕ
+some_in greatest text = option_and_then (λ n. if nat_le 1 n then Some n else None) (number_in greatest text)
+
+-- `gen SEED FUNCTIONS ADDRESSES`
+abbrev pub numbers_in : Text → Text → Text → Option Job
+numbers_in seed functions addresses =
+    option_and_then (λ s. option_and_then (λ f. option_map (λ a. Generate s f a) (number_in 100000 addresses)) (some_in 100000 functions)) (number_in 2147483647 seed)
+
+abbrev pub generate_in : Option Text → List Text → Option Job
+generate_in None (seed ∷ functions ∷ addresses ∷ []) = numbers_in seed functions addresses
+generate_in _ _ = None
+
+-- `convert PATH`, `canon PATH`, `stacks PATH` and `frames PATH`
+abbrev pub path_job : Text → Text → Option Job
+path_job kind path =
+    if bytes_eq kind (codes "convert") then Some (Make (Converted path))
+    else (if bytes_eq kind (codes "canon") then Some (Make (Canonical path))
+    else (if bytes_eq kind (codes "stacks") then Some (Stacks path)
+    else (if bytes_eq kind (codes "frames") then Some (Frames path) else None)))
+
+-- with one argument, and no kind of address
+abbrev pub on_path_in : Text → Option Text → List Text → Option Job
+on_path_in kind None (path ∷ []) = path_job kind path
+on_path_in kind _ _ = None
+
+-- a kind that asks one source for the addresses of the input
+abbrev pub is_source : Text → Bool
+is_source kind = bytes_eq kind (codes "breakpad") || bytes_eq kind (codes "gsym") || bytes_eq kind (codes "elf") || bytes_eq kind (codes "process")
+
+abbrev pub job_by : Text → Option Text → List Text → Option Job
+job_by kind input args =
+    if bytes_eq kind (codes "serve") then serve_in input args
+    else (if bytes_eq kind (codes "gen") then generate_in input args
+    else (if is_source kind then batch_in kind input args else on_path_in kind input args))
+
+abbrev pub job_in : Option Text → Option Text → List Text → Option Job
+job_in None input args = None
+job_in (Some kind) input args = job_by kind input args
+
+-- a flag that is given has this value
+abbrev pub is_given : Option Text → Bool
+is_given None = false
+is_given (Some value) = bytes_eq value (codes "true")
+
+abbrev pub is_off : Text → List Row → Bool
+is_off flag found = is_given (first_of flag found)
+
+abbrev pub config_in : List Row → Config
+config_in found = record {
+  reload = not (is_off (codes "no-reload") found);
+  code_info = not (is_off (codes "no-code-info") found);
+  inlined = not (is_off (codes "no-inlined") found);
+  map_files = not (is_off (codes "no-map-files") found);
+}
+
+-- what is to be done by matches
+abbrev pub job_by_rows : List Row → Option Job
+job_by_rows found = job_in (first_of (codes "kind") found) (first_of (codes "input") found) (unwrap_or (all_of (codes "arg") found) [])
+
+-- the command that matches give
+abbrev pub command_by : List Row → Option Command
+command_by found = option_map (λ job. record { config = config_in found; job = job }) (job_by_rows found)
+
+-- the words read as this command: the matches that `clap` gives for them do
+abbrev pub command_read : List Text → Option Command
+command_read words = command_by (rows words)
+
+-- what `clap` finds no fault with
+abbrev pub unless_faulty : {A B : Type 0} → List A → Option B → Option B
+unless_faulty [] read = read
+unless_faulty (fault ∷ others) read = None
+
+-- the command of words that `clap` takes and that read as one
+abbrev pub command_in : List Text → Option Command
+command_in words = unless_faulty (faults words) (command_read words)
+
+-- the words were refused as a faulty command line
+abbrev pub IsUsage : {A : Type 0} → Result A BadWords → Type 0
+IsUsage (Ok given) = ⊥
+IsUsage (Err bad) = bad ≡ bad_words.Usage

@@ -1,0 +1,9 @@
+//! The words of the program's command line.
+#![tactic(auto)]
+
+mod definition;
+mod given;
+mod words;
+
+pub use given::{Command, Job, Product};
+pub use words::{BadWords, read_command};

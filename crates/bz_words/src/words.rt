@@ -1,0 +1,297 @@
+//! The command that words give.
+
+ghost use Rattle.std.specs.Prelude.{◌≡◌, ◌≢◌, ◌≤◌, true, Ok, Some, None, [], map, not, option_map, codes, string_bytes, unwrap_or, IfOk, IfSome};
+ghost use Rattle.bz_base.specs.InputKind.{address_kind};
+ghost use Rattle.bz_requests.specs.Requests.{target_of};
+ghost use Rattle.clap.specs.Words.{first_of, found_of, kind_of, rows_of};
+ghost use Rattle.clap.specs.declared.error.kind.ErrorKind.TheVariants as kinds;
+ghost use Rattle.bz_words.specs.Command.{IsUsage, batch_in, command_by, command_in, command_of, config_in, generate_in, is_off, is_source, job_by_rows, job_in, job_of, kind_for, kind_named, number_in, numbers_in, on_path_in, path_job, serve_in, some_in, target_in};
+ghost use Rattle.bz_words.specs.Definition.{IsTakenByClap, faults, rows};
+ghost use Rattle.bz_words.specs.declared.words.BadWords.TheVariants.{OutOfMemory};
+
+use crate::definition::program;
+use crate::given::{Command, Job, Product};
+use bz_base::{Input, whole_decimal};
+use bz_requests::{Config, Target};
+use clap::error::ErrorKind;
+use clap::{ArgMatches, Error};
+use std::alloc::{AllocError, Global};
+
+/// Why words give no command.
+#[derive(Clone, Copy, Debug, PartialEq, Eq)]
+pub enum BadWords {
+    /// They are no command line of the program.
+    Usage,
+    /// Memory ran out.
+    OutOfMemory,
+}
+
+impl From<AllocError> for BadWords {
+    ghost from_gives = { λ _ e. e ≡ OutOfMemory };
+
+    fn from(_failed: AllocError) -> BadWords {
+        BadWords::OutOfMemory
+    }
+}
+
+/// The command that the words give, which come without the program's name.
+pub fn read_command(alloc: Global, words: &[String]) -> Result<Command, BadWords>
+    ensures ok { IfOk result (λ command. command_in (map string_bytes words.now) ≡ Some (command_of command)) }
+    ensures usage { IsUsage result → command_in (map string_bytes words.now) ≡ None }
+    // What `clap` says of its own accord: words that it takes are refused only where they read as no command.
+    ensures taken { IsUsage result → IsTakenByClap (map string_bytes words.now) → command_by (rows (map string_bytes words.now)) ≡ None }
+{
+    match matches(alloc, words) {
+        Ok(matches) => command_given(alloc, &matches),
+        Err(bad) => Err(bad),
+    }
+}
+
+// What `clap` makes of the words.
+fn matches<'a>(alloc: Global, words: &'a [String]) -> Result<ArgMatches<'a>, BadWords>
+    ensures ok { IfOk result (λ matches. rows_of (found_of matches) ≡ rows (map string_bytes words.now)) }
+    ensures faultless { IfOk result (λ matches. faults (map string_bytes words.now) ≡ []) }
+    ensures usage { IsUsage result → faults (map string_bytes words.now) ≡ [] → ⊥ }
+    ensures taken { IsUsage result → IsTakenByClap (map string_bytes words.now) → ⊥ }
+{
+    let program = program(alloc)?;
+    match program.try_get_matches_from(words) {
+        Ok(matches) => Ok(matches),
+        Err(error) => Err(refusal(&error)),
+    }
+}
+
+// Words that aren't taken are a faulty command line, whatever is wrong with them.
+fn refusal(error: &Error) -> BadWords
+    ensures usage { result ≡ BadWords.Usage → kind_of error.now ≢ kinds.OutOfMemory }
+{
+    if error.kind() == ErrorKind::OutOfMemory {
+        BadWords::OutOfMemory
+    } else {
+        BadWords::Usage
+    }
+}
+
+// The command that the matches give.
+fn command_given(alloc: Global, matches: &ArgMatches<'_>) -> Result<Command, BadWords>
+    ensures ok { IfOk result (λ command. command_by (rows_of (found_of matches.now)) ≡ Some (command_of command)) }
+    ensures usage { IsUsage result → command_by (rows_of (found_of matches.now)) ≡ None }
+{
+    let config = config_given(matches);
+    match job_of_matches(alloc, matches)? {
+        Some(job) => Ok(Command { config, job }),
+        None => Err(BadWords::Usage),
+    }
+}
+
+fn config_given(matches: &ArgMatches<'_>) -> Config
+    ensures { result ≡ config_in (rows_of (found_of matches.now)) }
+{
+    Config {
+        reload: !is_off(matches, "no-reload"),
+        code_info: !is_off(matches, "no-code-info"),
+        inlined: !is_off(matches, "no-inlined"),
+        map_files: !is_off(matches, "no-map-files"),
+    }
+}
+
+// Whether a flag was given.
+fn is_off(matches: &ArgMatches<'_>, flag: &str) -> bool
+    ensures { result ≡ is_off flag.now (rows_of (found_of matches.now)) }
+{
+    match text(matches, flag) {
+        Some(value) => value == "true",
+        None => false,
+    }
+}
+
+// The first value of an argument.
+fn text<'a>(matches: &ArgMatches<'a>, id: &str) -> Option<&'a str>
+    ensures { option_map (λ text. text.now) result ≡ first_of id.now (rows_of (found_of matches.now)) }
+{
+    matches.get_str(id)
+}
+
+// What is to be done, by the matches.
+fn job_of_matches(alloc: Global, matches: &ArgMatches<'_>) -> Result<Option<Job>, AllocError>
+    ensures { IfOk result (λ job. option_map job_of job ≡ job_by_rows (rows_of (found_of matches.now))) }
+{
+    let kind = text(matches, "kind");
+    let input = text(matches, "input");
+    match matches.get_strs("arg") {
+        Some(args) => job_given(alloc, kind, input, args),
+        None => job_given(alloc, kind, input, &[]),
+    }
+}
+
+// What is to be done, by the kind, the kind of address and the arguments.
+fn job_given(
+    alloc: Global,
+    kind: Option<&str>,
+    input: Option<&str>,
+    args: &[&str],
+) -> Result<Option<Job>, AllocError>
+    ensures { IfOk result (λ job. option_map job_of job ≡ job_in (option_map (λ text. text.now) kind.entry) (option_map (λ text. text.now) input.entry) (map (λ text. text.now) args.now)) }
+{
+    match kind {
+        Some("serve") => Ok(serve(input, args)),
+        Some("gen") => Ok(generate(input, args)),
+        Some(kind) if is_source(kind) => batch(alloc, kind, input, args),
+        Some(kind) => on_path(alloc, kind, input, args),
+        None => Ok(None),
+    }
+}
+
+fn is_source(kind: &str) -> bool
+    ensures { result ≡ is_source kind.now }
+{
+    kind == "breakpad" || kind == "gsym" || kind == "elf" || kind == "process"
+}
+
+fn serve(input: Option<&str>, args: &[&str]) -> Option<Job>
+    ensures { option_map job_of result ≡ serve_in (option_map (λ text. text.now) input.entry) (map (λ text. text.now) args.now) }
+{
+    match (input, args) {
+        (None, []) => Some(Job::Serve),
+        _ => None,
+    }
+}
+
+fn generate(input: Option<&str>, args: &[&str]) -> Option<Job>
+    ensures { option_map job_of result ≡ generate_in (option_map (λ text. text.now) input.entry) (map (λ text. text.now) args.now) }
+{
+    match (input, args) {
+        (None, [seed, functions, addresses]) => numbers(seed, functions, addresses),
+        _ => None,
+    }
+}
+
+fn numbers(seed: &str, functions: &str, addresses: &str) -> Option<Job>
+    ensures { option_map job_of result ≡ numbers_in seed.now functions.now addresses.now }
+{
+    let seed = number(seed, 2_147_483_647)?;
+    let functions = some(functions, 100_000)?;
+    let addresses = number(addresses, 100_000)?;
+    Some(Job::Generate {
+        seed,
+        functions,
+        addresses,
+    })
+}
+
+fn some(text: &str, greatest: u64) -> Option<u64>
+    ensures value { result ≡ some_in greatest text.now }
+{
+    let value = number(text, greatest)?;
+    if value >= 1 { Some(value) } else { None }
+}
+
+// One to ten decimal digits.
+fn number(text: &str, greatest: u64) -> Option<u64>
+    ensures value { result ≡ number_in greatest text.now }
+    ensures small { IfSome result (λ value. value ≤ greatest) }
+{
+    whole_decimal(text.as_bytes(), 10, greatest)
+}
+
+// The work on one path, which takes no kind of address.
+fn on_path(
+    alloc: Global,
+    kind: &str,
+    input: Option<&str>,
+    args: &[&str],
+) -> Result<Option<Job>, AllocError>
+    ensures { IfOk result (λ job. option_map job_of job ≡ on_path_in kind.now (option_map (λ text. text.now) input.entry) (map (λ text. text.now) args.now)) }
+{
+    match (input, args) {
+        (None, [path]) => path_job(alloc, kind, path),
+        _ => Ok(None),
+    }
+}
+
+fn path_job(alloc: Global, kind: &str, path: &str) -> Result<Option<Job>, AllocError>
+    ensures { IfOk result (λ job. option_map job_of job ≡ path_job kind.now path.now) }
+{
+    let path = String::from_str(alloc, path)?;
+    if kind == "convert" {
+        Ok(Some(Job::Make(Product::Converted(path))))
+    } else if kind == "canon" {
+        Ok(Some(Job::Make(Product::Canonical(path))))
+    } else if kind == "stacks" {
+        Ok(Some(Job::Stacks(path)))
+    } else if kind == "frames" {
+        Ok(Some(Job::Frames(path)))
+    } else {
+        Ok(None)
+    }
+}
+
+fn batch(
+    alloc: Global,
+    kind: &str,
+    input: Option<&str>,
+    args: &[&str],
+) -> Result<Option<Job>, AllocError>
+    ensures { IfOk result (λ job. option_map job_of job ≡ batch_in kind.now (option_map (λ text. text.now) input.entry) (map (λ text. text.now) args.now)) }
+{
+    let [arg] = args else {
+        return Ok(None);
+    };
+    let Some(target) = named_target(alloc, kind, arg)? else {
+        return Ok(None);
+    };
+    Ok(of_kind(target, input))
+}
+
+fn of_kind(target: Target, input: Option<&str>) -> Option<Job>
+    ensures { option_map job_of result ≡ option_map (λ kind. Rattle.bz_words.specs.Command.Batch (target_of target) kind) (kind_for (target_of target) (option_map (λ text. text.now) input.entry)) }
+{
+    let kind = kind_for(&target, input)?;
+    Some(Job::Batch(target, kind))
+}
+
+fn named_target(alloc: Global, kind: &str, text: &str) -> Result<Option<Target>, AllocError>
+    ensures { IfOk result (λ target. option_map target_of target ≡ target_in kind.now text.now) }
+{
+    if kind == "breakpad" {
+        Ok(Some(Target::Breakpad(String::from_str(alloc, text)?)))
+    } else if kind == "gsym" {
+        Ok(Some(Target::Gsym(String::from_str(alloc, text)?)))
+    } else if kind == "elf" {
+        Ok(Some(Target::Elf(String::from_str(alloc, text)?)))
+    } else if kind == "process" {
+        Ok(process(text))
+    } else {
+        Ok(None)
+    }
+}
+
+fn process(text: &str) -> Option<Target>
+    ensures { option_map target_of result ≡ option_map (λ pid. Rattle.bz_requests.specs.Requests.Process pid) (number_in 4294967295 text.now) }
+{
+    let pid = number(text, 4_294_967_295)?;
+    Some(Target::Process(pid as u32))
+}
+
+fn kind_for(target: &Target, input: Option<&str>) -> Option<Input<()>>
+    ensures { option_map address_kind result ≡ kind_for (target_of target.now) (option_map (λ text. text.now) input.entry) }
+{
+    match input {
+        None => Some(target.usual_kind()),
+        Some(text) => kind_named(text),
+    }
+}
+
+fn kind_named(text: &str) -> Option<Input<()>>
+    ensures { option_map address_kind result ≡ kind_named text.now }
+{
+    if text == "abs" {
+        Some(Input::AbsAddr(()))
+    } else if text == "virt" {
+        Some(Input::VirtOffset(()))
+    } else if text == "file" {
+        Some(Input::FileOffset(()))
+    } else {
+        None
+    }
+}
