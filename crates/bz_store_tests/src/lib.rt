@@ -1,0 +1,9 @@
+//! Tests of bz_store, over what it makes public.
+#![tactic(auto)]
+
+#[cfg(test)]
+mod asking;
+#[cfg(test)]
+mod frames;
+#[cfg(test)]
+mod keeping;
