@@ -1,0 +1,188 @@
+-- The parts of a file that are written one after another are the layout of its plan.
+use Rattle.std.proofs.Common.{◌≡◌, ℕ, suc, ◌+◌, ◌*◌, ◌≤◌, List, [], ◌∷◌, ◌++◌, flat_map, length, map, refl, sym, ap, subst, ◌∙◌, arith, append_assoc}
+use Rattle.std.specs.Str.{bytes_eq}
+use Rattle.std.proofs.lemmas.List.{length-map}
+use Rattle.bz_gsym_layout.specs.Indexed.{AreFiles, AreFunctions, IsPlan, code_of, codes_of, source_of, sources_listed, texts_listed}
+use Rattle.bz_gsym_layout.specs.Layout as layout
+use Rattle.bz_gsym_layout.specs.Layout.{Tables, data_bytes, file_bytes, head_bytes, laid_out, string_bytes, strings_place, table_bytes, tables_of, word, zeros}
+use Rattle.bz_gsym_layout.specs.Numbering.{same_source, sources_of, stored, texts_of}
+use Rattle.bz_gsym_layout.specs.Pass.{AreCodesOf, source_bytes}
+use Rattle.bz_gsym_layout.specs.Places.{text_places}
+use Rattle.bz_gsym_layout.specs.Plan.{Code, Source}
+use Rattle.bz_gsym_layout.specs.declared.plan.Function.{Function}
+use Rattle.bz_gsym_layout.specs.declared.plan.Plan.{Plan}
+use Rattle.bz_gsym_layout.specs.declared.plan.SourceFile.{SourceFile}
+use Rattle.bz_gsym_layout.proofs.DistinctLemmas.{Differ, firsts_differ}
+use Rattle.bz_gsym_layout.proofs.IndexedLemmas.{code_is, files_are, more_sources, starts_are}
+use Rattle.bz_gsym_layout.proofs.LayoutLemmas.{length_is, to_data}
+use Rattle.bz_gsym_layout.proofs.PlaceLemmas.{length_text_places}
+
+module _ (plan : Plan) (is : IsPlan plan) where
+  abbrev pub codes : List Code
+  codes = codes_of plan
+
+  -- the tables that the plan lists
+  abbrev pub listed : Tables
+  listed = record { texts = texts_listed plan; sources = sources_listed plan }
+
+  listed_are : listed ≡ tables_of codes
+  listed_are =
+      ap (λ (texts : List (List ℕ)). record { texts = texts; sources = sources_listed plan }) is.texts
+      ∙ ap (λ (sources : List Source). record { texts = (tables_of codes).texts; sources = sources }) is.sources
+
+  texts_differ : Differ bytes_eq listed.texts
+  texts_differ = subst (Differ bytes_eq) (sym is.texts) (firsts_differ bytes_eq (flat_map texts_of codes))
+
+  sources_differ : Differ same_source listed.sources
+  sources_differ = subst (Differ same_source) (sym is.sources) (firsts_differ same_source (flat_map sources_of codes))
+
+  abbrev pub view : Function → Code
+  view = code_of (texts_listed plan) (sources_listed plan)
+
+  abbrev pub places : List ℕ
+  places = text_places 1 (texts_listed plan)
+
+  texts_many : length (texts_listed plan) ≡ length plan.texts.items
+  texts_many = length-map plan.texts.items (λ text. text.now)
+
+  sources_many : length (sources_listed plan) ≡ length plan.sources.items
+  sources_many = length-map plan.sources.items (source_of (texts_listed plan))
+
+  -- each function has the numbers of what it says
+  pub functions_are : AreCodesOf listed places view plan.functions.items
+  functions_are i f there =
+      let own = is.functions i f there in
+      code_is listed texts_differ sources_differ f (record {
+        name = omega (arith, own.name, texts_many);
+        rows = λ k row at. omega (arith, own.rows k row at, sources_many);
+        calls = λ k node at. let both = own.calls k node at in (omega (arith, both.0, texts_many), omega (arith, both.1, sources_many));
+        ascend = own.ascend;
+        order = own.order;
+      })
+
+  pub files_written : flat_map (source_bytes places) plan.sources.items ≡ flat_map (file_bytes listed) listed.sources
+  files_written =
+      files_are listed texts_differ sources_differ plan.sources.items (λ i s there.
+      let both = is.files i s there in
+      (omega (arith, both.0, texts_many), omega (arith, both.1, texts_many)))
+
+  pub starts_written : flat_map (λ (f : Function). word 8 f.start) plan.functions.items ≡ flat_map (λ (c : Code). word 8 c.start) codes
+  starts_written = starts_are view (λ f. refl) plan.functions.items
+
+  -- the layout of the codes is that by the listed tables
+  pub laid_out_is : laid_out codes listed ≡ layout.layout codes
+  laid_out_is = ap (laid_out codes) listed_are
+
+  abbrev pub strings_at : ℕ
+  strings_at = strings_place codes listed
+
+  abbrev pub data_at : ℕ
+  data_at = strings_at + length (string_bytes listed)
+
+  codes_many : length codes ≡ length plan.functions.items
+  codes_many = length-map plan.functions.items view
+
+  pub strings_at_is : (place : ℕ) → place ≡ 48 + 8 * length plan.functions.items + 4 * length plan.functions.items + 4 + 8 * suc (length plan.sources.items) → place ≡ strings_at
+  strings_at_is place same = omega (arith, same, codes_many, sources_many)
+
+  pub data_at_is : (place strings end : ℕ) → strings ≡ strings_at → end ≡ 1 + length (flat_map stored listed.texts) → place ≡ strings + end → place ≡ data_at
+  data_at_is place strings end at text_end sum = omega (arith, at, text_end, sum)
+
+  -- the whole has as many bytes as the last function's data ends at
+  pub whole_many : (end : ℕ) → end ≡ data_at + length (data_bytes listed data_at codes) → length (layout.layout codes) ≡ end
+  whole_many end same = ap length (sym laid_out_is) ∙ omega (arith, same, length_is codes listed)
+
+  -- one part after another
+  assoc : (a b c d e f g h : List ℕ) → ((((((a ++ b) ++ c) ++ d) ++ e) ++ f) ++ g) ++ h ≡ a ++ ((b ++ (c ++ (d ++ (e ++ f)))) ++ (g ++ h))
+  assoc a b c d e f g h = simp append_assoc
+
+  before : (a b c d e f g : List ℕ) → (((((a ++ b) ++ c) ++ d) ++ e) ++ f) ++ g ≡ (a ++ (b ++ (c ++ (d ++ (e ++ f))))) ++ g
+  before a b c d e f g = simp append_assoc
+
+  abbrev pub head : List ℕ
+  head = head_bytes (length codes) strings_at (length (string_bytes listed))
+
+  abbrev pub places_written : List ℕ
+  places_written = flat_map (word 4) (layout.data_places listed data_at codes)
+
+  abbrev pub front : List ℕ
+  front =
+      (((((head ++ flat_map (λ (c : Code). word 8 c.start) codes) ++ places_written) ++ word 4 (suc (length listed.sources))) ++ zeros 8)
+      ++ flat_map (file_bytes listed) listed.sources) ++ string_bytes listed
+
+  front_many : length front ≡ data_at
+  front_many =
+      ap length (before head (flat_map (λ (c : Code). word 8 c.start) codes) places_written (word 4 (suc (length listed.sources))) (zeros 8) (flat_map (file_bytes listed) listed.sources) (string_bytes listed))
+      ∙ to_data codes listed
+
+  pub whole_is : (out : List ℕ) → out ≡ front ++ data_bytes listed (length front) codes → out ≡ layout.layout codes
+  whole_is out wrote =
+      wrote ∙ ap (λ n. front ++ data_bytes listed n codes) front_many
+      ∙ assoc head (flat_map (λ (c : Code). word 8 c.start) codes) places_written (word 4 (suc (length listed.sources))) (zeros 8)
+      (flat_map (file_bytes listed) listed.sources) (string_bytes listed) (data_bytes listed data_at codes)
+      ∙ laid_out_is
+
+  steps : (a b c d e f g o1 o2 o3 o4 o5 o6 o7 o8 : List ℕ) → o1 ≡ a → o2 ≡ o1 ++ b → o3 ≡ o2 ++ c → o4 ≡ o3 ++ d → o5 ≡ o4 ++ e → o6 ≡ o5 ++ f →
+      o7 ≡ o6 ++ 0 ∷ [] → o8 ≡ o7 ++ g → o8 ≡ (((((a ++ b) ++ c) ++ d) ++ e) ++ f) ++ 0 ∷ g
+  steps a b c d e f g o1 o2 o3 o4 o5 o6 o7 o8 e1 e2 e3 e4 e5 e6 e7 e8 =
+      let s2 : o2 ≡ a ++ b = e2 ∙ ap (λ l. l ++ b) e1 in
+      let s3 : o3 ≡ (a ++ b) ++ c = e3 ∙ ap (λ l. l ++ c) s2 in
+      let s4 : o4 ≡ ((a ++ b) ++ c) ++ d = e4 ∙ ap (λ l. l ++ d) s3 in
+      let s5 : o5 ≡ (((a ++ b) ++ c) ++ d) ++ e = e5 ∙ ap (λ l. l ++ e) s4 in
+      let s6 : o6 ≡ ((((a ++ b) ++ c) ++ d) ++ e) ++ f = e6 ∙ ap (λ l. l ++ f) s5 in
+      e8 ∙ ap (λ l. l ++ g) (e7 ∙ ap (λ l. l ++ 0 ∷ []) s6) ∙ append_assoc (((((a ++ b) ++ c) ++ d) ++ e) ++ f) (0 ∷ []) g
+
+  -- what is written before the functions' data
+  pub front_is : (count at len sources : ℕ) (found o1 o2 o3 o4 o5 o6 o7 o8 : List ℕ) → count ≡ length plan.functions.items → at ≡ strings_at →
+      len ≡ 1 + length (flat_map stored listed.texts) → sources ≡ length plan.sources.items + 1 → found ≡ layout.data_places listed data_at codes →
+      o1 ≡ head_bytes count at len → o2 ≡ o1 ++ flat_map (λ (f : Function). word 8 f.start) plan.functions.items → o3 ≡ o2 ++ flat_map (word 4) found →
+      o4 ≡ o3 ++ word 4 sources → o5 ≡ o4 ++ zeros 8 → o6 ≡ o5 ++ flat_map (source_bytes places) plan.sources.items → o7 ≡ o6 ++ 0 ∷ [] →
+      o8 ≡ o7 ++ flat_map stored listed.texts → o8 ≡ front
+  front_is count at len sources found o1 o2 o3 o4 o5 o6 o7 o8 count_is at_is len_is sources_is found_is e1 e2 e3 e4 e5 e6 e7 e8 =
+      let n : count ≡ length codes = count_is ∙ sym codes_many in
+      let l : len ≡ length (string_bytes listed) = omega (arith, len_is) in
+      let s : sources ≡ suc (length listed.sources) = omega (arith, sources_is, sources_many) in
+      let h : o1 ≡ head = e1 ∙ ap (λ k. head_bytes k at len) n ∙ ap (λ k. head_bytes (length codes) k len) at_is ∙ ap (λ k. head_bytes (length codes) strings_at k) l in
+      steps head (flat_map (λ (c : Code). word 8 c.start) codes) places_written (word 4 (suc (length listed.sources))) (zeros 8)
+      (flat_map (file_bytes listed) listed.sources) (flat_map stored listed.texts) o1 o2 o3 o4 o5 o6 o7 o8 h
+      (e2 ∙ ap (λ k. o1 ++ k) starts_written) (e3 ∙ ap (λ k. o2 ++ flat_map (word 4) k) found_is) (e4 ∙ ap (λ k. o3 ++ word 4 k) s) e5
+      (e6 ∙ ap (λ k. o5 ++ k) files_written) e7 e8
+
+  -- and all
+  pub all_is : (front_part out : List ℕ) → front_part ≡ front → out ≡ front_part ++ data_bytes listed (length front_part) codes → out ≡ layout.layout codes
+  all_is front_part out same wrote = whole_is out (wrote ∙ ap (λ l. l ++ data_bytes listed (length l) codes) same)
+
+  -- what is found of the plan's functions, and written of them
+  module _ (functions : List Function) (found : List ℕ) (same_functions : functions ≡ plan.functions.items) (same_places : found ≡ places) where
+    many_places : length plan.texts.items ≡ length found
+    many_places = sym (ap length same_places ∙ length_text_places 1 (texts_listed plan) ∙ texts_many)
+
+    pub within : (most : ℕ) → length plan.sources.items ≤ most → AreFunctions (length found) most functions
+    within most few =
+        subst (AreFunctions (length found) most) (sym same_functions)
+        (subst (λ n. AreFunctions n most plan.functions.items) many_places (more_sources (length plan.texts.items) (length plan.sources.items) most plan.functions.items few is.functions))
+
+    pub files_within : (files : List SourceFile) → files ≡ plan.sources.items → AreFiles (length found) files
+    files_within files same = subst (AreFiles (length found)) (sym same) (subst (λ n. AreFiles n plan.sources.items) many_places is.files)
+
+    are : AreCodesOf listed found view functions
+    are = subst (λ l. AreCodesOf listed l view functions) (sym same_places) (subst (AreCodesOf listed places view) (sym same_functions) functions_are)
+
+    pub end_is : (at end : ℕ) → at ≡ data_at →
+        ((t : Tables) (view : Function → Code) → AreCodesOf t found view functions → end ≡ at + length (data_bytes t at (map view functions))) →
+        length (layout.layout codes) ≡ end
+    end_is at end at_is ends =
+        whole_many end
+        (ends listed view are ∙ ap (λ n. n + length (data_bytes listed n (map view functions))) at_is
+        ∙ ap (λ l. data_at + length (data_bytes listed data_at (map view l))) same_functions)
+
+    pub places_are : (at : ℕ) (starts : List ℕ) → at ≡ data_at →
+        ((t : Tables) (view : Function → Code) → AreCodesOf t found view functions → starts ≡ layout.data_places t at (map view functions)) →
+        starts ≡ layout.data_places listed data_at codes
+    places_are at starts at_is places_is =
+        places_is listed view are ∙ ap (λ n. layout.data_places listed n (map view functions)) at_is ∙ ap (λ l. layout.data_places listed data_at (map view l)) same_functions
+
+    pub data_is : (old new : List ℕ) →
+        ((t : Tables) (view : Function → Code) → AreCodesOf t found view functions → new ≡ old ++ data_bytes t (length old) (map view functions)) →
+        new ≡ old ++ data_bytes listed (length old) codes
+    data_is old new wrote = wrote listed view are ∙ ap (λ l. old ++ data_bytes listed (length old) (map view l)) same_functions

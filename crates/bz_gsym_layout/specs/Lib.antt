@@ -1,0 +1,14 @@
+pub mod Indexed
+pub mod InOrder
+pub mod Layable
+pub mod Layout
+pub mod Leb
+pub mod Nesting
+pub mod Numbering
+pub mod Pass
+pub mod Places
+pub mod Plan
+pub mod Planned
+pub mod RowPass
+pub mod Rows
+pub mod Written

@@ -1,0 +1,100 @@
+//! What stands at a function's data place: its size, its name, and its entries.
+
+ghost use Rattle.std.specs.Prelude.{◌≡◌, ◌<◌, ◌-◌, ◌^◌, ◌++◌, ◌∷◌, ℕ, List, length, IfOk, IsOkUnless, OnOk};
+ghost use Rattle.bz_gsym_layout.specs.Indexed.{IsFunction};
+ghost use Rattle.bz_gsym_layout.specs.InOrder.{NeverBefore};
+ghost use Rattle.bz_gsym_layout.specs.Layout.{Tables, code_bytes, entry_bytes, inline_entry, line_entry};
+ghost use Rattle.bz_gsym_layout.specs.Plan.{Code, Line};
+ghost use Rattle.bz_gsym_layout.specs.Pass.{IsCodeOf};
+ghost use Rattle.bz_gsym_layout.specs.RowPass.{AreRowsOf, AreSourced};
+ghost use Rattle.bz_gsym_layout.specs.declared.error.LayoutError.{LayoutError};
+
+use crate::calls::{Numbers, push_calls, push_numbers};
+use crate::error::Result;
+use crate::plan::{Function, Row};
+use crate::rows::push_line_table;
+use crate::words::{push_word, push_zeros};
+use bz_gsym::{INFO_TYPE_INLINE_INFO, INFO_TYPE_LINE_TABLE_INFO};
+use std::alloc::Global;
+
+/// Writes a data entry of a type.
+fn push_entry(out: &mut Vec<u8>, typ: u32, text: &[u8]) -> Result<()>
+    ensures ok { OnOk result (out.new.items ≡ out.old.items ++ entry_bytes typ text.now) }
+    ensures memory { IsOkUnless result LayoutError.OutOfMemory }
+{
+    push_word(out, u64::from(typ))?;
+    push_word(out, text.len() as u64)?;
+    out.extend_from_slice(text)?;
+    Ok(())
+}
+
+/// Writes the line table of a function that starts there, if it has rows.
+fn push_line_entry(alloc: Global, out: &mut Vec<u8>, start: u64, rows: &[Row]) -> Result<()>
+    requires ascend { NeverBefore start rows.now }
+    requires sourced { AreSourced (2 ^ 64 - 1) rows.now }
+    ensures ok { OnOk result ((t : Tables) (lines : List (ℕ × Line)) → AreRowsOf t lines rows.now → out.new.items ≡ out.old.items ++ line_entry t start lines) }
+    ensures memory { IsOkUnless result LayoutError.OutOfMemory }
+{
+    if rows.is_empty() {
+        return Ok(());
+    }
+    let mut text = Vec::new(alloc);
+    push_line_table(&mut text, start, rows)?;
+    push_entry(out, INFO_TYPE_LINE_TABLE_INFO, &text)
+}
+
+/// Writes the inline tree of a function, if it has calls; texts have these places in the string table.
+fn push_inline_entry(
+    alloc: Global,
+    out: &mut Vec<u8>,
+    function: &Function,
+    places: &[u64],
+) -> Result<()>
+    requires { IsFunction (length places.now) (2 ^ 64 - 1) function.now }
+    ensures ok { OnOk result ((t : Tables) (c : Code) → IsCodeOf t places.now c function.now → out.new.items ≡ out.old.items ++ inline_entry t c c.calls) }
+    ensures memory { IsOkUnless result LayoutError.OutOfMemory }
+{
+    if function.calls.is_empty() {
+        return Ok(());
+    }
+    let mut text = Vec::new(alloc);
+    let root = Numbers {
+        offset: 0,
+        size: u64::from(function.size),
+        name: places[function.name],
+        file: 0,
+        line: 0,
+    };
+    push_numbers(&mut text, root, true)?;
+    push_calls(alloc, &mut text, function.start, &function.calls, places)?;
+    push_entry(out, INFO_TYPE_INLINE_INFO, &text)
+}
+
+/// Writes a function's data; texts have these places in the string table.
+pub(crate) fn push_function(
+    alloc: Global,
+    out: &mut Vec<u8>,
+    function: &Function,
+    places: &[u64],
+) -> Result<()>
+    requires { IsFunction (length places.now) (2 ^ 64 - 1) function.now }
+    ensures ok { OnOk result ((t : Tables) (c : Code) → IsCodeOf t places.now c function.now → out.new.items ≡ out.old.items ++ code_bytes t c) }
+    ensures memory { IsOkUnless result LayoutError.OutOfMemory }
+{
+    push_word(out, u64::from(function.size))?;
+    push_word(out, places[function.name])?;
+    push_line_entry(alloc, out, function.start, &function.rows)?;
+    push_inline_entry(alloc, out, function, places)?;
+    push_zeros(out, 8)
+}
+
+/// How many bytes a function's data has.
+pub(crate) fn function_len(alloc: Global, function: &Function, places: &[u64]) -> Result<u64>
+    requires { IsFunction (length places.now) (2 ^ 64 - 1) function.now }
+    ensures len { IfOk result (λ len. (t : Tables) (c : Code) → IsCodeOf t places.now c function.now → len ≡ length (code_bytes t c)) }
+    ensures memory { IsOkUnless result LayoutError.OutOfMemory }
+{
+    let mut bytes = Vec::new(alloc);
+    push_function(alloc, &mut bytes, function, places)?;
+    Ok(bytes.len() as u64)
+}

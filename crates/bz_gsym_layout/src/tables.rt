@@ -1,0 +1,141 @@
+//! What stands before the functions' data: the head, the tables, and the string table.
+
+ghost use Rattle.std.specs.Prelude.{◌≡◌, ◌<◌, ◌+◌, ◌*◌, ◌++◌, ◌∷◌, ℕ, List, Some, flat_map, length, map, slice_get, suc, IfOk, IsOkUnless, OnOk};
+ghost use Rattle.bz_gsym_layout.specs.Layout.{head_bytes, word};
+ghost use Rattle.bz_gsym_layout.specs.Numbering.{stored};
+ghost use Rattle.bz_gsym_layout.specs.Pass.{source_bytes};
+ghost use Rattle.bz_gsym_layout.specs.Indexed.{AreFiles};
+ghost use Rattle.bz_gsym_layout.specs.Places.{text_places};
+ghost use Rattle.bz_gsym_layout.specs.declared.error.LayoutError.{LayoutError};
+
+use crate::error::{LayoutError, Result};
+use crate::plan::{Function, SourceFile};
+use crate::words::{push_long, push_word, push_zeros};
+use bz_gsym::GSYM_MAGIC;
+use std::alloc::Global;
+
+/// Where texts lie in the string table, and how many bytes that has.
+#[derive(Drop)]
+pub(crate) struct TextPlaces {
+    pub places: Vec<u64>,
+    pub end: u64,
+}
+
+/// Where texts lie that a zero byte each ends, behind the one that the string table begins with.
+pub(crate) fn place_texts(alloc: Global, texts: &[&str]) -> Result<TextPlaces>
+    ensures places { IfOk result (λ found. found.places.items ≡ text_places 1 (map (λ text. text.now) texts.now)) }
+    ensures end { IfOk result (λ found. found.end ≡ 1 + length (flat_map stored (map (λ text. text.now) texts.now))) }
+    ensures memory { IsOkUnless result LayoutError.OutOfMemory }
+{
+    let mut places = Vec::new(alloc);
+    let mut end: u64 = 1;
+    for text in texts {
+        places.push(end)?;
+        end = further(end, text.len() as u64)?;
+        end = further(end, 1)?;
+    }
+    Ok(TextPlaces { places, end })
+}
+
+/// A place so much further on, if 64 bits count it.
+pub(crate) fn further(place: u64, by: u64) -> Result<u64>
+    ensures sum { IfOk result (λ end. end ≡ place + by) }
+    ensures memory { IsOkUnless result LayoutError.OutOfMemory }
+{
+    match place.checked_add(by) {
+        Some(end) => Ok(end),
+        None => Err(LayoutError::OutOfMemory),
+    }
+}
+
+/// So many times a number, if 64 bits count that.
+fn times(number: u64, count: u64) -> Result<u64>
+    ensures product { IfOk result (λ all. all ≡ number * count) }
+    ensures memory { IsOkUnless result LayoutError.OutOfMemory }
+{
+    match number.checked_mul(count) {
+        Some(all) => Ok(all),
+        None => Err(LayoutError::OutOfMemory),
+    }
+}
+
+/// Where the string table stands in a file of so many functions and source files: behind the head of
+/// 48 bytes, a start and a data place for each function, the file count, and the files.
+pub(crate) fn strings_place(functions: usize, sources: usize) -> Result<u64>
+    ensures place { IfOk result (λ place. place ≡ 48 + 8 * functions + 4 * functions + 4 + 8 * suc sources) }
+    ensures memory { IsOkUnless result LayoutError.OutOfMemory }
+{
+    let symbols = times(12, functions as u64)?;
+    let files = times(8, sources as u64)?;
+    further(further(symbols, files)?, 60)
+}
+
+/// Writes the head of a file of so many functions, whose string table stands at a place and has so many
+/// bytes.
+pub(crate) fn push_head(
+    out: &mut Vec<u8>,
+    count: u64,
+    strings_at: u64,
+    strings_len: u64,
+) -> Result<()>
+    ensures ok { OnOk result (out.new.items ≡ out.old.items ++ head_bytes count strings_at strings_len) }
+    ensures memory { IsOkUnless result LayoutError.OutOfMemory }
+{
+    push_word(out, u64::from(GSYM_MAGIC))?;
+    out.push(1)?;
+    out.push(0)?;
+    out.push(8)?;
+    out.push(0)?;
+    push_long(out, 0)?;
+    push_word(out, count)?;
+    push_word(out, strings_at)?;
+    push_word(out, strings_len)?;
+    push_zeros(out, 20)
+}
+
+/// Writes the starts of functions.
+pub(crate) fn push_starts(out: &mut Vec<u8>, functions: &[Function]) -> Result<()>
+    ensures ok { OnOk result (out.new.items ≡ out.old.items ++ flat_map (λ f. word 8 f.start) functions.now) }
+    ensures memory { IsOkUnless result LayoutError.OutOfMemory }
+{
+    for function in functions {
+        push_long(out, function.start)?;
+    }
+    Ok(())
+}
+
+/// Writes data places.
+pub(crate) fn push_places(out: &mut Vec<u8>, places: &[u64]) -> Result<()>
+    ensures ok { OnOk result (out.new.items ≡ out.old.items ++ flat_map (word 4) places.now) }
+    ensures memory { IsOkUnless result LayoutError.OutOfMemory }
+{
+    for place in places {
+        push_word(out, *place)?;
+    }
+    Ok(())
+}
+
+/// Writes source files, whose texts have these places in the string table.
+pub(crate) fn push_files(out: &mut Vec<u8>, sources: &[SourceFile], places: &[u64]) -> Result<()>
+    requires { AreFiles (length places.now) sources.now }
+    ensures ok { OnOk result (out.new.items ≡ out.old.items ++ flat_map (source_bytes places.now) sources.now) }
+    ensures memory { IsOkUnless result LayoutError.OutOfMemory }
+{
+    for source in sources {
+        push_word(out, places[source.dir])?;
+        push_word(out, places[source.name])?;
+    }
+    Ok(())
+}
+
+/// Writes texts, each with the zero byte that ends it.
+pub(crate) fn push_texts(out: &mut Vec<u8>, texts: &[&str]) -> Result<()>
+    ensures ok { OnOk result (out.new.items ≡ out.old.items ++ flat_map stored (map (λ text. text.now) texts.now)) }
+    ensures memory { IsOkUnless result LayoutError.OutOfMemory }
+{
+    for text in texts {
+        out.extend_from_slice(text.as_bytes())?;
+        out.push(0)?;
+    }
+    Ok(())
+}

@@ -1,0 +1,39 @@
+//! Numbers of fixed width, and zero bytes.
+
+ghost use Rattle.std.specs.Prelude.{◌≡◌, ◌++◌, IsOkUnless, OnOk};
+ghost use Rattle.bz_gsym_layout.specs.Layout.{word, zeros};
+ghost use Rattle.bz_gsym_layout.specs.declared.error.LayoutError.{LayoutError};
+
+use crate::error::Result;
+
+/// Writes a number in four bytes, which hold its low 32 bits.
+pub(crate) fn push_word(out: &mut Vec<u8>, number: u64) -> Result<()>
+    ensures ok { OnOk result (out.new.items ≡ out.old.items ++ word 4 number) }
+    ensures memory { IsOkUnless result LayoutError.OutOfMemory }
+{
+    out.push((number % 256) as u8)?;
+    out.push((number / 256 % 256) as u8)?;
+    out.push((number / 65536 % 256) as u8)?;
+    out.push((number / 16777216 % 256) as u8)?;
+    Ok(())
+}
+
+/// Writes a number in eight bytes.
+pub(crate) fn push_long(out: &mut Vec<u8>, number: u64) -> Result<()>
+    ensures ok { OnOk result (out.new.items ≡ out.old.items ++ word 8 number) }
+    ensures memory { IsOkUnless result LayoutError.OutOfMemory }
+{
+    push_word(out, number)?;
+    push_word(out, number / 4294967296)
+}
+
+/// Writes so many zero bytes.
+pub(crate) fn push_zeros(out: &mut Vec<u8>, count: usize) -> Result<()>
+    ensures ok { OnOk result (out.new.items ≡ out.old.items ++ zeros count) }
+    ensures memory { IsOkUnless result LayoutError.OutOfMemory }
+{
+    for _ in 0..count {
+        out.push(0)?;
+    }
+    Ok(())
+}
