@@ -1,0 +1,80 @@
+//! Why a Breakpad file isn't converted.
+
+use thiserror::Error;
+
+/// A refusal of a conversion, with the record that causes it. Addresses are relative to the module's
+/// base.
+#[derive(Clone, Copy, Debug, PartialEq, Eq, Drop, Error)]
+pub enum ConvertError {
+    /// A function has size 0.
+    #[error("the function at {addr:#x} has size 0")]
+    ZeroSize {
+        /// Where the function starts.
+        addr: u64,
+    },
+    /// Two functions have one start.
+    #[error("two functions start at {addr:#x}")]
+    EqualStarts {
+        /// Where they start.
+        addr: u64,
+    },
+    /// No line record answers at an address above one that has a line.
+    #[error("the function at {func:#x} has no line at {addr:#x}")]
+    LineGap {
+        /// Where the function starts.
+        func: u64,
+        /// The least such address of the function.
+        addr: u64,
+    },
+    /// An inlined call doesn't lie wholly inside its function, or inside a call of the depth before.
+    #[error("the function at {func:#x} has a call of depth {depth} at {addr:#x} that isn't nested")]
+    NotNested {
+        /// Where the function starts.
+        func: u64,
+        /// The depth of the call.
+        depth: u32,
+        /// Where the call's code starts.
+        addr: u64,
+    },
+    /// An inlined call starts where another of its depth does, or inside one.
+    #[error("the function at {func:#x} has calls of depth {depth} that overlap at {addr:#x}")]
+    Overlap {
+        /// Where the function starts.
+        func: u64,
+        /// The depth of the call.
+        depth: u32,
+        /// Where the call's code starts.
+        addr: u64,
+    },
+    /// No FILE record has an id, or its name has no component.
+    #[error("the function at {func:#x} asks for a file of id {id}")]
+    NoFile {
+        /// Where the function starts.
+        func: u64,
+        /// The id.
+        id: u32,
+    },
+    /// No INLINE_ORIGIN record has an id.
+    #[error("the function at {func:#x} asks for an origin of id {id}")]
+    NoOrigin {
+        /// Where the function starts.
+        func: u64,
+        /// The id.
+        id: u32,
+    },
+    /// A text holds a zero byte, which ends texts in a GSYM file.
+    #[error("a text of the function at {func:#x} holds a zero byte")]
+    ZeroByte {
+        /// Where the function starts.
+        func: u64,
+    },
+    /// The GSYM file would have more bytes than places of 32 bits reach.
+    #[error("the converted file has {bytes} bytes")]
+    TooLarge {
+        /// How many bytes it would have.
+        bytes: u64,
+    },
+    /// Memory ran out.
+    #[error("memory ran out")]
+    OutOfMemory,
+}

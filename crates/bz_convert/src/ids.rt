@@ -1,0 +1,179 @@
+//! What the ids of line records and inlined calls name.
+
+ghost use Rattle.std.specs.Prelude.{◌≡◌, true, map, option_map, None, Some};
+ghost use Rattle.std.specs.List.{list_any};
+ghost use Rattle.bz_breakpad.specs.Lent.{kept_inlinee};
+ghost use Rattle.bz_breakpad_function.specs.InOrder.{calls_in_order};
+ghost use Rattle.bz_breakpad_lines.specs.Reader.{table_in};
+ghost use Rattle.bz_breakpad_lines.specs.Table.{Table};
+ghost use Rattle.bz_breakpad_lines.specs.Told.{line_seen};
+ghost use Rattle.bz_convert.specs.Fault.{has_zero, not_nested, overlap, ◌or◌};
+ghost use Rattle.bz_convert.specs.Ids.{call_file_fault, call_has_zero, file_has_zero, line_file_fault, lent_source, origin_fault, row_has_zero, sized_with};
+ghost use Rattle.bz_convert.specs.Plan.{changes, code_of, is_checked, located};
+ghost use Rattle.bz_convert.specs.Points.{row_seen};
+ghost use Rattle.bz_gsym_layout.specs.Numbering.{texts_of};
+
+use crate::error::ConvertError;
+use bz_base::split_source;
+use bz_breakpad::{Function, Inlinee, SourceLine, SymbolFile};
+
+/// A source file, as its directory and its name.
+pub(crate) type Source<'a> = (Option<&'a str>, &'a str);
+
+/// The source file of an id: none if no FILE record has the id, or its name has no component.
+pub(crate) fn located(file: &SymbolFile, id: u32) -> Option<Source<'_>>
+    ensures { (table : Table) → table_in file.now ≡ Some table → option_map lent_source result ≡ located table id }
+{
+    split_source(file.file(id)?)
+}
+
+/// The first fault of the ids of a function's line records and inlined calls.
+pub(crate) fn ids_fault(
+    file: &SymbolFile,
+    func: u64,
+    lines: &[SourceLine],
+    calls: &[Inlinee],
+) -> Option<ConvertError>
+    ensures { (table : Table) → table_in file.now ≡ Some table →
+        result ≡ (line_file_fault table func (map line_seen lines.now)
+        or (call_file_fault table func (map kept_inlinee calls.now) or origin_fault table func (map kept_inlinee calls.now))) }
+{
+    if let Some(fault) = line_file_fault(file, func, lines) {
+        return Some(fault);
+    }
+    if let Some(fault) = call_file_fault(file, func, calls) {
+        return Some(fault);
+    }
+    origin_fault(file, func, calls)
+}
+
+/// The first line record whose file isn't known.
+fn line_file_fault(file: &SymbolFile, func: u64, lines: &[SourceLine]) -> Option<ConvertError>
+    ensures { (table : Table) → table_in file.now ≡ Some table → result ≡ line_file_fault table func (map line_seen lines.now) }
+{
+    for line in lines {
+        if located(file, line.file).is_none() {
+            return Some(ConvertError::NoFile {
+                func,
+                id: line.file,
+            });
+        }
+    }
+    None
+}
+
+/// The first inlined call of some size whose file isn't known.
+fn call_file_fault(file: &SymbolFile, func: u64, calls: &[Inlinee]) -> Option<ConvertError>
+    ensures { (table : Table) → table_in file.now ≡ Some table → result ≡ call_file_fault table func (map kept_inlinee calls.now) }
+{
+    for call in calls {
+        if call.size > 0 && located(file, call.call_file).is_none() {
+            return Some(ConvertError::NoFile {
+                func,
+                id: call.call_file,
+            });
+        }
+    }
+    None
+}
+
+/// The first inlined call of some size whose name isn't known.
+fn origin_fault(file: &SymbolFile, func: u64, calls: &[Inlinee]) -> Option<ConvertError>
+    ensures { (table : Table) → table_in file.now ≡ Some table → result ≡ origin_fault table func (map kept_inlinee calls.now) }
+{
+    for call in calls {
+        if call.size > 0 && file.origin(call.origin_id).is_none() {
+            return Some(ConvertError::NoOrigin {
+                func,
+                id: call.origin_id,
+            });
+        }
+    }
+    None
+}
+
+/// Whether a text holds a zero byte.
+pub(crate) fn has_zero(text: &str) -> bool
+    ensures { result ≡ has_zero text.now }
+{
+    for byte in text.as_bytes() {
+        if *byte == 0 {
+            return true;
+        }
+    }
+    false
+}
+
+/// Whether directory or name of the file of an id hold a zero byte.
+fn file_has_zero(file: &SymbolFile, id: u32) -> bool
+    ensures { (table : Table) → table_in file.now ≡ Some table → result ≡ file_has_zero table id }
+{
+    let Some((dir, name)) = located(file, id) else {
+        return false;
+    };
+    if let Some(dir) = dir {
+        if has_zero(dir) {
+            return true;
+        }
+    }
+    has_zero(name)
+}
+
+/// Whether a text that is laid out for a function holds a zero byte: its name, or one of its rows or
+/// inlined calls.
+pub(crate) fn texts_have_zero(
+    file: &SymbolFile,
+    function: &Function<'_>,
+    rows: &[(u64, SourceLine)],
+    calls: &[Inlinee],
+) -> bool
+    requires checked { is_checked function.now ≡ true }
+    requires rows { map row_seen rows.now ≡ changes function.now }
+    requires calls { map kept_inlinee calls.now ≡ calls_in_order function.now }
+    ensures { (table : Table) → table_in file.now ≡ Some table → not_nested function.now ≡ None → overlap function.now ≡ None →
+        result ≡ list_any has_zero (texts_of (code_of table function.now)) }
+{
+    if has_zero(function.name()) {
+        return true;
+    }
+    if rows_have_zero(file, rows) {
+        return true;
+    }
+    !rows.is_empty() && calls_have_zero(file, calls)
+}
+
+/// Whether the texts of rows hold a zero byte.
+fn rows_have_zero(file: &SymbolFile, rows: &[(u64, SourceLine)]) -> bool
+    ensures { (table : Table) → table_in file.now ≡ Some table → result ≡ list_any (row_has_zero table) (map row_seen rows.now) }
+{
+    for row in rows {
+        if file_has_zero(file, row.1.file) {
+            return true;
+        }
+    }
+    false
+}
+
+/// Whether the texts of inlined calls of some size hold a zero byte.
+fn calls_have_zero(file: &SymbolFile, calls: &[Inlinee]) -> bool
+    ensures { (table : Table) → table_in file.now ≡ Some table → result ≡ list_any (sized_with (call_has_zero table)) (map kept_inlinee calls.now) }
+{
+    for call in calls {
+        if call.size > 0 && call_has_zero(file, call) {
+            return true;
+        }
+    }
+    false
+}
+
+/// Whether the name of an inlined call, or directory or name of its file, hold a zero byte.
+fn call_has_zero(file: &SymbolFile, call: &Inlinee) -> bool
+    ensures { (table : Table) → table_in file.now ≡ Some table → result ≡ call_has_zero table (kept_inlinee call.now) }
+{
+    if let Some(name) = file.origin(call.origin_id) {
+        if has_zero(name) {
+            return true;
+        }
+    }
+    file_has_zero(file, call.call_file)
+}

@@ -1,0 +1,123 @@
+//! Files that aren't converted, and why.
+
+use bz_base::Error;
+use bz_breakpad::SymbolFile;
+use bz_convert::first_fault;
+use std::alloc::Global;
+use std::test::Fail;
+
+/// A file's text, and what is said of its first fault: nothing where it has none. Each cause once; sizes
+/// of 0, equal calls, and functions whose end passes 64 bits.
+const CAUSES: [(&[u8], &str); 18] = [
+    (
+        b"MODULE Linux x86 ffff0000 bar\nFILE 53 bar.c\nPUBLIC 1234 10 some public\nFUNC 1000 30 10 another func\n1000 30 7 53\n",
+        "",
+    ),
+    (b"INFO x\n", ""),
+    (b"FUNC 10 0 0 f\n", "the function at 0x10 has size 0"),
+    (
+        b"FUNC 10 8 0 g\nFUNC 10 4 0 f\n",
+        "two functions start at 0x10",
+    ),
+    (
+        b"FUNC 1000 20 0 f\n1000 8 1 0\n1010 10 2 0\nFILE 0 a.c\n",
+        "the function at 0x1000 has no line at 0x1008",
+    ),
+    (b"FILE 0 a.c\nFUNC 10 8 0 f\n14 4 1 0\n", ""),
+    (
+        b"FILE 0 a.c\nINLINE_ORIGIN 0 g\nFUNC 10 8 0 f\nINLINE 0 1 0 0 14 8\n10 8 1 0\n",
+        "the function at 0x10 has a call of depth 0 at 0x14 that isn't nested",
+    ),
+    (
+        b"FILE 0 a.c\nINLINE_ORIGIN 0 g\nFUNC 10 8 0 f\nINLINE 1 1 0 0 14 2\n10 8 1 0\n",
+        "the function at 0x10 has a call of depth 1 at 0x14 that isn't nested",
+    ),
+    (
+        b"FILE 0 a.c\nINLINE_ORIGIN 0 g\nFUNC 10 8 0 f\nINLINE 0 1 0 0 10 4 12 4\n10 8 1 0\n",
+        "the function at 0x10 has calls of depth 0 that overlap at 0x12",
+    ),
+    (
+        b"FILE 0 a.c\nINLINE_ORIGIN 0 g\nFUNC 10 8 0 f\nINLINE 0 1 0 0 10 4 12 0\n10 8 1 0\n",
+        "the function at 0x10 has calls of depth 0 that overlap at 0x12",
+    ),
+    (
+        b"FILE 0 a.c\nINLINE_ORIGIN 0 g\nFUNC 10 8 0 f\nINLINE 0 1 0 0 10 4 10 4\n10 8 1 0\n",
+        "",
+    ),
+    (
+        b"FILE 15 o.c\nFILE 4 m.c\nFILE 8 i2.c\nFUNC 1000 30 10 outer_func()\nINLINE_ORIGIN 1 inner_func_2()\nINLINE_ORIGIN 2 mid_func()\nINLINE_ORIGIN 3 inner_func_1()\nINLINE 0 60 15 2 1000 20\nINLINE 1 12 4 3 1000 10\nINLINE 1 17 4 1 1010 10\n1000 10 42 7\n1010 10 52 8\n1020 10 62 15\n",
+        "the function at 0x1000 asks for a file of id 7",
+    ),
+    (
+        b"FILE 7 p.c\nFILE 15 o.c\nFILE 4 m.c\nFILE 8 i2.c\nFUNC 1000 30 10 outer_func()\nINLINE_ORIGIN 1 inner_func_2()\nINLINE_ORIGIN 2 mid_func()\nINLINE_ORIGIN 3 inner_func_1()\nINLINE 0 60 15 2 1000 20\nINLINE 1 12 4 3 1000 10\nINLINE 1 17 4 1 1010 10\n1000 10 42 7\n1010 10 52 8\n1020 10 62 15\n",
+        "",
+    ),
+    (
+        b"FILE 0 a.c\nINLINE_ORIGIN 0 g\nFUNC 10 8 0 f\nINLINE 0 1 5 0 10 4\n10 8 1 0\n",
+        "the function at 0x10 asks for a file of id 5",
+    ),
+    (
+        b"FILE 0 a.c\nFUNC 10 8 0 f\nINLINE 0 1 5 0 10 0\n10 8 1 0\n",
+        "",
+    ),
+    (
+        b"FILE 0 a.c\nFUNC 10 8 0 f\nINLINE 0 1 0 3 10 4\n10 8 1 0\n",
+        "the function at 0x10 asks for an origin of id 3",
+    ),
+    (
+        b"FUNC 10 4 0 a\x00b\n",
+        "a text of the function at 0x10 holds a zero byte",
+    ),
+    (b"FUNC ffffffffffffffff 2 0 f\n1 1 1 9\n", ""),
+];
+
+/// The same of files with several causes: in one function the first by the kinds' order, in several the
+/// one of the least start.
+const SEVERAL: [(&[u8], &str); 5] = [
+    (
+        b"FUNC 10 8 0 f\n10 4 1 9\n",
+        "the function at 0x10 has no line at 0x14",
+    ),
+    (
+        b"FUNC 10 8 0 f\nINLINE 0 1 0 0 10 4 12 8\n10 8 1 9\n",
+        "the function at 0x10 has a call of depth 0 at 0x12 that isn't nested",
+    ),
+    (
+        b"FUNC 10 8 0 f\nINLINE 0 1 0 0 10 4 12 4\n10 8 1 9\n",
+        "the function at 0x10 has calls of depth 0 that overlap at 0x12",
+    ),
+    (
+        b"FUNC 20 0 0 g\nFUNC 10 8 0 f\n10 8 1 9\n",
+        "the function at 0x10 asks for a file of id 9",
+    ),
+    (
+        b"FUNC 10 8 0 f\n10 8 1 9\nFUNC 10 0 0 g\n",
+        "the function at 0x10 has size 0",
+    ),
+];
+
+/// Whether this is said of the first fault of a text.
+fn is_said(alloc: Global, text: &[u8], said: &str) -> Result<bool, Error> {
+    let file = SymbolFile::from_bytes(alloc, Vec::from_slice(alloc, text)?)?;
+    let mut message = String::new(alloc);
+    if let Some(fault) = first_fault(alloc, &file)? {
+        write!(message, "{fault}")?;
+    }
+    Ok(message.as_str() == said)
+}
+
+#[test]
+fn finds_each_cause(rt: HostRuntime) -> Result<(), Fail> {
+    for row in &CAUSES {
+        assert!(rt; is_said(rt.alloc(), row.0, row.1)?, "of {:?}", row.0);
+    }
+    Ok(())
+}
+
+#[test]
+fn finds_the_first_of_several(rt: HostRuntime) -> Result<(), Fail> {
+    for row in &SEVERAL {
+        assert!(rt; is_said(rt.alloc(), row.0, row.1)?, "of {:?}", row.0);
+    }
+    Ok(())
+}
