@@ -15,7 +15,9 @@ mod status;
 mod texts;
 mod words;
 
-pub use answer::answer_text;
+pub use answer::{answer_text, push_answer};
+pub use output::write_said;
 pub use own_process::own_pid;
 pub use program::{run, run_counted};
+pub use reply::{Reply, Said, refusal};
 pub use status::Status;

@@ -33,7 +33,8 @@ pub fn finish<W: TextOut>(alloc: Global, output: &mut W, reply: &Reply) -> Statu
     }
 }
 
-fn write_said<W: TextOut>(
+/// Writes what is said, in as many calls as it takes.
+pub fn write_said<W: TextOut>(
     alloc: Global,
     output: &mut W,
     said: &Said,

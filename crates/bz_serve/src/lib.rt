@@ -1,0 +1,9 @@
+//! Runs of requests: one symbolizer is asked one request after the other, and files may change between them.
+#![tactic(auto)]
+
+mod replies;
+mod saying;
+mod serving;
+mod sources;
+
+pub use serving::serve;
