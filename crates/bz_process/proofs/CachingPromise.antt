@@ -63,14 +63,15 @@ module _ {D R X : Type 0} (files : Ghosts X) (asked : Caching) (result : Result 
       ∙ ap (λ (x : Answers R). record old { answers = x }) answers
 
   pub caching_promised : Step → Told (in_view (files.worlds before)) (λ world. OnOk result (now.mappings ≡ mappings_after asked world old.mappings)) → OnOk result (MayKeep asked old.mappings now.mappings) →
-      OnErr result (now.mappings ≡ old.mappings) → now.dispatcher ≡ old.dispatcher → now.answers ≡ old.answers → CachesProcess files asked result old now before after
-  caching_promised step mappings some err dispatcher answers = record {
+      OnErr result (now.mappings ≡ old.mappings) → now.dispatcher ≡ old.dispatcher → now.answers ≡ old.answers → Consistent perf.format_test old.perf_maps → CachesProcess files asked result old now before after
+  caching_promised step mappings some err dispatcher answers found = record {
     step = step;
     mappings = mappings;
     some = some;
     err = unchanged result (new_cache true) (step (new_cache true)).err err dispatcher answers;
     dispatcher = dispatcher;
     answers = answers;
+    found = found;
   }
 
   -- and what is kept stays well kept

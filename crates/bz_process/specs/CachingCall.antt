@@ -5,7 +5,7 @@ use Rattle.bz_base.specs.declared.error.Error.{Error}
 use Rattle.bz_files.specs.Looked.{Faulted, Looked}
 use Rattle.bz_files.specs.World.{World, Told, in_view}
 use Rattle.bz_files.specs.declared.files.Files.{Ghosts}
-use Rattle.bz_cache.specs.Cache.{Cache, with_pin}
+use Rattle.bz_cache.specs.Cache.{Cache, Consistent, with_pin}
 use Rattle.bz_cache.specs.Format.{Comes}
 use Rattle.bz_proc.specs.Maps.{Mapping}
 use Rattle.bz_proc.specs.MapsFile.{AreOfText}
@@ -76,3 +76,5 @@ pub record CachesProcess {D R X : Type 0} (files : Ghosts X) (asked : Caching) (
   -- nothing else changes
   pub dispatcher : now.dispatcher ≡ old.dispatcher
   pub answers : now.answers ≡ old.answers
+  -- the perf maps that it found were well kept: each version is in its format
+  pub found : Consistent perf.format_test old.perf_maps

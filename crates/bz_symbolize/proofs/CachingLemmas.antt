@@ -5,7 +5,7 @@ use Rattle.bz_base.specs.declared.error.Error.{Error}
 use Rattle.bz_base.specs.declared.pid.Pid.{Pid}
 use Rattle.bz_files.specs.World.{World, Entry, entry_at, in_view}
 use Rattle.bz_files.specs.declared.files.Files.{Ghosts}
-use Rattle.bz_cache.specs.Cache.{Cache, with_pin}
+use Rattle.bz_cache.specs.Cache.{Cache, Consistent, with_pin}
 use Rattle.bz_cache.specs.Format.{Comes}
 use Rattle.bz_cache.specs.Look.{look, will_open}
 use Rattle.bz_calls.specs.Pinning.{IsLeft, PinsFile, pinned_by, pinning}
@@ -24,7 +24,7 @@ use Rattle.bz_symbolize.specs.Caching.{CachedTold, Caches, caching}
 use Rattle.bz_symbolize.specs.History.{Call, LookAtElf, PinElf, LookAtPerfMap, PinPerfMap, ChangesLead, IsChange, MayReach, PerfMapsMayReach, all_in}
 use Rattle.bz_symbolize.specs.Requests.{CacheElf, CacheProcess}
 use Rattle.bz_symbolize.specs.State.{State, WellKept, WholeState}
-use Rattle.bz_symbolize.proofs.InViewLemmas.{answered, pinned_in_view, process_in_view}
+use Rattle.bz_symbolize.proofs.InViewLemmas.{answered, pinned_if_in_view, pinned_in_view, process_if_in_view, process_in_view}
 
 -- an ELF file that is pinned leaves the files well kept
 pub well_pinned : {X : Type 0} (files : Ghosts X) (path : List ℕ) (result : Result (Unit {0}) Error) (state : State) (now : Cache) (before after : X) →
@@ -89,8 +89,8 @@ module _ {D R X : Type 0} (files : Ghosts X) (path : List ℕ) (old now : WholeS
       }
   elf_leads (Err e) world seen left same = no_changes world old now same
 
-  caches_elf : (result : Result (Unit {0}) Error) → PinsFile files elf.format_test path result old.files.elf now.files.elf before after → Caches files (CacheElf path) result old now before after
-  caches_elf result pins =
+  caches_elf : (result : Result (Unit {0}) Error) → Consistent elf.format_test old.files.elf → PinsFile files elf.format_test path result old.files.elf now.files.elf before after → Caches files (CacheElf path) result old now before after
+  caches_elf result found pins =
       record {
         told = λ world seen. record {
           answer = pins.answer world seen;
@@ -99,8 +99,8 @@ module _ {D R X : Type 0} (files : Ghosts X) (path : List ℕ) (old now : WholeS
         };
         causes = λ world seen coherent.
             subst (λ (a : Result (Unit {0}) Error). Comes (λ (done : Unit {0}). done) a result) (pinned_in_view elf.format_test old.files.elf world path coherent) (pins.answer world seen);
-        complete = λ world seen coherent is.
-            answered _ result (pins.answer world seen) (pinned_in_view elf.format_test old.files.elf world path coherent ∙ is);
+        complete = λ world seen is.
+            answered _ result (pins.answer world seen) (pinned_if_in_view elf.format_test old.files.elf world path found.formed (λ a. a) refl is);
         err = unchanged result pins.err;
         history = λ world seen. elf_leads result world seen pins.left (unchanged result pins.err);
         called = record { pins = pins; rest = rest };
@@ -206,8 +206,8 @@ module _ {D R X : Type 0} (files : Ghosts X) (request : ProcessCaching) (old now
         causes = λ world seen coherent.
             subst (λ (a : Result (Unit {0}) Error). Comes (λ (done : Unit {0}). done) a result) (process_in_view request (files.pid before) world (caches_of old.files.elf old.processes) coherent)
             (step.told world seen).answer;
-        complete = λ world seen coherent is.
-            answered _ result (step.told world seen).answer (process_in_view request (files.pid before) world (caches_of old.files.elf old.processes) coherent ∙ is);
+        complete = λ world seen is.
+            answered _ result (step.told world seen).answer (process_if_in_view request (files.pid before) world (caches_of old.files.elf old.processes) keeps.found.formed is);
         err = process_unchanged result keeps.err;
         history = λ world seen. process_leads world step.reached.changes (step.reached.told world seen) step.reached.leads;
         called = record { keeps = keeps; rest = rest };
@@ -217,10 +217,10 @@ module _ {D R X : Type 0} (files : Ghosts X) (request : ProcessCaching) (old now
 
 -- the same over a symbolizer whose other part stays
 pub elf_cached : {D R X : Type 0} (files : Ghosts X) (path : List ℕ) (old now : State) (processes : KeptProcesses D R) (before after : X) (result : Result (Unit {0}) Error) → now ≡ record old { elf = now.elf } →
-    PinsFile files elf.format_test path result old.elf now.elf before after → Caches files (CacheElf path) result (record { files = old; processes = processes }) (record { files = now; processes = processes }) before after
-elf_cached {D} {R} files path old now processes before after result rest pins =
+    Consistent elf.format_test old.elf → PinsFile files elf.format_test path result old.elf now.elf before after → Caches files (CacheElf path) result (record { files = old; processes = processes }) (record { files = now; processes = processes }) before after
+elf_cached {D} {R} files path old now processes before after result rest found pins =
     let whole : WholeState D R = record { files = old; processes = processes } in
-    caches_elf files path whole (record { files = now; processes = processes }) before after (ap (λ (s : State). record whole { files = s }) rest) result pins
+    caches_elf files path whole (record { files = now; processes = processes }) before after (ap (λ (s : State). record whole { files = s }) rest) result found pins
 
 pub process_cached : {D R X : Type 0} (files : Ghosts X) (request : ProcessCaching) (state : State) (old now : KeptProcesses D R) (before after : X) (result : Result (Unit {0}) Error) →
     CachesProcess files (caching_of (files.pid before) request) result old now before after → Caches files (CacheProcess request) result (record { files = state; processes = old }) (record { files = state; processes = now }) before after

@@ -125,9 +125,8 @@ pub record Caches {D R X : Type 0} (files : Ghosts X) (asked : ToCache) (result 
   -- where kept versions cohere with the world in view, it is refused exactly by the first of the files in view that refuses
   pub causes : Told (in_view (files.worlds before)) (λ world. CoheresFor asked old world →
       Comes (λ (done : Unit {0}). done) (caching_in_view asked (files.pid before) world old) result)
-  -- and where none refuses, it is answered, unless something fails
-  pub complete : Told (in_view (files.worlds before)) (λ world. CoheresFor asked old world →
-      caching_in_view asked (files.pid before) world old ≡ Ok tt → UnlessFailed result (IsOk result))
+  -- where none of the files in view refuses, it is answered, unless something fails
+  pub complete : Told (in_view (files.worlds before)) (λ world. caching_in_view asked (files.pid before) world old ≡ Ok tt → UnlessFailed result (IsOk result))
   -- a refusal, whichever it is, changes nothing
   pub err : OnErr result (now ≡ old)
   -- so the call stands as looks and pins, all in its world, in lists that keep versions coherent

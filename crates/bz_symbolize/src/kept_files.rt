@@ -6,7 +6,7 @@ ghost use Rattle.bz_base.specs.InputKind.{address_kind, payload};
 ghost use Rattle.bz_base.specs.Refusals.{MayRefuse};
 ghost use Rattle.bz_base.specs.declared.error.Error.{Error};
 ghost use Rattle.bz_base.specs.declared.types.FindSymOpts.{FindSymOpts};
-ghost use Rattle.bz_cache.specs.Cache.{new_cache};
+ghost use Rattle.bz_cache.specs.Cache.{Consistent, new_cache};
 ghost use Rattle.bz_cache.specs.Eviction.{evicted};
 ghost use Rattle.bz_calls.specs.Pinning.{PinsFile};
 ghost use Rattle.bz_elf.specs.Format as elf_format;
@@ -170,6 +170,7 @@ impl KeptFiles {
     ) -> Result<()>
         ensures pins { PinsFile F.Files elf_format.format_test path.now result self.old.elf self.new.elf files.old files.new }
         ensures rest { self.new ≡ record self.old { elf = self.new.elf } }
+        ensures found { Consistent elf_format.format_test self.old.elf }
     {
         pin_file(&mut self.elf, alloc, files, path)
     }

@@ -14,7 +14,7 @@ returns-in-Elf g c =
     let is : cache_read c.args.cache.now ≡ CacheElf c.as_str.result.now = search rules in
     rw (← c.self.view_is)
     (rw is
-    (elf_cached g.F.Files c.as_str.result.now c.self.inside.files c.pin_elf.new.self c.self.inside.processes c.args.files.now c.pin_elf.new.files c.pin_elf.result c.pin_elf.ensures.rest c.pin_elf.ensures.pins))
+    (elf_cached g.F.Files c.as_str.result.now c.self.inside.files c.pin_elf.new.self c.self.inside.processes c.args.files.now c.pin_elf.new.files c.pin_elf.result c.pin_elf.ensures.rest c.pin_elf.ensures.found c.pin_elf.ensures.pins))
 
 -- what answers for a process is kept
 pub returns-in-Process : goal.returns-in-Process

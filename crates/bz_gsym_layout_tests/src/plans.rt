@@ -1,0 +1,75 @@
+//! Plans, the bytes that they are laid out in, and the answers of those.
+
+ghost use Rattle.std.specs.Prelude.{IfOk};
+ghost use Rattle.bz_gsym_layout.specs.Indexed.{IsPlan};
+
+use bz_base::{FindSymOpts, Symbolize};
+use bz_gsym::GsymTable;
+use bz_gsym_layout::{Function, LayoutError, Plan, Row, SourceFile, laws, write};
+use std::alloc::Global;
+
+/// A function of 48 bytes with one line.
+const ONE_LINE: &[u8] =
+    b"MYSG\x01\0\x08\0\0\0\0\0\0\0\0\0\x01\0\0\0\x50\0\0\0\x15\0\0\0\0\0\0\0\0\0\0\0\0\0\0\0\0\0\0\0\0\0\0\0\0\x10\0\0\0\0\0\0\x68\0\0\0\x02\0\0\0\0\0\0\0\0\0\0\0\x0e\0\0\0\x0f\0\0\0\0another func\0\0bar.c\0\0\0\0\x30\0\0\0\x01\0\0\0\x01\0\0\0\x0a\0\0\0\0\0\0\x01\x01\x03\x07\x02\0\0\0\0\0\0\0\0\0\0";
+
+/// The plan of that function.
+fn one_line(alloc: Global) -> Result<Plan<'static>, LayoutError>
+    ensures { IfOk result IsPlan }
+{
+    let texts = Vec::from_slice(alloc, &["another func", "", "bar.c"])?;
+    let sources = Vec::from_slice(alloc, &[SourceFile { dir: 1, name: 2 }])?;
+    let row = Row {
+        addr: 0x1000,
+        source: 0,
+        line: 7,
+    };
+    let rows = Vec::from_slice(alloc, &[row])?;
+    let calls = Vec::new(alloc);
+    let function = Function {
+        start: 0x1000,
+        size: 0x30,
+        name: 0,
+        rows,
+        calls,
+    };
+    let mut functions = Vec::new(alloc);
+    functions.push(function)?;
+    Ok(Plan {
+        texts,
+        sources,
+        functions,
+    })
+}
+
+/// Whether the bytes are those, and answer for the line.
+fn is_read(alloc: Global, bytes: Vec<u8>) -> bool {
+    if bytes.as_slice() != ONE_LINE {
+        return false;
+    }
+    let Ok(table) = GsymTable::from_bytes(bytes) else {
+        return false;
+    };
+    match table.find_sym(alloc, 0x1010, &FindSymOpts::CodeInfoAndInlined) {
+        Ok(Ok(symbol)) => symbol.name == "another func" && symbol.size == Some(0x30),
+        _ => false,
+    }
+}
+
+/// Whether the plan is laid out in those bytes.
+fn is_one_line(alloc: Global) -> bool {
+    let Ok(plan) = one_line(alloc) else {
+        return false;
+    };
+    match write(alloc, &plan) {
+        Ok(bytes) => is_read(alloc, bytes),
+        Err(_) => false,
+    }
+}
+
+#[test]
+fn lays_out_a_line(rt: HostRuntime) {
+    laws::numbers_are_read();
+    laws::layouts_answer_as_planned();
+    laws::entries_are_within();
+    assert!(rt; is_one_line(rt.alloc()));
+}
