@@ -1,5 +1,5 @@
 -- A plan of one function with one line is well formed.
-use Rattle.std.proofs.Common.{◌≡◌, ℕ, zero, suc, ◌<◌, List, [], ◌∷◌, length, map, Some, refl, sym, ap, subst, ◌∙◌, arith}
+use Rattle.std.proofs.Common.{◌≡◌, ℕ, zero, suc, ◌<◌, List, [], ◌∷◌, ◌++◌, length, map, Some, refl, sym, ap, subst, ◌∙◌, arith}
 use Rattle.std.specs.Prelude.{codes}
 use Rattle.std.specs.List.{slice_get}
 use Rattle.std.proofs.lemmas.Option.{none-some, same_Some}
@@ -31,6 +31,10 @@ sources = source_of texts source ∷ []
 
 abbrev code : Code
 code = record { start = 4096; size = 48; name = codes "another func"; rows = row_of texts sources row ∷ []; calls = NoCalls }
+
+-- an item that is pushed to a list without items is its only one
+pub pushed : {A : Type 0} (now old : List A) (x : A) → old ≡ [] → now ≡ old ++ (x ∷ []) → now ≡ x ∷ []
+pushed now old x none is = is ∙ ap (λ l. l ++ (x ∷ [])) none
 
 no_order : (start : ℕ) → AreInOrder start []
 no_order start = record {
