@@ -6,11 +6,11 @@ use Rattle.bz_files.specs.World.{Told, in_view}
 use Rattle.bz_files.specs.declared.files.Files as files_trait
 use Rattle.bz_files.specs.declared.text.TextIn as input_trait
 use Rattle.bz_files.specs.declared.text.TextOut as output_trait
+use Rattle.bz_symq.specs.Command.{Command, seen_by}
 use Rattle.bz_symq.specs.Outcome.{Outcome, run_outcome}
-use Rattle.bz_symq.specs.Reply.{outcome_of, IsDoneReply, RepliesToWords}
+use Rattle.bz_symq.specs.Reply.{outcome_of, IsDoneReply, RepliesToCommand}
 use Rattle.bz_symq.specs.Run.{Ends, Fails, IsNoFailure, IsOrFails, Runs}
 use Rattle.bz_symq.specs.Turns.{FailsAtOne, ReadsFor, TakesTurns}
-use Rattle.bz_symq.specs.Words.{command_in, seen_in}
 use Rattle.bz_symq.specs.Writing.{Finishes}
 use Rattle.bz_symq.specs.declared.reply.Reply.{Reply}
 use Rattle.bz_symq.specs.declared.status.Status.{Status}
@@ -52,36 +52,35 @@ failed_ends : (expected : Outcome) (old : List ℕ) (ended : Status) (new : Opti
 failed_ends expected old ended new (inl fault) unwritten = rw fault ([], expected.text, refl, unwritten ∙ ap Some (sym (append-nil old)))
 failed_ends expected old ended new (inr memory) unwritten = rw memory ([], expected.text, refl, unwritten ∙ ap Some (sym (append-nil old)))
 
-module _ {R W F : Type 0} (reads : input_trait.Ghosts R) (writes : output_trait.Ghosts W) (looks : files_trait.Ghosts F) (words : List (List ℕ)) (ended : Status)
+module _ {R W F : Type 0} (reads : input_trait.Ghosts R) (writes : output_trait.Ghosts W) (looks : files_trait.Ghosts F) (command : Command) (ended : Status)
     (input_before input_after : R) (output_before output_after : W) (files_before files_after : F) where
   -- a reply was given, and its writing ended the run
-  pub runs_with_reply : (reply : Reply) → RepliesToWords words (seen_in words (reads.left input_before)) (in_view (looks.worlds files_before)) (looks.pid files_before) (Ok reply) →
-      TakesTurns reads looks words (Ok reply) input_before input_after files_before files_after → ReadsFor looks (command_in words) (reads.left input_before) (IsDoneReply (Ok reply)) files_before files_after →
+  pub runs_with_reply : (reply : Reply) → RepliesToCommand command (seen_by command (reads.left input_before)) (in_view (looks.worlds files_before)) (looks.pid files_before) (Ok reply) →
+      TakesTurns reads looks command (Ok reply) input_before input_after files_before files_after → ReadsFor looks command (reads.left input_before) (IsDoneReply (Ok reply)) files_before files_after →
       FailsAtOne reads looks (Faulted (Ok reply)) input_before input_after files_before files_after → Finishes writes (outcome_of reply) ended output_before output_after →
-      Runs reads writes looks words ended input_before input_after output_before output_after files_before files_after
+      Runs reads writes looks command ended input_before input_after output_before output_after files_before files_after
   runs_with_reply reply given turns opens counts finished = record {
     ends = ends;
     status = status;
     done = λ done text left world seen old written. done_from_ends _ _ _ _ _ _ (rw done at (ends text left world seen old written));
     answered = λ done text left old written. given.answered text left (by_reply statuses.Done done_no_failure done) old _ ((rw done at (finished.ends old written)).1);
     refused = λ refused text left world seen old written. refused_from_ends _ _ _ _ _ _ (rw refused at (ends text left world seen old written));
-    usage = (λ usage. given.usage.0 (by_reply statuses.Usage usage_no_failure usage), λ none. rw (given.usage.1 none) at finished.status);
+    usage = λ usage. given.usage (by_reply statuses.Usage usage_no_failure usage);
     input = λ text left. (
       λ bad. (given.input text left).0 (by_reply statuses.Input input_no_failure bad),
       λ bad. rw ((given.input text left).1 bad) at finished.status,
     );
-    complete = λ text left world seen is. rw (answerable_is_done words text world (looks.pid files_before) is) at (status text left world seen);
-    refuses = λ text left world seen is. rw (refusable_is_refused words text world (looks.pid files_before) is) at (status text left world seen);
-    unread = turns.unread;
+    complete = λ text left world seen is. rw (answerable_is_done command text world (looks.pid files_before) is) at (status text left world seen);
+    refuses = λ text left world seen is. rw (refusable_is_refused command text world (looks.pid files_before) is) at (status text left world seen);
     unasked = turns.unasked;
     unlooked = turns.unlooked;
     read = λ _. turns.read;
     bounded = turns.bounded;
     order = inr turns.read;
     silent = λ text left world seen nothing. finished.silent (ap (λ (o : Outcome). o.text) (given.reply text left world seen) ∙ nothing);
-    most = most_read looks (IsDoneReply (Ok reply)) files_before files_after (command_in words) _ opens;
-    opened = one_opened looks (IsDoneReply (Ok reply)) files_before files_after (ended ≡ statuses.Done) (command_in words) _ (λ done. by_reply statuses.Done done_no_failure done) opens;
-    process = few_read looks (IsDoneReply (Ok reply)) files_before files_after words _ opens;
+    most = most_read looks (IsDoneReply (Ok reply)) files_before files_after command _ opens;
+    opened = one_opened looks (IsDoneReply (Ok reply)) files_before files_after (ended ≡ statuses.Done) command _ (λ done. by_reply statuses.Done done_no_failure done) opens;
+    process = few_read looks (IsDoneReply (Ok reply)) files_before files_after command _ opens;
     fails = fails;
     fault = fault_from_fails _ _ _ _ _ _ _ _ _ _ fails;
     steady = steady_from_fails _ _ _ _ _ _ _ _ _ _ fails;
@@ -91,41 +90,40 @@ module _ {R W F : Type 0} (reads : input_trait.Ghosts R) (writes : output_trait.
       by_reply : (status : Status) → IsNoFailure status → ended ≡ status → reply.status ≡ status
       by_reply other no_failure is = status_from reply.status ended other no_failure finished.status is
 
-      ends : Told (seen_in words (reads.left input_before)) (λ text. Told (in_view (looks.worlds files_before)) (λ world. Told (writes.written output_before) (λ old.
-          Ends (run_outcome words text world (looks.pid files_before)) old ended (writes.written output_after))))
+      ends : Told (seen_by command (reads.left input_before)) (λ text. Told (in_view (looks.worlds files_before)) (λ world. Told (writes.written output_before) (λ old.
+          Ends (run_outcome command text world (looks.pid files_before)) old ended (writes.written output_after))))
       ends text left world seen old written = subst (λ expected. Ends expected old ended (writes.written output_after)) (given.reply text left world seen) (finished.ends old written)
 
-      status : Told (seen_in words (reads.left input_before)) (λ text. Told (in_view (looks.worlds files_before)) (λ world. IsOrFails (run_outcome words text world (looks.pid files_before)).status ended))
+      status : Told (seen_by command (reads.left input_before)) (λ text. Told (in_view (looks.worlds files_before)) (λ world. IsOrFails (run_outcome command text world (looks.pid files_before)).status ended))
       status text left world seen = subst (λ (expected : Outcome). IsOrFails expected.status ended) (given.reply text left world seen) finished.status
 
       fails : Fails reads writes looks ended input_before input_after output_before output_after files_before files_after
       fails = fails_after reads writes looks ended _ _ _ _ _ _ (Faulted (Ok reply)) (λ fault. fault) counts finished.counts
 
   -- no reply was given, and nothing was written
-  pub runs_without_reply : (e : Error) → IsFailure ended → (Faulted {A = Reply} (Err e) ↔ (ended ≡ statuses.Fault)) → TakesTurns reads looks words (Err e) input_before input_after files_before files_after →
-      ReadsFor looks (command_in words) (reads.left input_before) (IsDoneReply (Err e)) files_before files_after → FailsAtOne reads looks (Faulted {A = Reply} (Err e)) input_before input_after files_before files_after →
+  pub runs_without_reply : (e : Error) → IsFailure ended → (Faulted {A = Reply} (Err e) ↔ (ended ≡ statuses.Fault)) → TakesTurns reads looks command (Err e) input_before input_after files_before files_after →
+      ReadsFor looks command (reads.left input_before) (IsDoneReply (Err e)) files_before files_after → FailsAtOne reads looks (Faulted {A = Reply} (Err e)) input_before input_after files_before files_after →
       output_after ≡ output_before →
-      Runs reads writes looks words ended input_before input_after output_before output_after files_before files_after
+      Runs reads writes looks command ended input_before input_after output_before output_after files_before files_after
   runs_without_reply e failed same_fault turns opens counts unwritten = record {
     ends = λ text left world seen old written. failed_ends _ old ended _ failed (ap writes.written unwritten ∙ written);
     status = λ text left world seen. inr failed;
     done = λ done. absurd (never ended statuses.Done done_no_failure failed done);
     answered = λ done. absurd (never ended statuses.Done done_no_failure failed done);
     refused = λ refused. absurd (never ended statuses.Refused refused_no_failure failed refused);
-    usage = (λ usage. absurd (never ended statuses.Usage usage_no_failure failed usage), λ none. inr failed);
+    usage = λ usage. never ended statuses.Usage usage_no_failure failed usage;
     input = λ text left. (λ bad. absurd (never ended statuses.Input input_no_failure failed bad), λ bad. inr failed);
     complete = λ text left world seen is. inr failed;
     refuses = λ text left world seen is. inr failed;
-    unread = turns.unread;
     unasked = turns.unasked;
     unlooked = turns.unlooked;
     read = λ no_failure. absurd (never ended ended no_failure failed refl);
     bounded = turns.bounded;
     order = by_order turns.order;
     silent = λ text left world seen nothing. unwritten;
-    most = most_read looks (IsDoneReply (Err e)) files_before files_after (command_in words) _ opens;
-    opened = one_opened looks (IsDoneReply (Err e)) files_before files_after (ended ≡ statuses.Done) (command_in words) _ (λ done. absurd (never ended statuses.Done done_no_failure failed done)) opens;
-    process = few_read looks (IsDoneReply (Err e)) files_before files_after words _ opens;
+    most = most_read looks (IsDoneReply (Err e)) files_before files_after command _ opens;
+    opened = one_opened looks (IsDoneReply (Err e)) files_before files_after (ended ≡ statuses.Done) command _ (λ done. absurd (never ended statuses.Done done_no_failure failed done)) opens;
+    process = few_read looks (IsDoneReply (Err e)) files_before files_after command _ opens;
     fails = fails;
     fault = fault_from_fails _ _ _ _ _ _ _ _ _ _ fails;
     steady = steady_from_fails _ _ _ _ _ _ _ _ _ _ fails;

@@ -14,11 +14,11 @@ use Rattle.bz_files.specs.World.{World, Entry, entry_at}
 use Rattle.bz_files.specs.World.Entry.{Denied, Present}
 use Rattle.bz_files.specs.declared.files.Files as files_trait
 use Rattle.bz_symbolize.proofs.Tables.{table_found, table_again}
+use Rattle.bz_symq.specs.Command.{Product}
 use Rattle.bz_symq.specs.Outcome.{Outcome, by_product}
 use Rattle.bz_symq.specs.Products.{by_table, made_by, made_in, made_of, path_of, IsMadeOf, IsUnmadeBy, IsUnmadeOf, MadeIn, UnmadeIn}
 use Rattle.bz_symq.specs.Reply.{outcome_of, IsProductReply, Replies, RepliesTo}
 use Rattle.bz_symq.specs.Targets.{HasFile}
-use Rattle.bz_symq.specs.Words.{Product}
 use Rattle.bz_symq.specs.declared.reply.Reply.{Reply}
 use Rattle.bz_symq.proofs.FaultLemmas.{counts_still, no_fault}
 

@@ -1,16 +1,16 @@
 -- How many files a run reads.
-use Rattle.std.proofs.Common.{◌≡◌, ℕ, ◌+◌, ◌≤◌, List, Option, Some, None, Result, Ok, Err, refl, ap, subst, ◌∙◌, inl, arith}
+use Rattle.std.proofs.Common.{◌≡◌, ℕ, ◌+◌, ◌≤◌, List, Option, Some, Result, Ok, Err, refl, ap, subst, ◌∙◌, inl, arith}
 use Rattle.bz_files.specs.Count.{counted}
 use Rattle.bz_files.specs.Looked.{ReadsOne}
 use Rattle.bz_files.specs.World.{Told, in_view}
 use Rattle.bz_files.specs.declared.files.Files as files_trait
+use Rattle.bz_symq.specs.Command.{Asking, Command, Batch, Make, Target, OneFile, OneProcess, seen_by}
 use Rattle.bz_symq.specs.InputText.{addresses_in}
 use Rattle.bz_symq.specs.Outcome.{Outcome, too_long}
 use Rattle.bz_symq.specs.Processes.{process_batch}
 use Rattle.bz_symq.specs.Reply.{outcome_of}
-use Rattle.bz_symq.specs.Run.{Asks, UnlessProcess}
-use Rattle.bz_symq.specs.Turns.{ReadsFor, ReadsForInput}
-use Rattle.bz_symq.specs.Words.{Command, Batch, Make, Target, OneFile, OneProcess, command_in, seen_by, seen_in}
+use Rattle.bz_symq.specs.Run.{Asks, UnlessProcess, UnlessTarget}
+use Rattle.bz_symq.specs.Turns.{ReadsFor, ReadsForBatch, ReadsForInput}
 use Rattle.bz_symq.specs.declared.reply.Reply.{Reply}
 use Rattle.bz_symq.specs.declared.status.Status.TheVariants as statuses
 use Rattle.bz_symq.proofs.InputGrammarLemmas.{addresses_again}
@@ -21,26 +21,32 @@ never_done reply long done = let status : reply.status ≡ statuses.Input = ap (
 
 module _ {F : Type 0} (looks : files_trait.Ghosts F) (answered : Type 0) (before after : F) where
   -- one file at most was read, unless a process was asked
-  pub most_read : (command : Option Command) (left : Option (List ℕ)) → ReadsFor looks command left answered before after → UnlessProcess command (ReadsOne looks before after)
-  most_read None left reads = reads.most
-  most_read (Some (Make product)) left reads = reads.most
-  most_read (Some (Batch (OneFile file))) left reads = reads.most
-  most_read (Some (Batch (OneProcess number))) left reads = tt
+  most_by_target : (target : Target) (left : Option (List ℕ)) → ReadsForBatch looks target left answered before after → UnlessTarget target (ReadsOne looks before after)
+  most_by_target (OneFile file) left reads = reads.most
+  most_by_target (OneProcess number) left reads = tt
+
+  pub most_read : (command : Command) (left : Option (List ℕ)) → ReadsFor looks command left answered before after → UnlessProcess command (ReadsOne looks before after)
+  most_read (Make product) left reads = reads.most
+  most_read (Batch asking) left reads = most_by_target asking.target left reads
 
   -- and one where the run is done
-  pub one_opened : (done : Type 0) (command : Option Command) (left : Option (List ℕ)) → (done → answered) → ReadsFor looks command left answered before after →
+  opened_by_target : (done : Type 0) (target : Target) (left : Option (List ℕ)) → (done → answered) → ReadsForBatch looks target left answered before after →
+      UnlessTarget target (Told (in_view (looks.worlds before)) (λ world. done → looks.opens after ≡ counted (looks.opens before)))
+  opened_by_target done (OneFile file) left from reads = λ world seen is. reads.opened world seen (from is)
+  opened_by_target done (OneProcess number) left from reads = tt
+
+  pub one_opened : (done : Type 0) (command : Command) (left : Option (List ℕ)) → (done → answered) → ReadsFor looks command left answered before after →
       UnlessProcess command (Told (in_view (looks.worlds before)) (λ world. done → looks.opens after ≡ counted (looks.opens before)))
-  one_opened done None left from reads = λ world seen is. reads.opened world seen (from is)
-  one_opened done (Some (Make product)) left from reads = λ world seen is. reads.opened world seen (from is)
-  one_opened done (Some (Batch (OneFile file))) left from reads = λ world seen is. reads.opened world seen (from is)
-  one_opened done (Some (Batch (OneProcess number))) left from reads = tt
+  one_opened done (Make product) left from reads = λ world seen is. reads.opened world seen (from is)
+  one_opened done (Batch asking) left from reads = opened_by_target done asking.target left from reads
 
   -- for a process no more than its batch reads
-  pub few_read : (words : List (List ℕ)) (left : Option (List ℕ)) → ReadsFor looks (command_in words) left answered before after →
-      Told (seen_in words left) (λ text. Told (in_view (looks.worlds before)) (λ world. (number : ℕ) (addrs : List ℕ) → Asks words text (OneProcess number) addrs →
+  pub few_read : (command : Command) (left : Option (List ℕ)) → ReadsFor looks command left answered before after →
+      Told (seen_by command left) (λ text. Told (in_view (looks.worlds before)) (λ world. (asking : Asking) (number : ℕ) (addrs : List ℕ) → Asks command text asking addrs → asking.target ≡ OneProcess number →
       looks.opens after ≤ looks.opens before + (process_batch number (looks.pid before) addrs world).opens))
-  few_read words left reads text seen world told number addrs asks =
-      let of_process = subst (λ command. ReadsFor looks command left answered before after) asks.command_is reads in
+  few_read command left reads text seen world told asking number addrs asks is =
+      let of_batch = subst (λ command. ReadsFor looks command left answered before after) asks.command_is reads in
+      let of_process = subst (λ target. ReadsForBatch looks target left answered before after) is of_batch in
       let whole = subst (λ command. seen_by command left ≡ Some text) asks.command_is seen in
       of_process text whole addrs (addresses_again text addrs asks.input_is) world told
 
@@ -50,14 +56,14 @@ module _ {F : Type 0} (looks : files_trait.Ghosts F) (answered : Type 0) (before
   none_read (OneProcess number) (Err n) never same = rw same refl
   none_read (OneProcess number) (Ok addrs) never same = λ world seen. rw same (omega arith)
 
-  -- what was read for the answers to an input was read for the command
+  -- what was read for the answers to an input was read for the batch
   pub input_reads : (target : Target) (left : Option (List ℕ)) (text : List ℕ) → Told left (λ whole. text ≡ whole) → ReadsForInput looks target (addresses_in text) answered before after →
-      ReadsFor looks (Some (Batch target)) left answered before after
+      ReadsForBatch looks target left answered before after
   input_reads (OneFile file) left text whole reads = reads
   input_reads (OneProcess number) left text whole reads = λ given told addrs is.
       subst (λ read. ReadsForInput looks (OneProcess number) read answered before after) (ap addresses_in (whole given told) ∙ is) reads
 
   -- and where nothing is looked at none is
-  pub none_read_for : (target : Target) (left : Option (List ℕ)) → (answered → ⊥) → after ≡ before → ReadsFor looks (Some (Batch target)) left answered before after
+  pub none_read_for : (target : Target) (left : Option (List ℕ)) → (answered → ⊥) → after ≡ before → ReadsForBatch looks target left answered before after
   none_read_for (OneFile file) left never same = none_read (OneFile file) (Err 0) never same
   none_read_for (OneProcess number) left never same = λ text told addrs is. none_read (OneProcess number) (Ok addrs) never same

@@ -1,4 +1,4 @@
--- What the reply to the words is.
+-- What the reply to a command is.
 use Rattle.std.proofs.Common.{◌≡◌, ◌≢◌, ◌↔◌, ℕ, ◌<◌, ◌≤◌, List, ◌++◌, length, Option, Some, None, Result, Ok, Err, IfOk, IsOk, OnOk, IsErr, refl, sym, ap, subst, ◌∙◌, inl, inr, arith}
 use Rattle.std.proofs.lemmas.Bool.{false≢true, le-ltb, lt-ltb}
 use Rattle.bz_base.specs.Answer.{Answer}
@@ -8,13 +8,13 @@ use Rattle.bz_cache.specs.Format.{Comes}
 use Rattle.bz_files.specs.World.{World, Told}
 use Rattle.bz_files.specs.declared.files.Files as files_trait
 use Rattle.bz_files.specs.declared.text.TextIn as input_trait
+use Rattle.bz_symq.specs.Command.{Asking, Command, Batch, Make, Product}
 use Rattle.bz_symq.specs.InputText.{addresses_in, greatest_input}
-use Rattle.bz_symq.specs.Outcome.{Outcome, by_addresses, by_answer, by_command, by_product, run_outcome, too_long}
+use Rattle.bz_symq.specs.Outcome.{Outcome, by_addresses, by_answer, by_product, run_outcome, too_long}
 use Rattle.bz_symq.specs.Products.{made_in}
-use Rattle.bz_symq.specs.Reply.{outcome_of, text_of, IsInputReply, IsInputStatus, IsProductReply, IsProductStatus, IsRunReply, Replies, RepliesTo, RepliesToWords}
+use Rattle.bz_symq.specs.Reply.{outcome_of, text_of, IsInputReply, IsInputStatus, IsProductReply, IsProductStatus, IsRunReply, Replies, RepliesTo, RepliesToCommand}
 use Rattle.bz_symq.specs.Run.{IsBadInput, IsNoFailure}
 use Rattle.bz_symq.specs.Turns.{TakesTurns}
-use Rattle.bz_symq.specs.Words.{Command, Batch, Make, Product, Target, command_in, seen_by, seen_in}
 use Rattle.bz_symq.specs.declared.reply.Reply.{Reply}
 use Rattle.bz_symq.specs.declared.status.Status.{Status}
 use Rattle.bz_symq.specs.declared.status.Status.TheVariants as statuses
@@ -45,7 +45,7 @@ no_failure_from (Err n) status is = (λ other. cc, λ other. cc)
 no_failure_from (Ok addrs) status (inl is) = (λ other. cc, λ other. cc)
 no_failure_from (Ok addrs) status (inr is) = (λ other. cc, λ other. cc)
 
--- and not that of words that are no command
+-- and not that of words that give no command
 never_usage : (read : Result (List ℕ) ℕ) (status : Status) → IsInputStatus read status → status ≢ statuses.Usage
 never_usage (Err n) status is other = cc
 never_usage (Ok addrs) status (inl is) other = cc
@@ -57,12 +57,12 @@ input_iff (Err n) status is = (λ _. refl, λ _. is)
 input_iff (Ok addrs) status (inl is) = (λ other. cc, λ err. absurd (false≢true err))
 input_iff (Ok addrs) status (inr is) = (λ other. cc, λ err. absurd (false≢true err))
 
--- nor is that of words that ask for a product
+-- nor is that of a reply that says a product
 product_no_failure : (status : Status) → IsProductStatus status → IsNoFailure status
 product_no_failure status (inl is) = (λ other. cc, λ other. cc)
 product_no_failure status (inr is) = (λ other. cc, λ other. cc)
 
--- and it is neither that of words that are no command nor that of a bad input
+-- and it is neither that of words that give no command nor that of a bad input
 product_no_usage : (status : Status) → IsProductStatus status → status ≢ statuses.Usage
 product_no_usage status (inl is) other = cc
 product_no_usage status (inr is) other = cc
@@ -71,17 +71,13 @@ product_no_input : (status : Status) → IsProductStatus status → status ≢ s
 product_no_input status (inl is) other = cc
 product_no_input status (inr is) other = cc
 
--- words that give a command aren't without one
-pub no_none : (words : List (List ℕ)) (command : Command) → command_in words ≡ Some command → command_in words ≡ None → ⊥
-no_none words command is none = cc
-
-module _ (words : List (List ℕ)) (target : Target) (input : List ℕ) (command_is : command_in words ≡ Some (Batch target)) (short : length input ≤ greatest_input) where
+module _ (command : Command) (asking : Asking) (input : List ℕ) (command_is : command ≡ Batch asking) (short : length input ≤ greatest_input) where
   -- the addresses that a reply answers are those that the run is asked for
-  run_from_input : (reply : Reply) → IsInputReply target input reply → IsRunReply words input reply
+  run_from_input : (reply : Reply) → IsInputReply asking input reply → IsRunReply command input reply
   run_from_input reply answered = λ done old new written.
       let given = answered done in
       inl (record {
-        target = target;
+        asking = asking;
         addrs = given.0;
         answers = given.2.answers;
         asks = record { command_is = command_is; short = short; input_is = addresses_found input given.0 given.1 };
@@ -90,29 +86,29 @@ module _ (words : List (List ℕ)) (target : Target) (input : List ℕ) (command
       })
 
   -- a reply's status is that of a bad input exactly where the input is one
-  bad_iff : (status : Status) → IsInputStatus (addresses_in input) status → (status ≡ statuses.Input) ↔ IsBadInput words input
+  bad_iff : (status : Status) → IsInputStatus (addresses_in input) status → (status ≡ statuses.Input) ↔ IsBadInput command input
   bad_iff status is =
       let read = input_iff (addresses_in input) status is in (
-        λ at. bad_from_read words target input command_is short (addresses_in input) refl (read.0 at),
-        λ bad. read.1 (err_from_bad words target input command_is short bad),
+        λ at. bad_from_read command asking input command_is short (addresses_in input) refl (read.0 at),
+        λ bad. read.1 (err_from_bad command asking input command_is short bad),
       )
 
   -- an input that isn't too long is replied to by what is read of it
-  outcome_read : (text : List ℕ) (world : World) (own : ℕ) → input ≡ text → by_addresses target world own (addresses_in input) ≡ run_outcome words text world own
+  outcome_read : (text : List ℕ) (world : World) (own : ℕ) → input ≡ text → by_addresses asking world own (addresses_in input) ≡ run_outcome command text world own
   outcome_read text world own same = rw (← same, command_is, le-ltb _ _ short) refl
 
-  -- so the reply to it is the reply to the words
-  pub words_from_input : (left : Option (List ℕ)) (seen : Option World) (own : ℕ) (result : Result Reply Error) → Told left (λ text. input ≡ text) →
-      Told seen (λ world. Replies (by_addresses target world own (addresses_in input)) result) → IfOk result (λ given. IsInputReply target input given) →
-      IfOk result (λ given. IsInputStatus (addresses_in input) given.status) → RepliesToWords words left seen own result
-  words_from_input left seen own (Ok reply) whole replies answered status = record {
+  -- so the reply to it is the reply to the command
+  pub reply_from_input : (left : Option (List ℕ)) (seen : Option World) (own : ℕ) (result : Result Reply Error) → Told left (λ text. input ≡ text) →
+      Told seen (λ world. Replies (by_addresses asking world own (addresses_in input)) result) → IfOk result (λ given. IsInputReply asking input given) →
+      IfOk result (λ given. IsInputStatus (addresses_in input) given.status) → RepliesToCommand command left seen own result
+  reply_from_input left seen own (Ok reply) whole replies answered status = record {
     reply = λ text told world sees. subst (λ expected. Replies expected (Ok reply)) (outcome_read text world own (whole text told)) (replies world sees);
     answered = λ text told. rw (← whole text told) (run_from_input reply answered);
     no_failure = no_failure_from (addresses_in input) reply.status status;
-    usage = (λ is. absurd (never_usage (addresses_in input) reply.status status is), λ none. absurd (no_none words (Batch target) command_is none));
+    usage = λ is. never_usage (addresses_in input) reply.status status is;
     input = λ text told. rw (← whole text told) (bad_iff reply.status status);
   }
-  words_from_input left seen own (Err e) whole replies answered status = record {
+  reply_from_input left seen own (Err e) whole replies answered status = record {
     reply = λ text told world sees. subst (λ expected. Replies expected (Err e)) (outcome_read text world own (whole text told)) (replies world sees);
     answered = λ text told. tt;
     no_failure = tt;
@@ -121,43 +117,43 @@ module _ (words : List (List ℕ)) (target : Target) (input : List ℕ) (command
   }
 
 -- the reply to an input that is too long
-pub words_from_long : (words : List (List ℕ)) (target : Target) → command_in words ≡ Some (Batch target) → (left : Option (List ℕ)) (seen : Option World) (own : ℕ) (reply : Reply) →
-    Told left (λ text. greatest_input < length text) → outcome_of reply ≡ too_long → RepliesToWords words left seen own (Ok reply)
-words_from_long words target command_is left seen own reply long is =
+pub reply_from_long : (command : Command) (asking : Asking) → command ≡ Batch asking → (left : Option (List ℕ)) (seen : Option World) (own : ℕ) (reply : Reply) →
+    Told left (λ text. greatest_input < length text) → outcome_of reply ≡ too_long → RepliesToCommand command left seen own (Ok reply)
+reply_from_long command asking command_is left seen own reply long is =
     let status : reply.status ≡ statuses.Input = ap (λ (o : Outcome). o.status) is in
     record {
       reply = λ text told world sees. rw (command_is, lt-ltb _ _ (long text told)) is;
       answered = λ text told done. cc;
       no_failure = (λ other. cc, λ other. cc);
-      usage = (λ other. cc, λ none. absurd (no_none words (Batch target) command_is none));
-      input = λ text told. (λ _. (target, command_is, inl (long text told)), λ _. status);
+      usage = λ other. cc;
+      input = λ text told. (λ _. (asking, command_is, inl (long text told)), λ _. status);
     }
 
--- words that ask for answers ask for no product, nor the other way round
-pub no_make : (words : List (List ℕ)) (target : Target) → command_in words ≡ Some (Batch target) → (product : Product) → command_in words ≡ Some (Make product) → ⊥
-no_make words target is product make = cc
+-- a command that asks for answers asks for no product, nor the other way round
+pub no_make : (command : Command) (asking : Asking) → command ≡ Batch asking → (product : Product) → command ≡ Make product → ⊥
+no_make command asking is product make = cc
 
-no_batch : (words : List (List ℕ)) (product : Product) → command_in words ≡ Some (Make product) → (target : Target) → command_in words ≡ Some (Batch target) → ⊥
-no_batch words product is target batch = cc
+no_batch : (command : Command) (product : Product) → command ≡ Make product → (asking : Asking) → command ≡ Batch asking → ⊥
+no_batch command product is asking batch = cc
 
-module _ (words : List (List ℕ)) (product : Product) (command_is : command_in words ≡ Some (Make product)) where
+module _ (command : Command) (product : Product) (command_is : command ≡ Make product) where
   -- what some file makes is what the run is asked for
-  run_from_product : (input : List ℕ) (reply : Reply) → IsProductReply product reply → IsRunReply words input reply
+  run_from_product : (input : List ℕ) (reply : Reply) → IsProductReply product reply → IsRunReply command input reply
   run_from_product input reply answered = λ done old new written.
       inr (record { product = product; made = text_of reply.said; asks = command_is; made_is = answered done; written = written })
 
-  -- the reply that says a product, or why there is none, is the reply to the words
-  pub words_from_product : (left : Option (List ℕ)) (seen : Option World) (own : ℕ) (result : Result Reply Error) → Told seen (λ world. Replies (by_product (made_in product world)) result) →
-      IfOk result (λ given. IsProductReply product given) → IfOk result (λ given. IsProductStatus given.status) → RepliesToWords words left seen own result
-  words_from_product left seen own (Ok reply) replies answered status = record {
-    reply = λ text told world sees. subst (λ command. Replies (by_command command text world own) (Ok reply)) (sym command_is) (replies world sees);
+  -- the reply that says a product, or why there is none, is the reply to the command
+  pub reply_from_product : (left : Option (List ℕ)) (seen : Option World) (own : ℕ) (result : Result Reply Error) → Told seen (λ world. Replies (by_product (made_in product world)) result) →
+      IfOk result (λ given. IsProductReply product given) → IfOk result (λ given. IsProductStatus given.status) → RepliesToCommand command left seen own result
+  reply_from_product left seen own (Ok reply) replies answered status = record {
+    reply = λ text told world sees. subst (λ other. Replies (run_outcome other text world own) (Ok reply)) (sym command_is) (replies world sees);
     answered = λ text told. run_from_product text reply answered;
     no_failure = product_no_failure reply.status status;
-    usage = (λ is. absurd (product_no_usage reply.status status is), λ none. absurd (no_none words (Make product) command_is none));
-    input = λ text told. (λ is. absurd (product_no_input reply.status status is), λ bad. absurd (no_batch words product command_is bad.0 bad.1));
+    usage = λ is. product_no_usage reply.status status is;
+    input = λ text told. (λ is. absurd (product_no_input reply.status status is), λ bad. absurd (no_batch command product command_is bad.0 bad.1));
   }
-  words_from_product left seen own (Err e) replies answered status = record {
-    reply = λ text told world sees. subst (λ command. Replies (by_command command text world own) (Err e)) (sym command_is) (replies world sees);
+  reply_from_product left seen own (Err e) replies answered status = record {
+    reply = λ text told world sees. subst (λ other. Replies (run_outcome other text world own) (Err e)) (sym command_is) (replies world sees);
     answered = λ text told. tt;
     no_failure = tt;
     usage = tt;
@@ -166,17 +162,11 @@ module _ (words : List (List ℕ)) (product : Product) (command_is : command_in 
 
   -- no input is asked for, so none is read
   pub turns_from_product : {R F : Type 0} (reads : input_trait.Ghosts R) (looks : files_trait.Ghosts F) (result : Result Reply Error) (input : R) (before after : F) →
-      TakesTurns reads looks words result input input before after
+      TakesTurns reads looks command result input input before after
   turns_from_product reads looks result input before after = record {
-    unread = λ none. absurd (no_none words (Make product) command_is none);
     unasked = λ other is. refl;
-    unlooked = λ text told bad. absurd (no_batch words product command_is bad.0 bad.1);
-    read = given_always result (λ target batch. absurd (no_batch words product command_is target batch));
+    unlooked = λ text told bad. absurd (no_batch command product command_is bad.0 bad.1);
+    read = given_always result (λ asking batch. absurd (no_batch command product command_is asking batch));
     bounded = λ text told. (0, omega arith, told);
-    order = inr (λ target batch. absurd (no_batch words product command_is target batch));
+    order = inr (λ asking batch. absurd (no_batch command product command_is asking batch));
   }
-
--- words that ask for answers see the whole input
-pub words_see : (words : List (List ℕ)) (target : Target) → command_in words ≡ Some (Batch target) → (left : Option (List ℕ)) (seen : Option World) (own : ℕ) (result : Result Reply Error) →
-    RepliesToWords words left seen own result → RepliesToWords words (seen_in words left) seen own result
-words_see words target is left seen own result replies = subst (λ command. RepliesToWords words (seen_by command left) seen own result) (sym is) replies

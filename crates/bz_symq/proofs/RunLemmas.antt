@@ -1,29 +1,29 @@
--- What the outcome of a run says of its words, its input and its source.
-use Rattle.std.proofs.Common.{◌≡◌, ◌⊎◌, ℕ, ◌≤◌, Bool, true, false, List, ◌++◌, length, Option, Some, None, Ok, Err, Result, IsErr, refl, sym, ap, ◌∙◌, inl, inr, arith, ltb}
+-- What the outcome of a run says of its command, its input and its source.
+use Rattle.std.proofs.Common.{◌≡◌, ◌≢◌, ◌⊎◌, ℕ, ◌≤◌, Bool, true, false, List, ◌++◌, length, Option, Some, None, Ok, Err, Result, IsErr, refl, sym, ap, ◌∙◌, inl, inr, arith, ltb}
 use Rattle.std.proofs.lemmas.Bool.{false≢true, le-ltb, lt-ltb, ltb-false, ltb-true}
 use Rattle.bz_base.specs.Answer.{Answer}
 use Rattle.bz_base.specs.declared.error.Error.{Error}
 use Rattle.bz_files.specs.World.{World}
+use Rattle.bz_symq.specs.Command.{Asking, Command, Batch, Make, Product}
 use Rattle.bz_symq.specs.InputText.{HasBadLine, addresses_in, greatest_input}
-use Rattle.bz_symq.specs.Outcome.{Outcome, run_outcome, by_command, by_length, by_addresses, by_answer, by_product}
+use Rattle.bz_symq.specs.Outcome.{Outcome, run_outcome, by_length, by_addresses, by_answer, by_product}
 use Rattle.bz_symq.specs.Products.{made_in}
 use Rattle.bz_symq.specs.Run.{Asks, Ends, IsAnswerable, IsBadInput, IsDone, IsMade, IsMakeable, IsRefusable, IsRefused, IsUnmade, IsUnmakeable}
 use Rattle.bz_symq.specs.Targets.{answer_to}
-use Rattle.bz_symq.specs.Words.{Command, Batch, Make, Product, Target, command_in}
 use Rattle.bz_symq.specs.declared.status.Status.{Status}
 use Rattle.bz_symq.specs.declared.status.Status.TheVariants as statuses
 use Rattle.bz_symq.proofs.InputGrammarLemmas.{addresses_found, addresses_again, first_bad_found, first_bad_again}
 use Rattle.bz_symq.proofs.ProductLemmas.{made_found, made_given, unmade_found, unmade_given}
 use Rattle.bz_symq.proofs.TargetLemmas.{answers_found, answers_given, cause_found, has_answers, refusal_given}
 
-module _ (words : List (List ℕ)) (target : Target) (input : List ℕ) (command_is : command_in words ≡ Some (Batch target)) (short : length input ≤ greatest_input) where
+module _ (command : Command) (asking : Asking) (input : List ℕ) (command_is : command ≡ Batch asking) (short : length input ≤ greatest_input) where
   -- an input that isn't read as addresses is a bad one
-  pub bad_from_read : (read : Result (List ℕ) ℕ) → addresses_in input ≡ read → IsErr read → IsBadInput words input
+  pub bad_from_read : (read : Result (List ℕ) ℕ) → addresses_in input ≡ read → IsErr read → IsBadInput command input
   bad_from_read (Ok addrs) is bad = cc
-  bad_from_read (Err n) is bad = (target, command_is, inr (n, first_bad_found input n is))
+  bad_from_read (Err n) is bad = (asking, command_is, inr (n, first_bad_found input n is))
 
   -- and only such an input
-  pub err_from_bad : IsBadInput words input → IsErr (addresses_in input)
+  pub err_from_bad : IsBadInput command input → IsErr (addresses_in input)
   err_from_bad (named, same, inl long) = absurd (omega arith)
   err_from_bad (named, same, inr (n, bad)) = rw (first_bad_again input n bad) refl
 
@@ -34,46 +34,45 @@ is_asking statuses.Refused = true
 is_asking _ = false
 
 -- what a run that asks its target knows
-record IsAsking (words : List (List ℕ)) (input : List ℕ) (world : World) (own : ℕ) : Type 0 where
-  target : Target
+record IsAsking (command : Command) (input : List ℕ) (world : World) (own : ℕ) : Type 0 where
+  asking : Asking
   addrs : List ℕ
-  asks : Asks words input target addrs
-  ends : run_outcome words input world own ≡ by_answer addrs (answer_to target addrs world own)
+  asks : Asks command input asking addrs
+  ends : run_outcome command input world own ≡ by_answer addrs (answer_to asking.target addrs world own)
 
 -- and one that makes its product
-record IsMaking (words : List (List ℕ)) (input : List ℕ) (world : World) (own : ℕ) : Type 0 where
+record IsMaking (command : Command) (input : List ℕ) (world : World) (own : ℕ) : Type 0 where
   product : Product
-  asks : command_in words ≡ Some (Make product)
-  ends : run_outcome words input world own ≡ by_product (made_in product world)
+  asks : command ≡ Make product
+  ends : run_outcome command input world own ≡ by_product (made_in product world)
 
 -- what one that does either knows
-abbrev IsServing : List (List ℕ) → List ℕ → World → ℕ → Type 0
-IsServing words input world own = IsAsking words input world own ⊎ IsMaking words input world own
+abbrev IsServing : Command → List ℕ → World → ℕ → Type 0
+IsServing command input world own = IsAsking command input world own ⊎ IsMaking command input world own
 
-module _ (words : List (List ℕ)) (input : List ℕ) (world : World) (own : ℕ) where
-  asking_read : (target : Target) → command_in words ≡ Some (Batch target) → ltb greatest_input (length input) ≡ false →
-      (read : Result (List ℕ) ℕ) → addresses_in input ≡ read → is_asking (by_addresses target world own read).status ≡ true → IsAsking words input world own
-  asking_read target command_is fits (Err n) is asking = cc
-  asking_read target command_is fits (Ok addrs) is asking = record {
-    target = target;
+module _ (command : Command) (input : List ℕ) (world : World) (own : ℕ) where
+  asking_read : (asking : Asking) → command ≡ Batch asking → ltb greatest_input (length input) ≡ false →
+      (read : Result (List ℕ) ℕ) → addresses_in input ≡ read → is_asking (by_addresses asking world own read).status ≡ true → IsAsking command input world own
+  asking_read asking command_is fits (Err n) is asks = cc
+  asking_read asking command_is fits (Ok addrs) is asks = record {
+    asking = asking;
     addrs = addrs;
     asks = record { command_is = command_is; short = ltb-false _ _ fits; input_is = addresses_found input addrs is };
     ends = rw (command_is, fits, is) refl;
   }
 
-  asking_long : (target : Target) → command_in words ≡ Some (Batch target) → (long : Bool) → ltb greatest_input (length input) ≡ long →
-      is_asking (by_length target input world own long).status ≡ true → IsAsking words input world own
-  asking_long target command_is true is asking = cc
-  asking_long target command_is false is asking = asking_read target command_is is (addresses_in input) refl asking
+  asking_long : (asking : Asking) → command ≡ Batch asking → (long : Bool) → ltb greatest_input (length input) ≡ long →
+      is_asking (by_length asking input world own long).status ≡ true → IsAsking command input world own
+  asking_long asking command_is true is asks = cc
+  asking_long asking command_is false is asks = asking_read asking command_is is (addresses_in input) refl asks
 
-  serving_command : (given : Option Command) → command_in words ≡ given → is_asking (by_command given input world own).status ≡ true → IsServing words input world own
-  serving_command None is asking = cc
-  serving_command (Some (Batch target)) is asking = inl (asking_long target is (ltb greatest_input (length input)) refl asking)
-  serving_command (Some (Make product)) is asking = inr (record { product = product; asks = is; ends = rw is refl })
+  serving_command : (given : Command) → command ≡ given → is_asking (run_outcome given input world own).status ≡ true → IsServing command input world own
+  serving_command (Batch asking) is asks = inl (asking_long asking is (ltb greatest_input (length input)) refl asks)
+  serving_command (Make product) is asks = inr (record { product = product; asks = is; ends = rw is refl })
 
   -- a run that ends by an answer has a target and an input for it, or a product
-  serving : is_asking (run_outcome words input world own).status ≡ true → IsServing words input world own
-  serving is = serving_command (command_in words) refl is
+  serving : is_asking (run_outcome command input world own).status ≡ true → IsServing command input world own
+  serving is = serving_command command refl is
 
 -- an answer by which a run is done is Ok, and one by which it is refused is a refusal
 ok_from_done : (addrs : List ℕ) (answer : Result (List Answer) Error) → (by_answer addrs answer).status ≡ statuses.Done → (answers : List Answer) × (answer ≡ Ok answers)
@@ -93,127 +92,127 @@ name_from_refused : (result : Result (List ℕ) (List ℕ)) → (by_product resu
 name_from_refused (Ok made) refused = cc
 name_from_refused (Err name) refused = (name, refl)
 
-module _ (words : List (List ℕ)) (input : List ℕ) (world : World) (own : ℕ) (known : IsAsking words input world own) where
+module _ (command : Command) (input : List ℕ) (world : World) (own : ℕ) (known : IsAsking command input world own) where
   abbrev answer_known : Result (List Answer) Error
-  answer_known = answer_to known.target known.addrs world own
+  answer_known = answer_to known.asking.target known.addrs world own
 
   -- the answers of a run that is done, and the refusal of one that is refused
-  answers_known : (run_outcome words input world own).status ≡ statuses.Done → (answers : List Answer) × (answer_known ≡ Ok answers)
+  answers_known : (run_outcome command input world own).status ≡ statuses.Done → (answers : List Answer) × (answer_known ≡ Ok answers)
   answers_known done = ok_from_done known.addrs answer_known (ap (λ (o : Outcome). o.status) (sym known.ends) ∙ done)
 
-  refusal_known : (run_outcome words input world own).status ≡ statuses.Refused → (e : Error) × (answer_known ≡ Err e)
+  refusal_known : (run_outcome command input world own).status ≡ statuses.Refused → (e : Error) × (answer_known ≡ Err e)
   refusal_known refused = err_from_refused known.addrs answer_known (ap (λ (o : Outcome). o.status) (sym known.ends) ∙ refused)
 
-  answerable_known : (run_outcome words input world own).status ≡ statuses.Done → IsAnswerable words input world
+  answerable_known : (run_outcome command input world own).status ≡ statuses.Done → IsAnswerable command input world
   answerable_known done =
       let given = answers_known done in
       record {
-        target = known.target;
+        asking = known.asking;
         addrs = known.addrs;
         asks = known.asks;
-        answerable = has_answers world own known.addrs known.target given.0 (answers_found world own known.addrs known.target given.0 given.1);
+        answerable = has_answers world own known.addrs known.asking.target given.0 (answers_found world own known.addrs known.asking.target given.0 given.1);
       }
 
-  refusable_known : (run_outcome words input world own).status ≡ statuses.Refused → IsRefusable words input world
+  refusable_known : (run_outcome command input world own).status ≡ statuses.Refused → IsRefusable command input world
   refusable_known refused =
       let given = refusal_known refused in
-      record { target = known.target; addrs = known.addrs; refusal = given.0; asks = known.asks; cause = cause_found world own known.addrs known.target given.0 given.1 }
+      record { asking = known.asking; addrs = known.addrs; refusal = given.0; asks = known.asks; cause = cause_found world own known.addrs known.asking.target given.0 given.1 }
 
-module _ (words : List (List ℕ)) (input : List ℕ) (world : World) (own : ℕ) (known : IsMaking words input world own) where
+module _ (command : Command) (input : List ℕ) (world : World) (own : ℕ) (known : IsMaking command input world own) where
   -- the product of a run that is done, and why one that is refused has none
-  makeable_known : (run_outcome words input world own).status ≡ statuses.Done → IsMakeable words world
+  makeable_known : (run_outcome command input world own).status ≡ statuses.Done → IsMakeable command world
   makeable_known done =
       let given = made_from_done (made_in known.product world) (ap (λ (o : Outcome). o.status) (sym known.ends) ∙ done) in
       record { product = known.product; made = given.0; asks = known.asks; made_is = made_found known.product world given.0 given.1 }
 
-  unmakeable_known : (run_outcome words input world own).status ≡ statuses.Refused → IsUnmakeable words world
+  unmakeable_known : (run_outcome command input world own).status ≡ statuses.Refused → IsUnmakeable command world
   unmakeable_known refused =
       let given = name_from_refused (made_in known.product world) (ap (λ (o : Outcome). o.status) (sym known.ends) ∙ refused) in
       record { product = known.product; name = given.0; asks = known.asks; cause = unmade_found known.product world given.0 given.1 }
 
-module _ (words : List (List ℕ)) (input : List ℕ) (world : World) (own : ℕ) where
+module _ (command : Command) (input : List ℕ) (world : World) (own : ℕ) where
   -- a run that is asked for addresses ends by the answer of its target
-  asked_outcome : (target : Target) (addrs : List ℕ) → Asks words input target addrs → run_outcome words input world own ≡ by_answer addrs (answer_to target addrs world own)
-  asked_outcome target addrs asks = rw (asks.command_is, le-ltb _ _ asks.short, addresses_again input addrs asks.input_is) refl
+  asked_outcome : (asking : Asking) (addrs : List ℕ) → Asks command input asking addrs → run_outcome command input world own ≡ by_answer addrs (answer_to asking.target addrs world own)
+  asked_outcome asking addrs asks = rw (asks.command_is, le-ltb _ _ asks.short, addresses_again input addrs asks.input_is) refl
 
   -- and one that is asked for a product by that
-  making_outcome : (product : Product) → command_in words ≡ Some (Make product) → run_outcome words input world own ≡ by_product (made_in product world)
+  making_outcome : (product : Product) → command ≡ Make product → run_outcome command input world own ≡ by_product (made_in product world)
   making_outcome product asks = rw asks refl
 
-module _ (words : List (List ℕ)) (input : List ℕ) (world : World) (own : ℕ) (old : List ℕ) (new : Option (List ℕ)) where
+module _ (command : Command) (input : List ℕ) (world : World) (own : ℕ) (old : List ℕ) (new : Option (List ℕ)) where
   -- a run that ends as done has answered all the addresses, or has written the product
-  pub done_from_ends : Ends (run_outcome words input world own) old statuses.Done new → IsDone words input world own old new ⊎ IsMade words world old new
-  done_from_ends ends = by_serving (serving words input world own (ap is_asking ends.0))
+  pub done_from_ends : Ends (run_outcome command input world own) old statuses.Done new → IsDone command input world own old new ⊎ IsMade command world old new
+  done_from_ends ends = by_serving (serving command input world own (ap is_asking ends.0))
     where
-      by_serving : IsServing words input world own → IsDone words input world own old new ⊎ IsMade words world old new
+      by_serving : IsServing command input world own → IsDone command input world own old new ⊎ IsMade command world old new
       by_serving (inl known) =
-          let given = answers_known words input world own known ends.0 in
+          let given = answers_known command input world own known ends.0 in
           inl (record {
-            target = known.target;
+            asking = known.asking;
             addrs = known.addrs;
             answers = given.0;
             asks = known.asks;
-            answers_are = answers_found world own known.addrs known.target given.0 given.1;
+            answers_are = answers_found world own known.addrs known.asking.target given.0 given.1;
             written = ends.1 ∙ ap (λ (o : Outcome). Some (old ++ o.text)) (known.ends ∙ ap (by_answer known.addrs) given.1);
           })
       by_serving (inr known) =
-          let given = makeable_known words input world own known ends.0 in
+          let given = makeable_known command input world own known ends.0 in
           inr (record {
             makeable = given;
-            written = ends.1 ∙ ap (λ (o : Outcome). Some (old ++ o.text)) (making_outcome words input world own given.product given.asks ∙ ap by_product (made_given given.product world given.made given.made_is));
+            written = ends.1 ∙ ap (λ (o : Outcome). Some (old ++ o.text)) (making_outcome command input world own given.product given.asks ∙ ap by_product (made_given given.product world given.made given.made_is));
           })
 
   -- a run that ends as refused has written why
-  pub refused_from_ends : Ends (run_outcome words input world own) old statuses.Refused new → IsRefused words input world old new ⊎ IsUnmade words world old new
-  refused_from_ends ends = by_serving (serving words input world own (ap is_asking ends.0))
+  pub refused_from_ends : Ends (run_outcome command input world own) old statuses.Refused new → IsRefused command input world old new ⊎ IsUnmade command world old new
+  refused_from_ends ends = by_serving (serving command input world own (ap is_asking ends.0))
     where
-      by_serving : IsServing words input world own → IsRefused words input world old new ⊎ IsUnmade words world old new
+      by_serving : IsServing command input world own → IsRefused command input world old new ⊎ IsUnmade command world old new
       by_serving (inl known) =
-          let given = refusal_known words input world own known ends.0 in
+          let given = refusal_known command input world own known ends.0 in
           inl (record {
-            refusable = record { target = known.target; addrs = known.addrs; refusal = given.0; asks = known.asks; cause = cause_found world own known.addrs known.target given.0 given.1 };
+            refusable = record { asking = known.asking; addrs = known.addrs; refusal = given.0; asks = known.asks; cause = cause_found world own known.addrs known.asking.target given.0 given.1 };
             written = ends.1 ∙ ap (λ (o : Outcome). Some (old ++ o.text)) (known.ends ∙ ap (by_answer known.addrs) given.1);
           })
       by_serving (inr known) =
-          let given = unmakeable_known words input world own known ends.0 in
+          let given = unmakeable_known command input world own known ends.0 in
           inr (record {
             unmakeable = given;
-            written = ends.1 ∙ ap (λ (o : Outcome). Some (old ++ o.text)) (making_outcome words input world own given.product given.asks ∙ ap by_product (unmade_given given.product world given.name given.cause));
+            written = ends.1 ∙ ap (λ (o : Outcome). Some (old ++ o.text)) (making_outcome command input world own given.product given.asks ∙ ap by_product (unmade_given given.product world given.name given.cause));
           })
 
-module _ (words : List (List ℕ)) (input : List ℕ) (world : World) (own : ℕ) where
+module _ (command : Command) (input : List ℕ) (world : World) (own : ℕ) where
   -- a source that has answers is to be answered, and a product that can be made is to be made
-  pub answerable_is_done : IsAnswerable words input world ⊎ IsMakeable words world → (run_outcome words input world own).status ≡ statuses.Done
+  pub answerable_is_done : IsAnswerable command input world ⊎ IsMakeable command world → (run_outcome command input world own).status ≡ statuses.Done
   answerable_is_done (inl is) =
-      let given = answers_given world own is.addrs is.target is.answerable in
-      ap (λ (o : Outcome). o.status) (asked_outcome words input world own is.target is.addrs is.asks ∙ ap (by_answer is.addrs) given.1)
+      let given = answers_given world own is.addrs is.asking.target is.answerable in
+      ap (λ (o : Outcome). o.status) (asked_outcome command input world own is.asking is.addrs is.asks ∙ ap (by_answer is.addrs) given.1)
   answerable_is_done (inr is) =
-      ap (λ (o : Outcome). o.status) (making_outcome words input world own is.product is.asks ∙ ap by_product (made_given is.product world is.made is.made_is))
+      ap (λ (o : Outcome). o.status) (making_outcome command input world own is.product is.asks ∙ ap by_product (made_given is.product world is.made is.made_is))
 
   -- one that has none, and one that can't be made, are to be refused
-  pub refusable_is_refused : IsRefusable words input world ⊎ IsUnmakeable words world → (run_outcome words input world own).status ≡ statuses.Refused
+  pub refusable_is_refused : IsRefusable command input world ⊎ IsUnmakeable command world → (run_outcome command input world own).status ≡ statuses.Refused
   refusable_is_refused (inl is) =
-      ap (λ (o : Outcome). o.status) (asked_outcome words input world own is.target is.addrs is.asks ∙ ap (by_answer is.addrs) (refusal_given world own is.addrs is.target is.refusal is.cause))
+      ap (λ (o : Outcome). o.status) (asked_outcome command input world own is.asking is.addrs is.asks ∙ ap (by_answer is.addrs) (refusal_given world own is.addrs is.asking.target is.refusal is.cause))
   refusable_is_refused (inr is) =
-      ap (λ (o : Outcome). o.status) (making_outcome words input world own is.product is.asks ∙ ap by_product (unmade_given is.product world is.name is.cause))
+      ap (λ (o : Outcome). o.status) (making_outcome command input world own is.product is.asks ∙ ap by_product (unmade_given is.product world is.name is.cause))
 
   -- and only such ones are
-  pub done_is_answerable : (run_outcome words input world own).status ≡ statuses.Done → IsAnswerable words input world ⊎ IsMakeable words world
-  done_is_answerable done = by_serving (serving words input world own (ap is_asking done))
+  pub done_is_answerable : (run_outcome command input world own).status ≡ statuses.Done → IsAnswerable command input world ⊎ IsMakeable command world
+  done_is_answerable done = by_serving (serving command input world own (ap is_asking done))
     where
-      by_serving : IsServing words input world own → IsAnswerable words input world ⊎ IsMakeable words world
-      by_serving (inl known) = inl (answerable_known words input world own known done)
-      by_serving (inr known) = inr (makeable_known words input world own known done)
+      by_serving : IsServing command input world own → IsAnswerable command input world ⊎ IsMakeable command world
+      by_serving (inl known) = inl (answerable_known command input world own known done)
+      by_serving (inr known) = inr (makeable_known command input world own known done)
 
-  pub refused_is_refusable : (run_outcome words input world own).status ≡ statuses.Refused → IsRefusable words input world ⊎ IsUnmakeable words world
-  refused_is_refusable refused = by_serving (serving words input world own (ap is_asking refused))
+  pub refused_is_refusable : (run_outcome command input world own).status ≡ statuses.Refused → IsRefusable command input world ⊎ IsUnmakeable command world
+  refused_is_refusable refused = by_serving (serving command input world own (ap is_asking refused))
     where
-      by_serving : IsServing words input world own → IsRefusable words input world ⊎ IsUnmakeable words world
-      by_serving (inl known) = inl (refusable_known words input world own known refused)
-      by_serving (inr known) = inr (unmakeable_known words input world own known refused)
+      by_serving : IsServing command input world own → IsRefusable command input world ⊎ IsUnmakeable command world
+      by_serving (inl known) = inl (refusable_known command input world own known refused)
+      by_serving (inr known) = inr (unmakeable_known command input world own known refused)
 
-module _ (words : List (List ℕ)) (input : List ℕ) (world : World) (own : ℕ) where
-  -- words that are no command are named, and no others
+module _ (command : Command) (input : List ℕ) (world : World) (own : ℕ) where
+  -- no run ends as one of words that give no command
   answer_never : (addrs : List ℕ) (answer : Result (List Answer) Error) → is_asking (by_answer addrs answer).status ≡ true
   answer_never addrs (Ok answers) = refl
   answer_never addrs (Err e) = refl
@@ -222,49 +221,44 @@ module _ (words : List (List ℕ)) (input : List ℕ) (world : World) (own : ℕ
   product_never (Ok made) = refl
   product_never (Err name) = refl
 
-  usage_never_read : (target : Target) (read : Result (List ℕ) ℕ) → (by_addresses target world own read).status ≡ statuses.Usage → ⊥
-  usage_never_read target (Err n) usage = cc
-  usage_never_read target (Ok addrs) usage = let asks = answer_never addrs (answer_to target addrs world own) in absurd (false≢true (sym (ap is_asking usage) ∙ asks))
+  usage_never_read : (asking : Asking) (read : Result (List ℕ) ℕ) → (by_addresses asking world own read).status ≡ statuses.Usage → ⊥
+  usage_never_read asking (Err n) usage = cc
+  usage_never_read asking (Ok addrs) usage = let asks = answer_never addrs (answer_to asking.target addrs world own) in absurd (false≢true (sym (ap is_asking usage) ∙ asks))
 
-  usage_never : (target : Target) (long : Bool) → (by_length target input world own long).status ≡ statuses.Usage → ⊥
-  usage_never target true usage = cc
-  usage_never target false usage = usage_never_read target (addresses_in input) usage
+  usage_never : (asking : Asking) (long : Bool) → (by_length asking input world own long).status ≡ statuses.Usage → ⊥
+  usage_never asking true usage = cc
+  usage_never asking false usage = usage_never_read asking (addresses_in input) usage
 
-  usage_by_command : (given : Option Command) → (by_command given input world own).status ≡ statuses.Usage → given ≡ None
-  usage_by_command None usage = refl
-  usage_by_command (Some (Batch target)) usage = absurd (usage_never target (ltb greatest_input (length input)) usage)
-  usage_by_command (Some (Make product)) usage = let serves = product_never (made_in product world) in absurd (false≢true (sym (ap is_asking usage) ∙ serves))
+  usage_by_command : (given : Command) → (run_outcome given input world own).status ≡ statuses.Usage → ⊥
+  usage_by_command (Batch asking) usage = usage_never asking (ltb greatest_input (length input)) usage
+  usage_by_command (Make product) usage = let serves = product_never (made_in product world) in absurd (false≢true (sym (ap is_asking usage) ∙ serves))
 
-  pub usage_is_cause : (run_outcome words input world own).status ≡ statuses.Usage → command_in words ≡ None
-  usage_is_cause usage = usage_by_command (command_in words) usage
-
-  pub cause_is_usage : command_in words ≡ None → (run_outcome words input world own).status ≡ statuses.Usage
-  cause_is_usage none = rw none refl
+  pub never_usage : (run_outcome command input world own).status ≢ statuses.Usage
+  never_usage usage = usage_by_command command usage
 
   -- a bad input is named, and no other
-  input_by_read : (target : Target) → command_in words ≡ Some (Batch target) → length input ≤ greatest_input → (read : Result (List ℕ) ℕ) → addresses_in input ≡ read →
-      (by_addresses target world own read).status ≡ statuses.Input → IsBadInput words input
-  input_by_read target command_is short (Err n) is bad = bad_from_read words target input command_is short (Err n) is refl
-  input_by_read target command_is short (Ok addrs) is bad =
-      let asks = answer_never addrs (answer_to target addrs world own) in absurd (false≢true (sym (ap is_asking bad) ∙ asks))
+  input_by_read : (asking : Asking) → command ≡ Batch asking → length input ≤ greatest_input → (read : Result (List ℕ) ℕ) → addresses_in input ≡ read →
+      (by_addresses asking world own read).status ≡ statuses.Input → IsBadInput command input
+  input_by_read asking command_is short (Err n) is bad = bad_from_read command asking input command_is short (Err n) is refl
+  input_by_read asking command_is short (Ok addrs) is bad =
+      let asks = answer_never addrs (answer_to asking.target addrs world own) in absurd (false≢true (sym (ap is_asking bad) ∙ asks))
 
-  input_by_length : (target : Target) → command_in words ≡ Some (Batch target) → (long : Bool) → ltb greatest_input (length input) ≡ long →
-      (by_length target input world own long).status ≡ statuses.Input → IsBadInput words input
-  input_by_length target command_is true is bad = (target, command_is, inl (ltb-true _ _ is))
-  input_by_length target command_is false is bad = input_by_read target command_is (ltb-false _ _ is) (addresses_in input) refl bad
+  input_by_length : (asking : Asking) → command ≡ Batch asking → (long : Bool) → ltb greatest_input (length input) ≡ long →
+      (by_length asking input world own long).status ≡ statuses.Input → IsBadInput command input
+  input_by_length asking command_is true is bad = (asking, command_is, inl (ltb-true _ _ is))
+  input_by_length asking command_is false is bad = input_by_read asking command_is (ltb-false _ _ is) (addresses_in input) refl bad
 
-  input_by_command : (given : Option Command) → command_in words ≡ given → (by_command given input world own).status ≡ statuses.Input → IsBadInput words input
-  input_by_command None is bad = cc
-  input_by_command (Some (Batch target)) is bad = input_by_length target is (ltb greatest_input (length input)) refl bad
-  input_by_command (Some (Make product)) is bad = let serves = product_never (made_in product world) in absurd (false≢true (sym (ap is_asking bad) ∙ serves))
+  input_by_command : (given : Command) → command ≡ given → (run_outcome given input world own).status ≡ statuses.Input → IsBadInput command input
+  input_by_command (Batch asking) is bad = input_by_length asking is (ltb greatest_input (length input)) refl bad
+  input_by_command (Make product) is bad = let serves = product_never (made_in product world) in absurd (false≢true (sym (ap is_asking bad) ∙ serves))
 
-  pub input_is_bad : (run_outcome words input world own).status ≡ statuses.Input → IsBadInput words input
-  input_is_bad bad = input_by_command (command_in words) refl bad
+  pub input_is_bad : (run_outcome command input world own).status ≡ statuses.Input → IsBadInput command input
+  input_is_bad bad = input_by_command command refl bad
 
-  bad_by_length : (target : Target) → HasBadLine input → (long : Bool) → (by_length target input world own long).status ≡ statuses.Input
-  bad_by_length target (n, bad) true = refl
-  bad_by_length target (n, bad) false = rw (first_bad_again input n bad) refl
+  bad_by_length : (asking : Asking) → HasBadLine input → (long : Bool) → (by_length asking input world own long).status ≡ statuses.Input
+  bad_by_length asking (n, bad) true = refl
+  bad_by_length asking (n, bad) false = rw (first_bad_again input n bad) refl
 
-  pub bad_is_input : IsBadInput words input → (run_outcome words input world own).status ≡ statuses.Input
-  bad_is_input (target, command_is, inl long) = rw (command_is, lt-ltb _ _ long) refl
-  bad_is_input (target, command_is, inr bad) = rw command_is (bad_by_length target bad (ltb greatest_input (length input)))
+  pub bad_is_input : IsBadInput command input → (run_outcome command input world own).status ≡ statuses.Input
+  bad_is_input (asking, command_is, inl long) = rw (command_is, lt-ltb _ _ long) refl
+  bad_is_input (asking, command_is, inr bad) = rw command_is (bad_by_length asking bad (ltb greatest_input (length input)))

@@ -19,9 +19,9 @@ use Rattle.bz_process.proofs.LookedLemmas.{reached_looked}
 use Rattle.bz_process.proofs.ProcessLemmas.{reaches_both, reaches_same}
 use Rattle.bz_process.proofs.StepLemmas.{address_leads, coheres_after}
 use Rattle.bz_process.proofs.ViewLemmas.{address_same, address_shown}
+use Rattle.bz_symq.specs.Command.{OneProcess}
 use Rattle.bz_symq.specs.Processes.{asked_by, nothing_kept, pid_of}
 use Rattle.bz_symq.specs.Targets.{AnswersIn}
-use Rattle.bz_symq.specs.Words.{OneProcess}
 
 -- what nothing is kept of coheres with each world in which equal stamps have equal bytes
 nothing_coheres : (world : World) → AgreeOn world world → CoheresIn world nothing_kept

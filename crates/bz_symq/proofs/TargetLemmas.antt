@@ -33,9 +33,9 @@ use Rattle.bz_symbolize.specs.declared.source.Source.TheVariants as sources
 use Rattle.bz_symbolize.proofs.BatchLemmas.{batch_answered, elf_answered, gsym_answered}
 use Rattle.bz_symbolize.proofs.NewLemmas.{new_breakpad, new_elf, new_gsym}
 use Rattle.bz_symbolize.proofs.Tables.{table_found, table_again}
+use Rattle.bz_symq.specs.Command.{FileTarget, Breakpad, Gsym, Elf, Target, OneFile, OneProcess}
 use Rattle.bz_symq.specs.Targets.{run_opts, IsSourceOf, kind_of, answer_by, answer_to, file_of, HasFile, HasAnswers, AnswersIn, AnswersSome, IsBatch, IsFileCause, IsRefusalOf, IsCause, IsVersion}
 use Rattle.bz_symq.specs.Counted.{AnswersInFew, TakesFew}
-use Rattle.bz_symq.specs.Words.{FileTarget, Breakpad, Gsym, Elf, Target, OneFile, OneProcess}
 use Rattle.bz_symq.proofs.OpenLemmas.{opened_new}
 use Rattle.bz_symq.proofs.ProcessLemmas.{process_answered, process_answers, process_cause, process_refused}
 

@@ -1,11 +1,11 @@
 -- How many steps the searches of a run take.
-use Rattle.std.specs.Prelude.{◌≡◌, ◌⊎◌, ℕ, List, length, Option, Some, None, Result, Ok, Err}
+use Rattle.std.specs.Prelude.{◌≡◌, ◌⊎◌, ℕ, List, length, Option, Result, Ok, Err}
 use Rattle.bz_base.specs.Answer.{Answer}
 use Rattle.bz_files.specs.World.{Told}
 use Rattle.bz_symbolize.specs.Counted.{breakpad_steps, no_steps}
+use Rattle.bz_symq.specs.Command.{Command, Batch, Make, FileTarget, Breakpad, Gsym, Elf, Target, OneFile, OneProcess}
 use Rattle.bz_symq.specs.Targets.{IsBatch, IsVersion}
 use Rattle.bz_symq.specs.InputText.{addresses_in}
-use Rattle.bz_symq.specs.Words.{Command, Batch, Make, FileTarget, Breakpad, Gsym, Elf, Target, OneFile, OneProcess}
 
 -- those of a batch of so many addresses in bytes of the file's source: of a Breakpad file few for its table; none of others
 abbrev pub StepsIn : FileTarget → List ℕ → ℕ → ℕ → ℕ → Type 0
@@ -31,7 +31,6 @@ InputTakesFew target (Err n) before after = after ≡ before
 InputTakesFew target (Ok addrs) before after = TakesFew target (length addrs) before after
 
 -- a run, by its command and by what is left of its input: none, or those of that input
-abbrev pub RunTakesFew : Option Command → Option (List ℕ) → ℕ → ℕ → Type 0
-RunTakesFew None left before after = after ≡ before
-RunTakesFew (Some (Make product)) left before after = after ≡ before
-RunTakesFew (Some (Batch target)) left before after = Told left (λ text. (after ≡ before) ⊎ InputTakesFew target (addresses_in text) before after)
+abbrev pub RunTakesFew : Command → Option (List ℕ) → ℕ → ℕ → Type 0
+RunTakesFew (Make product) left before after = after ≡ before
+RunTakesFew (Batch asking) left before after = Told left (λ text. (after ≡ before) ⊎ InputTakesFew asking.target (addresses_in text) before after)

@@ -1,4 +1,5 @@
 pub mod AnswerText
+pub mod Command
 pub mod Counted
 pub mod InputText
 pub mod Outcome
@@ -11,5 +12,4 @@ pub mod Run
 pub mod Targets
 pub mod Texts
 pub mod Turns
-pub mod Words
 pub mod Writing

@@ -1,14 +1,14 @@
--- What a run writes and ends with where nothing fails: a function of words, input, world and the id of the own process.
+-- What a run writes and ends with where nothing fails: a function of command, input, world and the id of the own process.
 use Rattle.std.specs.Prelude.{ℕ, Bool, true, false, nat_lt, List, ◌++◌, length, codes, decimal, Option, Some, None, Result, Ok, Err}
 use Rattle.bz_base.specs.Answer.{Answer}
 use Rattle.bz_base.specs.ErrorNames.{name_of}
 use Rattle.bz_base.specs.declared.error.Error.{Error}
 use Rattle.bz_files.specs.World.{World}
 use Rattle.bz_symq.specs.AnswerText.{answer_texts}
+use Rattle.bz_symq.specs.Command.{Asking, Command, Batch, Make}
 use Rattle.bz_symq.specs.InputText.{addresses_in, greatest_input}
 use Rattle.bz_symq.specs.Products.{made_in}
 use Rattle.bz_symq.specs.Targets.{answer_to}
-use Rattle.bz_symq.specs.Words.{Command, Batch, Make, Target, command_in}
 use Rattle.bz_symq.specs.declared.status.Status.{Status}
 use Rattle.bz_symq.specs.declared.status.Status.TheVariants as statuses
 
@@ -32,10 +32,6 @@ pub record Outcome : Type 0 where
   pub status : Status
   pub text : List ℕ
 
--- where the words give no command
-abbrev pub usage : Outcome
-usage = record { status = statuses.Usage; text = codes "usage: symq [OPTION] KIND [ARG]...\n" }
-
 -- a refusal is written by its name
 abbrev pub refused_as : List ℕ → Outcome
 refused_as name = record { status = statuses.Refused; text = codes "refused: " ++ (name ++ codes "\n") }
@@ -52,35 +48,30 @@ by_answer addrs (Err e) = refused e
 abbrev pub bad_line : ℕ → Outcome
 bad_line n = record { status = statuses.Input; text = codes "input: line " ++ (decimal n ++ codes "\n") }
 
--- a bad line is named, and addresses are answered by the target
-abbrev pub by_addresses : Target → World → ℕ → Result (List ℕ) ℕ → Outcome
-by_addresses target world own (Err n) = bad_line n
-by_addresses target world own (Ok addrs) = by_answer addrs (answer_to target addrs world own)
+-- a bad line is named, and addresses are answered by what is asked
+abbrev pub by_addresses : Asking → World → ℕ → Result (List ℕ) ℕ → Outcome
+by_addresses asking world own (Err n) = bad_line n
+by_addresses asking world own (Ok addrs) = by_answer addrs (answer_to asking.target addrs world own)
 
 -- an input that is too long is named as such
 abbrev pub too_long : Outcome
 too_long = record { status = statuses.Input; text = codes "input: too long\n" }
 
 -- and that before its lines are read
-abbrev pub by_length : Target → List ℕ → World → ℕ → Bool → Outcome
-by_length target input world own true = too_long
-by_length target input world own false = by_addresses target world own (addresses_in input)
+abbrev pub by_length : Asking → List ℕ → World → ℕ → Bool → Outcome
+by_length asking input world own true = too_long
+by_length asking input world own false = by_addresses asking world own (addresses_in input)
 
 -- the whole input comes first, then the target
-abbrev pub outcome : Target → List ℕ → World → ℕ → Outcome
-outcome target input world own = by_length target input world own (nat_lt greatest_input (length input))
+abbrev pub outcome : Asking → List ℕ → World → ℕ → Outcome
+outcome asking input world own = by_length asking input world own (nat_lt greatest_input (length input))
 
 -- what was made, or the refusal
 abbrev pub by_product : Result (List ℕ) (List ℕ) → Outcome
 by_product (Ok made) = record { status = statuses.Done; text = made }
 by_product (Err name) = refused_as name
 
--- by the command, if there is one
-abbrev pub by_command : Option Command → List ℕ → World → ℕ → Outcome
-by_command None input world own = usage
-by_command (Some (Batch target)) input world own = outcome target input world own
-by_command (Some (Make product)) input world own = by_product (made_in product world)
-
--- and before both the words
-abbrev pub run_outcome : List (List ℕ) → List ℕ → World → ℕ → Outcome
-run_outcome words input world own = by_command (command_in words) input world own
+-- by the command
+abbrev pub run_outcome : Command → List ℕ → World → ℕ → Outcome
+run_outcome (Batch asking) input world own = outcome asking input world own
+run_outcome (Make product) input world own = by_product (made_in product world)

@@ -1,7 +1,10 @@
 -- The id of the own process, as proc_pid_stat(5) of the Linux manual pages has it: the first field of `/proc/self/stat`.
 use Rattle.std.specs.Prelude.{ℕ, List, Option, Some, None}
 use Rattle.bz_base.specs.Number.{decimal_at}
-use Rattle.bz_symq.specs.Words.{greatest_id}
+
+-- the greatest id of a process
+abbrev pub greatest_id : ℕ
+greatest_id = 4294967295
 
 -- the number that was read, or 0
 abbrev pub number_or_none : Option (ℕ × List ℕ) → ℕ

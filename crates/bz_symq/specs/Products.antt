@@ -8,8 +8,8 @@ use Rattle.bz_breakpad.specs.Table.{Table}
 use Rattle.bz_breakpad.specs.Grammar.{IsFile}
 use Rattle.bz_breakpad.specs.Reader.{table_in}
 use Rattle.bz_canon.specs.Canon.{canonical_text}
+use Rattle.bz_symq.specs.Command.{Product, Canonical}
 use Rattle.bz_symq.specs.Targets.{HasFile}
-use Rattle.bz_symq.specs.Words.{Product, Canonical}
 
 -- the path of the Breakpad file that it is made of
 abbrev pub path_of : Product → List ℕ

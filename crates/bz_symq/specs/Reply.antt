@@ -1,17 +1,17 @@
 -- What a run is about to end with and write.
-use Rattle.std.specs.Prelude.{◌≡◌, ◌⊎◌, ◌↔◌, ℕ, List, ◌++◌, map, Option, Some, None, Result, Ok, Err, IfOk}
+use Rattle.std.specs.Prelude.{◌≡◌, ◌≢◌, ◌⊎◌, ◌↔◌, ℕ, List, ◌++◌, map, Option, Some, Result, Ok, Err, IfOk}
 use Rattle.std.specs.Cow.{cow_str_bytes}
 use Rattle.bz_base.specs.Answer.{Answer, reading}
 use Rattle.bz_base.specs.declared.error.Error.{Error}
 use Rattle.bz_base.specs.declared.error.Error.TheVariants as errors
 use Rattle.bz_files.specs.World.{World, Told}
 use Rattle.bz_symq.specs.AnswerText.{answer_texts}
+use Rattle.bz_symq.specs.Command.{Asking, Command, Product, Target}
 use Rattle.bz_symq.specs.InputText.{addresses_in}
 use Rattle.bz_symq.specs.Outcome.{Outcome, refused, run_outcome}
 use Rattle.bz_symq.specs.Products.{MadeOfSome}
 use Rattle.bz_symq.specs.Run.{IsBadInput, IsNoFailure, IsSomeDone, IsSomeMade}
 use Rattle.bz_symq.specs.Targets.{AnswersSome}
-use Rattle.bz_symq.specs.Words.{Product, Target, command_in}
 use Rattle.bz_symq.specs.declared.reply.Reply.{Reply}
 use Rattle.bz_symq.specs.declared.reply.Said.{Said}
 use Rattle.bz_symq.specs.declared.reply.Said.TheVariants as saids
@@ -54,21 +54,21 @@ abbrev pub IsBatchReply : Target → List ℕ → Reply → Type 0
 IsBatchReply target addrs reply = reply.status ≡ statuses.Done → IsBatchText target addrs (text_of reply.said)
 
 -- and its addresses are those of the input
-abbrev pub IsInputReply : Target → List ℕ → Reply → Type 0
-IsInputReply target input reply = reply.status ≡ statuses.Done → (addrs : List ℕ) × (addresses_in input ≡ Ok addrs) × IsBatchText target addrs (text_of reply.said)
+abbrev pub IsInputReply : Asking → List ℕ → Reply → Type 0
+IsInputReply asking input reply = reply.status ≡ statuses.Done → (addrs : List ℕ) × (addresses_in input ≡ Ok addrs) × IsBatchText asking.target addrs (text_of reply.said)
 
 -- a reply that the run is done says what some Breakpad file makes
 abbrev pub IsProductReply : Product → Reply → Type 0
 IsProductReply product reply = reply.status ≡ statuses.Done → MadeOfSome product (text_of reply.said)
 
--- the status of a reply to words that ask for a product
+-- the status of a reply to a command that asks for a product
 abbrev pub IsProductStatus : Status → Type 0
 IsProductStatus status = (status ≡ statuses.Done) ⊎ (status ≡ statuses.Refused)
 
 -- and once a reply that the run is done is written, the run has answered, or has written the product
-abbrev pub IsRunReply : List (List ℕ) → List ℕ → Reply → Type 0
-IsRunReply words input reply = reply.status ≡ statuses.Done → (old : List ℕ) (new : Option (List ℕ)) → new ≡ Some (old ++ text_of reply.said) →
-    IsSomeDone words input old new ⊎ IsSomeMade words old new
+abbrev pub IsRunReply : Command → List ℕ → Reply → Type 0
+IsRunReply command input reply = reply.status ≡ statuses.Done → (old : List ℕ) (new : Option (List ℕ)) → new ≡ Some (old ++ text_of reply.said) →
+    IsSomeDone command input old new ⊎ IsSomeMade command old new
 
 -- the call was answered by a reply that the run is done
 abbrev pub IsDoneReply : Result Reply Error → Type 0
@@ -80,13 +80,13 @@ abbrev pub IsInputStatus : Result (List ℕ) ℕ → Status → Type 0
 IsInputStatus (Err n) status = status ≡ statuses.Input
 IsInputStatus (Ok addrs) status = (status ≡ statuses.Done) ⊎ (status ≡ statuses.Refused)
 
--- a reply to the words was to be made, with what they see of the input and the world in view, and the id of the own process
-pub record RepliesToWords (words : List (List ℕ)) (left : Option (List ℕ)) (seen : Option World) (own : ℕ) (result : Result Reply Error) : Type 0 where
+-- a reply to the command was to be made, with what it sees of the input and the world in view, and the id of the own process
+pub record RepliesToCommand (command : Command) (left : Option (List ℕ)) (seen : Option World) (own : ℕ) (result : Result Reply Error) : Type 0 where
   -- it is the outcome of the run
-  pub reply : Told left (λ text. Told seen (λ world. Replies (run_outcome words text world own) result))
+  pub reply : Told left (λ text. Told seen (λ world. Replies (run_outcome command text world own) result))
   -- and whatever the files tell, answers or product are those that the run was asked for
-  pub answered : Told left (λ text. IfOk result (λ given. IsRunReply words text given))
+  pub answered : Told left (λ text. IfOk result (λ given. IsRunReply command text given))
   pub no_failure : IfOk result (λ given. IsNoFailure given.status)
-  -- the words alone decide on status 2, and words and input alone on status 3
-  pub usage : IfOk result (λ given. (given.status ≡ statuses.Usage) ↔ (command_in words ≡ None))
-  pub input : Told left (λ text. IfOk result (λ given. (given.status ≡ statuses.Input) ↔ IsBadInput words text))
+  -- status 2 is for words that give no command, and command and input alone decide on status 3
+  pub usage : IfOk result (λ given. given.status ≢ statuses.Usage)
+  pub input : Told left (λ text. IfOk result (λ given. (given.status ≡ statuses.Input) ↔ IsBadInput command text))

@@ -1,5 +1,5 @@
 -- What a run of the program promises: what it writes and ends with, and what it does to its input, its output and the files.
-use Rattle.std.specs.Prelude.{◌≡◌, ◌≢◌, ◌⊎◌, ◌↔◌, ℕ, ◌+◌, ◌<◌, ◌≤◌, List, [], ◌++◌, length, Option, Some, None, IsSome}
+use Rattle.std.specs.Prelude.{◌≡◌, ◌≢◌, ◌⊎◌, ◌↔◌, ℕ, ◌+◌, ◌<◌, ◌≤◌, List, [], ◌++◌, length, Option, Some, IsSome}
 use Rattle.bz_base.specs.Answer.{Answer}
 use Rattle.bz_base.specs.declared.error.Error.{Error}
 use Rattle.bz_files.specs.Count.{CountsFaults, counted}
@@ -9,12 +9,12 @@ use Rattle.bz_files.specs.declared.files.Files as files_trait
 use Rattle.bz_files.specs.declared.text.TextIn as input_trait
 use Rattle.bz_files.specs.declared.text.TextOut as output_trait
 use Rattle.bz_symq.specs.AnswerText.{answer_texts}
+use Rattle.bz_symq.specs.Command.{Asking, Batch, Command, Make, OneFile, OneProcess, Product, Target, seen_by}
 use Rattle.bz_symq.specs.InputText.{AreAddresses, HasBadLine, greatest_input, left_over, MovesAtMost}
 use Rattle.bz_symq.specs.Outcome.{Outcome, refused, refused_as, run_outcome}
 use Rattle.bz_symq.specs.Processes.{process_batch}
 use Rattle.bz_symq.specs.Products.{MadeIn, MadeOfSome, UnmadeIn}
 use Rattle.bz_symq.specs.Targets.{HasAnswers, AnswersIn, AnswersSome, IsCause}
-use Rattle.bz_symq.specs.Words.{Batch, Command, Make, OneFile, OneProcess, Product, Target, command_in, seen_in}
 use Rattle.bz_symq.specs.declared.status.Status.{Status}
 use Rattle.bz_symq.specs.declared.status.Status.TheVariants as statuses
 
@@ -36,100 +36,103 @@ IsOrFails expected status = (status ≡ expected) ⊎ ((status ≡ statuses.Faul
 abbrev pub IsNoFailure : Status → Type 0
 IsNoFailure status = (status ≢ statuses.Fault) × (status ≢ statuses.Memory)
 
--- the words ask for the answers of the target, and the input is the addresses
-pub record Asks (words : List (List ℕ)) (input : List ℕ) (target : Target) (addrs : List ℕ) : Type 0 where
-  pub command_is : command_in words ≡ Some (Batch target)
+-- the command asks for these answers, and the input is the addresses
+pub record Asks (command : Command) (input : List ℕ) (asking : Asking) (addrs : List ℕ) : Type 0 where
+  pub command_is : command ≡ Batch asking
   pub short : length input ≤ greatest_input
   pub input_is : AreAddresses input addrs
 
 -- the run is asked for addresses of a source that has answers: a file in its format, or a process of which mappings are told
-pub record IsAnswerable (words : List (List ℕ)) (input : List ℕ) (world : World) : Type 0 where
-  pub target : Target
+pub record IsAnswerable (command : Command) (input : List ℕ) (world : World) : Type 0 where
+  pub asking : Asking
   pub addrs : List ℕ
-  pub asks : Asks words input target addrs
-  pub answerable : HasAnswers target world
+  pub asks : Asks command input asking addrs
+  pub answerable : HasAnswers asking.target world
 
 -- the run was asked for addresses of a source that has answers: the texts of its plain answers at the addresses, in their
 -- order, are what was written
-pub record IsDone (words : List (List ℕ)) (input : List ℕ) (world : World) (own : ℕ) (old : List ℕ) (new : Option (List ℕ)) : Type 0 where
-  pub target : Target
+pub record IsDone (command : Command) (input : List ℕ) (world : World) (own : ℕ) (old : List ℕ) (new : Option (List ℕ)) : Type 0 where
+  pub asking : Asking
   pub addrs : List ℕ
   pub answers : List Answer
-  pub asks : Asks words input target addrs
-  pub answers_are : AnswersIn target world own addrs answers
+  pub asks : Asks command input asking addrs
+  pub answers_are : AnswersIn asking.target world own addrs answers
   pub written : new ≡ Some (old ++ answer_texts addrs answers)
 
 -- the run was asked for addresses, and whatever the files tell, the texts of the plain answers of some bytes in the format of
 -- its source, at the addresses, in their order, are what was written; of a process, those of some answers
-pub record IsSomeDone (words : List (List ℕ)) (input old : List ℕ) (new : Option (List ℕ)) : Type 0 where
-  pub target : Target
+pub record IsSomeDone (command : Command) (input old : List ℕ) (new : Option (List ℕ)) : Type 0 where
+  pub asking : Asking
   pub addrs : List ℕ
   pub answers : List Answer
-  pub asks : Asks words input target addrs
-  pub answers_are : AnswersSome target addrs answers
+  pub asks : Asks command input asking addrs
+  pub answers_are : AnswersSome asking.target addrs answers
   pub written : new ≡ Some (old ++ answer_texts addrs answers)
 
 -- the run is asked for addresses of a source that has no answers
-pub record IsRefusable (words : List (List ℕ)) (input : List ℕ) (world : World) : Type 0 where
-  pub target : Target
+pub record IsRefusable (command : Command) (input : List ℕ) (world : World) : Type 0 where
+  pub asking : Asking
   pub addrs : List ℕ
   pub refusal : Error
-  pub asks : Asks words input target addrs
-  pub cause : IsCause target world refusal
+  pub asks : Asks command input asking addrs
+  pub cause : IsCause asking.target world refusal
 
 -- the run was asked for addresses of a source that has no answers: the refusal is what was written
-pub record IsRefused (words : List (List ℕ)) (input : List ℕ) (world : World) (old : List ℕ) (new : Option (List ℕ)) : Type 0 where
-  pub refusable : IsRefusable words input world
+pub record IsRefused (command : Command) (input : List ℕ) (world : World) (old : List ℕ) (new : Option (List ℕ)) : Type 0 where
+  pub refusable : IsRefusable command input world
   pub written : new ≡ Some (old ++ (refused refusable.refusal).text)
 
 -- the run is asked for a product that can be made of its file
-pub record IsMakeable (words : List (List ℕ)) (world : World) : Type 0 where
+pub record IsMakeable (command : Command) (world : World) : Type 0 where
   pub product : Product
   pub made : List ℕ
-  pub asks : command_in words ≡ Some (Make product)
+  pub asks : command ≡ Make product
   pub made_is : MadeIn product world made
 
 -- the run was asked for a product, which was made of its file, and is what was written
-pub record IsMade (words : List (List ℕ)) (world : World) (old : List ℕ) (new : Option (List ℕ)) : Type 0 where
-  pub makeable : IsMakeable words world
+pub record IsMade (command : Command) (world : World) (old : List ℕ) (new : Option (List ℕ)) : Type 0 where
+  pub makeable : IsMakeable command world
   pub written : new ≡ Some (old ++ makeable.made)
 
 -- the run was asked for a product, and whatever the files tell, what some Breakpad file makes is what was written
-pub record IsSomeMade (words : List (List ℕ)) (old : List ℕ) (new : Option (List ℕ)) : Type 0 where
+pub record IsSomeMade (command : Command) (old : List ℕ) (new : Option (List ℕ)) : Type 0 where
   pub product : Product
   pub made : List ℕ
-  pub asks : command_in words ≡ Some (Make product)
+  pub asks : command ≡ Make product
   pub made_is : MadeOfSome product made
   pub written : new ≡ Some (old ++ made)
 
 -- the run is asked for a product that can't be made of its file
-pub record IsUnmakeable (words : List (List ℕ)) (world : World) : Type 0 where
+pub record IsUnmakeable (command : Command) (world : World) : Type 0 where
   pub product : Product
   pub name : List ℕ
-  pub asks : command_in words ≡ Some (Make product)
+  pub asks : command ≡ Make product
   pub cause : UnmadeIn product world name
 
 -- the run was asked for such a product: the refusal is what was written
-pub record IsUnmade (words : List (List ℕ)) (world : World) (old : List ℕ) (new : Option (List ℕ)) : Type 0 where
-  pub unmakeable : IsUnmakeable words world
+pub record IsUnmade (command : Command) (world : World) (old : List ℕ) (new : Option (List ℕ)) : Type 0 where
+  pub unmakeable : IsUnmakeable command world
   pub written : new ≡ Some (old ++ (refused_as unmakeable.name).text)
 
--- the words ask for answers, and the input is too long for that, or has a line that isn't well formed
-abbrev pub IsBadInput : List (List ℕ) → List ℕ → Type 0
-IsBadInput words input =
-    (target : Target) × (command_in words ≡ Some (Batch target))
+-- the command asks for answers, and the input is too long for that, or has a line that isn't well formed
+abbrev pub IsBadInput : Command → List ℕ → Type 0
+IsBadInput command input =
+    (asking : Asking) × (command ≡ Batch asking)
     × ((greatest_input < length input) ⊎ HasBadLine input)
 
 -- the input at which answers are asked for was read: to its end, or to the byte that makes it too long
-abbrev pub IsReadWhole : List (List ℕ) → Option (List ℕ) → Option (List ℕ) → Type 0
-IsReadWhole words before after = (target : Target) → command_in words ≡ Some (Batch target) → Told before (λ text. after ≡ Some (left_over text))
+abbrev pub IsReadWhole : Command → Option (List ℕ) → Option (List ℕ) → Type 0
+IsReadWhole command before after = (asking : Asking) → command ≡ Batch asking → Told before (λ text. after ≡ Some (left_over text))
 
--- this holds, unless the command asks a process
-abbrev pub UnlessProcess : Option Command → Type 0 → Type 0
-UnlessProcess None P = P
-UnlessProcess (Some (Make product)) P = P
-UnlessProcess (Some (Batch (OneFile file))) P = P
-UnlessProcess (Some (Batch (OneProcess number))) P = Unit {0}
+-- this holds, unless a process is asked
+abbrev pub UnlessTarget : Target → Type 0 → Type 0
+UnlessTarget (OneFile file) P = P
+UnlessTarget (OneProcess number) P = Unit {0}
+
+-- the same by the command
+abbrev pub UnlessProcess : Command → Type 0 → Type 0
+UnlessProcess (Make product) P = P
+UnlessProcess (Batch asking) P = UnlessTarget asking.target P
 
 -- the sides of a run: what it reads, what it looks at and what it writes to
 pub data Side : Type 0 where
@@ -151,51 +154,49 @@ pub record Fails {R W F : Type 0} (reads : input_trait.Ghosts R) (writes : outpu
   pub untouched : failed ≡ Some AtFiles → output_after ≡ output_before
 
 -- all that a run promises
-pub record Runs {R W F : Type 0} (reads : input_trait.Ghosts R) (writes : output_trait.Ghosts W) (looks : files_trait.Ghosts F) (words : List (List ℕ)) (ended : Status)
+pub record Runs {R W F : Type 0} (reads : input_trait.Ghosts R) (writes : output_trait.Ghosts W) (looks : files_trait.Ghosts F) (command : Command) (ended : Status)
     (input_before input_after : R) (output_before output_after : W) (files_before files_after : F) : Type 0 where
   -- what was written is the outcome's text, or a front of it where the run failed; and the run ends as the outcome, if it
   -- doesn't fail
-  pub ends : Told (seen_in words (reads.left input_before)) (λ text. Told (in_view (looks.worlds files_before)) (λ world. Told (writes.written output_before) (λ old.
-      Ends (run_outcome words text world (looks.pid files_before)) old ended (writes.written output_after))))
-  pub status : Told (seen_in words (reads.left input_before)) (λ text. Told (in_view (looks.worlds files_before)) (λ world.
-      IsOrFails (run_outcome words text world (looks.pid files_before)).status ended))
+  pub ends : Told (seen_by command (reads.left input_before)) (λ text. Told (in_view (looks.worlds files_before)) (λ world. Told (writes.written output_before) (λ old.
+      Ends (run_outcome command text world (looks.pid files_before)) old ended (writes.written output_after))))
+  pub status : Told (seen_by command (reads.left input_before)) (λ text. Told (in_view (looks.worlds files_before)) (λ world.
+      IsOrFails (run_outcome command text world (looks.pid files_before)).status ended))
   -- status 0 means that the input was addresses of a source that has answers, and that these are what was written; or that a
   -- product was asked for, which is what was written
-  pub done : ended ≡ statuses.Done → Told (seen_in words (reads.left input_before)) (λ text. Told (in_view (looks.worlds files_before)) (λ world.
-      Told (writes.written output_before) (λ old. IsDone words text world (looks.pid files_before) old (writes.written output_after) ⊎ IsMade words world old (writes.written output_after))))
+  pub done : ended ≡ statuses.Done → Told (seen_by command (reads.left input_before)) (λ text. Told (in_view (looks.worlds files_before)) (λ world.
+      Told (writes.written output_before) (λ old. IsDone command text world (looks.pid files_before) old (writes.written output_after) ⊎ IsMade command world old (writes.written output_after))))
   -- and whatever the files tell, that they are those of some bytes in the format of the source, or that some file makes it
-  pub answered : ended ≡ statuses.Done → Told (seen_in words (reads.left input_before)) (λ text. Told (writes.written output_before) (λ old.
-      IsSomeDone words text old (writes.written output_after) ⊎ IsSomeMade words old (writes.written output_after)))
+  pub answered : ended ≡ statuses.Done → Told (seen_by command (reads.left input_before)) (λ text. Told (writes.written output_before) (λ old.
+      IsSomeDone command text old (writes.written output_after) ⊎ IsSomeMade command old (writes.written output_after)))
   -- status 1 means that the input was addresses of a source that has no answers, or that a product was asked for that can't be
   -- made, and that the refusal is what was written
-  pub refused : ended ≡ statuses.Refused → Told (seen_in words (reads.left input_before)) (λ text. Told (in_view (looks.worlds files_before)) (λ world.
-      Told (writes.written output_before) (λ old. IsRefused words text world old (writes.written output_after) ⊎ IsUnmade words world old (writes.written output_after))))
-  -- the words alone decide on status 2, and words and input alone on status 3
-  pub usage : (ended ≡ statuses.Usage → command_in words ≡ None) × (command_in words ≡ None → IsOrFails statuses.Usage ended)
-  pub input : Told (seen_in words (reads.left input_before)) (λ text. (ended ≡ statuses.Input → IsBadInput words text) × (IsBadInput words text → IsOrFails statuses.Input ended))
+  pub refused : ended ≡ statuses.Refused → Told (seen_by command (reads.left input_before)) (λ text. Told (in_view (looks.worlds files_before)) (λ world.
+      Told (writes.written output_before) (λ old. IsRefused command text world old (writes.written output_after) ⊎ IsUnmade command world old (writes.written output_after))))
+  -- status 2 is for words that give no command, and command and input alone decide on status 3
+  pub usage : ended ≢ statuses.Usage
+  pub input : Told (seen_by command (reads.left input_before)) (λ text. (ended ≡ statuses.Input → IsBadInput command text) × (IsBadInput command text → IsOrFails statuses.Input ended))
   -- a source that has answers is answered, and a product that can be made is made, unless something fails or memory runs out
-  pub complete : Told (seen_in words (reads.left input_before)) (λ text. Told (in_view (looks.worlds files_before)) (λ world.
-      IsAnswerable words text world ⊎ IsMakeable words world → IsOrFails statuses.Done ended))
+  pub complete : Told (seen_by command (reads.left input_before)) (λ text. Told (in_view (looks.worlds files_before)) (λ world.
+      IsAnswerable command text world ⊎ IsMakeable command world → IsOrFails statuses.Done ended))
   -- a source that has none is refused, and a product that can't be made, unless something fails or memory runs out
-  pub refuses : Told (seen_in words (reads.left input_before)) (λ text. Told (in_view (looks.worlds files_before)) (λ world.
-      IsRefusable words text world ⊎ IsUnmakeable words world → IsOrFails statuses.Refused ended))
-  -- the words come first, then the input: what a run doesn't come to, it leaves alone
-  pub unread : command_in words ≡ None → (input_after ≡ input_before) × (files_after ≡ files_before)
-  -- for a product no input is read
-  pub unasked : (product : Product) → command_in words ≡ Some (Make product) → input_after ≡ input_before
-  pub unlooked : Told (reads.left input_before) (λ text. IsBadInput words text → files_after ≡ files_before)
+  pub refuses : Told (seen_by command (reads.left input_before)) (λ text. Told (in_view (looks.worlds files_before)) (λ world.
+      IsRefusable command text world ⊎ IsUnmakeable command world → IsOrFails statuses.Refused ended))
+  -- for a product no input is read, and for a bad input no file is looked at
+  pub unasked : (product : Product) → command ≡ Make product → input_after ≡ input_before
+  pub unlooked : Told (reads.left input_before) (λ text. IsBadInput command text → files_after ≡ files_before)
   -- a run that doesn't fail has read the input, and no run reads on past the byte that makes it too long
-  pub read : IsNoFailure ended → IsReadWhole words (reads.left input_before) (reads.left input_after)
+  pub read : IsNoFailure ended → IsReadWhole command (reads.left input_before) (reads.left input_after)
   pub bounded : MovesAtMost (greatest_input + 1) (reads.left input_before) (reads.left input_after)
   -- until the input is read, no file is looked at and nothing is written
-  pub order : ((files_after ≡ files_before) × (output_after ≡ output_before)) ⊎ IsReadWhole words (reads.left input_before) (reads.left input_after)
+  pub order : ((files_after ≡ files_before) × (output_after ≡ output_before)) ⊎ IsReadWhole command (reads.left input_before) (reads.left input_after)
   -- where there is nothing to write, the output is left alone
-  pub silent : Told (seen_in words (reads.left input_before)) (λ text. Told (in_view (looks.worlds files_before)) (λ world. (run_outcome words text world (looks.pid files_before)).text ≡ [] → output_after ≡ output_before))
+  pub silent : Told (seen_by command (reads.left input_before)) (λ text. Told (in_view (looks.worlds files_before)) (λ world. (run_outcome command text world (looks.pid files_before)).text ≡ [] → output_after ≡ output_before))
   -- one file at most is read, and where a run is done one was; unless a process is asked
-  pub most : UnlessProcess (command_in words) (ReadsOne looks files_before files_after)
-  pub opened : UnlessProcess (command_in words) (Told (in_view (looks.worlds files_before)) (λ world. ended ≡ statuses.Done → looks.opens files_after ≡ counted (looks.opens files_before)))
+  pub most : UnlessProcess command (ReadsOne looks files_before files_after)
+  pub opened : UnlessProcess command (Told (in_view (looks.worlds files_before)) (λ world. ended ≡ statuses.Done → looks.opens files_after ≡ counted (looks.opens files_before)))
   -- for a process no more files are read than its batch reads
-  pub process : Told (seen_in words (reads.left input_before)) (λ text. Told (in_view (looks.worlds files_before)) (λ world. (number : ℕ) (addrs : List ℕ) → Asks words text (OneProcess number) addrs →
+  pub process : Told (seen_by command (reads.left input_before)) (λ text. Told (in_view (looks.worlds files_before)) (λ world. (asking : Asking) (number : ℕ) (addrs : List ℕ) → Asks command text asking addrs → asking.target ≡ OneProcess number →
       looks.opens files_after ≤ looks.opens files_before + (process_batch number (looks.pid files_before) addrs world).opens))
   -- one side at most failed, and files only before the output; a fault comes only where a call failed, and at any other status
   -- none has

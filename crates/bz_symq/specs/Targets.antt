@@ -19,8 +19,8 @@ use Rattle.bz_symbolize.specs.State.{default_settings, opts_of}
 use Rattle.bz_symbolize.specs.declared.source.Gsym.TheVariants as gsyms
 use Rattle.bz_symbolize.specs.declared.source.Source.{Source}
 use Rattle.bz_symbolize.specs.declared.source.Source.TheVariants as sources
+use Rattle.bz_symq.specs.Command.{FileTarget, Breakpad, Gsym, Elf, Target, OneFile, OneProcess}
 use Rattle.bz_symq.specs.Processes.{IsMapsCause, IsProcessBatch, TellsMappings, maps_of, process_batch}
-use Rattle.bz_symq.specs.Words.{FileTarget, Breakpad, Gsym, Elf, Target, OneFile, OneProcess}
 
 -- the options of a run: those of a symbolizer with all features on
 abbrev pub run_opts : FindSymOpts

@@ -1,16 +1,16 @@
 //! What holds of this crate's definitions.
 
-ghost use Rattle.std.specs.Prelude.{◌≡◌, ◌⊎◌, ◌↔◌, ℕ, List, map, Option, None, Ok, Err};
+ghost use Rattle.std.specs.Prelude.{◌≡◌, ◌≢◌, ◌⊎◌, ◌↔◌, ℕ, List, map, Option, None, Ok, Err};
 ghost use Rattle.bz_base.specs.Answer.{Answer, in_batch};
 ghost use Rattle.bz_files.specs.Agreement.{AgreeOn};
 ghost use Rattle.bz_files.specs.World.{World};
 ghost use Rattle.bz_process.specs.InView.{process_in_view};
+ghost use Rattle.bz_symq.specs.Command.{Command, OneProcess};
 ghost use Rattle.bz_symq.specs.InputText.{AreAddresses, IsFirstBad, addresses_in};
 ghost use Rattle.bz_symq.specs.Outcome.{run_outcome};
 ghost use Rattle.bz_symq.specs.Processes.{asked_by, nothing_kept};
 ghost use Rattle.bz_symq.specs.Run.{Ends, IsAnswerable, IsBadInput, IsDone, IsMade, IsMakeable, IsRefusable, IsRefused, IsUnmade, IsUnmakeable};
 ghost use Rattle.bz_symq.specs.Targets.{AnswersIn};
-ghost use Rattle.bz_symq.specs.Words.{command_in, OneProcess};
 ghost use Rattle.bz_symq.specs.declared.status.Status.TheVariants as statuses;
 
 /// The addresses that are read of an input are those that its lines say, and the number that is read
@@ -20,18 +20,19 @@ pub fn input_is_read()
     ensures line { (text : List ℕ) (n : ℕ) → (addresses_in text ≡ Err n) ↔ IsFirstBad text n }
 {}
 
-/// The outcome of a run is each status exactly where the status has its cause.
+/// The outcome of a run is each status exactly where the status has its cause; that of words that give
+/// no command is never one.
 pub fn outcomes_have_causes()
-    ensures done { (words : List (List ℕ)) (input : List ℕ) (world : World) (own : ℕ) → ((run_outcome words input world own).status ≡ statuses.Done) ↔ (IsAnswerable words input world ⊎ IsMakeable words world) }
-    ensures refused { (words : List (List ℕ)) (input : List ℕ) (world : World) (own : ℕ) → ((run_outcome words input world own).status ≡ statuses.Refused) ↔ (IsRefusable words input world ⊎ IsUnmakeable words world) }
-    ensures usage { (words : List (List ℕ)) (input : List ℕ) (world : World) (own : ℕ) → ((run_outcome words input world own).status ≡ statuses.Usage) ↔ (command_in words ≡ None) }
-    ensures input { (words : List (List ℕ)) (input : List ℕ) (world : World) (own : ℕ) → ((run_outcome words input world own).status ≡ statuses.Input) ↔ IsBadInput words input }
+    ensures done { (command : Command) (input : List ℕ) (world : World) (own : ℕ) → ((run_outcome command input world own).status ≡ statuses.Done) ↔ (IsAnswerable command input world ⊎ IsMakeable command world) }
+    ensures refused { (command : Command) (input : List ℕ) (world : World) (own : ℕ) → ((run_outcome command input world own).status ≡ statuses.Refused) ↔ (IsRefusable command input world ⊎ IsUnmakeable command world) }
+    ensures usage { (command : Command) (input : List ℕ) (world : World) (own : ℕ) → (run_outcome command input world own).status ≢ statuses.Usage }
+    ensures input { (command : Command) (input : List ℕ) (world : World) (own : ℕ) → ((run_outcome command input world own).status ≡ statuses.Input) ↔ IsBadInput command input }
 {}
 
 /// A run that ends as its outcome, done or refused, has written the answers, the product or the refusal.
 pub fn endings_have_causes()
-    ensures done { (words : List (List ℕ)) (input : List ℕ) (world : World) (own : ℕ) (old : List ℕ) (new : Option (List ℕ)) → Ends (run_outcome words input world own) old statuses.Done new → IsDone words input world own old new ⊎ IsMade words world old new }
-    ensures refused { (words : List (List ℕ)) (input : List ℕ) (world : World) (own : ℕ) (old : List ℕ) (new : Option (List ℕ)) → Ends (run_outcome words input world own) old statuses.Refused new → IsRefused words input world old new ⊎ IsUnmade words world old new }
+    ensures done { (command : Command) (input : List ℕ) (world : World) (own : ℕ) (old : List ℕ) (new : Option (List ℕ)) → Ends (run_outcome command input world own) old statuses.Done new → IsDone command input world own old new ⊎ IsMade command world old new }
+    ensures refused { (command : Command) (input : List ℕ) (world : World) (own : ℕ) (old : List ℕ) (new : Option (List ℕ)) → Ends (run_outcome command input world own) old statuses.Refused new → IsRefused command input world old new ⊎ IsUnmade command world old new }
 {}
 
 /// Where equal stamps have equal bytes in the world, each answer of a process is what is in view for its

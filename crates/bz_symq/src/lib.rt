@@ -1,7 +1,8 @@
-//! The program's parts: its words and input, one run of it, and the texts that it writes.
+//! The program's parts: its input, one run of it, and the texts that it writes.
 #![tactic(auto)]
 
 mod answer;
+mod command;
 mod input;
 pub mod laws;
 mod output;
@@ -13,11 +14,12 @@ mod program;
 mod reply;
 mod status;
 mod texts;
-mod words;
 
 pub use answer::{answer_text, push_answer};
-pub use output::write_said;
+pub use command::{Batch, Command, FileTarget, Product, Target};
+pub use input::{ReadStop, read_input};
+pub use output::{finish, write_said};
 pub use own_process::own_pid;
 pub use program::{run, run_counted};
-pub use reply::{Reply, Said, refusal};
+pub use reply::{Reply, Said, bad_line, refusal, stored_reply};
 pub use status::Status;

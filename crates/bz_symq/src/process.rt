@@ -5,10 +5,10 @@ ghost use Rattle.bz_base.specs.Answer.{Answer, reading};
 ghost use Rattle.bz_cache.specs.Format.{Comes};
 ghost use Rattle.bz_files.specs.Looked.{Faulted, Looked};
 ghost use Rattle.bz_files.specs.World.{Told, in_view};
+ghost use Rattle.bz_symq.specs.Command.{OneProcess};
 ghost use Rattle.bz_symq.specs.Outcome.{by_answer};
 ghost use Rattle.bz_symq.specs.Processes.{process_batch};
 ghost use Rattle.bz_symq.specs.Reply.{IsBatchReply, IsInputStatus, Replies};
-ghost use Rattle.bz_symq.specs.Words.{OneProcess};
 
 use crate::reply::{OwnedAnswers, Reply, Said, refusal};
 use crate::status::Status;
@@ -19,7 +19,7 @@ use bz_symbolize::{Pid, Symbolizer};
 use std::alloc::Global;
 use std::sync::ledger::Ledger;
 
-/// The reply to words that ask a process: its answers at the addresses, or the refusal. The number names
+/// The reply of a process: its answers at the addresses, or the refusal. The number names
 /// the process; 0 stands for the own one.
 pub fn reply_of_process<F: Files, L: Ledger>(
     alloc: Global,

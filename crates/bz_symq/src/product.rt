@@ -10,21 +10,21 @@ ghost use Rattle.bz_cache.specs.Format.{Comes};
 ghost use Rattle.bz_files.specs.Count.{counted};
 ghost use Rattle.bz_files.specs.Looked.{Faulted, Looked, ReadsOne};
 ghost use Rattle.bz_files.specs.World.{Told, entry_at, in_view};
+ghost use Rattle.bz_symq.specs.Command.{product_of};
 ghost use Rattle.bz_symq.specs.Outcome.{by_product};
 ghost use Rattle.bz_symq.specs.Products.{made_in, made_of, path_of};
 ghost use Rattle.bz_symq.specs.Reply.{outcome_of, IsDoneReply, IsProductReply, IsProductStatus, Replies};
 ghost use Rattle.bz_symq.specs.Turns.{ReadsOneFor};
-ghost use Rattle.bz_symq.specs.Words.{product_of};
 
+use crate::command::Product;
 use crate::reply::{Reply, product_reply, refusal};
-use crate::words::Product;
 use bz_base::{Error, Result};
 use bz_breakpad::SymbolFile;
 use bz_canon::canonical;
 use bz_files::Files;
 use std::alloc::Global;
 
-/// The reply to words that ask for a product: what its file makes, or the refusal.
+/// The reply to a command that asks for a product: what its file makes, or the refusal.
 pub fn reply_with_product<F: Files>(
     alloc: Global,
     product: &Product<'_>,

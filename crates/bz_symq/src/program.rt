@@ -5,22 +5,22 @@ ghost use Rattle.bz_base.specs.InputKind.{address_kind, payload};
 ghost use Rattle.bz_files.specs.Looked.{Faulted, Looked};
 ghost use Rattle.bz_files.specs.World.{Told, in_view};
 ghost use Rattle.bz_cache.specs.Format.{Comes};
+ghost use Rattle.bz_symq.specs.Command.{asking_of, command_of, file_target_of, seen_by, target_of, Batch as OneBatch, OneFile};
 ghost use Rattle.bz_symq.specs.Counted.{AnswersInFew, InputTakesFew, RunTakesFew, TakesFew};
 ghost use Rattle.bz_symq.specs.InputText.{addresses_in};
 ghost use Rattle.bz_symq.specs.Outcome.{by_answer, by_addresses};
-ghost use Rattle.bz_symq.specs.Reply.{IsBatchReply, IsDoneReply, IsInputReply, IsInputStatus, Replies, RepliesToWords};
+ghost use Rattle.bz_symq.specs.Reply.{IsBatchReply, IsDoneReply, IsInputReply, IsInputStatus, Replies, RepliesToCommand};
 ghost use Rattle.bz_symq.specs.Run.{Runs};
 ghost use Rattle.bz_symq.specs.Targets.{answer_to, kind_of, AnswersSome, IsSourceOf};
 ghost use Rattle.bz_symq.specs.Turns.{FailsAtOne, ReadsFor, ReadsForInput, ReadsOneFor, TakesTurns};
-ghost use Rattle.bz_symq.specs.Words.{command_in, file_target_of, seen_in, target_of, Batch, OneFile};
 
+use crate::command::{Batch, Command, FileTarget, Target};
 use crate::input::{self, BadInput, ReadStop};
 use crate::output::finish;
 use crate::process::reply_of_process;
 use crate::product::reply_with_product;
 use crate::reply::{Reply, Said, bad_line, refusal, stored_reply};
 use crate::status::Status;
-use crate::words::{self, Command, FileTarget, Target};
 use bz_base::{Error, Input, Result, Steps};
 use bz_files::{Files, TextIn, TextOut};
 use bz_symbolize::source::{Breakpad, Elf, GsymFile, Source};
@@ -29,23 +29,23 @@ use std::alloc::Global;
 use std::marker::Brand;
 use std::sync::ledger::{Blank, Ledger};
 
-/// Reads the words and the whole input, looks at the source, and writes the answers.
+/// Answers the addresses of the whole input, or makes a product, and writes what comes of it.
 pub fn run<R: TextIn, W: TextOut, F: Files>(
     alloc: Global,
-    words: &[String],
+    command: &Command<'_>,
     input: &mut R,
     output: &mut W,
     files: &mut F,
 ) -> Status
-    ensures { Runs R.TextIn W.TextOut F.Files (map string_bytes words.now) result input.old input.new output.old output.new files.old files.new }
+    ensures { Runs R.TextIn W.TextOut F.Files (command_of command.now) result input.old input.new output.old output.new files.old files.new }
 {
-    run_blank::<R, W, F, Brand>(alloc, words, input, output, files, Blank::new(1))
+    run_blank::<R, W, F, Brand>(alloc, command, input, output, files, Blank::new(1))
 }
 
 // The run, with a count that begins with it.
 fn run_blank<R: TextIn, W: TextOut, F: Files, L: Ledger>(
     alloc: Global,
-    words: &[String],
+    command: &Command<'_>,
     input: &mut R,
     output: &mut W,
     files: &mut F,
@@ -54,25 +54,25 @@ fn run_blank<R: TextIn, W: TextOut, F: Files, L: Ledger>(
     requires name { blank.name ≡ L.name }
     requires parts { blank.parts ≡ L.parts }
     requires some { 0 < L.parts }
-    ensures { Runs R.TextIn W.TextOut F.Files (map string_bytes words.now) result input.old input.new output.old output.new files.old files.new }
+    ensures { Runs R.TextIn W.TextOut F.Files (command_of command.now) result input.old input.new output.old output.new files.old files.new }
 {
     let mut steps = Steps::<L>::new(blank);
-    run_counted(alloc, words, input, output, files, &mut steps)
+    run_counted(alloc, command, input, output, files, &mut steps)
 }
 
 /// The same, with a count of the steps of its searches.
 pub fn run_counted<R: TextIn, W: TextOut, F: Files, L: Ledger>(
     alloc: Global,
-    words: &[String],
+    command: &Command<'_>,
     input: &mut R,
     output: &mut W,
     files: &mut F,
     steps: &mut Steps<L>,
 ) -> Status
-    ensures run { Runs R.TextIn W.TextOut F.Files (map string_bytes words.now) result input.old input.new output.old output.new files.old files.new }
-    ensures steps { RunTakesFew (command_in (map string_bytes words.now)) (R.left input.old) steps.old steps.new }
+    ensures run { Runs R.TextIn W.TextOut F.Files (command_of command.now) result input.old input.new output.old output.new files.old files.new }
+    ensures steps { RunTakesFew (command_of command.now) (R.left input.old) steps.old steps.new }
 {
-    match reply_to_words(alloc, words, input, files, steps) {
+    match reply_to_command(alloc, command, input, files, steps) {
         Ok(reply) => finish(alloc, output, &reply),
         Err(error) => failed(error),
     }
@@ -90,42 +90,41 @@ fn failed(error: Error) -> Status
 }
 
 // What the run ends with and writes, before any of it is written.
-fn reply_to_words<R: TextIn, F: Files, L: Ledger>(
+fn reply_to_command<R: TextIn, F: Files, L: Ledger>(
     alloc: Global,
-    words: &[String],
+    command: &Command<'_>,
     input: &mut R,
     files: &mut F,
     steps: &mut Steps<L>,
 ) -> Result<Reply>
-    ensures reply { RepliesToWords (map string_bytes words.now) (seen_in (map string_bytes words.now) (R.left input.old)) (in_view (F.worlds files.old)) (F.pid files.old) result }
-    ensures turns { TakesTurns R.TextIn F.Files (map string_bytes words.now) result input.old input.new files.old files.new }
-    ensures opens { ReadsFor F.Files (command_in (map string_bytes words.now)) (R.left input.old) (IsDoneReply result) files.old files.new }
+    ensures reply { RepliesToCommand (command_of command.now) (seen_by (command_of command.now) (R.left input.old)) (in_view (F.worlds files.old)) (F.pid files.old) result }
+    ensures turns { TakesTurns R.TextIn F.Files (command_of command.now) result input.old input.new files.old files.new }
+    ensures opens { ReadsFor F.Files (command_of command.now) (R.left input.old) (IsDoneReply result) files.old files.new }
     ensures fails { FailsAtOne R.TextIn F.Files (Faulted result) input.old input.new files.old files.new }
-    ensures steps { RunTakesFew (command_in (map string_bytes words.now)) (R.left input.old) steps.old steps.new }
+    ensures steps { RunTakesFew (command_of command.now) (R.left input.old) steps.old steps.new }
 {
-    match words::command_in(words) {
-        Some(Command::Batch(target)) => reply_with_answers(alloc, &target, input, files, steps),
-        Some(Command::Make(product)) => reply_with_product(alloc, &product, files),
-        None => Ok(stored_reply(Status::Usage, "usage: symq [OPTION] KIND [ARG]...\n")),
+    match command {
+        Command::Batch(batch) => reply_with_answers(alloc, batch, input, files, steps),
+        Command::Make(product) => reply_with_product(alloc, product, files),
     }
 }
 
-// The whole input is read, and its addresses are answered by the target.
+// The whole input is read, and its addresses are answered.
 fn reply_with_answers<R: TextIn, F: Files, L: Ledger>(
     alloc: Global,
-    target: &Target<'_>,
+    batch: &Batch<'_>,
     input: &mut R,
     files: &mut F,
     steps: &mut Steps<L>,
 ) -> Result<Reply>
-    ensures reply { (words : List (List ℕ)) → command_in words ≡ Some (Batch (target_of target.now)) → RepliesToWords words (R.left input.old) (in_view (F.worlds files.old)) (F.pid files.old) result }
-    ensures turns { (words : List (List ℕ)) → command_in words ≡ Some (Batch (target_of target.now)) → TakesTurns R.TextIn F.Files words result input.old input.new files.old files.new }
-    ensures opens { ReadsFor F.Files (Some (Batch (target_of target.now))) (R.left input.old) (IsDoneReply result) files.old files.new }
+    ensures reply { RepliesToCommand (OneBatch (asking_of batch.now)) (R.left input.old) (in_view (F.worlds files.old)) (F.pid files.old) result }
+    ensures turns { TakesTurns R.TextIn F.Files (OneBatch (asking_of batch.now)) result input.old input.new files.old files.new }
+    ensures opens { ReadsFor F.Files (OneBatch (asking_of batch.now)) (R.left input.old) (IsDoneReply result) files.old files.new }
     ensures fails { FailsAtOne R.TextIn F.Files (Faulted result) input.old input.new files.old files.new }
-    ensures steps { RunTakesFew (Some (Batch (target_of target.now))) (R.left input.old) steps.old steps.new }
+    ensures steps { RunTakesFew (OneBatch (asking_of batch.now)) (R.left input.old) steps.old steps.new }
 {
     match input::read_input(alloc, input) {
-        Ok(text) => reply_to_input(alloc, target, text, files, steps),
+        Ok(text) => reply_to_input(alloc, batch, text, files, steps),
         Err(ReadStop::TooLong) => Ok(stored_reply(Status::Input, "input: too long\n")),
         Err(ReadStop::Fault) => Err(Error::ReadFault),
         Err(ReadStop::Memory) => Err(Error::OutOfMemory),
@@ -135,23 +134,23 @@ fn reply_with_answers<R: TextIn, F: Files, L: Ledger>(
 // The input's text is let go before the source is looked at.
 fn reply_to_input<F: Files, L: Ledger>(
     alloc: Global,
-    target: &Target<'_>,
+    batch: &Batch<'_>,
     text: Vec<u8>,
     files: &mut F,
     steps: &mut Steps<L>,
 ) -> Result<Reply>
-    ensures reply { Told (in_view (F.worlds files.old)) (λ world. Replies (by_addresses (target_of target.now) world (F.pid files.old) (addresses_in text.items)) result) }
-    ensures answered { IfOk result (λ given. IsInputReply (target_of target.now) text.items given) }
+    ensures reply { Told (in_view (F.worlds files.old)) (λ world. Replies (by_addresses (asking_of batch.now) world (F.pid files.old) (addresses_in text.items)) result) }
+    ensures answered { IfOk result (λ given. IsInputReply (asking_of batch.now) text.items given) }
     ensures status { IfOk result (λ given. IsInputStatus (addresses_in text.items) given.status) }
     ensures unlooked { IsErr (addresses_in text.items) → files.new ≡ files.old }
-    ensures opens { ReadsForInput F.Files (target_of target.now) (addresses_in text.items) (IsDoneReply result) files.old files.new }
+    ensures opens { ReadsForInput F.Files (target_of batch.now.target) (addresses_in text.items) (IsDoneReply result) files.old files.new }
     ensures files { Looked F.Files files.old files.new (Faulted result) }
-    ensures steps { InputTakesFew (target_of target.now) (addresses_in text.items) steps.old steps.new }
+    ensures steps { InputTakesFew (target_of batch.now.target) (addresses_in text.items) steps.old steps.new }
 {
     let read = input::read_addrs(alloc, text.as_slice());
     drop(text);
     match read {
-        Ok(addrs) => reply_to_batch(alloc, target, addrs, files, steps),
+        Ok(addrs) => reply_to_batch(alloc, &batch.target, addrs, files, steps),
         Err(BadInput::Line(number)) => bad_line(alloc, number),
         Err(BadInput::OutOfMemory) => Err(Error::OutOfMemory),
     }

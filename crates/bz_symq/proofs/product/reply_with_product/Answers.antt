@@ -1,4 +1,4 @@
-use Rattle.bz_symq.specs.Words.{product_of}
+use Rattle.bz_symq.specs.Command.{product_of}
 use Rattle.bz_symq.proofs.ProductLemmas.{looked_on, product_answered, replies_opened, replies_unopened}
 use Rattle.bz_symq.proofs.product.reply_with_product.Goals as goal
 

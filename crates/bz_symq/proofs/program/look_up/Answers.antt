@@ -1,7 +1,7 @@
 use Rattle.std.proofs.Common.{List}
 use Rattle.bz_base.specs.Answer.{Answer}
 use Rattle.bz_symbolize.specs.declared.lookups.Lookups.{Lookups}
-use Rattle.bz_symq.specs.Words.{file_target_of}
+use Rattle.bz_symq.specs.Command.{file_target_of}
 use Rattle.bz_symq.proofs.TargetLemmas.{answer_new, few_from_kept, of_its_file, of_its_source, opened_by_target, some_from_kept, takes_few}
 use Rattle.bz_symq.proofs.ReplyLemmas.{given_from_ok}
 use Rattle.bz_symq.proofs.program.look_up.Goals as goal

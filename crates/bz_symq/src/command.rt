@@ -1,0 +1,52 @@
+//! What a run is asked for.
+
+use bz_base::Input;
+use bz_requests::Config;
+
+/// A file that answers addresses, in words that are lent.
+#[derive(Clone, Copy, Debug)]
+pub enum FileTarget<'a> {
+    /// The Breakpad file at a path.
+    Breakpad(&'a str),
+    /// The GSYM file at a path.
+    Gsym(&'a str),
+    /// The ELF file at a path.
+    Elf(&'a str),
+}
+
+/// What answers addresses, in words that are lent.
+#[derive(Clone, Copy, Debug)]
+pub enum Target<'a> {
+    /// A file.
+    File(FileTarget<'a>),
+    /// The process with an id; 0 stands for the own one.
+    Process(u32),
+}
+
+/// One batch of the addresses on the input: what answers them, what they are relative to, and how it
+/// is asked.
+#[derive(Clone, Copy, Debug)]
+pub struct Batch<'a> {
+    /// What answers the addresses.
+    pub target: Target<'a>,
+    /// What the addresses are relative to: a target refuses those of another kind than its own.
+    pub kind: Input<()>,
+    /// The settings of the symbolizer, and how a process is asked.
+    pub config: Config,
+}
+
+/// What is made of one file, in words that are lent.
+#[derive(Clone, Copy, Debug)]
+pub enum Product<'a> {
+    /// The canonical text of the Breakpad file at a path.
+    Canonical(&'a str),
+}
+
+/// What a run is asked for.
+#[derive(Clone, Copy, Debug)]
+pub enum Command<'a> {
+    /// The answers to the addresses of the input.
+    Batch(Batch<'a>),
+    /// A product; the input isn't read.
+    Make(Product<'a>),
+}
