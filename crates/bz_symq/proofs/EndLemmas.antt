@@ -74,6 +74,7 @@ module _ {R W F : Type 0} (reads : input_trait.Ghosts R) (writes : output_trait.
     refuses = λ text left world seen is. rw (refusable_is_refused command text world (looks.pid files_before) is) at (status text left world seen);
     unasked = turns.unasked;
     unlooked = turns.unlooked;
+    untaken = turns.untaken;
     read = λ _. turns.read;
     bounded = turns.bounded;
     order = inr turns.read;
@@ -117,6 +118,7 @@ module _ {R W F : Type 0} (reads : input_trait.Ghosts R) (writes : output_trait.
     refuses = λ text left world seen is. inr failed;
     unasked = turns.unasked;
     unlooked = turns.unlooked;
+    untaken = turns.untaken;
     read = λ no_failure. absurd (never ended ended no_failure failed refl);
     bounded = turns.bounded;
     order = by_order turns.order;

@@ -1,17 +1,21 @@
 -- What a process answers, in the words of its mappings, and why it is refused.
-use Rattle.std.proofs.Common.{◌≡◌, ℕ, zero, suc, List, [], ◌∷◌, map, Option, Some, None, Result, Ok, Err, inl, inr, refl, sym, ap, ◌∙◌}
-use Rattle.bz_base.specs.Answer.{Answer}
+use Rattle.std.proofs.Common.{◌≡◌, ℕ, zero, suc, ◌+◌, ◌≤◌, Bool, true, false, cond, IsErrOf, IsOk, Vec, subst, arith, List, [], ◌∷◌, map, Option, Some, None, Result, Ok, Err, inl, inr, refl, sym, ap, ◌∙◌}
+use Rattle.std.proofs.lemmas.Bool.{false≢true}
+use Rattle.bz_base.specs.Answer.{Answer, reading}
 use Rattle.bz_base.specs.Pid.{number_of}
 use Rattle.bz_base.specs.declared.error.Error.{Error}
 use Rattle.bz_base.specs.declared.error.Error.TheVariants as errors
 use Rattle.bz_base.specs.declared.pid.Pid.{Pid}
+use Rattle.bz_base.specs.declared.types.Symbolized.{Symbolized}
 use Rattle.bz_base.proofs.PidLemmas.{pids_same}
+use Rattle.bz_cache.specs.Format.{Comes}
 use Rattle.bz_files.specs.World.{World, Entry}
 use Rattle.bz_files.specs.World.Entry.{Denied, Present}
 use Rattle.bz_files.specs.declared.stamp.Stamp.{Stamp}
 use Rattle.bz_proc.specs.Maps.{Mapping, maps_in}
 use Rattle.bz_proc.proofs.MapsLemmas.{maps_found, maps_again}
 use Rattle.bz_process.specs.Process.{batched, unsaid}
+use Rattle.bz_requests.specs.declared.requests.Config.{Config}
 use Rattle.bz_symq.specs.Processes.{IsMapsCause, IsProcessBatch, TellsMappings, asked_by, maps_of, nothing_kept, pid_of, process_batch}
 use Rattle.bz_symq.specs.Targets.{HasFile, IsFileCause}
 
@@ -23,10 +27,30 @@ number_named (suc n) = refl
 pub process_named : (number : ℕ) (pid : Pid) → number_of pid ≡ number → pid ≡ pid_of number
 process_named number pid same = pids_same pid (pid_of number) (same ∙ sym (number_named number))
 
-module _ (number own : ℕ) (addrs : List ℕ) (world : World) where
+-- the answers that are read of those that are given
+abbrev pub views : {G : Type 0} → Vec Symbolized G → List Answer
+views answers = map reading answers.items
+
+-- a call is answered as is expected of a kind of address that is taken, and refused for another
+pub answered_if_taken : {A B : Type 0} (view : A → B) (took : Bool) (asked : Result B Error) (result : Result A Error) → (took ≡ false → IsErrOf result errors.Unsupported) → (took ≡ true → Comes view asked result) →
+    Comes view (cond took asked (Err errors.Unsupported)) result
+answered_if_taken view true asked result untaken taken = taken refl
+answered_if_taken view false asked result untaken taken = rw (untaken refl) refl
+
+-- and reads no more files than is expected
+pub opened_if_taken : (took : Bool) (before after most : ℕ) → (took ≡ false → after ≡ before) → (took ≡ true → after ≤ before + most) → after ≤ before + most
+opened_if_taken true before after most untaken taken = taken refl
+opened_if_taken false before after most untaken taken = omega (arith, untaken refl)
+
+-- one that is answered was taken
+pub served_if_given : {A : Type 0} (took : Bool) (result : Result A Error) → (took ≡ false → IsErrOf result errors.Unsupported) → IsOk result → took ≡ true
+served_if_given true result untaken given = refl
+served_if_given false result untaken given = absurd (false≢true (subst IsOk (untaken refl) given))
+
+module _ (config : Config) (number own : ℕ) (addrs : List ℕ) (world : World) where
   -- what the process answers at the addresses, by these mappings
   abbrev answers_by : List Mapping → List Answer
-  answers_by mappings = (batched (asked_by number own) mappings (map unsaid addrs) world nothing_kept).answers
+  answers_by mappings = (batched (asked_by config number own) mappings (map unsaid addrs) world (nothing_kept config)).answers
 
   -- by what a text tells
   abbrev told_answer : Option (List Mapping) → Result (List Answer) Error
@@ -41,44 +65,44 @@ module _ (number own : ℕ) (addrs : List ℕ) (world : World) where
   entry_answer (Some (Present stamp text)) = told_answer (maps_in (pid_of number) text)
 
   -- this is what the batch gives
-  batch_is : (process_batch number own addrs world).answer ≡ entry_answer (maps_of number world)
+  batch_is : (process_batch config number own addrs world).answer ≡ entry_answer (maps_of number world)
   batch_is = by_entry (maps_of number world) refl
     where
       by_told : (stamp : Stamp) (text : List ℕ) → maps_of number world ≡ Some (Present stamp text) → (told : Option (List Mapping)) → maps_in (pid_of number) text ≡ told →
-          (process_batch number own addrs world).answer ≡ told_answer told
+          (process_batch config number own addrs world).answer ≡ told_answer told
       by_told stamp text is None told_is = rw (is, told_is) refl
       by_told stamp text is (Some []) told_is = rw (is, told_is) refl
       by_told stamp text is (Some (mapping ∷ later)) told_is = rw (is, told_is) refl
 
-      by_entry : (there : Option Entry) → maps_of number world ≡ there → (process_batch number own addrs world).answer ≡ entry_answer there
+      by_entry : (there : Option Entry) → maps_of number world ≡ there → (process_batch config number own addrs world).answer ≡ entry_answer there
       by_entry None is = rw is refl
       by_entry (Some Denied) is = rw is refl
       by_entry (Some (Present stamp text)) is = by_told stamp text is (maps_in (pid_of number) text) refl
 
   -- answers that are given are by the mappings that the text tells
-  pub process_answered : (answers : List Answer) → (process_batch number own addrs world).answer ≡ Ok answers →
-      HasFile (λ text. IsProcessBatch number own world text addrs answers) (maps_of number world)
+  pub process_answered : (answers : List Answer) → (process_batch config number own addrs world).answer ≡ Ok answers →
+      HasFile (λ text. IsProcessBatch config number own world text addrs answers) (maps_of number world)
   process_answered answers given = from_entry (maps_of number world) (sym batch_is ∙ given)
     where
-      from_told : (text : List ℕ) (told : Option (List Mapping)) → maps_in (pid_of number) text ≡ told → told_answer told ≡ Ok answers → IsProcessBatch number own world text addrs answers
+      from_told : (text : List ℕ) (told : Option (List Mapping)) → maps_in (pid_of number) text ≡ told → told_answer told ≡ Ok answers → IsProcessBatch config number own world text addrs answers
       from_told text None is given = cc
       from_told text (Some []) is given = cc
       from_told text (Some (mapping ∷ later)) is given = record { tells = (mapping, later, maps_found (pid_of number) text (mapping ∷ later) is); answers_are = cc }
 
-      from_entry : (there : Option Entry) → entry_answer there ≡ Ok answers → HasFile (λ text. IsProcessBatch number own world text addrs answers) there
+      from_entry : (there : Option Entry) → entry_answer there ≡ Ok answers → HasFile (λ text. IsProcessBatch config number own world text addrs answers) there
       from_entry None given = cc
       from_entry (Some Denied) given = cc
       from_entry (Some (Present stamp text)) given =
           record { stamp = stamp; bytes = text; present = refl; such = from_told text (maps_in (pid_of number) text) refl given }
 
   -- and where the text tells some mappings, answers are given
-  pub process_answers : HasFile (TellsMappings number) (maps_of number world) → (answers : List Answer) × ((process_batch number own addrs world).answer ≡ Ok answers)
+  pub process_answers : HasFile (TellsMappings number) (maps_of number world) → (answers : List Answer) × ((process_batch config number own addrs world).answer ≡ Ok answers)
   process_answers has =
       let mappings = has.such.0 ∷ has.such.1 in
       (answers_by mappings, batch_is ∙ rw (has.present, maps_again (pid_of number) has.bytes mappings has.such.2) refl)
 
   -- a process is refused exactly where its text has the cause
-  pub process_cause : (e : Error) → (process_batch number own addrs world).answer ≡ Err e → IsFileCause (IsMapsCause number) (maps_of number world) e
+  pub process_cause : (e : Error) → (process_batch config number own addrs world).answer ≡ Err e → IsFileCause (IsMapsCause number) (maps_of number world) e
   process_cause e given = from_entry (maps_of number world) (sym batch_is ∙ given)
     where
       from_told : (text : List ℕ) (told : Option (List Mapping)) → maps_in (pid_of number) text ≡ told → told_answer told ≡ Err e → IsMapsCause number text e
@@ -91,7 +115,7 @@ module _ (number own : ℕ) (addrs : List ℕ) (world : World) where
       from_entry (Some Denied) given = cc
       from_entry (Some (Present stamp text)) given = from_told text (maps_in (pid_of number) text) refl given
 
-  pub process_refused : (e : Error) → IsFileCause (IsMapsCause number) (maps_of number world) e → (process_batch number own addrs world).answer ≡ Err e
+  pub process_refused : (e : Error) → IsFileCause (IsMapsCause number) (maps_of number world) e → (process_batch config number own addrs world).answer ≡ Err e
   process_refused e cause = batch_is ∙ to_entry (maps_of number world) cause
     where
       to_told : (text : List ℕ) → IsMapsCause number text e → (told : Option (List Mapping)) → maps_in (pid_of number) text ≡ told → told_answer told ≡ Err e

@@ -1,5 +1,5 @@
 -- What the reply to a command is.
-use Rattle.std.proofs.Common.{◌≡◌, ◌≢◌, ◌↔◌, ℕ, ◌<◌, ◌≤◌, List, ◌++◌, length, Option, Some, None, Result, Ok, Err, IfOk, IsOk, OnOk, IsErr, refl, sym, ap, subst, ◌∙◌, inl, inr, arith}
+use Rattle.std.proofs.Common.{◌≡◌, ◌≢◌, ◌↔◌, ℕ, ◌<◌, ◌≤◌, false, List, ◌++◌, length, Option, Some, Result, Ok, Err, IfOk, IsOk, OnOk, IsErr, refl, sym, ap, subst, ◌∙◌, inl, inr, arith}
 use Rattle.std.proofs.lemmas.Bool.{false≢true, le-ltb, lt-ltb}
 use Rattle.bz_base.specs.Answer.{Answer}
 use Rattle.bz_base.specs.declared.error.Error.{Error}
@@ -14,6 +14,7 @@ use Rattle.bz_symq.specs.Outcome.{Outcome, by_addresses, by_answer, by_product, 
 use Rattle.bz_symq.specs.Products.{made_in}
 use Rattle.bz_symq.specs.Reply.{outcome_of, text_of, IsInputReply, IsInputStatus, IsProductReply, IsProductStatus, IsRunReply, Replies, RepliesTo, RepliesToCommand}
 use Rattle.bz_symq.specs.Run.{IsBadInput, IsNoFailure}
+use Rattle.bz_symq.specs.Targets.{takes}
 use Rattle.bz_symq.specs.Turns.{TakesTurns}
 use Rattle.bz_symq.specs.declared.reply.Reply.{Reply}
 use Rattle.bz_symq.specs.declared.status.Status.{Status}
@@ -136,6 +137,10 @@ no_make command asking is product make = cc
 no_batch : (command : Command) (product : Product) → command ≡ Make product → (asking : Asking) → command ≡ Batch asking → ⊥
 no_batch command product is asking batch = cc
 
+-- a batch that is the same batch is of the same kind
+pub takes_same : (asking other : Asking) → Batch asking ≡ Batch other → takes other.target other.kind ≡ false → takes asking.target asking.kind ≡ false
+takes_same asking other same untaken = let is : asking ≡ other = cc same in rw is untaken
+
 module _ (command : Command) (product : Product) (command_is : command ≡ Make product) where
   -- what some file makes is what the run is asked for
   run_from_product : (input : List ℕ) (reply : Reply) → IsProductReply product reply → IsRunReply command input reply
@@ -166,6 +171,7 @@ module _ (command : Command) (product : Product) (command_is : command ≡ Make 
   turns_from_product reads looks result input before after = record {
     unasked = λ other is. refl;
     unlooked = λ text told bad. absurd (no_batch command product command_is bad.0 bad.1);
+    untaken = λ asking batch untaken. absurd (no_batch command product command_is asking batch);
     read = given_always result (λ asking batch. absurd (no_batch command product command_is asking batch));
     bounded = λ text told. (0, omega arith, told);
     order = inr (λ asking batch. absurd (no_batch command product command_is asking batch));

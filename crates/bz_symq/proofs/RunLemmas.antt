@@ -1,5 +1,5 @@
 -- What the outcome of a run says of its command, its input and its source.
-use Rattle.std.proofs.Common.{◌≡◌, ◌≢◌, ◌⊎◌, ℕ, ◌≤◌, Bool, true, false, List, ◌++◌, length, Option, Some, None, Ok, Err, Result, IsErr, refl, sym, ap, ◌∙◌, inl, inr, arith, ltb}
+use Rattle.std.proofs.Common.{◌≡◌, ◌≢◌, ◌⊎◌, ℕ, ◌≤◌, Bool, true, false, List, ◌++◌, length, Option, Some, Ok, Err, Result, IsErr, refl, sym, ap, ◌∙◌, inl, inr, arith, ltb}
 use Rattle.std.proofs.lemmas.Bool.{false≢true, le-ltb, lt-ltb, ltb-false, ltb-true}
 use Rattle.bz_base.specs.Answer.{Answer}
 use Rattle.bz_base.specs.declared.error.Error.{Error}
@@ -38,7 +38,7 @@ record IsAsking (command : Command) (input : List ℕ) (world : World) (own : �
   asking : Asking
   addrs : List ℕ
   asks : Asks command input asking addrs
-  ends : run_outcome command input world own ≡ by_answer addrs (answer_to asking.target addrs world own)
+  ends : run_outcome command input world own ≡ by_answer addrs (answer_to asking addrs world own)
 
 -- and one that makes its product
 record IsMaking (command : Command) (input : List ℕ) (world : World) (own : ℕ) : Type 0 where
@@ -94,7 +94,7 @@ name_from_refused (Err name) refused = (name, refl)
 
 module _ (command : Command) (input : List ℕ) (world : World) (own : ℕ) (known : IsAsking command input world own) where
   abbrev answer_known : Result (List Answer) Error
-  answer_known = answer_to known.asking.target known.addrs world own
+  answer_known = answer_to known.asking known.addrs world own
 
   -- the answers of a run that is done, and the refusal of one that is refused
   answers_known : (run_outcome command input world own).status ≡ statuses.Done → (answers : List Answer) × (answer_known ≡ Ok answers)
@@ -110,13 +110,13 @@ module _ (command : Command) (input : List ℕ) (world : World) (own : ℕ) (kno
         asking = known.asking;
         addrs = known.addrs;
         asks = known.asks;
-        answerable = has_answers world own known.addrs known.asking.target given.0 (answers_found world own known.addrs known.asking.target given.0 given.1);
+        answerable = has_answers world own known.addrs known.asking given.0 (answers_found world own known.addrs known.asking given.0 given.1);
       }
 
   refusable_known : (run_outcome command input world own).status ≡ statuses.Refused → IsRefusable command input world
   refusable_known refused =
       let given = refusal_known refused in
-      record { asking = known.asking; addrs = known.addrs; refusal = given.0; asks = known.asks; cause = cause_found world own known.addrs known.asking.target given.0 given.1 }
+      record { asking = known.asking; addrs = known.addrs; refusal = given.0; asks = known.asks; cause = cause_found world own known.addrs known.asking given.0 given.1 }
 
 module _ (command : Command) (input : List ℕ) (world : World) (own : ℕ) (known : IsMaking command input world own) where
   -- the product of a run that is done, and why one that is refused has none
@@ -132,7 +132,7 @@ module _ (command : Command) (input : List ℕ) (world : World) (own : ℕ) (kno
 
 module _ (command : Command) (input : List ℕ) (world : World) (own : ℕ) where
   -- a run that is asked for addresses ends by the answer of its target
-  asked_outcome : (asking : Asking) (addrs : List ℕ) → Asks command input asking addrs → run_outcome command input world own ≡ by_answer addrs (answer_to asking.target addrs world own)
+  asked_outcome : (asking : Asking) (addrs : List ℕ) → Asks command input asking addrs → run_outcome command input world own ≡ by_answer addrs (answer_to asking addrs world own)
   asked_outcome asking addrs asks = rw (asks.command_is, le-ltb _ _ asks.short, addresses_again input addrs asks.input_is) refl
 
   -- and one that is asked for a product by that
@@ -152,7 +152,7 @@ module _ (command : Command) (input : List ℕ) (world : World) (own : ℕ) (old
             addrs = known.addrs;
             answers = given.0;
             asks = known.asks;
-            answers_are = answers_found world own known.addrs known.asking.target given.0 given.1;
+            answers_are = answers_found world own known.addrs known.asking given.0 given.1;
             written = ends.1 ∙ ap (λ (o : Outcome). Some (old ++ o.text)) (known.ends ∙ ap (by_answer known.addrs) given.1);
           })
       by_serving (inr known) =
@@ -170,7 +170,7 @@ module _ (command : Command) (input : List ℕ) (world : World) (own : ℕ) (old
       by_serving (inl known) =
           let given = refusal_known command input world own known ends.0 in
           inl (record {
-            refusable = record { asking = known.asking; addrs = known.addrs; refusal = given.0; asks = known.asks; cause = cause_found world own known.addrs known.asking.target given.0 given.1 };
+            refusable = record { asking = known.asking; addrs = known.addrs; refusal = given.0; asks = known.asks; cause = cause_found world own known.addrs known.asking given.0 given.1 };
             written = ends.1 ∙ ap (λ (o : Outcome). Some (old ++ o.text)) (known.ends ∙ ap (by_answer known.addrs) given.1);
           })
       by_serving (inr known) =
@@ -184,7 +184,7 @@ module _ (command : Command) (input : List ℕ) (world : World) (own : ℕ) wher
   -- a source that has answers is to be answered, and a product that can be made is to be made
   pub answerable_is_done : IsAnswerable command input world ⊎ IsMakeable command world → (run_outcome command input world own).status ≡ statuses.Done
   answerable_is_done (inl is) =
-      let given = answers_given world own is.addrs is.asking.target is.answerable in
+      let given = answers_given world own is.addrs is.asking is.answerable in
       ap (λ (o : Outcome). o.status) (asked_outcome command input world own is.asking is.addrs is.asks ∙ ap (by_answer is.addrs) given.1)
   answerable_is_done (inr is) =
       ap (λ (o : Outcome). o.status) (making_outcome command input world own is.product is.asks ∙ ap by_product (made_given is.product world is.made is.made_is))
@@ -192,7 +192,7 @@ module _ (command : Command) (input : List ℕ) (world : World) (own : ℕ) wher
   -- one that has none, and one that can't be made, are to be refused
   pub refusable_is_refused : IsRefusable command input world ⊎ IsUnmakeable command world → (run_outcome command input world own).status ≡ statuses.Refused
   refusable_is_refused (inl is) =
-      ap (λ (o : Outcome). o.status) (asked_outcome command input world own is.asking is.addrs is.asks ∙ ap (by_answer is.addrs) (refusal_given world own is.addrs is.asking.target is.refusal is.cause))
+      ap (λ (o : Outcome). o.status) (asked_outcome command input world own is.asking is.addrs is.asks ∙ ap (by_answer is.addrs) (refusal_given world own is.addrs is.asking is.refusal is.cause))
   refusable_is_refused (inr is) =
       ap (λ (o : Outcome). o.status) (making_outcome command input world own is.product is.asks ∙ ap by_product (unmade_given is.product world is.name is.cause))
 
@@ -223,7 +223,7 @@ module _ (command : Command) (input : List ℕ) (world : World) (own : ℕ) wher
 
   usage_never_read : (asking : Asking) (read : Result (List ℕ) ℕ) → (by_addresses asking world own read).status ≡ statuses.Usage → ⊥
   usage_never_read asking (Err n) usage = cc
-  usage_never_read asking (Ok addrs) usage = let asks = answer_never addrs (answer_to asking.target addrs world own) in absurd (false≢true (sym (ap is_asking usage) ∙ asks))
+  usage_never_read asking (Ok addrs) usage = let asks = answer_never addrs (answer_to asking addrs world own) in absurd (false≢true (sym (ap is_asking usage) ∙ asks))
 
   usage_never : (asking : Asking) (long : Bool) → (by_length asking input world own long).status ≡ statuses.Usage → ⊥
   usage_never asking true usage = cc
@@ -241,7 +241,7 @@ module _ (command : Command) (input : List ℕ) (world : World) (own : ℕ) wher
       (by_addresses asking world own read).status ≡ statuses.Input → IsBadInput command input
   input_by_read asking command_is short (Err n) is bad = bad_from_read command asking input command_is short (Err n) is refl
   input_by_read asking command_is short (Ok addrs) is bad =
-      let asks = answer_never addrs (answer_to asking.target addrs world own) in absurd (false≢true (sym (ap is_asking bad) ∙ asks))
+      let asks = answer_never addrs (answer_to asking addrs world own) in absurd (false≢true (sym (ap is_asking bad) ∙ asks))
 
   input_by_length : (asking : Asking) → command ≡ Batch asking → (long : Bool) → ltb greatest_input (length input) ≡ long →
       (by_length asking input world own long).status ≡ statuses.Input → IsBadInput command input

@@ -34,6 +34,14 @@ pub record Asking : Type 0 where
   pub kind : AddressKind
   pub config : Config
 
+-- a file is asked so
+abbrev pub of_file : FileTarget → AddressKind → Config → Asking
+of_file file kind config = record { target = OneFile file; kind = kind; config = config }
+
+-- and a process
+abbrev pub of_process : ℕ → AddressKind → Config → Asking
+of_process number kind config = record { target = OneProcess number; kind = kind; config = config }
+
 -- what is made of one file, and written as it is
 pub data Product : Type 0 where
   -- the canonical text of the Breakpad file at a path

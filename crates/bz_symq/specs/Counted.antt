@@ -1,7 +1,9 @@
 -- How many steps the searches of a run take.
 use Rattle.std.specs.Prelude.{◌≡◌, ◌⊎◌, ℕ, List, length, Option, Result, Ok, Err}
 use Rattle.bz_base.specs.Answer.{Answer}
+use Rattle.bz_base.specs.InputKind.{AddressKind}
 use Rattle.bz_files.specs.World.{Told}
+use Rattle.bz_requests.specs.declared.requests.Config.{Config}
 use Rattle.bz_symbolize.specs.Counted.{breakpad_steps, no_steps}
 use Rattle.bz_symq.specs.Command.{Command, Batch, Make, FileTarget, Breakpad, Gsym, Elf, Target, OneFile, OneProcess}
 use Rattle.bz_symq.specs.Targets.{IsBatch, IsVersion}
@@ -14,9 +16,9 @@ StepsIn (Gsym path) bytes addrs before after = no_steps bytes addrs before after
 StepsIn (Elf path) bytes addrs before after = no_steps bytes addrs before after
 
 -- the answers are those of some bytes in the format of the file's source, in which the addresses were found in few steps
-abbrev pub AnswersInFew : FileTarget → List ℕ → List Answer → ℕ → ℕ → Type 0
-AnswersInFew file addrs answers before after =
-    (bytes : List ℕ) × IsBatch file bytes addrs answers × StepsIn file bytes (length addrs) before after
+abbrev pub AnswersInFew : FileTarget → AddressKind → Config → List ℕ → List Answer → ℕ → ℕ → Type 0
+AnswersInFew file kind config addrs answers before after =
+    (bytes : List ℕ) × IsBatch file kind config bytes addrs answers × StepsIn file bytes (length addrs) before after
 
 -- a batch of so many addresses, answered or refused: no step was taken, or few in some bytes in the format of the file's source; of a
 -- process none are counted

@@ -2,6 +2,7 @@ pub mod AnswerText
 pub mod Command
 pub mod Counted
 pub mod InputText
+pub mod Kept
 pub mod Outcome
 pub mod OwnPid
 pub mod Piece

@@ -51,7 +51,7 @@ bad_line n = record { status = statuses.Input; text = codes "input: line " ++ (d
 -- a bad line is named, and addresses are answered by what is asked
 abbrev pub by_addresses : Asking → World → ℕ → Result (List ℕ) ℕ → Outcome
 by_addresses asking world own (Err n) = bad_line n
-by_addresses asking world own (Ok addrs) = by_answer addrs (answer_to asking.target addrs world own)
+by_addresses asking world own (Ok addrs) = by_answer addrs (answer_to asking addrs world own)
 
 -- an input that is too long is named as such
 abbrev pub too_long : Outcome

@@ -14,24 +14,26 @@ use Rattle.bz_process.specs.Asked.{Asked}
 use Rattle.bz_process.specs.Caches.{ProcessCaches}
 use Rattle.bz_process.specs.Mapped.{asks_process}
 use Rattle.bz_process.specs.Process.{Outcome, batched, unsaid}
+use Rattle.bz_requests.specs.declared.requests.Config.{Config}
 
 -- the process that a number names: the own one for 0, and else the one with this id
 abbrev pub pid_of : ℕ → Pid
 pid_of zero = pids.Slf
 pid_of (suc n) = pids.Pid (record { value = suc n; ok = omega arith })
 
--- how it is asked, where the own one has this id: by its perf map too, and by the paths that stand for its mappings
-abbrev pub asked_by : ℕ → ℕ → Asked
-asked_by number own = record { pid = pid_of number; own = own; perf_map = true; map_files = true }
+-- how it is asked, where the own one has this id: by its perf map too, and by the paths that stand for its mappings or by the
+-- files' own, as the configuration says
+abbrev pub asked_by : Config → ℕ → ℕ → Asked
+asked_by config number own = record { pid = pid_of number; own = own; perf_map = true; map_files = config.map_files }
 
 -- no file is kept, and of no process anything is remembered
-abbrev pub nothing_kept : ProcessCaches
-nothing_kept = record { elf = new_cache true; perf_maps = new_cache true; ids = [] }
+abbrev pub nothing_kept : Config → ProcessCaches
+nothing_kept config = record { elf = new_cache config.reload; perf_maps = new_cache config.reload; ids = [] }
 
--- what it gives at addresses, one after another, where nothing is kept and no resolver is in charge: its answers or the refusal, and
--- how many files are read at most
-abbrev pub process_batch : ℕ → ℕ → List ℕ → World → Outcome (List Answer)
-process_batch number own addrs world = asks_process (asked_by number own) None (map unsaid addrs) world nothing_kept
+-- what it gives at addresses in it, one after another, where nothing is kept and no resolver is in charge: its answers or the
+-- refusal, and how many files are read at most
+abbrev pub process_batch : Config → ℕ → ℕ → List ℕ → World → Outcome (List Answer)
+process_batch config number own addrs world = asks_process (asked_by config number own) None (map unsaid addrs) world (nothing_kept config)
 
 -- what lies where the text of its mappings does
 abbrev pub maps_of : ℕ → World → Option Entry
@@ -43,9 +45,9 @@ TellsMappings number text = (mapping : Mapping) × (later : List Mapping) × Are
 
 -- a text tells mappings, one at least, and the answers are those of the process by these, at each address in order, where a refused
 -- address is an ignored error
-pub record IsProcessBatch (number own : ℕ) (world : World) (text addrs : List ℕ) (answers : List Answer) : Type 0 where
+pub record IsProcessBatch (config : Config) (number own : ℕ) (world : World) (text addrs : List ℕ) (answers : List Answer) : Type 0 where
   pub tells : TellsMappings number text
-  pub answers_are : answers ≡ (batched (asked_by number own) (tells.0 ∷ tells.1) (map unsaid addrs) world nothing_kept).answers
+  pub answers_are : answers ≡ (batched (asked_by config number own) (tells.0 ∷ tells.1) (map unsaid addrs) world (nothing_kept config)).answers
 
 -- why a text gives no answers: it tells no mappings, or it tells that there are none
 abbrev pub IsMapsCause : ℕ → List ℕ → Error → Type 0

@@ -6,7 +6,7 @@ use Rattle.bz_base.specs.declared.error.Error.{Error}
 use Rattle.bz_base.specs.declared.error.Error.TheVariants as errors
 use Rattle.bz_files.specs.World.{World, Told}
 use Rattle.bz_symq.specs.AnswerText.{answer_texts}
-use Rattle.bz_symq.specs.Command.{Asking, Command, Product, Target}
+use Rattle.bz_symq.specs.Command.{Asking, Command, Product}
 use Rattle.bz_symq.specs.InputText.{addresses_in}
 use Rattle.bz_symq.specs.Outcome.{Outcome, refused, run_outcome}
 use Rattle.bz_symq.specs.Products.{MadeOfSome}
@@ -44,18 +44,18 @@ RepliesTo refusal (Ok reply) = outcome_of reply ≡ refused refusal
 RepliesTo refusal (Err e) = e ≡ errors.OutOfMemory
 
 -- the text is that of answers to the addresses; those of a file are by some bytes in its format
-pub record IsBatchText (target : Target) (addrs text : List ℕ) : Type 0 where
+pub record IsBatchText (asking : Asking) (addrs text : List ℕ) : Type 0 where
   pub answers : List Answer
-  pub answers_are : AnswersSome target addrs answers
+  pub answers_are : AnswersSome asking addrs answers
   pub text_is : text ≡ answer_texts addrs answers
 
 -- a reply that the run is done has such a text
-abbrev pub IsBatchReply : Target → List ℕ → Reply → Type 0
-IsBatchReply target addrs reply = reply.status ≡ statuses.Done → IsBatchText target addrs (text_of reply.said)
+abbrev pub IsBatchReply : Asking → List ℕ → Reply → Type 0
+IsBatchReply asking addrs reply = reply.status ≡ statuses.Done → IsBatchText asking addrs (text_of reply.said)
 
 -- and its addresses are those of the input
 abbrev pub IsInputReply : Asking → List ℕ → Reply → Type 0
-IsInputReply asking input reply = reply.status ≡ statuses.Done → (addrs : List ℕ) × (addresses_in input ≡ Ok addrs) × IsBatchText asking.target addrs (text_of reply.said)
+IsInputReply asking input reply = reply.status ≡ statuses.Done → (addrs : List ℕ) × (addresses_in input ≡ Ok addrs) × IsBatchText asking addrs (text_of reply.said)
 
 -- a reply that the run is done says what some Breakpad file makes
 abbrev pub IsProductReply : Product → Reply → Type 0

@@ -1,5 +1,5 @@
 -- What a run of the program promises: what it writes and ends with, and what it does to its input, its output and the files.
-use Rattle.std.specs.Prelude.{◌≡◌, ◌≢◌, ◌⊎◌, ◌↔◌, ℕ, ◌+◌, ◌<◌, ◌≤◌, List, [], ◌++◌, length, Option, Some, IsSome}
+use Rattle.std.specs.Prelude.{◌≡◌, ◌≢◌, ◌⊎◌, ◌↔◌, ℕ, ◌+◌, ◌<◌, ◌≤◌, false, List, [], ◌++◌, length, Option, Some, IsSome}
 use Rattle.bz_base.specs.Answer.{Answer}
 use Rattle.bz_base.specs.declared.error.Error.{Error}
 use Rattle.bz_files.specs.Count.{CountsFaults, counted}
@@ -14,7 +14,7 @@ use Rattle.bz_symq.specs.InputText.{AreAddresses, HasBadLine, greatest_input, le
 use Rattle.bz_symq.specs.Outcome.{Outcome, refused, refused_as, run_outcome}
 use Rattle.bz_symq.specs.Processes.{process_batch}
 use Rattle.bz_symq.specs.Products.{MadeIn, MadeOfSome, UnmadeIn}
-use Rattle.bz_symq.specs.Targets.{HasAnswers, AnswersIn, AnswersSome, IsCause}
+use Rattle.bz_symq.specs.Targets.{HasAnswers, AnswersIn, AnswersSome, IsCause, takes}
 use Rattle.bz_symq.specs.declared.status.Status.{Status}
 use Rattle.bz_symq.specs.declared.status.Status.TheVariants as statuses
 
@@ -47,7 +47,7 @@ pub record IsAnswerable (command : Command) (input : List ℕ) (world : World) :
   pub asking : Asking
   pub addrs : List ℕ
   pub asks : Asks command input asking addrs
-  pub answerable : HasAnswers asking.target world
+  pub answerable : HasAnswers asking world
 
 -- the run was asked for addresses of a source that has answers: the texts of its plain answers at the addresses, in their
 -- order, are what was written
@@ -56,7 +56,7 @@ pub record IsDone (command : Command) (input : List ℕ) (world : World) (own : 
   pub addrs : List ℕ
   pub answers : List Answer
   pub asks : Asks command input asking addrs
-  pub answers_are : AnswersIn asking.target world own addrs answers
+  pub answers_are : AnswersIn asking world own addrs answers
   pub written : new ≡ Some (old ++ answer_texts addrs answers)
 
 -- the run was asked for addresses, and whatever the files tell, the texts of the plain answers of some bytes in the format of
@@ -66,7 +66,7 @@ pub record IsSomeDone (command : Command) (input old : List ℕ) (new : Option (
   pub addrs : List ℕ
   pub answers : List Answer
   pub asks : Asks command input asking addrs
-  pub answers_are : AnswersSome asking.target addrs answers
+  pub answers_are : AnswersSome asking addrs answers
   pub written : new ≡ Some (old ++ answer_texts addrs answers)
 
 -- the run is asked for addresses of a source that has no answers
@@ -75,7 +75,7 @@ pub record IsRefusable (command : Command) (input : List ℕ) (world : World) : 
   pub addrs : List ℕ
   pub refusal : Error
   pub asks : Asks command input asking addrs
-  pub cause : IsCause asking.target world refusal
+  pub cause : IsCause asking world refusal
 
 -- the run was asked for addresses of a source that has no answers: the refusal is what was written
 pub record IsRefused (command : Command) (input : List ℕ) (world : World) (old : List ℕ) (new : Option (List ℕ)) : Type 0 where
@@ -182,9 +182,10 @@ pub record Runs {R W F : Type 0} (reads : input_trait.Ghosts R) (writes : output
   -- a source that has none is refused, and a product that can't be made, unless something fails or memory runs out
   pub refuses : Told (seen_by command (reads.left input_before)) (λ text. Told (in_view (looks.worlds files_before)) (λ world.
       IsRefusable command text world ⊎ IsUnmakeable command world → IsOrFails statuses.Refused ended))
-  -- for a product no input is read, and for a bad input no file is looked at
+  -- for a product no input is read; for a bad input no file is looked at, and for addresses of a kind that the target doesn't take
   pub unasked : (product : Product) → command ≡ Make product → input_after ≡ input_before
   pub unlooked : Told (reads.left input_before) (λ text. IsBadInput command text → files_after ≡ files_before)
+  pub untaken : (asking : Asking) → command ≡ Batch asking → takes asking.target asking.kind ≡ false → files_after ≡ files_before
   -- a run that doesn't fail has read the input, and no run reads on past the byte that makes it too long
   pub read : IsNoFailure ended → IsReadWhole command (reads.left input_before) (reads.left input_after)
   pub bounded : MovesAtMost (greatest_input + 1) (reads.left input_before) (reads.left input_after)
@@ -197,7 +198,7 @@ pub record Runs {R W F : Type 0} (reads : input_trait.Ghosts R) (writes : output
   pub opened : UnlessProcess command (Told (in_view (looks.worlds files_before)) (λ world. ended ≡ statuses.Done → looks.opens files_after ≡ counted (looks.opens files_before)))
   -- for a process no more files are read than its batch reads
   pub process : Told (seen_by command (reads.left input_before)) (λ text. Told (in_view (looks.worlds files_before)) (λ world. (asking : Asking) (number : ℕ) (addrs : List ℕ) → Asks command text asking addrs → asking.target ≡ OneProcess number →
-      looks.opens files_after ≤ looks.opens files_before + (process_batch number (looks.pid files_before) addrs world).opens))
+      looks.opens files_after ≤ looks.opens files_before + (process_batch asking.config number (looks.pid files_before) addrs world).opens))
   -- one side at most failed, and files only before the output; a fault comes only where a call failed, and at any other status
   -- none has
   pub fails : Fails reads writes looks ended input_before input_after output_before output_after files_before files_after

@@ -1,10 +1,9 @@
--- Target by target: which source is asked, what it answers, and why it may have no answers.
-use Rattle.std.specs.Prelude.{◌≡◌, ℕ, List, Option, Some, None, Result, string_bytes}
+-- Target by target: which source is asked, which addresses it takes, what it answers, and why it may have no answers.
+use Rattle.std.specs.Prelude.{◌≡◌, ◌⊎◌, ℕ, Bool, true, false, cond, List, Option, Some, None, Result, Err, string_bytes}
 use Rattle.bz_base.specs.Answer.{Answer}
-use Rattle.bz_base.specs.InputKind.{AddressKind, InFile, InTable}
+use Rattle.bz_base.specs.InputKind.{AddressKind}
 use Rattle.bz_base.specs.declared.error.Error.{Error}
 use Rattle.bz_base.specs.declared.error.Error.TheVariants as errors
-use Rattle.bz_base.specs.declared.types.FindSymOpts.{FindSymOpts}
 use Rattle.bz_files.specs.World.{World, Entry, entry_at}
 use Rattle.bz_files.specs.World.Entry.{Denied, Present}
 use Rattle.bz_files.specs.declared.stamp.Stamp.{Stamp}
@@ -13,18 +12,17 @@ use Rattle.bz_breakpad.specs.Grammar.{IsFile}
 use Rattle.bz_elf.specs.Format.{IsFirstFailing, checks}
 use Rattle.bz_elf.specs.Profile.{IsElf}
 use Rattle.bz_gsym.specs.Tables.{IsGsym}
+use Rattle.bz_process.specs.Processes.{is_in_process}
+use Rattle.bz_requests.specs.declared.requests.Config.{Config}
 use Rattle.bz_symbolize.specs.Lookup.{breakpad_answer, elf_answer, fresh_answer, gsym_answer}
 use Rattle.bz_symbolize.specs.Promise.{IsBreakpadBatch, IsElfBatch, IsGsymBatch}
-use Rattle.bz_symbolize.specs.State.{default_settings, opts_of}
+use Rattle.bz_symbolize.specs.Sources.{is_in_elf, is_in_file, is_in_table}
 use Rattle.bz_symbolize.specs.declared.source.Gsym.TheVariants as gsyms
 use Rattle.bz_symbolize.specs.declared.source.Source.{Source}
 use Rattle.bz_symbolize.specs.declared.source.Source.TheVariants as sources
-use Rattle.bz_symq.specs.Command.{FileTarget, Breakpad, Gsym, Elf, Target, OneFile, OneProcess}
+use Rattle.bz_symq.specs.Command.{Asking, FileTarget, Breakpad, Gsym, Elf, Target, OneFile, OneProcess}
+use Rattle.bz_symq.specs.Kept.{opts_in}
 use Rattle.bz_symq.specs.Processes.{IsMapsCause, IsProcessBatch, TellsMappings, maps_of, process_batch}
-
--- the options of a run: those of a symbolizer with all features on
-abbrev pub run_opts : FindSymOpts
-run_opts = opts_of default_settings
 
 -- Files.
 
@@ -35,11 +33,18 @@ IsSourceOf (Gsym path) (sources.Gsym (gsyms.File source)) = string_bytes source.
 IsSourceOf (Elf path) (sources.Elf source) = string_bytes source.path ≡ path
 IsSourceOf _ _ = ⊥
 
--- what the addresses of its input are relative to
-abbrev pub kind_of : FileTarget → AddressKind
-kind_of (Breakpad path) = InFile
-kind_of (Gsym path) = InTable
-kind_of (Elf path) = InTable
+-- the kinds of address for which it is looked at: a Breakpad file for offsets in it, a GSYM file for addresses in its table, and
+-- an ELF file for all
+abbrev pub file_takes : FileTarget → AddressKind → Bool
+file_takes (Breakpad path) kind = is_in_file kind
+file_takes (Gsym path) kind = is_in_table kind
+file_takes (Elf path) kind = true
+
+-- the kinds that its bytes answer: an ELF file those that it is looked at for, but for addresses in a process
+abbrev pub file_serves : FileTarget → AddressKind → Bool
+file_serves (Breakpad path) kind = is_in_file kind
+file_serves (Gsym path) kind = is_in_table kind
+file_serves (Elf path) kind = is_in_elf kind
 
 -- what lies at the source's path
 abbrev pub file_of : FileTarget → World → Option Entry
@@ -47,11 +52,11 @@ file_of (Breakpad path) world = entry_at world path
 file_of (Gsym path) world = entry_at world path
 file_of (Elf path) world = entry_at world path
 
--- what bytes answer as those of the source
-abbrev pub answer_by : FileTarget → List ℕ → List ℕ → Result (List Answer) Error
-answer_by (Breakpad path) addrs bytes = breakpad_answer run_opts addrs bytes
-answer_by (Gsym path) addrs bytes = gsym_answer run_opts addrs bytes
-answer_by (Elf path) addrs bytes = elf_answer path InTable addrs bytes
+-- what bytes answer as those of the source, to addresses of a kind that it is looked at for
+abbrev pub answer_by : FileTarget → AddressKind → Config → List ℕ → List ℕ → Result (List Answer) Error
+answer_by (Breakpad path) kind config addrs bytes = breakpad_answer (opts_in config) addrs bytes
+answer_by (Gsym path) kind config addrs bytes = gsym_answer (opts_in config) addrs bytes
+answer_by (Elf path) kind config addrs bytes = elf_answer path kind addrs bytes
 
 -- the bytes are in the source's format
 abbrev pub IsVersion : FileTarget → List ℕ → Type 0
@@ -60,16 +65,17 @@ IsVersion (Gsym path) bytes = IsGsym bytes
 IsVersion (Elf path) bytes = IsElf bytes
 
 -- the bytes are in the source's format, and the answers are their plain ones, each at its own address, in order
-abbrev pub IsBatch : FileTarget → List ℕ → List ℕ → List Answer → Type 0
-IsBatch (Breakpad path) bytes addrs answers = IsBreakpadBatch run_opts bytes addrs answers
-IsBatch (Gsym path) bytes addrs answers = IsGsymBatch run_opts bytes addrs answers
-IsBatch (Elf path) bytes addrs answers = IsElfBatch path bytes InTable addrs answers
+abbrev pub IsBatch : FileTarget → AddressKind → Config → List ℕ → List ℕ → List Answer → Type 0
+IsBatch (Breakpad path) kind config bytes addrs answers = IsBreakpadBatch (opts_in config) bytes addrs answers
+IsBatch (Gsym path) kind config bytes addrs answers = IsGsymBatch (opts_in config) bytes addrs answers
+IsBatch (Elf path) kind config bytes addrs answers = IsElfBatch path bytes kind addrs answers
 
--- the bytes aren't in the source's format, and this is the refusal of such bytes: of ELF that of the first check that they fail
-abbrev pub IsRefusalOf : FileTarget → List ℕ → Error → Type 0
-IsRefusalOf (Breakpad path) bytes e = (e ≡ errors.InvalidInput) × ((table : Table) → IsFile bytes table → ⊥)
-IsRefusalOf (Gsym path) bytes e = (e ≡ errors.InvalidData) × ¬ (IsGsym bytes)
-IsRefusalOf (Elf path) bytes e = (index : ℕ) × IsFirstFailing checks bytes index e
+-- the bytes aren't in the source's format, and this is the refusal of such bytes: of ELF that of the first check that they fail;
+-- or they are in the format of ELF, and refuse the kind of address
+abbrev pub IsRefusalOf : FileTarget → AddressKind → List ℕ → Error → Type 0
+IsRefusalOf (Breakpad path) kind bytes e = (e ≡ errors.InvalidInput) × ((table : Table) → IsFile bytes table → ⊥)
+IsRefusalOf (Gsym path) kind bytes e = (e ≡ errors.InvalidData) × ¬ (IsGsym bytes)
+IsRefusalOf (Elf path) kind bytes e = ((index : ℕ) × IsFirstFailing checks bytes index e) ⊎ (IsElf bytes × (is_in_elf kind ≡ false) × (e ≡ errors.Unsupported))
 
 -- a file is there whose bytes are such
 pub record HasFile (P : List ℕ → Type 0) (there : Option Entry) : Type 0 where
@@ -86,28 +92,64 @@ IsFileCause IsRefusal (Some (Present stamp bytes)) e = IsRefusal bytes e
 
 -- Targets.
 
--- what the target answers to a symbolizer that keeps nothing, where the own process has this id
-abbrev pub answer_to : Target → List ℕ → World → ℕ → Result (List Answer) Error
-answer_to (OneFile file) addrs world own = fresh_answer (answer_by file addrs) (file_of file world)
-answer_to (OneProcess number) addrs world own = (process_batch number own addrs world).answer
+-- the kinds of address that a target takes; others it refuses without a look. A process takes addresses in it.
+abbrev pub takes : Target → AddressKind → Bool
+takes (OneFile file) kind = file_takes file kind
+takes (OneProcess number) kind = is_in_process kind
 
--- the target has answers in the world: its file is there, with bytes in its format; or the text of its mappings, which tells some
-abbrev pub HasAnswers : Target → World → Type 0
-HasAnswers (OneFile file) world = HasFile (IsVersion file) (file_of file world)
-HasAnswers (OneProcess number) world = HasFile (TellsMappings number) (maps_of number world)
+-- the kinds that it answers
+abbrev pub serves : Target → AddressKind → Bool
+serves (OneFile file) kind = file_serves file kind
+serves (OneProcess number) kind = is_in_process kind
+
+-- what it answers to addresses of a kind that it takes, asked by a symbolizer that keeps nothing, where the own process has this id
+abbrev pub taken_answer : Target → AddressKind → Config → List ℕ → World → ℕ → Result (List Answer) Error
+taken_answer (OneFile file) kind config addrs world own = fresh_answer (answer_by file kind config addrs) (file_of file world)
+taken_answer (OneProcess number) kind config addrs world own = (process_batch config number own addrs world).answer
+
+-- and to any addresses
+abbrev pub answer_to : Asking → List ℕ → World → ℕ → Result (List Answer) Error
+answer_to asking addrs world own =
+    cond (takes asking.target asking.kind) (taken_answer asking.target asking.kind asking.config addrs world own) (Err errors.Unsupported)
+
+-- the target is there in the world: its file, with bytes in its format; or the text of its mappings, which tells some
+abbrev pub IsThere : Target → World → Type 0
+IsThere (OneFile file) world = HasFile (IsVersion file) (file_of file world)
+IsThere (OneProcess number) world = HasFile (TellsMappings number) (maps_of number world)
+
+-- what is asked has answers in the world: the target answers the kind of address, and is there
+pub record HasAnswers (asking : Asking) (world : World) : Type 0 where
+  pub served : serves asking.target asking.kind ≡ true
+  pub there : IsThere asking.target world
 
 -- the answers are those of the target in the world: of its file, or by the text of its mappings, where the own process has this id
-abbrev pub AnswersIn : Target → World → ℕ → List ℕ → List Answer → Type 0
-AnswersIn (OneFile file) world own addrs answers = HasFile (λ bytes. IsBatch file bytes addrs answers) (file_of file world)
-AnswersIn (OneProcess number) world own addrs answers = HasFile (λ text. IsProcessBatch number own world text addrs answers) (maps_of number world)
+abbrev pub AreAnswers : Target → AddressKind → Config → World → ℕ → List ℕ → List Answer → Type 0
+AreAnswers (OneFile file) kind config world own addrs answers = HasFile (λ bytes. IsBatch file kind config bytes addrs answers) (file_of file world)
+AreAnswers (OneProcess number) kind config world own addrs answers = HasFile (λ text. IsProcessBatch config number own world text addrs answers) (maps_of number world)
+
+-- the target answers the kind of address, and these are its answers
+pub record AnswersIn (asking : Asking) (world : World) (own : ℕ) (addrs : List ℕ) (answers : List Answer) : Type 0 where
+  pub served : serves asking.target asking.kind ≡ true
+  pub are : AreAnswers asking.target asking.kind asking.config world own addrs answers
 
 -- whatever the files tell, the answers are those of some bytes in the format of the target's file; of a process, whose answers are of
 -- many files, nothing is said then
-abbrev pub AnswersSome : Target → List ℕ → List Answer → Type 0
-AnswersSome (OneFile file) addrs answers = (bytes : List ℕ) × IsBatch file bytes addrs answers
-AnswersSome (OneProcess number) addrs answers = Unit {0}
+abbrev pub AreSomeAnswers : Target → AddressKind → Config → List ℕ → List Answer → Type 0
+AreSomeAnswers (OneFile file) kind config addrs answers = (bytes : List ℕ) × IsBatch file kind config bytes addrs answers
+AreSomeAnswers (OneProcess number) kind config addrs answers = Unit {0}
 
--- why a target has no answers in the world
-abbrev pub IsCause : Target → World → Error → Type 0
-IsCause (OneFile file) world e = IsFileCause (IsRefusalOf file) (file_of file world) e
-IsCause (OneProcess number) world e = IsFileCause (IsMapsCause number) (maps_of number world) e
+-- and the target answers the kind of address
+pub record AnswersSome (asking : Asking) (addrs : List ℕ) (answers : List Answer) : Type 0 where
+  pub served : serves asking.target asking.kind ≡ true
+  pub are : AreSomeAnswers asking.target asking.kind asking.config addrs answers
+
+-- why a target that takes the kind of address has no answers in the world
+abbrev pub IsTakenCause : Target → AddressKind → World → Error → Type 0
+IsTakenCause (OneFile file) kind world e = IsFileCause (IsRefusalOf file kind) (file_of file world) e
+IsTakenCause (OneProcess number) kind world e = IsFileCause (IsMapsCause number) (maps_of number world) e
+
+-- why what is asked has no answers in the world: the target doesn't take the kind of address, or else by what lies there
+abbrev pub IsCause : Asking → World → Error → Type 0
+IsCause asking world e =
+    ((takes asking.target asking.kind ≡ false) × (e ≡ errors.Unsupported))
+    ⊎ ((takes asking.target asking.kind ≡ true) × IsTakenCause asking.target asking.kind world e)

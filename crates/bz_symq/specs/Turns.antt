@@ -1,15 +1,17 @@
 -- What a reply comes to of input and files, and in which turn.
-use Rattle.std.specs.Prelude.{◌≡◌, ◌⊎◌, ℕ, ◌+◌, ◌≤◌, List, Option, Result, Ok, Err, IfOk}
+use Rattle.std.specs.Prelude.{◌≡◌, ◌⊎◌, ℕ, ◌+◌, ◌≤◌, false, List, Option, Result, Ok, Err, IfOk}
 use Rattle.bz_base.specs.declared.error.Error.{Error}
 use Rattle.bz_files.specs.Count.{CountsFaults, counted}
 use Rattle.bz_files.specs.Looked.{Looked, ReadsOne}
 use Rattle.bz_files.specs.World.{Told, in_view}
 use Rattle.bz_files.specs.declared.files.Files as files_trait
 use Rattle.bz_files.specs.declared.text.TextIn as input_trait
-use Rattle.bz_symq.specs.Command.{Batch, Command, Make, OneFile, OneProcess, Product, Target}
+use Rattle.bz_requests.specs.declared.requests.Config.{Config}
+use Rattle.bz_symq.specs.Command.{Asking, Batch, Command, Make, OneFile, OneProcess, Product, Target}
 use Rattle.bz_symq.specs.InputText.{addresses_in, greatest_input, MovesAtMost}
 use Rattle.bz_symq.specs.Processes.{process_batch}
 use Rattle.bz_symq.specs.Run.{IsBadInput, IsReadWhole}
+use Rattle.bz_symq.specs.Targets.{takes}
 use Rattle.bz_symq.specs.declared.reply.Reply.{Reply}
 
 -- a reply was to be made: the input comes first, then the files
@@ -18,6 +20,7 @@ pub record TakesTurns {R F : Type 0} (reads : input_trait.Ghosts R) (looks : fil
   -- what isn't come to is left alone
   pub unasked : (product : Product) → command ≡ Make product → input_after ≡ input_before
   pub unlooked : Told (reads.left input_before) (λ text. IsBadInput command text → files_after ≡ files_before)
+  pub untaken : (asking : Asking) → command ≡ Batch asking → takes asking.target asking.kind ≡ false → files_after ≡ files_before
   -- a reply that is given has read the input, and none reads on past the byte that makes it too long
   pub read : IfOk result (λ given. IsReadWhole command (reads.left input_before) (reads.left input_after))
   pub bounded : MovesAtMost (greatest_input + 1) (reads.left input_before) (reads.left input_after)
@@ -31,22 +34,22 @@ pub record ReadsOneFor {F : Type 0} (looks : files_trait.Ghosts F) (answered : T
 
 -- what was read for the answers to an input that is read so: one file at most, and one where the run is done; for a process no more
 -- files than its batch reads, and none where a line isn't well formed
-abbrev pub ReadsForInput : {F : Type 0} → files_trait.Ghosts F → Target → Result (List ℕ) ℕ → Type 0 → F → F → Type 0
-ReadsForInput looks (OneFile file) read answered before after = ReadsOneFor looks answered before after
-ReadsForInput looks (OneProcess number) (Err n) answered before after = looks.opens after ≡ looks.opens before
-ReadsForInput looks (OneProcess number) (Ok addrs) answered before after =
-    Told (in_view (looks.worlds before)) (λ world. looks.opens after ≤ looks.opens before + (process_batch number (looks.pid before) addrs world).opens)
+abbrev pub ReadsForInput : {F : Type 0} → files_trait.Ghosts F → Config → Target → Result (List ℕ) ℕ → Type 0 → F → F → Type 0
+ReadsForInput looks config (OneFile file) read answered before after = ReadsOneFor looks answered before after
+ReadsForInput looks config (OneProcess number) (Err n) answered before after = looks.opens after ≡ looks.opens before
+ReadsForInput looks config (OneProcess number) (Ok addrs) answered before after =
+    Told (in_view (looks.worlds before)) (λ world. looks.opens after ≤ looks.opens before + (process_batch config number (looks.pid before) addrs world).opens)
 
 -- what was read for a batch, with what is left of the input
-abbrev pub ReadsForBatch : {F : Type 0} → files_trait.Ghosts F → Target → Option (List ℕ) → Type 0 → F → F → Type 0
-ReadsForBatch looks (OneFile file) left answered before after = ReadsOneFor looks answered before after
-ReadsForBatch looks (OneProcess number) left answered before after =
-    Told left (λ text. (addrs : List ℕ) → addresses_in text ≡ Ok addrs → ReadsForInput looks (OneProcess number) (Ok addrs) answered before after)
+abbrev pub ReadsForBatch : {F : Type 0} → files_trait.Ghosts F → Config → Target → Option (List ℕ) → Type 0 → F → F → Type 0
+ReadsForBatch looks config (OneFile file) left answered before after = ReadsOneFor looks answered before after
+ReadsForBatch looks config (OneProcess number) left answered before after =
+    Told left (λ text. (addrs : List ℕ) → addresses_in text ≡ Ok addrs → ReadsForInput looks config (OneProcess number) (Ok addrs) answered before after)
 
 -- and for a command
 abbrev pub ReadsFor : {F : Type 0} → files_trait.Ghosts F → Command → Option (List ℕ) → Type 0 → F → F → Type 0
 ReadsFor looks (Make product) left answered before after = ReadsOneFor looks answered before after
-ReadsFor looks (Batch asking) left answered before after = ReadsForBatch looks asking.target left answered before after
+ReadsFor looks (Batch asking) left answered before after = ReadsForBatch looks asking.config asking.target left answered before after
 
 -- one side at most failed: the input, and then the files are as they were; or the files, and no call of the input failed
 abbrev pub FailsAtOne : {R F : Type 0} → input_trait.Ghosts R → files_trait.Ghosts F → Type 0 → R → R → F → F → Type 0

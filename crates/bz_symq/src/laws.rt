@@ -5,7 +5,7 @@ ghost use Rattle.bz_base.specs.Answer.{Answer, in_batch};
 ghost use Rattle.bz_files.specs.Agreement.{AgreeOn};
 ghost use Rattle.bz_files.specs.World.{World};
 ghost use Rattle.bz_process.specs.InView.{process_in_view};
-ghost use Rattle.bz_symq.specs.Command.{Command, OneProcess};
+ghost use Rattle.bz_symq.specs.Command.{Asking, Command, OneProcess};
 ghost use Rattle.bz_symq.specs.InputText.{AreAddresses, IsFirstBad, addresses_in};
 ghost use Rattle.bz_symq.specs.Outcome.{run_outcome};
 ghost use Rattle.bz_symq.specs.Processes.{asked_by, nothing_kept};
@@ -38,6 +38,6 @@ pub fn endings_have_causes()
 /// Where equal stamps have equal bytes in the world, each answer of a process is what is in view for its
 /// address alone, where a refusal is an ignored error. So answers don't depend on what else is asked.
 pub fn process_answers_stand_alone()
-    ensures { (number own : ℕ) (addrs : List ℕ) (world : World) (answers : List Answer) → AgreeOn world world → AnswersIn (OneProcess number) world own addrs answers →
-        answers ≡ map (λ addr. in_batch (process_in_view (asked_by number own) world nothing_kept None addr)) addrs }
+    ensures { (asking : Asking) (number own : ℕ) (addrs : List ℕ) (world : World) (answers : List Answer) → AgreeOn world world → asking.target ≡ OneProcess number → AnswersIn asking world own addrs answers →
+        answers ≡ map (λ addr. in_batch (process_in_view (asked_by asking.config number own) world (nothing_kept asking.config) None addr)) addrs }
 {}

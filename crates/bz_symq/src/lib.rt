@@ -2,6 +2,7 @@
 #![tactic(auto)]
 
 mod answer;
+mod asking;
 mod command;
 mod input;
 pub mod laws;
@@ -16,6 +17,7 @@ mod status;
 mod texts;
 
 pub use answer::{answer_text, push_answer};
+pub use asking::{input_for, new_symbolizer};
 pub use command::{Batch, Command, FileTarget, Product, Target};
 pub use input::{ReadStop, read_input};
 pub use output::{finish, write_said};

@@ -1,19 +1,20 @@
 //! One run of the program.
 
-ghost use Rattle.std.specs.Prelude.{◌≡◌, ◌⊎◌, ◌↔◌, ◌<◌, ℕ, List, length, map, string_bytes, IfOk, Ok, Some, IsErr, IsOk, IsOkUnless};
-ghost use Rattle.bz_base.specs.InputKind.{address_kind, payload};
+ghost use Rattle.std.specs.Prelude.{◌≡◌, ◌⊎◌, ◌↔◌, ◌<◌, false, length, IfOk, Ok, IsErr, IsOk, IsOkUnless};
+ghost use Rattle.bz_base.specs.InputKind.{address_kind};
 ghost use Rattle.bz_files.specs.Looked.{Faulted, Looked};
 ghost use Rattle.bz_files.specs.World.{Told, in_view};
 ghost use Rattle.bz_cache.specs.Format.{Comes};
-ghost use Rattle.bz_symq.specs.Command.{asking_of, command_of, file_target_of, seen_by, target_of, Batch as OneBatch, OneFile};
+ghost use Rattle.bz_symq.specs.Command.{asking_of, command_of, file_target_of, of_file, seen_by, target_of, Batch as OneBatch, OneFile};
 ghost use Rattle.bz_symq.specs.Counted.{AnswersInFew, InputTakesFew, RunTakesFew, TakesFew};
 ghost use Rattle.bz_symq.specs.InputText.{addresses_in};
 ghost use Rattle.bz_symq.specs.Outcome.{by_answer, by_addresses};
 ghost use Rattle.bz_symq.specs.Reply.{IsBatchReply, IsDoneReply, IsInputReply, IsInputStatus, Replies, RepliesToCommand};
 ghost use Rattle.bz_symq.specs.Run.{Runs};
-ghost use Rattle.bz_symq.specs.Targets.{answer_to, kind_of, AnswersSome, IsSourceOf};
+ghost use Rattle.bz_symq.specs.Targets.{answer_to, file_takes, takes, AnswersSome, IsSourceOf};
 ghost use Rattle.bz_symq.specs.Turns.{FailsAtOne, ReadsFor, ReadsForInput, ReadsOneFor, TakesTurns};
 
+use crate::asking::{input_for, new_symbolizer};
 use crate::command::{Batch, Command, FileTarget, Target};
 use crate::input::{self, BadInput, ReadStop};
 use crate::output::finish;
@@ -23,8 +24,9 @@ use crate::reply::{Reply, Said, bad_line, refusal, stored_reply};
 use crate::status::Status;
 use bz_base::{Error, Input, Result, Steps};
 use bz_files::{Files, TextIn, TextOut};
+use bz_requests::Config;
+use bz_symbolize::Lookups;
 use bz_symbolize::source::{Breakpad, Elf, GsymFile, Source};
-use bz_symbolize::{Lookups, Symbolizer};
 use std::alloc::Global;
 use std::marker::Brand;
 use std::sync::ledger::{Blank, Ledger};
@@ -143,14 +145,15 @@ fn reply_to_input<F: Files, L: Ledger>(
     ensures answered { IfOk result (λ given. IsInputReply (asking_of batch.now) text.items given) }
     ensures status { IfOk result (λ given. IsInputStatus (addresses_in text.items) given.status) }
     ensures unlooked { IsErr (addresses_in text.items) → files.new ≡ files.old }
-    ensures opens { ReadsForInput F.Files (target_of batch.now.target) (addresses_in text.items) (IsDoneReply result) files.old files.new }
+    ensures untaken { takes (target_of batch.now.target) (address_kind batch.now.kind) ≡ false → files.new ≡ files.old }
+    ensures opens { ReadsForInput F.Files batch.now.config (target_of batch.now.target) (addresses_in text.items) (IsDoneReply result) files.old files.new }
     ensures files { Looked F.Files files.old files.new (Faulted result) }
     ensures steps { InputTakesFew (target_of batch.now.target) (addresses_in text.items) steps.old steps.new }
 {
     let read = input::read_addrs(alloc, text.as_slice());
     drop(text);
     match read {
-        Ok(addrs) => reply_to_batch(alloc, &batch.target, addrs, files, steps),
+        Ok(addrs) => reply_to_batch(alloc, batch, addrs, files, steps),
         Err(BadInput::Line(number)) => bad_line(alloc, number),
         Err(BadInput::OutOfMemory) => Err(Error::OutOfMemory),
     }
@@ -159,21 +162,26 @@ fn reply_to_input<F: Files, L: Ledger>(
 // The addresses are answered by the target.
 fn reply_to_batch<F: Files, L: Ledger>(
     alloc: Global,
-    target: &Target<'_>,
+    batch: &Batch<'_>,
     addrs: Vec<u64>,
     files: &mut F,
     steps: &mut Steps<L>,
 ) -> Result<Reply>
-    ensures reply { Told (in_view (F.worlds files.old)) (λ world. Replies (by_answer addrs.items (answer_to (target_of target.now) addrs.items world (F.pid files.old))) result) }
-    ensures answered { IfOk result (λ given. IsBatchReply (target_of target.now) addrs.items given) }
+    ensures reply { Told (in_view (F.worlds files.old)) (λ world. Replies (by_answer addrs.items (answer_to (asking_of batch.now) addrs.items world (F.pid files.old))) result) }
+    ensures answered { IfOk result (λ given. IsBatchReply (asking_of batch.now) addrs.items given) }
     ensures status { IfOk result (λ given. IsInputStatus (Ok addrs.items) given.status) }
-    ensures opens { ReadsForInput F.Files (target_of target.now) (Ok addrs.items) (IsDoneReply result) files.old files.new }
+    ensures untaken { takes (target_of batch.now.target) (address_kind batch.now.kind) ≡ false → files.new ≡ files.old }
+    ensures opens { ReadsForInput F.Files batch.now.config (target_of batch.now.target) (Ok addrs.items) (IsDoneReply result) files.old files.new }
     ensures files { Looked F.Files files.old files.new (Faulted result) }
-    ensures steps { TakesFew (target_of target.now) (length addrs.items) steps.old steps.new }
+    ensures steps { TakesFew (target_of batch.now.target) (length addrs.items) steps.old steps.new }
 {
-    match target {
-        Target::File(file) => reply_of_file(alloc, file, addrs, files, steps),
-        Target::Process(number) => reply_of_process(alloc, *number, addrs, files, steps),
+    let kind = batch.kind;
+    let config = batch.config;
+    match batch.target {
+        Target::File(file) => reply_of_file(alloc, &file, kind, config, addrs, files, steps),
+        Target::Process(number) => {
+            reply_of_process(alloc, number, kind, config, addrs, files, steps)
+        }
     }
 }
 
@@ -181,18 +189,21 @@ fn reply_to_batch<F: Files, L: Ledger>(
 fn reply_of_file<F: Files, L: Ledger>(
     alloc: Global,
     file: &FileTarget<'_>,
+    kind: Input<()>,
+    config: Config,
     addrs: Vec<u64>,
     files: &mut F,
     steps: &mut Steps<L>,
 ) -> Result<Reply>
-    ensures reply { Told (in_view (F.worlds files.old)) (λ world. Replies (by_answer addrs.items (answer_to (OneFile (file_target_of file.now)) addrs.items world (F.pid files.old))) result) }
-    ensures answered { IfOk result (λ given. IsBatchReply (OneFile (file_target_of file.now)) addrs.items given) }
+    ensures reply { Told (in_view (F.worlds files.old)) (λ world. Replies (by_answer addrs.items (answer_to (of_file (file_target_of file.now) (address_kind kind) config) addrs.items world (F.pid files.old))) result) }
+    ensures answered { IfOk result (λ given. IsBatchReply (of_file (file_target_of file.now) (address_kind kind) config) addrs.items given) }
     ensures status { IfOk result (λ given. IsInputStatus (Ok addrs.items) given.status) }
+    ensures untaken { file_takes (file_target_of file.now) (address_kind kind) ≡ false → files.new ≡ files.old }
     ensures opens { ReadsOneFor F.Files (IsDoneReply result) files.old files.new }
     ensures files { Looked F.Files files.old files.new (Faulted result) }
     ensures steps { TakesFew (OneFile (file_target_of file.now)) (length addrs.items) steps.old steps.new }
 {
-    match look_up(alloc, file, addrs, files, steps) {
+    match look_up(alloc, file, kind, config, addrs, files, steps) {
         Ok(lookups) => Ok(Reply {
             status: Status::Done,
             said: Said::Answers(lookups),
@@ -205,20 +216,24 @@ fn reply_of_file<F: Files, L: Ledger>(
 fn look_up<F: Files, L: Ledger>(
     alloc: Global,
     file: &FileTarget<'_>,
+    kind: Input<()>,
+    config: Config,
     addrs: Vec<u64>,
     files: &mut F,
     steps: &mut Steps<L>,
 ) -> Result<Lookups<'static>>
-    ensures answer { Told (in_view (F.worlds files.old)) (λ world. Comes (λ lookups. lookups.answers) (answer_to (OneFile (file_target_of file.now)) addrs.items world (F.pid files.old)) result) }
-    ensures answered { IfOk result (λ lookups. AnswersSome (OneFile (file_target_of file.now)) addrs.items lookups.answers) }
+    ensures answer { Told (in_view (F.worlds files.old)) (λ world. Comes (λ lookups. lookups.answers) (answer_to (of_file (file_target_of file.now) (address_kind kind) config) addrs.items world (F.pid files.old)) result) }
+    ensures answered { IfOk result (λ lookups. AnswersSome (of_file (file_target_of file.now) (address_kind kind) config) addrs.items lookups.answers) }
     ensures addrs { IfOk result (λ lookups. lookups.addrs ≡ addrs.items) }
+    ensures untaken { file_takes (file_target_of file.now) (address_kind kind) ≡ false → files.new ≡ files.old }
     ensures opens { ReadsOneFor F.Files (IsOk result) files.old files.new }
     ensures files { Looked F.Files files.old files.new (Faulted result) }
-    ensures found { IfOk result (λ lookups. AnswersInFew (file_target_of file.now) addrs.items lookups.answers steps.old steps.new) }
+    ensures found { IfOk result (λ lookups. AnswersInFew (file_target_of file.now) (address_kind kind) config addrs.items lookups.answers steps.old steps.new) }
     ensures steps { TakesFew (OneFile (file_target_of file.now)) (length addrs.items) steps.old steps.new }
 {
     let src = source(alloc, file)?;
-    Symbolizer::new(alloc).look_up(alloc, files, &src, input_for(file, addrs), steps)
+    let mut symbolizer = new_symbolizer(alloc, config);
+    symbolizer.look_up(alloc, files, &src, input_for(kind, addrs), steps)
 }
 
 // The source that is the file's.
@@ -239,16 +254,5 @@ fn source(alloc: Global, file: &FileTarget<'_>) -> Result<Source<'static>>
             let path = String::from_str(alloc, path)?;
             Ok(Source::from(Elf::new(path)))
         }
-    }
-}
-
-// The addresses, as the file takes them.
-fn input_for(file: &FileTarget<'_>, addrs: Vec<u64>) -> Input<Vec<u64>>
-    ensures kind { address_kind result ≡ kind_of (file_target_of file.now) }
-    ensures addrs { payload result ≡ addrs }
-{
-    match file {
-        FileTarget::Breakpad(_) => Input::FileOffset(addrs),
-        FileTarget::Gsym(_) | FileTarget::Elf(_) => Input::VirtOffset(addrs),
     }
 }

@@ -1,29 +1,49 @@
-use Rattle.std.proofs.Common.{◌≡◌, refl}
-use Rattle.bz_symbolize.specs.declared.source.Source.TheVariants as sources
-use Rattle.bz_symq.specs.Processes.{pid_of}
-use Rattle.bz_symq.proofs.ProcessLemmas.{process_named}
+use Rattle.std.proofs.Common.{◌≡◌, ap}
+use Rattle.bz_base.specs.InputKind.{address_kind}
+use Rattle.bz_process.specs.Processes.{is_in_process}
+use Rattle.bz_symq.specs.Kept.{Kept}
+use Rattle.bz_symq.specs.Processes.{pid_of, process_batch}
+use Rattle.bz_symq.proofs.ProcessLemmas.{answered_if_taken, opened_if_taken, process_named, served_if_given, views}
 use Rattle.bz_symq.proofs.process.answers_of.Goals as goal
 
 -- a dispatcher that gives no resolver leaves the answers to the definitions
 pub returns-clause-answer : goal.returns-clause-answer
 returns-clause-answer g c world seen =
-    let from : c.from-src.result ≡ sources.Process c.new.result = c.from-src.ensures in
     let named : c.from.result ≡ pid_of c.args.number = process_named c.args.number c.from.result c.from.ensures in
-    let promise = rw (from, c.new.ensures, named) at c.symbolize_counted.ensures.process.asked in
-    let step = promise.exact (λ member answer is. is) refl in
-    rw (c.new-symbolizer.ensures.files, c.new-symbolizer.ensures.processes) at ((step.told world seen).answer)
+    let promise = rw (c.from-src.ensures, c.new-process.ensures, named, c.input_for.ensures.kind, c.input_for.ensures.addrs) at c.symbolize_counted.ensures.process.asked in
+    let kept = c.new_symbolizer-symbolizer.ensures in
+    let files = ap (λ (k : Kept). k.files) kept in
+    let perf_maps = ap (λ (k : Kept). k.processes.perf_maps) kept in
+    let ids = ap (λ (k : Kept). k.processes.ids) kept in
+    let mappings = ap (λ (k : Kept). k.processes.mappings) kept in
+    answered_if_taken views (is_in_process (address_kind c.args.kind)) (process_batch c.args.config c.args.number (g.F.Files.pid c.args.files.now) c.args.addrs.now world).answer c.symbolize_counted.result (λ is. (promise.untaken is).0)
+    (λ is. let step = promise.exact (λ member answer is. is) is in rw (files, perf_maps, ids, mappings) at ((step.told world seen).answer))
+
+-- what is answered was taken
+pub returns-clause-served : goal.returns-clause-served
+returns-clause-served g c =
+    let promise = rw (c.from-src.ensures, c.input_for.ensures.kind) at c.symbolize_counted.ensures.process.asked in
+    served_if_given (is_in_process (address_kind c.args.kind)) c.symbolize_counted.result (λ is. (promise.untaken is).0)
+
+-- what isn't taken is refused without a look
+pub returns-clause-untaken : goal.returns-clause-untaken
+returns-clause-untaken g c is =
+    let promise = rw (c.from-src.ensures, c.input_for.ensures.kind) at c.symbolize_counted.ensures.process.asked in
+    (promise.untaken is).3
 
 -- and no more files are read than they say
 pub returns-clause-opens : goal.returns-clause-opens
 returns-clause-opens g c world seen =
-    let from : c.from-src.result ≡ sources.Process c.new.result = c.from-src.ensures in
     let named : c.from.result ≡ pid_of c.args.number = process_named c.args.number c.from.result c.from.ensures in
-    let promise = rw (from, c.new.ensures, named) at c.symbolize_counted.ensures.process.asked in
-    let step = promise.exact (λ member answer is. is) refl in
-    rw (c.new-symbolizer.ensures.files, c.new-symbolizer.ensures.processes) at ((step.told world seen).opened)
+    let promise = rw (c.from-src.ensures, c.new-process.ensures, named, c.input_for.ensures.kind, c.input_for.ensures.addrs) at c.symbolize_counted.ensures.process.asked in
+    let kept = c.new_symbolizer-symbolizer.ensures in
+    let files = ap (λ (k : Kept). k.files) kept in
+    let perf_maps = ap (λ (k : Kept). k.processes.perf_maps) kept in
+    let ids = ap (λ (k : Kept). k.processes.ids) kept in
+    let mappings = ap (λ (k : Kept). k.processes.mappings) kept in
+    opened_if_taken (is_in_process (address_kind c.args.kind)) _ _ _ (λ is. ap g.F.Files.opens (promise.untaken is).3)
+    (λ is. let step = promise.exact (λ member answer is. is) is in rw (files, perf_maps, ids, mappings) at ((step.told world seen).opened))
 
 -- of a process no steps are counted
 pub returns-clause-steps : goal.returns-clause-steps
-returns-clause-steps g c =
-    let from : c.from-src.result ≡ sources.Process c.new.result = c.from-src.ensures in
-    rw from at c.symbolize_counted.ensures.steps
+returns-clause-steps g c = rw c.from-src.ensures at c.symbolize_counted.ensures.steps

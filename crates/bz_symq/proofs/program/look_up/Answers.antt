@@ -1,8 +1,11 @@
-use Rattle.std.proofs.Common.{List}
+use Rattle.std.proofs.Common.{◌≡◌, List, ap}
 use Rattle.bz_base.specs.Answer.{Answer}
+use Rattle.bz_base.specs.InputKind.{address_kind}
+use Rattle.bz_symbolize.specs.State.{new_state}
 use Rattle.bz_symbolize.specs.declared.lookups.Lookups.{Lookups}
 use Rattle.bz_symq.specs.Command.{file_target_of}
-use Rattle.bz_symq.proofs.TargetLemmas.{answer_new, few_from_kept, of_its_file, of_its_source, opened_by_target, some_from_kept, takes_few}
+use Rattle.bz_symq.specs.Kept.{Kept, settings_of}
+use Rattle.bz_symq.proofs.TargetLemmas.{answer_new, few_from_kept, of_its_file, of_its_source, of_untaken, opened_by_target, some_from_kept, takes_few}
 use Rattle.bz_symq.proofs.ReplyLemmas.{given_from_ok}
 use Rattle.bz_symq.proofs.program.look_up.Goals as goal
 
@@ -12,30 +15,41 @@ read lookups = lookups.answers
 -- a symbolizer that keeps nothing answers as the file answers
 pub returns-clause-answer : goal.returns-clause-answer
 returns-clause-answer g c world told =
-    let looked = rw (c.new.ensures.files, c.input_for.ensures.kind, c.input_for.ensures.addrs) at ((of_its_source (file_target_of c.args.file.now) c.in_ok-src.src _ c.in_ok-src.ensures.ok (c.look_up.ensures.call.told world told)).answer) in
-    rw (answer_new (file_target_of c.args.file.now) c.in_ok-src.src c.args.addrs.items world c.in_ok-src.ensures.ok) at looked
+    let files : c.new_symbolizer-symbolizer.result.files ≡ new_state (settings_of c.args.config) = ap (λ (kept : Kept). kept.files) c.new_symbolizer-symbolizer.ensures in
+    let looked = rw (files, c.input_for.ensures.kind, c.input_for.ensures.addrs) at ((of_its_source (file_target_of c.args.file.now) c.in_ok-src.src _ c.in_ok-src.ensures.ok (c.look_up.ensures.call.told world told)).answer) in
+    rw (answer_new c.args.config c.args.addrs.items world (file_target_of c.args.file.now) (address_kind c.args.kind) c.in_ok-src.src (g.F.Files.pid c.args.files.now) c.in_ok-src.ensures.ok) at looked
 
 -- by bytes in the format, whatever is told
 pub returns-clause-answered : goal.returns-clause-answered
 returns-clause-answered g c =
-    let kept = rw (c.new.ensures.files, c.input_for.ensures.kind, c.input_for.ensures.addrs) at c.look_up.ensures.call.kept in
-    some_from_kept read (file_target_of c.args.file.now) c.in_ok-src.src c.args.addrs.items _ c.look_up.result c.in_ok-src.ensures.ok kept
+    let files : c.new_symbolizer-symbolizer.result.files ≡ new_state (settings_of c.args.config) = ap (λ (kept : Kept). kept.files) c.new_symbolizer-symbolizer.ensures in
+    let kept = rw (files, c.input_for.ensures.kind, c.input_for.ensures.addrs) at c.look_up.ensures.call.kept in
+    let untaken = rw c.input_for.ensures.kind at c.look_up.ensures.call.untaken in
+    some_from_kept c.args.config c.args.addrs.items read (address_kind c.args.kind) _ _ (file_target_of c.args.file.now) c.in_ok-src.src c.look_up.result c.in_ok-src.ensures.ok (λ refused. refused.0) untaken kept
 
 -- one file at most was read, and where answers are given one was
 pub returns-clause-opens : goal.returns-clause-opens
-returns-clause-opens g c = record {
-  most = of_its_file (file_target_of c.args.file.now) c.in_ok-src.src _ c.in_ok-src.ensures.ok c.look_up.ensures.call.most;
-  opened = λ world told.
-      let opened = rw (c.new.ensures.files, c.input_for.ensures.kind) at ((of_its_source (file_target_of c.args.file.now) c.in_ok-src.src _ c.in_ok-src.ensures.ok (c.look_up.ensures.call.told world told)).opened) in
-      given_from_ok c.look_up.result _ (opened_by_target read (file_target_of c.args.file.now) c.in_ok-src.src c.args.addrs.items world _ _ c.look_up.result c.in_ok-src.ensures.ok (returns-clause-answer g c world told) opened);
-}
+returns-clause-opens g c =
+    let files : c.new_symbolizer-symbolizer.result.files ≡ new_state (settings_of c.args.config) = ap (λ (kept : Kept). kept.files) c.new_symbolizer-symbolizer.ensures in
+    record {
+      most = of_its_file (file_target_of c.args.file.now) c.in_ok-src.src _ c.in_ok-src.ensures.ok c.look_up.ensures.call.most;
+      opened = λ world told.
+          let opened = rw (files, c.input_for.ensures.kind) at ((of_its_source (file_target_of c.args.file.now) c.in_ok-src.src _ c.in_ok-src.ensures.ok (c.look_up.ensures.call.told world told)).opened) in
+          given_from_ok c.look_up.result _ (opened_by_target c.args.config c.args.addrs.items read world _ _ c.look_up.result (file_target_of c.args.file.now) (address_kind c.args.kind) c.in_ok-src.src (g.F.Files.pid c.args.files.now) c.in_ok-src.ensures.ok
+          (returns-clause-answer g c world told) opened);
+    }
+
+-- none for a kind of address that isn't taken
+pub returns-clause-untaken : goal.returns-clause-untaken
+returns-clause-untaken g c untaken = (of_untaken (file_target_of c.args.file.now) (address_kind c.args.kind) c.in_ok-src.src _ c.in_ok-src.ensures.ok (rw c.input_for.ensures.kind at c.look_up.ensures.call.untaken) untaken).2
 
 -- in few steps
 pub returns-clause-found : goal.returns-clause-found
 returns-clause-found g c =
-    let kept = rw (c.new.ensures.files, c.input_for.ensures.kind, c.input_for.ensures.addrs) at c.look_up.ensures.call.kept in
-    few_from_kept read (file_target_of c.args.file.now) c.in_ok-src.src c.args.addrs.items _ _ _ c.look_up.result c.in_ok-src.ensures.ok kept (rw c.input_for.ensures.addrs at c.look_up.ensures.steps)
+    let files : c.new_symbolizer-symbolizer.result.files ≡ new_state (settings_of c.args.config) = ap (λ (kept : Kept). kept.files) c.new_symbolizer-symbolizer.ensures in
+    let kept = rw (files, c.input_for.ensures.kind, c.input_for.ensures.addrs) at c.look_up.ensures.call.kept in
+    few_from_kept c.args.config c.args.addrs.items read (address_kind c.args.kind) _ _ _ (file_target_of c.args.file.now) c.in_ok-src.src c.look_up.result c.in_ok-src.ensures.ok kept (rw c.input_for.ensures.addrs at c.look_up.ensures.steps)
 
 pub returns-clause-steps : goal.returns-clause-steps
 returns-clause-steps g c =
-    takes_few (file_target_of c.args.file.now) c.in_ok-src.src _ _ _ _ c.in_ok-src.ensures.ok c.look_up.ensures.call.caches (rw c.input_for.ensures.addrs at c.look_up.ensures.steps)
+    takes_few _ _ _ _ (file_target_of c.args.file.now) c.in_ok-src.src c.in_ok-src.ensures.ok c.look_up.ensures.call.caches (rw c.input_for.ensures.addrs at c.look_up.ensures.steps)

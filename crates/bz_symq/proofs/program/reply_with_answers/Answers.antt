@@ -3,7 +3,7 @@ use Rattle.bz_symq.specs.Command.{Batch, asking_of, target_of}
 use Rattle.bz_symq.specs.InputText.{greatest_input}
 use Rattle.bz_symq.proofs.InputTextLemmas.{over_at_end}
 use Rattle.bz_symq.proofs.ReadLemmas.{input_reads, never_done, none_read_for}
-use Rattle.bz_symq.proofs.ReplyLemmas.{given_always, no_make, reply_from_input, reply_from_long}
+use Rattle.bz_symq.proofs.ReplyLemmas.{given_always, no_make, reply_from_input, reply_from_long, takes_same}
 use Rattle.bz_symq.proofs.RunLemmas.{err_from_bad}
 use Rattle.bz_symq.proofs.program.reply_with_answers.Goals as goal
 
@@ -24,6 +24,7 @@ returns-in-Ok-clause-turns g c =
       unasked = λ product make. absurd (no_make (Batch asking) asking refl product make);
       unlooked = λ text left bad. c.reply_to_input.ensures.unlooked
           (err_from_bad (Batch asking) asking c.in-Ok.text.items refl short (rw (c.in-Ok.ensures.whole text left) bad));
+      untaken = λ other is untaken. c.reply_to_input.ensures.untaken (takes_same asking other is untaken);
       read = given_always c.reply_to_input.result (λ other given. over_at_end _ _ c.in-Ok.text.items short c.in-Ok.ensures.whole c.in-Ok.ensures.end);
       bounded = c.in-Ok.ensures.bounded;
       order = inr (λ other given. over_at_end _ _ c.in-Ok.text.items short c.in-Ok.ensures.whole c.in-Ok.ensures.end);
@@ -31,7 +32,7 @@ returns-in-Ok-clause-turns g c =
 
 -- and no more files were read than its answers read
 pub returns-in-Ok-clause-opens : goal.returns-in-Ok-clause-opens
-returns-in-Ok-clause-opens g c = input_reads g.F.Files _ _ _ (target_of c.args.batch.now.target) _ c.in-Ok.text.items c.in-Ok.ensures.whole c.reply_to_input.ensures.opens
+returns-in-Ok-clause-opens g c = input_reads g.F.Files _ _ _ c.args.batch.now.config (target_of c.args.batch.now.target) _ c.in-Ok.text.items c.in-Ok.ensures.whole c.reply_to_input.ensures.opens
 
 -- the input is too long
 pub returns-in-Err-TooLong-clause-reply : goal.returns-in-Err-TooLong-clause-reply
@@ -41,4 +42,4 @@ returns-in-Err-TooLong-clause-reply g c =
     reply_from_long (Batch asking) asking refl _ _ _ _ (λ text left. long text left refl) c.stored_reply.ensures
 
 pub returns-in-Err-TooLong-clause-opens : goal.returns-in-Err-TooLong-clause-opens
-returns-in-Err-TooLong-clause-opens g c = none_read_for g.F.Files _ _ _ (target_of c.args.batch.now.target) _ (never_done c.stored_reply.result c.stored_reply.ensures) refl
+returns-in-Err-TooLong-clause-opens g c = none_read_for g.F.Files _ _ _ c.args.batch.now.config (target_of c.args.batch.now.target) _ (never_done c.stored_reply.result c.stored_reply.ensures) refl

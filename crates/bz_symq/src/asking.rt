@@ -1,0 +1,33 @@
+//! How the symbolizer of a run is made, and how it is asked.
+
+ghost use Rattle.std.specs.Prelude.{◌≡◌};
+ghost use Rattle.bz_base.specs.InputKind.{address_kind, payload};
+ghost use Rattle.bz_symq.specs.Kept.{kept_of, new_kept, settings_of};
+
+use bz_base::Input;
+use bz_requests::Config;
+use bz_symbolize::Symbolizer;
+use std::alloc::Global;
+
+/// A symbolizer that keeps nothing yet.
+pub fn new_symbolizer(alloc: Global, config: Config) -> Symbolizer
+    ensures { kept_of result ≡ new_kept (settings_of config) }
+{
+    Symbolizer::builder()
+        .enable_auto_reload(config.reload)
+        .enable_code_info(config.code_info)
+        .enable_inlined_fns(config.inlined)
+        .build(alloc)
+}
+
+/// Addresses, or one, of a kind.
+pub fn input_for<T>(kind: Input<()>, addrs: T) -> Input<T>
+    ensures kind { address_kind result ≡ address_kind kind }
+    ensures addrs { payload result ≡ addrs }
+{
+    match kind {
+        Input::FileOffset(()) => Input::FileOffset(addrs),
+        Input::VirtOffset(()) => Input::VirtOffset(addrs),
+        Input::AbsAddr(()) => Input::AbsAddr(addrs),
+    }
+}
