@@ -1,5 +1,5 @@
 -- What a call of the symbolizer does, from what it promises.
-use Rattle.std.proofs.Common.{Global, String, string_bytes, ◌≡◌, ◌⊎◌, ℕ, zero, suc, ◌+◌, ◌≤◌, Bool, true, false, List, map, Option, Some, Result, Ok, Err, OnOk, OnErr, refl, sym, ap, ap₂, subst, ◌∙◌, inl, inr, arith}
+use Rattle.std.proofs.Common.{Global, String, string_bytes, ◌≡◌, ◌⊎◌, ℕ, zero, suc, ◌+◌, ◌≤◌, Bool, true, false, List, map, Some, Result, Ok, Err, OnOk, OnErr, refl, sym, ap, ap₂, subst, ◌∙◌, inl, inr, arith}
 use Rattle.bz_base.specs.Answer.{Answer}
 use Rattle.bz_base.specs.InputKind.{InFile, InProcess, InTable}
 use Rattle.bz_base.specs.declared.error.Error.{Error}
@@ -10,7 +10,7 @@ use Rattle.bz_base.specs.declared.resolve.TranslateFileOffset.{Ghosts as Transla
 use Rattle.bz_base.specs.Pid.{number_of}
 use Rattle.bz_base.proofs.PidLemmas.{pids_same}
 use Rattle.bz_files.specs.Count.{counted}
-use Rattle.bz_files.specs.Looked.{Faulted, ReadsOne}
+use Rattle.bz_files.specs.Looked.{ReadsOne}
 use Rattle.bz_files.specs.World.{World, in_view}
 use Rattle.bz_files.specs.declared.files.Files as files_trait
 use Rattle.bz_cache.specs.Format.{Comes}
@@ -34,7 +34,7 @@ use Rattle.bz_symbolize.specs.Requests.{ToCache, ToEvict, CacheElf as KeepElf, C
 use Rattle.bz_symbolize.specs.Sources.{FileSource, OneFile, OneProcess, OnFileForm, OnProcessForm, SourceForm, UnlessProcessForm, form_of}
 use Rattle.bz_symbolize.specs.State.{State, WholeState, opts_of}
 use Rattle.bz_symbolize.specs.declared.source.Source.{Source}
-use Rattle.bz_serve.specs.Kept.{Kept, caches_in, kept_of, with_caches}
+use Rattle.bz_symq.specs.Kept.{Kept, caches_in, kept_of, with_caches}
 use Rattle.bz_serve.specs.Serving.{Does}
 use Rattle.bz_requests.specs.Requests.{Target, Breakpad, Elf, Gsym, Process as OfProcess, target_of, usual_kind}
 use Rattle.bz_requests.specs.declared.requests.Target as made

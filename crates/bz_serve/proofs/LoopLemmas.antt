@@ -1,5 +1,5 @@
 -- Requests one after the other: what was written so far, and what is left.
-use Rattle.std.proofs.Common.{◌≡◌, ◌⊎◌, ◌≤◌, ◌+◌, ℕ, List, [], ◌∷◌, ◌++◌, drop, Option, Some, option_map, Result, Ok, Err, OnErr, OnOk, refl, sym, ap, subst, ◌∙◌, inl, inr, append_assoc, append-nil, arith}
+use Rattle.std.proofs.Common.{◌≡◌, ◌≤◌, ◌+◌, ℕ, List, [], ◌∷◌, ◌++◌, drop, Option, Some, option_map, Result, Ok, Err, refl, sym, ap, subst, ◌∙◌, inl, inr, append_assoc, append-nil, arith}
 use Rattle.bz_files.specs.Count.{CountsFaults}
 use Rattle.bz_files.specs.World.{World, Told, in_view, next_worlds}
 use Rattle.bz_files.specs.declared.files.Files as files_trait
@@ -9,8 +9,8 @@ use Rattle.bz_requests.specs.declared.requests.Config.{Config}
 use Rattle.bz_symq.specs.Run.{WritesFront}
 use Rattle.bz_symq.specs.declared.status.Status.{Status}
 use Rattle.bz_serve.proofs.FaultLemmas.{counts_as, counts_still, no_fault}
-use Rattle.bz_serve.specs.Kept.{Kept, new_kept}
-use Rattle.bz_serve.specs.Runs.{reads_from, seen_first, settings_of, texts_from, turns}
+use Rattle.bz_symq.specs.Kept.{Kept, new_kept, settings_of}
+use Rattle.bz_serve.specs.Runs.{reads_from, seen_first, texts_from, turns}
 use Rattle.bz_serve.specs.Serving.{EndsAs, Served, Serves, ServesAll, ToldWorlds}
 use Rattle.bz_serve.specs.Steps.{Step, step as request_step}
 use Rattle.bz_serve.specs.declared.serving.Stop.{Stop}

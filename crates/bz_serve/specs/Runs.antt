@@ -2,10 +2,9 @@
 use Rattle.std.specs.Prelude.{ℕ, ◌+◌, List, [], ◌∷◌, ◌++◌}
 use Rattle.std.specs.FinMap as finite_map
 use Rattle.bz_files.specs.World.{World, next_worlds}
-use Rattle.bz_symbolize.specs.State.{Settings, default_settings}
 use Rattle.bz_requests.specs.Requests.{Request}
 use Rattle.bz_requests.specs.declared.requests.Config.{Config}
-use Rattle.bz_serve.specs.Kept.{Kept, new_kept}
+use Rattle.bz_symq.specs.Kept.{Kept, new_kept, settings_of}
 use Rattle.bz_serve.specs.Steps.{Step, step}
 
 -- the world in view of a list, which has one
@@ -28,10 +27,6 @@ module _ {A : Type 0} (step : A → Kept → World → Step) where
   abbrev pub reads_from : Kept → List (World × A) → ℕ
   reads_from kept [] = 0
   reads_from kept (turn ∷ later) = (step turn.1 kept turn.0).reads + reads_from (step turn.1 kept turn.0).state later
-
--- the settings of the symbolizer that is asked
-abbrev pub settings_of : Config → Settings
-settings_of config = record default_settings { reload = config.reload; code_info = config.code_info; inlined = config.inlined }
 
 -- all that a run of requests writes over a list of worlds, where the own process has this id: the symbolizer keeps nothing yet
 abbrev pub run_text : Config → List Request → List World → ℕ → List ℕ

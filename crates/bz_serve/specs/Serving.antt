@@ -19,7 +19,7 @@ use Rattle.bz_symq.specs.Run.{Ends, IsOrFails, WritesFront}
 use Rattle.bz_symq.specs.declared.reply.Said.{Said}
 use Rattle.bz_symq.specs.declared.status.Status.{Status}
 use Rattle.bz_symq.specs.declared.status.Status.TheVariants as statuses
-use Rattle.bz_serve.specs.Kept.{Kept}
+use Rattle.bz_symq.specs.Kept.{Kept}
 use Rattle.bz_serve.specs.Runs.{reads_from, run_reads, run_text, texts_from, turns}
 use Rattle.bz_serve.specs.Steps.{Doing, Step}
 use Rattle.bz_serve.specs.declared.serving.Stop.{Stop}

@@ -21,12 +21,12 @@ use Rattle.bz_symbolize.specs.Evicting.{evicting}
 use Rattle.bz_symbolize.specs.FileCall.{Query, batch_of, single_of}
 use Rattle.bz_symbolize.specs.Lookup.{answer_of, opens_of, state_of}
 use Rattle.bz_symbolize.specs.Requests.{ToCache, ToEvict, CacheElf as KeepElf, CacheProcess as KeepProcess, EvictElf as ForgetElf, EvictProcess as ForgetProcess}
-use Rattle.bz_symbolize.specs.Sources.{FileSource, SourceForm, Handed, OneFile, OneProcess, breakpad_answering, elf_answering, gsym_answering}
+use Rattle.bz_symbolize.specs.Sources.{FileSource, SourceForm, OneFile, OneProcess, breakpad_answering, elf_answering, gsym_answering}
 use Rattle.bz_symbolize.specs.State.{opts_of}
 use Rattle.bz_requests.specs.Requests.{Request, Batch, CacheElf, CacheProcess, EvictElf, EvictProcess, Single, Target, Breakpad, Elf, Gsym, Process, usual_kind}
 use Rattle.bz_symq.specs.AnswerText.{answer_text, answer_texts}
 use Rattle.bz_symq.specs.Outcome.{refused}
-use Rattle.bz_serve.specs.Kept.{Kept, caches_in, with_caches}
+use Rattle.bz_symq.specs.Kept.{Kept, caches_in, with_caches}
 
 -- the files of each format at a path
 abbrev pub breakpad_file : List ℕ → FileSource

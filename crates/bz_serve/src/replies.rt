@@ -4,13 +4,13 @@ ghost use Rattle.std.specs.Prelude.{◌≡◌};
 ghost use Rattle.bz_base.specs.InputKind.{InProcess, address_kind, payload};
 ghost use Rattle.bz_process.specs.declared.query.ProcessQuery.{ProcessQuery};
 ghost use Rattle.bz_requests.specs.Requests.{request_of, target_of, usual_kind};
-ghost use Rattle.bz_serve.specs.Kept.{kept_of};
 ghost use Rattle.bz_serve.specs.Serving.{Replied};
 ghost use Rattle.bz_serve.specs.Steps.{asking, asking_batch, asking_single, done_by, forgetting, keeping, okay, step, target_form};
 ghost use Rattle.bz_symbolize.specs.FileCall.{batch_of};
 ghost use Rattle.bz_symbolize.specs.Requests.{ToCache, ToEvict, cache_read, evict_read};
 ghost use Rattle.bz_symbolize.specs.Sources.{FileSource, OneFile, OneProcess, form_of};
 ghost use Rattle.bz_symq.specs.AnswerText.{answer_text, answer_texts};
+ghost use Rattle.bz_symq.specs.Kept.{kept_of};
 
 use crate::saying::{said_answer, said_answers, said_okay, said_refusal};
 use crate::sources::{

@@ -2,17 +2,16 @@
 
 ghost use Rattle.std.specs.Prelude.{◌≡◌, ◌<◌, map};
 ghost use Rattle.bz_requests.specs.Requests.{request_of};
-ghost use Rattle.bz_serve.specs.Kept.{kept_of};
 ghost use Rattle.bz_serve.specs.Serving.{EndsAs, Served, Serves, ServesAll, StopsAs, stop_by};
 ghost use Rattle.bz_serve.specs.Steps.{step};
+ghost use Rattle.bz_symq.specs.Kept.{kept_of};
 
 use crate::replies::reply_to_request;
-use crate::sources::new_symbolizer;
 use bz_base::{Error, Steps};
 use bz_files::{Files, IoFault, TextOut};
 use bz_requests::{Config, Request};
 use bz_symbolize::Symbolizer;
-use bz_symq::{Status, write_said};
+use bz_symq::{Status, new_symbolizer, write_said};
 use std::alloc::Global;
 use std::marker::Brand;
 use std::sync::ledger::{Blank, Ledger};

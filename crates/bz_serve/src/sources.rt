@@ -4,30 +4,18 @@ ghost use Rattle.std.specs.Prelude.{◌≡◌, IfOk, IsOkUnless};
 ghost use Rattle.bz_base.specs.InputKind.{address_kind, payload};
 ghost use Rattle.bz_base.specs.declared.error.Error.{Error};
 ghost use Rattle.bz_requests.specs.Requests.{target_of, usual_kind};
-ghost use Rattle.bz_serve.specs.Kept.{kept_of, new_kept};
-ghost use Rattle.bz_serve.specs.Runs.{settings_of};
 ghost use Rattle.bz_serve.specs.Steps.{pid_by, process_by, target_form};
 ghost use Rattle.bz_symbolize.specs.Requests.{CacheElf, EvictElf, EvictProcess, cache_read, evict_read};
 ghost use Rattle.bz_symbolize.specs.Sources.{form_of};
 
 use bz_base::{Error, Input, Result};
-use bz_requests::{Config, Target};
+use bz_requests::Target;
+use bz_symbolize::Pid;
 use bz_symbolize::cache::{self, Cache};
 use bz_symbolize::evict::{self, Evict};
 use bz_symbolize::source::{Breakpad, Elf, GsymFile, Process, Source};
-use bz_symbolize::{Pid, Symbolizer};
+use bz_symq::input_for;
 use std::alloc::Global;
-
-/// A symbolizer that keeps nothing yet.
-pub(crate) fn new_symbolizer(alloc: Global, config: Config) -> Symbolizer
-    ensures { kept_of result ≡ new_kept (settings_of config) }
-{
-    Symbolizer::builder()
-        .enable_auto_reload(config.reload)
-        .enable_code_info(config.code_info)
-        .enable_inlined_fns(config.inlined)
-        .build(alloc)
-}
 
 /// The source that the target is. Mapped files of a process are looked at by the paths that stand for
 /// their mappings, or by their own.
@@ -68,11 +56,7 @@ pub(crate) fn input_of<T>(target: &Target, addrs: T) -> Input<T>
     ensures kind { address_kind result ≡ usual_kind (target_of target.now) }
     ensures addrs { payload result ≡ addrs }
 {
-    match target.usual_kind() {
-        Input::FileOffset(()) => Input::FileOffset(addrs),
-        Input::VirtOffset(()) => Input::VirtOffset(addrs),
-        Input::AbsAddr(()) => Input::AbsAddr(addrs),
-    }
+    input_for(target.usual_kind(), addrs)
 }
 
 /// The ELF file at a path, as what is to be kept.

@@ -19,8 +19,8 @@ use crate::status::Status;
 use bz_base::{Input, Result, Steps, Symbolized};
 use bz_files::Files;
 use bz_requests::Config;
-use bz_symbolize::source::{Process, Source};
 use bz_symbolize::Pid;
+use bz_symbolize::source::{Process, Source};
 use std::alloc::Global;
 use std::sync::ledger::Ledger;
 

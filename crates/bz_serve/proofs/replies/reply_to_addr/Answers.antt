@@ -1,8 +1,5 @@
-use Rattle.std.proofs.Common.{◌≡◌, ap₂}
 use Rattle.bz_base.specs.Answer.{reading}
-use Rattle.bz_base.specs.InputKind.{address_kind, payload}
 use Rattle.bz_requests.specs.Requests.{target_of}
-use Rattle.bz_symbolize.specs.FileCall.{single_of}
 use Rattle.bz_symq.specs.AnswerText.{answer_text}
 use Rattle.bz_serve.proofs.DoesLemmas.{does_target}
 use Rattle.bz_serve.proofs.ReplyLemmas.{replied_given, replied_refused}

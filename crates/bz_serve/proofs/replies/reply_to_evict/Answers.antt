@@ -1,6 +1,5 @@
-use Rattle.std.proofs.Common.{◌≡◌, ◌∙◌, ap, refl}
-use Rattle.bz_symbolize.specs.Evicting.{evicting}
-use Rattle.bz_serve.specs.Kept.{kept_of}
+use Rattle.std.proofs.Common.{◌∙◌, ap, refl}
+use Rattle.bz_symq.specs.Kept.{kept_of}
 use Rattle.bz_serve.proofs.DoesLemmas.{forgets_kept}
 use Rattle.bz_serve.proofs.ReplyLemmas.{replied_forgotten}
 use Rattle.bz_serve.proofs.replies.reply_to_evict.Goals as goal

@@ -2,7 +2,7 @@ use Rattle.std.proofs.Common.{◌∙◌, ap, string_bytes, subst, sym}
 use Rattle.bz_requests.specs.Requests.{request_of}
 use Rattle.bz_requests.specs.declared.requests.Request as made
 use Rattle.bz_symbolize.specs.Requests.{CacheElf as KeepElf}
-use Rattle.bz_serve.specs.Kept.{kept_of}
+use Rattle.bz_symq.specs.Kept.{kept_of}
 use Rattle.bz_serve.specs.Serving.{Replied}
 use Rattle.bz_serve.specs.Steps.{process_by, step}
 use Rattle.bz_serve.proofs.replies.reply_to_request.Goals as goal

@@ -1,4 +1,4 @@
-use Rattle.std.proofs.Common.{◌≡◌, ◌≤◌, ◌++◌, ◌∙◌, min, length, string_bytes, sym, ap, append-nil, arith, rules}
+use Rattle.std.proofs.Common.{◌≤◌, ◌++◌, ◌∙◌, min, length, string_bytes, sym, ap, append-nil, arith, rules}
 use Rattle.bz_serve.proofs.TextLemmas.{texts_end}
 use Rattle.bz_serve.proofs.saying.texts.Goals as goal
 

@@ -1,8 +1,8 @@
-use Rattle.std.proofs.Common.{◌≡◌, ◌∷◌, [], ◌+◌, drop, map, ap, sym, subst, ◌∙◌, List}
+use Rattle.std.proofs.Common.{◌≡◌, ◌∷◌, ◌+◌, drop, map, ap, sym, subst, ◌∙◌, List}
 use Rattle.std.proofs.lemmas.List.{drop_all, drop_more}
 use Rattle.bz_requests.specs.Requests.{request_of}
 use Rattle.bz_requests.specs.declared.requests.Request as made
-use Rattle.bz_serve.specs.Kept.{kept_of}
+use Rattle.bz_symq.specs.Kept.{kept_of}
 use Rattle.bz_serve.specs.Steps.{step}
 use Rattle.bz_serve.proofs.LoopLemmas.{ServedSoFar, served_all, served_more, served_none, served_stopped}
 use Rattle.bz_serve.proofs.serving.serve_all.Goals as goal

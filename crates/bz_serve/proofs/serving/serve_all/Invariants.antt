@@ -1,6 +1,6 @@
 use Rattle.std.proofs.Common.{drop, map}
 use Rattle.bz_requests.specs.Requests.{request_of}
-use Rattle.bz_serve.specs.Kept.{kept_of}
+use Rattle.bz_symq.specs.Kept.{kept_of}
 use Rattle.bz_serve.specs.Steps.{step}
 use Rattle.bz_serve.proofs.LoopLemmas.{ServedSoFar}
 use Rattle.bz_serve.proofs.serving.serve_all.Given as goal
