@@ -1,14 +1,13 @@
--- The input, piece by piece.
-use Rattle.std.proofs.Common.{◌≡◌, ℕ, ◌+◌, ◌≤◌, List, [], ◌∷◌, ◌++◌, length, drop, Option, Some, Result, Ok, Err, refl, sym, ap, ◌∙◌, arith}
+-- The input, piece by piece, and its addresses.
+use Rattle.std.proofs.Common.{◌≡◌, ℕ, ◌+◌, ◌≤◌, List, [], ◌∷◌, ◌++◌, length, drop, Option, Some, Ok, Err, refl, sym, ap, ◌∙◌, arith}
 use Rattle.std.proofs.lemmas.List.{length-drop, nil_from_length}
 use Rattle.std.proofs.Math.Seq.{drop-append_seam, drop-append-add}
 use Rattle.bz_files.specs.World.{Told}
-use Rattle.bz_symq.specs.InputText.{Moves, MovesAtMost, greatest_input, room_after, left_over, in_front}
-
--- an empty front changes nothing
-pub front_none : (read : Result (List ℕ) ℕ) → in_front [] read ≡ read
-front_none (Ok addrs) = refl
-front_none (Err n) = refl
+use Rattle.bz_lines.specs.Addresses.{AreAddresses, IsAddress, address_in, addresses_in}
+use Rattle.bz_lines.proofs.AddressLemmas.{address_agrees}
+use Rattle.bz_lines.proofs.LineGrammarLemmas as lines
+use Rattle.bz_lines.proofs.LineGrammarLemmas.{items_found, items_again}
+use Rattle.bz_symq.specs.InputText.{Moves, MovesAtMost, greatest_input, room_after, left_over, IsFirstBad}
 
 -- what lies past a front is what follows it
 drop_front : (front rest text : List ℕ) (n : ℕ) → text ≡ front ++ rest → length front ≡ n → rest ≡ drop n text
@@ -54,3 +53,16 @@ left_at_end text short = sym (nil_from_length (left_over text) (omega (arith, le
 pub over_at_end : (before after : Option (List ℕ)) (bytes : List ℕ) → length bytes ≤ greatest_input → Told before (λ text. bytes ≡ text) →
     Told before (λ text. after ≡ Some []) → Told before (λ text. after ≡ Some (left_over text))
 over_at_end before after bytes short whole end = λ text told. end text told ∙ ap Some (left_at_end text (rw (whole text told) at short))
+
+-- the addresses that are read are those that the lines say, and the line that is named is the first bad one
+pub addresses_found : (text addrs : List ℕ) → addresses_in text ≡ Ok addrs → AreAddresses text addrs
+addresses_found text addrs read = items_found address_in IsAddress address_agrees text addrs read
+
+pub addresses_again : (text addrs : List ℕ) → AreAddresses text addrs → addresses_in text ≡ Ok addrs
+addresses_again text addrs are = items_again address_in IsAddress address_agrees text addrs are
+
+pub first_bad_found : (text : List ℕ) (n : ℕ) → addresses_in text ≡ Err n → IsFirstBad text n
+first_bad_found text n read = lines.first_bad_found address_in IsAddress address_agrees text n read
+
+pub first_bad_again : (text : List ℕ) (n : ℕ) → IsFirstBad text n → addresses_in text ≡ Err n
+first_bad_again text n bad = lines.first_bad_again address_in IsAddress address_agrees text n bad

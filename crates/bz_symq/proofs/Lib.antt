@@ -1,7 +1,6 @@
 mod AnswerTextLemmas
 mod EndLemmas
 mod FaultLemmas
-mod InputGrammarLemmas
 mod InputTextLemmas
 mod OpenLemmas
 mod OutputLemmas

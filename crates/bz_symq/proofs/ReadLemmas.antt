@@ -4,9 +4,9 @@ use Rattle.bz_files.specs.Count.{counted}
 use Rattle.bz_files.specs.Looked.{ReadsOne}
 use Rattle.bz_files.specs.World.{Told, in_view}
 use Rattle.bz_files.specs.declared.files.Files as files_trait
+use Rattle.bz_lines.specs.Addresses.{addresses_in}
 use Rattle.bz_requests.specs.declared.requests.Config.{Config}
 use Rattle.bz_symq.specs.Command.{Asking, Command, Batch, Make, Target, OneFile, OneProcess, seen_by}
-use Rattle.bz_symq.specs.InputText.{addresses_in}
 use Rattle.bz_symq.specs.Outcome.{Outcome, too_long}
 use Rattle.bz_symq.specs.Processes.{process_batch}
 use Rattle.bz_symq.specs.Reply.{outcome_of}
@@ -14,7 +14,7 @@ use Rattle.bz_symq.specs.Run.{Asks, UnlessProcess, UnlessTarget}
 use Rattle.bz_symq.specs.Turns.{ReadsFor, ReadsForBatch, ReadsForInput}
 use Rattle.bz_symq.specs.declared.reply.Reply.{Reply}
 use Rattle.bz_symq.specs.declared.status.Status.TheVariants as statuses
-use Rattle.bz_symq.proofs.InputGrammarLemmas.{addresses_again}
+use Rattle.bz_symq.proofs.InputTextLemmas.{addresses_again}
 
 -- a run whose input is too long isn't done
 pub never_done : (reply : Reply) → outcome_of reply ≡ too_long → reply.status ≡ statuses.Done → ⊥

@@ -8,8 +8,9 @@ use Rattle.bz_cache.specs.Format.{Comes}
 use Rattle.bz_files.specs.World.{World, Told}
 use Rattle.bz_files.specs.declared.files.Files as files_trait
 use Rattle.bz_files.specs.declared.text.TextIn as input_trait
+use Rattle.bz_lines.specs.Addresses.{addresses_in}
 use Rattle.bz_symq.specs.Command.{Asking, Command, Batch, Make, Product}
-use Rattle.bz_symq.specs.InputText.{addresses_in, greatest_input}
+use Rattle.bz_symq.specs.InputText.{greatest_input}
 use Rattle.bz_symq.specs.Outcome.{Outcome, by_addresses, by_answer, by_product, run_outcome, too_long}
 use Rattle.bz_symq.specs.Products.{made_in}
 use Rattle.bz_symq.specs.Reply.{outcome_of, text_of, IsInputReply, IsInputStatus, IsProductReply, IsProductStatus, IsRunReply, Replies, RepliesTo, RepliesToCommand}
@@ -19,7 +20,7 @@ use Rattle.bz_symq.specs.Turns.{TakesTurns}
 use Rattle.bz_symq.specs.declared.reply.Reply.{Reply}
 use Rattle.bz_symq.specs.declared.status.Status.{Status}
 use Rattle.bz_symq.specs.declared.status.Status.TheVariants as statuses
-use Rattle.bz_symq.proofs.InputGrammarLemmas.{addresses_found}
+use Rattle.bz_symq.proofs.InputTextLemmas.{addresses_found}
 use Rattle.bz_symq.proofs.RunLemmas.{bad_from_read, err_from_bad}
 
 -- where a call was refused, the reply to the refusal is the reply to the call

@@ -4,15 +4,16 @@ use Rattle.std.proofs.lemmas.Bool.{false≢true, le-ltb, lt-ltb, ltb-false, ltb-
 use Rattle.bz_base.specs.Answer.{Answer}
 use Rattle.bz_base.specs.declared.error.Error.{Error}
 use Rattle.bz_files.specs.World.{World}
+use Rattle.bz_lines.specs.Addresses.{addresses_in}
 use Rattle.bz_symq.specs.Command.{Asking, Command, Batch, Make, Product}
-use Rattle.bz_symq.specs.InputText.{HasBadLine, addresses_in, greatest_input}
+use Rattle.bz_symq.specs.InputText.{HasBadLine, greatest_input}
 use Rattle.bz_symq.specs.Outcome.{Outcome, run_outcome, by_length, by_addresses, by_answer, by_product}
 use Rattle.bz_symq.specs.Products.{made_in}
 use Rattle.bz_symq.specs.Run.{Asks, Ends, IsAnswerable, IsBadInput, IsDone, IsMade, IsMakeable, IsRefusable, IsRefused, IsUnmade, IsUnmakeable}
 use Rattle.bz_symq.specs.Targets.{answer_to}
 use Rattle.bz_symq.specs.declared.status.Status.{Status}
 use Rattle.bz_symq.specs.declared.status.Status.TheVariants as statuses
-use Rattle.bz_symq.proofs.InputGrammarLemmas.{addresses_found, addresses_again, first_bad_found, first_bad_again}
+use Rattle.bz_symq.proofs.InputTextLemmas.{addresses_found, addresses_again, first_bad_found, first_bad_again}
 use Rattle.bz_symq.proofs.ProductLemmas.{made_found, made_given, unmade_found, unmade_given}
 use Rattle.bz_symq.proofs.TargetLemmas.{answers_found, answers_given, cause_found, has_answers, refusal_given}
 

@@ -3,11 +3,11 @@ use Rattle.std.specs.Prelude.{◌≡◌, ◌⊎◌, ℕ, List, length, Option, R
 use Rattle.bz_base.specs.Answer.{Answer}
 use Rattle.bz_base.specs.InputKind.{AddressKind}
 use Rattle.bz_files.specs.World.{Told}
+use Rattle.bz_lines.specs.Addresses.{addresses_in}
 use Rattle.bz_requests.specs.declared.requests.Config.{Config}
 use Rattle.bz_symbolize.specs.Counted.{breakpad_steps, no_steps}
 use Rattle.bz_symq.specs.Command.{Command, Batch, Make, FileTarget, Breakpad, Gsym, Elf, Target, OneFile, OneProcess}
 use Rattle.bz_symq.specs.Targets.{IsBatch, IsVersion}
-use Rattle.bz_symq.specs.InputText.{addresses_in}
 
 -- those of a batch of so many addresses in bytes of the file's source: of a Breakpad file few for its table; none of others
 abbrev pub StepsIn : FileTarget → List ℕ → ℕ → ℕ → ℕ → Type 0

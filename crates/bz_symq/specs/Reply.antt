@@ -5,9 +5,9 @@ use Rattle.bz_base.specs.Answer.{Answer, reading}
 use Rattle.bz_base.specs.declared.error.Error.{Error}
 use Rattle.bz_base.specs.declared.error.Error.TheVariants as errors
 use Rattle.bz_files.specs.World.{World, Told}
+use Rattle.bz_lines.specs.Addresses.{addresses_in}
 use Rattle.bz_symq.specs.AnswerText.{answer_texts}
 use Rattle.bz_symq.specs.Command.{Asking, Command, Product}
-use Rattle.bz_symq.specs.InputText.{addresses_in}
 use Rattle.bz_symq.specs.Outcome.{Outcome, refused, run_outcome}
 use Rattle.bz_symq.specs.Products.{MadeOfSome}
 use Rattle.bz_symq.specs.Run.{IsBadInput, IsNoFailure, IsSomeDone, IsSomeMade}

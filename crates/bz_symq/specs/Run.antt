@@ -8,9 +8,10 @@ use Rattle.bz_files.specs.World.{World, Told, in_view}
 use Rattle.bz_files.specs.declared.files.Files as files_trait
 use Rattle.bz_files.specs.declared.text.TextIn as input_trait
 use Rattle.bz_files.specs.declared.text.TextOut as output_trait
+use Rattle.bz_lines.specs.Addresses.{AreAddresses}
 use Rattle.bz_symq.specs.AnswerText.{answer_texts}
 use Rattle.bz_symq.specs.Command.{Asking, Batch, Command, Make, OneFile, OneProcess, Product, Target, seen_by}
-use Rattle.bz_symq.specs.InputText.{AreAddresses, HasBadLine, greatest_input, left_over, MovesAtMost}
+use Rattle.bz_symq.specs.InputText.{HasBadLine, greatest_input, left_over, MovesAtMost}
 use Rattle.bz_symq.specs.Outcome.{Outcome, refused, refused_as, run_outcome}
 use Rattle.bz_symq.specs.Processes.{process_batch}
 use Rattle.bz_symq.specs.Products.{MadeIn, MadeOfSome, UnmadeIn}

@@ -3,12 +3,12 @@
 ghost use Rattle.std.specs.Prelude.{◌≡◌, ◌+◌, ◌<◌, ◌≤◌, ◌++◌, [], ℕ, List, Option, Some, None, Ok, Err, length, drop, vec_len, IfOk, IsErrOf};
 ghost use Rattle.bz_files.specs.Count.{CountsFaults};
 ghost use Rattle.bz_files.specs.World.{Told};
-ghost use Rattle.bz_symq.specs.InputText.{address_in, addresses_in, content_of, greatest_input, left_over, room_after, Moves, MovesAtMost};
-ghost use Rattle.bz_symq.specs.declared.input.BadInput.TheVariants.{OutOfMemory};
+ghost use Rattle.bz_lines.specs.Addresses.{addresses_in};
+ghost use Rattle.bz_symq.specs.InputText.{greatest_input, left_over, room_after, Moves, MovesAtMost};
 
-use bz_base::{first_line, whole_hex};
 use bz_files::{IoFault, TextIn};
-use std::alloc::{AllocFailed, Global};
+use bz_lines::{BadInput, read_lines};
+use std::alloc::Global;
 
 /// The greatest length of an input, in bytes.
 const GREATEST_INPUT: usize = 16_777_216;
@@ -25,23 +25,6 @@ pub enum ReadStop {
     Fault,
     /// Memory ran out.
     Memory,
-}
-
-/// Why the input gives no addresses.
-#[derive(Clone, Copy, Debug, PartialEq, Eq)]
-pub enum BadInput {
-    /// The number of the first line that isn't well formed. All lines count, from 1.
-    Line(u64),
-    /// Memory ran out.
-    OutOfMemory,
-}
-
-impl<T: Drop> From<AllocFailed<T>> for BadInput {
-    ghost from_gives = { λ _ e. e ≡ OutOfMemory };
-
-    fn from(_failed: AllocFailed<T>) -> BadInput {
-        BadInput::OutOfMemory
-    }
 }
 
 /// The whole input. Of one that is too long, one byte past the greatest length is read.
@@ -91,42 +74,5 @@ pub fn read_addrs(alloc: Global, text: &[u8]) -> std::result::Result<Vec<u64>, B
     ensures ok { IfOk result (λ addrs. addresses_in text.now ≡ Ok addrs.items) }
     ensures line { (n : ℕ) → IsErrOf result (BadInput.Line n) → addresses_in text.now ≡ Err n }
 {
-    let mut all = Vec::new(alloc);
-    let mut rest = text;
-    let mut number = 0;
-    while let Some((line, after)) = first_line(rest) {
-        number += 1;
-        let content = content(line);
-        if !content.is_empty() {
-            let Some(addr) = address(content) else {
-                return Err(BadInput::Line(number));
-            };
-            all.push(addr)?;
-        }
-        rest = after;
-    }
-    Ok(all)
-}
-
-// The line without the one carriage return that may end it.
-fn content(line: &[u8]) -> &[u8]
-    ensures { result.now ≡ content_of line.now }
-{
-    if line.ends_with(b"\r") {
-        &line[..line.len() - 1]
-    } else {
-        line
-    }
-}
-
-// The address that the text spells: `0x` or nothing, then hexadecimal digits.
-fn address(text: &[u8]) -> Option<u64>
-    ensures { result ≡ address_in text.now }
-{
-    let digits = if text.starts_with(b"0x") {
-        &text[2..]
-    } else {
-        text
-    };
-    whole_hex(digits, 16)
+    read_lines::<u64>(alloc, text)
 }

@@ -1,24 +1,16 @@
 //! What holds of this crate's definitions.
 
-ghost use Rattle.std.specs.Prelude.{◌≡◌, ◌≢◌, ◌⊎◌, ◌↔◌, ℕ, List, map, Option, None, Ok, Err};
+ghost use Rattle.std.specs.Prelude.{◌≡◌, ◌≢◌, ◌⊎◌, ◌↔◌, ℕ, List, map, Option, None};
 ghost use Rattle.bz_base.specs.Answer.{Answer, in_batch};
 ghost use Rattle.bz_files.specs.Agreement.{AgreeOn};
 ghost use Rattle.bz_files.specs.World.{World};
 ghost use Rattle.bz_process.specs.InView.{process_in_view};
 ghost use Rattle.bz_symq.specs.Command.{Asking, Command, OneProcess};
-ghost use Rattle.bz_symq.specs.InputText.{AreAddresses, IsFirstBad, addresses_in};
 ghost use Rattle.bz_symq.specs.Outcome.{run_outcome};
 ghost use Rattle.bz_symq.specs.Processes.{asked_by, nothing_kept};
 ghost use Rattle.bz_symq.specs.Run.{Ends, IsAnswerable, IsBadInput, IsDone, IsMade, IsMakeable, IsRefusable, IsRefused, IsUnmade, IsUnmakeable};
 ghost use Rattle.bz_symq.specs.Targets.{AnswersIn};
 ghost use Rattle.bz_symq.specs.declared.status.Status.TheVariants as statuses;
-
-/// The addresses that are read of an input are those that its lines say, and the number that is read
-/// of another one is that of its first line that isn't well formed.
-pub fn input_is_read()
-    ensures addresses { (text addrs : List ℕ) → (addresses_in text ≡ Ok addrs) ↔ AreAddresses text addrs }
-    ensures line { (text : List ℕ) (n : ℕ) → (addresses_in text ≡ Err n) ↔ IsFirstBad text n }
-{}
 
 /// The outcome of a run is each status exactly where the status has its cause; that of words that give
 /// no command is never one.

@@ -5,9 +5,9 @@ ghost use Rattle.bz_base.specs.InputKind.{address_kind};
 ghost use Rattle.bz_files.specs.Looked.{Faulted, Looked};
 ghost use Rattle.bz_files.specs.World.{Told, in_view};
 ghost use Rattle.bz_cache.specs.Format.{Comes};
+ghost use Rattle.bz_lines.specs.Addresses.{addresses_in};
 ghost use Rattle.bz_symq.specs.Command.{asking_of, command_of, file_target_of, of_file, seen_by, target_of, Batch as OneBatch, OneFile};
 ghost use Rattle.bz_symq.specs.Counted.{AnswersInFew, InputTakesFew, RunTakesFew, TakesFew};
-ghost use Rattle.bz_symq.specs.InputText.{addresses_in};
 ghost use Rattle.bz_symq.specs.Outcome.{by_answer, by_addresses};
 ghost use Rattle.bz_symq.specs.Reply.{IsBatchReply, IsDoneReply, IsInputReply, IsInputStatus, Replies, RepliesToCommand};
 ghost use Rattle.bz_symq.specs.Run.{Runs};
@@ -16,7 +16,7 @@ ghost use Rattle.bz_symq.specs.Turns.{FailsAtOne, ReadsFor, ReadsForInput, Reads
 
 use crate::asking::{input_for, new_symbolizer};
 use crate::command::{Batch, Command, FileTarget, Target};
-use crate::input::{self, BadInput, ReadStop};
+use crate::input::{self, ReadStop};
 use crate::output::finish;
 use crate::process::reply_of_process;
 use crate::product::reply_with_product;
@@ -24,6 +24,7 @@ use crate::reply::{Reply, Said, bad_line, refusal, stored_reply};
 use crate::status::Status;
 use bz_base::{Error, Input, Result, Steps};
 use bz_files::{Files, TextIn, TextOut};
+use bz_lines::BadInput;
 use bz_requests::Config;
 use bz_symbolize::Lookups;
 use bz_symbolize::source::{Breakpad, Elf, GsymFile, Source};
