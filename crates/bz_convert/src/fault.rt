@@ -77,7 +77,7 @@ fn fault_of(
 }
 
 /// Whether a function has a size, and its end fits 64 bits.
-pub(crate) fn is_checked(function: &Function<'_>) -> bool
+pub fn is_checked(function: &Function<'_>) -> bool
     ensures { result ≡ is_checked function.now }
 {
     function.size() != 0

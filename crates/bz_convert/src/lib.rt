@@ -9,4 +9,6 @@ pub mod laws;
 mod rows;
 
 pub use error::ConvertError;
-pub use fault::first_fault;
+pub use fault::{first_fault, is_checked};
+pub use ids::{Source, located};
+pub use rows::{Walked, walk_lines};

@@ -1,0 +1,160 @@
+//! The inlined calls of a function, as a plan has them.
+
+ghost use Rattle.std.specs.Prelude.{◌≡◌, ◌++◌, ℕ, List, [], true, flat_map, length, map, option_map, unwrap_or, None, Some, IfOk, IsOkUnless, OnOk};
+ghost use Rattle.std.specs.List.{AllZip, filter};
+ghost use Rattle.bz_base.specs.declared.error.Error.{Error};
+ghost use Rattle.bz_breakpad.specs.Lent.{kept_inlinee};
+ghost use Rattle.bz_breakpad_lines.specs.Names.{name_for};
+ghost use Rattle.bz_breakpad_lines.specs.Reader.{table_in};
+ghost use Rattle.bz_breakpad_lines.specs.Table.{Table};
+ghost use Rattle.bz_convert.specs.Plan.{changes, has_size, is_checked, sized_calls};
+ghost use Rattle.bz_converting.specs.Laid.{AreApart, IsNodeFor, laid_calls, sources_of_call, texts_of_call};
+ghost use Rattle.bz_converting.specs.Numbered.{IsNumbering, listed_sources, listed_texts};
+ghost use Rattle.bz_converting.specs.Sized.{is_repeated, placed_calls, without_repeats};
+ghost use Rattle.bz_gsym_layout.specs.Plan.{Source};
+
+use crate::numbering::Numbering;
+use crate::rows::source_of;
+use bz_base::{Result, Spanned, sort_table};
+use bz_breakpad::{Function, Inlinee, SymbolFile};
+use bz_gsym_layout::Node;
+use std::alloc::Global;
+
+/// An inlined call, which a plan gives by start and depth.
+#[derive(Clone, Copy)]
+pub(crate) struct PlacedCall {
+    pub call: Inlinee,
+}
+
+impl Spanned for PlacedCall {
+    ghost start = { λ p. p.call.addr };
+
+    ghost size = { λ p. p.call.depth };
+
+    fn start(&self) -> u64 {
+        self.call.addr
+    }
+
+    fn size(&self) -> u64 {
+        u64::from(self.call.depth)
+    }
+}
+
+/// The inlined calls that are laid out for a function which has so many rows.
+pub(crate) fn calls_of(alloc: Global, function: &Function<'_>, rows: usize) -> Result<Vec<Inlinee>>
+    requires apart { is_checked function.now ≡ true → AreApart function.now }
+    requires rows { rows ≡ length (changes function.now) }
+    ensures calls { IfOk result (λ calls. map kept_inlinee calls.items ≡ laid_calls function.now) }
+    ensures memory { IsOkUnless result Error.OutOfMemory }
+{
+    if rows == 0 {
+        return Ok(Vec::new(alloc));
+    }
+    sized_calls(alloc, function)
+}
+
+/// The inlined calls of a function that have a size, each once, by start and depth.
+fn sized_calls(alloc: Global, function: &Function<'_>) -> Result<Vec<Inlinee>>
+    requires { AreApart function.now }
+    ensures calls { IfOk result (λ calls. map kept_inlinee calls.items ≡ sized_calls function.now) }
+    ensures memory { IsOkUnless result Error.OutOfMemory }
+{
+    let calls = function.inlinees(alloc)?;
+    let mut placed = placed_calls(alloc, &calls)?;
+    sort_table(&mut placed)?;
+    without_repeats(alloc, &placed)
+}
+
+/// The calls that have a size.
+fn placed_calls(alloc: Global, calls: &[Inlinee]) -> Result<Vec<PlacedCall>>
+    ensures calls { IfOk result (λ placed. placed_calls placed.items ≡ filter has_size (map kept_inlinee calls.now)) }
+    ensures memory { IsOkUnless result Error.OutOfMemory }
+{
+    let mut placed = Vec::new(alloc);
+    for call in calls {
+        if call.size > 0 {
+            placed.push(PlacedCall { call: *call })?;
+        }
+    }
+    Ok(placed)
+}
+
+/// The calls without those that say the same as the one before.
+fn without_repeats(alloc: Global, placed: &[PlacedCall]) -> Result<Vec<Inlinee>>
+    ensures calls { IfOk result (λ calls. map kept_inlinee calls.items ≡ without_repeats None (placed_calls placed.now)) }
+    ensures memory { IsOkUnless result Error.OutOfMemory }
+{
+    let mut calls = Vec::new(alloc);
+    let mut before = None;
+    for place in placed {
+        if !is_repeated(before, &place.call) {
+            calls.push(place.call)?;
+        }
+        before = Some(place.call);
+    }
+    Ok(calls)
+}
+
+/// Whether a call says the same as the one before it.
+fn is_repeated(before: Option<Inlinee>, call: &Inlinee) -> bool
+    ensures { result ≡ is_repeated (option_map kept_inlinee before) (kept_inlinee call.now) }
+{
+    match before {
+        Some(before) => before == *call,
+        None => false,
+    }
+}
+
+/// The node of an inlined call.
+fn node_of<'a>(
+    numbering: &mut Numbering<'a>,
+    file: &'a SymbolFile,
+    call: &Inlinee,
+) -> Result<Node>
+    ensures numbering { OnOk result ((table : Table) (texts : List (List ℕ)) (sources : List Source) → table_in file.now ≡ Some table → IsNumbering texts sources numbering.old →
+        IsNumbering (texts ++ texts_of_call table (kept_inlinee call.now)) (sources ++ sources_of_call table (kept_inlinee call.now)) numbering.new) }
+    ensures node { IfOk result (λ node. (table : Table) (texts : List (List ℕ)) (sources : List Source) → table_in file.now ≡ Some table → IsNumbering texts sources numbering.old →
+        IsNodeFor table (listed_texts numbering.new.texts) (listed_sources numbering.new) (kept_inlinee call.now) node) }
+    ensures memory { IsOkUnless result Error.OutOfMemory }
+{
+    let name = numbering.text(name_of(file, call.origin_id))?;
+    let source = numbering.source(source_of(file, call.call_file))?;
+    Ok(Node {
+        depth: call.depth as usize,
+        start: call.addr,
+        size: u64::from(call.size),
+        name,
+        source,
+        line: call.call_line,
+    })
+}
+
+/// The name of an origin; an empty one if it isn't known.
+fn name_of(file: &SymbolFile, origin: u32) -> &str
+    ensures { (table : Table) → table_in file.now ≡ Some table → result.now ≡ unwrap_or (name_for origin table.origins) [] }
+{
+    match file.origin(origin) {
+        Some(name) => name,
+        None => "",
+    }
+}
+
+/// The nodes of inlined calls.
+pub(crate) fn nodes_of<'a>(
+    alloc: Global,
+    numbering: &mut Numbering<'a>,
+    file: &'a SymbolFile,
+    calls: &[Inlinee],
+) -> Result<Vec<Node>>
+    ensures numbering { OnOk result ((table : Table) (texts : List (List ℕ)) (sources : List Source) → table_in file.now ≡ Some table → IsNumbering texts sources numbering.old →
+        IsNumbering (texts ++ flat_map (texts_of_call table) (map kept_inlinee calls.now)) (sources ++ flat_map (sources_of_call table) (map kept_inlinee calls.now)) numbering.new) }
+    ensures nodes { IfOk result (λ nodes. (table : Table) (texts : List (List ℕ)) (sources : List Source) → table_in file.now ≡ Some table → IsNumbering texts sources numbering.old →
+        AllZip (IsNodeFor table (listed_texts numbering.new.texts) (listed_sources numbering.new)) (map kept_inlinee calls.now) nodes.items) }
+    ensures memory { IsOkUnless result Error.OutOfMemory }
+{
+    let mut nodes = Vec::with_capacity(alloc, calls.len())?;
+    for call in calls {
+        nodes.push(node_of(numbering, file, call)?)?;
+    }
+    Ok(nodes)
+}

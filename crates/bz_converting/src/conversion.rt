@@ -1,0 +1,52 @@
+//! The GSYM file of a Breakpad file.
+
+ghost use Rattle.std.specs.Prelude.{◌≡◌, ◌<◌, ◌^◌, ℕ, None, Some, length, IfErr, IfOk};
+ghost use Rattle.bz_base.specs.declared.types.FindSymOpts.TheVariants as asked;
+ghost use Rattle.bz_breakpad.specs.Plain as breakpad;
+ghost use Rattle.bz_breakpad_lines.specs.Reader.{table_in};
+ghost use Rattle.bz_breakpad_lines.specs.Table.{Table};
+ghost use Rattle.bz_convert.specs.Alike.{AnswersAlike};
+ghost use Rattle.bz_convert.specs.Fault.{fault_in};
+ghost use Rattle.bz_convert.specs.Plan.{plan};
+ghost use Rattle.bz_converting.specs.Refused.{Refuses};
+ghost use Rattle.bz_gsym.specs.Plain as gsym;
+ghost use Rattle.bz_gsym_layout.specs.Layout.{layout};
+
+use crate::plan::plan_of;
+use bz_breakpad::SymbolFile;
+use bz_convert::laws::conversions_answer_alike;
+use bz_convert::{ConvertError, first_fault};
+use bz_gsym_layout::{LayoutError, write};
+use std::alloc::Global;
+
+/// The bytes of the GSYM file of version 1 that answers as a Breakpad file does: where a function
+/// answers there with that function, its line and its inlined calls, and elsewhere with nothing.
+///
+/// # Errors
+///
+/// The first fault of the file; a file without a fault is TooLarge if 32 bits don't count its bytes.
+/// OutOfMemory: memory ran out.
+pub fn convert(alloc: Global, file: &SymbolFile) -> Result<Vec<u8>, ConvertError>
+    ensures ok { IfOk result (λ bytes. (table : Table) → table_in file.now ≡ Some table → bytes.items ≡ layout (plan table)) }
+    ensures clean { IfOk result (λ bytes. (table : Table) → table_in file.now ≡ Some table → fault_in table ≡ None) }
+    ensures small { IfOk result (λ bytes. length bytes.items < 2 ^ 32) }
+    ensures answers { IfOk result (λ bytes. (table : Table) → table_in file.now ≡ Some table → (addr : ℕ) →
+        AnswersAlike (breakpad.function_at addr table.functions) (breakpad.plain table asked.CodeInfoAndInlined addr) (gsym.plain bytes.items asked.CodeInfoAndInlined addr)) }
+    ensures refusal { IfErr result (λ e. (table : Table) → table_in file.now ≡ Some table → Refuses e (fault_in table) (length (layout (plan table)))) }
+{
+    conversions_answer_alike();
+    let Ok(fault) = first_fault(alloc, file) else {
+        return Err(ConvertError::OutOfMemory);
+    };
+    if let Some(fault) = fault {
+        return Err(fault);
+    }
+    let Ok(plan) = plan_of(alloc, file) else {
+        return Err(ConvertError::OutOfMemory);
+    };
+    match write(alloc, &plan) {
+        Ok(bytes) => Ok(bytes),
+        Err(LayoutError::TooLarge { bytes }) => Err(ConvertError::TooLarge { bytes }),
+        Err(LayoutError::OutOfMemory) => Err(ConvertError::OutOfMemory),
+    }
+}

@@ -1,0 +1,46 @@
+//! A function, as a plan has it.
+
+ghost use Rattle.std.specs.Prelude.{◌≡◌, ◌++◌, ℕ, List, true, Some, IfOk, IsOkUnless, OnOk};
+ghost use Rattle.bz_base.specs.declared.error.Error.{Error};
+ghost use Rattle.bz_breakpad_lines.specs.Reader.{table_in};
+ghost use Rattle.bz_breakpad_lines.specs.Table.{Table};
+ghost use Rattle.bz_convert.specs.Plan.{is_checked};
+ghost use Rattle.bz_converting.specs.Laid.{AreApart, IsFunctionFor, sources_used, texts_used};
+ghost use Rattle.bz_converting.specs.Numbered.{IsNumbering, listed_sources, listed_texts};
+ghost use Rattle.bz_gsym_layout.specs.Plan.{Source};
+
+use crate::calls::{calls_of, nodes_of};
+use crate::numbering::Numbering;
+use crate::rows::{lines_of, rows_of};
+use bz_base::Result;
+use bz_breakpad::{Function, SymbolFile};
+use bz_gsym_layout::Function as PlannedFunction;
+use std::alloc::Global;
+
+/// A function of a file with its rows and inlined calls, whose texts and source files are numbered.
+pub(crate) fn function_of<'a>(
+    alloc: Global,
+    numbering: &mut Numbering<'a>,
+    file: &'a SymbolFile,
+    function: &Function<'a>,
+) -> Result<PlannedFunction>
+    requires { is_checked function.now ≡ true → AreApart function.now }
+    ensures numbering { OnOk result ((table : Table) (texts : List (List ℕ)) (sources : List Source) → table_in file.now ≡ Some table → IsNumbering texts sources numbering.old →
+        IsNumbering (texts ++ texts_used table function.now) (sources ++ sources_used table function.now) numbering.new) }
+    ensures function { IfOk result (λ planned. (table : Table) (texts : List (List ℕ)) (sources : List Source) → table_in file.now ≡ Some table → IsNumbering texts sources numbering.old →
+        IsFunctionFor table (listed_texts numbering.new.texts) (listed_sources numbering.new) function.now planned) }
+    ensures memory { IsOkUnless result Error.OutOfMemory }
+{
+    let name = numbering.text(function.name())?;
+    let lines = lines_of(alloc, function)?;
+    let rows = rows_of(alloc, numbering, file, &lines)?;
+    let calls = calls_of(alloc, function, lines.len())?;
+    let calls = nodes_of(alloc, numbering, file, &calls)?;
+    Ok(PlannedFunction {
+        start: function.addr(),
+        size: function.size(),
+        name,
+        rows,
+        calls,
+    })
+}

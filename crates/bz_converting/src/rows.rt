@@ -1,0 +1,82 @@
+//! The rows of a function, as a plan has them.
+
+ghost use Rattle.std.specs.Prelude.{◌≡◌, ◌++◌, ℕ, List, flat_map, map, unwrap_or, Some, IfOk, IsOkUnless, OnOk};
+ghost use Rattle.std.specs.List.{AllZip};
+ghost use Rattle.bz_base.specs.declared.error.Error.{Error};
+ghost use Rattle.bz_breakpad_lines.specs.Reader.{table_in};
+ghost use Rattle.bz_breakpad_lines.specs.Table.{Table};
+ghost use Rattle.bz_convert.specs.Ids.{lent_source};
+ghost use Rattle.bz_convert.specs.Plan.{changes, located};
+ghost use Rattle.bz_convert.specs.Points.{row_seen};
+ghost use Rattle.bz_converting.specs.Laid.{IsRowFor, sources_of_row, texts_of_row};
+ghost use Rattle.bz_converting.specs.Numbered.{IsNumbering, listed_sources};
+ghost use Rattle.bz_gsym_layout.specs.Plan.{Source, no_source};
+
+use crate::numbering::Numbering;
+use bz_base::Result;
+use bz_breakpad::{Function, SourceLine, SymbolFile};
+use bz_convert::{Source, is_checked, located, walk_lines};
+use bz_gsym_layout::Row;
+use std::alloc::Global;
+
+/// The source file of an id; an empty one if it isn't known.
+pub(crate) fn source_of(file: &SymbolFile, id: u32) -> Source<'_>
+    ensures { (table : Table) → table_in file.now ≡ Some table → lent_source result ≡ unwrap_or (located table id) no_source }
+{
+    match located(file, id) {
+        Some(source) => source,
+        None => (None, ""),
+    }
+}
+
+/// The addresses of a function at which another line record answers than before, with those records.
+pub(crate) fn lines_of(alloc: Global, function: &Function<'_>) -> Result<Vec<(u64, SourceLine)>>
+    ensures lines { IfOk result (λ lines. map row_seen lines.items ≡ changes function.now) }
+    ensures memory { IsOkUnless result Error.OutOfMemory }
+{
+    if !is_checked(function) {
+        return Ok(Vec::new(alloc));
+    }
+    let walked = walk_lines(alloc, function)?;
+    Ok(walked.rows)
+}
+
+/// The row of a line record that answers from an address on.
+fn row_of<'a>(
+    numbering: &mut Numbering<'a>,
+    file: &'a SymbolFile,
+    line: &(u64, SourceLine),
+) -> Result<Row>
+    ensures numbering { OnOk result ((table : Table) (texts : List (List ℕ)) (sources : List Source) → table_in file.now ≡ Some table → IsNumbering texts sources numbering.old →
+        IsNumbering (texts ++ texts_of_row table (row_seen line.now)) (sources ++ sources_of_row table (row_seen line.now)) numbering.new) }
+    ensures row { IfOk result (λ row. (table : Table) (texts : List (List ℕ)) (sources : List Source) → table_in file.now ≡ Some table → IsNumbering texts sources numbering.old →
+        IsRowFor table (listed_sources numbering.new) (row_seen line.now) row) }
+    ensures memory { IsOkUnless result Error.OutOfMemory }
+{
+    let source = numbering.source(source_of(file, line.1.file))?;
+    Ok(Row {
+        addr: line.0,
+        source,
+        line: line.1.line,
+    })
+}
+
+/// The rows of line records, each of which answers from an address on.
+pub(crate) fn rows_of<'a>(
+    alloc: Global,
+    numbering: &mut Numbering<'a>,
+    file: &'a SymbolFile,
+    lines: &[(u64, SourceLine)],
+) -> Result<Vec<Row>>
+    ensures numbering { OnOk result ((table : Table) (texts : List (List ℕ)) (sources : List Source) → table_in file.now ≡ Some table → IsNumbering texts sources numbering.old →
+        IsNumbering (texts ++ flat_map (texts_of_row table) (map row_seen lines.now)) (sources ++ flat_map (sources_of_row table) (map row_seen lines.now)) numbering.new) }
+    ensures rows { IfOk result (λ rows. (table : Table) (texts : List (List ℕ)) (sources : List Source) → table_in file.now ≡ Some table → IsNumbering texts sources numbering.old →
+        AllZip (IsRowFor table (listed_sources numbering.new)) (map row_seen lines.now) rows.items) }
+    ensures memory { IsOkUnless result Error.OutOfMemory }
+{
+    let mut rows = Vec::with_capacity(alloc, lines.len())?;
+    for line in lines {
+        rows.push(row_of(numbering, file, line)?)?;
+    }
+    Ok(rows)
+}
