@@ -1,1 +1,4 @@
-
+pub mod ListedLemmas
+pub mod NumberingLemmas
+pub mod SizedLemmas
+pub mod SoFarLemmas

@@ -47,8 +47,8 @@ abbrev pub listed_sources : Numbering → List Source
 listed_sources n = map (source_of (listed_texts n.texts)) n.sources.listed.items
 
 -- texts and source files were used in this order
-pub record IsNumbering (texts : List (List ℕ)) (sources : List Source) (n : Numbering) : Type 0 where
-  pub texts : AreTexts texts n.texts
-  pub sources : listed_sources n ≡ firsts same_source sources
+pub record IsNumbering (used : List (List ℕ)) (used_sources : List Source) (n : Numbering) : Type 0 where
+  pub texts : AreTexts used n.texts
+  pub sources : listed_sources n ≡ firsts same_source used_sources
   pub files : AreFiles n.sources
   pub within : indexed.AreFiles (length (listed_texts n.texts)) n.sources.listed.items

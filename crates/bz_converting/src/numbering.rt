@@ -1,6 +1,6 @@
 //! Texts and source files, numbered where they are first used.
 
-ghost use Rattle.std.specs.Prelude.{◌≡◌, ◌++◌, ◌∷◌, ℕ, List, [], Some, slice_get, IfOk, IsOkUnless, OnOk};
+ghost use Rattle.std.specs.Prelude.{◌≡◌, ◌++◌, ◌∷◌, ℕ, List, [], Some, option_map, slice_get, unwrap_or, IfOk, IsOkUnless, OnOk};
 ghost use Rattle.bz_base.specs.declared.error.Error.{Error};
 ghost use Rattle.bz_convert.specs.Ids.{lent_source};
 ghost use Rattle.bz_converting.specs.Numbered.{IsNumbering, listed_sources, listed_texts};
@@ -43,17 +43,23 @@ impl<'a> Numbering<'a> {
     /// The index of a source file.
     pub fn source(&mut self, source: Source<'a>) -> Result<usize>
         ensures numbering { OnOk result ((texts : List (List ℕ)) (sources : List Source) → IsNumbering texts sources self.old →
-            IsNumbering (texts ++ (lent_source source).dir ∷ (lent_source source).file ∷ []) (sources ++ lent_source source ∷ []) self.new) }
-        ensures index { IfOk result (λ index. (texts : List (List ℕ)) (sources : List Source) → IsNumbering texts sources self.old → slice_get (listed_sources self.new) index ≡ Some (lent_source source)) }
+            IsNumbering (texts ++ (lent_source source.entry).dir ∷ (lent_source source.entry).file ∷ []) (sources ++ lent_source source.entry ∷ []) self.new) }
+        ensures index { IfOk result (λ index. (texts : List (List ℕ)) (sources : List Source) → IsNumbering texts sources self.old → slice_get (listed_sources self.new) index ≡ Some (lent_source source.entry)) }
         ensures memory { IsOkUnless result Error.OutOfMemory }
     {
         let (dir, name) = source;
-        let dir = match dir {
-            Some(dir) => dir,
-            None => "",
-        };
-        let dir = self.texts.index_of(dir)?;
+        let dir = self.texts.index_of(dir_text(dir))?;
         let name = self.texts.index_of(name)?;
         self.sources.index_of(SourceFile { dir, name })
+    }
+}
+
+/// The text of a directory; that of none is empty.
+fn dir_text(dir: Option<&str>) -> &str
+    ensures { result.now ≡ unwrap_or (option_map (λ dir. dir.now) dir.entry) [] }
+{
+    match dir {
+        Some(dir) => dir,
+        None => "",
     }
 }

@@ -1,0 +1,250 @@
+-- Texts and source files are numbered one after another.
+use Rattle.std.proofs.Common.{◌≡◌, ℕ, zero, suc, ◌<◌, ◌≤◌, Bool, true, false, cond, List, [], ◌∷◌, ◌++◌, length, map, Option, Some, None, refl, sym, ap, subst, ◌∙◌, arith, append_assoc}
+use Rattle.std.specs.Prelude.{◌==◌, ◌&&◌, ◌||◌, IfOk, Result, Ok, Err}
+use Rattle.std.specs.BTreeMap.{get}
+use Rattle.std.specs.Borrow.{Bor}
+use Rattle.std.specs.Cmp.{unsigned_ties}
+use Rattle.std.specs.List.{list_any, slice_get}
+use Rattle.std.specs.Ordering.{is_eq, nat_cmp, ordering_then}
+use Rattle.std.specs.Str.{bytes_eq}
+use Rattle.std.specs.declared.cmp.Ordering.{Ordering}
+use Rattle.std.specs.declared.cmp.Ordering.TheVariants.{Less, Equal, Greater}
+use Rattle.std.proofs.lemmas.Bool.{and_parts, eq-eqb, eqb-true, true≢false}
+use Rattle.std.proofs.lemmas.List.{length-map, map-append}
+use Rattle.std.proofs.lemmas.Map.Text.{is_eq-slice_cmp}
+use Rattle.std.proofs.lemmas.Option.{none-some, same_Some, slice_get_within}
+use Rattle.bz_converting.specs.Listed.{HasIndexes, index_if, with_one}
+use Rattle.bz_converting.specs.Numbered.{AreFiles, AreTexts, IsNumbering, file_of, listed_sources, listed_texts, pair_cmp, same_file, text_cmp, text_of}
+use Rattle.bz_converting.specs.declared.numbering.Numbering.{Numbering}
+use Rattle.bz_converting.specs.declared.sources.Sources.{Sources}
+use Rattle.bz_converting.specs.declared.texts.Texts.{Texts}
+use Rattle.bz_converting.proofs.ListedLemmas.{Grows, firsts_grow, firsts_last, grown_at, grown_length, index_at, indexes_more, one_grows, one_known, one_new}
+use Rattle.bz_gsym_layout.proofs.DistinctLemmas.{Differ, firsts_differ, index_there}
+use Rattle.bz_gsym_layout.proofs.LoopLemmas.{item_there}
+use Rattle.bz_gsym_layout.proofs.NumberingLemmas.{source_same, text_is_same, text_same}
+use Rattle.bz_gsym_layout.specs.Indexed as indexed
+use Rattle.bz_gsym_layout.specs.Indexed.{source_of, text_at}
+use Rattle.bz_gsym_layout.specs.Numbering.{firsts, index_of, same_source}
+use Rattle.bz_gsym_layout.specs.Plan.{Source}
+use Rattle.bz_gsym_layout.specs.declared.plan.SourceFile.{SourceFile}
+
+pub texts_tied : (a b : Bor (List ℕ)) → is_eq (text_cmp a b) ≡ bytes_eq (text_of a) (text_of b)
+texts_tied a b = is_eq-slice_cmp a.now b.now
+
+pub last_at : {X : Type 0} (xs : List X) (x : X) → slice_get (xs ++ x ∷ []) (length xs) ≡ Some x
+last_at [] x = refl
+last_at (y ∷ xs) x = last_at xs x
+
+-- One text more.
+module _ (used : List (List ℕ)) (t : Texts) (are : AreTexts used t) (text : List ℕ) where
+  pub texts_again : (i : ℕ) → index_if bytes_eq text (listed_texts t) ≡ Some i → AreTexts (used ++ text ∷ []) t
+  texts_again i known = record {
+    listed = sym (one_known bytes_eq (listed_texts t) text i known) ∙ ap (λ l. with_one bytes_eq l text) are.listed ∙ sym (firsts_last bytes_eq text_same used text);
+    indexes = are.indexes;
+  }
+
+  pub texts_more : (new : Texts) → index_if bytes_eq text (listed_texts t) ≡ None → listed_texts new ≡ listed_texts t ++ text ∷ [] →
+      HasIndexes text_cmp text_of bytes_eq new.indexes (listed_texts t ++ text ∷ []) → AreTexts (used ++ text ∷ []) new
+  texts_more new none listed has = record {
+    listed = listed ∙ sym (one_new bytes_eq (listed_texts t) text none) ∙ ap (λ l. with_one bytes_eq l text) are.listed ∙ sym (firsts_last bytes_eq text_same used text);
+    indexes = subst (HasIndexes text_cmp text_of bytes_eq new.indexes) (sym listed) has;
+  }
+
+-- A text that wasn't used before, as a map and a list take it.
+module _ (used : List (List ℕ)) (t : Texts) (are : AreTexts used t) (text : Bor (List ℕ)) (new : Texts) (index : ℕ) (counted : index ≡ length t.listed.items) (pushed : new.listed.items ≡ t.listed.items ++ text ∷ []) where
+  pub texts_inserted : get text_cmp t.indexes text ≡ None → ((q : Bor (List ℕ)) → get text_cmp new.indexes q ≡ cond (is_eq (text_cmp text q)) (Some index) (get text_cmp t.indexes q)) → AreTexts (used ++ text.now ∷ []) new
+  texts_inserted none updates =
+      let listed : listed_texts new ≡ listed_texts t ++ text.now ∷ [] = ap (map text_of) pushed ∙ map-append text_of t.listed.items (text ∷ []) in
+      let new_one : index_if bytes_eq text.now (listed_texts t) ≡ None = sym (are.indexes text) ∙ none in
+      let count : index ≡ length (listed_texts t) = counted ∙ sym (length-map t.listed.items text_of) in
+      texts_more used t are text.now new new_one listed
+      (indexes_more bytes_eq text_same text_cmp text_of texts_tied t.indexes new.indexes (listed_texts t) text are.indexes new_one
+      (λ q. updates q ∙ ap (λ n. cond (is_eq (text_cmp text q)) (Some n) (get text_cmp t.indexes q)) count))
+
+  pub text_inserted_at : slice_get (listed_texts new) index ≡ Some text.now
+  text_inserted_at =
+      ap (λ l. slice_get l index) (ap (map text_of) pushed ∙ map-append text_of t.listed.items (text ∷ [])) ∙ ap (slice_get (listed_texts t ++ text.now ∷ [])) (counted ∙ sym (length-map t.listed.items text_of))
+      ∙ last_at (listed_texts t) text.now
+
+pub texts_grow : (used more : List (List ℕ)) (old new : Texts) → AreTexts used old → AreTexts (used ++ more) new → Grows (listed_texts old) (listed_texts new)
+texts_grow used more old new is_old is_new =
+    let g = firsts_grow bytes_eq text_same more used in
+    (g.0, is_new.listed ∙ g.1 ∙ ap (λ l. l ++ g.0) (sym is_old.listed))
+
+pub texts_differ : (used : List (List ℕ)) (t : Texts) → AreTexts used t → Differ bytes_eq (listed_texts t)
+texts_differ used t are = subst (Differ bytes_eq) (sym are.listed) (firsts_differ bytes_eq used)
+
+-- Source files.
+pub text_found : (texts : List (List ℕ)) (i : ℕ) (text : List ℕ) → slice_get texts i ≡ Some text → text_at texts i ≡ text
+text_found texts i text at = same_Some (text_at texts i) text (sym (item_there texts i [] (slice_get_within texts i text at)) ∙ at)
+
+pub files_same : (a b : SourceFile) → same_file a b ≡ true → a ≡ b
+files_same a b is =
+    let parts = and_parts (a.dir == b.dir) (a.name == b.name) is in
+    ap (λ (n : ℕ). record { dir = n; name = a.name }) (eqb-true a.dir b.dir parts.0) ∙ ap (λ (n : ℕ). record { dir = b.dir; name = n }) (eqb-true a.name b.name parts.1)
+
+pub files_tied : (a b : ℕ × ℕ) → is_eq (pair_cmp a b) ≡ same_file (file_of a) (file_of b)
+files_tied a b = both (nat_cmp a.0 b.0) (nat_cmp a.1 b.1) ∙ ap (λ t. t && is_eq (nat_cmp a.1 b.1)) (sym (unsigned_ties a.0 b.0)) ∙ ap (λ t. (a.0 == b.0) && t) (sym (unsigned_ties a.1 b.1)) where
+  both : (p q : Ordering) → is_eq (ordering_then p q) ≡ (is_eq p && is_eq q)
+  both Less q = refl
+  both Equal q = refl
+  both Greater q = refl
+
+module _ (texts more : List (List ℕ)) (grows : Grows texts more) where
+  text_stays : (i : ℕ) → i < length texts → text_at more i ≡ text_at texts i
+  text_stays i within = text_found more i (text_at texts i) (grown_at texts more grows i (text_at texts i) (item_there texts i [] within))
+
+  -- source files say the same by more texts
+  pub files_stay : (files : List SourceFile) → indexed.AreFiles (length texts) files → map (source_of more) files ≡ map (source_of texts) files
+  files_stay [] within = refl
+  files_stay (f ∷ files) within =
+      let own = within 0 f refl in
+      ap (λ (d : List ℕ). record { dir = d; file = text_at more f.name } ∷ map (source_of more) files) (text_stays f.dir own.0)
+      ∙ ap (λ (n : List ℕ). record { dir = text_at texts f.dir; file = n } ∷ map (source_of more) files) (text_stays f.name own.1)
+      ∙ ap (λ l. source_of texts f ∷ l) (files_stay files (λ i g at. within (suc i) g at))
+
+  pub within_more : (files : List SourceFile) → indexed.AreFiles (length texts) files → indexed.AreFiles (length more) files
+  within_more files within i f at = let own = within i f at in (omega (arith, own.0, grown_length texts more grows), omega (arith, own.1, grown_length texts more grows))
+
+module _ (texts : List (List ℕ)) (differ : Differ bytes_eq texts) where
+  texts_seen : (i j : ℕ) → i < length texts → j < length texts → bytes_eq (text_at texts i) (text_at texts j) ≡ (i == j)
+  texts_seen i j low high = by (bytes_eq (text_at texts i) (text_at texts j)) refl (i == j) refl where
+    by : (a : Bool) → bytes_eq (text_at texts i) (text_at texts j) ≡ a → (b : Bool) → (i == j) ≡ b → a ≡ b
+    by true is true also = refl
+    by false is false also = refl
+    by true is false also =
+        let at_i = index_there bytes_eq text_is_same texts differ i (text_at texts i) (item_there texts i [] low) in
+        let at_j = index_there bytes_eq text_is_same texts differ j (text_at texts j) (item_there texts j [] high) in
+        let e : i ≡ j = sym at_i ∙ ap (λ x. index_of bytes_eq x texts) (text_same (text_at texts i) (text_at texts j) is) ∙ at_j in
+        absurd (true≢false (sym (eq-eqb i j e) ∙ also))
+    by false is true also = absurd (true≢false (sym (ap (λ n. bytes_eq (text_at texts i) (text_at texts n)) (sym (eqb-true i j also)) ∙ text_is_same (text_at texts i)) ∙ is))
+
+  any_lifted : (f : SourceFile) → (f.dir < length texts) × (f.name < length texts) → (files : List SourceFile) → indexed.AreFiles (length texts) files →
+      list_any (λ s. same_source s (source_of texts f)) (map (source_of texts) files) ≡ list_any (λ g. same_file g f) files
+  any_lifted f own [] within = refl
+  any_lifted f own (g ∷ files) within =
+      let at = within 0 g refl in
+      ap (λ b. (b && bytes_eq (text_at texts g.name) (text_at texts f.name)) || list_any (λ s. same_source s (source_of texts f)) (map (source_of texts) files)) (texts_seen g.dir f.dir at.0 own.0)
+      ∙ ap (λ b. ((g.dir == f.dir) && b) || list_any (λ s. same_source s (source_of texts f)) (map (source_of texts) files)) (texts_seen g.name f.name at.1 own.1)
+      ∙ ap (λ b. same_file g f || b) (any_lifted f own files (λ i h there. within (suc i) h there))
+
+  map_last : (xs : List SourceFile) (f : SourceFile) → map (source_of texts) (xs ++ f ∷ []) ≡ map (source_of texts) xs ++ source_of texts f ∷ []
+  map_last [] f = refl
+  map_last (x ∷ xs) f = ap (λ l. source_of texts x ∷ l) (map_last xs f)
+
+  -- a source file more, in texts
+  pub one_lifted : (f : SourceFile) → (f.dir < length texts) × (f.name < length texts) → (files : List SourceFile) → indexed.AreFiles (length texts) files →
+      map (source_of texts) (with_one same_file files f) ≡ with_one same_source (map (source_of texts) files) (source_of texts f)
+  one_lifted f own files within = by (list_any (λ g. same_file g f) files) ∙ ap (λ b. cond b (map (source_of texts) files) (map (source_of texts) files ++ source_of texts f ∷ [])) (sym (any_lifted f own files within)) where
+    by : (b : Bool) → map (source_of texts) (cond b files (files ++ f ∷ [])) ≡ cond b (map (source_of texts) files) (map (source_of texts) files ++ source_of texts f ∷ [])
+    by true = refl
+    by false = map_last files f
+
+  pub one_within : (f : SourceFile) → (f.dir < length texts) × (f.name < length texts) → (files : List SourceFile) → indexed.AreFiles (length texts) files → indexed.AreFiles (length texts) (with_one same_file files f)
+  one_within f own files within = by (list_any (λ g. same_file g f) files) where
+    last : (files : List SourceFile) → indexed.AreFiles (length texts) files → indexed.AreFiles (length texts) (files ++ f ∷ [])
+    last [] within zero g at = subst (λ h. (h.dir < length texts) × (h.name < length texts)) (same_Some f g at) own
+    last [] within (suc i) g at = absurd (none-some g at)
+    last (h ∷ files) within zero g at = within 0 g at
+    last (h ∷ files) within (suc i) g at = last files (λ j k there. within (suc j) k there) i g at
+
+    by : (b : Bool) → indexed.AreFiles (length texts) (cond b files (files ++ f ∷ []))
+    by true = within
+    by false = last files within
+
+-- A text more, and a source file more.
+module _ (texts : List (List ℕ)) (sources : List Source) (n : Numbering) (is : IsNumbering texts sources n) where
+  pub text_numbered : (more : List (List ℕ)) (new : Numbering) → AreTexts (texts ++ more) new.texts → new.sources ≡ n.sources → IsNumbering (texts ++ more) sources new
+  text_numbered more new are same =
+      let grows = texts_grow texts more n.texts new.texts is.texts are in
+      record {
+        texts = are;
+        sources = ap (λ s. map (source_of (listed_texts new.texts)) s.listed.items) same ∙ files_stay (listed_texts n.texts) (listed_texts new.texts) grows n.sources.listed.items is.within ∙ is.sources;
+        files = subst (λ s. HasIndexes pair_cmp file_of same_file s.indexes s.listed.items) (sym same) is.files;
+        within = subst (λ s. indexed.AreFiles (length (listed_texts new.texts)) s.listed.items) (sym same) (within_more (listed_texts n.texts) (listed_texts new.texts) grows n.sources.listed.items is.within);
+      }
+
+  pub source_numbered : (f : SourceFile) (s : Source) → slice_get (listed_texts n.texts) f.dir ≡ Some s.dir → slice_get (listed_texts n.texts) f.name ≡ Some s.file →
+      (new : Numbering) → new.texts ≡ n.texts → new.sources.listed.items ≡ with_one same_file n.sources.listed.items f → HasIndexes pair_cmp file_of same_file new.sources.indexes new.sources.listed.items →
+      IsNumbering texts (sources ++ s ∷ []) new
+  source_numbered f s at_dir at_file new same listed has =
+      let all = listed_texts n.texts in
+      let own : (f.dir < length all) × (f.name < length all) = (slice_get_within all f.dir s.dir at_dir, slice_get_within all f.name s.file at_file) in
+      let differ = texts_differ texts n.texts is.texts in
+      let says : source_of all f ≡ s =
+      ap (λ (d : List ℕ). record { dir = d; file = text_at all f.name }) (text_found all f.dir s.dir at_dir) ∙ ap (λ (t : List ℕ). record { dir = s.dir; file = t }) (text_found all f.name s.file at_file) in
+      record {
+        texts = subst (AreTexts texts) (sym same) is.texts;
+        sources =
+            ap (λ t. map (source_of (listed_texts t)) new.sources.listed.items) same ∙ ap (map (source_of all)) listed ∙ one_lifted all differ f own n.sources.listed.items is.within
+            ∙ ap (λ l. with_one same_source l (source_of all f)) is.sources ∙ ap (with_one same_source (firsts same_source sources)) says ∙ sym (firsts_last same_source source_same sources s);
+        files = has;
+        within = subst (λ t. indexed.AreFiles (length (listed_texts t)) new.sources.listed.items) (sym same) (subst (indexed.AreFiles (length all)) (sym listed) (one_within all differ f own n.sources.listed.items is.within));
+      }
+
+-- what is listed stays at its index
+module _ (texts : List (List ℕ)) (sources : List Source) (old : Numbering) (is_old : IsNumbering texts sources old)
+    (more_texts : List (List ℕ)) (more_sources : List Source) (new : Numbering) (is_new : IsNumbering (texts ++ more_texts) (sources ++ more_sources) new) where
+  pub listed_grow : Grows (listed_texts old.texts) (listed_texts new.texts)
+  listed_grow = texts_grow texts more_texts old.texts new.texts is_old.texts is_new.texts
+
+  pub sources_grow : Grows (listed_sources old) (listed_sources new)
+  sources_grow =
+      let g = firsts_grow same_source source_same more_sources sources in
+      (g.0, is_new.sources ∙ g.1 ∙ ap (λ l. l ++ g.0) (sym is_old.sources))
+
+-- A source file that wasn't used before.
+module _ (s : Sources) (has : AreFiles s) (file : SourceFile) (new : Sources) (index : ℕ) (counted : index ≡ length s.listed.items) (pushed : new.listed.items ≡ s.listed.items ++ file ∷ []) where
+  pub file_listed : get pair_cmp s.indexes (file.dir, file.name) ≡ None → new.listed.items ≡ with_one same_file s.listed.items file
+  file_listed none = pushed ∙ sym (one_new same_file s.listed.items file (sym (has (file.dir, file.name)) ∙ none))
+
+  pub files_inserted : get pair_cmp s.indexes (file.dir, file.name) ≡ None → ((q : ℕ × ℕ) → get pair_cmp new.indexes q ≡ cond (is_eq (pair_cmp (file.dir, file.name) q)) (Some index) (get pair_cmp s.indexes q)) → AreFiles new
+  files_inserted none updates =
+      subst (HasIndexes pair_cmp file_of same_file new.indexes) (sym pushed)
+      (indexes_more same_file files_same pair_cmp file_of files_tied s.indexes new.indexes s.listed.items (file.dir, file.name) has (sym (has (file.dir, file.name)) ∙ none)
+      (λ q. updates q ∙ ap (λ n. cond (is_eq (pair_cmp (file.dir, file.name) q)) (Some n) (get pair_cmp s.indexes q)) counted))
+
+  pub file_inserted_at : slice_get new.listed.items index ≡ Some file
+  file_inserted_at = ap (λ l. slice_get l index) pushed ∙ ap (slice_get (s.listed.items ++ file ∷ [])) counted ∙ last_at s.listed.items file
+
+pub if_ok : {A E : Type 0} (r : Result A E) (P Q : A → Type 0) → ((a : A) → P a → Q a) → IfOk r P → IfOk r Q
+if_ok (Ok a) P Q then is = then a is
+if_ok (Err e) P Q then is = is
+
+pub seen_at : {X Y : Type 0} (view : X → Y) (xs : List X) (i : ℕ) (x : X) → slice_get xs i ≡ Some x → slice_get (map view xs) i ≡ Some (view x)
+seen_at view [] i x at = absurd (none-some x at)
+seen_at view (y ∷ xs) zero x at = ap (λ z. Some (view z)) (same_Some y x at)
+seen_at view (y ∷ xs) (suc i) x at = seen_at view xs i x at
+
+-- The two texts of a source file, and the source file.
+module _ (texts : List (List ℕ)) (sources : List Source) (n : Numbering) (is : IsNumbering texts sources n) (s : Source) (dir : List ℕ) (named : dir ≡ s.dir) (first second : Texts)
+    (one : AreTexts (texts ++ dir ∷ []) first) (two : AreTexts ((texts ++ dir ∷ []) ++ s.file ∷ []) second) (f : SourceFile)
+    (at_dir : slice_get (listed_texts first) f.dir ≡ Some dir) (at_file : slice_get (listed_texts second) f.name ≡ Some s.file) (files : Sources) where
+  both_used : AreTexts (texts ++ s.dir ∷ s.file ∷ []) second
+  both_used = subst (λ l. AreTexts l second) (append_assoc texts (dir ∷ []) (s.file ∷ []) ∙ ap (λ (d : List ℕ). texts ++ d ∷ s.file ∷ []) named) two
+
+  abbrev middle : Numbering
+  middle = record { texts = second; sources = n.sources }
+
+  middle_is : IsNumbering (texts ++ s.dir ∷ s.file ∷ []) sources middle
+  middle_is = text_numbered texts sources n is (s.dir ∷ s.file ∷ []) middle both_used refl
+
+  dir_at : slice_get (listed_texts second) f.dir ≡ Some s.dir
+  dir_at = grown_at (listed_texts first) (listed_texts second) (texts_grow (texts ++ dir ∷ []) (s.file ∷ []) first second one two) f.dir dir at_dir ∙ ap Some named
+
+  pub both_numbered : files.listed.items ≡ with_one same_file n.sources.listed.items f → AreFiles files → IsNumbering (texts ++ s.dir ∷ s.file ∷ []) (sources ++ s ∷ []) (record { texts = second; sources = files })
+  both_numbered listed has = source_numbered (texts ++ s.dir ∷ s.file ∷ []) sources middle middle_is f s dir_at at_file (record { texts = second; sources = files }) refl listed has
+
+  pub source_at : (index : ℕ) → slice_get files.listed.items index ≡ Some f → slice_get (listed_sources (record { texts = second; sources = files })) index ≡ Some s
+  source_at index at =
+      seen_at (source_of (listed_texts second)) files.listed.items index f at
+      ∙ ap (λ (d : List ℕ). Some (record { dir = d; file = text_at (listed_texts second) f.name })) (text_found (listed_texts second) f.dir s.dir dir_at)
+      ∙ ap (λ (t : List ℕ). Some (record { dir = s.dir; file = t })) (text_found (listed_texts second) f.name s.file at_file)
+
+-- The texts of an inlined call: its name, and those of its source file.
+pub call_numbered : (texts : List (List ℕ)) (sources : List Source) (n : Numbering) (name other : List ℕ) (s t : Source) → name ≡ other → s ≡ t →
+    IsNumbering ((texts ++ name ∷ []) ++ s.dir ∷ s.file ∷ []) (sources ++ s ∷ []) n → IsNumbering (texts ++ other ∷ t.dir ∷ t.file ∷ []) (sources ++ t ∷ []) n
+call_numbered texts sources n name other s t names same is =
+    let regrouped = subst (λ l. IsNumbering l (sources ++ s ∷ []) n) (append_assoc texts (name ∷ []) (s.dir ∷ s.file ∷ [])) is in
+    let renamed = subst (λ (x : List ℕ). IsNumbering (texts ++ x ∷ s.dir ∷ s.file ∷ []) (sources ++ s ∷ []) n) names regrouped in
+    subst (λ (r : Source). IsNumbering (texts ++ other ∷ r.dir ∷ r.file ∷ []) (sources ++ r ∷ []) n) same renamed
