@@ -7,7 +7,7 @@ use Rattle.bz_convert.specs.Fault.{overlaps}
 use Rattle.bz_convert.specs.Plan.{called, changes, is_checked, line_of, sized_calls}
 use Rattle.bz_gsym_layout.specs.Numbering.{call_sources, call_texts, row_sources, row_texts}
 use Rattle.bz_gsym_layout.specs.Plan.{Line, Source}
-use Rattle.bz_gsym_layout.specs.declared.plan.Function as plan
+use Rattle.bz_gsym_layout.specs.declared.plan.Function.{Function as Planned}
 use Rattle.bz_gsym_layout.specs.declared.plan.Node.{Node}
 use Rattle.bz_gsym_layout.specs.declared.plan.Row.{Row}
 
@@ -65,7 +65,7 @@ module _ (table : Table) where
       pub line : node.line ≡ i.call_line
 
     -- a function of a plan says what a function of the file says
-    pub record IsFunctionFor (f : Function) (g : plan.Function) : Type 0 where
+    pub record IsFunctionFor (f : Function) (g : Planned) : Type 0 where
       pub start : g.start ≡ f.start
       pub size : g.size ≡ f.size
       pub name : slice_get texts g.name ≡ Some f.name

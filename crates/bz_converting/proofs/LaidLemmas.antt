@@ -1,0 +1,30 @@
+-- The inlined calls that are laid out for a function are there only where there are rows.
+use Rattle.std.proofs.Common.{◌≡◌, ℕ, zero, suc, ◌<◌, Bool, true, false, cond, List, [], ◌∷◌, length, None, refl, sym, ap, ◌∙◌, arith}
+use Rattle.bz_breakpad_function.specs.Places.{line_at}
+use Rattle.bz_breakpad_lines.specs.Table.{Function, Inlinee, SourceLine}
+use Rattle.bz_convert.specs.Plan.{changes, is_checked, same_line, sized_calls}
+use Rattle.bz_convert.specs.Rows.{rows_from}
+use Rattle.bz_converting.specs.Laid.{calls_beside, laid_calls}
+
+module _ (f : Function) where
+  pub laid_none : length (changes f) ≡ 0 → [] ≡ laid_calls f
+  laid_none none = by (changes f) none where
+    by : (rows : List (ℕ × SourceLine)) → length rows ≡ 0 → [] ≡ calls_beside rows (sized_calls f)
+    by [] none = refl
+    by (row ∷ rows) none = absurd (omega arith)
+
+  pub laid_some : 0 < length (changes f) → sized_calls f ≡ laid_calls f
+  laid_some some = by (changes f) some where
+    by : (rows : List (ℕ × SourceLine)) → 0 < length rows → sized_calls f ≡ calls_beside rows (sized_calls f)
+    by [] some = absurd (omega arith)
+    by (row ∷ rows) some = refl
+
+  pub laid_checked : 0 < length (changes f) → is_checked f ≡ true
+  laid_checked some = by (is_checked f) refl (rows_from same_line (λ addr. line_at addr f.lines) None f.start f.size) some where
+    by : (b : Bool) → is_checked f ≡ b → (rows : List (ℕ × SourceLine)) → 0 < length (cond b rows []) → is_checked f ≡ true
+    by true is rows some = is
+    by false is rows some = absurd (omega arith)
+
+  pub some_rows : (rows : ℕ) → rows ≡ length (changes f) → (rows ≡ 0 → ⊥) → 0 < length (changes f)
+  some_rows zero count some = absurd (some refl)
+  some_rows (suc n) count some = omega (arith, count)
