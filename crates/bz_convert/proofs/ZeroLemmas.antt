@@ -52,7 +52,7 @@ module _ {X : Type 0} (test : X → Bool) where
 in_front : {X : Type 0} (y : X) (xs : List X) (x : X) → In xs x → In (y ∷ xs) x
 in_front y xs x (i, at) = (suc i, at)
 
-calls_seen : {X Y : Type 0} (view : X → Y) (calls : Forest X) → calls_of (map_forest view calls) ≡ map view (calls_of calls)
+pub calls_seen : {X Y : Type 0} (view : X → Y) (calls : Forest X) → calls_of (map_forest view calls) ≡ map view (calls_of calls)
 calls_seen view NoCalls = refl
 calls_seen view (Call x within after) =
     ap (λ l. view x ∷ l)

@@ -1,6 +1,9 @@
 pub mod LaidLemmas
 pub mod ListedLemmas
 pub mod NumberingLemmas
+pub mod OrderLemmas
+pub mod PlannedLemmas
 pub mod SizedLemmas
 pub mod SoFarLemmas
 pub mod StayLemmas
+pub mod TreeLemmas

@@ -194,7 +194,7 @@ module _ (f : Function) (apart : AreApart f) where
   in_order : IsTable depth start f.inlinees (calls_in_order f)
   in_order = sorted_table depth start f.inlinees
 
-  from_sized : (z : Inlinee) → In (sized_calls f) z → In f.inlinees z × (has_size z ≡ true)
+  pub from_sized : (z : Inlinee) → In (sized_calls f) z → In f.inlinees z × (has_size z ≡ true)
   from_sized z found =
       let among = from_table start depth distinct (sized_calls f) own_table z found in
       let kept = filter_from has_size (distinct_calls f.inlinees) among.0 z among.1 in
