@@ -1,3 +1,4 @@
+pub mod CollectedLemmas
 pub mod LaidLemmas
 pub mod ListedLemmas
 pub mod NumberingLemmas

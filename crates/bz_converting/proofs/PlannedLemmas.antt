@@ -57,20 +57,19 @@ abbrev Up : ℕ → List (ℕ × SourceLine) → Type 0
 Up addr [] = Unit {0}
 Up addr (row ∷ rows) = (addr ≤ row.0) × Up row.0 rows
 
+module _ (line : ℕ → Option SourceLine) (count at : ℕ) (rest : (addr : ℕ) → addr ≤ at + 1 → Up addr (rows_from same_line line (line at) (at + 1) count)) (addr : ℕ) (low : addr ≤ at) where
+  own_row : (b : Bool) (l : SourceLine) → Up addr (cond b [] ((at, l) ∷ []) ++ rows_from same_line line (line at) (at + 1) count)
+  own_row true l = rest addr (omega arith)
+  own_row false l = (low, rest at (omega arith))
+
+  row_up : (before now : Option SourceLine) → Up addr (row_by same_line at before now ++ rows_from same_line line (line at) (at + 1) count)
+  row_up before None = rest addr (omega arith)
+  row_up None (Some l) = (low, rest at (omega arith))
+  row_up (Some former) (Some l) = own_row (same_line former l) l
+
 rows_up : (line : ℕ → Option SourceLine) (count at addr : ℕ) (before : Option SourceLine) → addr ≤ at → Up addr (rows_from same_line line before at count)
 rows_up line zero at addr before low = tt
-rows_up line (suc count) at addr before low = by before (line at) (λ addr low. rows_up line count (at + 1) addr (line at) low) where
-  abbrev Rest : Type 0
-  Rest = (addr : ℕ) → addr ≤ at + 1 → Up addr (rows_from same_line line (line at) (at + 1) count)
-
-  own : (b : Bool) (l : SourceLine) → Rest → Up addr (cond b [] ((at, l) ∷ []) ++ rows_from same_line line (line at) (at + 1) count)
-  own true l rest = rest addr (omega arith)
-  own false l rest = (low, rest at (omega arith))
-
-  by : (before now : Option SourceLine) → Rest → Up addr (row_by same_line at before now ++ rows_from same_line line (line at) (at + 1) count)
-  by before None rest = rest addr (omega arith)
-  by None (Some l) rest = (low, rest at (omega arith))
-  by (Some former) (Some l) rest = own (same_line former l) l rest
+rows_up line (suc count) at addr before low = row_up line count at (λ next below. rows_up line count (at + 1) next (line at) below) addr low before (line at)
 
 changes_up : (f : Function) → Up f.start (changes f)
 changes_up f = by (is_checked f) where

@@ -1,8 +1,9 @@
 -- Rows, inlined calls and functions are numbered one after another, and what was said of those so far stays.
 use Rattle.std.proofs.Common.{◌≡◌, ℕ, zero, suc, ◌+◌, ◌<◌, ◌≤◌, List, [], ◌∷◌, ◌++◌, flat_map, length, map, take, Some, refl, sym, ap, subst, ◌∙◌, arith, append-nil, append_assoc}
 use Rattle.std.specs.Prelude.{slice_index_or}
-use Rattle.std.specs.List.{AllZip}
+use Rattle.std.specs.List.{AllZip, slice_get}
 use Rattle.std.proofs.lemmas.List.{map-append}
+use Rattle.std.proofs.lemmas.Option.{none-some, same_Some}
 use Rattle.bz_converting.specs.Numbered.{IsNumbering, listed_sources, listed_texts}
 use Rattle.bz_converting.specs.declared.numbering.Numbering.{Numbering}
 use Rattle.bz_converting.proofs.ListedLemmas.{Grows}
@@ -15,6 +16,13 @@ take_last {X} xs i d within = let e : i + 1 ≡ suc i = omega arith in ap (λ n.
   by [] i within = absurd (omega arith)
   by (x ∷ xs) zero within = refl
   by (x ∷ xs) (suc i) within = ap (λ l. x ∷ l) (by xs i (omega arith))
+
+take_found : {X : Type 0} (xs : List X) (i : ℕ) (x : X) → slice_get xs i ≡ Some x → take (i + 1) xs ≡ take i xs ++ x ∷ []
+take_found {X} xs i x at = let e : i + 1 ≡ suc i = omega arith in ap (λ n. take n xs) e ∙ by xs i at where
+  by : (xs : List X) (i : ℕ) → slice_get xs i ≡ Some x → take (suc i) xs ≡ take i xs ++ x ∷ []
+  by [] i at = absurd (none-some x at)
+  by (y ∷ xs) zero at = ap (λ z. z ∷ []) (same_Some y x at)
+  by (y ∷ xs) (suc i) at = ap (λ l. y ∷ l) (by xs i at)
 
 take_all : {X : Type 0} (xs : List X) (i : ℕ) → length xs ≤ i → take i xs ≡ xs
 take_all [] zero past = refl
@@ -69,6 +77,17 @@ module _ {X Z : Type 0} (texts_for : X → List (List ℕ)) (sources_for : X →
             (stays old new (listed_grow before_texts before_sources old so_far.numbering (texts_for x) (sources_for x) new is) (sources_grow before_texts before_sources old so_far.numbering (texts_for x) (sources_for x) new is)) xs zs so_far.each)
             says;
       }
+
+  pub found_turn : Stays → (texts : List (List ℕ)) (sources : List Source) (old new : Numbering) (xs : List X) (i : ℕ) (x : X) → slice_get xs i ≡ Some x → (zs more : List Z) (z : Z) → more ≡ zs ++ z ∷ [] → SoFar texts sources old (take i xs) zs →
+      ((texts : List (List ℕ)) (sources : List Source) → IsNumbering texts sources old → IsNumbering (texts ++ texts_for x) (sources ++ sources_for x) new) →
+      ((texts : List (List ℕ)) (sources : List Source) → IsNumbering texts sources old → Says new x z) → SoFar texts sources new (take (i + 1) xs) more
+  found_turn stays texts sources old new xs i x at zs more z pushed so_far numbers says =
+      subst (λ l. SoFar texts sources new l more) (sym (take_found xs i x at))
+      (subst (λ l. SoFar texts sources new (take i xs ++ x ∷ []) l) (sym pushed)
+      (one_more stays texts sources old new (take i xs) zs x z so_far numbers (says (texts ++ flat_map texts_for (take i xs)) (sources ++ flat_map sources_for (take i xs)) so_far.numbering)))
+
+  pub found_end : (texts : List (List ℕ)) (sources : List Source) (n : Numbering) (xs : List X) (i : ℕ) → length xs ≤ i → (zs : List Z) → SoFar texts sources n (take i xs) zs → SoFar texts sources n xs zs
+  found_end texts sources n xs i past zs so_far = subst (λ l. SoFar texts sources n l zs) (take_all xs i past) so_far
 
   -- a list that is gone through from the front
   module _ {K : Type 0} (view : K → X) (kept : List K) (i : ℕ) (texts : List (List ℕ)) (sources : List Source) (old : Numbering) (zs : List Z) (so_far : SoFar texts sources old (map view (take i kept)) zs) where

@@ -10,7 +10,7 @@ use crate::sources::Sources;
 use crate::texts::Texts;
 use bz_base::Result;
 use bz_convert::Source;
-use bz_gsym_layout::SourceFile;
+use bz_gsym_layout::{Function, Plan, SourceFile};
 use std::alloc::Global;
 
 /// The texts and the source files that a plan lists.
@@ -51,6 +51,20 @@ impl<'a> Numbering<'a> {
         let dir = self.texts.index_of(dir_text(dir))?;
         let name = self.texts.index_of(name)?;
         self.sources.index_of(SourceFile { dir, name })
+    }
+
+    /// The plan of functions that use what is listed.
+    pub fn into_plan(self, functions: Vec<Function>) -> Plan<'a>
+        ensures texts { result.texts ≡ self.entry.texts.listed }
+        ensures sources { result.sources ≡ self.entry.sources.listed }
+        ensures functions { result.functions ≡ functions }
+    {
+        let Numbering { texts, sources } = self;
+        Plan {
+            texts: texts.listed,
+            sources: sources.listed,
+            functions,
+        }
     }
 }
 

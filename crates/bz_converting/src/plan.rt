@@ -44,9 +44,5 @@ fn plan_blank<L: Ledger>(alloc: Global, file: &SymbolFile, blank: Blank) -> Resu
         let function = file.function(index, &mut steps);
         functions.push(function_of(alloc, &mut numbering, file, &function)?)?;
     }
-    Ok(Plan {
-        texts: numbering.texts.listed,
-        sources: numbering.sources.listed,
-        functions,
-    })
+    Ok(numbering.into_plan(functions))
 }
