@@ -4,6 +4,7 @@ pub mod ListedLemmas
 pub mod NumberingLemmas
 pub mod OrderLemmas
 pub mod PlannedLemmas
+pub mod RefusedLemmas
 pub mod SizedLemmas
 pub mod SoFarLemmas
 pub mod StayLemmas

@@ -1,5 +1,5 @@
+pub mod Converted
 pub mod Laid
 pub mod Listed
 pub mod Numbered
-pub mod Refused
 pub mod Sized

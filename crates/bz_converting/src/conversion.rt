@@ -1,6 +1,6 @@
 //! The GSYM file of a Breakpad file.
 
-ghost use Rattle.std.specs.Prelude.{◌≡◌, ◌<◌, ◌^◌, ℕ, None, Some, length, IfErr, IfOk};
+ghost use Rattle.std.specs.Prelude.{◌≡◌, ℕ, Some, length, IfErr, IfOk};
 ghost use Rattle.bz_base.specs.declared.types.FindSymOpts.TheVariants as asked;
 ghost use Rattle.bz_breakpad.specs.Plain as breakpad;
 ghost use Rattle.bz_breakpad_lines.specs.Reader.{table_in};
@@ -8,7 +8,7 @@ ghost use Rattle.bz_breakpad_lines.specs.Table.{Table};
 ghost use Rattle.bz_convert.specs.Alike.{AnswersAlike};
 ghost use Rattle.bz_convert.specs.Fault.{fault_in};
 ghost use Rattle.bz_convert.specs.Plan.{plan};
-ghost use Rattle.bz_converting.specs.Refused.{Refuses};
+ghost use Rattle.bz_converting.specs.Converted.{IsConversion, Refuses};
 ghost use Rattle.bz_gsym.specs.Plain as gsym;
 ghost use Rattle.bz_gsym_layout.specs.Layout.{layout};
 
@@ -27,9 +27,7 @@ use std::alloc::Global;
 /// The first fault of the file; a file without a fault is TooLarge if 32 bits don't count its bytes.
 /// OutOfMemory: memory ran out.
 pub fn convert(alloc: Global, file: &SymbolFile) -> Result<Vec<u8>, ConvertError>
-    ensures ok { IfOk result (λ bytes. (table : Table) → table_in file.now ≡ Some table → bytes.items ≡ layout (plan table)) }
-    ensures clean { IfOk result (λ bytes. (table : Table) → table_in file.now ≡ Some table → fault_in table ≡ None) }
-    ensures small { IfOk result (λ bytes. length bytes.items < 2 ^ 32) }
+    ensures ok { IfOk result (λ bytes. (table : Table) → table_in file.now ≡ Some table → IsConversion table bytes.items) }
     ensures answers { IfOk result (λ bytes. (table : Table) → table_in file.now ≡ Some table → (addr : ℕ) →
         AnswersAlike (breakpad.function_at addr table.functions) (breakpad.plain table asked.CodeInfoAndInlined addr) (gsym.plain bytes.items asked.CodeInfoAndInlined addr)) }
     ensures refusal { IfErr result (λ e. (table : Table) → table_in file.now ≡ Some table → Refuses e (fault_in table) (length (layout (plan table)))) }
