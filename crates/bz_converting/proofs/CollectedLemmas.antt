@@ -1,11 +1,11 @@
 -- The functions of a file are collected one after another.
-use Rattle.std.proofs.Common.{◌≡◌, ◌≤◌, ◌+◌, ℕ, List, [], ◌∷◌, ◌++◌, length, take, true, false, Option, Some, None, option_map, refl, sym, ap, subst, ◌∙◌, arith}
+use Rattle.std.proofs.Common.{◌≡◌, ◌≤◌, ◌+◌, ℕ, List, [], ◌∷◌, ◌++◌, length, take, true, Option, Some, None, option_map, refl, sym, ap, ◌∙◌, arith}
 use Rattle.std.specs.List.{slice_get}
 use Rattle.std.proofs.lemmas.Option.{none-some, same_Some}
 use Rattle.bz_breakpad_function.specs.InOrder.{functions_in_order, ordered_functions}
 use Rattle.bz_breakpad_function.specs.Indexed.{functions_of}
 use Rattle.bz_breakpad_lines.specs.Reader.{table_in}
-use Rattle.bz_breakpad_lines.specs.Table.{Function, Inlinee, Table}
+use Rattle.bz_breakpad_lines.specs.Table.{Function, Table}
 use Rattle.bz_convert.specs.Fault.{fault_in}
 use Rattle.bz_convert.specs.Plan.{is_checked, plan}
 use Rattle.bz_convert.proofs.FaultLemmas.{all_clean}

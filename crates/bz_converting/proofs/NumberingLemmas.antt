@@ -1,5 +1,5 @@
 -- Texts and source files are numbered one after another.
-use Rattle.std.proofs.Common.{◌≡◌, ℕ, zero, suc, ◌<◌, ◌≤◌, Bool, true, false, cond, List, [], ◌∷◌, ◌++◌, length, map, Option, Some, None, refl, sym, ap, subst, ◌∙◌, arith, append_assoc}
+use Rattle.std.proofs.Common.{◌≡◌, ℕ, zero, suc, ◌<◌, Bool, true, false, cond, List, [], ◌∷◌, ◌++◌, length, map, Some, None, refl, sym, ap, subst, ◌∙◌, arith, append_assoc}
 use Rattle.std.specs.Prelude.{◌==◌, ◌&&◌, ◌||◌, IfOk, OnOk, Result, Ok, Err}
 use Rattle.std.specs.BTreeMap.{get}
 use Rattle.std.specs.Borrow.{Bor}
@@ -18,7 +18,7 @@ use Rattle.bz_converting.specs.Numbered.{AreFiles, AreTexts, IsNumbering, file_o
 use Rattle.bz_converting.specs.declared.numbering.Numbering.{Numbering}
 use Rattle.bz_converting.specs.declared.sources.Sources.{Sources}
 use Rattle.bz_converting.specs.declared.texts.Texts.{Texts}
-use Rattle.bz_converting.proofs.ListedLemmas.{Grows, firsts_grow, firsts_last, grown_at, grown_length, index_at, indexes_more, one_grows, one_known, one_new}
+use Rattle.bz_converting.proofs.ListedLemmas.{Grows, firsts_grow, firsts_last, grown_at, grown_length, indexes_more, one_known, one_new}
 use Rattle.bz_gsym_layout.proofs.DistinctLemmas.{Differ, firsts_differ, index_there}
 use Rattle.bz_gsym_layout.proofs.LoopLemmas.{item_there}
 use Rattle.bz_gsym_layout.proofs.NumberingLemmas.{source_same, text_is_same, text_same}

@@ -6,7 +6,7 @@ use Rattle.std.proofs.lemmas.Option.{none-some, same_Some}
 use Rattle.bz_base.specs.Span.{inside, last_address}
 use Rattle.bz_breakpad_lines.specs.Table.{Function, Inlinee, SourceLine, Table}
 use Rattle.bz_convert.specs.Bounds.{In}
-use Rattle.bz_convert.specs.Plan.{changes, distinct_calls, has_size, is_checked, sized_calls}
+use Rattle.bz_convert.specs.Plan.{changes, distinct_calls, is_checked, sized_calls}
 use Rattle.bz_convert.proofs.CallLemmas.{are_sound, is_table, lies_within}
 use Rattle.bz_convert.proofs.DistinctLemmas.{to_distinct}
 use Rattle.bz_convert.proofs.FaultLemmas.{IsClean, IsNested}

@@ -1,5 +1,5 @@
 -- The functions that are collected of a file without a fault are its plan, which is well formed.
-use Rattle.std.proofs.Common.{◌≡◌, ℕ, zero, suc, ◌+◌, ◌<◌, ◌≤◌, Bool, true, false, cond, List, [], ◌∷◌, ◌++◌, flat_map, length, map, None, Option, Some, refl, sym, ap, subst, ◌∙◌, arith}
+use Rattle.std.proofs.Common.{◌≡◌, ℕ, zero, suc, ◌+◌, ◌≤◌, Bool, true, false, cond, List, [], ◌∷◌, ◌++◌, flat_map, length, map, None, Option, Some, refl, sym, ap, subst, ◌∙◌, arith}
 use Rattle.std.specs.Prelude.{slice_index_or}
 use Rattle.std.specs.List.{AllZip, slice_get}
 use Rattle.std.specs.Str.{bytes_eq}
@@ -14,11 +14,11 @@ use Rattle.bz_convert.specs.Plan.{called, calls_by, changes, code_of, is_checked
 use Rattle.bz_convert.specs.Rows.{row_by, rows_from}
 use Rattle.bz_convert.proofs.FaultLemmas.{IsClean, all_clean}
 use Rattle.bz_convert.proofs.ZeroLemmas.{calls_seen}
-use Rattle.bz_converting.specs.Laid.{IsFunctionFor, IsNodeFor, IsRowFor, calls_beside, laid_calls, row_in, sources_of_call, sources_of_row, sources_used, texts_of_call, texts_of_row, texts_used}
-use Rattle.bz_converting.specs.Numbered.{IsNumbering, listed_sources, listed_texts}
+use Rattle.bz_converting.specs.Laid.{IsFunctionFor, IsNodeFor, IsRowFor, calls_beside, laid_calls, row_in, sources_of_call, sources_used, texts_of_call, texts_used}
+use Rattle.bz_converting.specs.Numbered.{listed_sources, listed_texts}
 use Rattle.bz_converting.specs.declared.numbering.Numbering.{Numbering}
 use Rattle.bz_converting.proofs.NumberingLemmas.{text_found}
-use Rattle.bz_converting.proofs.OrderLemmas.{AreCallsInOrder, laid_order}
+use Rattle.bz_converting.proofs.OrderLemmas.{laid_order}
 use Rattle.bz_converting.proofs.SoFarLemmas.{SoFar}
 use Rattle.bz_converting.proofs.TreeLemmas.{all_calls, trees_alike}
 use Rattle.bz_gsym_layout.proofs.LoopLemmas.{item_there}
@@ -26,9 +26,8 @@ use Rattle.bz_gsym_layout.specs.InOrder.{AreInOrder, NeverBefore, depth_of}
 use Rattle.bz_gsym_layout.specs.Indexed as indexed
 use Rattle.bz_gsym_layout.specs.Indexed.{IsFunction, IsPlan, call_of, codes_of, row_of, sources_listed, text_at, texts_listed}
 use Rattle.bz_gsym_layout.specs.Nesting.{Forest, map_forest, nested}
-use Rattle.bz_gsym_layout.specs.Nesting.Forest.{NoCalls}
 use Rattle.bz_gsym_layout.specs.Numbering.{call_sources, call_texts, calls_of, firsts, row_sources, row_texts, same_source, sources_of, texts_of}
-use Rattle.bz_gsym_layout.specs.Plan.{Called, Code, Line, Source, no_source}
+use Rattle.bz_gsym_layout.specs.Plan.{Called, Line, Source, no_source}
 use Rattle.bz_gsym_layout.specs.declared.plan.Function.{Function as Planned}
 use Rattle.bz_gsym_layout.specs.declared.plan.Node.{Node}
 use Rattle.bz_gsym_layout.specs.declared.plan.Plan.{Plan}

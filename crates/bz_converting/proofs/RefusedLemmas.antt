@@ -1,9 +1,8 @@
 -- No fault of a file is that it is too large.
-use Rattle.std.proofs.Common.{◌≡◌, ℕ, Bool, true, false, cond, List, [], ◌∷◌, Option, Some, None, option_map, refl, sym, ap, subst, ◌∙◌}
-use Rattle.std.proofs.lemmas.Option.{none-some, same_Some}
+use Rattle.std.proofs.Common.{◌≡◌, ℕ, Bool, true, false, cond, List, [], ◌∷◌, Option, Some, None, option_map, sym, ap, subst, ◌∙◌}
+use Rattle.std.proofs.lemmas.Option.{same_Some}
 use Rattle.bz_breakpad_lines.specs.Table.{Function, Inlinee, SourceLine, Table}
-use Rattle.bz_breakpad_function.specs.InOrder.{calls_in_order, lines_in_order, ordered_functions}
-use Rattle.bz_breakpad_function.specs.Places.{line_at}
+use Rattle.bz_breakpad_function.specs.InOrder.{ordered_functions}
 use Rattle.bz_convert.specs.Fault.{checked_fault, equal_starts, fault_in, fault_of, first_fault, line_gap, no_call_file, no_line_file, no_origin, not_nested, only_if, overlap, zero_in, zero_size, ◌or◌}
 use Rattle.bz_convert.specs.Plan.{is_checked}
 use Rattle.bz_convert.specs.declared.error.ConvertError.{ConvertError}

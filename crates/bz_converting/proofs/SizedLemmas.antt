@@ -1,21 +1,19 @@
 -- The calls of a function in which none overlaps another: those that start alike and lie as deep say the same, so sorted ones stand
 -- beside each other, and without repeats they are those of the plan.
 use Rattle.std.proofs.Common.{◌≡◌, ◌⊎◌, inl, inr, ℕ, zero, suc, ◌<◌, ◌≤◌, Bool, true, false, cond, List, [], ◌∷◌, map, Option, Some, None, refl, sym, ap, subst, ◌∙◌, arith}
-use Rattle.std.specs.Prelude.{◌==◌, ◌&&◌, ◌||◌, not}
 use Rattle.std.specs.List.{AllByRecursion, filter, slice_get}
 use Rattle.std.proofs.lemmas.Bool.{cases_lt, eq-eqb, true≢false}
 use Rattle.std.proofs.lemmas.Bool.Decides.{nat_tests}
 use Rattle.std.proofs.lemmas.Option.{none-some, same_Some}
 use Rattle.bz_base.specs.Nearest.{IsTable}
 use Rattle.bz_base.specs.Sorting.{Ascends, IsUpTo, is_below, put, sorted}
-use Rattle.bz_base.specs.Span.{inside}
 use Rattle.bz_breakpad.specs.Lent.{kept_inlinee}
 use Rattle.bz_breakpad_function.specs.InOrder.{calls_in_order}
 use Rattle.bz_breakpad_lines.specs.Table.{Function, Inlinee}
 use Rattle.bz_convert.specs.Bounds.{In}
 use Rattle.bz_convert.specs.Fault.{is_over}
 use Rattle.bz_convert.specs.Plan.{distinct_calls, has_size, same_call, sized_calls}
-use Rattle.bz_convert.proofs.DistinctLemmas.{from_distinct, none_twice, other_call, same_call_is, same_itself, to_distinct}
+use Rattle.bz_convert.proofs.DistinctLemmas.{from_distinct, none_twice, same_call_is, same_itself, to_distinct}
 use Rattle.bz_convert.proofs.FaultLemmas.{any_none}
 use Rattle.bz_convert.proofs.MemberLemmas.{filter_from, filter_to, from_table, member_of, pair_from, to_table, two_alike}
 use Rattle.bz_converting.specs.Laid.{AreApart}

@@ -1,5 +1,5 @@
 -- What rows, nodes and functions of a plan say stays where more is listed.
-use Rattle.std.proofs.Common.{◌≡◌, ℕ, List, [], ◌∷◌, ◌++◌, flat_map, Some, sym, ap, subst, ◌∙◌, append_assoc}
+use Rattle.std.proofs.Common.{◌≡◌, ℕ, List, [], ◌∷◌, ◌++◌, flat_map, Some, ap, subst, ◌∙◌, append_assoc}
 use Rattle.std.specs.List.{AllZip, slice_get}
 use Rattle.bz_breakpad_lines.specs.Table.{Function, Inlinee, SourceLine, Table}
 use Rattle.bz_convert.specs.Plan.{called, changes, line_of}

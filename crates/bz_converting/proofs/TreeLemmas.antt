@@ -1,10 +1,9 @@
 -- The calls of a tree are those that it is made of, where each goes down by one depth at most.
-use Rattle.std.proofs.Common.{◌≡◌, inl, inr, ℕ, zero, suc, ◌+◌, ◌<◌, ◌≤◌, Bool, true, false, cond, nat_lt, List, [], ◌∷◌, ◌++◌, Some, refl, sym, ap, subst, ◌∙◌, arith}
+use Rattle.std.proofs.Common.{◌≡◌, inl, inr, ℕ, suc, ◌+◌, ◌≤◌, Bool, true, false, cond, nat_lt, List, [], ◌∷◌, ◌++◌, Some, refl, sym, ap, ◌∙◌, arith}
 use Rattle.std.specs.Prelude.{if◌then◌else◌, ◌==◌}
 use Rattle.std.specs.List.{AllZip, slice_get}
 use Rattle.std.proofs.lemmas.Bool.{cases_lt, eq-eqb, le-ltb, lt-ltb, ne_eqb}
-use Rattle.std.proofs.lemmas.Option.{none-some, same_Some}
-use Rattle.bz_gsym_layout.specs.Nesting.{Forest, map_forest, nested}
+use Rattle.bz_gsym_layout.specs.Nesting.{map_forest, nested}
 use Rattle.bz_gsym_layout.specs.Nesting.Forest.{NoCalls, Call}
 use Rattle.bz_gsym_layout.specs.Numbering.{calls_of}
 

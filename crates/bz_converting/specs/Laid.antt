@@ -1,10 +1,10 @@
 -- What the rows, inlined calls and functions of a plan say, by the texts and source files that are listed.
-use Rattle.std.specs.Prelude.{◌≡◌, ℕ, Bool, false, true, List, [], ◌∷◌, ◌++◌, flat_map, map, Some, slice_get}
+use Rattle.std.specs.Prelude.{◌≡◌, ℕ, false, List, [], ◌∷◌, ◌++◌, flat_map, Some, slice_get}
 use Rattle.std.specs.List.{AllZip}
 use Rattle.bz_breakpad_lines.specs.Table.{Function, Inlinee, SourceLine, Table}
 use Rattle.bz_convert.specs.Bounds.{In}
 use Rattle.bz_convert.specs.Fault.{overlaps}
-use Rattle.bz_convert.specs.Plan.{called, changes, is_checked, line_of, sized_calls}
+use Rattle.bz_convert.specs.Plan.{called, changes, line_of, sized_calls}
 use Rattle.bz_gsym_layout.specs.Numbering.{call_sources, call_texts, row_sources, row_texts}
 use Rattle.bz_gsym_layout.specs.Plan.{Line, Source}
 use Rattle.bz_gsym_layout.specs.declared.plan.Function.{Function as Planned}

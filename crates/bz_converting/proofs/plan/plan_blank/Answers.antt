@@ -1,4 +1,4 @@
-use Rattle.std.proofs.Common.{List, arith, subst, sym, take}
+use Rattle.std.proofs.Common.{arith, subst, sym, take}
 use Rattle.bz_breakpad_function.specs.InOrder.{ordered_functions}
 use Rattle.bz_converting.proofs.CollectedLemmas.{calls_apart, collected_turn, plan_codes, plan_formed}
 use Rattle.bz_converting.proofs.PlannedLemmas.{Collected}

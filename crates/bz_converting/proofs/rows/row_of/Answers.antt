@@ -1,6 +1,4 @@
 use Rattle.std.proofs.Common.{[], ◌∷◌, ◌++◌, subst}
-use Rattle.bz_convert.specs.Plan.{line_of}
-use Rattle.bz_convert.specs.Points.{row_seen}
 use Rattle.bz_converting.specs.Numbered.{IsNumbering}
 use Rattle.bz_gsym_layout.specs.Plan.{Source}
 use Rattle.bz_converting.proofs.rows.row_of.Goals as goal
