@@ -1,6 +1,6 @@
 //! The input: lines, each empty or an address.
 
-ghost use Rattle.std.specs.Prelude.{◌≡◌, ◌+◌, ◌<◌, ◌≤◌, ◌++◌, [], ℕ, List, Option, Some, None, Ok, Err, length, drop, vec_len, IfOk, IsErrOf};
+ghost use Rattle.std.specs.Prelude.{◌≡◌, ◌+◌, ◌<◌, ◌≤◌, ◌++◌, [], ℕ, List, Some, Ok, Err, length, vec_len, IfOk, IsErrOf};
 ghost use Rattle.bz_files.specs.Count.{CountsFaults};
 ghost use Rattle.bz_files.specs.World.{Told};
 ghost use Rattle.bz_lines.specs.Addresses.{addresses_in};
