@@ -1,0 +1,5 @@
+//! Tests of bz_converting, over what it makes public.
+#![tactic(auto)]
+
+#[cfg(test)]
+mod conversions;
