@@ -1,0 +1,50 @@
+-- Which lines have their places in a Breakpad file, one after the other.
+use Rattle.std.specs.Prelude.{ℕ, ◌+◌, Bool, true, false, ◌&&◌, List, [], ◌∷◌, drop, Option, Some, None, is_some, if◌then◌else◌}
+use Rattle.std.specs.List.{AllByRecursion}
+use Rattle.bz_breakpad_lines.specs.Byte.{is_nothing}
+use Rattle.bz_breakpad_lines.specs.Grammar.{Role, AreRoles, IsNoModule, records_of}
+use Rattle.bz_breakpad_lines.specs.Reads.{◌>>=◌}
+use Rattle.bz_breakpad_lines.specs.Says.{module_of}
+use Rattle.bz_breakpad_lines.specs.Walk.{Context, Record, context_after, free_after, record_at, text_at}
+use Rattle.bz_breakpad_lines.specs.Walk.Context.{Outside}
+
+-- the lines have their places: each has a role after those before it, and a MODULE record is the first record or there is none
+pub record HavePlaces (lines : List (List ℕ)) : Type 0 where
+  pub roles : List Role
+  pub are_roles : AreRoles [] lines roles
+  pub module_first : AllByRecursion IsNoModule (drop 1 (records_of roles))
+
+-- what lines tell of the next one: the record under which it may stand, whether white space may stand before it, and whether
+-- a record is among them
+pub record Before : Type 0 where
+  pub context : Context
+  pub free : Bool
+  pub some : Bool
+
+-- what is told at the front of a file
+abbrev pub at_front : Before
+at_front = record { context = Outside; free = false; some = false }
+
+-- what is told after a record more, if it has its place: a MODULE record has none after another record
+abbrev pub after_record : Before → Record → Option Before
+after_record before r =
+    if is_some (module_of r) && before.some
+    then None
+    else Some (record { context = context_after r; free = free_after r; some = true })
+
+-- what is told after a line more, if it has its place
+unfoldable pub after_line : Before → List ℕ → Option Before
+after_line before line =
+    if before.free && is_nothing (text_at before.free line)
+    then Some before
+    else record_at before.context (text_at before.free line) >>= after_record before
+
+-- the number of a line, if it has no place, and else what comes of those after it
+abbrev pub or_refused : ℕ → Option Before → (Before → Option ℕ) → Option ℕ
+or_refused number None later = Some number
+or_refused number (Some after) later = later after
+
+-- the number of the first line that has no place, where the lines are numbered from this one
+abbrev pub refused_from : Before → ℕ → List (List ℕ) → Option ℕ
+refused_from before number [] = None
+refused_from before number (line ∷ lines) = or_refused number (after_line before line) (λ after. refused_from after (number + 1) lines)
