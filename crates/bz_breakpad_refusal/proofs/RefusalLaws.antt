@@ -64,17 +64,22 @@ file_found : (b : ℕ) (bytes : List ℕ) (lines : List (List ℕ)) → refused_
 file_found b bytes lines found ends =
     let are = ended_found (b ∷ bytes) lines ends in
     let placed = places_found (all_lines (b ∷ bytes)) (pass_found at_front 1 (all_lines (b ∷ bytes)) found) in
-    let have = subst HavePlaces (ended_all (b ∷ bytes) lines are) placed in
-    (table_of (records_of have.roles), (length (records_of have.roles), record {
-      lines = lines;
-      roles = have.roles;
-      some = some_lines b bytes lines are;
-      are_lines = are;
-      are_roles = have.are_roles;
-      module_first = have.module_first;
-      says = refl;
-      counts = refl;
-    }))
+    let have = subst HavePlaces (ended_all (b ∷ bytes) lines are) placed in (
+      table_of (records_of have.roles),
+      (
+        length (records_of have.roles),
+        record {
+          lines = lines;
+          roles = have.roles;
+          some = some_lines b bytes lines are;
+          are_lines = are;
+          are_roles = have.are_roles;
+          module_first = have.module_first;
+          says = refl;
+          counts = refl;
+        },
+      ),
+    )
 
 -- what is found is why the bytes are refused
 pub refusal_found : (bytes : List ℕ) → IsRefusal bytes (refusal_in bytes)
