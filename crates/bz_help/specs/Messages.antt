@@ -1,0 +1,58 @@
+-- What standard error says of a run, without the end of its last line.
+use Rattle.std.specs.Prelude.{◌≡◌, ℕ, List, ◌++◌, codes, decimal, Option, Some, None}
+use Rattle.bz_base.specs.InputKind.{InFile}
+use Rattle.bz_breakpad_refusal.specs.Refusals.{IsRefusal}
+use Rattle.bz_breakpad_refusal.specs.declared.refused.Refused.{Refused}
+use Rattle.bz_breakpad_refusal.specs.declared.refused.Refused.TheVariants.{Line, NoEnd, Empty}
+use Rattle.bz_files.specs.World.{World, Present, entry_at}
+use Rattle.bz_files.specs.declared.stamp.Stamp.{Stamp}
+use Rattle.bz_requests.specs.Requests.{Breakpad}
+use Rattle.bz_symq.specs.declared.status.Status.{Status}
+use Rattle.bz_symq.specs.declared.status.Status.TheVariants as statuses
+use Rattle.bz_words.specs.Command.{Batch, Canonical, Command, Job, Make, command_in}
+
+-- a line about what lies at a path
+abbrev pub line_about : List ℕ → List ℕ → List ℕ
+line_about path said = codes "symq: " ++ (path ++ (codes ": " ++ said))
+
+-- why a file is no Breakpad file
+abbrev pub said_of : Refused → List ℕ
+said_of (Line number) = codes "line " ++ (decimal number ++ codes ": not a Breakpad record")
+said_of NoEnd = codes "the last line has no end"
+said_of Empty = codes "no lines"
+
+-- the path of the file that a job reads as a Breakpad file, as a whole
+abbrev pub breakpad_path : Job → Option (List ℕ)
+breakpad_path (Batch (Breakpad path) InFile) = Some path
+breakpad_path (Make (Canonical path)) = Some path
+breakpad_path _ = None
+
+-- the line says where what lies at the path is refused as a Breakpad file
+pub record SaysAt (path : List ℕ) (world : World) (line : List ℕ) : Type 0 where
+  pub stamp : Stamp
+  pub bytes : List ℕ
+  pub there : entry_at world path ≡ Some (Present stamp bytes)
+  pub why : Refused
+  pub refusal : IsRefusal bytes (Some why)
+  pub line_is : line ≡ line_about path (said_of why)
+
+-- and the path is that of the file that the words ask to read as a Breakpad file
+pub record SaysWhere (words : List (List ℕ)) (world : World) (line : List ℕ) : Type 0 where
+  pub command : Command
+  pub path : List ℕ
+  pub given : command_in words ≡ Some command
+  pub named : breakpad_path command.job ≡ Some path
+  pub says : SaysAt path world line
+
+-- a run of which nothing is said: it is done, or standard output says which line of the input is bad
+abbrev pub IsSilent : Status → Type 0
+IsSilent statuses.Done = Unit {0}
+IsSilent statuses.Input = Unit {0}
+IsSilent _ = ⊥
+
+-- a run of which something is said in any case
+abbrev pub IsTold : Status → Type 0
+IsTold statuses.Usage = Unit {0}
+IsTold statuses.Fault = Unit {0}
+IsTold statuses.Memory = Unit {0}
+IsTold _ = ⊥

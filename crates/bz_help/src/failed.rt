@@ -1,0 +1,103 @@
+//! What failed.
+
+ghost use Rattle.std.specs.Prelude.{◌≡◌, ◌<◌, codes};
+ghost use Rattle.std.specs.Cow.{cow_str_bytes};
+
+use crate::refused::line_about;
+use bz_base::Result;
+use bz_files::Files;
+use bz_requests::Target;
+use bz_words::{Command, Job, Product, read_command};
+use std::alloc::Global;
+use std::borrow::CowStr;
+
+/// The greatest length of a file that is read, in bytes.
+const MOST_BYTES: u64 = 1_073_741_824;
+
+/// How many calls have failed on each side of a run.
+#[derive(Clone, Copy, Debug)]
+pub struct Failed {
+    /// Reads of standard input.
+    pub input: u64,
+    /// Writes to standard output.
+    pub output: u64,
+    /// Looks at files.
+    pub files: u64,
+}
+
+/// Which side failed, and at which path if that is known.
+pub(crate) fn failure<F: Files>(
+    alloc: Global,
+    words: &[String],
+    failed: Failed,
+    files: &mut F,
+) -> CowStr<'static>
+    ensures output { 0 < failed.output → cow_str_bytes result ≡ codes "symq: standard output: writing failed" }
+    ensures input { failed.output ≡ 0 → 0 < failed.input → cow_str_bytes result ≡ codes "symq: standard input: reading failed" }
+    ensures worlds { F.worlds files.new ≡ F.worlds files.old }
+{
+    if failed.output > 0 {
+        return CowStr::Borrowed("symq: standard output: writing failed");
+    }
+    if failed.input > 0 {
+        return CowStr::Borrowed("symq: standard input: reading failed");
+    }
+    if failed.files == 0 {
+        return CowStr::Borrowed("symq: reading or writing failed");
+    }
+    match failed_file(alloc, words, files) {
+        Ok(Some(line)) => CowStr::Owned(line),
+        Ok(None) => CowStr::Borrowed("symq: reading a file failed"),
+        Err(_) => CowStr::Borrowed("symq: reading a file failed"),
+    }
+}
+
+/// A line on the one file that the words ask to read.
+fn failed_file<F: Files>(alloc: Global, words: &[String], files: &mut F) -> Result<Option<String>>
+    ensures worlds { F.worlds files.new ≡ F.worlds files.old }
+{
+    let Ok(command) = read_command(alloc, words) else {
+        return Ok(None);
+    };
+    let Some(path) = only_path(&command) else {
+        return Ok(None);
+    };
+    let cause = cause_at(alloc, path, files)?;
+    let line = line_about(alloc, path, cause)?;
+    Ok(Some(line))
+}
+
+/// The path of the only file that the command asks to read.
+fn only_path(command: &Command) -> Option<&str> {
+    match &command.job {
+        Job::Batch(Target::Breakpad(path), _) => Some(path.as_str()),
+        Job::Batch(Target::Gsym(path), _) => Some(path.as_str()),
+        Job::Batch(Target::Elf(path), _) => Some(path.as_str()),
+        Job::Make(Product::Converted(path)) => Some(path.as_str()),
+        Job::Make(Product::Canonical(path)) => Some(path.as_str()),
+        Job::Stacks(path) => Some(path.as_str()),
+        _ => None,
+    }
+}
+
+/// Why the file at the path can't be read.
+fn cause_at<F: Files>(alloc: Global, path: &str, files: &mut F) -> Result<&'static str>
+    ensures worlds { F.worlds files.new ≡ F.worlds files.old }
+{
+    if is_folder(alloc, path, files)? {
+        return Ok("is a folder");
+    }
+    match files.stat(path) {
+        Ok(stamp) if stamp.size > MOST_BYTES => Ok("is longer than 1 GiB"),
+        _ => Ok("reading failed"),
+    }
+}
+
+/// Whether there is a folder at the path.
+fn is_folder<F: Files>(alloc: Global, path: &str, files: &mut F) -> Result<bool>
+    ensures worlds { F.worlds files.new ≡ F.worlds files.old }
+{
+    // A folder alone has itself in it.
+    let within = format!(in alloc; "{path}/.")?;
+    Ok(files.stat(within.as_str()).is_ok())
+}

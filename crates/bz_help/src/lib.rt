@@ -1,0 +1,9 @@
+//! What standard error says of a run that gave no answers.
+#![tactic(auto)]
+
+mod failed;
+mod messages;
+mod refused;
+
+pub use failed::Failed;
+pub use messages::message;

@@ -1,0 +1,68 @@
+//! The message of a run.
+
+ghost use Rattle.std.specs.Prelude.{◌≡◌, ◌<◌, Some, None, codes, is_some, true, map, option_map, string_bytes, IfSome};
+ghost use Rattle.std.specs.Cow.{cow_str_bytes};
+ghost use Rattle.bz_files.specs.World.{Told, in_view};
+ghost use Rattle.bz_help.specs.Messages.{IsSilent, IsTold, SaysWhere};
+
+use crate::failed::{Failed, failure};
+use crate::refused::refused_file;
+use bz_files::Files;
+use bz_symq::Status;
+use bz_words::complaint;
+use std::alloc::Global;
+use std::borrow::CowStr;
+
+/// Of words that `clap` takes, and that are no command.
+const NO_COMMAND: &str =
+    "symq: no such command: it is breakpad PATH, gsym PATH, elf PATH, process PID, canon PATH, serve, or gen SEED FUNCTIONS ADDRESSES";
+
+/// What standard error says of a run of these words that ended so, without the end of the last line;
+/// none where standard output says it all, or memory ran out. Of a refused run it says where the
+/// Breakpad file is refused that the words name; of a faulty command line, what is wrong with it;
+/// of a failed run, which side failed, and at which path if that is known.
+pub fn message<F: Files>(
+    alloc: Global,
+    words: &[String],
+    status: Status,
+    failed: Failed,
+    files: &mut F,
+) -> Option<CowStr<'static>>
+    ensures silent { IsSilent status → result ≡ None }
+    ensures refused { status ≡ Status.Refused → Told (in_view (F.worlds files.old)) (λ world. IfSome result (λ line. SaysWhere (map string_bytes words.now) world (cow_str_bytes line))) }
+    ensures output { status ≡ Status.Fault → 0 < failed.output → option_map cow_str_bytes result ≡ Some (codes "symq: standard output: writing failed") }
+    ensures input { status ≡ Status.Fault → failed.output ≡ 0 → 0 < failed.input → option_map cow_str_bytes result ≡ Some (codes "symq: standard input: reading failed") }
+    ensures memory { status ≡ Status.Memory → option_map cow_str_bytes result ≡ Some (codes "symq: out of memory") }
+    ensures told { IsTold status → is_some result ≡ true }
+    ensures worlds { F.worlds files.new ≡ F.worlds files.old }
+{
+    match status {
+        Status::Done => None,
+        Status::Input => None,
+        Status::Refused => refusal(alloc, words, files),
+        Status::Usage => Some(usage(alloc, words)),
+        Status::Fault => Some(failure(alloc, words, failed, files)),
+        Status::Memory => Some(CowStr::Borrowed("symq: out of memory")),
+    }
+}
+
+// Where the Breakpad file is refused that the words name.
+fn refusal<F: Files>(alloc: Global, words: &[String], files: &mut F) -> Option<CowStr<'static>>
+    ensures says { Told (in_view (F.worlds files.old)) (λ world. IfSome result (λ line. SaysWhere (map string_bytes words.now) world (cow_str_bytes line))) }
+    ensures worlds { F.worlds files.new ≡ F.worlds files.old }
+{
+    match refused_file(alloc, words, files) {
+        Ok(Some(line)) => Some(CowStr::Owned(line)),
+        Ok(None) => None,
+        Err(_) => None,
+    }
+}
+
+// What is wrong with the words, if anything is known of it.
+fn usage(alloc: Global, words: &[String]) -> CowStr<'static> {
+    match complaint(alloc, words) {
+        Ok(Some(said)) => CowStr::Owned(said),
+        Ok(None) => CowStr::Borrowed(NO_COMMAND),
+        Err(_) => CowStr::Borrowed(NO_COMMAND),
+    }
+}

@@ -1,0 +1,84 @@
+//! Where a file is refused.
+
+ghost use Rattle.std.specs.Prelude.{◌≡◌, map, option_map, string_bytes, IfOk, IfSome};
+ghost use Rattle.bz_files.specs.World.{Told, in_view};
+ghost use Rattle.bz_help.specs.Messages.{SaysAt, SaysWhere, breakpad_path, line_about, said_of};
+ghost use Rattle.bz_words.specs.Command.{job_of};
+
+use bz_base::{Error, Input, Result};
+use bz_breakpad_refusal::{Refused, first_refused};
+use bz_files::Files;
+use bz_requests::Target;
+use bz_words::{BadWords, Job, Product, read_command};
+use std::alloc::{AllocError, Global};
+
+/// A line that says where the file is refused that the words ask to read as a Breakpad file; none
+/// where it isn't refused, or there is no such file.
+pub(crate) fn refused_file<F: Files>(
+    alloc: Global,
+    words: &[String],
+    files: &mut F,
+) -> Result<Option<String>>
+    ensures says { Told (in_view (F.worlds files.old)) (λ world. IfOk result (λ said. IfSome said (λ line. SaysWhere (map string_bytes words.now) world (string_bytes line)))) }
+    ensures worlds { F.worlds files.new ≡ F.worlds files.old }
+{
+    match read_command(alloc, words) {
+        Ok(command) => match breakpad_path(&command.job) {
+            Some(path) => refused_at(alloc, path, files),
+            None => Ok(None),
+        },
+        Err(BadWords::Usage) => Ok(None),
+        Err(BadWords::OutOfMemory) => Err(Error::OutOfMemory),
+    }
+}
+
+/// The path of the file that the job reads as a Breakpad file.
+fn breakpad_path(job: &Job) -> Option<&str>
+    ensures { option_map (λ path. path.now) result ≡ breakpad_path (job_of job.now) }
+{
+    match job {
+        Job::Batch(Target::Breakpad(path), Input::FileOffset(())) => Some(path.as_str()),
+        Job::Make(Product::Canonical(path)) => Some(path.as_str()),
+        _ => None,
+    }
+}
+
+/// A line that says where the file at the path is refused as a Breakpad file.
+fn refused_at<F: Files>(alloc: Global, path: &str, files: &mut F) -> Result<Option<String>>
+    ensures says { Told (in_view (F.worlds files.old)) (λ world. IfOk result (λ said. IfSome said (λ line. SaysAt path.now world (string_bytes line)))) }
+    ensures worlds { F.worlds files.new ≡ F.worlds files.old }
+{
+    let bytes = files.read(alloc, path)?;
+    match first_refused(alloc, bytes.as_slice())? {
+        Some(why) => {
+            let line = refused_line(alloc, path, why)?;
+            Ok(Some(line))
+        }
+        None => Ok(None),
+    }
+}
+
+fn refused_line(alloc: Global, path: &str, why: Refused) -> std::result::Result<String, AllocError>
+    ensures { IfOk result (λ line. string_bytes line ≡ line_about path.now (said_of why)) }
+{
+    match why {
+        Refused::Line(number) => {
+            let said = format!(in alloc; "line {number}: not a Breakpad record")?;
+            line_about(alloc, path, said.as_str())
+        }
+        Refused::NoEnd => line_about(alloc, path, "the last line has no end"),
+        Refused::Empty => line_about(alloc, path, "no lines"),
+    }
+}
+
+/// A line about what lies at a path.
+pub(crate) fn line_about(
+    alloc: Global,
+    path: &str,
+    said: &str,
+) -> std::result::Result<String, AllocError>
+    ensures { IfOk result (λ line. string_bytes line ≡ line_about path.now said.now) }
+{
+    let line = format!(in alloc; "symq: {path}: {said}")?;
+    Ok(line)
+}
