@@ -3,39 +3,56 @@
 #![tactic(auto)]
 
 use bz_files::{Files, RealFiles, RealIn, RealOut};
+use bz_help::{Failed, message};
 use bz_symq::{Status, own_pid, run};
+use std::borrow::CowStr;
 use std::process::ExitCode;
 use std::{env, io};
 
 fn main(rt: HostRuntime) -> ExitCode {
-    let status = run_real(&rt);
-    if let Some(message) = status.message() {
+    let (status, message) = run_real(&rt);
+    if let Some(message) = message {
         // The status says it too, so a message that can't be written is let go.
         let _unwritten = eprintln!(rt; "{message}");
     }
     ExitCode::from(status.code())
 }
 
-// Runs the program over the real files and the standard streams.
-fn run_real(rt: &HostRuntime) -> Status {
+// Runs the program over the real files and the standard streams, and says what standard error is to say.
+fn run_real(rt: &HostRuntime) -> (Status, Option<CowStr<'static>>) {
     let words = match command_words(rt) {
         Ok(words) => words,
-        Err(error) if error.kind() == io::ErrorKind::OutOfMemory => return Status::Memory,
+        Err(error) if error.kind() == io::ErrorKind::OutOfMemory => return out_of_memory(),
         // A word that isn't UTF-8 makes the words no command, as no words do.
         Err(_) => Vec::new(rt.alloc()),
     };
     let Ok(files_rt) = rt.clone() else {
-        return Status::Memory;
+        return out_of_memory();
     };
     let mut files = RealFiles::new(files_rt, read_own_pid(rt));
     let mut input = RealIn::new(rt.reader());
     let mut output = RealOut::new(io::writer(rt));
-    run(
+    let status = run(
         rt.alloc(),
         words.as_slice(),
         &mut input,
         &mut output,
         &mut files,
+    );
+    let failed = Failed {
+        input: input.faults(),
+        output: output.faults(),
+        files: files.faults(),
+    };
+    let message = message(rt.alloc(), words.as_slice(), status, failed, &mut files);
+    (status, message)
+}
+
+// A run for which there was no memory.
+fn out_of_memory() -> (Status, Option<CowStr<'static>>) {
+    (
+        Status::Memory,
+        Some(CowStr::Borrowed("symq: out of memory")),
     )
 }
 
