@@ -1,5 +1,5 @@
 -- What standard error says of a run, without the end of its last line.
-use Rattle.std.specs.Prelude.{◌≡◌, ℕ, List, ◌++◌, codes, decimal, Option, Some, None}
+use Rattle.std.specs.Prelude.{◌≡◌, ◌↔◌, ℕ, List, ◌++◌, codes, decimal, Option, Some, None}
 use Rattle.bz_base.specs.InputKind.{InFile}
 use Rattle.bz_breakpad_refusal.specs.Refusals.{IsRefusal}
 use Rattle.bz_breakpad_refusal.specs.declared.refused.Refused.{Refused}
@@ -27,14 +27,18 @@ breakpad_path (Batch (Breakpad path) InFile) = Some path
 breakpad_path (Make (Canonical path)) = Some path
 breakpad_path _ = None
 
--- the line says where what lies at the path is refused as a Breakpad file
+-- the line says where the bytes at a path are refused as a Breakpad file
+pub record SaysOf (path bytes line : List ℕ) : Type 0 where
+  pub why : Refused
+  pub refusal : IsRefusal bytes (Some why)
+  pub line_is : line ≡ line_about path (said_of why)
+
+-- and the bytes are those that lie there
 pub record SaysAt (path : List ℕ) (world : World) (line : List ℕ) : Type 0 where
   pub stamp : Stamp
   pub bytes : List ℕ
   pub there : entry_at world path ≡ Some (Present stamp bytes)
-  pub why : Refused
-  pub refusal : IsRefusal bytes (Some why)
-  pub line_is : line ≡ line_about path (said_of why)
+  pub says : SaysOf path bytes line
 
 -- and the path is that of the file that the words ask to read as a Breakpad file
 pub record SaysWhere (words : List (List ℕ)) (world : World) (line : List ℕ) : Type 0 where
@@ -43,6 +47,10 @@ pub record SaysWhere (words : List (List ℕ)) (world : World) (line : List ℕ)
   pub given : command_in words ≡ Some command
   pub named : breakpad_path command.job ≡ Some path
   pub says : SaysAt path world line
+
+-- what is said is the one line that says so; nothing is said where none does
+abbrev pub Tells : Option (List ℕ) → (List ℕ → Type 0) → Type 0
+Tells said Says = (line : List ℕ) → (said ≡ Some line) ↔ Says line
 
 -- a run of which nothing is said: it is done, or standard output says which line of the input is bad
 abbrev pub IsSilent : Status → Type 0

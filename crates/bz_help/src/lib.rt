@@ -7,3 +7,4 @@ mod refused;
 
 pub use failed::Failed;
 pub use messages::message;
+pub use refused::refused_file;

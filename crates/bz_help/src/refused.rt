@@ -1,25 +1,27 @@
 //! Where a file is refused.
 
-ghost use Rattle.std.specs.Prelude.{◌≡◌, map, option_map, string_bytes, IfOk, IfSome};
+ghost use Rattle.std.specs.Prelude.{◌≡◌, map, option_map, string_bytes, IfOk, IfErr};
+ghost use Rattle.bz_base.specs.Refusals.{IsFailure};
 ghost use Rattle.bz_files.specs.World.{Told, in_view};
-ghost use Rattle.bz_help.specs.Messages.{SaysAt, SaysWhere, breakpad_path, line_about, said_of};
+ghost use Rattle.bz_help.specs.Messages.{SaysAt, SaysOf, SaysWhere, Tells, breakpad_path, line_about, said_of};
 ghost use Rattle.bz_words.specs.Command.{job_of};
 
 use bz_base::{Error, Input, Result};
 use bz_breakpad_refusal::{Refused, first_refused};
-use bz_files::Files;
+use bz_files::{FileError, Files};
 use bz_requests::Target;
 use bz_words::{BadWords, Job, Product, read_command};
 use std::alloc::{AllocError, Global};
 
 /// A line that says where the file is refused that the words ask to read as a Breakpad file; none
-/// where it isn't refused, or there is no such file.
-pub(crate) fn refused_file<F: Files>(
+/// where it isn't refused so, or there is no such file. ReadFault: the file couldn't be read.
+pub fn refused_file<F: Files>(
     alloc: Global,
     words: &[String],
     files: &mut F,
 ) -> Result<Option<String>>
-    ensures says { Told (in_view (F.worlds files.old)) (λ world. IfOk result (λ said. IfSome said (λ line. SaysWhere (map string_bytes words.now) world (string_bytes line)))) }
+    ensures tells { Told (in_view (F.worlds files.old)) (λ world. IfOk result (λ said. Tells (option_map string_bytes said) (SaysWhere (map string_bytes words.now) world))) }
+    ensures failure { IfErr result IsFailure }
     ensures worlds { F.worlds files.new ≡ F.worlds files.old }
 {
     match read_command(alloc, words) {
@@ -45,11 +47,25 @@ fn breakpad_path(job: &Job) -> Option<&str>
 
 /// A line that says where the file at the path is refused as a Breakpad file.
 fn refused_at<F: Files>(alloc: Global, path: &str, files: &mut F) -> Result<Option<String>>
-    ensures says { Told (in_view (F.worlds files.old)) (λ world. IfOk result (λ said. IfSome said (λ line. SaysAt path.now world (string_bytes line)))) }
+    ensures tells { Told (in_view (F.worlds files.old)) (λ world. IfOk result (λ said. Tells (option_map string_bytes said) (SaysAt path.now world))) }
+    ensures failure { IfErr result IsFailure }
     ensures worlds { F.worlds files.new ≡ F.worlds files.old }
 {
-    let bytes = files.read(alloc, path)?;
-    match first_refused(alloc, bytes.as_slice())? {
+    match files.read(alloc, path) {
+        Ok(bytes) => refused_of(alloc, path, bytes.as_slice()),
+        Err(FileError::NotFound) => Ok(None),
+        Err(FileError::Denied) => Ok(None),
+        Err(FileError::Fault) => Err(Error::ReadFault),
+        Err(FileError::OutOfMemory) => Err(Error::OutOfMemory),
+    }
+}
+
+/// A line that says where the bytes of the file at the path are refused.
+fn refused_of(alloc: Global, path: &str, bytes: &[u8]) -> Result<Option<String>>
+    ensures tells { IfOk result (λ said. Tells (option_map string_bytes said) (SaysOf path.now bytes.now)) }
+    ensures failure { IfErr result IsFailure }
+{
+    match first_refused(alloc, bytes)? {
         Some(why) => {
             let line = refused_line(alloc, path, why)?;
             Ok(Some(line))
@@ -58,6 +74,7 @@ fn refused_at<F: Files>(alloc: Global, path: &str, files: &mut F) -> Result<Opti
     }
 }
 
+/// A line that says why the file at the path is refused.
 fn refused_line(alloc: Global, path: &str, why: Refused) -> std::result::Result<String, AllocError>
     ensures { IfOk result (λ line. string_bytes line ≡ line_about path.now (said_of why)) }
 {

@@ -1,18 +1,9 @@
-use Rattle.std.proofs.Common.{List, ℕ, Some, subst, ◌∙◌}
-use Rattle.bz_breakpad_refusal.specs.Refusals.{IsRefusal}
+use Rattle.std.proofs.Common.{◌∙◌, string_bytes}
+use Rattle.bz_help.proofs.WhereLemmas.{given_at}
 use Rattle.bz_help.proofs.refused.refused_at.Goals as goal
 
--- the bytes that were read are those at the path, and what is refused of them is so
-pub returns-in-Some-clause-says : goal.returns-in-Some-clause-says
-returns-in-Some-clause-says g c = λ world told.
-    let there = c.in_ok-bytes.ensures.answer world told in
-    let why = c.in-Some.why in
-    let P : List ℕ → Type 0 = λ bytes. IsRefusal bytes (Some why) in
-    record {
-      stamp = there.0;
-      bytes = there.1;
-      there = there.2;
-      why = why;
-      refusal = subst P (c.as_slice.ensures.value ∙ there.3) ((c.in_ok-why.ensures (Some why)).0 c.in-Some.is);
-      line_is = c.in_ok-line-in-Some.ensures;
-    }
+-- the bytes that were read are those at the path
+pub returns-in-Ok-clause-tells : goal.returns-in-Ok-clause-tells
+returns-in-Ok-clause-tells g c = λ world told.
+    let there = c.in-Ok.ensures.answer world told in
+    given_at string_bytes c.refused_of.result c.args.path.now world there.0 there.1 there.2 (rw (c.as_slice.ensures.value ∙ there.3) at c.refused_of.ensures.tells)
