@@ -1,0 +1,5 @@
+//! Tests of bz_help, over what it makes public.
+#![tactic(auto)]
+
+#[cfg(test)]
+mod said;
