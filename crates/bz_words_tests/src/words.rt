@@ -2,7 +2,7 @@
 
 use bz_base::Input;
 use bz_requests::{Config, Target};
-use bz_words::{BadWords, Command, Job, Product, read_command};
+use bz_words::{BadWords, Command, Job, Product, complaint, read_command};
 use std::alloc::Global;
 use std::test::Fail;
 
@@ -142,8 +142,30 @@ static REFUSED: [&str; 48] = [
     "--no-reload --input file",
 ];
 
-/// The command of a line.
-fn read(alloc: Global, line: &str) -> Result<Command, BadWords> {
+/// Lines, and how what `clap` says of them begins; nothing where it takes them.
+static COMPLAINTS: [(&str, &str); 9] = [
+    ("breakpad /a", ""),
+    ("breakpad", ""),
+    ("Breakpad /a", ""),
+    ("--input what breakpad /a", ""),
+    ("-x breakpad /a", "error: unexpected argument '-x' found\n"),
+    (
+        "breakpad /a --input",
+        "error: a value is required for '--input <input>' but none was supplied\n",
+    ),
+    (
+        "--no-reload breakpad --no-reload /a",
+        "error: the argument '--no-reload' cannot be used multiple times\n",
+    ),
+    (
+        "--no-reload",
+        "error: the following required arguments were not provided:\n  <kind>\n",
+    ),
+    ("--help", "Usage: symq [OPTIONS] <kind> [arg]...\n"),
+];
+
+/// The words of a line.
+fn words_of(alloc: Global, line: &str) -> Result<Vec<String>, BadWords> {
     let mut words = Vec::new(alloc);
     for word in line.split(' ') {
         let Ok(word) = String::from_str(alloc, word) else {
@@ -153,7 +175,24 @@ fn read(alloc: Global, line: &str) -> Result<Command, BadWords> {
             return Err(BadWords::OutOfMemory);
         };
     }
+    Ok(words)
+}
+
+/// The command of a line.
+fn read(alloc: Global, line: &str) -> Result<Command, BadWords> {
+    let words = words_of(alloc, line)?;
     read_command(alloc, words.as_slice())
+}
+
+/// Whether what `clap` says of a line begins so, and has no line feed at its end.
+fn is_complaint(alloc: Global, row: &(&str, &str)) -> Result<bool, BadWords> {
+    let words = words_of(alloc, row.0)?;
+    match complaint(alloc, words.as_slice())? {
+        Some(said) => Ok(
+            !row.1.is_empty() && said.as_str().starts_with(row.1) && !said.as_str().ends_with('\n'),
+        ),
+        None => Ok(row.1.is_empty()),
+    }
 }
 
 /// The sum of the flags that are given.
@@ -278,5 +317,17 @@ fn takes_numbers_to_their_greatest(rt: HostRuntime) -> Result<(), Fail> {
 #[test]
 fn refuses_no_words(rt: HostRuntime) -> Result<(), Fail> {
     assert!(rt; matches!(read_command(rt.alloc(), &[]), Err(BadWords::Usage)));
+    Ok(())
+}
+
+#[test]
+fn says_what_clap_says(rt: HostRuntime) -> Result<(), Fail> {
+    for row in &COMPLAINTS {
+        assert!(rt;
+            matches!(is_complaint(rt.alloc(), row), Ok(true)),
+            "at {}",
+            row.0
+        );
+    }
     Ok(())
 }
