@@ -6,5 +6,5 @@ mod messages;
 mod refused;
 
 pub use failed::Failed;
-pub use messages::message;
+pub use messages::{message, stored_message};
 pub use refused::refused_file;

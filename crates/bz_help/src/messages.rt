@@ -3,6 +3,7 @@
 ghost use Rattle.std.specs.Prelude.{◌≡◌, ◌<◌, Some, None, codes, is_some, true, map, option_map, string_bytes, IfSome};
 ghost use Rattle.std.specs.Cow.{cow_str_bytes};
 ghost use Rattle.bz_files.specs.World.{Told, in_view};
+ghost use Rattle.bz_symq.specs.Outcome.{message_of};
 ghost use Rattle.bz_help.specs.Messages.{IsSilent, IsTold, SaysWhere};
 
 use crate::failed::{Failed, failure};
@@ -32,7 +33,7 @@ pub fn message<F: Files>(
     ensures refused { status ≡ Status.Refused → Told (in_view (F.worlds files.old)) (λ world. IfSome result (λ line. SaysWhere (map string_bytes words.now) world (cow_str_bytes line))) }
     ensures output { status ≡ Status.Fault → 0 < failed.output → option_map cow_str_bytes result ≡ Some (codes "symq: standard output: writing failed") }
     ensures input { status ≡ Status.Fault → failed.output ≡ 0 → 0 < failed.input → option_map cow_str_bytes result ≡ Some (codes "symq: standard input: reading failed") }
-    ensures memory { status ≡ Status.Memory → option_map cow_str_bytes result ≡ Some (codes "symq: out of memory") }
+    ensures memory { status ≡ Status.Memory → option_map cow_str_bytes result ≡ message_of status }
     ensures told { IsTold status → is_some result ≡ true }
     ensures worlds { F.worlds files.new ≡ F.worlds files.old }
 {
@@ -42,7 +43,17 @@ pub fn message<F: Files>(
         Status::Refused => refusal(alloc, words, files),
         Status::Usage => Some(usage(alloc, words)),
         Status::Fault => Some(failure(alloc, words, failed, files)),
-        Status::Memory => Some(CowStr::Borrowed("symq: out of memory")),
+        Status::Memory => stored_message(status),
+    }
+}
+
+/// What the status says by itself.
+pub fn stored_message(status: Status) -> Option<CowStr<'static>>
+    ensures { option_map cow_str_bytes result ≡ message_of status }
+{
+    match status.message() {
+        Some(text) => Some(CowStr::Borrowed(text)),
+        None => None,
     }
 }
 

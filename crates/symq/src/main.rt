@@ -3,7 +3,7 @@
 #![tactic(auto)]
 
 use bz_files::{Files, RealFiles, RealIn, RealOut};
-use bz_help::{Failed, message};
+use bz_help::{Failed, message, stored_message};
 use bz_symq::{Status, own_pid, run};
 use std::borrow::CowStr;
 use std::process::ExitCode;
@@ -50,10 +50,7 @@ fn run_real(rt: &HostRuntime) -> (Status, Option<CowStr<'static>>) {
 
 // A run for which there was no memory.
 fn out_of_memory() -> (Status, Option<CowStr<'static>>) {
-    (
-        Status::Memory,
-        Some(CowStr::Borrowed("symq: out of memory")),
-    )
+    (Status::Memory, stored_message(Status::Memory))
 }
 
 // The id of the own process, as the system tells it; 0 where that can't be read.
