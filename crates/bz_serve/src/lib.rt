@@ -7,3 +7,4 @@ mod serving;
 mod sources;
 
 pub use serving::serve;
+pub use sources::new_symbolizer;

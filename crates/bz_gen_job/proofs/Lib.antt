@@ -1,0 +1,5 @@
+mod AskingLemmas
+mod BoundLemmas
+mod EndLemmas
+mod TallyLemmas
+mod TextLemmas

@@ -1,0 +1,71 @@
+//! Generated jobs, and how they end.
+
+ghost use Rattle.std.specs.Prelude.{◌<◌, ◌≤◌};
+
+use bz_files::MemOut;
+use bz_gen_job::generate;
+use bz_requests::Config;
+use bz_symq::Status;
+use std::alloc::Global;
+
+/// All features on.
+const ALL: Config = Config {
+    reload: true,
+    code_info: true,
+    inlined: true,
+    map_files: true,
+};
+
+/// Places in the source code, and no inlined calls.
+const PLACES: Config = Config {
+    reload: true,
+    code_info: true,
+    inlined: false,
+    map_files: true,
+};
+
+/// A generated job: its seed, functions and addresses.
+type Job = (u64, u64, u64);
+
+// Whether the job ends so, with this written; call number `failing` of the output fails, counted from 1.
+fn ends_so(
+    alloc: Global,
+    config: Config,
+    (seed, functions, addresses): Job,
+    failing: u64,
+    status: Status,
+    written: &str,
+) -> bool
+    requires seed { seed < 2147483648 }
+    requires functions { functions ≤ 100000 }
+    requires addresses { addresses ≤ 100000 }
+{
+    let mut output = MemOut::new(alloc);
+    output.fail_call(failing);
+    generate(alloc, config, seed, functions, addresses, &mut output) == status
+        && output.written() == written.as_bytes()
+}
+
+#[test]
+fn counts_what_is_answered(rt: HostRuntime) {
+    let written =
+        "functions 1000\naddresses 1000\nknown 752\nunknown 248\ninlined 133\noffsets 17188\n";
+    assert!(rt; ends_so(rt.alloc(), ALL, (1, 1000, 1000), 0, Status::Done, written));
+}
+
+#[test]
+fn counts_no_calls_that_are_not_asked_for(rt: HostRuntime) {
+    let written = "functions 2\naddresses 5\nknown 3\nunknown 2\ninlined 0\noffsets 36\n";
+    assert!(rt; ends_so(rt.alloc(), PLACES, (3, 2, 5), 0, Status::Done, written));
+}
+
+#[test]
+fn knows_nothing_without_functions(rt: HostRuntime) {
+    let written = "functions 0\naddresses 3\nknown 0\nunknown 3\ninlined 0\noffsets 0\n";
+    assert!(rt; ends_so(rt.alloc(), ALL, (7, 0, 3), 0, Status::Done, written));
+}
+
+#[test]
+fn ends_where_writing_fails(rt: HostRuntime) {
+    assert!(rt; ends_so(rt.alloc(), ALL, (3, 2, 5), 1, Status::Fault, ""));
+}
