@@ -1,5 +1,5 @@
 -- What a new symbolizer answers by a Breakpad file in memory no look at which fails.
-use Rattle.std.proofs.Common.{◌≡◌, ℕ, List, length, pos, Some, Result, Ok, Err, IfOk, IsOkUnless, refl, subst, ◌∙◌}
+use Rattle.std.proofs.Common.{◌≡◌, ℕ, List, length, pos, Some, Result, Ok, Err, IfOk, IsOkUnless, refl, subst, ◌∙◌, arith}
 use Rattle.std.specs.Cmp.Lexicographic.{nat_list_cmp_total}
 use Rattle.std.specs.FinMap as finite_map
 use Rattle.std.specs.FinMap.{get-insert}
@@ -43,17 +43,20 @@ module _ {A B : Type 0} (reading : A → B) (expected : B) where
 
 -- a count that doesn't rise counts no fault
 pub never_faults : (failed : Type 0) → CountsFaults 0 0 failed → failed → ⊥
-never_faults failed counts is = let rose : 0 ≡ 1 = counts.fault is in cc
+never_faults failed counts is = let rose : ◌≡◌ {A = ℕ} 0 1 = counts.fault is in absurd (omega (arith, rose))
 
 -- the world that has one file
 abbrev world_of_file : List ℕ → List ℕ → World
 world_of_file path bytes = (first_world (after_put path bytes (new_worlds 0)).worlds)
 
 there_is_file : (path bytes : List ℕ) → (stamp : Stamp) × (entry_at (world_of_file path bytes) path ≡ Some (Present stamp bytes))
-there_is_file path bytes =
-    (record { dev = 1; inode = 1; size = length bytes; mtime_sec = pos 1; mtime_nsec = pos 0 },
-    rw (get-insert nat_list_cmp_total finite_map.empty path (Present (record { dev = 1; inode = 1; size = length bytes; mtime_sec = pos 1; mtime_nsec = pos 0 }) bytes) path,
-    (eq_by_cmp_equiv nat_list_cmp_total).refl path) refl)
+there_is_file path bytes = (
+  record { dev = 1; inode = 1; size = length bytes; mtime_sec = pos 1; mtime_nsec = pos 0 },
+  rw (
+    get-insert nat_list_cmp_total finite_map.empty path (Present (record { dev = 1; inode = 1; size = length bytes; mtime_sec = pos 1; mtime_nsec = pos 0 }) bytes) path,
+    (eq_by_cmp_equiv nat_list_cmp_total).refl path,
+  ) refl,
+)
 
 module _ (opts : FindSymOpts) (settings : Settings) (path bytes addrs : List ℕ) (table : Table) (is_file : IsFile bytes table) where
   -- a symbolizer that keeps nothing answers by the file's table

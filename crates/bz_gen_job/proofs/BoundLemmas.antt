@@ -11,6 +11,7 @@ use Rattle.bz_base.specs.SeenFrom as base
 use Rattle.bz_base.specs.declared.error.Error.{Error}
 use Rattle.bz_base.specs.declared.types.FindSymOpts.{FindSymOpts}
 use Rattle.bz_base.specs.declared.types.FindSymOpts.TheVariants as asked
+use Rattle.bz_base.specs.declared.types.Reason.TheVariants as reasons
 use Rattle.bz_base.proofs.SeenLaws.{calls_rotated}
 use Rattle.bz_breakpad.specs.Places.{Placed, by_line, by_seen, call_name, call_site, calls_around, calls_asked, line_at, placed_at, seen_from, site_in}
 use Rattle.bz_breakpad.specs.Plain.{any_between, batch, by_function, by_place, by_public, by_records, function_at, plain, public_at, public_symbol_at}
@@ -21,13 +22,14 @@ use Rattle.bz_gen_job.specs.Summary.{Fits, calls_in, inlined, is_known, known, o
 
 -- a chain has no more records than there are depths
 module _ {X : Type 0} (depth start size : X → ℕ) (records : List X) (addr : ℕ) where
+  few_linked : (found : Option X) (rest : ℕ → List X) (most : ℕ) → length (rest 0) ≤ most → length (link depth start size found rest) ≤ suc most
+  few_linked None rest most few = omega arith
+  few_linked (Some x) rest most few = omega (arith, few)
+
   few_from : (most at : ℕ) → length (chain_from depth start size records addr most at) ≤ most
   unfolding chain_from
   few_from zero at = omega arith
-  few_from (suc most) at = by_link (around depth start size addr (inner depth start at addr records)) where
-    by_link : (found : Option X) → length (link depth start size found (λ _. chain_from depth start size records addr most (at + 1))) ≤ suc most
-    by_link None = omega arith
-    by_link (Some x) = let rest = few_from most (at + 1) in omega (arith, rest)
+  few_from (suc most) at = few_linked (around depth start size addr (inner depth start at addr records)) (λ _. chain_from depth start size records addr most (at + 1)) most (few_from most (at + 1))
 
   few_in_chain : length (chain depth start size records addr) ≤ depths
   unfolding chain
@@ -71,7 +73,7 @@ module _ (table : Table) (addr : ℕ) where
     few_by_place f (Ok placed) is = few_placed opts f placed is
     few_by_place f (Err e) is = omega arith
 
-    few_if_public : (p : PublicSymbol) (between : Bool) → calls_in (cond {A = Answer} between (Unknown _) (Known (public_symbol_at table p addr))) ≤ depths
+    few_if_public : (p : PublicSymbol) (between : Bool) → calls_in (cond {A = Answer} between (Unknown reasons.UnknownAddr) (Known (public_symbol_at table p addr))) ≤ depths
     few_if_public p true = omega arith
     few_if_public p false = omega arith
 

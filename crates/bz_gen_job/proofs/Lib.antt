@@ -2,4 +2,3 @@ mod AskingLemmas
 mod BoundLemmas
 mod EndLemmas
 mod TallyLemmas
-mod TextLemmas

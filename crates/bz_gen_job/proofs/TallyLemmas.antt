@@ -1,6 +1,6 @@
 -- A tally that grows answer by answer.
-use Rattle.std.proofs.Common.{◌≡◌, ℕ, ◌+◌, ◌<◌, ◌≤◌, Bool, true, false, not, cond, List, [], ◌∷◌, length, drop, get_or, Some, refl, sym, ap, subst, ◌∙◌, arith}
-use Rattle.std.specs.List.{count_by, slice_get, sum_by}
+use Rattle.std.proofs.Common.{◌≡◌, ℕ, ◌+◌, ◌≤◌, not, cond, List, [], length, drop, Some, ap, ◌∙◌, arith}
+use Rattle.std.specs.List.{slice_get, sum_by}
 use Rattle.std.proofs.lemmas.List.{drop_all}
 use Rattle.std.proofs.lemmas.List.Sums.{sum_by-drop_more}
 use Rattle.std.proofs.lemmas.Option.{get_or_from_slice_get, slice_get_within}
@@ -17,7 +17,7 @@ pub record TalliedSoFar (answers : List Answer) (tally : Tally) (index : ℕ) : 
 
 module _ (answers : List Answer) where
   pub none_tallied : TalliedSoFar answers (record { known = 0; unknown = 0; inlined = 0; offsets = 0 }) 0
-  none_tallied = record { known = refl; unknown = refl; inlined = refl; offsets = refl }
+  none_tallied = record { known = omega arith; unknown = omega arith; inlined = omega arith; offsets = omega arith }
 
   module _ (tally : Tally) (index : ℕ) (so_far : TalliedSoFar answers tally index) where
     module _ (answer : Answer) (there : slice_get answers index ≡ Some answer) where
@@ -26,14 +26,10 @@ module _ (answers : List Answer) where
       first_left f = sum_by-drop_more f answers index answer (slice_get_within answers index answer there)
           ∙ ap (λ (a : Answer). f a + sum_by f (drop (index + 1) answers)) (get_or_from_slice_get answers index answer answer there)
 
-      not_known : (b : Bool) → cond (not b) 1 0 ≡ cond b 0 1
-      not_known true = refl
-      not_known false = refl
-
       pub one_more : TalliedSoFar answers (with_answer answer tally) (index + 1)
       one_more = record {
         known = omega (arith, so_far.known, first_left (λ a. cond (is_known a) 1 0));
-        unknown = omega (arith, so_far.unknown, first_left (λ a. cond (not (is_known a)) 1 0), not_known (is_known answer));
+        unknown = omega (arith, so_far.unknown, first_left (λ a. cond (not (is_known a)) 1 0));
         inlined = omega (arith, so_far.inlined, first_left calls_in);
         offsets = omega (arith, so_far.offsets, first_left offset_in);
       }

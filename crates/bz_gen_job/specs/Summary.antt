@@ -40,7 +40,7 @@ tally_of answers = record { known = known answers; unknown = unknown answers; in
 abbrev pub with_answer : Answer → Tally → Tally
 with_answer answer tally = record {
   known = tally.known + cond (is_known answer) 1 0;
-  unknown = tally.unknown + cond (is_known answer) 0 1;
+  unknown = tally.unknown + cond (not (is_known answer)) 1 0;
   inlined = tally.inlined + calls_in answer;
   offsets = tally.offsets + offset_in answer;
 }

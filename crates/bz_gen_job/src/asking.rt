@@ -64,7 +64,13 @@ fn answers_of<L: Ledger>(
     let mut files = SteadyFiles::of_file(alloc, PATH, text)?;
     let src = breakpad_source(alloc, PATH)?;
     let mut symbolizer = new_symbolizer(alloc, config);
-    symbolizer.look_up(alloc, &mut files, &src, Input::FileOffset(addrs), &mut steps)
+    symbolizer.look_up(
+        alloc,
+        &mut files,
+        &src,
+        Input::FileOffset(addrs),
+        &mut steps,
+    )
 }
 
 fn breakpad_source(alloc: Global, path: &str) -> Result<Source<'static>>

@@ -4,7 +4,7 @@ ghost use Rattle.std.specs.Prelude.{◌≡◌, IfOk, IsOkUnless};
 ghost use Rattle.bz_base.specs.declared.error.Error.{Error};
 ghost use Rattle.bz_files.specs.MemWorlds.{after_put, new_worlds};
 
-use bz_base::Result;
+use bz_base::Error;
 use bz_files::{FileError, Files, MemFiles, Stamp};
 use std::alloc::Global;
 use std::marker::Model;
@@ -30,7 +30,7 @@ impl Model for SteadyFiles {
 
 impl SteadyFiles {
     /// The file with these bytes at the path, and nothing else.
-    pub(crate) fn of_file(alloc: Global, path: &str, bytes: Vec<u8>) -> Result<SteadyFiles>
+    pub(crate) fn of_file(alloc: Global, path: &str, bytes: Vec<u8>) -> Result<SteadyFiles, Error>
         ensures ok { IfOk result (λ files. files ≡ after_put path.now bytes.items (new_worlds 0)) }
         ensures memory { IsOkUnless result Error.OutOfMemory }
     {
