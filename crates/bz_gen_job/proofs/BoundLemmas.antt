@@ -1,24 +1,22 @@
 -- How much a generated job counts at most.
 use Rattle.std.proofs.Common.{◌≡◌, ℕ, zero, suc, ◌+◌, ◌*◌, ◌/◌, ◌%◌, ◌<◌, ◌≤◌, Bool, true, false, cond, not, List, [], ◌∷◌, length, map, Option, Some, None, Result, Ok, Err, refl, sym, ap, subst, ◌∙◌, arith}
-use Rattle.std.specs.List.{count_by, sum_by}
 use Rattle.std.proofs.Math.Nat.{mod-lt}
 use Rattle.std.proofs.lemmas.List.{length-map}
 use Rattle.std.proofs.lemmas.List.Sums.{count_by-le-length, sum_by-cons}
-use Rattle.bz_base.specs.Answer.{Answer, Call, Site, Symbol, in_batch}
+use Rattle.bz_base.specs.Answer.{Answer, Call, Site, in_batch}
 use Rattle.bz_base.specs.Answer.Answer.{Known, Unknown}
 use Rattle.bz_base.specs.Chain.{around, chain, chain_from, depths, inner, link}
-use Rattle.bz_base.specs.SeenFrom as base
 use Rattle.bz_base.specs.declared.error.Error.{Error}
 use Rattle.bz_base.specs.declared.types.FindSymOpts.{FindSymOpts}
 use Rattle.bz_base.specs.declared.types.FindSymOpts.TheVariants as asked
 use Rattle.bz_base.specs.declared.types.Reason.TheVariants as reasons
 use Rattle.bz_base.proofs.SeenLaws.{calls_rotated}
-use Rattle.bz_breakpad.specs.Places.{Placed, by_line, by_seen, call_name, call_site, calls_around, calls_asked, line_at, placed_at, seen_from, site_in}
+use Rattle.bz_breakpad.specs.Places.{Placed, by_line, by_seen, call_name, call_site, calls_asked, line_at, placed_at, seen_from, site_in}
 use Rattle.bz_breakpad.specs.Plain.{any_between, batch, by_function, by_place, by_public, by_records, function_at, plain, public_at, public_symbol_at}
 use Rattle.bz_breakpad.specs.Table.{Function, Inlinee, PublicSymbol, SourceLine, Table}
 use Rattle.bz_breakpad.proofs.AddressLaws.{known_at}
 use Rattle.bz_gen.specs.Generated.{address_by, addresses_after, next_number}
-use Rattle.bz_gen_job.specs.Summary.{Fits, calls_in, inlined, is_known, known, offset_in, offsets, tally_of, unknown}
+use Rattle.bz_gen_job.specs.Summary.{Fits, calls_in, inlined, is_known, offset_in, offsets, tally_of}
 
 -- a chain has no more records than there are depths
 module _ {X : Type 0} (depth start size : X → ℕ) (records : List X) (addr : ℕ) where

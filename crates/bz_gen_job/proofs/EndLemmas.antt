@@ -1,11 +1,10 @@
 -- How a generated job ends.
-use Rattle.std.proofs.Common.{◌≡◌, ◌⊎◌, ℕ, List, [], ◌++◌, Some, Result, Ok, Err, refl, sym, ap, subst, inl, inr, ◌∙◌, append-nil, arith}
+use Rattle.std.proofs.Common.{◌≡◌, ℕ, List, [], Some, Result, Ok, Err, refl, sym, ap, inl, inr, ◌∙◌, append-nil}
 use Rattle.bz_files.specs.declared.text.IoFault.{IoFault}
 use Rattle.bz_files.specs.declared.text.IoFault.TheVariants as faults
 use Rattle.bz_files.specs.declared.text.TextOut as output_trait
 use Rattle.bz_requests.specs.declared.requests.Config.{Config}
 use Rattle.bz_serve.proofs.FaultLemmas.{counts_as, counts_still}
-use Rattle.bz_symq.specs.Run.{Ends, IsOrFails}
 use Rattle.bz_symq.specs.Writing.{WritesText}
 use Rattle.bz_symq.specs.declared.status.Status.{Status}
 use Rattle.bz_symq.specs.declared.status.Status.TheVariants as statuses

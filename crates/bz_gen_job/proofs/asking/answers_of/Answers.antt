@@ -2,10 +2,7 @@ use Rattle.std.proofs.Common.{List, Some, ap}
 use Rattle.bz_base.specs.Answer.{Answer}
 use Rattle.bz_files.specs.MemWorlds.{MemWorlds}
 use Rattle.bz_files.specs.World.{in_view}
-use Rattle.bz_cache.specs.Format.{Comes}
-use Rattle.bz_breakpad.specs.Grammar.{IsFile}
 use Rattle.bz_breakpad.specs.Plain.{batch}
-use Rattle.bz_breakpad.specs.Table.{Table}
 use Rattle.bz_serve.specs.Kept.{Kept}
 use Rattle.bz_serve.specs.Runs.{settings_of}
 use Rattle.bz_symbolize.specs.State.{opts_of}

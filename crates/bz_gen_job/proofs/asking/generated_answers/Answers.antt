@@ -1,4 +1,3 @@
-use Rattle.std.proofs.Common.{subst}
 use Rattle.bz_gen_file.specs.GeneratedTable.{generated_table}
 use Rattle.bz_gen_job.proofs.asking.generated_answers.Goals as goal
 

@@ -5,8 +5,8 @@ use Rattle.bz_gen_job.proofs.BoundLemmas.{generated_fits}
 use Rattle.bz_gen_job.proofs.summary.generated_summary.Goals as goal
 
 -- what is counted fits
-pub tally_of-tally-requires : goal.tally_of-tally-requires
-tally_of-tally-requires c =
+pub tally_of-requires : goal.tally_of-requires
+tally_of-requires c =
     rw c.in_ok-lookups.ensures.answers
     (generated_fits (generated_table c.args.functions) (opts_of (settings_of c.args.config)) c.args.functions c.args.seed c.args.addresses c.requires.functions c.requires.addresses)
 

@@ -2,7 +2,7 @@ use Rattle.std.proofs.Common.{◌≡◌, ◌<◌, length, Some, arith}
 use Rattle.std.specs.List.{slice_get}
 use Rattle.bz_base.specs.Answer.{reading}
 use Rattle.bz_symbolize.proofs.BatchLemmas.{answer_there}
-use Rattle.bz_gen_job.proofs.TallyLemmas.{all_tallied, none_tallied, one_more, one_more_fits}
+use Rattle.bz_gen_job.proofs.TallyLemmas.{none_tallied, one_more, one_more_fits}
 use Rattle.bz_gen_job.proofs.tally.tally_of.Goals as goal
 
 -- none is counted
