@@ -24,16 +24,13 @@ const PLACES: Config = Config {
     map_files: true,
 };
 
-/// A generated job: its seed, functions and addresses.
-type Job = (u64, u64, u64);
-
-// Whether the job ends so, with this written; call number `failing` of the output fails, counted from 1.
-fn ends_so(
+// Whether the job is done, with this written.
+fn writes(
     alloc: Global,
     config: Config,
-    (seed, functions, addresses): Job,
-    failing: u64,
-    status: Status,
+    seed: u64,
+    functions: u64,
+    addresses: u64,
     written: &str,
 ) -> bool
     requires seed { seed < 2147483648 }
@@ -41,8 +38,7 @@ fn ends_so(
     requires addresses { addresses ≤ 100000 }
 {
     let mut output = MemOut::new(alloc);
-    output.fail_call(failing);
-    generate(alloc, config, seed, functions, addresses, &mut output) == status
+    generate(alloc, config, seed, functions, addresses, &mut output) == Status::Done
         && output.written() == written.as_bytes()
 }
 
@@ -50,22 +46,29 @@ fn ends_so(
 fn counts_what_is_answered(rt: HostRuntime) {
     let written =
         "functions 1000\naddresses 1000\nknown 752\nunknown 248\ninlined 133\noffsets 17188\n";
-    assert!(rt; ends_so(rt.alloc(), ALL, (1, 1000, 1000), 0, Status::Done, written));
+    assert!(rt; writes(rt.alloc(), ALL, 1, 1000, 1000, written));
 }
 
 #[test]
 fn counts_no_calls_that_are_not_asked_for(rt: HostRuntime) {
     let written = "functions 2\naddresses 5\nknown 3\nunknown 2\ninlined 0\noffsets 36\n";
-    assert!(rt; ends_so(rt.alloc(), PLACES, (3, 2, 5), 0, Status::Done, written));
+    assert!(rt; writes(rt.alloc(), PLACES, 3, 2, 5, written));
 }
 
 #[test]
 fn knows_nothing_without_functions(rt: HostRuntime) {
     let written = "functions 0\naddresses 3\nknown 0\nunknown 3\ninlined 0\noffsets 0\n";
-    assert!(rt; ends_so(rt.alloc(), ALL, (7, 0, 3), 0, Status::Done, written));
+    assert!(rt; writes(rt.alloc(), ALL, 7, 0, 3, written));
+}
+
+// Whether the job ends by a fault where the first call of the output fails, with nothing written.
+fn fails_at_once(alloc: Global) -> bool {
+    let mut output = MemOut::new(alloc);
+    output.fail_call(1);
+    generate(alloc, ALL, 3, 2, 5, &mut output) == Status::Fault && output.written().is_empty()
 }
 
 #[test]
 fn ends_where_writing_fails(rt: HostRuntime) {
-    assert!(rt; ends_so(rt.alloc(), ALL, (3, 2, 5), 1, Status::Fault, ""));
+    assert!(rt; fails_at_once(rt.alloc()));
 }
