@@ -7,4 +7,3 @@ mod serving;
 mod sources;
 
 pub use serving::serve;
-pub use sources::new_symbolizer;

@@ -3,8 +3,7 @@ use Rattle.bz_base.specs.Answer.{Answer}
 use Rattle.bz_files.specs.MemWorlds.{MemWorlds}
 use Rattle.bz_files.specs.World.{in_view}
 use Rattle.bz_breakpad.specs.Plain.{batch}
-use Rattle.bz_serve.specs.Kept.{Kept}
-use Rattle.bz_serve.specs.Runs.{settings_of}
+use Rattle.bz_symq.specs.Kept.{Kept, settings_of}
 use Rattle.bz_symbolize.specs.State.{opts_of}
 use Rattle.bz_symbolize.specs.declared.lookups.Lookups.{Lookups}
 use Rattle.bz_gen_job.proofs.AskingLemmas.{answered, comes_by_file, never_faults, unrefused}

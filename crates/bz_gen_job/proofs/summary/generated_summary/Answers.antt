@@ -1,5 +1,5 @@
 use Rattle.bz_gen_file.specs.GeneratedTable.{generated_table}
-use Rattle.bz_serve.specs.Runs.{settings_of}
+use Rattle.bz_symq.specs.Kept.{settings_of}
 use Rattle.bz_symbolize.specs.State.{opts_of}
 use Rattle.bz_gen_job.proofs.BoundLemmas.{generated_fits}
 use Rattle.bz_gen_job.proofs.summary.generated_summary.Goals as goal
