@@ -1,7 +1,7 @@
 mod AnswerTextLemmas
-mod EndLemmas
+pub mod EndLemmas
 mod FaultLemmas
-mod InputTextLemmas
+pub mod InputTextLemmas
 mod OpenLemmas
 mod OutputLemmas
 mod PieceLemmas

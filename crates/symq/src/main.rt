@@ -4,7 +4,8 @@
 
 use bz_files::{Files, RealFiles, RealIn, RealOut};
 use bz_help::{Failed, message, stored_message};
-use bz_symq::{Status, own_pid, run};
+use bz_run::run;
+use bz_symq::{Status, own_pid};
 use std::borrow::CowStr;
 use std::process::ExitCode;
 use std::{env, io};

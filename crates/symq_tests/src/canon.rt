@@ -30,7 +30,8 @@ const ENDINGS: &[Ending] = &[
         Status::Refused,
         "refused: InvalidInput\n",
     ),
-    ("-", FIRST, (0, 0), Status::Usage, USAGE),
+    ("-", FIRST, (0, 0), Status::Refused, "refused: NotFound\n"),
+    ("-x", FIRST, (0, 0), Status::Usage, USAGE),
     ("/a.sym", FIRST, (1, 0), Status::Fault, ""),
     (
         "/a.sym",

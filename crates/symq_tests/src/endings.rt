@@ -2,7 +2,8 @@
 
 use crate::runs::{ADDRESSES, FIRST, USAGE, ends_so, over_first};
 use bz_files::{MemFiles, MemIn, MemOut};
-use bz_symq::{Status, run};
+use bz_run::run;
+use bz_symq::Status;
 use std::alloc::Global;
 
 /// A blank line after a line record.
@@ -32,7 +33,14 @@ const ENDINGS: &[Ending] = &[
         Status::Refused,
         "refused: PermissionDenied\n",
     ),
-    ("-", FIRST, (0, 0, 0), Status::Usage, USAGE),
+    (
+        "-",
+        FIRST,
+        (0, 0, 0),
+        Status::Refused,
+        "refused: NotFound\n",
+    ),
+    ("-x", FIRST, (0, 0, 0), Status::Usage, USAGE),
     (
         "/a.sym",
         BLANK_LINE,

@@ -24,4 +24,8 @@ mod processes;
 #[cfg(test)]
 mod runs;
 #[cfg(test)]
+mod serve;
+#[cfg(test)]
 mod texts;
+#[cfg(test)]
+mod words;

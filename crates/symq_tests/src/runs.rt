@@ -3,9 +3,10 @@
 use crate::{many, nested};
 use bz_base::Result;
 use bz_files::{MemFiles, MemIn, MemOut};
+use bz_run::run;
 use bz_symbolize::Symbolizer;
 use bz_symbolize::source::{Breakpad, Source};
-use bz_symq::{Status, run};
+use bz_symq::Status;
 use std::alloc::Global;
 
 /// A Breakpad file of one function.

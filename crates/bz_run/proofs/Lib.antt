@@ -1,0 +1,4 @@
+mod AskedLemmas
+mod RequestsLemmas
+mod RunLemmas
+mod SideLemmas

@@ -1,0 +1,144 @@
+-- What a run over words promises, from the run of their command.
+use Rattle.std.proofs.Common.{◌≡◌, ◌≢◌, ◌⊎◌, ◌+◌, ◌≤◌, ℕ, List, Option, Some, None, Result, Ok, Err, refl, sym, ap, ◌∙◌, inl, inr, arith}
+use Rattle.bz_base.specs.InputKind.{AddressKind}
+use Rattle.bz_base.specs.declared.error.Error.{Error}
+use Rattle.bz_base.specs.declared.error.Error.TheVariants as errors
+use Rattle.bz_files.specs.declared.files.Files as files_trait
+use Rattle.bz_files.specs.declared.text.TextIn as input_trait
+use Rattle.bz_files.specs.declared.text.TextOut as output_trait
+use Rattle.bz_requests.specs.Requests as requests
+use Rattle.bz_requests.specs.declared.requests.Config.{Config}
+use Rattle.bz_serve.proofs.FaultLemmas.{counts_still}
+use Rattle.bz_symq.proofs.EndLemmas.{runs_without_reply}
+use Rattle.bz_symq.specs.Command as asked
+use Rattle.bz_symq.specs.Reply.{IsDoneReply}
+use Rattle.bz_symq.specs.Run as one_command
+use Rattle.bz_symq.specs.Run.{IsOrFails}
+use Rattle.bz_symq.specs.Turns.{ReadsFor, TakesTurns}
+use Rattle.bz_symq.specs.declared.reply.Reply.{Reply}
+use Rattle.bz_symq.specs.declared.status.Status.{Status}
+use Rattle.bz_symq.specs.declared.status.Status.TheVariants as statuses
+use Rattle.bz_words.specs.Command.{Batch, Canonical, Command, Converted, Frames, Generate, Job, Make, Serve, Stacks, command_in}
+use Rattle.bz_run.specs.Misuse.{Misused, built, usage}
+use Rattle.bz_run.specs.Run.{Runs, RunsCommand, RunsJob, asked_target}
+use Rattle.bz_run.specs.Sides.{FailsAtOneSide}
+use Rattle.bz_run.proofs.RequestsLemmas.{failed_ends, requests_unread}
+use Rattle.bz_run.proofs.SideLemmas.{fails_at_output}
+
+-- what the status of a run says of its command
+abbrev HasUsage : Option Command → Status → Type 0
+HasUsage command ended = (ended ≡ statuses.Usage → built command ≡ None) × (built command ≡ None → IsOrFails statuses.Usage ended)
+
+-- the usage isn't told at these statuses
+never_usage : (ended : Status) → (ended ≡ statuses.Input) ⊎ IsOrFails statuses.Done ended → ended ≢ statuses.Usage
+never_usage ended (inl same) is = cc
+never_usage ended (inr (inl same)) is = cc
+never_usage ended (inr (inr (inl same))) is = cc
+never_usage ended (inr (inr (inr same))) is = cc
+
+module _ {R W F : Type 0} (reads : input_trait.Ghosts R) (writes : output_trait.Ghosts W) (looks : files_trait.Ghosts F) (ended : Status)
+    (input_before input_after : R) (output_before output_after : W) (files_before files_after : F) where
+  abbrev Misuse : Type 0
+  Misuse = Misused writes ended input_before input_after output_before output_after files_before files_after
+
+  abbrev Job_runs : Config → Job → Type 0
+  Job_runs config job = RunsJob reads writes looks config job ended input_before input_after output_before output_after files_before files_after
+
+  abbrev At_one_side : Type 0
+  At_one_side = FailsAtOneSide reads writes looks ended input_before input_after output_before output_after files_before files_after
+
+  -- a job that isn't built is misuse, and no other is
+  misuse_usage : (command : Command) → built (Some command) ≡ None → Misuse → HasUsage (Some command) ended
+  misuse_usage command none misused = (λ _. none, λ _. misused.usage_written.status)
+
+  job_usage : (config : Config) (job : Job) → Job_runs config job → HasUsage (Some (record { config = config; job = job })) ended
+  job_usage config (Batch target kind) run = (λ is. absurd (run.usage is), λ none. cc)
+  job_usage config Serve run = (λ is. absurd (never_usage ended run.status is), λ none. cc)
+  job_usage config (Make (Canonical path)) run = (λ is. absurd (run.usage is), λ none. cc)
+  job_usage config (Make (Converted path)) run = misuse_usage (record { config = config; job = Make (Converted path) }) refl run
+  job_usage config (Generate seed functions addresses) run = misuse_usage (record { config = config; job = Generate seed functions addresses }) refl run
+  job_usage config (Stacks path) run = misuse_usage (record { config = config; job = Stacks path }) refl run
+  job_usage config (Frames path) run = misuse_usage (record { config = config; job = Frames path }) refl run
+
+  -- and each fails at one side
+  misuse_fails : Misuse → At_one_side
+  misuse_fails misused =
+      fails_at_output reads writes looks ended _ _ _ _ _ _ (ap reads.faults misused.unread) misused.usage_written.counts (ap looks.faults misused.unlooked)
+
+  command_fails : (command : asked.Command) → one_command.Runs reads writes looks command ended input_before input_after output_before output_after files_before files_after → At_one_side
+  command_fails command run = record {
+    failed = run.fails.failed;
+    fault = run.fails.fault;
+    input_faults = run.fails.input_faults;
+    output_faults = run.fails.output_faults;
+    files_faults = run.fails.files.faults;
+  }
+
+  job_fails : (config : Config) (job : Job) → Job_runs config job → At_one_side
+  job_fails config (Batch target kind) run = command_fails _ run
+  job_fails config Serve run = run.fails
+  job_fails config (Make (Canonical path)) run = command_fails _ run
+  job_fails config (Make (Converted path)) run = misuse_fails run
+  job_fails config (Generate seed functions addresses) run = misuse_fails run
+  job_fails config (Stacks path) run = misuse_fails run
+  job_fails config (Frames path) run = misuse_fails run
+
+  -- the run of a command, if there is one, is a run
+  run_usage : (command : Option Command) → RunsCommand reads writes looks command ended input_before input_after output_before output_after files_before files_after → HasUsage command ended
+  run_usage None run = (λ _. refl, λ _. run.usage_written.status)
+  run_usage (Some command) run = job_usage command.config command.job run
+
+  run_fails : (command : Option Command) → RunsCommand reads writes looks command ended input_before input_after output_before output_after files_before files_after → At_one_side
+  run_fails None run = misuse_fails run
+  run_fails (Some command) run = job_fails command.config command.job run
+
+  pub runs_from : (words : List (List ℕ)) → RunsCommand reads writes looks (command_in words) ended input_before input_after output_before output_after files_before files_after →
+      Runs reads writes looks words ended input_before input_after output_before output_after files_before files_after
+  runs_from words run = record { run = run; usage = run_usage (command_in words) run; fails = run_fails (command_in words) run }
+
+module _ {R W F : Type 0} (reads : input_trait.Ghosts R) (writes : output_trait.Ghosts W) (looks : files_trait.Ghosts F) (input : R) (output : W) (files : F) where
+  -- a run for which memory ran out before it began
+  misuse_unstarted : Misused writes statuses.Memory input input output output files files
+  misuse_unstarted = record {
+    usage_written = record {
+      ends = λ old written. failed_ends usage old statuses.Memory _ (inr refl) written;
+      status = inr (inr refl);
+      silent = λ _. refl;
+      counts = counts_still _ _ _ (λ other. cc) refl;
+    };
+    unread = refl;
+    unlooked = refl;
+  }
+
+  abbrev failure : Result Reply Error
+  failure = Err errors.OutOfMemory
+
+  command_unstarted : (command : asked.Command) → ReadsFor looks command (reads.left input) (IsDoneReply failure) files files →
+      one_command.Runs reads writes looks command statuses.Memory input input output output files files
+  command_unstarted command opens =
+      runs_without_reply reads writes looks command statuses.Memory _ _ _ _ _ _ errors.OutOfMemory (inr refl) (λ is. cc, λ is. cc)
+      (record { unasked = λ product is. refl; unlooked = λ text left bad. refl; untaken = λ asking is none. refl; read = tt; bounded = λ text left. (0, omega arith, left); order = inl refl })
+      opens (inl (refl, counts_still _ _ _ (λ other. cc) refl)) refl
+
+  target_unstarted : (config : Config) (kind : AddressKind) (target : requests.Target) →
+      ReadsFor looks (asked.Batch (record { target = asked_target target; kind = kind; config = config })) (reads.left input) (IsDoneReply failure) files files
+  target_unstarted config kind (requests.Breakpad path) = record { most = inl refl; opened = λ world seen done. absurd done }
+  target_unstarted config kind (requests.Gsym path) = record { most = inl refl; opened = λ world seen done. absurd done }
+  target_unstarted config kind (requests.Elf path) = record { most = inl refl; opened = λ world seen done. absurd done }
+  target_unstarted config kind (requests.Process number) = λ text left addrs is world seen. omega arith
+
+  job_unstarted : (config : Config) (job : Job) → RunsJob reads writes looks config job statuses.Memory input input output output files files
+  job_unstarted config (Batch target kind) = command_unstarted _ (target_unstarted config kind target)
+  job_unstarted config Serve =
+      requests_unread reads writes looks config statuses.Memory _ _ _ _ errors.OutOfMemory
+      (record { asked = λ text left. tt; status = tt; read = tt; bounded = λ text left. (0, omega arith, left); counts = counts_still _ _ _ (λ other. cc) refl })
+      (inr refl) (λ is. cc, λ is. cc)
+  job_unstarted config (Make (Canonical path)) = command_unstarted _ (record { most = inl refl; opened = λ world seen done. absurd done })
+  job_unstarted config (Make (Converted path)) = misuse_unstarted
+  job_unstarted config (Generate seed functions addresses) = misuse_unstarted
+  job_unstarted config (Stacks path) = misuse_unstarted
+  job_unstarted config (Frames path) = misuse_unstarted
+
+  pub unstarted : (command : Option Command) → RunsCommand reads writes looks command statuses.Memory input input output output files files
+  unstarted None = misuse_unstarted
+  unstarted (Some command) = job_unstarted command.config command.job

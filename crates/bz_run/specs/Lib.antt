@@ -1,0 +1,5 @@
+pub mod Asked
+pub mod Misuse
+pub mod Requests
+pub mod Run
+pub mod Sides

@@ -1,0 +1,52 @@
+-- What a run over the words of a command line promises.
+use Rattle.std.specs.Prelude.{◌≡◌, ℕ, List, Option, Some, None}
+use Rattle.bz_files.specs.declared.files.Files as files_trait
+use Rattle.bz_files.specs.declared.text.TextIn as input_trait
+use Rattle.bz_files.specs.declared.text.TextOut as output_trait
+use Rattle.bz_requests.specs.Requests as requests
+use Rattle.bz_requests.specs.declared.requests.Config.{Config}
+use Rattle.bz_symq.specs.Command as asked
+use Rattle.bz_symq.specs.Run as one_command
+use Rattle.bz_symq.specs.Run.{IsOrFails}
+use Rattle.bz_symq.specs.declared.status.Status.{Status}
+use Rattle.bz_symq.specs.declared.status.Status.TheVariants as statuses
+use Rattle.bz_words.specs.Command.{Batch, Canonical, Command, Generate, Job, Make, Serve, command_in}
+use Rattle.bz_run.specs.Misuse.{Misused, built}
+use Rattle.bz_run.specs.Requests.{RunsRequests}
+use Rattle.bz_run.specs.Sides.{FailsAtOneSide}
+
+-- the target of a request, as one of a batch
+abbrev pub asked_target : requests.Target → asked.Target
+asked_target (requests.Breakpad path) = asked.OneFile (asked.Breakpad path)
+asked_target (requests.Gsym path) = asked.OneFile (asked.Gsym path)
+asked_target (requests.Elf path) = asked.OneFile (asked.Elf path)
+asked_target (requests.Process number) = asked.OneProcess number
+
+module _ {R W F : Type 0} (reads : input_trait.Ghosts R) (writes : output_trait.Ghosts W) (looks : files_trait.Ghosts F) where
+  -- the run of a job under the settings of its command; of one that isn't built the usage is told
+  abbrev pub RunsJob : Config → Job → Status → R → R → W → W → F → F → Type 0
+  RunsJob config (Batch target kind) ended input_before input_after output_before output_after files_before files_after =
+      one_command.Runs reads writes looks (asked.Batch (record { target = asked_target target; kind = kind; config = config })) ended input_before input_after output_before output_after files_before files_after
+  RunsJob config Serve ended input_before input_after output_before output_after files_before files_after =
+      RunsRequests reads writes looks config ended input_before input_after output_before output_after files_before files_after
+  RunsJob config (Make (Canonical path)) ended input_before input_after output_before output_after files_before files_after =
+      one_command.Runs reads writes looks (asked.Make (asked.Canonical path)) ended input_before input_after output_before output_after files_before files_after
+  RunsJob config unbuilt ended input_before input_after output_before output_after files_before files_after =
+      Misused writes ended input_before input_after output_before output_after files_before files_after
+
+  -- the run of a command, if there is one
+  abbrev pub RunsCommand : Option Command → Status → R → R → W → W → F → F → Type 0
+  RunsCommand None ended input_before input_after output_before output_after files_before files_after =
+      Misused writes ended input_before input_after output_before output_after files_before files_after
+  RunsCommand (Some command) ended input_before input_after output_before output_after files_before files_after =
+      RunsJob command.config command.job ended input_before input_after output_before output_after files_before files_after
+
+-- all that a run over words promises
+pub record Runs {R W F : Type 0} (reads : input_trait.Ghosts R) (writes : output_trait.Ghosts W) (looks : files_trait.Ghosts F) (words : List (List ℕ)) (ended : Status)
+    (input_before input_after : R) (output_before output_after : W) (files_before files_after : F) : Type 0 where
+  -- it is the run of the command that the words give
+  pub run : RunsCommand reads writes looks (command_in words) ended input_before input_after output_before output_after files_before files_after
+  -- status 2 means that the words give no command that is built, and such words are answered by it, unless the run fails
+  pub usage : (ended ≡ statuses.Usage → built (command_in words) ≡ None) × (built (command_in words) ≡ None → IsOrFails statuses.Usage ended)
+  -- status 4 comes exactly where one call failed, of input, output or files
+  pub fails : FailsAtOneSide reads writes looks ended input_before input_after output_before output_after files_before files_after

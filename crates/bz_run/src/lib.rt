@@ -1,0 +1,12 @@
+//! A run of the program over the words of its command line.
+#![tactic(auto)]
+
+mod input;
+mod misuse;
+mod program;
+mod requests;
+mod targets;
+
+pub use program::run;
+pub use requests::serve_input;
+pub use targets::asked_target;

@@ -1,0 +1,107 @@
+//! One run of the program.
+
+ghost use Rattle.std.specs.Prelude.{map, string_bytes};
+ghost use Rattle.bz_base.specs.InputKind.{address_kind};
+ghost use Rattle.bz_requests.specs.Requests.{target_of};
+ghost use Rattle.bz_run.specs.Run.{Runs, RunsCommand, RunsJob};
+ghost use Rattle.bz_words.specs.Command.{Batch, Make, command_in, job_of, product_of};
+
+use crate::misuse::tell_usage;
+use crate::requests::serve_input;
+use crate::targets::asked_target;
+use bz_base::Input;
+use bz_files::{Files, TextIn, TextOut};
+use bz_requests::{Config, Target};
+use bz_symq::Status;
+use bz_words::{BadWords, Job, Product, read_command};
+use std::alloc::Global;
+
+/// Reads the words, which come without the program's name, and runs the command that they give.
+pub fn run<R: TextIn, W: TextOut, F: Files>(
+    alloc: Global,
+    words: &[String],
+    input: &mut R,
+    output: &mut W,
+    files: &mut F,
+) -> Status
+    ensures { Runs R.TextIn W.TextOut F.Files (map string_bytes words.now) result input.old input.new output.old output.new files.old files.new }
+{
+    run_command(alloc, words, input, output, files)
+}
+
+// The run of the command, or the usage where there is none.
+fn run_command<R: TextIn, W: TextOut, F: Files>(
+    alloc: Global,
+    words: &[String],
+    input: &mut R,
+    output: &mut W,
+    files: &mut F,
+) -> Status
+    ensures { RunsCommand R.TextIn W.TextOut F.Files (command_in (map string_bytes words.now)) result input.old input.new output.old output.new files.old files.new }
+{
+    match read_command(alloc, words) {
+        Ok(command) => run_job(alloc, command.config, &command.job, input, output, files),
+        Err(BadWords::Usage) => tell_usage(alloc, output),
+        Err(BadWords::OutOfMemory) => Status::Memory,
+    }
+}
+
+fn run_job<R: TextIn, W: TextOut, F: Files>(
+    alloc: Global,
+    config: Config,
+    job: &Job,
+    input: &mut R,
+    output: &mut W,
+    files: &mut F,
+) -> Status
+    ensures { RunsJob R.TextIn W.TextOut F.Files config (job_of job.now) result input.old input.new output.old output.new files.old files.new }
+{
+    match job {
+        Job::Batch(target, kind) => run_batch(alloc, config, target, *kind, input, output, files),
+        Job::Serve => serve_input(alloc, config, input, output, files),
+        Job::Make(product) => make(alloc, config, product, input, output, files),
+        Job::Generate { .. } | Job::Stacks(_) | Job::Frames(_) => tell_usage(alloc, output),
+    }
+}
+
+// The answers of the target to the addresses of the input.
+fn run_batch<R: TextIn, W: TextOut, F: Files>(
+    alloc: Global,
+    config: Config,
+    target: &Target,
+    kind: Input<()>,
+    input: &mut R,
+    output: &mut W,
+    files: &mut F,
+) -> Status
+    ensures { RunsJob R.TextIn W.TextOut F.Files config (Batch (target_of target.now) (address_kind kind)) result input.old input.new output.old output.new files.old files.new }
+{
+    let batch = bz_symq::Batch {
+        target: asked_target(target),
+        kind,
+        config,
+    };
+    let command = bz_symq::Command::Batch(batch);
+    bz_symq::run(alloc, &command, input, output, files)
+}
+
+// What is made of one file; no settings change it.
+fn make<R: TextIn, W: TextOut, F: Files>(
+    alloc: Global,
+    config: Config,
+    product: &Product,
+    input: &mut R,
+    output: &mut W,
+    files: &mut F,
+) -> Status
+    ensures { RunsJob R.TextIn W.TextOut F.Files config (Make (product_of product.now)) result input.old input.new output.old output.new files.old files.new }
+{
+    let _unused = config;
+    match product {
+        Product::Canonical(path) => {
+            let command = bz_symq::Command::Make(bz_symq::Product::Canonical(path.as_str()));
+            bz_symq::run(alloc, &command, input, output, files)
+        }
+        Product::Converted(_) => tell_usage(alloc, output),
+    }
+}
