@@ -1,4 +1,5 @@
 mod AskedLemmas
+mod NumberLemmas
 mod RequestsLemmas
 mod RunLemmas
 mod SideLemmas

@@ -1,5 +1,5 @@
 -- A run over an input of requests, from what was read of the input.
-use Rattle.std.proofs.Common.{Global, Vec, ◌≡◌, ◌⊎◌, ◌↔◌, ◌+◌, ◌≤◌, ℕ, List, [], ◌∷◌, Option, Some, Result, Ok, Err, map, refl, sym, ap, subst, ◌∙◌, inl, inr, append-nil, arith}
+use Rattle.std.proofs.Common.{Global, Vec, ◌≡◌, ◌⊎◌, ◌↔◌, ◌+◌, ◌≤◌, ℕ, List, [], ◌∷◌, Option, Some, Ok, Err, map, refl, sym, ap, subst, ◌∙◌, inl, inr, append-nil, arith}
 use Rattle.std.proofs.lemmas.Bool.{false≢true}
 use Rattle.bz_base.specs.declared.error.Error.{Error}
 use Rattle.bz_base.specs.declared.error.Error.TheVariants as errors
@@ -22,7 +22,6 @@ use Rattle.bz_symq.specs.declared.status.Status.TheVariants as statuses
 use Rattle.bz_run.specs.Asked.{IsBadInput, asked_in, outcome_by, reads_by}
 use Rattle.bz_run.specs.Requests.{ReadsRequests, RunsRequests}
 use Rattle.bz_run.specs.Sides.{FailsAtOneSide}
-use Rattle.bz_run.specs.declared.input.Asked.{Asked}
 use Rattle.bz_run.specs.declared.input.Asked.TheVariants as askeds
 use Rattle.bz_run.proofs.AskedLemmas.{asked_found, bad_again, bad_found}
 use Rattle.bz_run.proofs.SideLemmas.{fails_at_files, fails_at_input, fails_at_output}

@@ -1,5 +1,5 @@
 -- What a run over words promises, from the run of their command.
-use Rattle.std.proofs.Common.{◌≡◌, ◌≢◌, ◌⊎◌, ◌+◌, ◌≤◌, ℕ, List, Option, Some, None, Result, Ok, Err, refl, sym, ap, ◌∙◌, inl, inr, arith}
+use Rattle.std.proofs.Common.{◌≡◌, ◌≢◌, ◌⊎◌, ℕ, List, Option, Some, None, Result, Err, refl, ap, inl, inr, arith}
 use Rattle.bz_base.specs.InputKind.{AddressKind}
 use Rattle.bz_base.specs.declared.error.Error.{Error}
 use Rattle.bz_base.specs.declared.error.Error.TheVariants as errors
@@ -8,13 +8,15 @@ use Rattle.bz_files.specs.declared.text.TextIn as input_trait
 use Rattle.bz_files.specs.declared.text.TextOut as output_trait
 use Rattle.bz_requests.specs.Requests as requests
 use Rattle.bz_requests.specs.declared.requests.Config.{Config}
+use Rattle.bz_gen_job.specs.Generating.{generated_summary}
 use Rattle.bz_serve.proofs.FaultLemmas.{counts_still}
+use Rattle.bz_serve.specs.Serving.{served}
 use Rattle.bz_symq.proofs.EndLemmas.{runs_without_reply}
 use Rattle.bz_symq.specs.Command as asked
 use Rattle.bz_symq.specs.Reply.{IsDoneReply}
 use Rattle.bz_symq.specs.Run as one_command
 use Rattle.bz_symq.specs.Run.{IsOrFails}
-use Rattle.bz_symq.specs.Turns.{ReadsFor, TakesTurns}
+use Rattle.bz_symq.specs.Turns.{ReadsFor}
 use Rattle.bz_symq.specs.declared.reply.Reply.{Reply}
 use Rattle.bz_symq.specs.declared.status.Status.{Status}
 use Rattle.bz_symq.specs.declared.status.Status.TheVariants as statuses
@@ -56,7 +58,7 @@ module _ {R W F : Type 0} (reads : input_trait.Ghosts R) (writes : output_trait.
   job_usage config Serve run = (λ is. absurd (never_usage ended run.status is), λ none. cc)
   job_usage config (Make (Canonical path)) run = (λ is. absurd (run.usage is), λ none. cc)
   job_usage config (Make (Converted path)) run = misuse_usage (record { config = config; job = Make (Converted path) }) refl run
-  job_usage config (Generate seed functions addresses) run = misuse_usage (record { config = config; job = Generate seed functions addresses }) refl run
+  job_usage config (Generate seed functions addresses) run = (λ is. absurd (never_usage ended (inr run.generated.status) is), λ none. cc)
   job_usage config (Stacks path) run = misuse_usage (record { config = config; job = Stacks path }) refl run
   job_usage config (Frames path) run = misuse_usage (record { config = config; job = Frames path }) refl run
 
@@ -79,7 +81,8 @@ module _ {R W F : Type 0} (reads : input_trait.Ghosts R) (writes : output_trait.
   job_fails config Serve run = run.fails
   job_fails config (Make (Canonical path)) run = command_fails _ run
   job_fails config (Make (Converted path)) run = misuse_fails run
-  job_fails config (Generate seed functions addresses) run = misuse_fails run
+  job_fails config (Generate seed functions addresses) run =
+      fails_at_output reads writes looks ended _ _ _ _ _ _ (ap reads.faults run.unread) run.generated.fails (ap looks.faults run.unlooked)
   job_fails config (Stacks path) run = misuse_fails run
   job_fails config (Frames path) run = misuse_fails run
 
@@ -135,7 +138,15 @@ module _ {R W F : Type 0} (reads : input_trait.Ghosts R) (writes : output_trait.
       (inr refl) (λ is. cc, λ is. cc)
   job_unstarted config (Make (Canonical path)) = command_unstarted _ (record { most = inl refl; opened = λ world seen done. absurd done })
   job_unstarted config (Make (Converted path)) = misuse_unstarted
-  job_unstarted config (Generate seed functions addresses) = misuse_unstarted
+  job_unstarted config (Generate seed functions addresses) = record {
+    generated = record {
+      ends = λ old written. failed_ends (served (generated_summary config seed functions addresses)) old statuses.Memory _ (inr refl) written;
+      status = inr (inr refl);
+      fails = counts_still _ _ _ (λ other. cc) refl;
+    };
+    unread = refl;
+    unlooked = refl;
+  }
   job_unstarted config (Stacks path) = misuse_unstarted
   job_unstarted config (Frames path) = misuse_unstarted
 

@@ -1,4 +1,5 @@
 pub mod Asked
+pub mod Generated
 pub mod Misuse
 pub mod Requests
 pub mod Run

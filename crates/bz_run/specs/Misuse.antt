@@ -15,7 +15,7 @@ usage = record { status = statuses.Usage; text = codes "usage: symq [OPTION] KIN
 abbrev pub is_built : Job → Bool
 is_built (Batch target kind) = true
 is_built Serve = true
-is_built (Generate seed functions addresses) = false
+is_built (Generate seed functions addresses) = true
 is_built (Make (Canonical path)) = true
 is_built (Make (Converted path)) = false
 is_built (Stacks path) = false

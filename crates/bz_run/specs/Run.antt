@@ -11,6 +11,7 @@ use Rattle.bz_symq.specs.Run.{IsOrFails}
 use Rattle.bz_symq.specs.declared.status.Status.{Status}
 use Rattle.bz_symq.specs.declared.status.Status.TheVariants as statuses
 use Rattle.bz_words.specs.Command.{Batch, Canonical, Command, Generate, Job, Make, Serve, command_in}
+use Rattle.bz_run.specs.Generated.{RunsGenerated}
 use Rattle.bz_run.specs.Misuse.{Misused, built}
 use Rattle.bz_run.specs.Requests.{RunsRequests}
 use Rattle.bz_run.specs.Sides.{FailsAtOneSide}
@@ -29,6 +30,8 @@ module _ {R W F : Type 0} (reads : input_trait.Ghosts R) (writes : output_trait.
       one_command.Runs reads writes looks (asked.Batch (record { target = asked_target target; kind = kind; config = config })) ended input_before input_after output_before output_after files_before files_after
   RunsJob config Serve ended input_before input_after output_before output_after files_before files_after =
       RunsRequests reads writes looks config ended input_before input_after output_before output_after files_before files_after
+  RunsJob config (Generate seed functions addresses) ended input_before input_after output_before output_after files_before files_after =
+      RunsGenerated writes config seed functions addresses ended input_before input_after output_before output_after files_before files_after
   RunsJob config (Make (Canonical path)) ended input_before input_after output_before output_after files_before files_after =
       one_command.Runs reads writes looks (asked.Make (asked.Canonical path)) ended input_before input_after output_before output_after files_before files_after
   RunsJob config unbuilt ended input_before input_after output_before output_after files_before files_after =

@@ -3,6 +3,7 @@
 ghost use Rattle.std.specs.Prelude.{map, string_bytes};
 ghost use Rattle.bz_base.specs.InputKind.{address_kind};
 ghost use Rattle.bz_requests.specs.Requests.{target_of};
+ghost use Rattle.bz_run.specs.Generated.{HasSmallNumbers};
 ghost use Rattle.bz_run.specs.Run.{Runs, RunsCommand, RunsJob};
 ghost use Rattle.bz_words.specs.Command.{Batch, Make, command_in, job_of, product_of};
 
@@ -11,6 +12,7 @@ use crate::requests::serve_input;
 use crate::targets::asked_target;
 use bz_base::Input;
 use bz_files::{Files, TextIn, TextOut};
+use bz_gen_job::generate;
 use bz_requests::{Config, Target};
 use bz_symq::Status;
 use bz_words::{BadWords, Job, Product, read_command};
@@ -54,13 +56,19 @@ fn run_job<R: TextIn, W: TextOut, F: Files>(
     output: &mut W,
     files: &mut F,
 ) -> Status
+    requires small { HasSmallNumbers (job_of job.now) }
     ensures { RunsJob R.TextIn W.TextOut F.Files config (job_of job.now) result input.old input.new output.old output.new files.old files.new }
 {
     match job {
         Job::Batch(target, kind) => run_batch(alloc, config, target, *kind, input, output, files),
         Job::Serve => serve_input(alloc, config, input, output, files),
         Job::Make(product) => make(alloc, config, product, input, output, files),
-        Job::Generate { .. } | Job::Stacks(_) | Job::Frames(_) => tell_usage(alloc, output),
+        Job::Generate {
+            seed,
+            functions,
+            addresses,
+        } => generate(alloc, config, *seed, *functions, *addresses, output),
+        Job::Stacks(_) | Job::Frames(_) => tell_usage(alloc, output),
     }
 }
 

@@ -1,8 +1,13 @@
 use Rattle.std.proofs.Common.{map, string_bytes}
 use Rattle.bz_words.specs.Command.{command_in}
+use Rattle.bz_run.proofs.NumberLemmas.{command_small}
 use Rattle.bz_run.proofs.RunLemmas.{unstarted}
 use Rattle.bz_run.proofs.program.run_command.Goals as goal
 
 -- nothing was come to
 pub returns-in-Err-OutOfMemory : goal.returns-in-Err-OutOfMemory
 returns-in-Err-OutOfMemory g c = unstarted g.R.TextIn g.W.TextOut g.F.Files _ _ _ (command_in (map string_bytes c.args.words.now))
+
+-- the numbers that the words give are small
+pub requires-run_job-clause-small : goal.requires-run_job-clause-small
+requires-run_job-clause-small g c = command_small (map string_bytes c.args.words.now) _ c.in-Ok.ensures.ok

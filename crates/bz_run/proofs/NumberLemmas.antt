@@ -1,0 +1,104 @@
+-- The numbers of a generated job that words give are small.
+use Rattle.std.proofs.Common.{◌≡◌, ℕ, ◌≤◌, Bool, true, false, cond, nat_le, List, [], ◌∷◌, codes, Option, Some, None, option_map, option_and_then, bytes_eq, unwrap_or, refl, subst, arith}
+use Rattle.std.proofs.lemmas.Bool.{cond_both}
+use Rattle.bz_base.proofs.NumberLemmas.{decimal_whole_found}
+use Rattle.clap.specs.Words.{Row, Text, all_of, first_of}
+use Rattle.bz_words.specs.Command.{Batch, Canonical, Command, Converted, Frames, Generate, Job, Make, Serve, Stacks, batch_in, command_by, command_in, command_read, config_in, generate_in, is_source, job_by, job_by_rows, job_in, kind_for, number_in, numbers_in, on_path_in, path_job, serve_in, some_in, target_in, unless_faulty}
+use Rattle.bz_words.specs.Definition.{faults, rows}
+use Rattle.bz_run.specs.Generated.{HasSmallNumbers}
+
+-- what is made of a value is made of some value
+map_some : {A B : Type 0} (f : A → B) (o : Option A) (y : B) → option_map f o ≡ Some y → (x : A) × (o ≡ Some x) × (f x ≡ y)
+map_some f None y is = cc
+map_some f (Some x) y is = let same : f x ≡ y = cc in (x, refl, same)
+
+-- what comes of a value comes of some value
+then_some : {A B : Type 0} (f : A → Option B) (o : Option A) (y : B) → option_and_then f o ≡ Some y → (x : A) × (o ≡ Some x) × (f x ≡ Some y)
+then_some f None y is = cc
+then_some f (Some x) y is = (x, refl, is)
+
+if_some : (b : Bool) (m n : ℕ) → cond b (Some m) None ≡ Some n → m ≡ n
+if_some true m n is = cc
+if_some false m n is = cc
+
+number_small : (greatest : ℕ) (text : Text) (n : ℕ) → number_in greatest text ≡ Some n → n ≤ greatest
+number_small greatest text n is = (decimal_whole_found 10 greatest text n is).fits
+
+some_small : (greatest : ℕ) (text : Text) (n : ℕ) → some_in greatest text ≡ Some n → n ≤ greatest
+some_small greatest text n is =
+    let read = then_some (λ n. cond (nat_le 1 n) (Some n) None) (number_in greatest text) n is in
+    subst (λ n. n ≤ greatest) (if_some (nat_le 1 read.0) read.0 n read.2) (number_small greatest text read.0 read.1)
+
+numbers_small : (seed functions addresses : Text) (job : Job) → numbers_in seed functions addresses ≡ Some job → HasSmallNumbers job
+numbers_small seed functions addresses job is =
+    let first = then_some (λ s. option_and_then (λ f. option_map (λ a. Generate s f a) (number_in 100000 addresses)) (some_in 100000 functions)) (number_in 2147483647 seed) job is in
+    let second = then_some (λ f. option_map (λ a. Generate first.0 f a) (number_in 100000 addresses)) (some_in 100000 functions) job first.2 in
+    let third = map_some (λ a. Generate first.0 second.0 a) (number_in 100000 addresses) job second.2 in
+    let few = number_small 2147483647 seed first.0 first.1 in
+    subst HasSmallNumbers third.2 (omega (arith, few), some_small 100000 functions second.0 second.1, number_small 100000 addresses third.0 third.1)
+
+serve_small : (input : Option Text) (args : List Text) (job : Job) → serve_in input args ≡ Some job → HasSmallNumbers job
+serve_small None [] job is = let same : Serve ≡ job = cc in subst HasSmallNumbers same tt
+serve_small None (arg ∷ args) job is = cc
+serve_small (Some text) args job is = cc
+
+generate_small : (input : Option Text) (args : List Text) (job : Job) → generate_in input args ≡ Some job → HasSmallNumbers job
+generate_small None [] job is = cc
+generate_small None (a ∷ []) job is = cc
+generate_small None (a ∷ b ∷ []) job is = cc
+generate_small None (seed ∷ functions ∷ addresses ∷ []) job is = numbers_small seed functions addresses job is
+generate_small None (a ∷ b ∷ c ∷ d ∷ args) job is = cc
+generate_small (Some text) args job is = cc
+
+batch_small : (kind : Text) (input : Option Text) (args : List Text) (job : Job) → batch_in kind input args ≡ Some job → HasSmallNumbers job
+batch_small kind input [] job is = cc
+batch_small kind input (arg ∷ []) job is =
+    let target = then_some (λ target. option_map (λ relative. Batch target relative) (kind_for target input)) (target_in kind arg) job is in
+    let relative = map_some (λ relative. Batch target.0 relative) (kind_for target.0 input) job target.2 in
+    subst HasSmallNumbers relative.2 tt
+batch_small kind input (a ∷ b ∷ args) job is = cc
+
+path_small : (kind path : Text) (job : Job) → path_job kind path ≡ Some job → HasSmallNumbers job
+path_small kind path job =
+    cond_both (bytes_eq kind (codes "convert")) _ _ (λ read. read ≡ Some job → HasSmallNumbers job)
+    (λ here is. let same : Make (Converted path) ≡ job = cc in subst HasSmallNumbers same tt)
+    (λ other. cond_both (bytes_eq kind (codes "canon")) _ _ (λ read. read ≡ Some job → HasSmallNumbers job)
+    (λ here is. let same : Make (Canonical path) ≡ job = cc in subst HasSmallNumbers same tt)
+    (λ other. cond_both (bytes_eq kind (codes "stacks")) _ _ (λ read. read ≡ Some job → HasSmallNumbers job)
+    (λ here is. let same : Stacks path ≡ job = cc in subst HasSmallNumbers same tt)
+    (λ other. cond_both (bytes_eq kind (codes "frames")) _ _ (λ read. read ≡ Some job → HasSmallNumbers job)
+    (λ here is. let same : Frames path ≡ job = cc in subst HasSmallNumbers same tt)
+    (λ other is. cc))))
+
+on_path_small : (kind : Text) (input : Option Text) (args : List Text) (job : Job) → on_path_in kind input args ≡ Some job → HasSmallNumbers job
+on_path_small kind None [] job is = cc
+on_path_small kind None (path ∷ []) job is = path_small kind path job is
+on_path_small kind None (a ∷ b ∷ args) job is = cc
+on_path_small kind (Some text) args job is = cc
+
+job_small : (kind : Text) (input : Option Text) (args : List Text) (job : Job) → job_by kind input args ≡ Some job → HasSmallNumbers job
+job_small kind input args job =
+    cond_both (bytes_eq kind (codes "serve")) _ _ (λ read. read ≡ Some job → HasSmallNumbers job)
+    (λ here is. serve_small input args job is)
+    (λ other. cond_both (bytes_eq kind (codes "gen")) _ _ (λ read. read ≡ Some job → HasSmallNumbers job)
+    (λ here is. generate_small input args job is)
+    (λ other. cond_both (is_source kind) _ _ (λ read. read ≡ Some job → HasSmallNumbers job)
+    (λ here is. batch_small kind input args job is)
+    (λ other is. on_path_small kind input args job is)))
+
+given_small : (kind : Option Text) (input : Option Text) (args : List Text) (job : Job) → job_in kind input args ≡ Some job → HasSmallNumbers job
+given_small None input args job is = cc
+given_small (Some kind) input args job is = job_small kind input args job is
+
+rows_small : (found : List Row) (command : Command) → command_by found ≡ Some command → HasSmallNumbers command.job
+rows_small found command is =
+    let given = map_some (λ job. record { config = config_in found; job = job }) (job_by_rows found) command is in
+    subst (λ (c : Command). HasSmallNumbers c.job) given.2 (given_small (first_of (codes "kind") found) (first_of (codes "input") found) (unwrap_or (all_of (codes "arg") found) []) given.0 given.1)
+
+unless_some : {A B : Type 0} (all : List A) (read : Option B) (y : B) → unless_faulty all read ≡ Some y → read ≡ Some y
+unless_some [] read y is = is
+unless_some (fault ∷ others) read y is = cc
+
+-- those of the words' command are
+pub command_small : (words : List Text) (command : Command) → command_in words ≡ Some command → HasSmallNumbers command.job
+command_small words command is = rows_small (rows words) command (unless_some (faults words) (command_read words) command is)
