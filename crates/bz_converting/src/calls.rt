@@ -106,11 +106,7 @@ fn is_repeated(before: Option<Inlinee>, call: &Inlinee) -> bool
 }
 
 /// The node of an inlined call.
-fn node_of<'a>(
-    numbering: &mut Numbering<'a>,
-    file: &'a SymbolFile,
-    call: &Inlinee,
-) -> Result<Node>
+fn node_of<'a>(numbering: &mut Numbering<'a>, file: &'a SymbolFile, call: &Inlinee) -> Result<Node>
     ensures numbering { OnOk result ((table : Table) (texts : List (List ℕ)) (sources : List Source) → table_in file.now ≡ Some table → IsNumbering texts sources numbering.old →
         IsNumbering (texts ++ texts_of_call table (kept_inlinee call.now)) (sources ++ sources_of_call table (kept_inlinee call.now)) numbering.new) }
     ensures node { IfOk result (λ node. (table : Table) (texts : List (List ℕ)) (sources : List Source) → table_in file.now ≡ Some table → IsNumbering texts sources numbering.old →
