@@ -1,5 +1,6 @@
 //! Inputs of requests.
 
+use crate::runs::put;
 use crate::words::{ends_line, fill, run_line};
 use bz_files::{MemFiles, MemIn, MemOut};
 use bz_symq::Status;
@@ -113,4 +114,45 @@ fn ends_over(alloc: Global, lines: usize, status: Status, written: &str) -> bool
 fn bounds_its_input(rt: HostRuntime) {
     assert!(rt; ends_over(rt.alloc(), 16_777_216, Status::Done, ""));
     assert!(rt; ends_over(rt.alloc(), 16_777_217, Status::Input, "input: too long\n"));
+}
+
+/// Requests of a file that is another one at the second of them, and is gone at the third.
+const CHANGING: &[u8] =
+    b"breakpad /s.sym 1010\nbreakpad /s.sym 1010\nsingle breakpad /s.sym 1010\nevict elf /x\ncache elf /x\n";
+
+/// What is written where the file is looked at anew, and where it isn't.
+const ANEW: &str =
+    "0x1010: one+0x10 start 0x1000 size 0x20 module - at -\n0x1010: two+0x10 start 0x1000 size 0x20 module - at -\nrefused: NotFound\nok\nrefused: NotFound\n";
+
+const KEPT: &str =
+    "0x1010: one+0x10 start 0x1000 size 0x20 module - at -\n0x1010: one+0x10 start 0x1000 size 0x20 module - at -\n0x1010: one+0x10 start 0x1000 size 0x20 module - at -\nok\nrefused: NotFound\n";
+
+/// Makes three worlds after one without files: a file, another one in its place, and neither. Says
+/// whether memory was left.
+fn change(alloc: Global, files: &mut MemFiles) -> bool {
+    let made = files.schedule(alloc).is_ok()
+        && put(alloc, files, "/s.sym", b"FUNC 1000 20 0 one\n")
+        && files.schedule(alloc).is_ok()
+        && put(alloc, files, "/s.sym", b"FUNC 1000 20 0 two\n")
+        && files.schedule(alloc).is_ok();
+    made && files.remove("/s.sym")
+}
+
+/// Whether the run of a line over these requests is done, with this written.
+fn serves_while_changing(alloc: Global, line: &str, written: &str) -> bool {
+    let Ok(bytes) = Vec::from_slice(alloc, CHANGING) else {
+        return false;
+    };
+    let mut input = MemIn::new(bytes);
+    let mut output = MemOut::new(alloc);
+    let mut files = MemFiles::new(alloc, 1);
+    change(alloc, &mut files)
+        && run_line(alloc, line, &mut input, &mut output, &mut files) == Some(Status::Done)
+        && output.written() == written.as_bytes()
+}
+
+#[test]
+fn each_request_sees_its_own_files(rt: HostRuntime) {
+    assert!(rt; serves_while_changing(rt.alloc(), "serve", ANEW));
+    assert!(rt; serves_while_changing(rt.alloc(), "--no-reload serve", KEPT));
 }
