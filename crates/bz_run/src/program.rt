@@ -56,7 +56,7 @@ fn run_job<R: TextIn, W: TextOut, F: Files>(
     output: &mut W,
     files: &mut F,
 ) -> Status
-    requires small { HasSmallNumbers (job_of job.now) }
+    requires { HasSmallNumbers (job_of job.now) }
     ensures { RunsJob R.TextIn W.TextOut F.Files config (job_of job.now) result input.old input.new output.old output.new files.old files.new }
 {
     match job {

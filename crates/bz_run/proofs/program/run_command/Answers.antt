@@ -9,5 +9,5 @@ pub returns-in-Err-OutOfMemory : goal.returns-in-Err-OutOfMemory
 returns-in-Err-OutOfMemory g c = unstarted g.R.TextIn g.W.TextOut g.F.Files _ _ _ (command_in (map string_bytes c.args.words.now))
 
 -- the numbers that the words give are small
-pub requires-run_job-clause-small : goal.requires-run_job-clause-small
-requires-run_job-clause-small g c = command_small (map string_bytes c.args.words.now) _ c.in-Ok.ensures.ok
+pub run_job-requires : goal.run_job-requires
+run_job-requires g c = command_small (map string_bytes c.args.words.now) _ c.in-Ok.ensures.ok
