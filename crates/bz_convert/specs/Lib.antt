@@ -1,5 +1,6 @@
 pub mod Alike
 pub mod Bounds
+pub mod ErrorNames
 pub mod Fault
 pub mod Ids
 pub mod Plan

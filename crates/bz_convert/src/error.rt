@@ -1,5 +1,8 @@
 //! Why a Breakpad file isn't converted.
 
+ghost use Rattle.std.specs.Prelude.{◌≡◌};
+ghost use Rattle.bz_convert.specs.ErrorNames.{name_of};
+
 use thiserror::Error;
 
 /// A refusal of a conversion, with the record that causes it. Addresses are relative to the module's
@@ -77,4 +80,24 @@ pub enum ConvertError {
     /// Memory ran out.
     #[error("memory ran out")]
     OutOfMemory,
+}
+
+impl ConvertError {
+    /// The name of this refusal: that of its variant.
+    pub fn name(&self) -> &'static str
+        ensures { result.now ≡ name_of self.now }
+    {
+        match self {
+            ConvertError::ZeroSize { .. } => "ZeroSize",
+            ConvertError::EqualStarts { .. } => "EqualStarts",
+            ConvertError::LineGap { .. } => "LineGap",
+            ConvertError::NotNested { .. } => "NotNested",
+            ConvertError::Overlap { .. } => "Overlap",
+            ConvertError::NoFile { .. } => "NoFile",
+            ConvertError::NoOrigin { .. } => "NoOrigin",
+            ConvertError::ZeroByte { .. } => "ZeroByte",
+            ConvertError::TooLarge { .. } => "TooLarge",
+            ConvertError::OutOfMemory => "OutOfMemory",
+        }
+    }
 }

@@ -1,4 +1,5 @@
 pub mod CollectedLemmas
+pub mod ConversionLemmas
 pub mod LaidLemmas
 pub mod ListedLemmas
 pub mod NumberingLemmas

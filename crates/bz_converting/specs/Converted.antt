@@ -1,5 +1,5 @@
 -- The GSYM file of a Breakpad file, and why there is none.
-use Rattle.std.specs.Prelude.{◌≡◌, ℕ, ◌^◌, ◌<◌, ◌≤◌, List, length, Option, Some, None}
+use Rattle.std.specs.Prelude.{◌≡◌, ℕ, ◌^◌, ◌<◌, ◌≤◌, nat_lt, List, length, Option, Some, None, Result, Ok, Err, if◌then◌else◌}
 use Rattle.bz_breakpad_lines.specs.Table.{Table}
 use Rattle.bz_convert.specs.Fault.{fault_in}
 use Rattle.bz_convert.specs.Plan.{plan}
@@ -19,3 +19,15 @@ abbrev pub Refuses : ConvertError → Option ConvertError → ℕ → Type 0
 Refuses (TooLarge bytes) fault len = (fault ≡ None) × (bytes ≡ len) × (2 ^ 32 ≤ len)
 Refuses OutOfMemory fault len = Unit {0}
 Refuses refusal fault len = fault ≡ Some refusal
+
+-- bytes that 32 bits count
+abbrev pub if_small : List ℕ → Result (List ℕ) ConvertError
+if_small bytes = if nat_lt (length bytes) (2 ^ 32) then Ok bytes else Err (TooLarge (length bytes))
+
+abbrev pub unless_faulty : Option ConvertError → List ℕ → Result (List ℕ) ConvertError
+unless_faulty None bytes = if_small bytes
+unless_faulty (Some fault) bytes = Err fault
+
+-- what a file is converted to, or the refusal
+abbrev pub conversion : Table → Result (List ℕ) ConvertError
+conversion table = unless_faulty (fault_in table) (layout (plan table))

@@ -1,4 +1,5 @@
 mod AnswerTextLemmas
+mod ConversionLemmas
 pub mod EndLemmas
 mod FaultLemmas
 pub mod InputTextLemmas

@@ -44,6 +44,8 @@ of_process number kind config = record { target = OneProcess number; kind = kind
 
 -- what is made of one file, and written as it is
 pub data Product : Type 0 where
+  -- the GSYM bytes of the Breakpad file at a path
+  Converted : List ℕ → Product
   -- the canonical text of the Breakpad file at a path
   Canonical : List ℕ → Product
 
@@ -68,6 +70,7 @@ abbrev pub asking_of : lent_batch.Batch → Asking
 asking_of batch = record { target = target_of batch.target; kind = address_kind batch.kind; config = batch.config }
 
 abbrev pub product_of : lent_product.Product → Product
+product_of (products.Converted path) = Converted path.now
 product_of (products.Canonical path) = Canonical path.now
 
 abbrev pub command_of : lent_command.Command → Command

@@ -8,15 +8,25 @@ use Rattle.bz_breakpad.specs.Table.{Table}
 use Rattle.bz_breakpad.specs.Grammar.{IsFile}
 use Rattle.bz_breakpad.specs.Reader.{table_in}
 use Rattle.bz_canon.specs.Canon.{canonical_text}
-use Rattle.bz_symq.specs.Command.{Product, Canonical}
+use Rattle.bz_convert.specs.ErrorNames as refusals
+use Rattle.bz_convert.specs.declared.error.ConvertError.{ConvertError}
+use Rattle.bz_converting.specs.Converted.{conversion}
+use Rattle.bz_symq.specs.Command.{Product, Converted, Canonical}
 use Rattle.bz_symq.specs.Targets.{HasFile}
 
 -- the path of the Breakpad file that it is made of
 abbrev pub path_of : Product → List ℕ
+path_of (Converted path) = path
 path_of (Canonical path) = path
+
+-- what a file is converted to, or the name of the refusal
+abbrev pub by_conversion : Result (List ℕ) ConvertError → Result (List ℕ) (List ℕ)
+by_conversion (Ok bytes) = Ok bytes
+by_conversion (Err refusal) = Err (refusals.name_of refusal)
 
 -- what is made of the table that the file's bytes say, or the name of the refusal
 abbrev pub made_of : Product → Table → Result (List ℕ) (List ℕ)
+made_of (Converted path) table = by_conversion (conversion table)
 made_of (Canonical path) table = Ok (canonical_text table)
 
 -- bytes that are no Breakpad file are refused

@@ -38,6 +38,8 @@ pub struct Batch<'a> {
 /// What is made of one file, in words that are lent.
 #[derive(Clone, Copy, Debug)]
 pub enum Product<'a> {
+    /// The GSYM bytes of the Breakpad file at a path.
+    Converted(&'a str),
     /// The canonical text of the Breakpad file at a path.
     Canonical(&'a str),
 }

@@ -1,26 +1,31 @@
 //! What is made of one file.
 
-ghost use Rattle.std.specs.Prelude.{◌≡◌, Some, IfOk, OnOk, IsOkUnless};
+ghost use Rattle.std.specs.Prelude.{◌≡◌, ◌≢◌, Err, Some, IfOk, OnOk, IsOkUnless};
 ghost use Rattle.bz_base.specs.declared.error.Error.{Error};
 ghost use Rattle.bz_breakpad.specs.Grammar.{IsFile};
 ghost use Rattle.bz_breakpad.specs.Reader.{table_in};
 ghost use Rattle.bz_breakpad.specs.Resolver.{opened};
 ghost use Rattle.bz_breakpad.specs.Table.{Table};
 ghost use Rattle.bz_cache.specs.Format.{Comes};
+ghost use Rattle.bz_convert.specs.declared.error.ConvertError.{ConvertError};
+ghost use Rattle.bz_converting.specs.Converted.{conversion};
 ghost use Rattle.bz_files.specs.Count.{counted};
 ghost use Rattle.bz_files.specs.Looked.{Faulted, Looked, ReadsOne};
 ghost use Rattle.bz_files.specs.World.{Told, entry_at, in_view};
 ghost use Rattle.bz_symq.specs.Command.{product_of};
 ghost use Rattle.bz_symq.specs.Outcome.{by_product};
-ghost use Rattle.bz_symq.specs.Products.{made_in, made_of, path_of};
+ghost use Rattle.bz_symq.specs.Products.{by_conversion, made_in, made_of, path_of};
 ghost use Rattle.bz_symq.specs.Reply.{outcome_of, IsDoneReply, IsProductReply, IsProductStatus, Replies};
+ghost use Rattle.bz_symq.specs.declared.status.Status.{Status};
 ghost use Rattle.bz_symq.specs.Turns.{ReadsOneFor};
 
 use crate::command::Product;
-use crate::reply::{Reply, product_reply, refusal};
+use crate::reply::{Reply, product_reply, refusal, refused_as};
 use bz_base::{Error, Result};
 use bz_breakpad::SymbolFile;
 use bz_canon::canonical;
+use bz_convert::ConvertError;
+use bz_converting::convert;
 use bz_files::Files;
 use std::alloc::Global;
 
@@ -47,6 +52,7 @@ fn path_of<'a>(product: &Product<'a>) -> &'a str
     ensures { result.now ≡ path_of (product_of product.now) }
 {
     match product {
+        Product::Converted(path) => path,
         Product::Canonical(path) => path,
     }
 }
@@ -71,6 +77,31 @@ fn reply_of(alloc: Global, product: &Product<'_>, file: &SymbolFile) -> Result<R
     ensures memory { IsOkUnless result Error.OutOfMemory }
 {
     match product {
+        Product::Converted(_) => reply_of_conversion(alloc, file),
         Product::Canonical(_) => Ok(product_reply(canonical(alloc, file)?)),
+    }
+}
+
+// What a file is converted to, or the refusal.
+fn reply_of_conversion(alloc: Global, file: &SymbolFile) -> Result<Reply>
+    ensures reply { (table : Table) → table_in file.now ≡ Some table → IfOk result (λ given. outcome_of given ≡ by_product (by_conversion (conversion table))) }
+    ensures status { IfOk result (λ given. IsProductStatus given.status) }
+    ensures memory { IsOkUnless result Error.OutOfMemory }
+{
+    match convert(alloc, file) {
+        Ok(bytes) => Ok(product_reply(bytes)),
+        Err(error) => unconverted(alloc, error),
+    }
+}
+
+// The reply to a refused conversion; want of memory stays one.
+fn unconverted(alloc: Global, error: ConvertError) -> Result<Reply>
+    ensures reply { IfOk result (λ given. (error.entry ≢ ConvertError.OutOfMemory) × (outcome_of given ≡ by_product (by_conversion (Err error.entry)))) }
+    ensures status { IfOk result (λ given. given.status ≡ Status.Refused) }
+    ensures memory { IsOkUnless result Error.OutOfMemory }
+{
+    match error {
+        ConvertError::OutOfMemory => Err(Error::OutOfMemory),
+        refusal => refused_as(alloc, refusal.name()),
     }
 }

@@ -2,7 +2,7 @@
 
 ghost use Rattle.std.specs.Prelude.{◌≡◌, ◌↔◌, IfOk, IsOkUnless};
 ghost use Rattle.bz_files.specs.Looked.{Faulted};
-ghost use Rattle.bz_symq.specs.Outcome.{bad_line};
+ghost use Rattle.bz_symq.specs.Outcome.{bad_line, refused_as};
 ghost use Rattle.bz_symq.specs.Reply.{outcome_of, RepliesTo};
 
 use crate::status::Status;
@@ -70,6 +70,18 @@ pub fn bad_line(alloc: Global, number: u64) -> Result<Reply>
     let text = format!(in alloc; "input: line {number}\n")?;
     Ok(Reply {
         status: Status::Input,
+        said: Said::Text(CowStr::Owned(text)),
+    })
+}
+
+/// The reply to what is refused by a name.
+pub fn refused_as(alloc: Global, name: &str) -> Result<Reply>
+    ensures reply { IfOk result (λ given. outcome_of given ≡ refused_as name.now) }
+    ensures memory { IsOkUnless result Error.OutOfMemory }
+{
+    let text = format!(in alloc; "refused: {name}\n")?;
+    Ok(Reply {
+        status: Status::Refused,
         said: Said::Text(CowStr::Owned(text)),
     })
 }
