@@ -6,6 +6,8 @@ mod answers;
 #[cfg(test)]
 mod canon;
 #[cfg(test)]
+mod convert;
+#[cfg(test)]
 mod elf;
 #[cfg(test)]
 mod endings;
