@@ -1,7 +1,7 @@
 -- What is replied where a file is converted, and where it is refused.
 use Rattle.std.proofs.Common.{◌≡◌, ◌≢◌, ℕ, List, length, Result, Ok, Err, IfOk, sym, ap, ◌∙◌}
 use Rattle.bz_base.specs.declared.error.Error.{Error}
-use Rattle.bz_breakpad_lines.specs.Table.{Table}
+use Rattle.bz_breakpad.specs.Table.{Table}
 use Rattle.bz_convert.specs.Fault.{fault_in}
 use Rattle.bz_convert.specs.Plan.{plan}
 use Rattle.bz_convert.specs.declared.error.ConvertError.{ConvertError}

@@ -96,7 +96,7 @@ fn reply_of_conversion(alloc: Global, file: &SymbolFile) -> Result<Reply>
 
 // The reply to a refused conversion; want of memory stays one.
 fn unconverted(alloc: Global, error: ConvertError) -> Result<Reply>
-    ensures reply { IfOk result (λ given. (error.entry ≢ ConvertError.OutOfMemory) × (outcome_of given ≡ by_product (by_conversion (Err error.entry)))) }
+    ensures reply { IfOk result (λ given. (error ≢ ConvertError.OutOfMemory) × (outcome_of given ≡ by_product (by_conversion (Err error)))) }
     ensures status { IfOk result (λ given. given.status ≡ Status.Refused) }
     ensures memory { IsOkUnless result Error.OutOfMemory }
 {
