@@ -15,7 +15,7 @@ use Rattle.bz_symq.specs.Reply.{outcome_of}
 use Rattle.bz_symq.specs.declared.reply.Reply.{Reply}
 
 -- the outcome of a conversion
-by_converted : Result (List ℕ) ConvertError → Outcome
+abbrev by_converted : Result (List ℕ) ConvertError → Outcome
 by_converted result = by_product (by_conversion result)
 
 module _ (table : Table) where
