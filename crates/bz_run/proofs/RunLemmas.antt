@@ -20,7 +20,7 @@ use Rattle.bz_symq.specs.Turns.{ReadsFor}
 use Rattle.bz_symq.specs.declared.reply.Reply.{Reply}
 use Rattle.bz_symq.specs.declared.status.Status.{Status}
 use Rattle.bz_symq.specs.declared.status.Status.TheVariants as statuses
-use Rattle.bz_words.specs.Command.{Batch, Canonical, Command, Converted, Frames, Generate, Job, Make, Serve, Stacks, command_in}
+use Rattle.bz_words.specs.Command.{Batch, Command, Frames, Generate, Job, Make, Serve, Stacks, command_in}
 use Rattle.bz_run.specs.Misuse.{Misused, built, usage}
 use Rattle.bz_run.specs.Run.{Runs, RunsCommand, RunsJob, asked_target}
 use Rattle.bz_run.specs.Sides.{FailsAtOneSide}
@@ -56,8 +56,7 @@ module _ {R W F : Type 0} (reads : input_trait.Ghosts R) (writes : output_trait.
   job_usage : (config : Config) (job : Job) → Job_runs config job → HasUsage (Some (record { config = config; job = job })) ended
   job_usage config (Batch target kind) run = (λ is. absurd (run.usage is), λ none. cc)
   job_usage config Serve run = (λ is. absurd (never_usage ended run.status is), λ none. cc)
-  job_usage config (Make (Canonical path)) run = (λ is. absurd (run.usage is), λ none. cc)
-  job_usage config (Make (Converted path)) run = misuse_usage (record { config = config; job = Make (Converted path) }) refl run
+  job_usage config (Make product) run = (λ is. absurd (run.usage is), λ none. cc)
   job_usage config (Generate seed functions addresses) run = (λ is. absurd (never_usage ended (inr run.generated.status) is), λ none. cc)
   job_usage config (Stacks path) run = misuse_usage (record { config = config; job = Stacks path }) refl run
   job_usage config (Frames path) run = misuse_usage (record { config = config; job = Frames path }) refl run
@@ -79,8 +78,7 @@ module _ {R W F : Type 0} (reads : input_trait.Ghosts R) (writes : output_trait.
   job_fails : (config : Config) (job : Job) → Job_runs config job → At_one_side
   job_fails config (Batch target kind) run = command_fails _ run
   job_fails config Serve run = run.fails
-  job_fails config (Make (Canonical path)) run = command_fails _ run
-  job_fails config (Make (Converted path)) run = misuse_fails run
+  job_fails config (Make product) run = command_fails _ run
   job_fails config (Generate seed functions addresses) run =
       fails_at_output reads writes looks ended _ _ _ _ _ _ (ap reads.faults run.unread) run.generated.fails (ap looks.faults run.unlooked)
   job_fails config (Stacks path) run = misuse_fails run
@@ -136,8 +134,7 @@ module _ {R W F : Type 0} (reads : input_trait.Ghosts R) (writes : output_trait.
       requests_unread reads writes looks config statuses.Memory _ _ _ _ errors.OutOfMemory
       (record { asked = λ text left. tt; status = tt; read = tt; bounded = λ text left. (0, omega arith, left); counts = counts_still _ _ _ (λ other. cc) refl })
       (inr refl) (λ is. cc, λ is. cc)
-  job_unstarted config (Make (Canonical path)) = command_unstarted _ (record { most = inl refl; opened = λ world seen done. absurd done })
-  job_unstarted config (Make (Converted path)) = misuse_unstarted
+  job_unstarted config (Make product) = command_unstarted _ (record { most = inl refl; opened = λ world seen done. absurd done })
   job_unstarted config (Generate seed functions addresses) = record {
     generated = record {
       ends = λ old written. failed_ends (served (generated_summary config seed functions addresses)) old statuses.Memory _ (inr refl) written;

@@ -5,7 +5,7 @@ use Rattle.bz_symq.specs.Outcome.{Outcome}
 use Rattle.bz_symq.specs.Writing.{Finishes}
 use Rattle.bz_symq.specs.declared.status.Status.{Status}
 use Rattle.bz_symq.specs.declared.status.Status.TheVariants as statuses
-use Rattle.bz_words.specs.Command.{Batch, Canonical, Command, Converted, Frames, Generate, Job, Make, Serve, Stacks}
+use Rattle.bz_words.specs.Command.{Batch, Command, Frames, Generate, Job, Make, Serve, Stacks}
 
 -- how the program is called
 abbrev pub usage : Outcome
@@ -16,8 +16,7 @@ abbrev pub is_built : Job → Bool
 is_built (Batch target kind) = true
 is_built Serve = true
 is_built (Generate seed functions addresses) = true
-is_built (Make (Canonical path)) = true
-is_built (Make (Converted path)) = false
+is_built (Make product) = true
 is_built (Stacks path) = false
 is_built (Frames path) = false
 

@@ -10,7 +10,8 @@ use Rattle.bz_symq.specs.Run as one_command
 use Rattle.bz_symq.specs.Run.{IsOrFails}
 use Rattle.bz_symq.specs.declared.status.Status.{Status}
 use Rattle.bz_symq.specs.declared.status.Status.TheVariants as statuses
-use Rattle.bz_words.specs.Command.{Batch, Canonical, Command, Generate, Job, Make, Serve, command_in}
+use Rattle.bz_words.specs.Command as words
+use Rattle.bz_words.specs.Command.{Batch, Command, Generate, Job, Make, Serve, command_in}
 use Rattle.bz_run.specs.Generated.{RunsGenerated}
 use Rattle.bz_run.specs.Misuse.{Misused, built}
 use Rattle.bz_run.specs.Requests.{RunsRequests}
@@ -23,6 +24,11 @@ asked_target (requests.Gsym path) = asked.OneFile (asked.Gsym path)
 asked_target (requests.Elf path) = asked.OneFile (asked.Elf path)
 asked_target (requests.Process number) = asked.OneProcess number
 
+-- the product that words ask for, as one of a run
+abbrev pub asked_product : words.Product → asked.Product
+asked_product (words.Converted path) = asked.Converted path
+asked_product (words.Canonical path) = asked.Canonical path
+
 module _ {R W F : Type 0} (reads : input_trait.Ghosts R) (writes : output_trait.Ghosts W) (looks : files_trait.Ghosts F) where
   -- the run of a job under the settings of its command; of one that isn't built the usage is told
   abbrev pub RunsJob : Config → Job → Status → R → R → W → W → F → F → Type 0
@@ -32,8 +38,8 @@ module _ {R W F : Type 0} (reads : input_trait.Ghosts R) (writes : output_trait.
       RunsRequests reads writes looks config ended input_before input_after output_before output_after files_before files_after
   RunsJob config (Generate seed functions addresses) ended input_before input_after output_before output_after files_before files_after =
       RunsGenerated writes config seed functions addresses ended input_before input_after output_before output_after files_before files_after
-  RunsJob config (Make (Canonical path)) ended input_before input_after output_before output_after files_before files_after =
-      one_command.Runs reads writes looks (asked.Make (asked.Canonical path)) ended input_before input_after output_before output_after files_before files_after
+  RunsJob config (Make product) ended input_before input_after output_before output_after files_before files_after =
+      one_command.Runs reads writes looks (asked.Make (asked_product product)) ended input_before input_after output_before output_after files_before files_after
   RunsJob config unbuilt ended input_before input_after output_before output_after files_before files_after =
       Misused writes ended input_before input_after output_before output_after files_before files_after
 

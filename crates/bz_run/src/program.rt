@@ -9,7 +9,7 @@ ghost use Rattle.bz_words.specs.Command.{Batch, Make, command_in, job_of, produc
 
 use crate::misuse::tell_usage;
 use crate::requests::serve_input;
-use crate::targets::asked_target;
+use crate::targets::{asked_product, asked_target};
 use bz_base::Input;
 use bz_files::{Files, TextIn, TextOut};
 use bz_gen_job::generate;
@@ -105,11 +105,6 @@ fn make<R: TextIn, W: TextOut, F: Files>(
     ensures { RunsJob R.TextIn W.TextOut F.Files config (Make (product_of product.now)) result input.old input.new output.old output.new files.old files.new }
 {
     let _unused = config;
-    match product {
-        Product::Canonical(path) => {
-            let command = bz_symq::Command::Make(bz_symq::Product::Canonical(path.as_str()));
-            bz_symq::run(alloc, &command, input, output, files)
-        }
-        Product::Converted(_) => tell_usage(alloc, output),
-    }
+    let command = bz_symq::Command::Make(asked_product(product));
+    bz_symq::run(alloc, &command, input, output, files)
 }

@@ -1,12 +1,14 @@
-//! What answers the addresses of a batch.
+//! What a run is asked for, as words say it.
 
 ghost use Rattle.std.specs.Prelude.{◌≡◌};
 ghost use Rattle.bz_requests.specs.Requests.{target_of};
-ghost use Rattle.bz_run.specs.Run.{asked_target};
+ghost use Rattle.bz_run.specs.Run.{asked_product, asked_target};
+ghost use Rattle.bz_words.specs.Command.{product_of};
 ghost use Rattle.bz_symq.specs.Command;
 
 use bz_requests::Target;
 use bz_symq::FileTarget;
+use bz_words::Product;
 
 /// The target of a request, as one of a batch: it lends the path.
 pub fn asked_target(target: &Target) -> bz_symq::Target<'_>
@@ -17,5 +19,15 @@ pub fn asked_target(target: &Target) -> bz_symq::Target<'_>
         Target::Gsym(path) => bz_symq::Target::File(FileTarget::Gsym(path.as_str())),
         Target::Elf(path) => bz_symq::Target::File(FileTarget::Elf(path.as_str())),
         Target::Process(number) => bz_symq::Target::Process(*number),
+    }
+}
+
+/// The product that words ask for, as one of a run: it lends the path.
+pub(crate) fn asked_product(product: &Product) -> bz_symq::Product<'_>
+    ensures { Rattle.bz_symq.specs.Command.product_of result ≡ asked_product (product_of product.now) }
+{
+    match product {
+        Product::Converted(path) => bz_symq::Product::Converted(path.as_str()),
+        Product::Canonical(path) => bz_symq::Product::Canonical(path.as_str()),
     }
 }
