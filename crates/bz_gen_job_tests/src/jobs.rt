@@ -50,6 +50,13 @@ fn counts_what_is_answered(rt: HostRuntime) {
 }
 
 #[test]
+fn does_the_greatest_job(rt: HostRuntime) {
+    let written =
+        "functions 100000\naddresses 100000\nknown 74826\nunknown 25174\ninlined 12575\noffsets 1755089\n";
+    assert!(rt; writes(rt.alloc(), ALL, 1, 100_000, 100_000, written));
+}
+
+#[test]
 fn counts_no_calls_that_are_not_asked_for(rt: HostRuntime) {
     let written = "functions 2\naddresses 5\nknown 3\nunknown 2\ninlined 0\noffsets 36\n";
     assert!(rt; writes(rt.alloc(), PLACES, 3, 2, 5, written));

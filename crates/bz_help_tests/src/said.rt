@@ -30,6 +30,14 @@ static SAID: [Run; 31] = [
         "symq: /bad: line 3: not a Breakpad record",
     ),
     (
+        "convert /bad",
+        Status::Refused,
+        0,
+        0,
+        0,
+        "symq: /bad: line 3: not a Breakpad record",
+    ),
+    (
         "--no-inlined breakpad /bad",
         Status::Refused,
         0,

@@ -29,3 +29,16 @@ fn asks_among_three_functions(rt: HostRuntime) -> Result<(), Fail> {
     assert!(rt; addrs.as_slice() == [0x10c6, 0x107e, 0x1081, 0x106b].as_slice());
     Ok(())
 }
+
+/// How many bytes the greatest text has, if memory is left for it.
+fn greatest_len(alloc: Global) -> Option<usize> {
+    match gen_text(alloc, 100_000) {
+        Ok(bytes) => Some(bytes.len()),
+        Err(_) => None,
+    }
+}
+
+#[test]
+fn writes_the_greatest_text(rt: HostRuntime) {
+    assert!(rt; greatest_len(rt.alloc()) == Some(8_297_622));
+}
