@@ -6,7 +6,8 @@ use bz_symq::{Command, Product, Status, run};
 use std::alloc::Global;
 
 /// A Breakpad file of one function with one line.
-const BREAKPAD: &[u8] = b"MODULE Linux x86 ffff0000 bar\nFILE 53 bar.c\nFUNC 1000 30 10 another func\n1000 30 7 53\n";
+const BREAKPAD: &[u8] =
+    b"MODULE Linux x86 ffff0000 bar\nFILE 53 bar.c\nFUNC 1000 30 10 another func\n1000 30 7 53\n";
 
 /// The GSYM bytes that it is converted to.
 const GSYM: &[u8] =

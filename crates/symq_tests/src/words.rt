@@ -27,8 +27,7 @@ const MAPPED: &str = "0x400088: f+0x8 start 0x400080 size 0x10 module /bin/e at 
 const UNMAPPED: &str = "0x400088: ? an error occurred but was ignored in batch mode\n";
 
 /// What is counted of a generated job of three functions and four addresses.
-const SUMMARY: &str =
-    "functions 3\naddresses 4\nknown 2\nunknown 2\ninlined 1\noffsets 44\n";
+const SUMMARY: &str = "functions 3\naddresses 4\nknown 2\nunknown 2\ninlined 1\noffsets 44\n";
 
 /// Words that stand between the spaces of a line, how the run over the file ends, and what is written
 /// of one address.
