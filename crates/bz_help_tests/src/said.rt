@@ -11,7 +11,7 @@ use std::test::Fail;
 /// input, on standard output, and on files; and how what is said begins, or nothing.
 type Run = (&'static str, Status, u64, u64, u64, &'static str);
 
-static SAID: [Run; 31] = [
+static SAID: [Run; 32] = [
     // Refused files.
     (
         "breakpad /bad",
