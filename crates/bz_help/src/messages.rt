@@ -11,7 +11,7 @@ use crate::refused::refused_file;
 use bz_files::Files;
 use bz_symq::Status;
 use bz_words::complaint;
-use std::alloc::Global;
+use std::alloc::{AllocError, Global};
 use std::borrow::CowStr;
 
 /// Of words that `clap` takes, and that are no command.
@@ -20,7 +20,8 @@ const NO_COMMAND: &str =
 
 /// What standard error says of a run of these words that ended so, without the end of the last line;
 /// none where standard output says it all, or memory ran out. Of a refused run it says where the
-/// Breakpad file is refused that the words name; of a faulty command line, what is wrong with it;
+/// Breakpad file is refused that the words name; of a faulty command line, what is wrong with it, in
+/// one line;
 /// of a failed run, which side failed, and at which path if that is known.
 pub fn message<F: Files>(
     alloc: Global,
@@ -69,11 +70,25 @@ fn refusal<F: Files>(alloc: Global, words: &[String], files: &mut F) -> Option<C
     }
 }
 
-// What is wrong with the words, if anything is known of it.
+// What is wrong with the words, if anything is known of it, in one line.
 fn usage(alloc: Global, words: &[String]) -> CowStr<'static> {
-    match complaint(alloc, words) {
-        Ok(Some(said)) => CowStr::Owned(said),
+    match complaint_line(alloc, words) {
+        Ok(Some(line)) => CowStr::Owned(line),
         Ok(None) => CowStr::Borrowed(NO_COMMAND),
         Err(_) => CowStr::Borrowed(NO_COMMAND),
+    }
+}
+
+// The first line of what `clap` says of words that it refuses.
+fn complaint_line(
+    alloc: Global,
+    words: &[String],
+) -> std::result::Result<Option<String>, AllocError> {
+    let Some(said) = complaint(alloc, words)? else {
+        return Ok(None);
+    };
+    match said.as_str().split_once('\n') {
+        Some((line, _)) => Ok(Some(String::from_str(alloc, line)?)),
+        None => Ok(Some(said)),
     }
 }

@@ -8,7 +8,7 @@ use bz_run::run;
 use bz_symq::{Status, own_pid};
 use std::borrow::CowStr;
 use std::process::ExitCode;
-use std::{env, io};
+use std::{env, fs, io};
 
 fn main(rt: HostRuntime) -> ExitCode {
     let (status, message) = run_real(&rt);
@@ -21,11 +21,11 @@ fn main(rt: HostRuntime) -> ExitCode {
 
 // Runs the program over the real files and the standard streams, and says what standard error is to say.
 fn run_real(rt: &HostRuntime) -> (Status, Option<CowStr<'static>>) {
-    let words = match command_words(rt) {
-        Ok(words) => words,
+    let (words, are_text) = match command_words(rt) {
+        Ok(words) => (words, true),
         Err(error) if error.kind() == io::ErrorKind::OutOfMemory => return out_of_memory(),
         // A word that isn't UTF-8 makes the words no command, as no words do.
-        Err(_) => Vec::new(rt.alloc()),
+        Err(_) => (Vec::new(rt.alloc()), false),
     };
     let Ok(files_rt) = rt.clone() else {
         return out_of_memory();
@@ -45,8 +45,32 @@ fn run_real(rt: &HostRuntime) -> (Status, Option<CowStr<'static>>) {
         output: output.faults(),
         files: files.faults(),
     };
-    let message = message(rt.alloc(), words.as_slice(), status, failed, &mut files);
+    let words = words.as_slice();
+    let message = match status {
+        Status::Usage if !are_text => Some(CowStr::Borrowed("symq: a word isn't UTF-8")),
+        // What comes through a pipe is gone, and can't be looked at again.
+        Status::Refused if names_a_pipe(rt, words) => None,
+        _ => message(rt.alloc(), words, status, failed, &mut files),
+    };
     (status, message)
+}
+
+// Whether a word names a file that can't be read once more.
+fn names_a_pipe(rt: &HostRuntime, words: &[String]) -> bool {
+    for word in words {
+        if is_pipe(rt, word.as_str()) {
+            return true;
+        }
+    }
+    false
+}
+
+// Whether a file is there that is neither a regular one nor a folder.
+fn is_pipe(rt: &HostRuntime, path: &str) -> bool {
+    match fs::metadata(rt, path) {
+        Ok(found) => !found.is_file() && !found.is_dir(),
+        Err(_) => false,
+    }
 }
 
 // A run for which there was no memory.
