@@ -1,5 +1,5 @@
 -- A run over an input of requests, from what was read of the input.
-use Rattle.std.proofs.Common.{Global, Vec, ◌≡◌, ◌⊎◌, ◌↔◌, ◌+◌, ◌≤◌, ℕ, List, [], ◌∷◌, Option, Some, Ok, Err, map, refl, sym, ap, subst, ◌∙◌, inl, inr, append-nil, arith}
+use Rattle.std.proofs.Common.{Global, Vec, ◌≡◌, ◌⊎◌, ◌↔◌, ◌+◌, ◌≤◌, ℕ, List, [], ◌∷◌, Option, Some, option_map, Ok, Err, IfOk, map, refl, sym, ap, subst, ◌∙◌, inl, inr, append-nil, arith}
 use Rattle.std.proofs.lemmas.Bool.{false≢true}
 use Rattle.bz_base.specs.declared.error.Error.{Error}
 use Rattle.bz_base.specs.declared.error.Error.TheVariants as errors
@@ -11,6 +11,7 @@ use Rattle.bz_requests.specs.Requests.{Request, request_of}
 use Rattle.bz_requests.specs.declared.requests.Config.{Config}
 use Rattle.bz_requests.specs.declared.requests.Request as made
 use Rattle.bz_serve.proofs.FaultLemmas.{counts_as, no_fault}
+use Rattle.bz_serve.specs.Runs.{worlds_after}
 use Rattle.bz_serve.specs.Serving.{Serves}
 use Rattle.bz_symq.specs.Outcome.{Outcome}
 use Rattle.bz_symq.specs.Reply.{outcome_of}
@@ -80,6 +81,7 @@ module _ {R W F : Type 0} (reads : input_trait.Ghosts R) (writes : output_trait.
     order = inr given.read;
     opens = λ text left world later told.
         subst (λ asked. looks.opens files_after ≤ looks.opens files_before + reads_by config (world ∷ later) (looks.pid files_before) asked) (given.asked text left) (serves.reads world later told);
+    turned = λ done text left. subst (λ asked. IfOk asked (λ requests. looks.worlds files_after ≡ option_map (worlds_after requests) (looks.worlds files_before))) (given.asked text left) (serves.turned done);
     fails = by_side serves.fails;
     pid = serves.pid;
   }
@@ -110,6 +112,7 @@ module _ {R W F : Type 0} (reads : input_trait.Ghosts R) (writes : output_trait.
     order = inr given.read;
     opens = λ text left world later told.
         subst (λ asked. looks.opens files ≤ looks.opens files + reads_by config (world ∷ later) (looks.pid files) asked) (given.asked text left) (omega arith);
+    turned = λ done. absurd (other_status statuses.Input statuses.Done ended (λ same. cc) done_no_failure status done);
     fails = fails_at_output reads writes looks ended _ _ _ _ _ _ (no_fault _ _ _ (λ never. never) given.counts) finished.counts refl;
     pid = refl;
   }
@@ -136,6 +139,7 @@ module _ {R W F : Type 0} (reads : input_trait.Ghosts R) (writes : output_trait.
     bounded = given.bounded;
     order = inl (refl, refl);
     opens = λ text left world later told. omega arith;
+    turned = λ done. absurd (never_failed ended statuses.Done done_no_failure failed done);
     fails = fails_at_input reads writes looks ended _ _ _ _ _ _ (counts_as _ _ same_fault.0 same_fault.1 given.counts) refl refl;
     pid = refl;
   }

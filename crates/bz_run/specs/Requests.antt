@@ -1,5 +1,5 @@
 -- What a run over an input of requests promises.
-use Rattle.std.specs.Prelude.{◌≡◌, ◌⊎◌, ◌+◌, ◌≤◌, ℕ, List, Option, Some, Result, IfOk}
+use Rattle.std.specs.Prelude.{◌≡◌, ◌⊎◌, ◌+◌, ◌≤◌, ℕ, List, Option, Some, option_map, Result, IfOk}
 use Rattle.bz_base.specs.declared.error.Error.{Error}
 use Rattle.bz_files.specs.Count.{CountsFaults}
 use Rattle.bz_files.specs.Looked.{Faulted}
@@ -8,6 +8,7 @@ use Rattle.bz_files.specs.declared.files.Files as files_trait
 use Rattle.bz_files.specs.declared.text.TextIn as input_trait
 use Rattle.bz_files.specs.declared.text.TextOut as output_trait
 use Rattle.bz_requests.specs.declared.requests.Config.{Config}
+use Rattle.bz_serve.specs.Runs.{worlds_after}
 use Rattle.bz_serve.specs.Serving.{ToldWorlds}
 use Rattle.bz_symq.specs.InputText.{MovesAtMost, greatest_input, left_over}
 use Rattle.bz_symq.specs.Run.{Ends, IsNoFailure, IsOrFails}
@@ -59,6 +60,9 @@ pub record RunsRequests {R W F : Type 0} (reads : input_trait.Ghosts R) (writes 
   -- no more files are read than the requests may read, each in its state and its world
   pub opens : Told (reads.left input_before) (λ text. ToldWorlds (looks.worlds files_before) (λ worlds.
       looks.opens files_after ≤ looks.opens files_before + reads_by config worlds (looks.pid files_before) (asked_in text)))
+  -- status 0 means that each request brought the next world into view, as long as there was a next one, and nothing else did
+  pub turned : ended ≡ statuses.Done → Told (reads.left input_before) (λ text. IfOk (asked_in text) (λ requests.
+      looks.worlds files_after ≡ option_map (worlds_after requests) (looks.worlds files_before)))
   -- a fault comes exactly where one call failed, of input, output or files
   pub fails : FailsAtOneSide reads writes looks ended input_before input_after output_before output_after files_before files_after
   pub pid : looks.pid files_after ≡ looks.pid files_before

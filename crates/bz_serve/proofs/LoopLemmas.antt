@@ -1,5 +1,5 @@
 -- Requests one after the other: what was written so far, and what is left.
-use Rattle.std.proofs.Common.{◌≡◌, ◌≤◌, ◌+◌, ℕ, List, [], ◌∷◌, ◌++◌, drop, Option, Some, option_map, Result, Ok, Err, refl, sym, ap, subst, ◌∙◌, inl, inr, append_assoc, append-nil, arith}
+use Rattle.std.proofs.Common.{◌≡◌, ◌≤◌, ◌+◌, ℕ, List, [], ◌∷◌, ◌++◌, drop, Option, Some, None, option_map, Result, Ok, Err, refl, sym, ap, subst, ◌∙◌, inl, inr, append_assoc, append-nil, arith}
 use Rattle.bz_files.specs.Count.{CountsFaults}
 use Rattle.bz_files.specs.World.{World, Told, in_view, next_worlds}
 use Rattle.bz_files.specs.declared.files.Files as files_trait
@@ -10,7 +10,7 @@ use Rattle.bz_symq.specs.Run.{WritesFront}
 use Rattle.bz_symq.specs.declared.status.Status.{Status}
 use Rattle.bz_serve.proofs.FaultLemmas.{counts_as, counts_still, no_fault}
 use Rattle.bz_symq.specs.Kept.{Kept, new_kept, settings_of}
-use Rattle.bz_serve.specs.Runs.{reads_from, seen_first, texts_from, turns}
+use Rattle.bz_serve.specs.Runs.{reads_from, seen_first, texts_from, turns, worlds_after}
 use Rattle.bz_serve.specs.Serving.{EndsAs, Served, Serves, ServesAll, ToldWorlds}
 use Rattle.bz_serve.specs.Steps.{Step, step as request_step}
 use Rattle.bz_serve.specs.declared.serving.Stop.{Stop}
@@ -20,6 +20,16 @@ use Rattle.bz_serve.specs.declared.serving.Stop.TheVariants as stops
 next_seen : (world : World) (later : List World) → next_worlds (world ∷ later) ≡ seen_first (next_worlds (world ∷ later)) ∷ drop 1 (next_worlds (world ∷ later))
 next_seen world [] = refl
 next_seen world (next ∷ later) = refl
+
+-- after no request the worlds are as they were
+turned_none : (told : Option (List World)) → told ≡ option_map (λ worlds. worlds) told
+turned_none None = refl
+turned_none (Some worlds) = refl
+
+-- a request brings the next one, and those that are left go on from there
+turned_more : {A : Type 0} (request : A) (left : List A) (told : Option (List World)) → option_map (worlds_after left) (option_map next_worlds told) ≡ option_map (worlds_after (request ∷ left)) told
+turned_more request left None = refl
+turned_more request left (Some worlds) = refl
 
 -- a front of the text was written, and the rest is what is left
 abbrev pub Wrote : List ℕ → List ℕ → Option (List ℕ) → Option (List ℕ) → Type 0
@@ -106,6 +116,7 @@ module _ {A W F : Type 0} (writes : output_trait.Ghosts W) (looks : files_trait.
     pub so_far : ToldWorlds (looks.worlds files_first) (λ worlds.
         SoFar (step (looks.pid files_first)) (texts_from (step (looks.pid files_first)) start (turns requests worlds)) (looks.opens files_first + reads_from (step (looks.pid files_first)) start (turns requests worlds))
         state left (writes.written output_first) (writes.written output) (looks.opens files) (looks.worlds files))
+    pub turned : option_map (worlds_after left) (looks.worlds files) ≡ option_map (worlds_after requests) (looks.worlds files_first)
     pub output_steady : writes.faults output ≡ writes.faults output_first
     pub files_steady : looks.faults files ≡ looks.faults files_first
     pub pid : looks.pid files ≡ looks.pid files_first
@@ -120,6 +131,7 @@ module _ {A W F : Type 0} (writes : output_trait.Ghosts W) (looks : files_trait.
       wrote = λ was written. ([], refl, written ∙ ap Some (sym (append-nil was)));
       few = omega arith;
     };
+    turned = refl;
     output_steady = refl;
     files_steady = refl;
     pid = refl;
@@ -141,6 +153,7 @@ module _ {A W F : Type 0} (writes : output_trait.Ghosts W) (looks : files_trait.
               let more = so_far_more _ _ _ state request left _ _ _ _ (looks.worlds begun) before begins now (writes.written output_now) (looks.opens files_now) (one.whole _ seen_is) (one.state _ seen_is)
               (rw (← same_opens) (one.reads _ seen_is)) in
               rw one.looked.worlds more;
+          turned = ap (option_map (worlds_after left)) (one.looked.worlds ∙ begins) ∙ turned_more request left (looks.worlds files) ∙ so_far.turned;
           output_steady = no_fault _ _ _ (λ never. never) one.output_faults ∙ so_far.output_steady;
           files_steady = no_fault _ _ _ (λ never. never) one.looked.faults ∙ same_faults ∙ so_far.files_steady;
           pid = one.looked.pid ∙ same_pid ∙ so_far.pid;
@@ -161,6 +174,7 @@ module _ {A W F : Type 0} (writes : output_trait.Ghosts W) (looks : files_trait.
               let before = so_far.so_far world later told in
               let seen_is = in_view_is _ _ _ state request left _ _ _ _ (looks.worlds begun) before begins in
               so_far_few _ _ _ state request left _ _ _ _ (looks.worlds begun) before begins (looks.opens files_now) (rw (← same_opens) (one.reads _ seen_is));
+          turned = tt;
           output_faults = subst (λ (n : ℕ). CountsFaults n (writes.faults output_now) (stop ≡ stops.Output)) so_far.output_steady one.output_faults;
           files_faults = subst (λ (n : ℕ). CountsFaults n (looks.faults files_now) (stop ≡ stops.Files)) (same_faults ∙ so_far.files_steady) one.looked.faults;
           pid = one.looked.pid ∙ same_pid ∙ so_far.pid;
@@ -175,6 +189,7 @@ module _ {A W F : Type 0} (writes : output_trait.Ghosts W) (looks : files_trait.
         part.2 ∙ ap (λ text. Some (was ++ text)) (sym (part.1 ∙ append-nil part.0));
     front = λ world later told was written. tt;
     reads = λ world later told. let few = (all.so_far world later told).few in omega (arith, few);
+    turned = turned_none (looks.worlds files) ∙ all.turned;
     output_faults = counts_still _ _ _ (λ never. never) all.output_steady;
     files_faults = counts_still _ _ _ (λ never. never) all.files_steady;
     pid = all.pid;
@@ -189,6 +204,7 @@ module _ {W F : Type 0} (writes : output_trait.Ghosts W) (looks : files_trait.Gh
     ends = λ world later told was written. (refl, all.whole world later told was written);
     status = inl refl;
     reads = all.reads;
+    turned = λ _. all.turned;
     fails = inl (counts_still _ _ _ (λ other. cc) (no_fault _ _ _ (λ never. never) all.output_faults), no_fault _ _ _ (λ never. never) all.files_faults);
     pid = all.pid;
   })
@@ -196,6 +212,7 @@ module _ {W F : Type 0} (writes : output_trait.Ghosts W) (looks : files_trait.Gh
     ends = λ world later told was written. all.front world later told was written;
     status = inr (inl refl);
     reads = all.reads;
+    turned = λ other. cc;
     fails = inr (counts_as _ _ (λ failed. refl) (λ failed. refl) all.files_faults, no_fault _ _ _ (λ other. cc) all.output_faults);
     pid = all.pid;
   })
@@ -203,6 +220,7 @@ module _ {W F : Type 0} (writes : output_trait.Ghosts W) (looks : files_trait.Gh
     ends = λ world later told was written. all.front world later told was written;
     status = inr (inl refl);
     reads = all.reads;
+    turned = λ other. cc;
     fails = inl (counts_as _ _ (λ failed. refl) (λ failed. refl) all.output_faults, no_fault _ _ _ (λ other. cc) all.files_faults);
     pid = all.pid;
   })
@@ -210,6 +228,7 @@ module _ {W F : Type 0} (writes : output_trait.Ghosts W) (looks : files_trait.Gh
     ends = λ world later told was written. all.front world later told was written;
     status = inr (inr refl);
     reads = all.reads;
+    turned = λ other. cc;
     fails = inl (counts_still _ _ _ (λ other. cc) (no_fault _ _ _ (λ other. cc) all.output_faults), no_fault _ _ _ (λ other. cc) all.files_faults);
     pid = all.pid;
   })

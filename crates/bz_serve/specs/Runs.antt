@@ -17,6 +17,11 @@ abbrev pub turns : {A : Type 0} → List A → List World → List (World × A)
 turns [] worlds = []
 turns (request ∷ later) worlds = (seen_first (next_worlds worlds), request) ∷ turns later (next_worlds worlds)
 
+-- the worlds from the one on that is in view after them
+abbrev pub worlds_after : {A : Type 0} → List A → List World → List World
+worlds_after [] worlds = worlds
+worlds_after (request ∷ later) worlds = worlds_after later (next_worlds worlds)
+
 module _ {A : Type 0} (step : A → Kept → World → Step) where
   -- all that is written, one step after the other
   abbrev pub texts_from : Kept → List (World × A) → List ℕ

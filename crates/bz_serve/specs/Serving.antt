@@ -1,5 +1,5 @@
 -- What a run of requests promises, and each of its parts.
-use Rattle.std.specs.Prelude.{◌≡◌, ◌⊎◌, ◌≤◌, ◌+◌, ℕ, List, ◌∷◌, ◌++◌, Option, Some, Result, Ok, Err, IfOk, IfErr, OnOk, OnErr}
+use Rattle.std.specs.Prelude.{◌≡◌, ◌⊎◌, ◌≤◌, ◌+◌, ℕ, List, ◌∷◌, ◌++◌, Option, Some, option_map, Result, Ok, Err, IfOk, IfErr, OnOk, OnErr}
 use Rattle.bz_base.specs.declared.error.Error.{Error}
 use Rattle.bz_base.specs.declared.error.Error.TheVariants as errors
 use Rattle.bz_files.specs.Count.{CountsFaults}
@@ -20,7 +20,7 @@ use Rattle.bz_symq.specs.declared.reply.Said.{Said}
 use Rattle.bz_symq.specs.declared.status.Status.{Status}
 use Rattle.bz_symq.specs.declared.status.Status.TheVariants as statuses
 use Rattle.bz_symq.specs.Kept.{Kept}
-use Rattle.bz_serve.specs.Runs.{reads_from, run_reads, run_text, texts_from, turns}
+use Rattle.bz_serve.specs.Runs.{reads_from, run_reads, run_text, texts_from, turns, worlds_after}
 use Rattle.bz_serve.specs.Steps.{Doing, Step}
 use Rattle.bz_serve.specs.declared.serving.Stop.{Stop}
 use Rattle.bz_serve.specs.declared.serving.Stop.TheVariants as stops
@@ -93,6 +93,7 @@ pub record ServesAll {A W F : Type 0} (writes : output_trait.Ghosts W) (looks : 
   pub front : ToldWorlds (looks.worlds files_before) (λ worlds. Told (writes.written output_before) (λ was.
       OnErr result (WritesFront (texts_from (step (looks.pid files_before)) old (turns requests worlds)) was (writes.written output_after))))
   pub reads : ToldWorlds (looks.worlds files_before) (λ worlds. looks.opens files_after ≤ looks.opens files_before + reads_from (step (looks.pid files_before)) old (turns requests worlds))
+  pub turned : OnOk result (looks.worlds files_after ≡ option_map (worlds_after requests) (looks.worlds files_before))
   pub output_faults : CountsFaults (writes.faults output_before) (writes.faults output_after) (StopsBy stops.Output result)
   pub files_faults : CountsFaults (looks.faults files_before) (looks.faults files_after) (StopsBy stops.Files result)
   pub pid : looks.pid files_after ≡ looks.pid files_before
@@ -118,6 +119,8 @@ pub record Serves {W F : Type 0} (writes : output_trait.Ghosts W) (looks : files
   pub status : IsOrFails statuses.Done ended
   -- no more files are read than the requests may read, each in its state and its world
   pub reads : ToldWorlds (looks.worlds files_before) (λ worlds. looks.opens files_after ≤ looks.opens files_before + run_reads config requests worlds (looks.pid files_before))
+  -- status 0 means that each request brought the next world into view, as long as there was a next one, and nothing else did
+  pub turned : ended ≡ statuses.Done → looks.worlds files_after ≡ option_map (worlds_after requests) (looks.worlds files_before)
   -- a fault comes exactly where one call failed, of the files or of the output
   pub fails : (CountsFaults (writes.faults output_before) (writes.faults output_after) (ended ≡ statuses.Fault) × (looks.faults files_after ≡ looks.faults files_before))
       ⊎ (CountsFaults (looks.faults files_before) (looks.faults files_after) (ended ≡ statuses.Fault) × (writes.faults output_after ≡ writes.faults output_before))
