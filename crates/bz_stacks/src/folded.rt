@@ -1,0 +1,96 @@
+//! Stacks that are folded.
+
+ghost use Rattle.std.specs.Prelude.{◌≡◌, ◌<◌, ◌≤◌, ◌*◌, length, map, OnOk, OnErr, IsOkUnless, IfOk};
+ghost use Rattle.bz_base.specs.Answer.{reading};
+ghost use Rattle.bz_base.specs.declared.error.Error.{Error};
+ghost use Rattle.bz_stacks.specs.Folding.{added, new_sums, path_of, sum_at};
+ghost use Rattle.bz_stacks.specs.Stored.{counts_of};
+ghost use Rattle.bz_stacks.specs.Text.{text_of};
+
+use crate::path::path_of;
+use crate::stack::Stack;
+use crate::text::text_of;
+use bz_base::{Error, Result, Symbolized};
+use std::alloc::Global;
+use std::collections::BTreeMap;
+use std::marker::Model;
+
+/// How often each path of frames was seen.
+#[derive(Drop)]
+pub struct Folded {
+    sums: BTreeMap<Vec<u8>, u64>,
+    stacks: u32,
+    alloc: Global,
+}
+
+impl Model for Folded {
+    ghost use Rattle.std.specs.Prelude.{◌≤◌, ◌*◌};
+    ghost use Rattle.std.specs.List.{All};
+    ghost use Rattle.std.specs.BTreeMap.{values};
+    ghost use Rattle.bz_stacks.specs.Folding.{Sums, coded_sums};
+    ghost use Rattle.bz_stacks.specs.Stored.{counts_of};
+
+    ghost Value = { Sums };
+
+    ghost coded = { coded_sums };
+
+    ghost view = { λ f. record { counts = counts_of f.sums; stacks = f.stacks } };
+
+    ghost invariant = { λ f. All (λ sum. sum ≤ f.stacks * 4294967295) (values f.sums) };
+}
+
+impl Folded {
+    /// Nothing folded yet.
+    pub fn new(alloc: Global) -> Folded
+        ensures { result ≡ new_sums }
+    {
+        Folded {
+            sums: BTreeMap::new(alloc),
+            stacks: 0,
+            alloc,
+        }
+    }
+
+    /// How many stacks were added.
+    pub fn stacks(&self) -> u32
+        ensures { result ≡ self.now.stacks }
+    {
+        self.stacks
+    }
+
+    /// Adds a stack, with the answers to its addresses. OutOfMemory: nothing has changed.
+    pub fn add(&mut self, stack: &Stack, answers: &[Symbolized<'_>]) -> Result<()>
+        requires answers { length answers.now ≡ length stack.now.addrs.items }
+        requires stacks { self.old.stacks < 4294967295 }
+        ensures ok { OnOk result (self.new ≡ added (path_of (map reading answers.now)) stack.now.count self.old) }
+        ensures err { OnErr result (self.new ≡ self.old) }
+        ensures memory { IsOkUnless result Error.OutOfMemory }
+    {
+        let path = path_of(self.alloc, answers)?;
+        let sum = self.sum(path.as_slice());
+        self.sums.insert(path, sum + u64::from(stack.count))?;
+        self.stacks += 1;
+        Ok(())
+    }
+
+    /// The text: a line for each path, in the order of their bytes.
+    pub fn text(&self, alloc: Global) -> Result<Vec<u8>>
+        ensures ok { IfOk result (λ text. text.items ≡ text_of self.now.counts) }
+        ensures memory { IsOkUnless result Error.OutOfMemory }
+    {
+        // The map's own facts are known once it was asked for its length.
+        let _count = self.sums.len();
+        text_of(alloc, &self.sums)
+    }
+
+    // The sum at a path.
+    fn sum(&self, path: &[u8]) -> u64
+        ensures sum { result ≡ sum_at path.now self.now.counts }
+        ensures bounded { result ≤ self.now.stacks * 4294967295 }
+    {
+        match self.sums.get(path) {
+            Some(sum) => *sum,
+            None => 0,
+        }
+    }
+}
