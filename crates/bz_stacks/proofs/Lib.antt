@@ -1,2 +1,3 @@
-pub mod Scratch
+pub mod Joining
+pub mod Grouping
 pub mod Reading

@@ -1,27 +1,27 @@
--- What the map of sums reads as.
+-- What the kept map says.
 use Rattle.std.proofs.Common.{◌≡◌, ℕ, Bool, true, false, cond, List, Option, Some, None, Vec, option_map, refl, sym, ap, subst, ◌∙◌}
 use Rattle.std.specs.BTreeMap.{BTreeMap, IsOrdered, UpdatesBy, get_by}
 use Rattle.std.specs.Prelude.{flat_map}
-use Rattle.bz_cache.proofs.MapScans.{entries_read}
-use Rattle.bz_stacks.specs.Text.{line_of, lines_of, text_of}
 use Rattle.std.specs.Map.{AreApart, IsKeyTest, KeepsOthers, lookup}
 use Rattle.std.specs.Ordering.{eq_by_cmp, is_eq, nat_cmp}
 use Rattle.std.specs.Cmp.{eq_by_cmp_equiv}
 use Rattle.std.specs.Cmp.Lexicographic.{slice_cmp, nat_list_cmp_total}
 use Rattle.std.specs.FinMap.{slice_cmp-IsAntisymmetric, nat_cmp-IsAntisymmetric}
-use Rattle.bz_stacks.proofs.Scratch.{same_path}
 use Rattle.std.specs.FinMap as finite
+use Rattle.bz_cache.proofs.MapScans.{entries_read}
 use Rattle.bz_cache.proofs.MapViews.{get_read, read_insert}
-use Rattle.bz_stacks.specs.Folding.{Counts, Sums}
-use Rattle.bz_stacks.specs.Stored.{counts_of}
+use Rattle.bz_stacks.specs.Folding.{Folding, Sums}
+use Rattle.bz_stacks.specs.Stored.{kept_sums}
+use Rattle.bz_stacks.specs.Text.{line_of, lines_of, text_of}
+use Rattle.bz_stacks.proofs.Grouping.{same_path}
 
 same : (o : Option ℕ) → option_map (λ (v : ℕ). v) o ≡ o
 same None = refl
 same (Some v) = refl
 
--- the count of a path is what the map has there
-pub count_read : {A : Type 0} (m : BTreeMap (Vec ℕ A) ℕ) (path : List ℕ) → finite.get (counts_of m) path ≡ get_by (λ k. slice_cmp nat_cmp path k.items) m
-count_read {A} m path = get_read (slice_cmp nat_cmp) (λ (k : Vec ℕ A). k.items) (λ (v : ℕ). v) nat_list_cmp_total m.entries path ∙ same _
+-- the sum at a path is what the map has there
+pub sum_read : {A : Type 0} (m : BTreeMap (Vec ℕ A) ℕ) (path : List ℕ) → finite.get (kept_sums m) path ≡ get_by (λ k. slice_cmp nat_cmp path k.items) m
+sum_read {A} m path = get_read (slice_cmp nat_cmp) (λ (k : Vec ℕ A). k.items) (λ (v : ℕ). v) nat_list_cmp_total m.entries path ∙ same _
 
 module _ {A : Type 0} (m n : BTreeMap (Vec ℕ A) ℕ) (p : List ℕ) (w : Option ℕ) (updates : UpdatesBy (λ (x y : Vec ℕ A). slice_cmp nat_cmp x.items y.items) (λ k. slice_cmp nat_cmp p k.items) m n w) where
   abbrev at : List ℕ → Vec ℕ A → Bool
@@ -41,13 +41,13 @@ module _ {A : Type 0} (m n : BTreeMap (Vec ℕ A) ℕ) (p : List ℕ) (w : Optio
     | false ↦ λ other. updates.3 (at q) (key_test q) (apart q other)
   ]) refl
 
-  -- a count that was put in
-  pub count_put : (v : ℕ) → w ≡ Some v → counts_of n ≡ finite.insert (counts_of m) p v
-  count_put v is = read_insert (slice_cmp nat_cmp) (λ (k : Vec ℕ A). k.items) (λ (v : ℕ). v) nat_list_cmp_total (slice_cmp-IsAntisymmetric nat_cmp-IsAntisymmetric) m.entries n.entries p w at_each v is
+  -- a sum that was put in
+  pub sum_put : (v : ℕ) → w ≡ Some v → kept_sums n ≡ finite.insert (kept_sums m) p v
+  sum_put v is = read_insert (slice_cmp nat_cmp) (λ (k : Vec ℕ A). k.items) (λ (v : ℕ). v) nat_list_cmp_total (slice_cmp-IsAntisymmetric nat_cmp-IsAntisymmetric) m.entries n.entries p w at_each v is
 
-abbrev pub sums_with : ℕ → Counts → Sums
-sums_with stacks counts = record { counts = counts; stacks = stacks }
+abbrev pub folding_with : ℕ → Sums → Folding
+folding_with stacks sums = record { sums = sums; stacks = stacks }
 
--- the lines of the map's entries are the text of what it reads as
-pub text_read : {A : Type 0} (m : BTreeMap (Vec ℕ A) ℕ) → IsOrdered (λ (x y : Vec ℕ A). slice_cmp nat_cmp x.items y.items) m → lines_of m.entries ≡ text_of (counts_of m)
+-- the lines of the map's entries are the text of what it says
+pub text_read : {A : Type 0} (m : BTreeMap (Vec ℕ A) ℕ) → IsOrdered (λ (x y : Vec ℕ A). slice_cmp nat_cmp x.items y.items) m → lines_of m.entries ≡ text_of (kept_sums m)
 text_read {A} m ordered = ap (flat_map line_of) (sym (entries_read (slice_cmp nat_cmp) (λ (k : Vec ℕ A). k.items) (λ (v : ℕ). v) nat_list_cmp_total m.entries ordered))

@@ -1,3 +1,6 @@
+pub mod Path
+pub mod Led
 pub mod Folding
-pub mod Stored
 pub mod Text
+pub mod Stored
+pub mod Stack

@@ -1,8 +1,9 @@
--- How a map reads as counts.
+-- What a kept map says.
 use Rattle.std.specs.Prelude.{ℕ, map, Vec}
 use Rattle.std.specs.BTreeMap.{BTreeMap}
 use Rattle.std.specs.FinMap as finite
-use Rattle.bz_stacks.specs.Folding.{Counts}
+use Rattle.bz_stacks.specs.Folding.{Sums}
 
-abbrev pub counts_of : {A : Type 0} → BTreeMap (Vec ℕ A) ℕ → Counts
-counts_of m = finite.from_entries (map (λ e. (e.0.items, e.1)) m.entries)
+-- the sums that a map has, by the bytes of its keys
+abbrev pub kept_sums : {A : Type 0} → BTreeMap (Vec ℕ A) ℕ → Sums
+kept_sums m = finite.from_entries (map (λ e. (e.0.items, e.1)) m.entries)

@@ -1,10 +1,10 @@
-//! Stacks that are folded.
+//! Folded stacks: at each path the sum of the counts of the stacks with that path.
 
 ghost use Rattle.std.specs.Prelude.{◌≡◌, ◌<◌, ◌≤◌, ◌*◌, length, map, OnOk, OnErr, IsOkUnless, IfOk};
 ghost use Rattle.bz_base.specs.Answer.{reading};
 ghost use Rattle.bz_base.specs.declared.error.Error.{Error};
-ghost use Rattle.bz_stacks.specs.Folding.{added, new_sums, path_of, sum_at};
-ghost use Rattle.bz_stacks.specs.Stored.{counts_of};
+ghost use Rattle.bz_stacks.specs.Folding.{added, nothing_folded, sum_at};
+ghost use Rattle.bz_stacks.specs.Path.{path_of};
 ghost use Rattle.bz_stacks.specs.Text.{text_of};
 
 use crate::path::path_of;
@@ -15,7 +15,7 @@ use std::alloc::Global;
 use std::collections::BTreeMap;
 use std::marker::Model;
 
-/// How often each path of frames was seen.
+/// The sum of the counts of the stacks of each path.
 #[derive(Drop)]
 pub struct Folded {
     sums: BTreeMap<Vec<u8>, u64>,
@@ -27,14 +27,14 @@ impl Model for Folded {
     ghost use Rattle.std.specs.Prelude.{◌≤◌, ◌*◌};
     ghost use Rattle.std.specs.List.{All};
     ghost use Rattle.std.specs.BTreeMap.{values};
-    ghost use Rattle.bz_stacks.specs.Folding.{Sums, coded_sums};
-    ghost use Rattle.bz_stacks.specs.Stored.{counts_of};
+    ghost use Rattle.bz_stacks.specs.Folding.{Folding, coded_folding};
+    ghost use Rattle.bz_stacks.specs.Stored.{kept_sums};
 
-    ghost Value = { Sums };
+    ghost Value = { Folding };
 
-    ghost coded = { coded_sums };
+    ghost coded = { coded_folding };
 
-    ghost view = { λ f. record { counts = counts_of f.sums; stacks = f.stacks } };
+    ghost view = { λ f. record { sums = kept_sums f.sums; stacks = f.stacks } };
 
     ghost invariant = { λ f. All (λ sum. sum ≤ f.stacks * 4294967295) (values f.sums) };
 }
@@ -42,7 +42,7 @@ impl Model for Folded {
 impl Folded {
     /// Nothing folded yet.
     pub fn new(alloc: Global) -> Folded
-        ensures { result ≡ new_sums }
+        ensures { result ≡ nothing_folded }
     {
         Folded {
             sums: BTreeMap::new(alloc),
@@ -58,9 +58,9 @@ impl Folded {
         self.stacks
     }
 
-    /// Adds a stack, with the answers to its addresses. OutOfMemory: nothing has changed.
+    /// Adds a stack, with one answer for each of its addresses, in their order. Nothing has changed where memory ran out.
     pub fn add(&mut self, stack: &Stack, answers: &[Symbolized<'_>]) -> Result<()>
-        requires answers { length answers.now ≡ length stack.now.addrs.items }
+        requires answers { length answers.now ≡ length stack.now.addrs }
         requires stacks { self.old.stacks < 4294967295 }
         ensures ok { OnOk result (self.new ≡ added (path_of (map reading answers.now)) stack.now.count self.old) }
         ensures err { OnErr result (self.new ≡ self.old) }
@@ -68,14 +68,14 @@ impl Folded {
     {
         let path = path_of(self.alloc, answers)?;
         let sum = self.sum(path.as_slice());
-        self.sums.insert(path, sum + u64::from(stack.count))?;
+        self.sums.insert(path, sum + u64::from(stack.count()))?;
         self.stacks += 1;
         Ok(())
     }
 
-    /// The text: a line for each path, in the order of their bytes.
+    /// The text: the line `PATH SUM` for each path, in the order of the paths' bytes.
     pub fn text(&self, alloc: Global) -> Result<Vec<u8>>
-        ensures ok { IfOk result (λ text. text.items ≡ text_of self.now.counts) }
+        ensures ok { IfOk result (λ text. text.items ≡ text_of self.now.sums) }
         ensures memory { IsOkUnless result Error.OutOfMemory }
     {
         // The map's own facts are known once it was asked for its length.
@@ -85,7 +85,7 @@ impl Folded {
 
     // The sum at a path.
     fn sum(&self, path: &[u8]) -> u64
-        ensures sum { result ≡ sum_at path.now self.now.counts }
+        ensures sum { result ≡ sum_at path.now self.now.sums }
         ensures bounded { result ≤ self.now.stacks * 4294967295 }
     {
         match self.sums.get(path) {

@@ -1,15 +1,15 @@
-//! The paths of stacks.
+//! The path of a stack: the frames that its addresses are answered.
 
 ghost use Rattle.std.specs.Prelude.{◌≡◌, ◌++◌, ◌∷◌, IfOk, OnOk, IsOkUnless, map};
-ghost use Rattle.std.specs.Cow.{cow_str_bytes};
 ghost use Rattle.bz_base.specs.Answer.{call_of, reading};
 ghost use Rattle.bz_base.specs.declared.error.Error.{Error};
-ghost use Rattle.bz_stacks.specs.Folding.{answer_led, called, frame_byte, frame_bytes, led_by, led_names, path_of};
+ghost use Rattle.bz_stacks.specs.Led.{led_answer, led_by, led_frames};
+ghost use Rattle.bz_stacks.specs.Path.{frame, frame_byte, path_of, semicolon};
 
 use bz_base::{Error, InlinedFn, Result, Symbolized};
 use std::alloc::Global;
 
-/// The path of a stack with these answers.
+/// The path of a stack with these answers: all its frames with a `;` between each two.
 pub fn path_of(alloc: Global, answers: &[Symbolized<'_>]) -> Result<Vec<u8>>
     ensures ok { IfOk result (λ path. path.items ≡ path_of (map reading answers.now)) }
     ensures memory { IsOkUnless result Error.OutOfMemory }
@@ -36,7 +36,7 @@ fn led_path(alloc: Global, answers: &[Symbolized<'_>]) -> Result<Vec<u8>>
 
 // Puts the frames of an answer behind the path.
 fn push_answer(path: &mut Vec<u8>, answer: &Symbolized<'_>) -> Result<()>
-    ensures ok { OnOk result (path.new.items ≡ path.old.items ++ answer_led (reading answer.now)) }
+    ensures ok { OnOk result (path.new.items ≡ path.old.items ++ led_answer (reading answer.now)) }
     ensures memory { IsOkUnless result Error.OutOfMemory }
 {
     match answer {
@@ -53,7 +53,7 @@ fn push_answer(path: &mut Vec<u8>, answer: &Symbolized<'_>) -> Result<()>
 
 // Puts the frames of inlined calls behind the path.
 fn push_calls(path: &mut Vec<u8>, calls: &[InlinedFn<'_>]) -> Result<()>
-    ensures ok { OnOk result (path.new.items ≡ path.old.items ++ led_names (map called (map call_of calls.now))) }
+    ensures ok { OnOk result (path.new.items ≡ path.old.items ++ led_frames (map (λ call. frame call.name) (map call_of calls.now))) }
     ensures memory { IsOkUnless result Error.OutOfMemory }
 {
     for call in calls {
@@ -62,9 +62,9 @@ fn push_calls(path: &mut Vec<u8>, calls: &[InlinedFn<'_>]) -> Result<()>
     Ok(())
 }
 
-// Puts a frame behind the path.
+// Puts a `;` and the frame of a name behind the path.
 fn push_frame(path: &mut Vec<u8>, name: &str) -> Result<()>
-    ensures ok { OnOk result (path.new.items ≡ path.old.items ++ 59 ∷ frame_bytes name.now) }
+    ensures ok { OnOk result (path.new.items ≡ path.old.items ++ semicolon ∷ frame name.now) }
     ensures memory { IsOkUnless result Error.OutOfMemory }
 {
     path.push(b';')?;
@@ -74,7 +74,7 @@ fn push_frame(path: &mut Vec<u8>, name: &str) -> Result<()>
     Ok(())
 }
 
-// A byte as it stands in a path.
+// A byte of a name as it stands in a frame: what would end a frame or a line is a `:`.
 fn frame_byte(byte: u8) -> u8
     ensures { result ≡ frame_byte byte }
 {

@@ -2,25 +2,36 @@
 
 ghost use Rattle.std.specs.Prelude.{◌≡◌};
 
-/// A stack's addresses, the outermost first, and how often it was seen.
+use std::marker::Model;
+
+/// A stack's addresses, the outermost first, and its count.
 #[derive(Drop)]
 pub struct Stack {
-    pub(crate) addrs: Vec<u64>,
-    pub(crate) count: u32,
+    addrs: Vec<u64>,
+    count: u32,
+}
+
+impl Model for Stack {
+    ghost use Rattle.bz_stacks.specs.Stack.{Taken, coded_taken};
+
+    ghost Value = { Taken };
+
+    ghost coded = { coded_taken };
+
+    ghost view = { λ s. record { addrs = s.addrs.items; count = s.count } };
 }
 
 impl Stack {
-    /// A stack that was seen so often.
+    /// A stack of these addresses, the outermost first, which was seen so often.
     pub fn new(addrs: Vec<u64>, count: u32) -> Stack
-        ensures addrs { result.addrs.items ≡ addrs.items }
-        ensures count { result.count ≡ count }
+        ensures { result ≡ record { addrs = addrs.items; count = count } }
     {
         Stack { addrs, count }
     }
 
     /// The addresses, the outermost first.
     pub fn addrs(&self) -> &[u64]
-        ensures { result.now ≡ self.now.addrs.items }
+        ensures { result.now ≡ self.now.addrs }
     {
         self.addrs.as_slice()
     }

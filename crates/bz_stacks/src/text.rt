@@ -11,7 +11,7 @@ use itoa::Buffer;
 use std::alloc::Global;
 use std::collections::BTreeMap;
 
-/// A line for each path, in their order.
+/// A line for each path, in the order of the map.
 pub fn text_of(alloc: Global, sums: &BTreeMap<Vec<u8>, u64>) -> Result<Vec<u8>>
     ensures ok { IfOk result (λ text. text.items ≡ lines_of sums.now.entries) }
     ensures memory { IsOkUnless result Error.OutOfMemory }

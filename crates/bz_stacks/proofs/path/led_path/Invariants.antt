@@ -1,6 +1,6 @@
 use Rattle.std.proofs.Common.{◌≡◌, map, take}
 use Rattle.bz_base.specs.Answer.{reading}
-use Rattle.bz_stacks.specs.Folding.{led_by}
+use Rattle.bz_stacks.specs.Led.{led_by}
 use Rattle.bz_stacks.proofs.path.led_path.Given as goal
 
 -- the frames so far are those of the first answers
