@@ -1,0 +1,9 @@
+//! Tests of bz_stacks, over what it makes public.
+#![tactic(auto)]
+
+#[cfg(test)]
+mod folding;
+#[cfg(test)]
+mod frames;
+#[cfg(test)]
+mod of_files;
