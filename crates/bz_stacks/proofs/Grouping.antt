@@ -79,8 +79,8 @@ added_at seen path =
     let from = sums_from path seen nothing_folded in
     let none : sum_at path nothing_folded.sums ≡ 0 = ap (λ (o : Option ℕ). unwrap_or o 0) (get-empty (slice_cmp nat_cmp) path) in
     at_path _ _ _
-      (paths_from path seen nothing_folded ∙ ap (λ (o : Option ℕ). is_some o || list_any (has_path path) seen) (get-empty (slice_cmp nat_cmp) path))
-      (omega arith)
+    (paths_from path seen nothing_folded ∙ ap (λ (o : Option ℕ). is_some o || list_any (has_path path) seen) (get-empty (slice_cmp nat_cmp) path))
+    (omega arith)
 
 -- among the entries of some of the stacks, what is at a path
 module _ (all : List Seen) (path : List ℕ) where

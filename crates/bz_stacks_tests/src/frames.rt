@@ -56,10 +56,8 @@ const TEXTS: [(&[Row], &str); 11] = [
 ];
 
 /// Stacks that are added one after the other, and their text at the end.
-const FIRST: [Row; 2] = [
-    (&[Some(("f", &[]))], 2),
-    (&[None, Some(("f", &["g"]))], 1),
-];
+const FIRST: [Row; 2] = [(&[Some(("f", &[]))], 2), (&[None, Some(("f", &["g"]))], 1)];
+
 const SECOND: [Row; 2] = [(&[Some(("f", &[]))], 5), (&[Some(("e", &[]))], 1)];
 
 #[test]
@@ -73,12 +71,14 @@ fn writes_a_line_for_each_path(rt: HostRuntime) -> Result<(), Fail> {
 /// Whether stacks go on being added after a text was asked for.
 fn goes_on(alloc: Global) -> Result<bool, Error> {
     let mut folded = Folded::new(alloc);
-    Ok(reads(alloc, &folded, 0, "")?
-        && add_rows(alloc, &mut folded, &FIRST)?
-        && reads(alloc, &folded, 2, "[unknown];f;g 1\nf 2\n")?
-        && add_rows(alloc, &mut folded, &SECOND)?
-        && reads(alloc, &folded, 4, "[unknown];f;g 1\ne 1\nf 7\n")?
-        && reads(alloc, &folded, 4, "[unknown];f;g 1\ne 1\nf 7\n")?)
+    Ok(
+        reads(alloc, &folded, 0, "")?
+            && add_rows(alloc, &mut folded, &FIRST)?
+            && reads(alloc, &folded, 2, "[unknown];f;g 1\nf 2\n")?
+            && add_rows(alloc, &mut folded, &SECOND)?
+            && reads(alloc, &folded, 4, "[unknown];f;g 1\ne 1\nf 7\n")?
+            && reads(alloc, &folded, 4, "[unknown];f;g 1\ne 1\nf 7\n")?,
+    )
 }
 
 #[test]

@@ -58,6 +58,15 @@ fn answers_blank<'a, L: Ledger>(
     file.answer_batch(alloc, addrs, &FindSymOpts::CodeInfoAndInlined, &mut steps)
 }
 
+/// The answers of a file, with inlined calls.
+fn answers_of<'a>(
+    alloc: Global,
+    file: &'a SymbolFile,
+    addrs: &[u64],
+) -> Result<Vec<Symbolized<'a>>, Error> {
+    answers_blank::<Brand>(alloc, file, addrs, Blank::new(1))
+}
+
 /// Adds a stack of a file's addresses.
 fn add_stack(
     alloc: Global,
@@ -66,7 +75,7 @@ fn add_stack(
     row: &Row,
 ) -> Result<bool, Error> {
     let stack = Stack::new(Vec::from_slice(alloc, row.0)?, row.1);
-    let answers = answers_blank::<Brand>(alloc, file, stack.addrs(), Blank::new(1))?;
+    let answers = answers_of(alloc, file, stack.addrs())?;
     add(folded, &stack, &answers)
 }
 
