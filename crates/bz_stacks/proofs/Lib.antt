@@ -1,3 +1,4 @@
 pub mod Joining
 pub mod Grouping
-pub mod Reading
+pub mod KeptSums
+pub mod SpellingLemmas

@@ -1,9 +1,12 @@
 //! What holds of the definitions of folded stacks, for the crates above.
 
-ghost use Rattle.std.specs.Prelude.{◌≡◌, ℕ, List, ◌++◌, is_some, length};
+ghost use Rattle.std.specs.Prelude.{◌≡◌, ◌↔◌, ℕ, List, Some, Ok, Err, ◌++◌, is_some, length};
 ghost use Rattle.std.specs.List.{list_any};
 ghost use Rattle.std.specs.FinMap as finite;
 ghost use Rattle.bz_stacks.specs.Folding.{Folding, Seen, added_all, has_path, nothing_folded, sum_at, sum_of, sums_of};
+ghost use Rattle.bz_lines.specs.Lines.{IsFirstBad};
+ghost use Rattle.bz_stacks.specs.Spelling.{AreStacks, IsStack, stack_in, stacks_in};
+ghost use Rattle.bz_stacks.specs.Stack.{Taken};
 ghost use Rattle.bz_stacks.specs.Text.{folded_text, text_of};
 
 /// However stacks are grouped, what was added has the sums and the text that the stacks have from scratch:
@@ -15,4 +18,13 @@ pub fn folds_from_scratch()
     ensures scratch { (seen : List Seen) → (added_all seen nothing_folded).sums ≡ sums_of seen }
     ensures sums { (seen : List Seen) (path : List ℕ) → sum_at path (sums_of seen) ≡ sum_of path seen }
     ensures paths { (seen : List Seen) (path : List ℕ) → is_some (finite.get (sums_of seen) path) ≡ list_any (has_path path) seen }
+{}
+
+/// The stack that is read of a line's content is the one that it spells; those that are read of an input
+/// are those that its lines say; and the number that is read of another one is that of its first line
+/// that is no stack.
+pub fn stacks_are_read()
+    ensures stack { (text : List ℕ) (stack : Taken) → (stack_in text ≡ Some stack) ↔ IsStack text stack }
+    ensures stacks { (text : List ℕ) (stacks : List Taken) → (stacks_in text ≡ Ok stacks) ↔ AreStacks text stacks }
+    ensures line { (text : List ℕ) (n : ℕ) → (stacks_in text ≡ Err n) ↔ IsFirstBad IsStack text n }
 {}

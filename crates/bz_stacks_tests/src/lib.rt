@@ -7,3 +7,5 @@ mod folding;
 mod frames;
 #[cfg(test)]
 mod of_files;
+#[cfg(test)]
+mod reading;

@@ -3,7 +3,7 @@ use Rattle.std.specs.FinMap as finite
 use Rattle.std.proofs.lemmas.Map.Views.{All-values-insert_entry}
 use Rattle.bz_stacks.specs.Folding.{Folding, sum_at}
 use Rattle.bz_stacks.specs.Stored.{kept_sums}
-use Rattle.bz_stacks.proofs.Reading.{sum_put, folding_with}
+use Rattle.bz_stacks.proofs.KeptSums.{sum_put, folding_with}
 use Rattle.bz_stacks.proofs.folded.Folded.add.Goals as goal
 
 pub invariant_of-self-2 : goal.invariant_of-self-2

@@ -1,6 +1,6 @@
 use Rattle.std.proofs.Common.{sym, ap, ◌∙◌, Option, ℕ}
 use Rattle.std.specs.Prelude.{unwrap_or, option_copied}
-use Rattle.bz_stacks.proofs.Reading.{sum_read}
+use Rattle.bz_stacks.proofs.KeptSums.{sum_read}
 use Rattle.bz_stacks.proofs.folded.Folded.sum.Goals as goal
 
 pub returns-in-Some-clause-sum : goal.returns-in-Some-clause-sum

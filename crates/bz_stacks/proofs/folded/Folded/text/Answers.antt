@@ -1,6 +1,6 @@
 use Rattle.std.proofs.Common.{◌≡◌, List, ℕ, subst}
 use Rattle.std.specs.Prelude.{IfOk}
-use Rattle.bz_stacks.proofs.Reading.{text_read}
+use Rattle.bz_stacks.proofs.KeptSums.{text_read}
 use Rattle.bz_stacks.proofs.folded.Folded.text.Goals as goal
 
 pub returns-clause-ok : goal.returns-clause-ok
