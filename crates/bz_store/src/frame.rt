@@ -35,6 +35,27 @@ impl CrashFrame {
             offset,
         }
     }
+
+    /// The module's name.
+    pub fn module_name(&self) -> &str
+        ensures { result.now ≡ (frame_of self.now).file.0 }
+    {
+        self.key.name.as_str()
+    }
+
+    /// The id of the module's build.
+    pub fn id(&self) -> &str
+        ensures { result.now ≡ (frame_of self.now).file.1 }
+    {
+        self.key.id.as_str()
+    }
+
+    /// The offset, which is relative to the module's base.
+    pub fn offset(&self) -> u64
+        ensures { result ≡ (frame_of self.now).offset }
+    {
+        self.offset
+    }
 }
 
 /// What is answered for a frame.

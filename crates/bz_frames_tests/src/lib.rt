@@ -1,0 +1,7 @@
+//! Tests of bz_frames, over what it makes public.
+#![tactic(auto)]
+
+#[cfg(test)]
+mod answers;
+#[cfg(test)]
+mod lines;
