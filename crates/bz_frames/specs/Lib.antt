@@ -1,2 +1,3 @@
 pub mod FrameLines
 pub mod FrameText
+pub mod FrameReply

@@ -3,7 +3,9 @@
 
 pub mod laws;
 mod reading;
+mod replying;
 mod writing;
 
 pub use reading::read_frames;
+pub use replying::reply_to_frames;
 pub use writing::{frame_text, frame_texts, push_frame};

@@ -11,11 +11,7 @@ use bz_symq::push_answer;
 use std::alloc::Global;
 
 /// The texts of answers to frames, one after the other, each with its frame's module and id in front.
-pub fn frame_texts(
-    alloc: Global,
-    frames: &[CrashFrame],
-    answers: &[FrameAnswer],
-) -> Result<String>
+pub fn frame_texts(alloc: Global, frames: &[CrashFrame], answers: &[FrameAnswer]) -> Result<String>
     ensures ok { IfOk result (λ text. string_bytes text ≡ frame_texts (map frame_of frames.now) (map reading_of answers.now)) }
     ensures memory { IsOkUnless result Error.OutOfMemory }
 {

@@ -15,7 +15,8 @@ const BAR: &[u8] =
 const LINES: &[u8] = b"bar AA 1010\nfoo AA 0\n.. AA 0\nbar AA 1030\n";
 
 /// The texts of their answers.
-const TEXTS: &str = "bar AA 0x1010: another func+0x10 start 0x1000 size 0x30 module bar at bar.c:7\nfoo AA 0x0: ? no symbol file\n.. AA 0x0: ? bad name\nbar AA 0x1030: ? address not found in symbolization source\n";
+const TEXTS: &str =
+    "bar AA 0x1010: another func+0x10 start 0x1000 size 0x30 module bar at bar.c:7\nfoo AA 0x0: ? no symbol file\n.. AA 0x0: ? bad name\nbar AA 0x1030: ? address not found in symbolization source\n";
 
 /// Frames of a file that may not be read, and of one that isn't a Breakpad file.
 const BARRED: &[u8] = b"shut AA ABC\nbad AA 0x10\n";

@@ -15,9 +15,17 @@ static WELL_FORMED: [(&[u8], usize, Row); 7] = [
     (b"bar AA 0x1010", 1, ("bar", "AA", 0x1010)),
     (b"\nbar AA 1010\r\n\r\n.. BB 0\r\n", 2, ("..", "BB", 0)),
     (b"  0\n", 1, ("", "", 0)),
-    (b"bar  fFfFfFfFfFfFfFfF\n", 1, ("bar", "", 0xffff_ffff_ffff_ffff)),
+    (
+        b"bar  fFfFfFfFfFfFfFfF\n",
+        1,
+        ("bar", "", 0xffff_ffff_ffff_ffff),
+    ),
     (b" AA 1\n", 1, ("", "AA", 1)),
-    (b"b\xc3\xa4r\tx A\xc3\x84 1\n", 1, ("b\u{e4}r\tx", "A\u{c4}", 1)),
+    (
+        b"b\xc3\xa4r\tx A\xc3\x84 1\n",
+        1,
+        ("b\u{e4}r\tx", "A\u{c4}", 1),
+    ),
 ];
 
 /// An input, and its first line that isn't well formed.
