@@ -1,3 +1,4 @@
 pub mod FrameLines
 pub mod FrameText
 pub mod FrameReply
+pub mod FrameRun

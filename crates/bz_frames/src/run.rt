@@ -1,0 +1,47 @@
+//! A run over an input of frames.
+
+ghost use Rattle.std.specs.Prelude.{◌≡◌, ◌⊎◌, ◌↔◌};
+ghost use Rattle.bz_frames.specs.FrameRun.{RunsFrames};
+
+use crate::replying::reply_to_frames;
+use bz_base::{Error, FindSymOpts};
+use bz_files::{Files, TextIn, TextOut};
+use bz_symq::{ReadStop, Status, finish, read_input, stored_reply};
+use std::alloc::Global;
+
+/// Reads the whole input, which is frames, one on a line, and writes what they are answered by the symbol
+/// files below the root.
+pub fn run_frames<R: TextIn, W: TextOut, F: Files>(
+    alloc: Global,
+    root: &str,
+    opts: &FindSymOpts,
+    input: &mut R,
+    output: &mut W,
+    files: &mut F,
+) -> Status
+    ensures { RunsFrames R.TextIn W.TextOut F.Files root.now opts.now result input.old input.new output.old output.new files.old files.new }
+{
+    match read_input(alloc, input) {
+        Ok(text) => match reply_to_frames(alloc, root, opts, text.as_slice(), files) {
+            Ok(reply) => finish(alloc, output, &reply),
+            Err(error) => failed(error),
+        },
+        Err(ReadStop::TooLong) => {
+            let reply = stored_reply(Status::Input, "input: too long\n");
+            finish(alloc, output, &reply)
+        }
+        Err(ReadStop::Fault) => Status::Fault,
+        Err(ReadStop::Memory) => Status::Memory,
+    }
+}
+
+// How a run ends that gives no reply: by a fault, or nothing else is left than want of memory.
+fn failed(error: Error) -> Status
+    ensures failure { (result ≡ Status.Fault) ⊎ (result ≡ Status.Memory) }
+    ensures fault { (error ≡ Error.ReadFault) ↔ (result ≡ Status.Fault) }
+{
+    match error {
+        Error::ReadFault => Status::Fault,
+        _ => Status::Memory,
+    }
+}
