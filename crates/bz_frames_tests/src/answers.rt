@@ -12,10 +12,10 @@ const BAR: &[u8] =
     b"MODULE Linux x86 ffff0000 bar\nFILE 53 bar.c\nPUBLIC 1234 10 some public\nFUNC 1000 30 10 another func\n1000 30 7 53\n";
 
 /// Frames by lines.
-const LINES: &[u8] = b"bar AA 1010\nfoo AA 0\n.. AA 0\nbar AA 1030\n";
+pub(crate) const LINES: &[u8] = b"bar AA 1010\nfoo AA 0\n.. AA 0\nbar AA 1030\n";
 
 /// The texts of their answers.
-const TEXTS: &str =
+pub(crate) const TEXTS: &str =
     "bar AA 0x1010: another func+0x10 start 0x1000 size 0x30 module bar at bar.c:7\nfoo AA 0x0: ? no symbol file\n.. AA 0x0: ? bad name\nbar AA 0x1030: ? address not found in symbolization source\n";
 
 /// Frames of a file that may not be read, and of one that isn't a Breakpad file.
@@ -31,7 +31,7 @@ fn put(alloc: Global, files: &mut MemFiles, path: &str, text: &[u8]) -> Result<(
 }
 
 /// The files of these frames.
-fn files(alloc: Global) -> Result<MemFiles, Error> {
+pub(crate) fn files(alloc: Global) -> Result<MemFiles, Error> {
     let mut files = MemFiles::new(alloc, 0);
     put(alloc, &mut files, "/r/bar/AA/bar.sym", BAR)?;
     put(alloc, &mut files, "/r/bad/AA/bad.sym", b"FUNC\n")?;

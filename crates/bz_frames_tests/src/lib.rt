@@ -5,3 +5,5 @@
 mod answers;
 #[cfg(test)]
 mod lines;
+#[cfg(test)]
+mod runs;
