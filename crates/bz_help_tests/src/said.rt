@@ -75,7 +75,7 @@ static SAID: [Run; 32] = [
         0,
         0,
         0,
-        "error: unexpected argument '--bogus' found\n",
+        "error: unexpected argument '--bogus' found",
     ),
     (
         "--no-reload breakpad --no-reload /bad",
@@ -83,7 +83,7 @@ static SAID: [Run; 32] = [
         0,
         0,
         0,
-        "error: the argument '--no-reload' cannot be used multiple times\n",
+        "error: the argument '--no-reload' cannot be used multiple times",
     ),
     (
         "--no-reload",
@@ -91,7 +91,7 @@ static SAID: [Run; 32] = [
         0,
         0,
         0,
-        "error: the following required arguments were not provided:\n  <kind>\n",
+        "error: the following required arguments were not provided:",
     ),
     ("--help", Status::Usage, 0, 0, 0, "Usage: symq "),
     (
