@@ -5,3 +5,4 @@ pub mod Text
 pub mod Spelling
 pub mod Stored
 pub mod Stack
+pub mod Fold

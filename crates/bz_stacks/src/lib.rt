@@ -1,6 +1,7 @@
 //! Stacks that are folded for flame graphs: each path of frames once, with how often it was seen.
 #![tactic(auto)]
 
+mod asking;
 mod error;
 mod folded;
 pub mod laws;
@@ -9,6 +10,7 @@ mod reading;
 mod stack;
 mod text;
 
+pub use asking::fold;
 pub use error::StackError;
 pub use folded::Folded;
 pub use reading::read_stacks;
