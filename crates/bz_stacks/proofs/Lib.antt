@@ -2,3 +2,8 @@ pub mod Joining
 pub mod Grouping
 pub mod KeptSums
 pub mod SpellingLemmas
+pub mod FoldLemmas
+pub mod FormLemmas
+pub mod AnsweredLemmas
+pub mod UnaskedLemmas
+pub mod FoldsLemmas

@@ -90,8 +90,12 @@ fn fold_process<D: ProcessDispatch + Drop, F: Files>(
     match kind {
         Input::AbsAddr(_) => {
             let addrs = all_addrs(alloc, stacks)?;
-            let answers =
-                symbolizer.symbolize(alloc, files, src, Input::AbsAddr(addrs.as_slice()))?;
+            let answers = symbolizer.symbolize(
+                alloc,
+                files,
+                src,
+                Input::AbsAddr(addrs.as_slice()),
+            )?;
             fold_answers(alloc, &answers, stacks)
         }
         Input::VirtOffset(_) | Input::FileOffset(_) => Err(Error::Unsupported),
@@ -113,22 +117,18 @@ fn fold_lookups(alloc: Global, lookups: &Lookups<'_>, stacks: &[Stack]) -> Resul
 }
 
 // The text by answers that stand side by side.
-fn fold_answers(
-    alloc: Global,
-    answers: &[Symbolized<'_>],
-    stacks: &[Stack],
-) -> Result<Vec<u8>>
+fn fold_answers(alloc: Global, answers: &[Symbolized<'_>], stacks: &[Stack]) -> Result<Vec<u8>>
     requires count { length stacks.now < 4294967296 }
     requires answers { length answers.now ≡ length (addrs_of stacks.now) }
     ensures ok { IfOk result (λ text. text.items ≡ folded_text (seen_by stacks.now (map reading answers.now))) }
     ensures memory { IsOkUnless result Error.OutOfMemory }
 {
     let mut folded = Folded::new(alloc);
-    let mut left = answers;
+    let mut from = 0;
     for stack in stacks {
-        let (own, later) = left.split_at(stack.addrs().len());
-        folded.add(stack, own)?;
-        left = later;
+        let to = from + stack.addrs().len();
+        folded.add(stack, &answers[from..to])?;
+        from = to;
     }
     folded.text(alloc)
 }
