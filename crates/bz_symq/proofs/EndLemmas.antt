@@ -20,35 +20,35 @@ use Rattle.bz_symq.proofs.ReadLemmas.{few_read, most_read, one_opened}
 use Rattle.bz_symq.proofs.RunLemmas.{answerable_is_done, done_from_ends, refusable_is_refused, refused_from_ends}
 
 -- a run that ended by no failure ended by its reply's status
-status_from : (expected ended status : Status) → IsNoFailure status → IsOrFails expected ended → ended ≡ status → expected ≡ status
+pub status_from : (expected ended status : Status) → IsNoFailure status → IsOrFails expected ended → ended ≡ status → expected ≡ status
 status_from expected ended status no_failure (inl same) is = sym same ∙ is
 status_from expected ended status no_failure (inr (inl fault)) is = absurd (no_failure.0 (sym is ∙ fault))
 status_from expected ended status no_failure (inr (inr memory)) is = absurd (no_failure.1 (sym is ∙ memory))
 
 -- the statuses that aren't failures
-done_no_failure : IsNoFailure statuses.Done
+pub done_no_failure : IsNoFailure statuses.Done
 done_no_failure = (λ other. cc, λ other. cc)
 
-refused_no_failure : IsNoFailure statuses.Refused
+pub refused_no_failure : IsNoFailure statuses.Refused
 refused_no_failure = (λ other. cc, λ other. cc)
 
-usage_no_failure : IsNoFailure statuses.Usage
+pub usage_no_failure : IsNoFailure statuses.Usage
 usage_no_failure = (λ other. cc, λ other. cc)
 
-input_no_failure : IsNoFailure statuses.Input
+pub input_no_failure : IsNoFailure statuses.Input
 input_no_failure = (λ other. cc, λ other. cc)
 
 -- the run failed
-abbrev IsFailure : Status → Type 0
+abbrev pub IsFailure : Status → Type 0
 IsFailure ended = (ended ≡ statuses.Fault) ⊎ (ended ≡ statuses.Memory)
 
 -- and then its status is no other
-never : (ended status : Status) → IsNoFailure status → IsFailure ended → ended ≡ status → ⊥
+pub never : (ended status : Status) → IsNoFailure status → IsFailure ended → ended ≡ status → ⊥
 never ended status no_failure (inl fault) is = no_failure.0 (sym is ∙ fault)
 never ended status no_failure (inr memory) is = no_failure.1 (sym is ∙ memory)
 
 -- and it has written a front, if only the empty one
-failed_ends : (expected : Outcome) (old : List ℕ) (ended : Status) (new : Option (List ℕ)) → IsFailure ended → new ≡ Some old → Ends expected old ended new
+pub failed_ends : (expected : Outcome) (old : List ℕ) (ended : Status) (new : Option (List ℕ)) → IsFailure ended → new ≡ Some old → Ends expected old ended new
 failed_ends expected old ended new (inl fault) unwritten = rw fault ([], expected.text, refl, unwritten ∙ ap Some (sym (append-nil old)))
 failed_ends expected old ended new (inr memory) unwritten = rw memory ([], expected.text, refl, unwritten ∙ ap Some (sym (append-nil old)))
 

@@ -26,7 +26,7 @@ fault_at side other statuses.Fault is = (refl, cc)
 fault_at side other _ is = cc
 
 -- what counts faults where one thing holds counts them where the same holds in other words
-counts_as : {A B : Type 0} (before after : ℕ) → (A → B) → (B → A) → CountsFaults before after A → CountsFaults before after B
+pub counts_as : {A B : Type 0} (before after : ℕ) → (A → B) → (B → A) → CountsFaults before after A → CountsFaults before after B
 counts_as {A} {B} before after to from counts = record { grows = counts.grows; fault = λ is. counts.fault (from is); steady = by_steady counts.steady }
   where
     by_steady : A ⊎ (after ≡ before) → B ⊎ (after ≡ before)

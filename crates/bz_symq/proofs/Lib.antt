@@ -1,7 +1,7 @@
 mod AnswerTextLemmas
 mod ConversionLemmas
 pub mod EndLemmas
-mod FaultLemmas
+pub mod FaultLemmas
 pub mod InputTextLemmas
 mod OpenLemmas
 mod OutputLemmas
@@ -12,5 +12,5 @@ mod ReadLemmas
 mod ReplyLemmas
 mod RunLemmas
 mod StandAloneLemmas
-mod TargetLemmas
+pub mod TargetLemmas
 mod TextsLemmas
