@@ -1,0 +1,3 @@
+pub mod StackOutcome
+pub mod StackRun
+pub mod StackReply
