@@ -6,7 +6,7 @@ ghost use Rattle.bz_cache.specs.Format.{Comes};
 ghost use Rattle.bz_files.specs.Looked.{Faulted, Looked};
 ghost use Rattle.bz_files.specs.World.{Told, in_view};
 ghost use Rattle.bz_stacks.specs.Spelling.{stacks_in};
-ghost use Rattle.bz_symq.specs.Command.{Breakpad};
+ghost use Rattle.bz_symq.specs.Command.{Breakpad as BreakpadAt};
 ghost use Rattle.bz_symq.specs.InputText.{greatest_input};
 ghost use Rattle.bz_symq.specs.Reply.{IsDoneReply, Replies};
 ghost use Rattle.bz_symq.specs.Targets.{IsSourceOf};
@@ -122,7 +122,7 @@ fn folded<F: Files>(
 
 // The Breakpad file at the path.
 fn source(alloc: Global, path: &str) -> Result<Source<'static>>
-    ensures ok { IfOk result (λ src. IsSourceOf (Breakpad path.now) src) }
+    ensures ok { IfOk result (λ src. IsSourceOf (BreakpadAt path.now) src) }
     ensures memory { IsOkUnless result Error.OutOfMemory }
 {
     let path = String::from_str(alloc, path)?;

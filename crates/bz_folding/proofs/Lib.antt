@@ -1,0 +1,5 @@
+mod CountLemmas
+mod EndLemmas
+mod FoldLemmas
+mod OutcomeLemmas
+mod ReplyLemmas
