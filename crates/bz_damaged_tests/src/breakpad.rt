@@ -1,0 +1,54 @@
+//! Breakpad texts that are cut, and numbers at the ends of their ranges.
+
+use bz_base::Error;
+use bz_breakpad::SymbolFile;
+use std::alloc::Global;
+
+/// A text of five records, each of a kind of its own.
+const BAR: &[u8] =
+    b"MODULE Linux x86 ffff0000 bar\nFILE 53 bar.c\nPUBLIC 1234 10 some public\nFUNC 1000 30 10 another func\n1000 30 7 53\n";
+
+/// Whether the text is taken as is expected, or else refused as no Breakpad file.
+fn is_taken_as(alloc: Global, text: &[u8], expected: bool) -> bool {
+    let Ok(bytes) = Vec::from_slice(alloc, text) else {
+        return false;
+    };
+    match SymbolFile::from_bytes(alloc, bytes) {
+        Ok(_) => expected,
+        Err(error) => !expected && error == Error::InvalidInput,
+    }
+}
+
+/// Whether the text's last line is ended.
+fn is_ended(text: &[u8]) -> bool {
+    match text.last() {
+        Some(byte) => *byte == b'\n',
+        None => false,
+    }
+}
+
+#[test]
+fn a_cut_text_is_taken_where_its_last_line_is_ended(rt: HostRuntime) {
+    for len in 0..BAR.len() {
+        let front = &BAR[..len];
+        assert!(rt;
+            is_taken_as(rt.alloc(), front, is_ended(front)),
+            "{len} bytes"
+        );
+    }
+}
+
+/// Texts whose numbers are the greatest, or one past it, and whether they are taken.
+const TEXTS: &[(&[u8], bool)] = &[
+    // A line record may end past 64 bits.
+    (b"FUNC 1 2 3 x\nffffffffffffffff 2 0 0\n", true),
+    (b"FUNC 1 2 3 x\nINLINE 0 1 4294967295 0 1 1\n", true),
+    (b"FUNC 1 2 3 x\nINLINE 0 1 4294967296 0 1 1\n", false),
+];
+
+#[test]
+fn numbers_reach_to_the_end_of_their_range(rt: HostRuntime) {
+    for (text, taken) in TEXTS {
+        assert!(rt; is_taken_as(rt.alloc(), text, *taken));
+    }
+}
