@@ -1,6 +1,7 @@
 //! The lines of the records of a canonical text.
 
-ghost use Rattle.std.specs.Prelude.{◌≡◌, ◌++◌, option_map, string_bytes, OnOk, IsOkUnless};
+ghost use Rattle.std.specs.Prelude.{◌≡◌, ◌∷◌, ◌++◌, [], option_map, OnOk, IsOkUnless};
+ghost use Rattle.bz_base.specs.Byte.{line_feed};
 ghost use Rattle.bz_base.specs.Line.{ended};
 ghost use Rattle.bz_base.specs.declared.error.Error.{Error};
 ghost use Rattle.bz_breakpad.specs.Lent.{kept_inlinee};
@@ -13,71 +14,113 @@ ghost use Rattle.bz_canon.specs.Parts.{named_line};
 
 use bz_base::{Error, Result};
 use bz_breakpad::{Function, Inlinee, PublicSymbol, SourceLine};
+use bz_digits::Piece;
 
 /// The MODULE record of a name, if there is one.
-pub(crate) fn push_module(text: &mut String, name: Option<&str>) -> Result<()>
-    ensures ok { OnOk result (string_bytes text.new ≡ string_bytes text.old ++ records_text (module_records (option_map (λ name. name.now) name.entry))) }
+pub(crate) fn push_module(text: &mut Vec<u8>, name: Option<&str>) -> Result<()>
+    ensures ok { OnOk result (text.new.items ≡ text.old.items ++ records_text (module_records (option_map (λ name. name.now) name.entry))) }
     ensures memory { IsOkUnless result Error.OutOfMemory }
 {
     if let Some(name) = name {
-        text.push_str("MODULE")?;
-        write!(text, " - - - {name}\n")?;
+        text.extend_from_slice(b"MODULE - - - ")?;
+        push_name(text, name)?;
     }
     Ok(())
 }
 
 /// A record of an id and its name: its tag, the id and the name.
-pub(crate) fn push_named(text: &mut String, tag: &str, id: u32, name: &str) -> Result<()>
-    ensures ok { OnOk result (string_bytes text.new ≡ string_bytes text.old ++ named_line tag.now (id, name.now)) }
+pub(crate) fn push_named(text: &mut Vec<u8>, tag: &str, id: u32, name: &str) -> Result<()>
+    ensures ok { OnOk result (text.new.items ≡ text.old.items ++ named_line tag.now (id, name.now)) }
     ensures memory { IsOkUnless result Error.OutOfMemory }
 {
-    text.push_str(tag)?;
-    write!(text, " {id} {name}\n")?;
-    Ok(())
+    let mut piece = Piece::new();
+    piece.put(b' ');
+    piece.put_decimal(id);
+    piece.put(b' ');
+    text.extend_from_slice(tag.as_bytes())?;
+    text.extend_from_slice(piece.as_slice())?;
+    push_name(text, name)
 }
 
 /// A PUBLIC record.
-pub(crate) fn push_public(text: &mut String, public: &PublicSymbol<'_>) -> Result<()>
-    ensures ok { OnOk result (string_bytes text.new ≡ string_bytes text.old ++ ended (record_text (public_record (lent_public public.now)))) }
+pub(crate) fn push_public(text: &mut Vec<u8>, public: &PublicSymbol<'_>) -> Result<()>
+    ensures ok { OnOk result (text.new.items ≡ text.old.items ++ ended (record_text (public_record (lent_public public.now)))) }
     ensures memory { IsOkUnless result Error.OutOfMemory }
 {
-    let (addr, size, name) = (public.addr, public.parameter_size, public.name);
-    write!(text, "PUBLIC {addr:x} {size:x} {name}\n")?;
-    Ok(())
+    let mut piece = Piece::new();
+    piece.put(b' ');
+    piece.put_hex(public.parameter_size as u64);
+    piece.put(b' ');
+    piece.put_hex(public.addr);
+    piece.put_bytes(b"PUBLIC ");
+    text.extend_from_slice(piece.as_slice())?;
+    push_name(text, public.name)
 }
 
 /// A FUNC record.
-pub(crate) fn push_func(text: &mut String, function: &Function<'_>) -> Result<()>
-    ensures ok { OnOk result (string_bytes text.new ≡ string_bytes text.old ++ ended (record_text (func_record function.now))) }
+pub(crate) fn push_func(text: &mut Vec<u8>, function: &Function<'_>) -> Result<()>
+    ensures ok { OnOk result (text.new.items ≡ text.old.items ++ ended (record_text (func_record function.now))) }
     ensures memory { IsOkUnless result Error.OutOfMemory }
 {
-    let (addr, size) = (function.addr(), function.size());
-    write!(text, "FUNC {addr:x} {size:x} ")?;
-    let (parameter_size, name) = (function.parameter_size(), function.name());
-    write!(text, "{parameter_size:x} {name}\n")?;
-    Ok(())
+    let mut piece = Piece::new();
+    piece.put(b' ');
+    piece.put_hex(function.parameter_size() as u64);
+    piece.put(b' ');
+    piece.put_hex(function.size() as u64);
+    piece.put(b' ');
+    piece.put_hex(function.addr());
+    piece.put_bytes(b"FUNC ");
+    text.extend_from_slice(piece.as_slice())?;
+    push_name(text, function.name())
 }
 
 /// An INLINE record of one range.
-pub(crate) fn push_inlinee(text: &mut String, inlinee: &Inlinee) -> Result<()>
-    ensures ok { OnOk result (string_bytes text.new ≡ string_bytes text.old ++ ended (record_text (OfFunc (inlinee_one (kept_inlinee inlinee.now))))) }
+pub(crate) fn push_inlinee(text: &mut Vec<u8>, inlinee: &Inlinee) -> Result<()>
+    ensures ok { OnOk result (text.new.items ≡ text.old.items ++ ended (record_text (OfFunc (inlinee_one (kept_inlinee inlinee.now))))) }
     ensures memory { IsOkUnless result Error.OutOfMemory }
 {
-    let (depth, line, file) = (inlinee.depth, inlinee.call_line, inlinee.call_file);
-    write!(text, "INLINE {depth} {line} {file} ")?;
-    let (origin, addr, size) = (inlinee.origin_id, inlinee.addr, inlinee.size);
-    write!(text, "{origin} {addr:x} {size:x}\n")?;
+    let mut piece = Piece::new();
+    piece.put(b'\n');
+    piece.put_hex(inlinee.size as u64);
+    piece.put(b' ');
+    piece.put_hex(inlinee.addr);
+    piece.put(b' ');
+    piece.put_decimal(inlinee.origin_id);
+    piece.put(b' ');
+    piece.put_decimal(inlinee.call_file);
+    piece.put(b' ');
+    piece.put_decimal(inlinee.call_line);
+    piece.put(b' ');
+    piece.put_decimal(inlinee.depth);
+    piece.put_bytes(b"INLINE ");
+    text.extend_from_slice(piece.as_slice())?;
     Ok(())
 }
 
 /// A line record.
-pub(crate) fn push_line(text: &mut String, line: &SourceLine) -> Result<()>
-    ensures ok { OnOk result (string_bytes text.new ≡ string_bytes text.old ++ ended (record_text (OfFunc (line_one (line_seen line.now))))) }
+pub(crate) fn push_line(text: &mut Vec<u8>, line: &SourceLine) -> Result<()>
+    ensures ok { OnOk result (text.new.items ≡ text.old.items ++ ended (record_text (OfFunc (line_one (line_seen line.now))))) }
     ensures memory { IsOkUnless result Error.OutOfMemory }
 {
-    let (addr, size) = (line.addr, line.size);
-    write!(text, "{addr:x} {size:x} ")?;
-    let (number, file) = (line.line, line.file);
-    write!(text, "{number} {file}\n")?;
+    let mut piece = Piece::new();
+    piece.put(b'\n');
+    piece.put_decimal(line.file);
+    piece.put(b' ');
+    piece.put_decimal(line.line);
+    piece.put(b' ');
+    piece.put_hex(line.size as u64);
+    piece.put(b' ');
+    piece.put_hex(line.addr);
+    text.extend_from_slice(piece.as_slice())?;
+    Ok(())
+}
+
+/// A name, at the end of its record.
+fn push_name(text: &mut Vec<u8>, name: &str) -> Result<()>
+    ensures ok { OnOk result (text.new.items ≡ text.old.items ++ (name.now ++ line_feed ∷ [])) }
+    ensures memory { IsOkUnless result Error.OutOfMemory }
+{
+    text.extend_from_slice(name.as_bytes())?;
+    text.push(b'\n')?;
     Ok(())
 }

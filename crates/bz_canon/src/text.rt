@@ -1,6 +1,6 @@
 //! The canonical text of a file.
 
-ghost use Rattle.std.specs.Prelude.{◌≡◌, ◌<◌, ◌++◌, Some, map, option_map, string_bytes, IfOk, OnOk, IsOkUnless};
+ghost use Rattle.std.specs.Prelude.{◌≡◌, ◌<◌, ◌++◌, Some, map, option_map, IfOk, OnOk, IsOkUnless};
 ghost use Rattle.bz_base.specs.declared.error.Error.{Error};
 ghost use Rattle.bz_breakpad.specs.Lent.{kept_inlinee};
 ghost use Rattle.bz_breakpad.specs.Listed.{lent_public};
@@ -26,17 +26,17 @@ pub fn canonical(alloc: Global, file: &SymbolFile) -> Result<Vec<u8>>
     ensures text { IfOk result (λ text. option_map canonical_text (table_in file.now) ≡ Some text.items) }
     ensures memory { IsOkUnless result Error.OutOfMemory }
 {
-    let mut text = String::new(alloc);
+    let mut text = Vec::new(alloc);
     push_records(alloc, &mut text, file)?;
     if text.is_empty() {
-        text.push_str("INFO -\n")?;
+        text.extend_from_slice(b"INFO -\n")?;
     }
-    Ok(text.into_bytes())
+    Ok(text)
 }
 
 /// The records of a file, in the order of the canonical text.
-fn push_records(alloc: Global, text: &mut String, file: &SymbolFile) -> Result<()>
-    ensures ok { OnOk result (option_map (λ table. string_bytes text.old ++ records_text (table_records (canon table))) (table_in file.now) ≡ Some (string_bytes text.new)) }
+fn push_records(alloc: Global, text: &mut Vec<u8>, file: &SymbolFile) -> Result<()>
+    ensures ok { OnOk result (option_map (λ table. text.old.items ++ records_text (table_records (canon table))) (table_in file.now) ≡ Some (text.new.items)) }
     ensures memory { IsOkUnless result Error.OutOfMemory }
 {
     push_module(text, file.module())?;
@@ -51,8 +51,8 @@ fn push_records(alloc: Global, text: &mut String, file: &SymbolFile) -> Result<(
 }
 
 /// A record of the tag for each id and its name.
-fn push_names(text: &mut String, tag: &str, names: &[(u32, &str)]) -> Result<()>
-    ensures ok { OnOk result (string_bytes text.new ≡ string_bytes text.old ++ named_lines tag.now (map (λ name. (name.0, name.1.now)) names.now)) }
+fn push_names(text: &mut Vec<u8>, tag: &str, names: &[(u32, &str)]) -> Result<()>
+    ensures ok { OnOk result (text.new.items ≡ text.old.items ++ named_lines tag.now (map (λ name. (name.0, name.1.now)) names.now)) }
     ensures memory { IsOkUnless result Error.OutOfMemory }
 {
     for name in names {
@@ -62,8 +62,8 @@ fn push_names(text: &mut String, tag: &str, names: &[(u32, &str)]) -> Result<()>
 }
 
 /// PUBLIC records.
-fn push_publics(text: &mut String, publics: &[PublicSymbol<'_>]) -> Result<()>
-    ensures ok { OnOk result (string_bytes text.new ≡ string_bytes text.old ++ lines_of public_record (map lent_public publics.now)) }
+fn push_publics(text: &mut Vec<u8>, publics: &[PublicSymbol<'_>]) -> Result<()>
+    ensures ok { OnOk result (text.new.items ≡ text.old.items ++ lines_of public_record (map lent_public publics.now)) }
     ensures memory { IsOkUnless result Error.OutOfMemory }
 {
     for public in publics {
@@ -73,8 +73,8 @@ fn push_publics(text: &mut String, publics: &[PublicSymbol<'_>]) -> Result<()>
 }
 
 /// The functions of a file, by start and size.
-fn push_functions(alloc: Global, text: &mut String, file: &SymbolFile) -> Result<()>
-    ensures ok { OnOk result (string_bytes text.new ≡ string_bytes text.old ++ functions_text (canon_functions file.now)) }
+fn push_functions(alloc: Global, text: &mut Vec<u8>, file: &SymbolFile) -> Result<()>
+    ensures ok { OnOk result (text.new.items ≡ text.old.items ++ functions_text (canon_functions file.now)) }
     ensures memory { IsOkUnless result Error.OutOfMemory }
 {
     push_functions_blank::<Brand>(alloc, text, file, Blank::new(1))
@@ -83,14 +83,14 @@ fn push_functions(alloc: Global, text: &mut String, file: &SymbolFile) -> Result
 // The same, with a count that nobody reads.
 fn push_functions_blank<L: Ledger>(
     alloc: Global,
-    text: &mut String,
+    text: &mut Vec<u8>,
     file: &SymbolFile,
     blank: Blank,
 ) -> Result<()>
     requires name { blank.name ≡ L.name }
     requires parts { blank.parts ≡ L.parts }
     requires some { 0 < L.parts }
-    ensures ok { OnOk result (string_bytes text.new ≡ string_bytes text.old ++ functions_text (canon_functions file.now)) }
+    ensures ok { OnOk result (text.new.items ≡ text.old.items ++ functions_text (canon_functions file.now)) }
     ensures memory { IsOkUnless result Error.OutOfMemory }
 {
     let mut steps = Steps::<L>::new(blank);
@@ -102,8 +102,8 @@ fn push_functions_blank<L: Ledger>(
 }
 
 /// A function, with its inlined calls by depth and start, and its lines by start and size.
-fn push_function(alloc: Global, text: &mut String, function: &Function<'_>) -> Result<()>
-    ensures ok { OnOk result (string_bytes text.new ≡ string_bytes text.old ++ records_text (function_records (canon_function function.now))) }
+fn push_function(alloc: Global, text: &mut Vec<u8>, function: &Function<'_>) -> Result<()>
+    ensures ok { OnOk result (text.new.items ≡ text.old.items ++ records_text (function_records (canon_function function.now))) }
     ensures memory { IsOkUnless result Error.OutOfMemory }
 {
     push_func(text, function)?;
@@ -115,8 +115,8 @@ fn push_function(alloc: Global, text: &mut String, function: &Function<'_>) -> R
 }
 
 /// INLINE records.
-fn push_inlinees(text: &mut String, inlinees: &[Inlinee]) -> Result<()>
-    ensures ok { OnOk result (string_bytes text.new ≡ string_bytes text.old ++ lines_of (λ i. OfFunc (inlinee_one i)) (map kept_inlinee inlinees.now)) }
+fn push_inlinees(text: &mut Vec<u8>, inlinees: &[Inlinee]) -> Result<()>
+    ensures ok { OnOk result (text.new.items ≡ text.old.items ++ lines_of (λ i. OfFunc (inlinee_one i)) (map kept_inlinee inlinees.now)) }
     ensures memory { IsOkUnless result Error.OutOfMemory }
 {
     for inlinee in inlinees {
@@ -126,8 +126,8 @@ fn push_inlinees(text: &mut String, inlinees: &[Inlinee]) -> Result<()>
 }
 
 /// Line records.
-fn push_lines(text: &mut String, lines: &[SourceLine]) -> Result<()>
-    ensures ok { OnOk result (string_bytes text.new ≡ string_bytes text.old ++ lines_of (λ l. OfFunc (line_one l)) (map line_seen lines.now)) }
+fn push_lines(text: &mut Vec<u8>, lines: &[SourceLine]) -> Result<()>
+    ensures ok { OnOk result (text.new.items ≡ text.old.items ++ lines_of (λ l. OfFunc (line_one l)) (map line_seen lines.now)) }
     ensures memory { IsOkUnless result Error.OutOfMemory }
 {
     for line in lines {

@@ -1,4 +1,4 @@
-use Rattle.std.proofs.Common.{◌≡◌, ◌++◌, map, take, string_bytes}
+use Rattle.std.proofs.Common.{◌≡◌, ◌++◌, map, take}
 use Rattle.bz_breakpad.specs.Lent.{kept_inlinee}
 use Rattle.bz_breakpad_lines.specs.Printed.{inlinee_one}
 use Rattle.bz_breakpad_lines.specs.Walk.Record.{OfFunc}
@@ -7,4 +7,4 @@ use Rattle.bz_canon.proofs.text.push_inlinees.Given as goal
 
 -- what is written is the lines of those so far
 abbrev pub invariant-loop-inlinee : goal.invariant-loop-inlinee
-invariant-loop-inlinee l = string_bytes l.text ≡ string_bytes l.fn.text ++ lines_of (λ i. OfFunc (inlinee_one i)) (map kept_inlinee (take l.inlinee-index l.inlinees))
+invariant-loop-inlinee l = l.text.items ≡ l.fn.text.items ++ lines_of (λ i. OfFunc (inlinee_one i)) (map kept_inlinee (take l.inlinee-index l.inlinees))

@@ -1,4 +1,4 @@
-use Rattle.std.proofs.Common.{◌≡◌, ◌++◌, map, take, string_bytes}
+use Rattle.std.proofs.Common.{◌≡◌, ◌++◌, map, take}
 use Rattle.bz_breakpad.specs.Listed.{lent_public}
 use Rattle.bz_breakpad_lines.specs.Printed.{public_record}
 use Rattle.bz_canon.specs.Parts.{lines_of}
@@ -6,4 +6,4 @@ use Rattle.bz_canon.proofs.text.push_publics.Given as goal
 
 -- what is written is the lines of those so far
 abbrev pub invariant-loop-public : goal.invariant-loop-public
-invariant-loop-public l = string_bytes l.text ≡ string_bytes l.fn.text ++ lines_of public_record (map lent_public (take l.public-index l.publics))
+invariant-loop-public l = l.text.items ≡ l.fn.text.items ++ lines_of public_record (map lent_public (take l.public-index l.publics))
