@@ -66,8 +66,8 @@ const ORDERS: [(&[u8], &[u8]); 8] = [
 
 /// The same of texts and numbers that may be written in several ways: blank lines and white space,
 /// zeros in front, upper case and marks; ids in any order, of which the last name counts; the greatest
-/// numbers.
-const SPELLINGS: [(&[u8], &[u8]); 6] = [
+/// numbers; the greatest and least of so many digits.
+const SPELLINGS: [(&[u8], &[u8]); 7] = [
     (
         b"PUBLIC m 00AB 0F x y\n\n \tPUBLIC\t0  0 \r\n",
         b"PUBLIC 0 0 \nPUBLIC ab f x y\n",
@@ -83,6 +83,10 @@ const SPELLINGS: [(&[u8], &[u8]); 6] = [
     (
         b"FUNC FFFFFFFFFFFFFFFF FFFFFFFF FFFFFFFF z\nFFFFFFFFFFFFFFFF FFFFFFFF 4294967295 4294967295\n",
         b"FUNC ffffffffffffffff ffffffff ffffffff z\nffffffffffffffff ffffffff 4294967295 4294967295\n",
+    ),
+    (
+        b"FUNC 0FFFF 10000 FFFFF z\nFFFF 1 9 10\n10000 F 99 100\nFFFFFFFF 10 999 1000\n100000000 FF 9999 10000\nFFFFFFFFFFFFFFF 100 99999 100000\n",
+        b"FUNC ffff 10000 fffff z\nffff 1 9 10\n10000 f 99 100\nffffffff 10 999 1000\n100000000 ff 9999 10000\nfffffffffffffff 100 99999 100000\n",
     ),
     (b"INFO a\n\n \nINFO b\nSTACK WIN 4 x\n", b"INFO -\n"),
     (
