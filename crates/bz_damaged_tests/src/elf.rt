@@ -14,8 +14,6 @@ const FIELDS: &[(usize, &[u8], Error)] = &[
     // A symbol has another size.
     (296, b"\x11", Error::InvalidData),
     (296, b"\x17", Error::InvalidData),
-    // An unknown class is told before anything that lies behind it.
-    (4, b"\x01\x01\x01\0\0\0\0\0\0\0\0\0", Error::Unsupported),
 ];
 
 /// Whether the bytes, if memory was left for them, are refused so.

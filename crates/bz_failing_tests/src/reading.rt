@@ -56,5 +56,5 @@ pub(crate) fn reads_each_version_once(
 
 #[test]
 fn each_version_of_a_file_is_read_once(rt: HostRuntime) {
-    assert!(rt; holds(rt.alloc(), &Kind::Breakpad, &Trial::ReadTwice));
+    assert!(rt; holds(rt.alloc(), &Kind::Breakpad, &Trial::ReadOnce));
 }

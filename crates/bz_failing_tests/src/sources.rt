@@ -121,7 +121,8 @@ pub(crate) fn put(alloc: Global, files: &mut MemFiles, path: &str, bytes: &[u8])
     }
 }
 
-/// Puts a good file of the kind. Says whether memory was left.
+/// Puts a good file of the kind, and the status and the perf map of process 7. Says whether memory was
+/// left.
 pub(crate) fn put_good(alloc: Global, files: &mut MemFiles, kind: &Kind) -> bool {
     put(alloc, files, path_of(kind), bytes_of(kind))
         && put(alloc, files, "/proc/7/status", b"Name:\tx\n")

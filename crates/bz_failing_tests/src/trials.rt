@@ -24,7 +24,7 @@ pub(crate) enum Trial {
     Unregistered(&'static Registration),
     ProcessFails(u64),
     Unmapped,
-    ReadTwice,
+    ReadOnce,
 }
 
 /// Whether it holds of the source of this kind, over these files and this symbolizer.
@@ -55,7 +55,7 @@ fn holds_over(
             processes::fails_or_answers(alloc, symbolizer, files, src, *look)
         }
         Trial::Unmapped => processes::has_no_mappings(alloc, symbolizer, files, src),
-        Trial::ReadTwice => reading::reads_each_version_once(alloc, symbolizer, files, src),
+        Trial::ReadOnce => reading::reads_each_version_once(alloc, symbolizer, files, src),
     }
 }
 
