@@ -1,3 +1,5 @@
 pub mod FrameLemmas
+pub mod InputLemmas
 pub mod RunLemmas
 pub mod TextLemmas
+pub mod TurnLemmas

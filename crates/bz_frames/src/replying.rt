@@ -6,7 +6,7 @@ ghost use Rattle.bz_store.specs.Frames.{frame_of, reading_of};
 ghost use Rattle.bz_store.specs.Shelf.{new_shelf};
 ghost use Rattle.bz_symq.specs.Reply.{outcome_of};
 ghost use Rattle.bz_frames.specs.FrameLines.{frames_in};
-ghost use Rattle.bz_frames.specs.FrameReply.{RepliesFrames, capacity, done};
+ghost use Rattle.bz_frames.specs.FrameReply.{IsFramesReply, RepliesFrames, capacity, done};
 
 use crate::reading::read_frames;
 use crate::writing::frame_texts;
@@ -30,7 +30,9 @@ pub fn reply_to_frames<F: Files>(
     text: &[u8],
     files: &mut F,
 ) -> Result<Reply>
-    ensures { RepliesFrames F.Files root.now opts.now (frames_in text.now) result files.old files.new }
+    ensures reply { RepliesFrames F.Files root.now opts.now (frames_in text.now) result files.old files.new }
+    // Whatever the files tell.
+    ensures answered { IfOk result (IsFramesReply root.now opts.now (frames_in text.now)) }
 {
     match read_frames(alloc, text) {
         Ok(frames) => answered(alloc, root, opts, frames.as_slice(), files),
@@ -46,7 +48,8 @@ fn answered<F: Files>(
     frames: &[CrashFrame],
     files: &mut F,
 ) -> Result<Reply>
-    ensures { RepliesFrames F.Files root.now opts.now (Ok (map frame_of frames.now)) result files.old files.new }
+    ensures reply { RepliesFrames F.Files root.now opts.now (Ok (map frame_of frames.now)) result files.old files.new }
+    ensures answered { IfOk result (IsFramesReply root.now opts.now (Ok (map frame_of frames.now))) }
 {
     match new_store(alloc, root) {
         Ok(store) => answered_by(alloc, store, opts, frames, files),
@@ -62,7 +65,8 @@ fn answered_by<F: Files>(
     files: &mut F,
 ) -> Result<Reply>
     requires { store ≡ new_shelf store.root capacity }
-    ensures { RepliesFrames F.Files store.root opts.now (Ok (map frame_of frames.now)) result files.old files.new }
+    ensures reply { RepliesFrames F.Files store.root opts.now (Ok (map frame_of frames.now)) result files.old files.new }
+    ensures answered { IfOk result (IsFramesReply store.root opts.now (Ok (map frame_of frames.now))) }
 {
     match store.answer(alloc, files, frames, opts) {
         Ok(answers) => texts_reply(alloc, frames, answers.as_slice()),

@@ -2,11 +2,12 @@
 
 ghost use Rattle.std.specs.Prelude.{◌≡◌, ◌⊎◌, ◌↔◌};
 ghost use Rattle.bz_frames.specs.FrameRun.{RunsFrames};
+ghost use Rattle.bz_frames.specs.FrameTurns.{RepliesToInput};
 
 use crate::replying::reply_to_frames;
-use bz_base::{Error, FindSymOpts};
+use bz_base::{Error, FindSymOpts, Result};
 use bz_files::{Files, TextIn, TextOut};
-use bz_symq::{ReadStop, Status, finish, read_input, stored_reply};
+use bz_symq::{ReadStop, Reply, Status, finish, read_input, stored_reply};
 use std::alloc::Global;
 
 /// Reads the whole input, which is frames, one on a line, and writes what they are answered by the symbol
@@ -21,17 +22,27 @@ pub fn run_frames<R: TextIn, W: TextOut, F: Files>(
 ) -> Status
     ensures { RunsFrames R.TextIn W.TextOut F.Files root.now opts.now result input.old input.new output.old output.new files.old files.new }
 {
+    match reply_to_input(alloc, root, opts, input, files) {
+        Ok(reply) => finish(alloc, output, &reply),
+        Err(error) => failed(error),
+    }
+}
+
+// What the run ends with and writes, before any of it is written.
+fn reply_to_input<R: TextIn, F: Files>(
+    alloc: Global,
+    root: &str,
+    opts: &FindSymOpts,
+    input: &mut R,
+    files: &mut F,
+) -> Result<Reply>
+    ensures { RepliesToInput R.TextIn F.Files root.now opts.now result input.old input.new files.old files.new }
+{
     match read_input(alloc, input) {
-        Ok(text) => match reply_to_frames(alloc, root, opts, text.as_slice(), files) {
-            Ok(reply) => finish(alloc, output, &reply),
-            Err(error) => failed(error),
-        },
-        Err(ReadStop::TooLong) => {
-            let reply = stored_reply(Status::Input, "input: too long\n");
-            finish(alloc, output, &reply)
-        }
-        Err(ReadStop::Fault) => Status::Fault,
-        Err(ReadStop::Memory) => Status::Memory,
+        Ok(text) => reply_to_frames(alloc, root, opts, text.as_slice(), files),
+        Err(ReadStop::TooLong) => Ok(stored_reply(Status::Input, "input: too long\n")),
+        Err(ReadStop::Fault) => Err(Error::ReadFault),
+        Err(ReadStop::Memory) => Err(Error::OutOfMemory),
     }
 }
 

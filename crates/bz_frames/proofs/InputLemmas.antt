@@ -1,0 +1,80 @@
+-- What an input of frames asks for, when it is bad, and what a run over it comes to.
+use Rattle.std.proofs.Common.{◌≡◌, ◌⊎◌, ◌↔◌, ◌≤◌, ◌<◌, ℕ, Bool, true, false, List, length, Option, Some, Result, Ok, Err, IsErr, refl, sym, ◌∙◌, inl, inr, ltb, arith}
+use Rattle.std.proofs.lemmas.Bool.{false≢true, le-ltb, lt-ltb, ltb-false}
+use Rattle.bz_base.specs.declared.types.FindSymOpts.{FindSymOpts}
+use Rattle.bz_files.specs.World.{World}
+use Rattle.bz_lines.proofs.LineGrammarLemmas.{first_bad_again, first_bad_found, items_again, items_found}
+use Rattle.bz_store.specs.Frames.{Frame}
+use Rattle.bz_symq.specs.InputText.{greatest_input}
+use Rattle.bz_symq.specs.Outcome.{too_long}
+use Rattle.bz_symq.specs.Reply.{text_of}
+use Rattle.bz_symq.specs.Run.{Ends}
+use Rattle.bz_symq.specs.declared.reply.Reply.{Reply}
+use Rattle.bz_symq.specs.declared.status.Status.{Status}
+use Rattle.bz_symq.specs.declared.status.Status.TheVariants as statuses
+use Rattle.bz_frames.proofs.FrameLemmas.{frame_agrees}
+use Rattle.bz_frames.specs.FrameLines.{IsFrame, frame_in, frames_in}
+use Rattle.bz_frames.specs.FrameReply.{IsFrameStatus, IsFramesReply, by_frames}
+use Rattle.bz_frames.specs.FrameRun.{AreAnswered, AsksFor, IsBadInput, by_length, frames_outcome}
+use Rattle.bz_frames.specs.FrameTurns.{IsRunReply}
+
+module _ (text : List ℕ) (short : length text ≤ greatest_input) where
+  -- of a bad input that isn't too long no frames are read
+  pub none_read : IsBadInput text → IsErr (frames_in text)
+  none_read (inl long) = absurd (omega (arith, short, long))
+  none_read (inr (n, bad)) = rw (first_bad_again frame_in IsFrame frame_agrees text n bad) refl
+
+  -- so what is read decides on the status
+  pub status_read : (asked : Result (List Frame) ℕ) → frames_in text ≡ asked → (status : Status) → IsFrameStatus asked status → (status ≡ statuses.Input) ↔ IsBadInput text
+  status_read (Ok frames) is status done = (
+    λ input. let both : statuses.Done ≡ statuses.Input = sym done ∙ input in cc,
+    λ bad. absurd (false≢true (rw is at (none_read bad))),
+  )
+  status_read (Err n) is status input = (λ _. inr (n, first_bad_found frame_in IsFrame frame_agrees text n is), λ _. input)
+
+  -- and a reply to what is read to the input
+  pub reply_read : (root : List ℕ) (opts : FindSymOpts) (asked : Result (List Frame) ℕ) → frames_in text ≡ asked → (reply : Reply) → IsFrameStatus asked reply.status → IsFramesReply root opts asked reply →
+      reply.status ≡ statuses.Done → IsRunReply root opts text (text_of reply.said)
+  reply_read root opts (Ok frames) is reply status (readings, are, said) done = record {
+    frames = frames;
+    readings = readings;
+    asks = record { short = short; frames_are = items_found frame_in IsFrame frame_agrees text frames is };
+    readings_are = are;
+    said_is = said;
+  }
+  reply_read root opts (Err n) is reply status none done = let never : statuses.Input ≡ statuses.Done = sym status ∙ done in cc
+
+-- an input that asks for frames isn't bad
+pub never_bad : (text : List ℕ) (frames : List Frame) → AsksFor text frames → IsBadInput text → ⊥
+never_bad text frames asks bad = absurd (false≢true (rw (items_again frame_in IsFrame frame_agrees text frames asks.frames_are) at (none_read text asks.short bad)))
+
+-- a run that gives a reply is done, or its input is bad
+pub either_status : (asked : Result (List Frame) ℕ) (status : Status) → IsFrameStatus asked status → (status ≡ statuses.Input) ⊎ (status ≡ statuses.Done)
+either_status (Ok frames) status done = inr done
+either_status (Err n) status input = inl input
+
+module _ (world : World) (root : List ℕ) (opts : FindSymOpts) where
+  -- an input that isn't too long comes to what its lines do
+  pub outcome_short : (text whole : List ℕ) → length text ≤ greatest_input → text ≡ whole → by_frames world root opts (frames_in text) ≡ frames_outcome world root opts whole
+  outcome_short text whole short same = rw (← same, le-ltb _ _ short) refl
+
+  pub outcome_long : (text : List ℕ) → greatest_input < length text → too_long ≡ frames_outcome world root opts text
+  outcome_long text long = rw (lt-ltb _ _ long) refl
+
+  answered_by : (text old : List ℕ) (new : Option (List ℕ)) → length text ≤ greatest_input → (asked : Result (List Frame) ℕ) → frames_in text ≡ asked →
+      Ends (by_frames world root opts asked) old statuses.Done new → AreAnswered world root opts text old new
+  answered_by text old new short (Ok frames) is ends = record {
+    frames = frames;
+    asks = record { short = short; frames_are = items_found frame_in IsFrame frame_agrees text frames is };
+    written = ends.1;
+  }
+  answered_by text old new short (Err n) is ends = let never : statuses.Input ≡ statuses.Done = ends.0 in cc
+
+  answered_of : (text old : List ℕ) (new : Option (List ℕ)) (long : Bool) → ltb greatest_input (length text) ≡ long → Ends (by_length world root opts text long) old statuses.Done new →
+      AreAnswered world root opts text old new
+  answered_of text old new true is ends = let never : statuses.Input ≡ statuses.Done = ends.0 in cc
+  answered_of text old new false is ends = answered_by text old new (ltb-false _ _ is) (frames_in text) refl ends
+
+  -- a run that is done has answered the frames
+  pub answered_from_ends : (text old : List ℕ) (new : Option (List ℕ)) → Ends (frames_outcome world root opts text) old statuses.Done new → AreAnswered world root opts text old new
+  answered_from_ends text old new ends = answered_of text old new (ltb greatest_input (length text)) refl ends
