@@ -1,3 +1,4 @@
+pub mod ApartLemmas
 pub mod BoundsLemmas
 pub mod CallLemmas
 pub mod ConversionLemmas

@@ -83,6 +83,30 @@ module _ {L : Type 0} (same : L → L → Bool) (itself : (l : L) → same l l �
   before_steady (suc count) at now steady =
       ap (λ o. before_at o (at + 1) count) (steady at (omega arith) (omega arith)) ∙ before_steady count (at + 1) now (λ a low high. steady a (omega arith) (omega arith))
 
+  span_before : (count at : ℕ) (now before : Option L) → Steady now at (suc count) → before_at before at (suc count) ≡ now
+  span_before count at now before steady =
+      ap (λ o. before_at o (at + 1) count) (steady at (omega arith) (omega arith)) ∙ before_steady count (at + 1) now (λ a low high. steady a (omega arith) (omega arith))
+
+  -- from an address on one record answers up to another one, or none does: the row at that address, and what comes behind
+  pub rows_of_span : (count n at : ℕ) (now before : Option L) → Steady now at (suc count) →
+      rows_from same line_at before at (suc count + n) ≡ row_by same at before now ++ rows_from same line_at now (at + suc count) n
+  rows_of_span count n at now before steady =
+      rows_cut (suc count) n at before
+      ∙ ap (λ l. l ++ rows_from same line_at (before_at before at (suc count)) (at + suc count) n) (rows_of_point now before at count steady)
+      ∙ ap (λ o. row_by same at before now ++ rows_from same line_at o (at + suc count) n) (span_before count at now before steady)
+
+  gap_of_steady : (count at : ℕ) (now before : Option L) → Steady now at (suc count) → gap_from line_at before at (suc count) ≡ gap_of at before now
+  gap_of_steady count at now before steady =
+      ap (λ o. cond (is_some before && is_none o) (Some at) (gap_from line_at o (at + 1) count)) (steady at (omega arith) (omega arith))
+      ∙ ap (λ g. cond (is_some before && is_none now) (Some at) g) (gap_steady now count (at + 1) (λ a low high. steady a (omega arith) (omega arith)))
+
+  pub gap_of_span : (count n at : ℕ) (now before : Option L) → Steady now at (suc count) →
+      gap_from line_at before at (suc count + n) ≡ (gap_of at before now or gap_from line_at now (at + suc count) n)
+  gap_of_span count n at now before steady =
+      gap_cut (suc count) n at before
+      ∙ ap (λ g. g or gap_from line_at (before_at before at (suc count)) (at + suc count) n) (gap_of_steady count at now before steady)
+      ∙ ap (λ o. gap_of at before now or gap_from line_at o (at + suc count) n) (span_before count at now before steady)
+
   -- the rows at points, in the order of the points
   abbrev pub point_rows : Option L → List ℕ → List (ℕ × L)
   point_rows before [] = []

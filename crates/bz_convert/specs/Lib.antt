@@ -1,4 +1,5 @@
 pub mod Alike
+pub mod Apart
 pub mod Bounds
 pub mod ErrorNames
 pub mod Fault

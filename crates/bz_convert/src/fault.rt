@@ -10,7 +10,7 @@ ghost use Rattle.bz_convert.specs.Plan.{is_checked};
 use crate::calls::calls_fault;
 use crate::error::ConvertError;
 use crate::ids::{has_zero, ids_fault, texts_have_zero};
-use crate::rows::walk_lines;
+use crate::rows::walk_records;
 use bz_base::{Error, Result, Steps};
 use bz_breakpad::{Function, SymbolFile};
 use std::alloc::Global;
@@ -98,7 +98,8 @@ fn checked_fault(
     ensures memory { IsOkUnless result Error.OutOfMemory }
 {
     let func = function.addr();
-    let walked = walk_lines(alloc, function)?;
+    let lines = function.lines(alloc)?;
+    let walked = walk_records(alloc, function, &lines)?;
     if let Some(addr) = walked.gap {
         return Ok(Some(ConvertError::LineGap { func, addr }));
     }
@@ -106,7 +107,6 @@ fn checked_fault(
     if let Some(fault) = calls_fault(alloc, function, &calls)? {
         return Ok(Some(fault));
     }
-    let lines = function.lines(alloc)?;
     if let Some(fault) = ids_fault(file, func, &lines, &calls) {
         return Ok(Some(fault));
     }

@@ -1,9 +1,11 @@
 //! The rows of a function.
 
-ghost use Rattle.std.specs.Prelude.{◌≡◌, ◌<◌, ◌≤◌, ◌+◌, ◌++◌, ℕ, true, None, map, option_map, IfOk, IsOkUnless, OnOk};
+ghost use Rattle.std.specs.Prelude.{◌≡◌, ◌<◌, ◌≤◌, ◌+◌, ◌++◌, ℕ, min, true, None, map, option_map, IfOk, IfSome, IsOkUnless, OnOk};
 ghost use Rattle.bz_base.specs.declared.error.Error.{Error};
+ghost use Rattle.bz_breakpad_function.specs.InOrder.{lines_in_order};
 ghost use Rattle.bz_breakpad_function.specs.Places.{line_at};
 ghost use Rattle.bz_breakpad_lines.specs.Told.{line_seen};
+ghost use Rattle.bz_convert.specs.Apart.{LieApart, gap_between};
 ghost use Rattle.bz_convert.specs.Plan.{changes, is_checked, same_line};
 ghost use Rattle.bz_convert.specs.Points.{ArePoints, gap_of, point_within, row_seen};
 ghost use Rattle.bz_convert.specs.Fault.{◌or◌};
@@ -48,8 +50,97 @@ pub fn walk_lines(alloc: Global, function: &Function<'_>) -> Result<Walked>
     ensures gap { IfOk result (λ walked. walked.gap ≡ gap_from (λ addr. line_at addr function.now.lines) None function.now.start function.now.size) }
     ensures memory { IsOkUnless result Error.OutOfMemory }
 {
-    let points = points_of(alloc, function)?;
+    let lines = function.lines(alloc)?;
+    walk_records(alloc, function, &lines)
+}
+
+/// Walks over the addresses of a function whose end fits 64 bits, and which has these line records.
+pub(crate) fn walk_records(
+    alloc: Global,
+    function: &Function<'_>,
+    lines: &[SourceLine],
+) -> Result<Walked>
+    requires checked { is_checked function.now ≡ true }
+    requires lines { map line_seen lines.now ≡ lines_in_order function.now }
+    ensures rows { IfOk result (λ walked. map row_seen walked.rows.items ≡ changes function.now) }
+    ensures gap { IfOk result (λ walked. walked.gap ≡ gap_from (λ addr. line_at addr function.now.lines) None function.now.start function.now.size) }
+    ensures memory { IsOkUnless result Error.OutOfMemory }
+{
+    if lie_apart(lines) {
+        return walk_apart(alloc, function, lines);
+    }
+    let points = points_of(alloc, function, lines)?;
     walk_points(alloc, function, &points)
+}
+
+/// Whether each line record has a size, and ends before the next one starts, or where it does.
+fn lie_apart(lines: &[SourceLine]) -> bool
+    ensures { result ≡ true → LieApart 0 (map line_seen lines.now) }
+{
+    let mut reached = 0;
+    for line in lines {
+        match end_behind(line, reached) {
+            Some(end) => reached = end,
+            None => return false,
+        }
+    }
+    true
+}
+
+/// Where a line record ends that has a size and doesn't start before an address, if 64 bits count that.
+fn end_behind(line: &SourceLine, reached: u64) -> Option<u64>
+    ensures { IfSome result (λ end. (reached ≤ line.now.addr) × (0 < line.now.size) × (end ≡ line.now.addr + line.now.size)) }
+{
+    if line.size == 0 || line.addr < reached {
+        return None;
+    }
+    line.addr.checked_add(u64::from(line.size))
+}
+
+/// Walks over the addresses of a function whose line records lie apart: each has one row at most, and
+/// none answers between two of them.
+fn walk_apart(alloc: Global, function: &Function<'_>, lines: &[SourceLine]) -> Result<Walked>
+    requires checked { is_checked function.now ≡ true }
+    requires lines { map line_seen lines.now ≡ lines_in_order function.now }
+    requires apart { LieApart 0 (map line_seen lines.now) }
+    ensures rows { IfOk result (λ walked. map row_seen walked.rows.items ≡ changes function.now) }
+    ensures gap { IfOk result (λ walked. walked.gap ≡ gap_from (λ addr. line_at addr function.now.lines) None function.now.start function.now.size) }
+    ensures memory { IsOkUnless result Error.OutOfMemory }
+{
+    let start = function.addr();
+    let end = start + u64::from(function.size());
+    let mut rows = Vec::with_capacity(alloc, lines.len())?;
+    let mut gap = None;
+    let mut reached = start;
+    for line in lines {
+        let from = line.addr.max(start);
+        let to = end_within(line, end);
+        if from < to {
+            gap = gap_before(gap, start, reached, from);
+            rows.push((from, *line))?;
+            reached = to;
+        }
+    }
+    gap = gap_before(gap, start, reached, end);
+    Ok(Walked { rows, gap })
+}
+
+/// Where a line record ends before the end of a function, or that end.
+fn end_within(line: &SourceLine, end: u64) -> u64
+    ensures { result ≡ min (line.now.addr + line.now.size) end }
+{
+    line.addr.saturating_add(u64::from(line.size)).min(end)
+}
+
+/// A gap, or else the one from an address on up to the next line record, if that address lies behind
+/// the start of its function.
+fn gap_before(gap: Option<u64>, start: u64, reached: u64, next: u64) -> Option<u64>
+    ensures { result ≡ (gap or gap_between start reached next) }
+{
+    if gap.is_none() && start < reached && reached < next {
+        return Some(reached);
+    }
+    gap
 }
 
 /// Walks over the points of a function.
@@ -119,17 +210,17 @@ fn same_line(a: &SourceLine, b: &SourceLine) -> bool
 
 /// The points of a function, in the order of their addresses: its start, and of each line record the
 /// start, the address after it, and the end. One may stand there several times.
-fn points_of(alloc: Global, function: &Function<'_>) -> Result<Vec<Point>>
-    requires { is_checked function.now ≡ true }
+fn points_of(alloc: Global, function: &Function<'_>, lines: &[SourceLine]) -> Result<Vec<Point>>
+    requires checked { is_checked function.now ≡ true }
+    requires lines { map line_seen lines.now ≡ lines_in_order function.now }
     ensures points { IfOk result (λ points. ArePoints function.now (map (λ p. p.addr) points.items)) }
     ensures memory { IsOkUnless result Error.OutOfMemory }
 {
     let start = function.addr();
     let end = start + u64::from(function.size());
-    let lines = function.lines(alloc)?;
     let mut points = Vec::new(alloc);
     points.push(Point { addr: start })?;
-    for line in &lines {
+    for line in lines {
         push_point(&mut points, start, end, line.addr, 0)?;
         push_point(&mut points, start, end, line.addr, 1)?;
         push_point(&mut points, start, end, line.addr, u64::from(line.size))?;
