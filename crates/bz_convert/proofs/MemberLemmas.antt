@@ -1,5 +1,5 @@
 -- What stands in a list stands in its table, and what stands in the table stands in the list.
-use Rattle.std.proofs.Common.{◌≡◌, ◌⊎◌, inl, inr, ℕ, zero, suc, ◌<◌, Bool, true, false, cond, List, [], ◌∷◌, ◌++◌, map, Some, refl, sym, ap, subst, ◌∙◌, arith}
+use Rattle.std.proofs.Common.{◌≡◌, ◌⊎◌, inl, inr, ℕ, zero, suc, ◌<◌, Bool, true, false, cond, List, [], ◌∷◌, ◌++◌, length, map, Some, refl, sym, ap, subst, ◌∙◌, arith}
 use Rattle.std.specs.List.{AllByRecursion, filter, slice_get}
 use Rattle.std.proofs.lemmas.Bool.Decides.{nat_tests}
 use Rattle.std.proofs.lemmas.Option.{none-some, same_Some}
@@ -162,3 +162,10 @@ module _ {X : Type 0} (start size : X → ℕ) where
     two_alike i j x y less at_i at_j starts sizes =
         let two = two_to (has_span start size (start x) (size x)) table i j x y less at_i at_j (own_span x) (same_span x y starts sizes) in
         two_from (has_span start size (start x) (size x)) records (two.0, two.1, two.2, sym (is.alike (start x) (size x)) ∙ two.3)
+
+-- what holds at each index, and of one more
+pub each_more : {X : Type 0} (P : ℕ → X → Type 0) (xs : List X) (x : X) → ((i : ℕ) (y : X) → slice_get xs i ≡ Some y → P i y) → P (length xs) x → (i : ℕ) (y : X) → slice_get (xs ++ x ∷ []) i ≡ Some y → P i y
+each_more P [] x each own zero y at = subst (P 0) (same_Some x y at) own
+each_more P [] x each own (suc i) y at = absurd (none-some y at)
+each_more P (z ∷ xs) x each own zero y at = each 0 y at
+each_more P (z ∷ xs) x each own (suc i) y at = each_more (λ j w. P (suc j) w) xs x (λ j w there. each (suc j) w there) own i y at

@@ -1,8 +1,9 @@
 -- Faults of the ids of a function's line records and inlined calls, and of the texts that they name.
-use Rattle.std.specs.Prelude.{ℕ, Bool, ◌&&◌, ◌||◌, List, Option, is_none, option_map, unwrap_or, []}
+use Rattle.std.specs.Prelude.{◌≡◌, ℕ, Bool, true, false, ◌&&◌, ◌||◌, List, Option, Some, is_none, option_map, slice_get, unwrap_or, []}
 use Rattle.std.specs.Borrow.{Bor}
 use Rattle.std.specs.List.{find}
 use Rattle.bz_breakpad_lines.specs.Names.{name_for}
+use Rattle.bz_breakpad_lines.specs.Reader.{table_in}
 use Rattle.bz_breakpad_lines.specs.Table.{Inlinee, SourceLine, Table}
 use Rattle.bz_convert.specs.Fault.{has_zero}
 use Rattle.bz_convert.specs.Plan.{has_size, located, source_by}
@@ -40,3 +41,18 @@ module _ (table : Table) where
 
   abbrev pub call_has_zero : Inlinee → Bool
   call_has_zero i = has_zero (unwrap_or (name_for i.origin table.origins) []) || file_has_zero i.call_file
+
+-- an id names a source file, whose directory and name hold no zero byte
+pub record IsCleanFile (table : Table) (id : ℕ) : Type 0 where
+  pub known : is_none (located table id) ≡ false
+  pub clean : file_has_zero table id ≡ false
+
+-- an id names an origin, whose name holds none
+pub record IsCleanOrigin (table : Table) (id : ℕ) : Type 0 where
+  pub known : is_none (name_for id table.origins) ≡ false
+  pub clean : has_zero (unwrap_or (name_for id table.origins) []) ≡ false
+
+-- so do the ids, from 0 on, at whose places true stands
+abbrev pub AreClean : List ℕ → List Bool → List Bool → Type 0
+AreClean bytes files origins = (table : Table) → table_in bytes ≡ Some table →
+    ((id : ℕ) → slice_get files id ≡ Some true → IsCleanFile table id) × ((id : ℕ) → slice_get origins id ≡ Some true → IsCleanOrigin table id)

@@ -10,6 +10,7 @@ ghost use Rattle.bz_convert.specs.Plan.{is_checked};
 use crate::calls::calls_fault;
 use crate::error::ConvertError;
 use crate::ids::{has_zero, ids_fault, texts_have_zero};
+use crate::known::KnownIds;
 use crate::rows::walk_records;
 use bz_base::{Error, Result, Steps};
 use bz_breakpad::{Function, SymbolFile};
@@ -39,10 +40,11 @@ fn first_fault_blank<L: Ledger>(
     ensures memory { IsOkUnless result Error.OutOfMemory }
 {
     let mut steps = Steps::<L>::new(blank);
+    let ids = KnownIds::new(alloc, file)?;
     let mut before = None;
     for index in 0..file.function_count() {
         let function = file.function(index, &mut steps);
-        if let Some(fault) = fault_of(alloc, file, before, &function)? {
+        if let Some(fault) = fault_of(alloc, &ids, before, &function)? {
             return Ok(Some(fault));
         }
         before = Some(function.addr());
@@ -53,11 +55,11 @@ fn first_fault_blank<L: Ledger>(
 /// The first fault of a function, by where the one before it starts.
 fn fault_of(
     alloc: Global,
-    file: &SymbolFile,
+    ids: &KnownIds<'_>,
     before: Option<u64>,
     function: &Function<'_>,
 ) -> Result<Option<ConvertError>>
-    ensures fault { IfOk result (λ fault. (table : Table) → table_in file.now ≡ Some table → fault ≡ fault_of table before function.now) }
+    ensures fault { IfOk result (λ fault. (table : Table) → table_in ids.now ≡ Some table → fault ≡ fault_of table before function.now) }
     ensures memory { IsOkUnless result Error.OutOfMemory }
 {
     let addr = function.addr();
@@ -68,7 +70,7 @@ fn fault_of(
         return Ok(Some(ConvertError::EqualStarts { addr }));
     }
     if is_checked(function) {
-        return checked_fault(alloc, file, function);
+        return checked_fault(alloc, ids, function);
     }
     if has_zero(function.name()) {
         return Ok(Some(ConvertError::ZeroByte { func: addr }));
@@ -90,11 +92,11 @@ pub fn is_checked(function: &Function<'_>) -> bool
 /// The first fault of a function that has a size and whose end fits 64 bits.
 fn checked_fault(
     alloc: Global,
-    file: &SymbolFile,
+    ids: &KnownIds<'_>,
     function: &Function<'_>,
 ) -> Result<Option<ConvertError>>
     requires { is_checked function.now ≡ true }
-    ensures fault { IfOk result (λ fault. (table : Table) → table_in file.now ≡ Some table → fault ≡ (checked_fault table function.now or zero_in table function.now)) }
+    ensures fault { IfOk result (λ fault. (table : Table) → table_in ids.now ≡ Some table → fault ≡ (checked_fault table function.now or zero_in table function.now)) }
     ensures memory { IsOkUnless result Error.OutOfMemory }
 {
     let func = function.addr();
@@ -107,10 +109,10 @@ fn checked_fault(
     if let Some(fault) = calls_fault(alloc, function, &calls)? {
         return Ok(Some(fault));
     }
-    if let Some(fault) = ids_fault(file, func, &lines, &calls) {
+    if let Some(fault) = ids_fault(ids, func, &lines, &calls) {
         return Ok(Some(fault));
     }
-    if texts_have_zero(file, function, &walked.rows, &calls) {
+    if texts_have_zero(ids, function, &walked.rows, &calls) {
         return Ok(Some(ConvertError::ZeroByte { func }));
     }
     Ok(None)

@@ -14,6 +14,7 @@ ghost use Rattle.bz_convert.specs.Points.{row_seen};
 ghost use Rattle.bz_gsym_layout.specs.Numbering.{texts_of};
 
 use crate::error::ConvertError;
+use crate::known::KnownIds;
 use bz_base::split_source;
 use bz_breakpad::{Function, Inlinee, SourceLine, SymbolFile};
 
@@ -29,30 +30,30 @@ pub fn located(file: &SymbolFile, id: u32) -> Option<Source<'_>>
 
 /// The first fault of the ids of a function's line records and inlined calls.
 pub(crate) fn ids_fault(
-    file: &SymbolFile,
+    ids: &KnownIds<'_>,
     func: u64,
     lines: &[SourceLine],
     calls: &[Inlinee],
 ) -> Option<ConvertError>
-    ensures { (table : Table) → table_in file.now ≡ Some table →
+    ensures { (table : Table) → table_in ids.now ≡ Some table →
         result ≡ (line_file_fault table func (map line_seen lines.now)
         or (call_file_fault table func (map kept_inlinee calls.now) or origin_fault table func (map kept_inlinee calls.now))) }
 {
-    if let Some(fault) = line_file_fault(file, func, lines) {
+    if let Some(fault) = line_file_fault(ids, func, lines) {
         return Some(fault);
     }
-    if let Some(fault) = call_file_fault(file, func, calls) {
+    if let Some(fault) = call_file_fault(ids, func, calls) {
         return Some(fault);
     }
-    origin_fault(file, func, calls)
+    origin_fault(ids, func, calls)
 }
 
 /// The first line record whose file isn't known.
-fn line_file_fault(file: &SymbolFile, func: u64, lines: &[SourceLine]) -> Option<ConvertError>
-    ensures { (table : Table) → table_in file.now ≡ Some table → result ≡ line_file_fault table func (map line_seen lines.now) }
+fn line_file_fault(ids: &KnownIds<'_>, func: u64, lines: &[SourceLine]) -> Option<ConvertError>
+    ensures { (table : Table) → table_in ids.now ≡ Some table → result ≡ line_file_fault table func (map line_seen lines.now) }
 {
     for line in lines {
-        if located(file, line.file).is_none() {
+        if ids.lacks_file(line.file) {
             return Some(ConvertError::NoFile {
                 func,
                 id: line.file,
@@ -63,11 +64,11 @@ fn line_file_fault(file: &SymbolFile, func: u64, lines: &[SourceLine]) -> Option
 }
 
 /// The first inlined call of some size whose file isn't known.
-fn call_file_fault(file: &SymbolFile, func: u64, calls: &[Inlinee]) -> Option<ConvertError>
-    ensures { (table : Table) → table_in file.now ≡ Some table → result ≡ call_file_fault table func (map kept_inlinee calls.now) }
+fn call_file_fault(ids: &KnownIds<'_>, func: u64, calls: &[Inlinee]) -> Option<ConvertError>
+    ensures { (table : Table) → table_in ids.now ≡ Some table → result ≡ call_file_fault table func (map kept_inlinee calls.now) }
 {
     for call in calls {
-        if call.size > 0 && located(file, call.call_file).is_none() {
+        if call.size > 0 && ids.lacks_file(call.call_file) {
             return Some(ConvertError::NoFile {
                 func,
                 id: call.call_file,
@@ -78,11 +79,11 @@ fn call_file_fault(file: &SymbolFile, func: u64, calls: &[Inlinee]) -> Option<Co
 }
 
 /// The first inlined call of some size whose name isn't known.
-fn origin_fault(file: &SymbolFile, func: u64, calls: &[Inlinee]) -> Option<ConvertError>
-    ensures { (table : Table) → table_in file.now ≡ Some table → result ≡ origin_fault table func (map kept_inlinee calls.now) }
+fn origin_fault(ids: &KnownIds<'_>, func: u64, calls: &[Inlinee]) -> Option<ConvertError>
+    ensures { (table : Table) → table_in ids.now ≡ Some table → result ≡ origin_fault table func (map kept_inlinee calls.now) }
 {
     for call in calls {
-        if call.size > 0 && file.origin(call.origin_id).is_none() {
+        if call.size > 0 && ids.lacks_origin(call.origin_id) {
             return Some(ConvertError::NoOrigin {
                 func,
                 id: call.origin_id,
@@ -105,7 +106,7 @@ pub(crate) fn has_zero(text: &str) -> bool
 }
 
 /// Whether directory or name of the file of an id hold a zero byte.
-fn file_has_zero(file: &SymbolFile, id: u32) -> bool
+pub(crate) fn file_has_zero(file: &SymbolFile, id: u32) -> bool
     ensures { (table : Table) → table_in file.now ≡ Some table → result ≡ file_has_zero table id }
 {
     let Some((dir, name)) = located(file, id) else {
@@ -122,7 +123,7 @@ fn file_has_zero(file: &SymbolFile, id: u32) -> bool
 /// Whether a text that is laid out for a function holds a zero byte: its name, or one of its rows or
 /// inlined calls.
 pub(crate) fn texts_have_zero(
-    file: &SymbolFile,
+    ids: &KnownIds<'_>,
     function: &Function<'_>,
     rows: &[(u64, SourceLine)],
     calls: &[Inlinee],
@@ -130,24 +131,24 @@ pub(crate) fn texts_have_zero(
     requires checked { is_checked function.now ≡ true }
     requires rows { map row_seen rows.now ≡ changes function.now }
     requires calls { map kept_inlinee calls.now ≡ calls_in_order function.now }
-    ensures { (table : Table) → table_in file.now ≡ Some table → not_nested function.now ≡ None → overlap function.now ≡ None →
+    ensures { (table : Table) → table_in ids.now ≡ Some table → not_nested function.now ≡ None → overlap function.now ≡ None →
         result ≡ list_any has_zero (texts_of (code_of table function.now)) }
 {
     if has_zero(function.name()) {
         return true;
     }
-    if rows_have_zero(file, rows) {
+    if rows_have_zero(ids, rows) {
         return true;
     }
-    !rows.is_empty() && calls_have_zero(file, calls)
+    !rows.is_empty() && calls_have_zero(ids, calls)
 }
 
 /// Whether the texts of rows hold a zero byte.
-fn rows_have_zero(file: &SymbolFile, rows: &[(u64, SourceLine)]) -> bool
-    ensures { (table : Table) → table_in file.now ≡ Some table → result ≡ list_any (row_has_zero table) (map row_seen rows.now) }
+fn rows_have_zero(ids: &KnownIds<'_>, rows: &[(u64, SourceLine)]) -> bool
+    ensures { (table : Table) → table_in ids.now ≡ Some table → result ≡ list_any (row_has_zero table) (map row_seen rows.now) }
 {
     for row in rows {
-        if file_has_zero(file, row.1.file) {
+        if ids.file_has_zero(row.1.file) {
             return true;
         }
     }
@@ -155,11 +156,11 @@ fn rows_have_zero(file: &SymbolFile, rows: &[(u64, SourceLine)]) -> bool
 }
 
 /// Whether the texts of inlined calls of some size hold a zero byte.
-fn calls_have_zero(file: &SymbolFile, calls: &[Inlinee]) -> bool
-    ensures { (table : Table) → table_in file.now ≡ Some table → result ≡ list_any (sized_with (call_has_zero table)) (map kept_inlinee calls.now) }
+fn calls_have_zero(ids: &KnownIds<'_>, calls: &[Inlinee]) -> bool
+    ensures { (table : Table) → table_in ids.now ≡ Some table → result ≡ list_any (sized_with (call_has_zero table)) (map kept_inlinee calls.now) }
 {
     for call in calls {
-        if call.size > 0 && call_has_zero(file, call) {
+        if call.size > 0 && call_has_zero(ids, call) {
             return true;
         }
     }
@@ -167,13 +168,8 @@ fn calls_have_zero(file: &SymbolFile, calls: &[Inlinee]) -> bool
 }
 
 /// Whether the name of an inlined call, or directory or name of its file, hold a zero byte.
-fn call_has_zero(file: &SymbolFile, call: &Inlinee) -> bool
-    ensures { (table : Table) → table_in file.now ≡ Some table → result ≡ call_has_zero table (kept_inlinee call.now) }
+fn call_has_zero(ids: &KnownIds<'_>, call: &Inlinee) -> bool
+    ensures { (table : Table) → table_in ids.now ≡ Some table → result ≡ call_has_zero table (kept_inlinee call.now) }
 {
-    if let Some(name) = file.origin(call.origin_id) {
-        if has_zero(name) {
-            return true;
-        }
-    }
-    file_has_zero(file, call.call_file)
+    ids.origin_has_zero(call.origin_id) || ids.file_has_zero(call.call_file)
 }

@@ -5,6 +5,7 @@ mod calls;
 mod error;
 mod fault;
 mod ids;
+mod known;
 pub mod laws;
 mod rows;
 

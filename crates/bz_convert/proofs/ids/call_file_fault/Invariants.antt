@@ -7,4 +7,4 @@ use Rattle.bz_convert.proofs.ids.call_file_fault.Given as goal
 
 -- those so far show nothing
 abbrev pub invariant-loop-call : goal.invariant-loop-call
-invariant-loop-call l = (table : Table) → table_in l.file ≡ Some table → call_file_fault table l.func (map kept_inlinee (drop l.call-index l.calls)) ≡ call_file_fault table l.func (map kept_inlinee l.calls)
+invariant-loop-call l = (table : Table) → table_in l.ids ≡ Some table → call_file_fault table l.func (map kept_inlinee (drop l.call-index l.calls)) ≡ call_file_fault table l.func (map kept_inlinee l.calls)

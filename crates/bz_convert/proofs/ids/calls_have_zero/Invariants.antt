@@ -8,4 +8,4 @@ use Rattle.bz_convert.proofs.ids.calls_have_zero.Given as goal
 
 -- those so far show nothing
 abbrev pub invariant-loop-call : goal.invariant-loop-call
-invariant-loop-call l = (table : Table) → table_in l.file ≡ Some table → list_any (sized_with (call_has_zero table)) (map kept_inlinee (drop l.call-index l.calls)) ≡ list_any (sized_with (call_has_zero table)) (map kept_inlinee l.calls)
+invariant-loop-call l = (table : Table) → table_in l.ids ≡ Some table → list_any (sized_with (call_has_zero table)) (map kept_inlinee (drop l.call-index l.calls)) ≡ list_any (sized_with (call_has_zero table)) (map kept_inlinee l.calls)

@@ -7,4 +7,4 @@ use Rattle.bz_convert.proofs.ids.line_file_fault.Given as goal
 
 -- those so far show nothing
 abbrev pub invariant-loop-line : goal.invariant-loop-line
-invariant-loop-line l = (table : Table) → table_in l.file ≡ Some table → line_file_fault table l.func (map line_seen (drop l.line-index l.lines)) ≡ line_file_fault table l.func (map line_seen l.lines)
+invariant-loop-line l = (table : Table) → table_in l.ids ≡ Some table → line_file_fault table l.func (map line_seen (drop l.line-index l.lines)) ≡ line_file_fault table l.func (map line_seen l.lines)

@@ -8,4 +8,4 @@ use Rattle.bz_convert.proofs.ids.rows_have_zero.Given as goal
 
 -- those so far show nothing
 abbrev pub invariant-loop-row : goal.invariant-loop-row
-invariant-loop-row l = (table : Table) → table_in l.file ≡ Some table → list_any (row_has_zero table) (map row_seen (drop l.row-index l.rows)) ≡ list_any (row_has_zero table) (map row_seen l.rows)
+invariant-loop-row l = (table : Table) → table_in l.ids ≡ Some table → list_any (row_has_zero table) (map row_seen (drop l.row-index l.rows)) ≡ list_any (row_has_zero table) (map row_seen l.rows)
