@@ -40,11 +40,11 @@ module _ (bytes : List ℕ) where
   module _ (table : Table) (read : table_in bytes ≡ Some table) where
     pub collected_turn : (old new : Numbering) (i : ℕ) (f : Function) → slice_get (functions_in_order bytes) i ≡ Some f → (gs more : List Planned) (g : Planned) → more ≡ gs ++ g ∷ [] →
         Collected table old (take i (ordered_functions table.functions)) gs →
-        ((table : Table) (texts : List (List ℕ)) (sources : List Source) → table_in bytes ≡ Some table → IsNumbering texts sources old → IsNumbering (texts ++ texts_used table f) (sources ++ sources_used table f) new) →
-        ((table : Table) (texts : List (List ℕ)) (sources : List Source) → table_in bytes ≡ Some table → IsNumbering texts sources old → IsFunctionFor table (listed_texts new.texts) (listed_sources new) f g) →
+        ((table : Table) (texts : List (List ℕ)) (sources : List Source) → table_in bytes ≡ Some table → IsNumbering table texts sources old → IsNumbering table (texts ++ texts_used table f) (sources ++ sources_used table f) new) →
+        ((table : Table) (texts : List (List ℕ)) (sources : List Source) → table_in bytes ≡ Some table → IsNumbering table texts sources old → IsFunctionFor table (listed_texts new.texts) (listed_sources new) f g) →
         Collected table new (take (i + 1) (ordered_functions table.functions)) more
     collected_turn old new i f at gs more g pushed so_far numbers says =
-        found_turn (texts_used table) (sources_used table) (λ n. IsFunctionFor table (listed_texts n.texts) (listed_sources n)) (functions_stay table) [] [] old new (ordered_functions table.functions) i f
+        found_turn table (texts_used table) (sources_used table) (λ n. IsFunctionFor table (listed_texts n.texts) (listed_sources n)) (functions_stay table) [] [] old new (ordered_functions table.functions) i f
         (ap (λ fs. slice_get fs i) (sym (in_order table read)) ∙ at) gs more g pushed so_far (λ texts sources is. numbers table texts sources read is) (λ texts sources is. says table texts sources read is)
 
     -- all are collected
@@ -55,7 +55,7 @@ module _ (bytes : List ℕ) where
 
       all : Collected table numbering (ordered_functions table.functions) p.functions.items
       all =
-          found_end (texts_used table) (sources_used table) (λ n. IsFunctionFor table (listed_texts n.texts) (listed_sources n)) [] [] numbering (ordered_functions table.functions) i
+          found_end table (texts_used table) (sources_used table) (λ n. IsFunctionFor table (listed_texts n.texts) (listed_sources n)) [] [] numbering (ordered_functions table.functions) i
           (omega (arith, counted, sorted_length (λ (f : Function). f.start) (λ f. f.size) table.functions, past)) p.functions.items so_far
 
       pub plan_formed : IsPlan p

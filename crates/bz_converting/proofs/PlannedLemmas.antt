@@ -188,7 +188,7 @@ module _ (table : Table) where
 
   -- The whole file.
   abbrev pub Collected : Numbering → List Function → List Planned → Type 0
-  Collected n fs gs = SoFar (texts_used table) (sources_used table) (λ n. IsFunctionFor table (listed_texts n.texts) (listed_sources n)) [] [] n fs gs
+  Collected n fs gs = SoFar table (texts_used table) (sources_used table) (λ n. IsFunctionFor table (listed_texts n.texts) (listed_sources n)) [] [] n fs gs
 
   module _ (none : fault_in table ≡ None) (n : Numbering) (p : Plan) (texts_same : p.texts ≡ n.texts.listed) (sources_same : p.sources ≡ n.sources.listed)
       (collected : Collected n (ordered_functions table.functions) p.functions.items) where
@@ -217,9 +217,9 @@ module _ (table : Table) where
 
     pub is_plan : IsPlan p
     is_plan = record {
-      texts = texts_list ∙ collected.numbering.texts.listed ∙ ap (firsts bytes_eq) (all_texts fs clean) ∙ ap (λ cs. firsts bytes_eq (flat_map texts_of cs)) (sym codes_are);
-      sources = sources_list ∙ collected.numbering.sources ∙ ap (firsts same_source) (all_sources fs clean) ∙ ap (λ cs. firsts same_source (flat_map sources_of cs)) (sym codes_are);
-      files = subst (λ l. indexed.AreFiles (length p.texts.items) l.items) (sym sources_same) (subst (λ m. indexed.AreFiles m n.sources.listed.items) text_count collected.numbering.within);
+      texts = texts_list ∙ collected.numbering.numbered.texts.listed ∙ ap (firsts bytes_eq) (all_texts fs clean) ∙ ap (λ cs. firsts bytes_eq (flat_map texts_of cs)) (sym codes_are);
+      sources = sources_list ∙ collected.numbering.numbered.sources ∙ ap (firsts same_source) (all_sources fs clean) ∙ ap (λ cs. firsts same_source (flat_map sources_of cs)) (sym codes_are);
+      files = subst (λ l. indexed.AreFiles (length p.texts.items) l.items) (sym sources_same) (subst (λ m. indexed.AreFiles m n.sources.listed.items) text_count collected.numbering.numbered.within);
       functions = λ i g there.
           let f = zip_at (IsFunctionFor table (listed_texts n.texts) (listed_sources n)) fs p.functions.items collected.each i g there in
           let is = function_is f.0 (clean f.0 (i, f.1)) (listed_texts n.texts) (listed_sources n) g f.2 in

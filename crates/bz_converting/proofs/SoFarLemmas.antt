@@ -4,6 +4,7 @@ use Rattle.std.specs.Prelude.{slice_index_or}
 use Rattle.std.specs.List.{AllZip, slice_get}
 use Rattle.std.proofs.lemmas.List.{map-append}
 use Rattle.std.proofs.lemmas.Option.{none-some, same_Some}
+use Rattle.bz_breakpad_lines.specs.Table.{Table}
 use Rattle.bz_converting.specs.Numbered.{IsNumbering, listed_sources, listed_texts}
 use Rattle.bz_converting.specs.declared.numbering.Numbering.{Numbering}
 use Rattle.bz_converting.proofs.ListedLemmas.{Grows}
@@ -46,24 +47,24 @@ zip_each R S each [] (b ∷ ys) all = absurd all
 zip_each R S each (a ∷ xs) [] all = absurd all
 zip_each R S each (a ∷ xs) (b ∷ ys) all = (each a b all.0, zip_each R S each xs ys all.1)
 
-module _ {X Z : Type 0} (texts_for : X → List (List ℕ)) (sources_for : X → List Source) (Says : Numbering → X → Z → Type 0) where
+module _ {X Z : Type 0} (table : Table) (texts_for : X → List (List ℕ)) (sources_for : X → List Source) (Says : Numbering → X → Z → Type 0) where
   -- what is said stays where more is listed
   abbrev pub Stays : Type 0
   Stays = (old new : Numbering) → Grows (listed_texts old.texts) (listed_texts new.texts) → Grows (listed_sources old) (listed_sources new) → (x : X) (z : Z) → Says old x z → Says new x z
 
   -- behind what was used before, these were numbered, and these say what they do
   pub record SoFar (texts : List (List ℕ)) (sources : List Source) (n : Numbering) (xs : List X) (zs : List Z) : Type 0 where
-    pub numbering : IsNumbering (texts ++ flat_map texts_for xs) (sources ++ flat_map sources_for xs) n
+    pub numbering : IsNumbering table (texts ++ flat_map texts_for xs) (sources ++ flat_map sources_for xs) n
     pub each : AllZip (Says n) xs zs
 
-  pub none_yet : (texts : List (List ℕ)) (sources : List Source) (n : Numbering) (zs : List Z) → zs ≡ [] → IsNumbering texts sources n → SoFar texts sources n [] zs
+  pub none_yet : (texts : List (List ℕ)) (sources : List Source) (n : Numbering) (zs : List Z) → zs ≡ [] → IsNumbering table texts sources n → SoFar texts sources n [] zs
   none_yet texts sources n zs none is = record {
-    numbering = subst (λ l. IsNumbering l (sources ++ []) n) (sym (append-nil texts)) (subst (λ l. IsNumbering texts l n) (sym (append-nil sources)) is);
+    numbering = subst (λ l. IsNumbering table l (sources ++ []) n) (sym (append-nil texts)) (subst (λ l. IsNumbering table texts l n) (sym (append-nil sources)) is);
     each = subst (λ l. AllZip (Says n) [] l) (sym none) tt;
   }
 
   pub one_more : Stays → (texts : List (List ℕ)) (sources : List Source) (old new : Numbering) (xs : List X) (zs : List Z) (x : X) (z : Z) → SoFar texts sources old xs zs →
-      ((texts : List (List ℕ)) (sources : List Source) → IsNumbering texts sources old → IsNumbering (texts ++ texts_for x) (sources ++ sources_for x) new) → Says new x z → SoFar texts sources new (xs ++ x ∷ []) (zs ++ z ∷ [])
+      ((texts : List (List ℕ)) (sources : List Source) → IsNumbering table texts sources old → IsNumbering table (texts ++ texts_for x) (sources ++ sources_for x) new) → Says new x z → SoFar texts sources new (xs ++ x ∷ []) (zs ++ z ∷ [])
   one_more stays texts sources old new xs zs x z so_far numbers says =
       let before_texts = texts ++ flat_map texts_for xs in
       let before_sources = sources ++ flat_map sources_for xs in
@@ -71,16 +72,16 @@ module _ {X Z : Type 0} (texts_for : X → List (List ℕ)) (sources_for : X →
       let all_texts : before_texts ++ texts_for x ≡ texts ++ flat_map texts_for (xs ++ x ∷ []) = append_assoc texts (flat_map texts_for xs) (texts_for x) ∙ ap (λ l. texts ++ l) (sym (flat_last texts_for xs x)) in
       let all_sources : before_sources ++ sources_for x ≡ sources ++ flat_map sources_for (xs ++ x ∷ []) = append_assoc sources (flat_map sources_for xs) (sources_for x) ∙ ap (λ l. sources ++ l) (sym (flat_last sources_for xs x)) in
       record {
-        numbering = subst (λ l. IsNumbering l (sources ++ flat_map sources_for (xs ++ x ∷ [])) new) all_texts (subst (λ l. IsNumbering (before_texts ++ texts_for x) l new) all_sources is);
+        numbering = subst (λ l. IsNumbering table l (sources ++ flat_map sources_for (xs ++ x ∷ [])) new) all_texts (subst (λ l. IsNumbering table (before_texts ++ texts_for x) l new) all_sources is);
         each = zip_last (Says new) xs zs x z
             (zip_each (Says old) (Says new)
-            (stays old new (listed_grow before_texts before_sources old so_far.numbering (texts_for x) (sources_for x) new is) (sources_grow before_texts before_sources old so_far.numbering (texts_for x) (sources_for x) new is)) xs zs so_far.each)
+            (stays old new (listed_grow before_texts before_sources old so_far.numbering.numbered (texts_for x) (sources_for x) new is.numbered) (sources_grow before_texts before_sources old so_far.numbering.numbered (texts_for x) (sources_for x) new is.numbered)) xs zs so_far.each)
             says;
       }
 
   pub found_turn : Stays → (texts : List (List ℕ)) (sources : List Source) (old new : Numbering) (xs : List X) (i : ℕ) (x : X) → slice_get xs i ≡ Some x → (zs more : List Z) (z : Z) → more ≡ zs ++ z ∷ [] → SoFar texts sources old (take i xs) zs →
-      ((texts : List (List ℕ)) (sources : List Source) → IsNumbering texts sources old → IsNumbering (texts ++ texts_for x) (sources ++ sources_for x) new) →
-      ((texts : List (List ℕ)) (sources : List Source) → IsNumbering texts sources old → Says new x z) → SoFar texts sources new (take (i + 1) xs) more
+      ((texts : List (List ℕ)) (sources : List Source) → IsNumbering table texts sources old → IsNumbering table (texts ++ texts_for x) (sources ++ sources_for x) new) →
+      ((texts : List (List ℕ)) (sources : List Source) → IsNumbering table texts sources old → Says new x z) → SoFar texts sources new (take (i + 1) xs) more
   found_turn stays texts sources old new xs i x at zs more z pushed so_far numbers says =
       subst (λ l. SoFar texts sources new l more) (sym (take_found xs i x at))
       (subst (λ l. SoFar texts sources new (take i xs ++ x ∷ []) l) (sym pushed)
@@ -92,8 +93,8 @@ module _ {X Z : Type 0} (texts_for : X → List (List ℕ)) (sources_for : X →
   -- a list that is gone through from the front
   module _ {K : Type 0} (view : K → X) (kept : List K) (i : ℕ) (texts : List (List ℕ)) (sources : List Source) (old : Numbering) (zs : List Z) (so_far : SoFar texts sources old (map view (take i kept)) zs) where
     pub one_turn : Stays → (d : K) → i < length kept → (new : Numbering) (z : Z) (more : List Z) → more ≡ zs ++ z ∷ [] →
-        ((texts : List (List ℕ)) (sources : List Source) → IsNumbering texts sources old → IsNumbering (texts ++ texts_for (view (slice_index_or kept i d))) (sources ++ sources_for (view (slice_index_or kept i d))) new) →
-        ((texts : List (List ℕ)) (sources : List Source) → IsNumbering texts sources old → Says new (view (slice_index_or kept i d)) z) → SoFar texts sources new (map view (take (i + 1) kept)) more
+        ((texts : List (List ℕ)) (sources : List Source) → IsNumbering table texts sources old → IsNumbering table (texts ++ texts_for (view (slice_index_or kept i d))) (sources ++ sources_for (view (slice_index_or kept i d))) new) →
+        ((texts : List (List ℕ)) (sources : List Source) → IsNumbering table texts sources old → Says new (view (slice_index_or kept i d)) z) → SoFar texts sources new (map view (take (i + 1) kept)) more
     one_turn stays d within new z more pushed numbers says =
         let x = slice_index_or kept i d in
         let seen : map view (take (i + 1) kept) ≡ map view (take i kept) ++ view x ∷ [] = ap (map view) (take_last kept i d within) ∙ map-append view (take i kept) (x ∷ []) in

@@ -13,14 +13,14 @@ use Rattle.bz_gsym_layout.specs.Plan.{Source}
 use Rattle.bz_gsym_layout.specs.declared.plan.Function.{Function as Planned}
 
 module _ (table : Table) where
-  pub rows_stay : Stays (texts_of_row table) (sources_of_row table) (λ n. IsRowFor table (listed_sources n))
+  pub rows_stay : Stays table (texts_of_row table) (sources_of_row table) (λ n. IsRowFor table (listed_sources n))
   rows_stay old new texts sources row r says = record {
     addr = says.addr;
     source = grown_at (listed_sources old) (listed_sources new) sources r.source (line_of table row.1).source says.source;
     line = says.line;
   }
 
-  pub nodes_stay : Stays (texts_of_call table) (sources_of_call table) (λ n. IsNodeFor table (listed_texts n.texts) (listed_sources n))
+  pub nodes_stay : Stays table (texts_of_call table) (sources_of_call table) (λ n. IsNodeFor table (listed_texts n.texts) (listed_sources n))
   nodes_stay old new texts sources i node says = record {
     depth = says.depth;
     start = says.start;
@@ -30,7 +30,7 @@ module _ (table : Table) where
     line = says.line;
   }
 
-  pub functions_stay : Stays (texts_used table) (sources_used table) (λ n. IsFunctionFor table (listed_texts n.texts) (listed_sources n))
+  pub functions_stay : Stays table (texts_used table) (sources_used table) (λ n. IsFunctionFor table (listed_texts n.texts) (listed_sources n))
   functions_stay old new texts sources f g says = record {
     start = says.start;
     size = says.size;
@@ -42,9 +42,9 @@ module _ (table : Table) where
   -- A function: its name, its rows, and its calls.
   module _ (texts : List (List ℕ)) (sources : List Source) (f : Function) (name : List ℕ) (named : name ≡ f.name) (first second third : Numbering)
       (rows : List (ℕ × SourceLine)) (rows_are : rows ≡ changes f) (calls : List Inlinee) (calls_are : calls ≡ laid_calls f)
-      (one : IsNumbering (texts ++ name ∷ []) sources first)
-      (two : IsNumbering ((texts ++ name ∷ []) ++ flat_map (texts_of_row table) rows) (sources ++ flat_map (sources_of_row table) rows) second)
-      (three : IsNumbering (((texts ++ name ∷ []) ++ flat_map (texts_of_row table) rows) ++ flat_map (texts_of_call table) calls) ((sources ++ flat_map (sources_of_row table) rows) ++ flat_map (sources_of_call table) calls) third) where
+      (one : IsNumbering table (texts ++ name ∷ []) sources first)
+      (two : IsNumbering table ((texts ++ name ∷ []) ++ flat_map (texts_of_row table) rows) (sources ++ flat_map (sources_of_row table) rows) second)
+      (three : IsNumbering table (((texts ++ name ∷ []) ++ flat_map (texts_of_row table) rows) ++ flat_map (texts_of_call table) calls) ((sources ++ flat_map (sources_of_row table) rows) ++ flat_map (sources_of_call table) calls) third) where
     abbrev row_texts : List (List ℕ)
     row_texts = flat_map (texts_of_row table) rows
 
@@ -70,17 +70,17 @@ module _ (table : Table) where
         ∙ ap (λ rs. sources ++ (flat_map (sources_of_row table) rs ++ call_sources)) rows_are
         ∙ ap (λ cs. sources ++ (flat_map (sources_of_row table) (changes f) ++ flat_map (sources_of_call table) cs)) calls_are
 
-    pub function_numbered : IsNumbering (texts ++ texts_used table f) (sources ++ sources_used table f) third
-    function_numbered = subst (λ l. IsNumbering l (sources ++ sources_used table f) third) all_texts (subst (λ l. IsNumbering (((texts ++ name ∷ []) ++ row_texts) ++ call_texts) l third) all_sources three)
+    pub function_numbered : IsNumbering table (texts ++ texts_used table f) (sources ++ sources_used table f) third
+    function_numbered = subst (λ l. IsNumbering table l (sources ++ sources_used table f) third) all_texts (subst (λ l. IsNumbering table (((texts ++ name ∷ []) ++ row_texts) ++ call_texts) l third) all_sources three)
 
     second_on : Grows (listed_texts second.texts) (listed_texts third.texts) × Grows (listed_sources second) (listed_sources third)
     second_on = (
-      listed_grow ((texts ++ name ∷ []) ++ row_texts) (sources ++ row_sources) second two call_texts call_sources third three,
-      sources_grow ((texts ++ name ∷ []) ++ row_texts) (sources ++ row_sources) second two call_texts call_sources third three,
+      listed_grow ((texts ++ name ∷ []) ++ row_texts) (sources ++ row_sources) second two.numbered call_texts call_sources third three.numbered,
+      sources_grow ((texts ++ name ∷ []) ++ row_texts) (sources ++ row_sources) second two.numbered call_texts call_sources third three.numbered,
     )
 
     first_on : Grows (listed_texts first.texts) (listed_texts third.texts)
-    first_on = grows_on (listed_texts first.texts) (listed_texts second.texts) (listed_texts third.texts) (listed_grow (texts ++ name ∷ []) sources first one row_texts row_sources second two) second_on.0
+    first_on = grows_on (listed_texts first.texts) (listed_texts second.texts) (listed_texts third.texts) (listed_grow (texts ++ name ∷ []) sources first one.numbered row_texts row_sources second two.numbered) second_on.0
 
     pub function_says : (g : Planned) → g.start ≡ f.start → g.size ≡ f.size → slice_get (listed_texts first.texts) g.name ≡ Some name → AllZip (IsRowFor table (listed_sources second)) rows g.rows.items →
         AllZip (IsNodeFor table (listed_texts third.texts) (listed_sources third)) calls g.calls.items → IsFunctionFor table (listed_texts third.texts) (listed_sources third) f g

@@ -1,10 +1,13 @@
 -- Texts and source files of a plan that is collected, numbered where they are first used.
-use Rattle.std.specs.Prelude.{◌≡◌, ℕ, Bool, ◌==◌, ◌&&◌, List, length, map}
+use Rattle.std.specs.Prelude.{◌≡◌, ◌⊎◌, ℕ, Bool, ◌==◌, ◌&&◌, List, [], length, map, Option, Some, slice_get, unwrap_or}
 use Rattle.std.specs.Borrow.{Bor}
 use Rattle.std.specs.Cmp.Lexicographic.{slice_cmp}
 use Rattle.std.specs.Ordering.{nat_cmp, ordering_then}
 use Rattle.std.specs.Str.{bytes_eq}
 use Rattle.std.specs.declared.cmp.Ordering.{Ordering}
+use Rattle.bz_breakpad_lines.specs.Names.{name_for}
+use Rattle.bz_breakpad_lines.specs.Table.{Table}
+use Rattle.bz_convert.specs.Plan.{located}
 use Rattle.bz_converting.specs.Listed.{HasIndexes}
 use Rattle.bz_converting.specs.declared.numbering.Numbering.{Numbering}
 use Rattle.bz_converting.specs.declared.sources.Sources.{Sources}
@@ -12,7 +15,7 @@ use Rattle.bz_converting.specs.declared.texts.Texts.{Texts}
 use Rattle.bz_gsym_layout.specs.Indexed as indexed
 use Rattle.bz_gsym_layout.specs.Indexed.{source_of}
 use Rattle.bz_gsym_layout.specs.Numbering.{firsts, same_source}
-use Rattle.bz_gsym_layout.specs.Plan.{Source}
+use Rattle.bz_gsym_layout.specs.Plan.{Source, no_source}
 use Rattle.bz_gsym_layout.specs.declared.plan.SourceFile.{SourceFile}
 
 abbrev pub listed_texts : Texts → List (List ℕ)
@@ -47,8 +50,29 @@ abbrev pub listed_sources : Numbering → List Source
 listed_sources n = map (source_of (listed_texts n.texts)) n.sources.listed.items
 
 -- texts and source files were used in this order
-pub record IsNumbering (used : List (List ℕ)) (used_sources : List Source) (n : Numbering) : Type 0 where
+pub record AreNumbered (used : List (List ℕ)) (used_sources : List Source) (n : Numbering) : Type 0 where
   pub texts : AreTexts used n.texts
   pub sources : listed_sources n ≡ firsts same_source used_sources
   pub files : AreFiles n.sources
   pub within : indexed.AreFiles (length (listed_texts n.texts)) n.sources.listed.items
+
+-- the source file of an id, and the text of an origin, as a plan has them
+abbrev pub source_named : Table → ℕ → Source
+source_named table id = unwrap_or (located table id) no_source
+
+abbrev pub origin_named : Table → ℕ → List ℕ
+origin_named table id = unwrap_or (name_for id table.origins) []
+
+-- an index that is known is that of an id's source file, or of an origin's text
+pub record AreKnown (table : Table) (n : Numbering) : Type 0 where
+  pub files : (id index : ℕ) → slice_get n.files.items id ≡ Some (Some index) → slice_get (listed_sources n) index ≡ Some (source_named table id)
+  pub origins : (id index : ℕ) → slice_get n.origins.items id ≡ Some (Some index) → slice_get (listed_texts n.texts) index ≡ Some (origin_named table id)
+
+-- texts and source files were used in this order, and what is known of ids is right
+pub record IsNumbering (table : Table) (used : List (List ℕ)) (used_sources : List Source) (n : Numbering) : Type 0 where
+  pub numbered : AreNumbered used used_sources n
+  pub known : AreKnown table n
+
+-- each index that is known was so before, or is that of the id
+abbrev pub IsRemembered : List (Option ℕ) → List (Option ℕ) → ℕ → ℕ → Type 0
+IsRemembered old new id index = (i j : ℕ) → slice_get new i ≡ Some (Some j) → (slice_get old i ≡ Some (Some j)) ⊎ ((i ≡ id) × (j ≡ index))

@@ -1,20 +1,18 @@
 //! The inlined calls of a function, as a plan has them.
 
-ghost use Rattle.std.specs.Prelude.{◌≡◌, ◌++◌, ℕ, List, [], true, flat_map, length, map, option_map, unwrap_or, None, Some, IfOk, IsOkUnless, OnOk};
+ghost use Rattle.std.specs.Prelude.{◌≡◌, ◌++◌, ℕ, List, true, flat_map, length, map, option_map, None, Some, IfOk, IsOkUnless, OnOk};
 ghost use Rattle.std.specs.List.{AllZip, filter};
 ghost use Rattle.bz_base.specs.declared.error.Error.{Error};
 ghost use Rattle.bz_breakpad.specs.Lent.{kept_inlinee};
-ghost use Rattle.bz_breakpad_lines.specs.Names.{name_for};
 ghost use Rattle.bz_breakpad_lines.specs.Reader.{table_in};
 ghost use Rattle.bz_breakpad_lines.specs.Table.{Table};
 ghost use Rattle.bz_convert.specs.Plan.{changes, has_size, is_checked, sized_calls};
 ghost use Rattle.bz_converting.specs.Laid.{AreApart, IsNodeFor, laid_calls, sources_of_call, texts_of_call};
-ghost use Rattle.bz_converting.specs.Numbered.{IsNumbering, listed_sources, listed_texts};
+ghost use Rattle.bz_converting.specs.Numbered.{IsNumbering, listed_sources, listed_texts, origin_named};
 ghost use Rattle.bz_converting.specs.Sized.{is_repeated, placed_calls, without_repeats};
 ghost use Rattle.bz_gsym_layout.specs.Plan.{Source};
 
 use crate::numbering::Numbering;
-use crate::rows::source_of;
 use bz_base::{Result, Spanned, sort_table};
 use bz_breakpad::{Function, Inlinee, SymbolFile};
 use bz_gsym_layout::Node;
@@ -107,18 +105,18 @@ fn is_repeated(before: Option<Inlinee>, call: &Inlinee) -> bool
 
 /// The node of an inlined call.
 fn node_of<'a>(numbering: &mut Numbering<'a>, file: &'a SymbolFile, call: &Inlinee) -> Result<Node>
-    ensures numbering { OnOk result ((table : Table) (texts : List (List ℕ)) (sources : List Source) → table_in file.now ≡ Some table → IsNumbering texts sources numbering.old →
-        IsNumbering (texts ++ texts_of_call table (kept_inlinee call.now)) (sources ++ sources_of_call table (kept_inlinee call.now)) numbering.new) }
-    ensures node { IfOk result (λ node. (table : Table) (texts : List (List ℕ)) (sources : List Source) → table_in file.now ≡ Some table → IsNumbering texts sources numbering.old →
+    ensures numbering { OnOk result ((table : Table) (texts : List (List ℕ)) (sources : List Source) → table_in file.now ≡ Some table → IsNumbering table texts sources numbering.old →
+        IsNumbering table (texts ++ texts_of_call table (kept_inlinee call.now)) (sources ++ sources_of_call table (kept_inlinee call.now)) numbering.new) }
+    ensures node { IfOk result (λ node. (table : Table) (texts : List (List ℕ)) (sources : List Source) → table_in file.now ≡ Some table → IsNumbering table texts sources numbering.old →
         IsNodeFor table (listed_texts numbering.new.texts) (listed_sources numbering.new) (kept_inlinee call.now) node) }
     ensures memory { IsOkUnless result Error.OutOfMemory }
 {
-    let name = numbering.text(name_of(file, call.origin_id))?;
-    let source = numbering.source(source_of(file, call.call_file))?;
+    let name = numbering.origin_text(file, call.origin_id)?;
+    let source = numbering.file_source(file, call.call_file)?;
     Ok(Node {
-        depth: call.depth as usize,
+        depth: call.depth,
         start: call.addr,
-        size: u64::from(call.size),
+        size: call.size,
         name,
         source,
         line: call.call_line,
@@ -126,8 +124,8 @@ fn node_of<'a>(numbering: &mut Numbering<'a>, file: &'a SymbolFile, call: &Inlin
 }
 
 /// The name of an origin; an empty one if it isn't known.
-fn name_of(file: &SymbolFile, origin: u32) -> &str
-    ensures { (table : Table) → table_in file.now ≡ Some table → result.now ≡ unwrap_or (name_for origin table.origins) [] }
+pub(crate) fn name_of(file: &SymbolFile, origin: u32) -> &str
+    ensures { (table : Table) → table_in file.now ≡ Some table → result.now ≡ origin_named table origin }
 {
     match file.origin(origin) {
         Some(name) => name,
@@ -142,9 +140,9 @@ pub(crate) fn nodes_of<'a>(
     file: &'a SymbolFile,
     calls: &[Inlinee],
 ) -> Result<Vec<Node>>
-    ensures numbering { OnOk result ((table : Table) (texts : List (List ℕ)) (sources : List Source) → table_in file.now ≡ Some table → IsNumbering texts sources numbering.old →
-        IsNumbering (texts ++ flat_map (texts_of_call table) (map kept_inlinee calls.now)) (sources ++ flat_map (sources_of_call table) (map kept_inlinee calls.now)) numbering.new) }
-    ensures nodes { IfOk result (λ nodes. (table : Table) (texts : List (List ℕ)) (sources : List Source) → table_in file.now ≡ Some table → IsNumbering texts sources numbering.old →
+    ensures numbering { OnOk result ((table : Table) (texts : List (List ℕ)) (sources : List Source) → table_in file.now ≡ Some table → IsNumbering table texts sources numbering.old →
+        IsNumbering table (texts ++ flat_map (texts_of_call table) (map kept_inlinee calls.now)) (sources ++ flat_map (sources_of_call table) (map kept_inlinee calls.now)) numbering.new) }
+    ensures nodes { IfOk result (λ nodes. (table : Table) (texts : List (List ℕ)) (sources : List Source) → table_in file.now ≡ Some table → IsNumbering table texts sources numbering.old →
         AllZip (IsNodeFor table (listed_texts numbering.new.texts) (listed_sources numbering.new)) (map kept_inlinee calls.now) nodes.items) }
     ensures memory { IsOkUnless result Error.OutOfMemory }
 {

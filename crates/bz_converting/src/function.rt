@@ -25,9 +25,9 @@ pub(crate) fn function_of<'a>(
     function: &Function<'a>,
 ) -> Result<PlannedFunction>
     requires { is_checked function.now ≡ true → AreApart function.now }
-    ensures numbering { OnOk result ((table : Table) (texts : List (List ℕ)) (sources : List Source) → table_in file.now ≡ Some table → IsNumbering texts sources numbering.old →
-        IsNumbering (texts ++ texts_used table function.now) (sources ++ sources_used table function.now) numbering.new) }
-    ensures function { IfOk result (λ planned. (table : Table) (texts : List (List ℕ)) (sources : List Source) → table_in file.now ≡ Some table → IsNumbering texts sources numbering.old →
+    ensures numbering { OnOk result ((table : Table) (texts : List (List ℕ)) (sources : List Source) → table_in file.now ≡ Some table → IsNumbering table texts sources numbering.old →
+        IsNumbering table (texts ++ texts_used table function.now) (sources ++ sources_used table function.now) numbering.new) }
+    ensures function { IfOk result (λ planned. (table : Table) (texts : List (List ℕ)) (sources : List Source) → table_in file.now ≡ Some table → IsNumbering table texts sources numbering.old →
         IsFunctionFor table (listed_texts numbering.new.texts) (listed_sources numbering.new) function.now planned) }
     ensures memory { IsOkUnless result Error.OutOfMemory }
 {

@@ -1,14 +1,19 @@
 //! Texts and source files, numbered where they are first used.
 
-ghost use Rattle.std.specs.Prelude.{◌≡◌, ◌++◌, ◌∷◌, ℕ, List, [], Some, option_map, slice_get, unwrap_or, IfOk, IsOkUnless, OnOk};
+ghost use Rattle.std.specs.Prelude.{◌≡◌, ◌++◌, ◌∷◌, ℕ, List, [], Some, option_map, slice_get, unwrap_or, IfOk, IfSome, IsOkUnless, OnOk};
 ghost use Rattle.bz_base.specs.declared.error.Error.{Error};
+ghost use Rattle.bz_breakpad_lines.specs.Reader.{table_in};
+ghost use Rattle.bz_breakpad_lines.specs.Table.{Table};
 ghost use Rattle.bz_convert.specs.Ids.{lent_source};
-ghost use Rattle.bz_converting.specs.Numbered.{IsNumbering, listed_sources, listed_texts};
+ghost use Rattle.bz_converting.specs.Numbered.{IsNumbering, IsRemembered, listed_sources, listed_texts, origin_named, source_named};
 ghost use Rattle.bz_gsym_layout.specs.Plan.{Source};
 
+use crate::calls::name_of;
+use crate::rows::source_of;
 use crate::sources::Sources;
 use crate::texts::Texts;
-use bz_base::Result;
+use bz_base::{Error, Result};
+use bz_breakpad::SymbolFile;
 use bz_convert::Source;
 use bz_gsym_layout::{Function, Plan, SourceFile};
 use std::alloc::Global;
@@ -18,23 +23,32 @@ use std::alloc::Global;
 pub(crate) struct Numbering<'a> {
     pub texts: Texts<'a>,
     pub sources: Sources,
+    /// The index of the source file of each id from 0 on, where it is known.
+    pub files: Vec<Option<u32>>,
+    /// The index of the text of each origin from 0 on, where it is known.
+    pub origins: Vec<Option<u32>>,
 }
 
 impl<'a> Numbering<'a> {
-    /// Nothing is numbered.
-    pub fn new(alloc: Global) -> Numbering<'a>
-        ensures { IsNumbering [] [] result }
+    /// Nothing is numbered of a file.
+    pub fn new(alloc: Global, file: &SymbolFile) -> Result<Numbering<'a>>
+        ensures numbering { IfOk result (λ numbering. (table : Table) → IsNumbering table [] [] numbering) }
+        ensures memory { IsOkUnless result Error.OutOfMemory }
     {
-        Numbering {
+        let files = none_known(alloc, file.file_count())?;
+        let origins = none_known(alloc, file.origin_count())?;
+        Ok(Numbering {
             texts: Texts::new(alloc),
             sources: Sources::new(alloc),
-        }
+            files,
+            origins,
+        })
     }
 
     /// The index of a text.
     pub fn text(&mut self, text: &'a str) -> Result<usize>
-        ensures numbering { OnOk result ((texts : List (List ℕ)) (sources : List Source) → IsNumbering texts sources self.old → IsNumbering (texts ++ text.now ∷ []) sources self.new) }
-        ensures index { IfOk result (λ index. (texts : List (List ℕ)) (sources : List Source) → IsNumbering texts sources self.old → slice_get (listed_texts self.new.texts) index ≡ Some text.now) }
+        ensures numbering { OnOk result ((table : Table) (texts : List (List ℕ)) (sources : List Source) → IsNumbering table texts sources self.old → IsNumbering table (texts ++ text.now ∷ []) sources self.new) }
+        ensures index { IfOk result (λ index. (table : Table) (texts : List (List ℕ)) (sources : List Source) → IsNumbering table texts sources self.old → slice_get (listed_texts self.new.texts) index ≡ Some text.now) }
         ensures memory { IsOkUnless result Error.OutOfMemory }
     {
         self.texts.index_of(text)
@@ -42,9 +56,9 @@ impl<'a> Numbering<'a> {
 
     /// The index of a source file.
     pub fn source(&mut self, source: Source<'a>) -> Result<usize>
-        ensures numbering { OnOk result ((texts : List (List ℕ)) (sources : List Source) → IsNumbering texts sources self.old →
-            IsNumbering (texts ++ (lent_source source.entry).dir ∷ (lent_source source.entry).file ∷ []) (sources ++ lent_source source.entry ∷ []) self.new) }
-        ensures index { IfOk result (λ index. (texts : List (List ℕ)) (sources : List Source) → IsNumbering texts sources self.old → slice_get (listed_sources self.new) index ≡ Some (lent_source source.entry)) }
+        ensures numbering { OnOk result ((table : Table) (texts : List (List ℕ)) (sources : List Source) → IsNumbering table texts sources self.old →
+            IsNumbering table (texts ++ (lent_source source.entry).dir ∷ (lent_source source.entry).file ∷ []) (sources ++ lent_source source.entry ∷ []) self.new) }
+        ensures index { IfOk result (λ index. (table : Table) (texts : List (List ℕ)) (sources : List Source) → IsNumbering table texts sources self.old → slice_get (listed_sources self.new) index ≡ Some (lent_source source.entry)) }
         ensures memory { IsOkUnless result Error.OutOfMemory }
     {
         let (dir, name) = source;
@@ -53,13 +67,52 @@ impl<'a> Numbering<'a> {
         self.sources.index_of(SourceFile { dir, name })
     }
 
+    /// The index of the source file of an id.
+    pub fn file_source(&mut self, file: &'a SymbolFile, id: u32) -> Result<u32>
+        ensures numbering { OnOk result ((table : Table) (texts : List (List ℕ)) (sources : List Source) → table_in file.now ≡ Some table → IsNumbering table texts sources self.old →
+            IsNumbering table (texts ++ (source_named table id).dir ∷ (source_named table id).file ∷ []) (sources ++ source_named table id ∷ []) self.new) }
+        ensures index { IfOk result (λ index. (table : Table) (texts : List (List ℕ)) (sources : List Source) → table_in file.now ≡ Some table → IsNumbering table texts sources self.old →
+            slice_get (listed_sources self.new) index ≡ Some (source_named table id)) }
+        ensures memory { IsOkUnless result Error.OutOfMemory }
+    {
+        if let Some(index) = known_at(&self.files, id) {
+            return Ok(index);
+        }
+        let listed = self.source(source_of(file, id))?;
+        let index = narrow(listed)?;
+        remember(&mut self.files, id, index);
+        Ok(index)
+    }
+
+    /// The index of the text of an origin.
+    pub fn origin_text(&mut self, file: &'a SymbolFile, id: u32) -> Result<u32>
+        ensures numbering { OnOk result ((table : Table) (texts : List (List ℕ)) (sources : List Source) → table_in file.now ≡ Some table → IsNumbering table texts sources self.old →
+            IsNumbering table (texts ++ origin_named table id ∷ []) sources self.new) }
+        ensures index { IfOk result (λ index. (table : Table) (texts : List (List ℕ)) (sources : List Source) → table_in file.now ≡ Some table → IsNumbering table texts sources self.old →
+            slice_get (listed_texts self.new.texts) index ≡ Some (origin_named table id)) }
+        ensures memory { IsOkUnless result Error.OutOfMemory }
+    {
+        if let Some(index) = known_at(&self.origins, id) {
+            return Ok(index);
+        }
+        let listed = self.text(name_of(file, id))?;
+        let index = narrow(listed)?;
+        remember(&mut self.origins, id, index);
+        Ok(index)
+    }
+
     /// The plan of functions that use what is listed.
     pub fn into_plan(self, functions: Vec<Function>) -> Plan<'a>
         ensures texts { result.texts ≡ self.entry.texts.listed }
         ensures sources { result.sources ≡ self.entry.sources.listed }
         ensures functions { result.functions ≡ functions }
     {
-        let Numbering { texts, sources } = self;
+        let Numbering {
+            texts,
+            sources,
+            files: _,
+            origins: _,
+        } = self;
         Plan {
             texts: texts.listed,
             sources: sources.listed,
@@ -75,5 +128,48 @@ fn dir_text(dir: Option<&str>) -> &str
     match dir {
         Some(dir) => dir,
         None => "",
+    }
+}
+
+/// An index in 32 bits, if they count it.
+fn narrow(index: usize) -> Result<u32>
+    ensures ok { IfOk result (λ narrowed. narrowed ≡ index) }
+    ensures memory { IsOkUnless result Error.OutOfMemory }
+{
+    if index > u32::MAX as usize {
+        return Err(Error::OutOfMemory);
+    }
+    Ok(index as u32)
+}
+
+/// So many ids whose indexes aren't known.
+fn none_known(alloc: Global, count: usize) -> Result<Vec<Option<u32>>>
+    ensures none { IfOk result (λ known. (id index : ℕ) → slice_get known.items id ≡ Some (Some index) → ⊥) }
+    ensures memory { IsOkUnless result Error.OutOfMemory }
+{
+    let mut known = Vec::with_capacity(alloc, count)?;
+    for _id in 0..count {
+        known.push(None)?;
+    }
+    Ok(known)
+}
+
+/// The index of an id, if it is known.
+fn known_at(known: &[Option<u32>], id: u32) -> Option<u32>
+    ensures { IfSome result (λ index. slice_get known.now id ≡ Some (Some index)) }
+{
+    match known.get(id as usize) {
+        Some(index) => *index,
+        None => None,
+    }
+}
+
+/// Remembers the index of an id, if there is a place for it.
+fn remember(known: &mut [Option<u32>], id: u32, index: u32)
+    ensures { IsRemembered known.old known.new id index }
+{
+    let place = id as usize;
+    if place < known.len() {
+        known[place] = Some(index);
     }
 }

@@ -38,8 +38,8 @@ fn plan_blank<L: Ledger>(alloc: Global, file: &SymbolFile, blank: Blank) -> Resu
     ensures memory { IsOkUnless result Error.OutOfMemory }
 {
     let mut steps = Steps::<L>::new(blank);
-    let mut numbering = Numbering::new(alloc);
-    let mut functions = Vec::new(alloc);
+    let mut numbering = Numbering::new(alloc, file)?;
+    let mut functions = Vec::with_capacity(alloc, file.function_count())?;
     for index in 0..file.function_count() {
         let function = file.function(index, &mut steps);
         functions.push(function_of(alloc, &mut numbering, file, &function)?)?;

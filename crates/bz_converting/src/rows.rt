@@ -1,16 +1,16 @@
 //! The rows of a function, as a plan has them.
 
-ghost use Rattle.std.specs.Prelude.{◌≡◌, ◌++◌, ℕ, List, flat_map, map, unwrap_or, Some, IfOk, IsOkUnless, OnOk};
+ghost use Rattle.std.specs.Prelude.{◌≡◌, ◌++◌, ℕ, List, flat_map, map, Some, IfOk, IsOkUnless, OnOk};
 ghost use Rattle.std.specs.List.{AllZip};
 ghost use Rattle.bz_base.specs.declared.error.Error.{Error};
 ghost use Rattle.bz_breakpad_lines.specs.Reader.{table_in};
 ghost use Rattle.bz_breakpad_lines.specs.Table.{Table};
 ghost use Rattle.bz_convert.specs.Ids.{lent_source};
-ghost use Rattle.bz_convert.specs.Plan.{changes, located};
+ghost use Rattle.bz_convert.specs.Plan.{changes};
 ghost use Rattle.bz_convert.specs.Points.{row_seen};
 ghost use Rattle.bz_converting.specs.Laid.{IsRowFor, sources_of_row, texts_of_row};
-ghost use Rattle.bz_converting.specs.Numbered.{IsNumbering, listed_sources};
-ghost use Rattle.bz_gsym_layout.specs.Plan.{Source, no_source};
+ghost use Rattle.bz_converting.specs.Numbered.{IsNumbering, listed_sources, source_named};
+ghost use Rattle.bz_gsym_layout.specs.Plan.{Source};
 
 use crate::numbering::Numbering;
 use bz_base::Result;
@@ -21,7 +21,7 @@ use std::alloc::Global;
 
 /// The source file of an id; an empty one if it isn't known.
 pub(crate) fn source_of(file: &SymbolFile, id: u32) -> Source<'_>
-    ensures { (table : Table) → table_in file.now ≡ Some table → lent_source result ≡ unwrap_or (located table id) no_source }
+    ensures { (table : Table) → table_in file.now ≡ Some table → lent_source result ≡ source_named table id }
 {
     match located(file, id) {
         Some(source) => source,
@@ -47,13 +47,13 @@ fn row_of<'a>(
     file: &'a SymbolFile,
     line: &(u64, SourceLine),
 ) -> Result<Row>
-    ensures numbering { OnOk result ((table : Table) (texts : List (List ℕ)) (sources : List Source) → table_in file.now ≡ Some table → IsNumbering texts sources numbering.old →
-        IsNumbering (texts ++ texts_of_row table (row_seen line.now)) (sources ++ sources_of_row table (row_seen line.now)) numbering.new) }
-    ensures row { IfOk result (λ row. (table : Table) (texts : List (List ℕ)) (sources : List Source) → table_in file.now ≡ Some table → IsNumbering texts sources numbering.old →
+    ensures numbering { OnOk result ((table : Table) (texts : List (List ℕ)) (sources : List Source) → table_in file.now ≡ Some table → IsNumbering table texts sources numbering.old →
+        IsNumbering table (texts ++ texts_of_row table (row_seen line.now)) (sources ++ sources_of_row table (row_seen line.now)) numbering.new) }
+    ensures row { IfOk result (λ row. (table : Table) (texts : List (List ℕ)) (sources : List Source) → table_in file.now ≡ Some table → IsNumbering table texts sources numbering.old →
         IsRowFor table (listed_sources numbering.new) (row_seen line.now) row) }
     ensures memory { IsOkUnless result Error.OutOfMemory }
 {
-    let source = numbering.source(source_of(file, line.1.file))?;
+    let source = numbering.file_source(file, line.1.file)?;
     Ok(Row {
         addr: line.0,
         source,
@@ -68,9 +68,9 @@ pub(crate) fn rows_of<'a>(
     file: &'a SymbolFile,
     lines: &[(u64, SourceLine)],
 ) -> Result<Vec<Row>>
-    ensures numbering { OnOk result ((table : Table) (texts : List (List ℕ)) (sources : List Source) → table_in file.now ≡ Some table → IsNumbering texts sources numbering.old →
-        IsNumbering (texts ++ flat_map (texts_of_row table) (map row_seen lines.now)) (sources ++ flat_map (sources_of_row table) (map row_seen lines.now)) numbering.new) }
-    ensures rows { IfOk result (λ rows. (table : Table) (texts : List (List ℕ)) (sources : List Source) → table_in file.now ≡ Some table → IsNumbering texts sources numbering.old →
+    ensures numbering { OnOk result ((table : Table) (texts : List (List ℕ)) (sources : List Source) → table_in file.now ≡ Some table → IsNumbering table texts sources numbering.old →
+        IsNumbering table (texts ++ flat_map (texts_of_row table) (map row_seen lines.now)) (sources ++ flat_map (sources_of_row table) (map row_seen lines.now)) numbering.new) }
+    ensures rows { IfOk result (λ rows. (table : Table) (texts : List (List ℕ)) (sources : List Source) → table_in file.now ≡ Some table → IsNumbering table texts sources numbering.old →
         AllZip (IsRowFor table (listed_sources numbering.new)) (map row_seen lines.now) rows.items) }
     ensures memory { IsOkUnless result Error.OutOfMemory }
 {

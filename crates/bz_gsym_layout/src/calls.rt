@@ -101,10 +101,10 @@ fn push_call(
         out.new.items ++ left_bytes t view depth_of (base ∷ reverse outer.new.items) (drop (index + 1) nodes) ≡ whole) }
     ensures memory { IsOkUnless result LayoutError.OutOfMemory }
 {
-    let base = end_lists(out, outer, innermost, node.depth)?;
+    let base = end_lists(out, outer, innermost, node.depth as usize)?;
     let numbers = Numbers {
         offset: node.start - base,
-        size: node.size,
+        size: node.size as u64,
         name,
         file: node.source as u64 + 1,
         line: node.line,
@@ -136,7 +136,7 @@ pub(crate) fn push_calls(
     let mut base = start;
     for index in 0..nodes.len() {
         let inside = next_is_inside(nodes, index);
-        let name = places[nodes[index].name];
+        let name = places[nodes[index].name as usize];
         base = push_call(out, &mut outer, base, &nodes[index], name, inside)?;
     }
     end_all(out, outer.len())

@@ -17,6 +17,19 @@ use crate::words::{push_word, push_zeros};
 use bz_gsym::{INFO_TYPE_INLINE_INFO, INFO_TYPE_LINE_TABLE_INFO};
 use std::alloc::Global;
 
+/// About how many bytes a row takes.
+const ROW_LEN: usize = 9;
+
+/// About how many bytes an inlined call takes.
+const CALL_LEN: usize = 16;
+
+/// About how many bytes a function's data have.
+fn usual_len(function: &Function) -> usize {
+    let rows = function.rows.len().saturating_mul(ROW_LEN);
+    let calls = function.calls.len().saturating_mul(CALL_LEN);
+    rows.saturating_add(calls).saturating_add(64)
+}
+
 /// Writes a data entry of a type.
 fn push_entry(out: &mut Vec<u8>, typ: u32, text: &[u8]) -> Result<()>
     ensures ok { OnOk result (out.new.items ≡ out.old.items ++ entry_bytes typ text.now) }
@@ -38,7 +51,7 @@ fn push_line_entry(alloc: Global, out: &mut Vec<u8>, start: u64, rows: &[Row]) -
     if rows.is_empty() {
         return Ok(());
     }
-    let mut text = Vec::new(alloc);
+    let mut text = Vec::with_capacity(alloc, rows.len().saturating_mul(ROW_LEN))?;
     push_line_table(&mut text, start, rows)?;
     push_entry(out, INFO_TYPE_LINE_TABLE_INFO, &text)
 }
@@ -94,7 +107,7 @@ pub(crate) fn function_len(alloc: Global, function: &Function, places: &[u64]) -
     ensures len { IfOk result (λ len. (t : Tables) (c : Code) → IsCodeOf t places.now c function.now → len ≡ length (code_bytes t c)) }
     ensures memory { IsOkUnless result LayoutError.OutOfMemory }
 {
-    let mut bytes = Vec::new(alloc);
+    let mut bytes = Vec::with_capacity(alloc, usual_len(function))?;
     push_function(alloc, &mut bytes, function, places)?;
     Ok(bytes.len() as u64)
 }

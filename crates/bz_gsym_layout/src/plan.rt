@@ -15,7 +15,7 @@ pub struct Row {
     /// The address, at the start of the function or behind it.
     pub addr: u64,
     /// The index of the source file.
-    pub source: usize,
+    pub source: u32,
     pub line: u32,
 }
 
@@ -23,15 +23,15 @@ pub struct Row {
 #[derive(Clone, Copy)]
 pub struct Node {
     /// How many calls lie around it in its function.
-    pub depth: usize,
+    pub depth: u32,
     /// Where its code begins: an address, as that of the function.
     pub start: u64,
     /// How many bytes its code has.
-    pub size: u64,
+    pub size: u32,
     /// The index of the text that names what is called.
-    pub name: usize,
+    pub name: u32,
     /// The index of the source file that it is called in.
-    pub source: usize,
+    pub source: u32,
     /// The line that it is called at.
     pub line: u32,
 }

@@ -32,7 +32,7 @@ fn push_row(out: &mut Vec<u8>, addr: u64, line: u32, row: &Row) -> Result<()>
     ensures memory { IsOkUnless result LayoutError.OutOfMemory }
 {
     out.push(1)?;
-    push_unsigned(out, row.source as u64 + 1)?;
+    push_unsigned(out, u64::from(row.source) + 1)?;
     out.push(3)?;
     push_delta(out, line, row.line)?;
     out.push(2)?;

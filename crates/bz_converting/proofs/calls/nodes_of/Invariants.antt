@@ -10,5 +10,5 @@ use Rattle.bz_converting.proofs.calls.nodes_of.Given as goal
 
 -- the nodes of the calls so far
 abbrev pub invariant-loop-call : goal.invariant-loop-call
-invariant-loop-call l = (table : Table) (texts : List (List ℕ)) (sources : List Source) → table_in l.file ≡ Some table → IsNumbering texts sources l.fn.numbering →
-    SoFar (texts_of_call table) (sources_of_call table) (λ n. IsNodeFor table (listed_texts n.texts) (listed_sources n)) texts sources l.numbering (map kept_inlinee (take l.call-index l.calls)) l.nodes.items
+invariant-loop-call l = (table : Table) (texts : List (List ℕ)) (sources : List Source) → table_in l.file ≡ Some table → IsNumbering table texts sources l.fn.numbering →
+    SoFar table (texts_of_call table) (sources_of_call table) (λ n. IsNodeFor table (listed_texts n.texts) (listed_sources n)) texts sources l.numbering (map kept_inlinee (take l.call-index l.calls)) l.nodes.items

@@ -9,7 +9,7 @@ pub returns-clause-numbering : goal.returns-clause-numbering
 returns-clause-numbering c table texts sources read is =
     let named = texts ++ c.name.result.now ∷ [] in
     let rows = map row_seen c.deref.result.now in
-    let one = c.in_ok-name.ensures.numbering texts sources is in
+    let one = c.in_ok-name.ensures.numbering table texts sources is in
     let two = c.in_ok-rows.ensures.numbering table named sources read one in
     let three = c.in_ok-calls-2.ensures.numbering table (named ++ flat_map (texts_of_row table) rows) (sources ++ flat_map (sources_of_row table) rows) read two in
     function_numbered table texts sources c.args.function.now c.name.result.now c.name.ensures c.text.new.self c.rows_of.new.numbering c.nodes_of.new.numbering
@@ -19,7 +19,7 @@ pub returns-clause-function : goal.returns-clause-function
 returns-clause-function c table texts sources read is =
     let named = texts ++ c.name.result.now ∷ [] in
     let rows = map row_seen c.deref.result.now in
-    let one = c.in_ok-name.ensures.numbering texts sources is in
+    let one = c.in_ok-name.ensures.numbering table texts sources is in
     let two = c.in_ok-rows.ensures.numbering table named sources read one in
     let before_texts = named ++ flat_map (texts_of_row table) rows in
     let before_sources = sources ++ flat_map (sources_of_row table) rows in
@@ -27,4 +27,4 @@ returns-clause-function c table texts sources read is =
     function_says table texts sources c.args.function.now c.name.result.now c.name.ensures c.text.new.self c.rows_of.new.numbering c.nodes_of.new.numbering
     rows (ap (map row_seen) c.deref.ensures.value ∙ c.in_ok-lines.ensures.lines) (map kept_inlinee c.deref-2.result.now) (ap (map kept_inlinee) c.deref-2.ensures.value ∙ c.in_ok-calls.ensures.calls) one two three
     (record { start = c.addr.result; size = c.size.result; name = c.in_ok-name.name; rows = c.in_ok-rows.rows; calls = c.in_ok-calls-2.calls }) c.addr.ensures c.size.ensures
-    (c.in_ok-name.ensures.index texts sources is) (c.in_ok-rows.ensures.rows table named sources read one) (c.in_ok-calls-2.ensures.nodes table before_texts before_sources read two)
+    (c.in_ok-name.ensures.index table texts sources is) (c.in_ok-rows.ensures.rows table named sources read one) (c.in_ok-calls-2.ensures.nodes table before_texts before_sources read two)
