@@ -3,9 +3,13 @@ use Rattle.std.proofs.Common.{◌≡◌, ◌≢◌, ◌⊎◌, ℕ, List, Option
 use Rattle.bz_base.specs.InputKind.{AddressKind}
 use Rattle.bz_base.specs.declared.error.Error.{Error}
 use Rattle.bz_base.specs.declared.error.Error.TheVariants as errors
+use Rattle.bz_base.specs.declared.types.FindSymOpts.{FindSymOpts}
 use Rattle.bz_files.specs.declared.files.Files as files_trait
 use Rattle.bz_files.specs.declared.text.TextIn as input_trait
 use Rattle.bz_files.specs.declared.text.TextOut as output_trait
+use Rattle.bz_frames.proofs.RunLemmas as frames
+use Rattle.bz_frames.proofs.TurnLemmas.{turns_unread}
+use Rattle.bz_frames.specs.FrameRun.{RunsFrames}
 use Rattle.bz_requests.specs.Requests as requests
 use Rattle.bz_requests.specs.declared.requests.Config.{Config}
 use Rattle.bz_gen_job.specs.Generating.{generated_summary}
@@ -15,7 +19,7 @@ use Rattle.bz_symq.proofs.EndLemmas.{runs_without_reply}
 use Rattle.bz_symq.specs.Command as asked
 use Rattle.bz_symq.specs.Reply.{IsDoneReply}
 use Rattle.bz_symq.specs.Run as one_command
-use Rattle.bz_symq.specs.Run.{IsOrFails}
+use Rattle.bz_symq.specs.Run.{Fails, IsOrFails}
 use Rattle.bz_symq.specs.Turns.{ReadsFor}
 use Rattle.bz_symq.specs.declared.reply.Reply.{Reply}
 use Rattle.bz_symq.specs.declared.status.Status.{Status}
@@ -58,31 +62,31 @@ module _ {R W F : Type 0} (reads : input_trait.Ghosts R) (writes : output_trait.
   job_usage config Serve run = (λ is. absurd (never_usage ended run.status is), λ none. cc)
   job_usage config (Make product) run = (λ is. absurd (run.usage is), λ none. cc)
   job_usage config (Generate seed functions addresses) run = (λ is. absurd (never_usage ended (inr run.generated.status) is), λ none. cc)
+  job_usage config (Frames root) run = (λ is. absurd (never_usage ended run.status is), λ none. cc)
   job_usage config (Stacks path) run = misuse_usage (record { config = config; job = Stacks path }) refl run
-  job_usage config (Frames path) run = misuse_usage (record { config = config; job = Frames path }) refl run
 
   -- and each fails at one side
   misuse_fails : Misuse → At_one_side
   misuse_fails misused =
       fails_at_output reads writes looks ended _ _ _ _ _ _ (ap reads.faults misused.unread) misused.usage_written.counts (ap looks.faults misused.unlooked)
 
-  command_fails : (command : asked.Command) → one_command.Runs reads writes looks command ended input_before input_after output_before output_after files_before files_after → At_one_side
-  command_fails command run = record {
-    failed = run.fails.failed;
-    fault = run.fails.fault;
-    input_faults = run.fails.input_faults;
-    output_faults = run.fails.output_faults;
-    files_faults = run.fails.files.faults;
+  one_fails : Fails reads writes looks ended input_before input_after output_before output_after files_before files_after → At_one_side
+  one_fails fails = record {
+    failed = fails.failed;
+    fault = fails.fault;
+    input_faults = fails.input_faults;
+    output_faults = fails.output_faults;
+    files_faults = fails.files.faults;
   }
 
   job_fails : (config : Config) (job : Job) → Job_runs config job → At_one_side
-  job_fails config (Batch target kind) run = command_fails _ run
+  job_fails config (Batch target kind) run = one_fails run.fails
   job_fails config Serve run = run.fails
-  job_fails config (Make product) run = command_fails _ run
+  job_fails config (Make product) run = one_fails run.fails
   job_fails config (Generate seed functions addresses) run =
       fails_at_output reads writes looks ended _ _ _ _ _ _ (ap reads.faults run.unread) run.generated.fails (ap looks.faults run.unlooked)
+  job_fails config (Frames root) run = one_fails run.fails
   job_fails config (Stacks path) run = misuse_fails run
-  job_fails config (Frames path) run = misuse_fails run
 
   -- the run of a command, if there is one, is a run
   run_usage : (command : Option Command) → RunsCommand reads writes looks command ended input_before input_after output_before output_after files_before files_after → HasUsage command ended
@@ -128,6 +132,11 @@ module _ {R W F : Type 0} (reads : input_trait.Ghosts R) (writes : output_trait.
   target_unstarted config kind (requests.Elf path) = record { most = inl refl; opened = λ world seen done. absurd done }
   target_unstarted config kind (requests.Process number) = λ text left addrs is world seen. omega arith
 
+  frames_unstarted : (root : List ℕ) (opts : FindSymOpts) → RunsFrames reads writes looks root opts statuses.Memory input input output output files files
+  frames_unstarted root opts =
+      frames.runs_without_reply reads writes looks root opts statuses.Memory _ _ _ _ _ _ errors.OutOfMemory (inr refl) (λ is. cc, λ is. cc)
+      (turns_unread reads looks root opts input input (λ text left. (0, omega arith, left)) errors.OutOfMemory files (λ expected. tt) (counts_still _ _ _ (λ other. cc) refl)) refl
+
   job_unstarted : (config : Config) (job : Job) → RunsJob reads writes looks config job statuses.Memory input input output output files files
   job_unstarted config (Batch target kind) = command_unstarted _ (target_unstarted config kind target)
   job_unstarted config Serve =
@@ -144,8 +153,8 @@ module _ {R W F : Type 0} (reads : input_trait.Ghosts R) (writes : output_trait.
     unread = refl;
     unlooked = refl;
   }
+  job_unstarted config (Frames root) = frames_unstarted root _
   job_unstarted config (Stacks path) = misuse_unstarted
-  job_unstarted config (Frames path) = misuse_unstarted
 
   pub unstarted : (command : Option Command) → RunsCommand reads writes looks command statuses.Memory input input output output files files
   unstarted None = misuse_unstarted

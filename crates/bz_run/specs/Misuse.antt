@@ -17,8 +17,8 @@ is_built (Batch target kind) = true
 is_built Serve = true
 is_built (Generate seed functions addresses) = true
 is_built (Make product) = true
+is_built (Frames root) = true
 is_built (Stacks path) = false
-is_built (Frames path) = false
 
 -- the command, if there is one and its job is built
 abbrev pub built : Option Command → Option Command

@@ -5,13 +5,15 @@ use Rattle.bz_files.specs.declared.text.TextIn as input_trait
 use Rattle.bz_files.specs.declared.text.TextOut as output_trait
 use Rattle.bz_requests.specs.Requests as requests
 use Rattle.bz_requests.specs.declared.requests.Config.{Config}
+use Rattle.bz_frames.specs.FrameRun.{RunsFrames}
 use Rattle.bz_symq.specs.Command as asked
+use Rattle.bz_symq.specs.Kept.{opts_in}
 use Rattle.bz_symq.specs.Run as one_command
 use Rattle.bz_symq.specs.Run.{IsOrFails}
 use Rattle.bz_symq.specs.declared.status.Status.{Status}
 use Rattle.bz_symq.specs.declared.status.Status.TheVariants as statuses
 use Rattle.bz_words.specs.Command as words
-use Rattle.bz_words.specs.Command.{Batch, Command, Generate, Job, Make, Serve, command_in}
+use Rattle.bz_words.specs.Command.{Batch, Command, Frames, Generate, Job, Make, Serve, Stacks, command_in}
 use Rattle.bz_run.specs.Generated.{RunsGenerated}
 use Rattle.bz_run.specs.Misuse.{Misused, built}
 use Rattle.bz_run.specs.Requests.{RunsRequests}
@@ -40,7 +42,9 @@ module _ {R W F : Type 0} (reads : input_trait.Ghosts R) (writes : output_trait.
       RunsGenerated writes config seed functions addresses ended input_before input_after output_before output_after files_before files_after
   RunsJob config (Make product) ended input_before input_after output_before output_after files_before files_after =
       one_command.Runs reads writes looks (asked.Make (asked_product product)) ended input_before input_after output_before output_after files_before files_after
-  RunsJob config unbuilt ended input_before input_after output_before output_after files_before files_after =
+  RunsJob config (Frames root) ended input_before input_after output_before output_after files_before files_after =
+      RunsFrames reads writes looks root (opts_in config) ended input_before input_after output_before output_after files_before files_after
+  RunsJob config (Stacks path) ended input_before input_after output_before output_after files_before files_after =
       Misused writes ended input_before input_after output_before output_after files_before files_after
 
   -- the run of a command, if there is one

@@ -1,6 +1,7 @@
 //! A run of the program over the words of its command line.
 #![tactic(auto)]
 
+mod frames;
 mod input;
 mod misuse;
 mod program;

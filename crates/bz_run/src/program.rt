@@ -3,10 +3,12 @@
 ghost use Rattle.std.specs.Prelude.{map, string_bytes};
 ghost use Rattle.bz_base.specs.InputKind.{address_kind};
 ghost use Rattle.bz_requests.specs.Requests.{target_of};
+ghost use Rattle.bz_requests.specs.declared.requests.Config.{Config};
 ghost use Rattle.bz_run.specs.Generated.{HasSmallNumbers};
 ghost use Rattle.bz_run.specs.Run.{Runs, RunsCommand, RunsJob};
 ghost use Rattle.bz_words.specs.Command.{Batch, Make, command_in, job_of, product_of};
 
+use crate::frames::answer_frames;
 use crate::misuse::tell_usage;
 use crate::requests::serve_input;
 use crate::targets::{asked_product, asked_target};
@@ -62,13 +64,14 @@ fn run_job<R: TextIn, W: TextOut, F: Files>(
     match job {
         Job::Batch(target, kind) => run_batch(alloc, config, target, *kind, input, output, files),
         Job::Serve => serve_input(alloc, config, input, output, files),
-        Job::Make(product) => make(alloc, config, product, input, output, files),
+        Job::Make(product) => make(alloc, product, input, output, files),
         Job::Generate {
             seed,
             functions,
             addresses,
         } => generate(alloc, config, *seed, *functions, *addresses, output),
-        Job::Stacks(_) | Job::Frames(_) => tell_usage(alloc, output),
+        Job::Frames(root) => answer_frames(alloc, config, root.as_str(), input, output, files),
+        Job::Stacks(_) => tell_usage(alloc, output),
     }
 }
 
@@ -96,15 +99,13 @@ fn run_batch<R: TextIn, W: TextOut, F: Files>(
 // What is made of one file; no settings change it.
 fn make<R: TextIn, W: TextOut, F: Files>(
     alloc: Global,
-    config: Config,
     product: &Product,
     input: &mut R,
     output: &mut W,
     files: &mut F,
 ) -> Status
-    ensures { RunsJob R.TextIn W.TextOut F.Files config (Make (product_of product.now)) result input.old input.new output.old output.new files.old files.new }
+    ensures { (config : Config) → RunsJob R.TextIn W.TextOut F.Files config (Make (product_of product.now)) result input.old input.new output.old output.new files.old files.new }
 {
-    let _unused = config;
     let command = bz_symq::Command::Make(asked_product(product));
     bz_symq::run(alloc, &command, input, output, files)
 }

@@ -1,0 +1,40 @@
+//! The frames of an input, as words ask for their answers.
+
+ghost use Rattle.std.specs.Prelude.{◌≡◌};
+ghost use Rattle.bz_run.specs.Run.{RunsJob};
+ghost use Rattle.bz_symq.specs.Kept.{opts_in};
+ghost use Rattle.bz_words.specs.Command.{Frames};
+
+use bz_base::FindSymOpts;
+use bz_files::{Files, TextIn, TextOut};
+use bz_frames::run_frames;
+use bz_requests::Config;
+use bz_symq::Status;
+use std::alloc::Global;
+
+/// The answers to the frames of the input, by the symbol files below the root and the settings of the
+/// command.
+pub(crate) fn answer_frames<R: TextIn, W: TextOut, F: Files>(
+    alloc: Global,
+    config: Config,
+    root: &str,
+    input: &mut R,
+    output: &mut W,
+    files: &mut F,
+) -> Status
+    ensures { RunsJob R.TextIn W.TextOut F.Files config (Frames root.now) result input.old input.new output.old output.new files.old files.new }
+{
+    let opts = options(config);
+    run_frames(alloc, root, &opts, input, output, files)
+}
+
+// What answers have beside their symbols.
+fn options(config: Config) -> FindSymOpts
+    ensures { result ≡ opts_in config }
+{
+    match (config.code_info, config.inlined) {
+        (false, _) => FindSymOpts::Basic,
+        (true, false) => FindSymOpts::CodeInfo,
+        (true, true) => FindSymOpts::CodeInfoAndInlined,
+    }
+}
