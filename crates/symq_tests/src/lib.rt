@@ -12,6 +12,8 @@ mod elf;
 #[cfg(test)]
 mod endings;
 #[cfg(test)]
+mod frames;
+#[cfg(test)]
 mod gsym;
 #[cfg(test)]
 mod inputs;
