@@ -1,5 +1,5 @@
 mod CountLemmas
-mod EndLemmas
+pub mod EndLemmas
 mod FoldLemmas
 mod OutcomeLemmas
 mod ReplyLemmas

@@ -9,7 +9,7 @@ use Rattle.bz_files.specs.declared.stamp.Stamp.{Stamp}
 use Rattle.bz_requests.specs.Requests.{Breakpad}
 use Rattle.bz_symq.specs.declared.status.Status.{Status}
 use Rattle.bz_symq.specs.declared.status.Status.TheVariants as statuses
-use Rattle.bz_words.specs.Command.{Batch, Canonical, Command, Converted, Job, Make, command_in}
+use Rattle.bz_words.specs.Command.{Batch, Canonical, Command, Converted, Job, Make, Stacks, command_in}
 
 -- a line about what lies at a path
 abbrev pub line_about : List ℕ → List ℕ → List ℕ
@@ -26,6 +26,7 @@ abbrev pub breakpad_path : Job → Option (List ℕ)
 breakpad_path (Batch (Breakpad path) InFile) = Some path
 breakpad_path (Make (Canonical path)) = Some path
 breakpad_path (Make (Converted path)) = Some path
+breakpad_path (Stacks path) = Some path
 breakpad_path _ = None
 
 -- the line says where the bytes at a path are refused as a Breakpad file

@@ -16,7 +16,7 @@ use std::borrow::CowStr;
 
 /// Of words that `clap` takes, and that are no command.
 const NO_COMMAND: &str =
-    "symq: no such command: it is breakpad PATH, gsym PATH, elf PATH, process PID, canon PATH, convert PATH, frames ROOT, serve, or gen SEED FUNCTIONS ADDRESSES";
+    "symq: no such command: it is breakpad PATH, gsym PATH, elf PATH, process PID, canon PATH, convert PATH, stacks PATH, frames ROOT, serve, or gen SEED FUNCTIONS ADDRESSES";
 
 /// What standard error says of a run of these words that ended so, without the end of the last line;
 /// none where standard output says it all, or memory ran out. Of a refused run it says where the

@@ -42,6 +42,7 @@ fn breakpad_path(job: &Job) -> Option<&str>
         Job::Batch(Target::Breakpad(path), Input::FileOffset(())) => Some(path.as_str()),
         Job::Make(Product::Canonical(path)) => Some(path.as_str()),
         Job::Make(Product::Converted(path)) => Some(path.as_str()),
+        Job::Stacks(path) => Some(path.as_str()),
         _ => None,
     }
 }

@@ -7,6 +7,8 @@ use Rattle.bz_base.specs.declared.types.FindSymOpts.{FindSymOpts}
 use Rattle.bz_files.specs.declared.files.Files as files_trait
 use Rattle.bz_files.specs.declared.text.TextIn as input_trait
 use Rattle.bz_files.specs.declared.text.TextOut as output_trait
+use Rattle.bz_folding.proofs.EndLemmas as stacks
+use Rattle.bz_folding.specs.StackRun.{RunsStacks}
 use Rattle.bz_frames.proofs.RunLemmas as frames
 use Rattle.bz_frames.proofs.TurnLemmas.{turns_unread}
 use Rattle.bz_frames.specs.FrameRun.{RunsFrames}
@@ -25,7 +27,7 @@ use Rattle.bz_symq.specs.declared.reply.Reply.{Reply}
 use Rattle.bz_symq.specs.declared.status.Status.{Status}
 use Rattle.bz_symq.specs.declared.status.Status.TheVariants as statuses
 use Rattle.bz_words.specs.Command.{Batch, Command, Frames, Generate, Job, Make, Serve, Stacks, command_in}
-use Rattle.bz_run.specs.Misuse.{Misused, built, usage}
+use Rattle.bz_run.specs.Misuse.{Misused, usage}
 use Rattle.bz_run.specs.Run.{Runs, RunsCommand, RunsJob, asked_target}
 use Rattle.bz_run.specs.Sides.{FailsAtOneSide}
 use Rattle.bz_run.proofs.RequestsLemmas.{failed_ends, requests_unread}
@@ -33,7 +35,7 @@ use Rattle.bz_run.proofs.SideLemmas.{fails_at_output}
 
 -- what the status of a run says of its command
 abbrev HasUsage : Option Command → Status → Type 0
-HasUsage command ended = (ended ≡ statuses.Usage → built command ≡ None) × (built command ≡ None → IsOrFails statuses.Usage ended)
+HasUsage command ended = (ended ≡ statuses.Usage → command ≡ None) × (command ≡ None → IsOrFails statuses.Usage ended)
 
 -- the usage isn't told at these statuses
 never_usage : (ended : Status) → (ended ≡ statuses.Input) ⊎ IsOrFails statuses.Done ended → ended ≢ statuses.Usage
@@ -53,17 +55,14 @@ module _ {R W F : Type 0} (reads : input_trait.Ghosts R) (writes : output_trait.
   abbrev At_one_side : Type 0
   At_one_side = FailsAtOneSide reads writes looks ended input_before input_after output_before output_after files_before files_after
 
-  -- a job that isn't built is misuse, and no other is
-  misuse_usage : (command : Command) → built (Some command) ≡ None → Misuse → HasUsage (Some command) ended
-  misuse_usage command none misused = (λ _. none, λ _. misused.usage_written.status)
-
+  -- a job never ends by the usage
   job_usage : (config : Config) (job : Job) → Job_runs config job → HasUsage (Some (record { config = config; job = job })) ended
   job_usage config (Batch target kind) run = (λ is. absurd (run.usage is), λ none. cc)
   job_usage config Serve run = (λ is. absurd (never_usage ended run.status is), λ none. cc)
   job_usage config (Make product) run = (λ is. absurd (run.usage is), λ none. cc)
   job_usage config (Generate seed functions addresses) run = (λ is. absurd (never_usage ended (inr run.generated.status) is), λ none. cc)
   job_usage config (Frames root) run = (λ is. absurd (never_usage ended run.status is), λ none. cc)
-  job_usage config (Stacks path) run = misuse_usage (record { config = config; job = Stacks path }) refl run
+  job_usage config (Stacks path) run = (λ is. absurd (run.usage is), λ none. cc)
 
   -- and each fails at one side
   misuse_fails : Misuse → At_one_side
@@ -86,7 +85,7 @@ module _ {R W F : Type 0} (reads : input_trait.Ghosts R) (writes : output_trait.
   job_fails config (Generate seed functions addresses) run =
       fails_at_output reads writes looks ended _ _ _ _ _ _ (ap reads.faults run.unread) run.generated.fails (ap looks.faults run.unlooked)
   job_fails config (Frames root) run = one_fails run.fails
-  job_fails config (Stacks path) run = misuse_fails run
+  job_fails config (Stacks path) run = one_fails run.fails
 
   -- the run of a command, if there is one, is a run
   run_usage : (command : Option Command) → RunsCommand reads writes looks command ended input_before input_after output_before output_after files_before files_after → HasUsage command ended
@@ -137,6 +136,12 @@ module _ {R W F : Type 0} (reads : input_trait.Ghosts R) (writes : output_trait.
       frames.runs_without_reply reads writes looks root opts statuses.Memory _ _ _ _ _ _ errors.OutOfMemory (inr refl) (λ is. cc, λ is. cc)
       (turns_unread reads looks root opts input input (λ text left. (0, omega arith, left)) errors.OutOfMemory files (λ expected. tt) (counts_still _ _ _ (λ other. cc) refl)) refl
 
+  stacks_unstarted : (path : List ℕ) (config : Config) → RunsStacks reads writes looks path config statuses.Memory input input output output files files
+  stacks_unstarted path config =
+      stacks.runs_without_reply reads writes looks path config statuses.Memory _ _ _ _ _ _ errors.OutOfMemory (inr refl) (λ is. cc, λ is. cc)
+      (record { unlooked = λ text left bad. refl; read = tt; bounded = λ text left. (0, omega arith, left); order = inl refl })
+      (record { most = inl refl; opened = λ world seen done. absurd done }) (inl (refl, counts_still _ _ _ (λ other. cc) refl)) refl
+
   job_unstarted : (config : Config) (job : Job) → RunsJob reads writes looks config job statuses.Memory input input output output files files
   job_unstarted config (Batch target kind) = command_unstarted _ (target_unstarted config kind target)
   job_unstarted config Serve =
@@ -154,7 +159,7 @@ module _ {R W F : Type 0} (reads : input_trait.Ghosts R) (writes : output_trait.
     unlooked = refl;
   }
   job_unstarted config (Frames root) = frames_unstarted root _
-  job_unstarted config (Stacks path) = misuse_unstarted
+  job_unstarted config (Stacks path) = stacks_unstarted path config
 
   pub unstarted : (command : Option Command) → RunsCommand reads writes looks command statuses.Memory input input output output files files
   unstarted None = misuse_unstarted

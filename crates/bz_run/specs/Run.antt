@@ -5,6 +5,7 @@ use Rattle.bz_files.specs.declared.text.TextIn as input_trait
 use Rattle.bz_files.specs.declared.text.TextOut as output_trait
 use Rattle.bz_requests.specs.Requests as requests
 use Rattle.bz_requests.specs.declared.requests.Config.{Config}
+use Rattle.bz_folding.specs.StackRun.{RunsStacks}
 use Rattle.bz_frames.specs.FrameRun.{RunsFrames}
 use Rattle.bz_symq.specs.Command as asked
 use Rattle.bz_symq.specs.Kept.{opts_in}
@@ -15,7 +16,7 @@ use Rattle.bz_symq.specs.declared.status.Status.TheVariants as statuses
 use Rattle.bz_words.specs.Command as words
 use Rattle.bz_words.specs.Command.{Batch, Command, Frames, Generate, Job, Make, Serve, Stacks, command_in}
 use Rattle.bz_run.specs.Generated.{RunsGenerated}
-use Rattle.bz_run.specs.Misuse.{Misused, built}
+use Rattle.bz_run.specs.Misuse.{Misused}
 use Rattle.bz_run.specs.Requests.{RunsRequests}
 use Rattle.bz_run.specs.Sides.{FailsAtOneSide}
 
@@ -32,7 +33,7 @@ asked_product (words.Converted path) = asked.Converted path
 asked_product (words.Canonical path) = asked.Canonical path
 
 module _ {R W F : Type 0} (reads : input_trait.Ghosts R) (writes : output_trait.Ghosts W) (looks : files_trait.Ghosts F) where
-  -- the run of a job under the settings of its command; of one that isn't built the usage is told
+  -- the run of a job under the settings of its command
   abbrev pub RunsJob : Config → Job → Status → R → R → W → W → F → F → Type 0
   RunsJob config (Batch target kind) ended input_before input_after output_before output_after files_before files_after =
       one_command.Runs reads writes looks (asked.Batch (record { target = asked_target target; kind = kind; config = config })) ended input_before input_after output_before output_after files_before files_after
@@ -45,7 +46,7 @@ module _ {R W F : Type 0} (reads : input_trait.Ghosts R) (writes : output_trait.
   RunsJob config (Frames root) ended input_before input_after output_before output_after files_before files_after =
       RunsFrames reads writes looks root (opts_in config) ended input_before input_after output_before output_after files_before files_after
   RunsJob config (Stacks path) ended input_before input_after output_before output_after files_before files_after =
-      Misused writes ended input_before input_after output_before output_after files_before files_after
+      RunsStacks reads writes looks path config ended input_before input_after output_before output_after files_before files_after
 
   -- the run of a command, if there is one
   abbrev pub RunsCommand : Option Command → Status → R → R → W → W → F → F → Type 0
@@ -59,7 +60,7 @@ pub record Runs {R W F : Type 0} (reads : input_trait.Ghosts R) (writes : output
     (input_before input_after : R) (output_before output_after : W) (files_before files_after : F) : Type 0 where
   -- it is the run of the command that the words give
   pub run : RunsCommand reads writes looks (command_in words) ended input_before input_after output_before output_after files_before files_after
-  -- status 2 means that the words give no command that is built, and such words are answered by it, unless the run fails
-  pub usage : (ended ≡ statuses.Usage → built (command_in words) ≡ None) × (built (command_in words) ≡ None → IsOrFails statuses.Usage ended)
+  -- status 2 means that the words give no command, and such words are answered by it, unless the run fails
+  pub usage : (ended ≡ statuses.Usage → command_in words ≡ None) × (command_in words ≡ None → IsOrFails statuses.Usage ended)
   -- status 4 comes exactly where one call failed, of input, output or files
   pub fails : FailsAtOneSide reads writes looks ended input_before input_after output_before output_after files_before files_after

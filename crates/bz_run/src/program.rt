@@ -14,6 +14,7 @@ use crate::requests::serve_input;
 use crate::targets::{asked_product, asked_target};
 use bz_base::Input;
 use bz_files::{Files, TextIn, TextOut};
+use bz_folding::run_stacks;
 use bz_gen_job::generate;
 use bz_requests::{Config, Target};
 use bz_symq::Status;
@@ -71,7 +72,7 @@ fn run_job<R: TextIn, W: TextOut, F: Files>(
             addresses,
         } => generate(alloc, config, *seed, *functions, *addresses, output),
         Job::Frames(root) => answer_frames(alloc, config, root.as_str(), input, output, files),
-        Job::Stacks(_) => tell_usage(alloc, output),
+        Job::Stacks(path) => run_stacks(alloc, path.as_str(), config, input, output, files),
     }
 }
 
