@@ -30,6 +30,8 @@ mod runs;
 #[cfg(test)]
 mod serve;
 #[cfg(test)]
+mod stacks;
+#[cfg(test)]
 mod texts;
 #[cfg(test)]
 mod words;
