@@ -146,7 +146,7 @@ fn is_too_long(alloc: Global) -> Result<bool, Error> {
     let mut input = MemIn::new(vec![in alloc; b'\n'; 16_777_217]?);
     let mut output = MemOut::new(alloc);
     let ended = run_stacks(alloc, PATH, PLAIN, &mut input, &mut output, &mut files);
-    Ok(ended == Status::Input && output.written() == b"input: too long\n")
+    Ok(ended == Status::Input && output.written() == "input: too long\n".as_bytes())
 }
 
 #[test]
