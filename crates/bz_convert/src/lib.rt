@@ -1,4 +1,4 @@
-//! Breakpad files as GSYM files.
+//! Why a Breakpad file isn't converted to GSYM, and the rows of its functions.
 #![tactic(auto)]
 
 mod calls;

@@ -1,4 +1,4 @@
-//! Breakpad files converted to GSYM files.
+//! The conversion: the plan of a Breakpad file without a fault, laid out as a GSYM file.
 #![tactic(auto)]
 
 mod calls;

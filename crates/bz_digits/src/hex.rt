@@ -16,7 +16,7 @@ pub(crate) fn put_hex(number: u64, room: &mut [u8; ROOM], end: usize) -> usize
     requires fits { 16 ≤ end }
     requires within { end ≤ 96 }
     ensures from { result ≤ end }
-    ensures few { length (digits 16 false number) ≤ 16 }
+    ensures short { length (digits 16 false number) ≤ 16 }
     ensures text { drop result room.new ≡ digits 16 false number ++ drop end room.old }
 {
     if number < 1 << 16 {
@@ -33,7 +33,7 @@ pub(crate) fn put_hex(number: u64, room: &mut [u8; ROOM], end: usize) -> usize
 #[inline(always)]
 fn digit_count(number: u64) -> usize
     ensures some { 0 < result }
-    ensures few { result ≤ 16 }
+    ensures short { result ≤ 16 }
     ensures short { number < 4294967296 → result ≤ 8 }
     ensures shorter { number < 65536 → result ≤ 4 }
     ensures enough { number < 16 ^ result }

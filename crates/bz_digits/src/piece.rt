@@ -53,7 +53,7 @@ impl Piece {
     pub fn put(&mut self, byte: u8)
         requires { length self.old < 96 }
         ensures text { self.new ≡ byte ∷ self.old }
-        ensures few { length self.new ≤ length self.old + 1 }
+        ensures short { length self.new ≤ length self.old + 1 }
     {
         self.from -= 1;
         self.room[self.from] = byte;
@@ -64,7 +64,7 @@ impl Piece {
     pub fn put_bytes(&mut self, bytes: &[u8])
         requires { length self.old + length bytes.now ≤ 96 }
         ensures text { self.new ≡ bytes.now ++ self.old }
-        ensures few { length self.new ≤ length self.old + length bytes.now }
+        ensures short { length self.new ≤ length self.old + length bytes.now }
     {
         let from = self.from - bytes.len();
         self.room[from..self.from].copy_from_slice(bytes);
@@ -76,7 +76,7 @@ impl Piece {
     pub fn put_hex(&mut self, number: u64)
         requires { length self.old + 16 ≤ 96 }
         ensures text { self.new ≡ digits 16 false number ++ self.old }
-        ensures few { length self.new ≤ length self.old + 16 }
+        ensures short { length self.new ≤ length self.old + 16 }
     {
         self.from = put_hex(number, &mut self.room, self.from);
     }
@@ -86,7 +86,7 @@ impl Piece {
     pub fn put_decimal(&mut self, number: u32)
         requires { length self.old + 10 ≤ 96 }
         ensures text { self.new ≡ decimal number ++ self.old }
-        ensures few { length self.new ≤ length self.old + 10 }
+        ensures short { length self.new ≤ length self.old + 10 }
     {
         self.from = write_digits(number as u64, &mut self.room, self.from);
     }

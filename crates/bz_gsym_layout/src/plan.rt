@@ -1,5 +1,6 @@
 //! What is to be laid out: functions with their rows and the calls that were inlined into them, which
-//! refer to texts and source files by their indexes.
+//! refer to texts and source files by their indexes. Rows and calls, of which there are many, have
+//! indexes of 32 bits.
 
 /// A source file, by the indexes of its directory and its name among the texts. A file without
 /// directory has the empty text there.

@@ -21,8 +21,7 @@ const NO_COMMAND: &str =
 /// What standard error says of a run of these words that ended so, without the end of the last line;
 /// none where standard output says it all, or memory ran out. Of a refused run it says where the
 /// Breakpad file is refused that the words name; of a faulty command line, what is wrong with it, in
-/// one line;
-/// of a failed run, which side failed, and at which path if that is known.
+/// one line; of a failed run, which side failed, and at which path if that is known.
 pub fn message<F: Files>(
     alloc: Global,
     words: &[String],

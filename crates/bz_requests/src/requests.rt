@@ -1,4 +1,4 @@
-//! Requests to a symbolizer, and how it is asked.
+//! Requests to a symbolizer, and the settings that it is asked with.
 
 ghost use Rattle.std.specs.Prelude.{◌≡◌};
 ghost use Rattle.bz_base.specs.InputKind.{address_kind};

@@ -1,4 +1,4 @@
-//! The requests of an input.
+//! What an input of requests asks for.
 
 ghost use Rattle.std.specs.Prelude.{◌≡◌, Err, IfOk, IsOkUnless};
 ghost use Rattle.bz_base.specs.declared.error.Error.{Error};

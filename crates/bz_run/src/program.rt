@@ -1,4 +1,4 @@
-//! One run of the program.
+//! One run over words: the command that they give, and what runs it.
 
 ghost use Rattle.std.specs.Prelude.{map, string_bytes};
 ghost use Rattle.bz_base.specs.InputKind.{address_kind};

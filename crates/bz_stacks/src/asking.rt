@@ -42,7 +42,7 @@ pub fn fold<D: ProcessDispatch + Drop, F: Files>(
     fold_blank::<D, F, Brand>(alloc, symbolizer, files, src, kind, stacks, Blank::new(1))
 }
 
-// The same, with a count of the look-up's steps, of which it takes none.
+// The same, with a count that no step raises: the look-up has no addresses.
 fn fold_blank<D: ProcessDispatch + Drop, F: Files, L: Ledger>(
     alloc: Global,
     symbolizer: &mut Symbolizer<D>,
@@ -63,7 +63,7 @@ fn fold_blank<D: ProcessDispatch + Drop, F: Files, L: Ledger>(
     match symbolizer.look_up(alloc, files, src, none, &mut steps) {
         Ok(lookups) => fold_lookups(alloc, &lookups, stacks),
         Err(error) => {
-            // A process isn't looked up: nothing was done.
+            // A process isn't looked up. The refusal changed nothing, and shows that caches are well kept.
             if is_process(src) {
                 fold_process(alloc, symbolizer, files, src, kind, stacks)
             } else {

@@ -1,4 +1,4 @@
-//! One run of the program.
+//! One run of one command.
 
 ghost use Rattle.std.specs.Prelude.{◌≡◌, ◌⊎◌, ◌↔◌, ◌<◌, false, length, IfOk, Ok, IsErr, IsOk, IsOkUnless};
 ghost use Rattle.bz_base.specs.InputKind.{address_kind};

@@ -1,4 +1,4 @@
-//! The command line as `clap` has it.
+//! What `clap` is told: the flags, and that words follow.
 
 ghost use Rattle.std.specs.Prelude.{◌≡◌, false, codes, IfOk};
 ghost use Rattle.clap.specs.Words.{app_of, rule_of};

@@ -1,4 +1,4 @@
-//! The command that words give.
+//! The command that words give: kinds, arguments and flags are read here.
 
 ghost use Rattle.std.specs.Prelude.{◌≡◌, ◌≢◌, ◌≤◌, true, Ok, Some, None, [], map, not, option_map, codes, string_bytes, unwrap_or, IfOk, IfSome};
 ghost use Rattle.bz_base.specs.InputKind.{address_kind};

@@ -3,8 +3,8 @@ use Rattle.bz_digits.proofs.HexLemmas.{hex_length, hex_written}
 use Rattle.bz_digits.proofs.hex.put_hex.Goals as goal
 use Rattle.bz_digits.proofs.hex.put_hex.Goals.{then-number, else-number+then-number-2, else-number+else-number-2}
 
-pub returns-clause-few : goal.returns-clause-few
-returns-clause-few c =
+pub returns-clause-short : goal.returns-clause-short
+returns-clause-short c =
     let count = c.digit_count.ensures in
     omega (arith, hex_length c.digit_count.result c.args.number count.some (omega arith) count.enough count.needed)
 
@@ -16,5 +16,5 @@ returns-clause-text c =
     elim c.if-number.branch [
       | then-number w ↦ rw w.room-is (hex_written c.digit_count.result 4 a.end a.number _ _ w.put_low_digits.ensures count.some (count.shorter (omega arith)) (omega arith) (omega arith) count.enough count.needed)
       | else-number+then-number-2 w ↦ rw w.room-is (hex_written c.digit_count.result 8 a.end a.number _ _ w.put_low_digits-then-number-2.ensures count.some (count.short (omega arith)) (omega arith) (omega arith) count.enough count.needed)
-      | else-number+else-number-2 w ↦ rw w.room-is (hex_written c.digit_count.result 16 a.end a.number _ _ w.put_low_digits-else-number-2.ensures count.some count.few (omega arith) (omega arith) count.enough count.needed)
+      | else-number+else-number-2 w ↦ rw w.room-is (hex_written c.digit_count.result 16 a.end a.number _ _ w.put_low_digits-else-number-2.ensures count.some count.short (omega arith) (omega arith) count.enough count.needed)
     ]

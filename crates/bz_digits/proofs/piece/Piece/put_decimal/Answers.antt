@@ -10,7 +10,7 @@ write_digits-self-inside-requires c =
     (omega (arith, short, length-drop {A = ℕ}, ap length c.self.view_is), omega arith)
 
 -- the text is longer by the digits
-pub returns-clause-few : goal.returns-clause-few
-returns-clause-few c =
+pub returns-clause-short : goal.returns-clause-short
+returns-clause-short c =
     let short = length-decimal-le 10 c.args.number (omega arith) (omega arith) (omega arith) in
     omega (arith, short, ap length c.write_digits-self-inside.ensures.written, length-append {A = ℕ}, ap length c.self.view_is)
