@@ -33,7 +33,7 @@ pub(crate) fn put_hex(number: u64, room: &mut [u8; ROOM], end: usize) -> usize
 #[inline(always)]
 fn digit_count(number: u64) -> usize
     ensures some { 0 < result }
-    ensures short { result ≤ 16 }
+    ensures most { result ≤ 16 }
     ensures short { number < 4294967296 → result ≤ 8 }
     ensures shorter { number < 65536 → result ≤ 4 }
     ensures enough { number < 16 ^ result }

@@ -16,5 +16,5 @@ returns-clause-text c =
     elim c.if-number.branch [
       | then-number w ↦ rw w.room-is (hex_written c.digit_count.result 4 a.end a.number _ _ w.put_low_digits.ensures count.some (count.shorter (omega arith)) (omega arith) (omega arith) count.enough count.needed)
       | else-number+then-number-2 w ↦ rw w.room-is (hex_written c.digit_count.result 8 a.end a.number _ _ w.put_low_digits-then-number-2.ensures count.some (count.short (omega arith)) (omega arith) (omega arith) count.enough count.needed)
-      | else-number+else-number-2 w ↦ rw w.room-is (hex_written c.digit_count.result 16 a.end a.number _ _ w.put_low_digits-else-number-2.ensures count.some count.short (omega arith) (omega arith) count.enough count.needed)
+      | else-number+else-number-2 w ↦ rw w.room-is (hex_written c.digit_count.result 16 a.end a.number _ _ w.put_low_digits-else-number-2.ensures count.some count.most (omega arith) (omega arith) count.enough count.needed)
     ]
