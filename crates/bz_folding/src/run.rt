@@ -1,13 +1,11 @@
 //! A run over an input of stacks.
 
-ghost use Rattle.std.specs.Prelude.{◌≡◌, ◌⊎◌, ◌↔◌};
 ghost use Rattle.bz_folding.specs.StackRun.{RunsStacks};
 
 use crate::replying::reply_with_stacks;
-use bz_base::Error;
 use bz_files::{Files, TextIn, TextOut};
 use bz_requests::Config;
-use bz_symq::{Status, finish};
+use bz_symq::{Status, failed, finish};
 use std::alloc::Global;
 
 /// Reads the whole input, which is stacks, one on a line, and writes what they fold to by the answers of
@@ -25,16 +23,5 @@ pub fn run_stacks<R: TextIn, W: TextOut, F: Files>(
     match reply_with_stacks(alloc, path, config, input, files) {
         Ok(reply) => finish(alloc, output, &reply),
         Err(error) => failed(error),
-    }
-}
-
-// How a run without a reply ends: by a fault, or nothing else is left than want of memory.
-fn failed(error: Error) -> Status
-    ensures failure { (result ≡ Status.Fault) ⊎ (result ≡ Status.Memory) }
-    ensures fault { (error ≡ Error.ReadFault) ↔ (result ≡ Status.Fault) }
-{
-    match error {
-        Error::ReadFault => Status::Fault,
-        _ => Status::Memory,
     }
 }

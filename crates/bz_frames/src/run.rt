@@ -1,13 +1,12 @@
 //! A run over an input of frames.
 
-ghost use Rattle.std.specs.Prelude.{◌≡◌, ◌⊎◌, ◌↔◌};
 ghost use Rattle.bz_frames.specs.FrameRun.{RunsFrames};
 ghost use Rattle.bz_frames.specs.FrameTurns.{RepliesToInput};
 
 use crate::replying::reply_to_frames;
 use bz_base::{Error, FindSymOpts, Result};
 use bz_files::{Files, TextIn, TextOut};
-use bz_symq::{ReadStop, Reply, Status, finish, read_input, stored_reply};
+use bz_symq::{ReadStop, Reply, Status, failed, finish, read_input, stored_reply};
 use std::alloc::Global;
 
 /// Reads the whole input, which is frames, one on a line, and writes what they are answered by the symbol
@@ -43,16 +42,5 @@ fn reply_to_input<R: TextIn, F: Files>(
         Err(ReadStop::TooLong) => Ok(stored_reply(Status::Input, "input: too long\n")),
         Err(ReadStop::Fault) => Err(Error::ReadFault),
         Err(ReadStop::Memory) => Err(Error::OutOfMemory),
-    }
-}
-
-// How a run ends that gives no reply: by a fault, or nothing else is left than want of memory.
-fn failed(error: Error) -> Status
-    ensures failure { (result ≡ Status.Fault) ⊎ (result ≡ Status.Memory) }
-    ensures fault { (error ≡ Error.ReadFault) ↔ (result ≡ Status.Fault) }
-{
-    match error {
-        Error::ReadFault => Status::Fault,
-        _ => Status::Memory,
     }
 }

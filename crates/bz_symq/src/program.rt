@@ -81,8 +81,8 @@ pub fn run_counted<R: TextIn, W: TextOut, F: Files, L: Ledger>(
     }
 }
 
-// How a run without a reply ends: by a fault, or nothing else is left than want of memory.
-fn failed(error: Error) -> Status
+/// How a run without a reply ends: by a fault, or nothing else is left than want of memory.
+pub fn failed(error: Error) -> Status
     ensures failure { (result ≡ Status.Fault) ⊎ (result ≡ Status.Memory) }
     ensures fault { (error ≡ Error.ReadFault) ↔ (result ≡ Status.Fault) }
 {
