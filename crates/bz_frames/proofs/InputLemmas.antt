@@ -1,12 +1,12 @@
 -- What an input of frames asks for, when it is bad, and what a run over it comes to.
-use Rattle.std.proofs.Common.{◌≡◌, ◌⊎◌, ◌↔◌, ◌≤◌, ◌<◌, ℕ, Bool, true, false, List, length, Option, Some, Result, Ok, Err, IsErr, refl, sym, ◌∙◌, inl, inr, ltb, arith}
+use Rattle.std.proofs.Common.{◌≡◌, ◌⊎◌, ◌↔◌, ◌≤◌, ◌<◌, ℕ, Bool, true, false, List, length, Option, Result, Ok, Err, IsErr, refl, sym, ap, ◌∙◌, inl, inr, ltb, arith}
 use Rattle.std.proofs.lemmas.Bool.{false≢true, le-ltb, lt-ltb, ltb-false}
 use Rattle.bz_base.specs.declared.types.FindSymOpts.{FindSymOpts}
 use Rattle.bz_files.specs.World.{World}
 use Rattle.bz_lines.proofs.LineGrammarLemmas.{first_bad_again, first_bad_found, items_again, items_found}
 use Rattle.bz_store.specs.Frames.{Frame}
 use Rattle.bz_symq.specs.InputText.{greatest_input}
-use Rattle.bz_symq.specs.Outcome.{too_long}
+use Rattle.bz_symq.specs.Outcome.{Outcome, too_long}
 use Rattle.bz_symq.specs.Reply.{text_of}
 use Rattle.bz_symq.specs.Run.{Ends}
 use Rattle.bz_symq.specs.declared.reply.Reply.{Reply}
@@ -15,7 +15,7 @@ use Rattle.bz_symq.specs.declared.status.Status.TheVariants as statuses
 use Rattle.bz_frames.proofs.FrameLemmas.{frame_agrees}
 use Rattle.bz_frames.specs.FrameLines.{IsFrame, frame_in, frames_in}
 use Rattle.bz_frames.specs.FrameReply.{IsFrameStatus, IsFramesReply, by_frames}
-use Rattle.bz_frames.specs.FrameRun.{AreAnswered, AsksFor, IsBadInput, by_length, frames_outcome}
+use Rattle.bz_frames.specs.FrameRun.{AreAnswered, AsksFor, IsBadInput, NamesBad, by_length, frames_outcome}
 use Rattle.bz_frames.specs.FrameTurns.{IsRunReply}
 
 module _ (text : List ℕ) (short : length text ≤ greatest_input) where
@@ -33,16 +33,23 @@ module _ (text : List ℕ) (short : length text ≤ greatest_input) where
   status_read (Err n) is status input = (λ _. inr (n, first_bad_found frame_in IsFrame frame_agrees text n is), λ _. input)
 
   -- and a reply to what is read to the input
-  pub reply_read : (root : List ℕ) (opts : FindSymOpts) (asked : Result (List Frame) ℕ) → frames_in text ≡ asked → (reply : Reply) → IsFrameStatus asked reply.status → IsFramesReply root opts asked reply →
-      reply.status ≡ statuses.Done → IsRunReply root opts text (text_of reply.said)
-  reply_read root opts (Ok frames) is reply status (readings, are, said) done = record {
+  pub reply_read : (root : List ℕ) (opts : FindSymOpts) (asked : Result (List Frame) ℕ) (opens_before opens_after : ℕ) → frames_in text ≡ asked → (reply : Reply) → IsFrameStatus asked reply.status →
+      IsFramesReply root opts asked opens_before opens_after reply → reply.status ≡ statuses.Done → IsRunReply root opts text (text_of reply.said) opens_before opens_after
+  reply_read root opts (Ok frames) opens_before opens_after is reply status (readings, are, said) done = record {
     frames = frames;
     readings = readings;
     asks = record { short = short; frames_are = items_found frame_in IsFrame frame_agrees text frames is };
     readings_are = are;
     said_is = said;
   }
-  reply_read root opts (Err n) is reply status none done = let never : statuses.Input ≡ statuses.Done = sym status ∙ done in cc
+  reply_read root opts (Err n) opens_before opens_after is reply status named done = let never : statuses.Input ≡ statuses.Done = sym status ∙ done in cc
+
+  -- which names the line that is bad
+  pub bad_read : (root : List ℕ) (opts : FindSymOpts) (asked : Result (List Frame) ℕ) (opens_before opens_after : ℕ) → frames_in text ≡ asked → (reply : Reply) → IsFrameStatus asked reply.status →
+      IsFramesReply root opts asked opens_before opens_after reply → reply.status ≡ statuses.Input → NamesBad text (text_of reply.said)
+  bad_read root opts (Ok frames) opens_before opens_after is reply status found input = let never : statuses.Done ≡ statuses.Input = sym status ∙ input in cc
+  bad_read root opts (Err n) opens_before opens_after is reply status named input =
+      inr (short, (n, first_bad_found frame_in IsFrame frame_agrees text n is, ap (λ (o : Outcome). o.text) named))
 
 -- an input that asks for frames isn't bad
 pub never_bad : (text : List ℕ) (frames : List Frame) → AsksFor text frames → IsBadInput text → ⊥

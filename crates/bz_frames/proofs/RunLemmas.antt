@@ -1,5 +1,5 @@
 -- A run over an input of frames, from what its reply came to, and how the run ended.
-use Rattle.std.proofs.Common.{◌≡◌, ◌⊎◌, ◌↔◌, ℕ, List, [], ◌++◌, Some, Ok, Err, refl, ap, subst, ◌∙◌, inl, inr}
+use Rattle.std.proofs.Common.{◌≡◌, ◌⊎◌, ◌↔◌, ℕ, List, ◌++◌, Some, Ok, Err, refl, ap, subst, ◌∙◌, inl, inr}
 use Rattle.bz_base.specs.declared.error.Error.{Error}
 use Rattle.bz_base.specs.declared.types.FindSymOpts.{FindSymOpts}
 use Rattle.bz_files.specs.Looked.{Faulted}
@@ -18,7 +18,7 @@ use Rattle.bz_symq.specs.declared.reply.Reply.{Reply}
 use Rattle.bz_symq.specs.declared.status.Status.{Status}
 use Rattle.bz_symq.specs.declared.status.Status.TheVariants as statuses
 use Rattle.bz_frames.proofs.InputLemmas.{answered_from_ends, never_bad}
-use Rattle.bz_frames.specs.FrameRun.{AreSomeAnswered, AsksFor, RunsFrames, frames_outcome}
+use Rattle.bz_frames.specs.FrameRun.{AreSomeAnswered, AsksFor, NamesBad, RunsFrames, frames_outcome}
 use Rattle.bz_frames.specs.FrameTurns.{IsRunReply, RepliesToInput}
 
 module _ {R W F : Type 0} (reads : input_trait.Ghosts R) (writes : output_trait.Ghosts W) (looks : files_trait.Ghosts F) (root : List ℕ) (opts : FindSymOpts) (ended : Status)
@@ -35,6 +35,7 @@ module _ {R W F : Type 0} (reads : input_trait.Ghosts R) (writes : output_trait.
       λ is. (given.input text left).0 (by_reply statuses.Input input_no_failure is),
       λ bad. rw ((given.input text left).1 bad) at finished.status,
     );
+    named = λ is text left old written. named_from text old (rw is at (finished.ends old written)) (given.named text left (by_reply statuses.Input input_no_failure is));
     complete = λ text left frames asks. by_frames text left frames asks given.status;
     opens = λ done text left world told. given.opens text left world told (by_reply statuses.Done done_no_failure done);
     unlooked = given.unlooked;
@@ -66,7 +67,9 @@ module _ {R W F : Type 0} (reads : input_trait.Ghosts R) (writes : output_trait.
       by_frames text left frames asks (inl input) = absurd (never_bad text frames asks ((given.input text left).0 input))
       by_frames text left frames asks (inr done) = rw done at finished.status
 
-      answered_from : (text old : List ℕ) → Ends (outcome_of reply) old statuses.Done (writes.written output_after) → IsRunReply root opts text (text_of reply.said) → AreSomeAnswered root opts text old (writes.written output_after)
+      answered_from : (text old : List ℕ) → Ends (outcome_of reply) old statuses.Done (writes.written output_after) →
+          IsRunReply root opts text (text_of reply.said) (looks.opens files_before) (looks.opens files_after) →
+          AreSomeAnswered root opts text old (writes.written output_after) (looks.opens files_before) (looks.opens files_after)
       answered_from text old ended is = record {
         frames = is.frames;
         readings = is.readings;
@@ -74,6 +77,10 @@ module _ {R W F : Type 0} (reads : input_trait.Ghosts R) (writes : output_trait.
         readings_are = is.readings_are;
         written = ended.1 ∙ ap (λ said. Some (old ++ said)) is.said_is;
       }
+
+      named_from : (text old : List ℕ) → Ends (outcome_of reply) old statuses.Input (writes.written output_after) → NamesBad text (text_of reply.said) →
+          (said : List ℕ) × NamesBad text said × (writes.written output_after ≡ Some (old ++ said))
+      named_from text old ended is = (text_of reply.said, is, ended.1)
 
       fails : Fails reads writes looks ended input_before input_after output_before output_after files_before files_after
       fails = fails_after reads writes looks ended _ _ _ _ _ _ (Faulted (Ok reply)) (λ fault. fault) given.fails finished.counts
@@ -87,6 +94,7 @@ module _ {R W F : Type 0} (reads : input_trait.Ghosts R) (writes : output_trait.
     done = λ done. absurd (never ended statuses.Done done_no_failure failed done);
     answered = λ done. absurd (never ended statuses.Done done_no_failure failed done);
     input = λ text left. (λ is. absurd (never ended statuses.Input input_no_failure failed is), λ bad. inr failed);
+    named = λ is. absurd (never ended statuses.Input input_no_failure failed is);
     complete = λ text left frames asks. inr failed;
     opens = λ done. absurd (never ended statuses.Done done_no_failure failed done);
     unlooked = given.unlooked;

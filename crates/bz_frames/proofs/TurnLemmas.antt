@@ -15,10 +15,10 @@ use Rattle.bz_symq.specs.Reply.{Replies, outcome_of, text_of}
 use Rattle.bz_symq.specs.Run.{IsNoFailure}
 use Rattle.bz_symq.specs.declared.reply.Reply.{Reply}
 use Rattle.bz_symq.specs.declared.status.Status.TheVariants as statuses
-use Rattle.bz_frames.proofs.InputLemmas.{either_status, none_read, outcome_long, outcome_short, reply_read, status_read}
+use Rattle.bz_frames.proofs.InputLemmas.{bad_read, either_status, none_read, outcome_long, outcome_short, reply_read, status_read}
 use Rattle.bz_frames.specs.FrameLines.{frames_in}
 use Rattle.bz_frames.specs.FrameReply.{IsFramesReply, RepliesFrames, opens_by}
-use Rattle.bz_frames.specs.FrameRun.{IsBadInput, IsReadWhole, frames_outcome}
+use Rattle.bz_frames.specs.FrameRun.{IsBadInput, IsReadWhole, NamesBad, frames_outcome}
 use Rattle.bz_frames.specs.FrameTurns.{IsRunReply, RepliesToInput}
 
 -- what holds of a given reply, by what else does
@@ -36,14 +36,17 @@ module _ {R F : Type 0} (reads : input_trait.Ghosts R) (looks : files_trait.Ghos
   -- the input was read to its end, and its lines were replied to
   pub turns_replied : (text : List ℕ) (result : Result Reply Error) (files_before files_after : F) → length text ≤ greatest_input → Told (reads.left input_before) (λ whole. text ≡ whole) →
       IsReadWhole (reads.left input_before) (reads.left input_after) → reads.faults input_after ≡ reads.faults input_before →
-      RepliesFrames looks root opts (frames_in text) result files_before files_after → IfOk result (IsFramesReply root opts (frames_in text)) →
-      RepliesToInput reads looks root opts result input_before input_after files_before files_after
+      RepliesFrames looks root opts (frames_in text) result files_before files_after →
+      IfOk result (IsFramesReply root opts (frames_in text) (looks.opens files_before) (looks.opens files_after)) → RepliesToInput reads looks root opts result input_before input_after files_before files_after
   turns_replied text result files_before files_after short whole read still replied answered = record {
     reply = λ all left world told. subst (λ outcome. Replies outcome result) (outcome_short world root opts text all short (whole all left)) (replied.reply world told);
     status = when_given result (λ given is. either_status (frames_in text) given.status is) replied.status;
     no_failure = replied.no_failure;
     answered = λ all left. when_both result
-        (λ given status are done. subst (λ lines. IsRunReply root opts lines (text_of given.said)) (whole all left) (reply_read text short root opts (frames_in text) refl given status are done)) replied.status answered;
+        (λ given status are done. subst (λ lines. IsRunReply root opts lines (text_of given.said) (looks.opens files_before) (looks.opens files_after)) (whole all left)
+        (reply_read text short root opts (frames_in text) _ _ refl given status are done)) replied.status answered;
+    named = λ all left. when_both result
+        (λ given status are input. subst (λ lines. NamesBad lines (text_of given.said)) (whole all left) (bad_read text short root opts (frames_in text) _ _ refl given status are input)) replied.status answered;
     input = λ all left. when_given result (λ given is. subst (λ lines. (given.status ≡ statuses.Input) ↔ IsBadInput lines) (whole all left) (status_read text short (frames_in text) refl given.status is)) replied.status;
     opens = λ all left world told. when_given result
         (λ given is done. subst (λ lines. looks.opens files_after ≡ opens_by world root opts (frames_in lines) (looks.opens files_before)) (whole all left) is) (replied.opens world told);
@@ -63,6 +66,7 @@ module _ {R F : Type 0} (reads : input_trait.Ghosts R) (looks : files_trait.Ghos
     status = inl status;
     no_failure = subst IsNoFailure (sym status) input_no_failure;
     answered = λ text left done. let both : statuses.Input ≡ statuses.Done = sym status ∙ done in cc;
+    named = λ text left input. inl (long text left, ap (λ (o : Outcome). o.text) is);
     input = λ text left. (λ _. inl (long text left), λ _. status);
     opens = λ text left world told done. let both : statuses.Input ≡ statuses.Done = sym status ∙ done in cc;
     unlooked = λ text left bad. refl;
@@ -83,6 +87,7 @@ module _ {R F : Type 0} (reads : input_trait.Ghosts R) (looks : files_trait.Ghos
     status = tt;
     no_failure = tt;
     answered = λ text left. tt;
+    named = λ text left. tt;
     input = λ text left. tt;
     opens = λ text left world told. tt;
     unlooked = λ text left bad. refl;

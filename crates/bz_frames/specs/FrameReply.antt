@@ -12,7 +12,7 @@ use Rattle.bz_store.specs.Plain.{answer_in, opens_after_all}
 use Rattle.bz_store.specs.Shelf.{new_shelf}
 use Rattle.bz_store.specs.Visits.{Found, visited}
 use Rattle.bz_symq.specs.Outcome.{Outcome, bad_line}
-use Rattle.bz_symq.specs.Reply.{Replies, text_of}
+use Rattle.bz_symq.specs.Reply.{Replies, outcome_of, text_of}
 use Rattle.bz_symq.specs.Run.{IsNoFailure}
 use Rattle.bz_symq.specs.declared.reply.Reply.{Reply}
 use Rattle.bz_symq.specs.declared.status.Status.{Status}
@@ -43,17 +43,18 @@ IsFrameStatus (Ok frames) status = status ≡ statuses.Done
 IsFrameStatus (Err n) status = status ≡ statuses.Input
 
 -- the readings are those of a new store at the root that goes through the frames in order: each is by what is kept of its file, or
--- else by what was found there
-pub record AreFound (root : List ℕ) (opts : FindSymOpts) (frames : List Frame) (readings : List FrameReading) : Type 0 where
+-- else by what was found there; and the count of opens rose by one for each file that was read for that
+pub record AreFound (root : List ℕ) (opts : FindSymOpts) (frames : List Frame) (readings : List FrameReading) (opens_before opens_after : ℕ) : Type 0 where
   pub visits : List (Frame × Found)
   pub of_frames : map (λ v. v.0) visits ≡ frames
-  pub opens : ℕ
-  pub readings_are : readings ≡ (visited capacity opts visits (state (new_shelf root capacity) [] opens)).answers
+  pub readings_are : readings ≡ (visited capacity opts visits (state (new_shelf root capacity) [] opens_before)).answers
+  pub opens_are : opens_after ≡ (visited capacity opts visits (state (new_shelf root capacity) [] opens_before)).opens
 
--- a reply to frames has the texts of such readings
-abbrev pub IsFramesReply : List ℕ → FindSymOpts → Result (List Frame) ℕ → Reply → Type 0
-IsFramesReply root opts (Ok frames) reply = (readings : List FrameReading) × AreFound root opts frames readings × (text_of reply.said ≡ frame_texts frames readings)
-IsFramesReply root opts (Err n) reply = Unit {0}
+-- a reply to frames has the texts of such readings, and a bad line is named
+abbrev pub IsFramesReply : List ℕ → FindSymOpts → Result (List Frame) ℕ → ℕ → ℕ → Reply → Type 0
+IsFramesReply root opts (Ok frames) opens_before opens_after reply =
+    (readings : List FrameReading) × AreFound root opts frames readings opens_before opens_after × (text_of reply.said ≡ frame_texts frames readings)
+IsFramesReply root opts (Err n) opens_before opens_after reply = outcome_of reply ≡ bad_line n
 
 -- an input of these frames, or with this bad line, was replied to
 pub record RepliesFrames {X : Type 0} (files : Ghosts X) (root : List ℕ) (opts : FindSymOpts) (asked : Result (List Frame) ℕ) (result : Result Reply Error) (old new : X) : Type 0 where

@@ -6,11 +6,11 @@ use Rattle.bz_files.specs.World.{Told, World, in_view}
 use Rattle.bz_files.specs.declared.files.Files as files_trait
 use Rattle.bz_files.specs.declared.text.TextIn as input_trait
 use Rattle.bz_files.specs.declared.text.TextOut as output_trait
-use Rattle.bz_lines.specs.Lines.{HasBadLine}
+use Rattle.bz_lines.specs.Lines.{HasBadLine, IsFirstBad}
 use Rattle.bz_store.specs.Frames.{Frame, FrameReading}
 use Rattle.bz_store.specs.Plain.{answer_in}
 use Rattle.bz_symq.specs.InputText.{MovesAtMost, greatest_input, left_over}
-use Rattle.bz_symq.specs.Outcome.{Outcome, too_long}
+use Rattle.bz_symq.specs.Outcome.{Outcome, bad_line, too_long}
 use Rattle.bz_symq.specs.Run.{Ends, Fails, IsNoFailure, IsOrFails}
 use Rattle.bz_symq.specs.declared.status.Status.{Status}
 use Rattle.bz_symq.specs.declared.status.Status.TheVariants as statuses
@@ -36,18 +36,23 @@ pub record AsksFor (text : List ℕ) (frames : List Frame) : Type 0 where
 abbrev pub IsBadInput : List ℕ → Type 0
 IsBadInput text = (greatest_input < length text) ⊎ HasBadLine IsFrame text
 
+-- what is said names the input as too long, or else its first bad line
+abbrev pub NamesBad : List ℕ → List ℕ → Type 0
+NamesBad text said = ((greatest_input < length text) × (said ≡ too_long.text))
+    ⊎ ((length text ≤ greatest_input) × ((n : ℕ) × IsFirstBad IsFrame text n × (said ≡ (bad_line n).text)))
+
 -- the texts of the world's answers to the input's frames are what was written
 pub record AreAnswered (world : World) (root : List ℕ) (opts : FindSymOpts) (text old : List ℕ) (new : Option (List ℕ)) : Type 0 where
   pub frames : List Frame
   pub asks : AsksFor text frames
   pub written : new ≡ Some (old ++ frame_texts frames (map (answer_in world root opts) frames))
 
--- the texts of what was found for the input's frames are what was written
-pub record AreSomeAnswered (root : List ℕ) (opts : FindSymOpts) (text old : List ℕ) (new : Option (List ℕ)) : Type 0 where
+-- the texts of what was found for the input's frames are what was written, and as many files were read as that takes
+pub record AreSomeAnswered (root : List ℕ) (opts : FindSymOpts) (text old : List ℕ) (new : Option (List ℕ)) (opens_before opens_after : ℕ) : Type 0 where
   pub frames : List Frame
   pub readings : List FrameReading
   pub asks : AsksFor text frames
-  pub readings_are : AreFound root opts frames readings
+  pub readings_are : AreFound root opts frames readings opens_before opens_after
   pub written : new ≡ Some (old ++ frame_texts frames readings)
 
 -- the input was read: to its end, or to the byte that makes it too long
@@ -66,10 +71,14 @@ pub record RunsFrames {R W F : Type 0} (reads : input_trait.Ghosts R) (writes : 
   -- status 0 means that the input was frames, and that the texts of their answers are what was written
   pub done : ended ≡ statuses.Done → Told (reads.left input_before) (λ text. Told (in_view (looks.worlds files_before)) (λ world. Told (writes.written output_before) (λ old.
       AreAnswered world root opts text old (writes.written output_after))))
-  -- and whatever the files tell, that they are answered by what was found
-  pub answered : ended ≡ statuses.Done → Told (reads.left input_before) (λ text. Told (writes.written output_before) (λ old. AreSomeAnswered root opts text old (writes.written output_after)))
+  -- and whatever the files tell, that they are answered by what was found, in as many reads as that takes
+  pub answered : ended ≡ statuses.Done → Told (reads.left input_before) (λ text. Told (writes.written output_before) (λ old.
+      AreSomeAnswered root opts text old (writes.written output_after) (looks.opens files_before) (looks.opens files_after)))
   -- status 3 means that the input is bad, and a bad input is answered by it, unless the run fails
   pub input : Told (reads.left input_before) (λ text. (ended ≡ statuses.Input → IsBadInput text) × (IsBadInput text → IsOrFails statuses.Input ended))
+  -- and that what was written names what is bad of it, whatever the files tell
+  pub named : ended ≡ statuses.Input → Told (reads.left input_before) (λ text. Told (writes.written output_before) (λ old.
+      (said : List ℕ) × NamesBad text said × (writes.written output_after ≡ Some (old ++ said))))
   -- an input of frames is answered, unless something fails or memory runs out
   pub complete : Told (reads.left input_before) (λ text. (frames : List Frame) → AsksFor text frames → IsOrFails statuses.Done ended)
   -- status 0 means that a file was read for each frame whose name is good, whose key wasn't kept, and whose path is present

@@ -15,15 +15,16 @@ use Rattle.bz_symq.specs.declared.reply.Reply.{Reply}
 use Rattle.bz_symq.specs.declared.status.Status.TheVariants as statuses
 use Rattle.bz_frames.specs.FrameLines.{frames_in}
 use Rattle.bz_frames.specs.FrameReply.{AreFound, opens_by}
-use Rattle.bz_frames.specs.FrameRun.{AsksFor, IsBadInput, IsReadWhole, frames_outcome}
+use Rattle.bz_frames.specs.FrameRun.{AsksFor, IsBadInput, IsReadWhole, NamesBad, frames_outcome}
 use Rattle.bz_frames.specs.FrameText.{frame_texts}
 
--- a reply that the run is done has the texts of what was found for the frames that the input asks for
-pub record IsRunReply (root : List ℕ) (opts : FindSymOpts) (text said : List ℕ) : Type 0 where
+-- a reply that the run is done has the texts of what was found for the frames that the input asks for, in as many reads as that
+-- takes
+pub record IsRunReply (root : List ℕ) (opts : FindSymOpts) (text said : List ℕ) (opens_before opens_after : ℕ) : Type 0 where
   pub frames : List Frame
   pub readings : List FrameReading
   pub asks : AsksFor text frames
-  pub readings_are : AreFound root opts frames readings
+  pub readings_are : AreFound root opts frames readings opens_before opens_after
   pub said_is : said ≡ frame_texts frames readings
 
 -- a reply was to be made: the input comes first, then the files
@@ -33,8 +34,11 @@ pub record RepliesToInput {R F : Type 0} (reads : input_trait.Ghosts R) (looks :
   pub reply : Told (reads.left input_before) (λ text. Told (in_view (looks.worlds files_before)) (λ world. Replies (frames_outcome world root opts text) result))
   pub status : IfOk result (λ given. (given.status ≡ statuses.Input) ⊎ (given.status ≡ statuses.Done))
   pub no_failure : IfOk result (λ given. IsNoFailure given.status)
-  -- and whatever the files tell, the texts are of what was found
-  pub answered : Told (reads.left input_before) (λ text. IfOk result (λ given. given.status ≡ statuses.Done → IsRunReply root opts text (text_of given.said)))
+  -- and whatever the files tell, the texts are of what was found, in as many reads as that takes; and what is bad of an input is
+  -- named
+  pub answered : Told (reads.left input_before) (λ text. IfOk result (λ given.
+      given.status ≡ statuses.Done → IsRunReply root opts text (text_of given.said) (looks.opens files_before) (looks.opens files_after)))
+  pub named : Told (reads.left input_before) (λ text. IfOk result (λ given. given.status ≡ statuses.Input → NamesBad text (text_of given.said)))
   -- the input alone decides on status 3
   pub input : Told (reads.left input_before) (λ text. IfOk result (λ given. (given.status ≡ statuses.Input) ↔ IsBadInput text))
   -- where the run is done, so many files were read

@@ -32,7 +32,7 @@ pub fn reply_to_frames<F: Files>(
 ) -> Result<Reply>
     ensures reply { RepliesFrames F.Files root.now opts.now (frames_in text.now) result files.old files.new }
     // Whatever the files tell.
-    ensures answered { IfOk result (IsFramesReply root.now opts.now (frames_in text.now)) }
+    ensures answered { IfOk result (IsFramesReply root.now opts.now (frames_in text.now) (F.Files.opens files.old) (F.Files.opens files.new)) }
 {
     match read_frames(alloc, text) {
         Ok(frames) => answered(alloc, root, opts, frames.as_slice(), files),
@@ -49,7 +49,7 @@ fn answered<F: Files>(
     files: &mut F,
 ) -> Result<Reply>
     ensures reply { RepliesFrames F.Files root.now opts.now (Ok (map frame_of frames.now)) result files.old files.new }
-    ensures answered { IfOk result (IsFramesReply root.now opts.now (Ok (map frame_of frames.now))) }
+    ensures answered { IfOk result (IsFramesReply root.now opts.now (Ok (map frame_of frames.now)) (F.Files.opens files.old) (F.Files.opens files.new)) }
 {
     match new_store(alloc, root) {
         Ok(store) => answered_by(alloc, store, opts, frames, files),
@@ -66,7 +66,7 @@ fn answered_by<F: Files>(
 ) -> Result<Reply>
     requires { store ≡ new_shelf store.root capacity }
     ensures reply { RepliesFrames F.Files store.root opts.now (Ok (map frame_of frames.now)) result files.old files.new }
-    ensures answered { IfOk result (IsFramesReply store.root opts.now (Ok (map frame_of frames.now))) }
+    ensures answered { IfOk result (IsFramesReply store.root opts.now (Ok (map frame_of frames.now)) (F.Files.opens files.old) (F.Files.opens files.new)) }
 {
     match store.answer(alloc, files, frames, opts) {
         Ok(answers) => texts_reply(alloc, frames, answers.as_slice()),
