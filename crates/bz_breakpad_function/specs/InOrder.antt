@@ -1,8 +1,9 @@
 -- Functions and their records, in the orders in which a program walks them. What is alike in an order stands as in the file.
-use Rattle.std.specs.Prelude.{ℕ, List}
+use Rattle.std.specs.Prelude.{◌≡◌, ℕ, List}
 use Rattle.bz_base.specs.Sorting.{sorted}
 use Rattle.bz_breakpad_function.specs.Indexed.{functions_in}
 use Rattle.bz_breakpad_lines.specs.Table.{Function, Inlinee, SourceLine}
+use Rattle.bz_breakpad_table.specs.LineRun.{IsLineRun, lines_in}
 
 -- functions by start and size
 abbrev pub ordered_functions : List Function → List Function
@@ -19,3 +20,8 @@ lines_in_order f = sorted (λ l. l.start) (λ l. l.size) f.lines
 -- the inlined calls of a function, by depth and start
 abbrev pub calls_in_order : Function → List Inlinee
 calls_in_order f = sorted (λ i. i.depth) (λ i. i.start) f.inlinees
+
+-- the lines of the text are these line records, of which each starts after the one before it
+pub record IsTextOfLines (text : List ℕ) (lines : List SourceLine) : Type 0 where
+  pub run : IsLineRun text
+  pub says : lines_in text ≡ lines

@@ -1,10 +1,10 @@
 //! A function of a Breakpad file.
 
-ghost use Rattle.std.specs.Prelude.{◌≡◌, ◌<◌, List, Some, length, map, option_map, slice_get, IfOk, IsOkUnless};
+ghost use Rattle.std.specs.Prelude.{◌≡◌, ◌<◌, List, Some, length, map, option_map, slice_get, IfOk, IfSome, IsOkUnless};
 ghost use Rattle.bz_base.specs.Chain.{around, inner};
 ghost use Rattle.bz_base.specs.Nearest.{IsTable};
 ghost use Rattle.bz_base.specs.declared.error.Error.{Error};
-ghost use Rattle.bz_breakpad_function.specs.InOrder.{calls_in_order, lines_in_order};
+ghost use Rattle.bz_breakpad_function.specs.InOrder.{IsTextOfLines, calls_in_order, lines_in_order};
 ghost use Rattle.bz_breakpad_function.specs.Indexed.{function_in, functions_in};
 ghost use Rattle.bz_breakpad_function.specs.Lent.{kept_inlinee};
 ghost use Rattle.bz_breakpad_function.specs.Places.{calls_around, inlinee_at, line_at};
@@ -20,7 +20,9 @@ use crate::calls::inlinee_of;
 use crate::line_run::Cuts;
 use crate::places::{calls_around, inlinees_of, line_of};
 use crate::types::Inlinee;
-use crate::walks::{all_inlinees, all_lines, inlinee_at_index, line_at_index, line_count};
+use crate::walks::{
+    all_inlinees, all_lines, inlinee_at_index, line_at_index, line_count, line_text,
+};
 use bz_base::{Addr, Error, Result, around_in};
 use bz_breakpad_lines::SourceLine;
 use bz_breakpad_table::{CallRange, FunctionTable, KeptFunction, KeptTable, text_of};
@@ -116,6 +118,14 @@ impl<'a> Function<'a> {
     {
         let lines = all_lines(alloc, self.bytes, self.code, self.kept)?;
         Ok(lines)
+    }
+
+    /// The text of its line records, if they stand in the file as in their order: one after another, each
+    /// starting after the one before it. The last line may have its end or not.
+    pub fn line_text(&self) -> Option<&'a [u8]>
+        ensures { IfSome result (λ text. IsTextOfLines text.now (lines_in_order self.now)) }
+    {
+        line_text(self.bytes, self.code, self.kept)
     }
 
     /// How many inlined calls it has.

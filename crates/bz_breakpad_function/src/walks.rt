@@ -1,8 +1,9 @@
 //! The records of a function, one after another in their order.
 
-ghost use Rattle.std.specs.Prelude.{◌≡◌, ◌≤◌, ◌<◌, ◌-◌, ◌∷◌, Some, drop, length, map, slice_get, take, IfOk};
+ghost use Rattle.std.specs.Prelude.{◌≡◌, ◌≤◌, ◌<◌, ◌-◌, ◌∷◌, Some, drop, length, map, slice_get, take, IfOk, IfSome};
 ghost use Rattle.std.specs.List.{AllByRecursion};
 ghost use Rattle.bz_base.specs.Line as base;
+ghost use Rattle.bz_breakpad_function.specs.InOrder.{IsTextOfLines};
 ghost use Rattle.bz_breakpad_function.specs.Lent.{kept_inlinee};
 ghost use Rattle.bz_breakpad_lines.specs.LineStarts.{ReadsLine, line_read};
 ghost use Rattle.bz_breakpad_lines.specs.Told.{line_seen};
@@ -55,6 +56,21 @@ pub(crate) fn line_at_index(
             let places = &code.lines[part.from as usize..part.to as usize];
             line_of_places(bytes, places, index)
         }
+    }
+}
+
+/// The text of the function's line records, if they stand in their order where the file has them.
+pub(crate) fn line_text<'a>(
+    bytes: &'a [u8],
+    code: &FunctionTable,
+    function: &KeptFunction,
+) -> Option<&'a [u8]>
+    requires { IsFunction bytes.now code.now function.now }
+    ensures { IfSome result (λ text. IsTextOfLines text.now (function_seen bytes.now code.now function.now).lines) }
+{
+    match function.lines {
+        LineRecords::Run(part) => Some(&bytes[part.from as usize..part.to as usize]),
+        LineRecords::Listed(_part) => None,
     }
 }
 
