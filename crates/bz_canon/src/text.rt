@@ -1,7 +1,8 @@
 //! The canonical text of a file.
 
-ghost use Rattle.std.specs.Prelude.{◌≡◌, ◌<◌, ◌++◌, Some, map, option_map, IfOk, OnOk, IsOkUnless};
+ghost use Rattle.std.specs.Prelude.{◌≡◌, ◌<◌, ◌++◌, Some, map, option_map, IfOk, IfSome, OnOk, IsOkUnless};
 ghost use Rattle.bz_base.specs.declared.error.Error.{Error};
+ghost use Rattle.bz_breakpad.specs.InOrder.{lines_in_order};
 ghost use Rattle.bz_breakpad.specs.Lent.{kept_inlinee};
 ghost use Rattle.bz_breakpad.specs.Listed.{lent_public};
 ghost use Rattle.bz_breakpad_lines.specs.Printed.{function_records, inlinee_one, line_one, public_record, table_records};
@@ -13,6 +14,7 @@ ghost use Rattle.bz_breakpad_lines.specs.Written.{records_text};
 ghost use Rattle.bz_canon.specs.Canon.{canon, canon_function, canonical_text};
 ghost use Rattle.bz_canon.specs.Parts.{canon_functions, functions_text, lines_of, named_lines};
 
+use crate::canonical_run::is_canonical_run;
 use crate::record::{push_func, push_inlinee, push_line, push_module, push_named, push_public};
 use bz_base::{Error, Result, Steps};
 use bz_breakpad::{Function, Inlinee, PublicSymbol, SourceLine, SymbolFile};
@@ -109,9 +111,34 @@ fn push_function(alloc: Global, text: &mut Vec<u8>, function: &Function<'_>) -> 
     push_func(text, function)?;
     let inlinees = function.inlinees(alloc)?;
     push_inlinees(text, &inlinees)?;
+    push_lines_of(alloc, text, function)?;
+    Ok(())
+}
+
+/// The line records of a function, by start and size.
+fn push_lines_of(alloc: Global, text: &mut Vec<u8>, function: &Function<'_>) -> Result<()>
+    ensures ok { OnOk result (text.new.items ≡ text.old.items ++ lines_of (λ l. OfFunc (line_one l)) (lines_in_order function.now)) }
+    ensures memory { IsOkUnless result Error.OutOfMemory }
+{
+    if let Some(run) = canonical_run(function) {
+        text.extend_from_slice(run)?;
+        return Ok(());
+    }
     let lines = function.lines(alloc)?;
     push_lines(text, &lines)?;
     Ok(())
+}
+
+/// A function's line records as they stand in the file, where that is seen to be their canonical text.
+fn canonical_run<'a>(function: &Function<'a>) -> Option<&'a [u8]>
+    ensures { IfSome result (λ run. run.now ≡ lines_of (λ l. OfFunc (line_one l)) (lines_in_order function.now)) }
+{
+    let text = function.line_text()?;
+    if is_canonical_run(text) {
+        Some(text)
+    } else {
+        None
+    }
 }
 
 /// INLINE records.

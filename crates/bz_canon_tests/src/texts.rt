@@ -95,6 +95,28 @@ const SPELLINGS: [(&[u8], &[u8]); 7] = [
     ),
 ];
 
+/// The lines of a function as the canonical text has them, and as they may be written: the same; in upper
+/// case; with zeros in front; with tabs or more blanks; with carriage returns; in another order.
+const LINES: &[u8] =
+    b"FUNC 1000 100 0 f\n1000 10 42 0\n1010 8 7 10\n1018 a8 100 1\n10c0 40 4294967295 20\n";
+
+const LINES_WRITTEN: [&[u8]; 14] = [
+    b"FUNC 1000 100 0 f\n1000 10 42 0\n1010 8 7 10\n1018 a8 100 1\n10c0 40 4294967295 20\n",
+    b"FUNC 1000 100 0 f\n1000 10 42 0\n1010 8 7 10\n1018 a8 100 1\n10C0 40 4294967295 20\n",
+    b"FUNC 1000 100 0 f\n1000 10 42 0\n1010 8 7 10\n1018 A8 100 1\n10c0 40 4294967295 20\n",
+    b"FUNC 1000 100 0 f\n01000 10 42 0\n1010 8 7 10\n1018 a8 100 1\n10c0 40 4294967295 20\n",
+    b"FUNC 1000 100 0 f\n1000 10 42 0\n1010 08 7 10\n1018 a8 100 1\n10c0 40 4294967295 20\n",
+    b"FUNC 1000 100 0 f\n1000 10 42 0\n1010 8 007 10\n1018 a8 100 1\n10c0 40 4294967295 20\n",
+    b"FUNC 1000 100 0 f\n1000 10 42 0\n1010 8 7 10\n1018 a8 100 1\n10c0 40 4294967295 020\n",
+    b"FUNC 1000 100 0 f\n1000 10 42 00\n1010 8 7 10\n1018 a8 100 1\n10c0 40 4294967295 20\n",
+    b"FUNC 1000 100 0 f\n1000 10 42 0\n1010\t8 7 10\n1018 a8 100 1\n10c0 40 4294967295 20\n",
+    b"FUNC 1000 100 0 f\n1000 10 42 0\n1010 8 7 10\n1018 a8  100 1\n10c0 40 4294967295 20\n",
+    b"FUNC 1000 100 0 f\n1000 10 42 0\n1010 8 7 10\n1018 a8 100 1\n10c0 40 4294967295 \t20\n",
+    b"FUNC 1000 100 0 f\n1000 10 42 0\r\n1010 8 7 10\n1018 a8 100 1\n10c0 40 4294967295 20\n",
+    b"FUNC 1000 100 0 f\n1000 10 42 0\n1010 8 7 10\n1018 a8 100 1\n10c0 40 4294967295 20\r\r\n",
+    b"FUNC 1000 100 0 f\n1010 8 7 10\n1000 10 42 0\n10c0 40 4294967295 20\n1018 a8 100 1\n",
+];
+
 /// The file of a text.
 fn file_of(alloc: Global, text: &[u8]) -> Result<SymbolFile, Error> {
     let bytes = Vec::from_slice(alloc, text)?;
@@ -133,6 +155,14 @@ fn writes_records_in_order(rt: HostRuntime) -> Result<(), Fail> {
 fn writes_the_plainest_text(rt: HostRuntime) -> Result<(), Fail> {
     for row in &SPELLINGS {
         assert!(rt; holds(rt.alloc(), row)?, "of {:?}", row.0);
+    }
+    Ok(())
+}
+
+#[test]
+fn writes_lines_that_are_written_in_another_way(rt: HostRuntime) -> Result<(), Fail> {
+    for text in &LINES_WRITTEN {
+        assert!(rt; has_canonical(rt.alloc(), text, LINES)?, "of {:?}", text);
     }
     Ok(())
 }
