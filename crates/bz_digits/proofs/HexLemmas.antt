@@ -1,11 +1,14 @@
 -- The hexadecimal digits of a number, written from the last one to the first.
-use Rattle.std.proofs.Common.{◌≡◌, ℕ, zero, suc, ◌+◌, ◌-◌, ◌*◌, ◌/◌, ◌%◌, ◌^◌, ◌<◌, ◌≤◌, Bool, true, false, nat_eq, if◌then◌else◌, List, [], ◌∷◌, ◌++◌, length, drop, set, max, refl, sym, ap, subst, ◌∙◌, arith}
+use Rattle.std.proofs.Common.{◌≡◌, ℕ, zero, suc, ◌+◌, ◌-◌, ◌*◌, ◌/◌, ◌%◌, ◌^◌, ◌<◌, ◌≤◌, Bool, true, false, nat_eq, nat_lt, if◌then◌else◌, List, [], ◌∷◌, ◌++◌, length, drop, set, max, refl, sym, ap, subst, ◌∙◌, arith}
 use Rattle.std.specs.Fmt.{digits, digit_glyph, digits_onto}
+use Rattle.std.specs.Str.{IsAscii, IsUtf8}
 use Rattle.std.proofs.Math.Nat.{pow-suc, pow-le-pow_right}
 use Rattle.std.proofs.lemmas.Bool.{eq-eqb, ne_eqb}
 use Rattle.std.proofs.lemmas.List.{drop-drop}
 use Rattle.std.proofs.lemmas.Grind.{drop-set_at}
 use Rattle.std.proofs.lemmas.Nat.{pow-add}
+use Rattle.std.proofs.lemmas.Str.{IsUtf8-append, IsUtf8-from_ascii}
+use Rattle.std.proofs.lemmas.Str.Ascii.{IsAscii-nil, IsAscii-cons}
 use Rattle.bz_digits.specs.LowDigits.{low_digits}
 
 pub none_yet : (n : ℕ) → digits_onto 64 16 false n [] ≡ digits 16 false n
@@ -30,6 +33,31 @@ module _ (n : ℕ) (written : List ℕ) where
   next_digit (suc k) some isnt =
       one_more k false (ne_eqb (n / 16) 0 isnt)
       ∙ ap (λ (j : ℕ). digits_onto j 16 false (n / 16) (digit_glyph false (n % 16) ∷ written)) {x = k} {y = suc k - 1} (omega arith)
+
+glyph_small : (d : ℕ) → d < 16 → digit_glyph false d < 128
+glyph_small d small = by (nat_lt d 10) where
+  by : (b : Bool) → (if b then 48 + d else 87 + d) < 128
+  by true = omega (arith, small)
+  by false = omega (arith, small)
+
+onto_ascii : (k n : ℕ) (written : List ℕ) → IsAscii written → IsAscii (digits_onto k 16 false n written)
+onto_ascii zero n written ascii = ascii
+onto_ascii (suc k) n written ascii =
+    let more = IsAscii-cons (digit_glyph false (n % 16)) written (glyph_small (n % 16) (omega arith)) ascii in
+    either (nat_eq (n / 16) 0) _ _ more (onto_ascii k (n / 16) _ more)
+  where
+    either : (b : Bool) (xs ys : List ℕ) → IsAscii xs → IsAscii ys → IsAscii (if b then xs else ys)
+    either true xs ys x y = x
+    either false xs ys x y = y
+
+-- the digits are ASCII
+hex_ascii : (n : ℕ) → IsAscii (digits 16 false n)
+unfolding digits
+hex_ascii n = onto_ascii 64 n [] IsAscii-nil
+
+-- the digits before a UTF-8 text are one
+pub hex_utf8 : (n : ℕ) (text : List ℕ) → IsUtf8 text → IsUtf8 (digits 16 false n ++ text)
+hex_utf8 n text utf8 = IsUtf8-append (digits 16 false n) text (IsUtf8-from_ascii _ (hex_ascii n)) utf8
 
 -- one digit more stands in front of the text
 pub low_step : (k n : ℕ) (text : List ℕ) → 0 < k → low_digits k n text ≡ low_digits (k - 1) (n / 16) (digit_glyph false (n % 16) ∷ text)

@@ -1,1 +1,1 @@
-mod HexLemmas
+pub mod HexLemmas

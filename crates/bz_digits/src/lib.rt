@@ -4,4 +4,4 @@
 mod hex;
 mod piece;
 
-pub use piece::{Piece, ROOM};
+pub use piece::Piece;

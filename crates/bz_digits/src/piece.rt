@@ -8,7 +8,7 @@ use itoa::write_digits;
 use std::marker::Model;
 
 /// How many bytes a piece has room for.
-pub const ROOM: usize = 96;
+pub(crate) const ROOM: usize = 96;
 
 /// A piece of text that grows at its front. Contracts see the text.
 #[derive(Drop)]

@@ -5,7 +5,6 @@ pub mod FaultLemmas
 pub mod InputTextLemmas
 mod OpenLemmas
 mod OutputLemmas
-mod PieceLemmas
 mod ProcessLemmas
 mod ProductLemmas
 mod ReadLemmas

@@ -5,7 +5,6 @@ pub mod InputText
 pub mod Kept
 pub mod Outcome
 pub mod OwnPid
-pub mod Piece
 pub mod Processes
 pub mod Products
 pub mod Reply

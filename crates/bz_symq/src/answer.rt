@@ -1,6 +1,6 @@
 //! The text of an answer.
 
-ghost use Rattle.std.specs.Prelude.{◌≡◌, ◌+◌, ◌++◌, ◌≤◌, if◌then◌else◌, [], Some, map, option_map, codes, drop, length, string_bytes, OnOk, IfOk, IsOkUnless};
+ghost use Rattle.std.specs.Prelude.{◌≡◌, ◌+◌, ◌++◌, ◌≤◌, if◌then◌else◌, [], Some, map, option_map, codes, length, string_bytes, OnOk, IfOk, IsOkUnless};
 ghost use Rattle.std.specs.Cow.{cow_str_bytes};
 ghost use Rattle.std.specs.Str.{IsUtf8};
 ghost use Rattle.bz_base.specs.Answer.{site_of, call_of, symbol_of, reading};
@@ -8,9 +8,9 @@ ghost use Rattle.bz_base.specs.Answer.Answer.{Unknown};
 ghost use Rattle.bz_base.specs.Path.{begins_with_slash, last_byte, path_text, slash_after};
 ghost use Rattle.bz_symq.specs.AnswerText.{hex, size_text, module_text, line_text, place_text, end_text, line_end, numbers_text, call_text, calls_text, symbol_text, result_text, answer_text};
 
-use crate::piece::{ROOM, push_piece, put_hex_after, put_str};
+use crate::piece::{push_piece, put_hex_after, put_str};
 use bz_base::{CodeInfo, Error, InlinedFn, Reason, Result, Sym, Symbolized};
-use itoa::Buffer;
+use bz_digits::Piece;
 use std::alloc::Global;
 use std::borrow::CowStr;
 
@@ -41,10 +41,10 @@ fn push_addr(text: &mut String, addr: u64) -> Result<()>
     ensures ok { OnOk result (string_bytes text.new ≡ string_bytes text.old ++ (hex addr ++ codes ": ")) }
     ensures memory { IsOkUnless result Error.OutOfMemory }
 {
-    let mut room = [0; ROOM];
-    let at = put_str(": ", &mut room, ROOM);
-    let at = put_hex_after("0x", addr, &mut room, at);
-    push_piece(text, &room, at)?;
+    let mut piece = Piece::new();
+    put_str(&mut piece, ": ");
+    put_hex_after(&mut piece, "0x", addr);
+    push_piece(text, &piece)?;
     Ok(())
 }
 
@@ -73,28 +73,26 @@ fn push_numbers(text: &mut String, symbol: &Sym<'_>) -> Result<()>
     ensures ok { OnOk result (string_bytes text.new ≡ string_bytes text.old ++ numbers_text (symbol_of symbol.now)) }
     ensures memory { IsOkUnless result Error.OutOfMemory }
 {
-    let mut room = [0; ROOM];
-    let at = put_str(" module ", &mut room, ROOM);
-    let at = put_size(symbol.size, &mut room, at);
-    let at = put_hex_after(" start 0x", symbol.addr, &mut room, at);
-    let at = put_hex_after("+0x", symbol.offset as u64, &mut room, at);
-    push_piece(text, &room, at)?;
+    let mut piece = Piece::new();
+    put_str(&mut piece, " module ");
+    put_size(&mut piece, symbol.size);
+    put_hex_after(&mut piece, " start 0x", symbol.addr);
+    put_hex_after(&mut piece, "+0x", symbol.offset as u64);
+    push_piece(text, &piece)?;
     Ok(())
 }
 
-// size 0xSIZE, before a place in a room
+// size 0xSIZE, in front of a piece
 #[inline(always)]
-fn put_size(size: Option<usize>, room: &mut [u8; ROOM], end: usize) -> usize
-    requires fits { 24 ≤ end }
-    requires within { end ≤ 80 }
-    ensures from { result ≤ end }
-    ensures near { end ≤ result + 24 }
-    ensures text { drop result room.new ≡ codes " size " ++ (size_text size ++ drop end room.old) }
-    ensures utf8 { IsUtf8 (drop end room.old) → IsUtf8 (drop result room.new) }
+fn put_size(piece: &mut Piece, size: Option<usize>)
+    requires { length piece.old + 24 ≤ 96 }
+    ensures text { piece.new ≡ codes " size " ++ (size_text size ++ piece.old) }
+    ensures short { length piece.new ≤ length piece.old + 24 }
+    ensures utf8 { IsUtf8 piece.old → IsUtf8 piece.new }
 {
     match size {
-        Some(size) => put_hex_after(" size 0x", size as u64, room, end),
-        None => put_str(" size -", room, end),
+        Some(size) => put_hex_after(piece, " size 0x", size as u64),
+        None => put_str(piece, " size -"),
     }
 }
 
@@ -169,12 +167,11 @@ fn push_line(text: &mut String, line: Option<u32>, public: bool) -> Result<()>
 {
     match line {
         Some(line) => {
-            let mut digits = Buffer::new();
-            let mut room = [0; ROOM];
-            let at = put_str(line_end(public), &mut room, ROOM);
-            let at = put_str(digits.format(line), &mut room, at);
-            let at = put_str(":", &mut room, at);
-            push_piece(text, &room, at)?;
+            let mut piece = Piece::new();
+            put_str(&mut piece, line_end(public));
+            piece.put_decimal(line);
+            put_str(&mut piece, ":");
+            push_piece(text, &piece)?;
         }
         None => text.push_str(line_end(public))?,
     }

@@ -1,7 +1,12 @@
-use Rattle.std.proofs.lemmas.Str.{IsUtf8-nil}
+use Rattle.std.proofs.Common.{sym, subst, arith}
+use Rattle.std.proofs.lemmas.Fmt.{IsAscii-decimal}
+use Rattle.std.proofs.lemmas.Str.{IsUtf8-append, IsUtf8-from_ascii, IsUtf8-nil}
+use Rattle.std.specs.Str.{IsUtf8}
 use Rattle.bz_symq.proofs.answer.push_line.Goals as goal
 
 -- each of the three is text before text
-pub push_piece-requires-clause-utf8 : goal.push_piece-requires-clause-utf8
-push_piece-requires-clause-utf8 c =
-    c.put_str-at-in-Some-2.ensures.utf8 (c.put_str-at-in-Some.ensures.utf8 (c.put_str-at.ensures.utf8 IsUtf8-nil))
+pub push_piece-requires : goal.push_piece-requires
+push_piece-requires c =
+    let end = c.put_str.ensures.utf8 (subst IsUtf8 (sym c.new-piece.ensures) IsUtf8-nil) in
+    let digits = IsUtf8-from_ascii _ (IsAscii-decimal c.in-Some.line (omega arith)) in
+    c.put_str-in-Some.ensures.utf8 (subst IsUtf8 (sym c.put_decimal.ensures.text) (IsUtf8-append _ _ digits end))

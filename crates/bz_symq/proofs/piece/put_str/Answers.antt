@@ -1,11 +1,10 @@
-use Rattle.std.proofs.Common.{sym, subst, arith}
-use Rattle.std.proofs.lemmas.Grind.{common_steps}
+use Rattle.std.proofs.Common.{sym, subst, rules}
 use Rattle.std.proofs.lemmas.Str.{IsUtf8-append}
 use Rattle.std.specs.Str.{IsUtf8}
 use Rattle.bz_symq.proofs.piece.put_str.Goals as goal
 
 pub returns-clause-text : goal.returns-clause-text
-returns-clause-text c = grind (arith, common_steps)
+returns-clause-text c = search rules
 
 -- both texts are UTF-8
 pub returns-clause-utf8 : goal.returns-clause-utf8
