@@ -7,6 +7,7 @@ use Rattle.bz_lines.specs.Fields.{AreFields, fields}
 use Rattle.bz_lines.specs.Lines.{Agrees}
 use Rattle.bz_lines.proofs.AddressLemmas.{address_found, address_again}
 use Rattle.bz_lines.proofs.FieldLemmas.{are_fields, fields_are}
+use Rattle.bz_lines.proofs.OptionLemmas.{map_some, then_some}
 use Rattle.bz_store.specs.Frames.{Frame}
 use Rattle.bz_frames.specs.FrameLines.{IsFrame, frame_at, frame_by, frame_in, text_in}
 
@@ -31,16 +32,6 @@ text_found field text read = by_test (is_utf8 field) refl read
     by_test true is from =
         let same : field ≡ text = cc in
         (same, subst IsUtf8 same (IsUtf8-from_is_utf8 field is))
-
--- what is made of a value is made of some value
-map_some : {A B : Type 0} (f : A → B) (o : Option A) (y : B) → option_map f o ≡ Some y → (x : A) × (o ≡ Some x) × (f x ≡ y)
-map_some f None y is = cc
-map_some f (Some x) y is = let same : f x ≡ y = cc in (x, refl, same)
-
--- what comes of a value comes of some value
-then_some : {A B : Type 0} (f : A → Option B) (o : Option A) (y : B) → option_and_then f o ≡ Some y → (x : A) × (o ≡ Some x) × (f x ≡ Some y)
-then_some f None y is = cc
-then_some f (Some x) y is = (x, refl, is)
 
 -- what fields spell, for fields of any text
 record Spell (all : List (List ℕ)) (frame : Frame) : Type 0 where

@@ -1,3 +1,4 @@
 pub mod AddressLemmas
 pub mod FieldLemmas
 pub mod LineGrammarLemmas
+pub mod OptionLemmas

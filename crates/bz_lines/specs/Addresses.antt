@@ -1,5 +1,5 @@
 -- Addresses as a text spells them, and lines of them.
-use Rattle.std.specs.Prelude.{◌≡◌, ◌⊎◌, ℕ, nat_eq, List, ◌++◌, drop, codes, Option, Result, if◌then◌else◌}
+use Rattle.std.specs.Prelude.{◌≡◌, ◌⊎◌, ℕ, nat_eq, List, [], ◌∷◌, ◌++◌, drop, codes, Option, Some, Result, option_map, option_and_then, if◌then◌else◌}
 use Rattle.std.specs.List.{starts_with}
 use Rattle.bz_base.specs.Number.{IsHex, hex_at, whole}
 use Rattle.bz_lines.specs.Lines.{AreItems, items_in}
@@ -21,6 +21,11 @@ digits_in text = if starts_with nat_eq text (codes "0x") then drop 2 text else t
 -- the address that the text spells
 abbrev pub address_in : List ℕ → Option ℕ
 address_in text = whole (hex_at 16 (digits_in text))
+
+-- the addresses that fields spell, each of them
+abbrev pub each_address_in : List (List ℕ) → Option (List ℕ)
+each_address_in [] = Some []
+each_address_in (field ∷ others) = option_and_then (λ addr. option_map (λ addrs. addr ∷ addrs) (each_address_in others)) (address_in field)
 
 -- the addresses of the text, or the number of its first bad line
 abbrev pub addresses_in : List ℕ → Result (List ℕ) ℕ

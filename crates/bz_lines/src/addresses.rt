@@ -1,7 +1,7 @@
 //! Addresses, one on each line.
 
-ghost use Rattle.std.specs.Prelude.{◌≡◌, ℕ};
-ghost use Rattle.bz_lines.specs.Addresses.{address_in};
+ghost use Rattle.std.specs.Prelude.{◌≡◌, ℕ, map, option_map, IfOk};
+ghost use Rattle.bz_lines.specs.Addresses.{address_in, each_address_in};
 
 use crate::lines::FromLine;
 use bz_base::whole_hex;
@@ -18,6 +18,20 @@ pub fn address(text: &[u8]) -> Option<u64>
         text
     };
     whole_hex(digits, 16)
+}
+
+/// The addresses that texts spell, if each of them spells one.
+pub fn each_address(alloc: Global, texts: &[&[u8]]) -> Result<Option<Vec<u64>>, AllocError>
+    ensures { IfOk result (λ addrs. option_map (λ all. all.items) addrs ≡ each_address_in (map (λ text. text.now) texts.now)) }
+{
+    let mut all = Vec::with_capacity(alloc, texts.len())?;
+    for text in texts {
+        let Some(addr) = address(text) else {
+            return Ok(None);
+        };
+        all.push(addr)?;
+    }
+    Ok(Some(all))
 }
 
 impl FromLine for u64 {

@@ -6,6 +6,6 @@ mod field;
 pub mod laws;
 mod lines;
 
-pub use addresses::address;
+pub use addresses::{address, each_address};
 pub use field::fields;
 pub use lines::{BadInput, FromLine, read_lines};

@@ -1,28 +1,19 @@
 -- The request that is read of a text is the one that it spells.
-use Rattle.std.proofs.Common.{◌≡◌, ℕ, Bool, true, false, ◌&&◌, nat_lt, cond, List, [], ◌∷◌, length, codes, Option, Some, None, option_map, option_and_then, bytes_eq, refl, sym, ap, subst, ◌∙◌}
+use Rattle.std.proofs.Common.{◌≡◌, ℕ, Bool, true, false, ◌&&◌, nat_lt, cond, List, [], ◌∷◌, length, codes, Some, None, option_map, bytes_eq, refl, sym, ap, subst, ◌∙◌}
 use Rattle.std.specs.List.{AllZip}
 use Rattle.std.specs.Str.{is_utf8}
 use Rattle.std.proofs.lemmas.Bool.{and_parts, cond_both, ltb-true}
 use Rattle.std.proofs.lemmas.Slice.Eq.{bytes_eq-Decides}
 use Rattle.std.proofs.lemmas.Str.{IsUtf8-from_is_utf8}
 use Rattle.bz_base.proofs.NumberLemmas.{decimal_whole_found, decimal_whole_again}
-use Rattle.bz_lines.specs.Addresses.{IsAddress, address_in}
+use Rattle.bz_lines.specs.Addresses.{IsAddress, address_in, each_address_in}
 use Rattle.bz_lines.specs.Fields.{fields}
 use Rattle.bz_lines.specs.Lines.{Agrees}
-use Rattle.bz_lines.proofs.AddressLemmas.{address_found, address_again}
+use Rattle.bz_lines.proofs.AddressLemmas.{address_found, address_again, addresses_found, addresses_again}
 use Rattle.bz_lines.proofs.FieldLemmas.{are_fields, fields_are}
-use Rattle.bz_requests.specs.Requests.{Target, Breakpad, Gsym, Elf, Process, Request, Batch, Single, CacheElf, CacheProcess, EvictElf, EvictProcess, IsPath, IsTarget, IsRequest, Spell, path_in, pid_in, target_in, each_address_in, batch_in, single_in, cache_in, evict_in, other_in, request_by, request_in}
+use Rattle.bz_lines.proofs.OptionLemmas.{map_some, then_some}
+use Rattle.bz_requests.specs.Requests.{Target, Breakpad, Gsym, Elf, Process, Request, Batch, Single, CacheElf, CacheProcess, EvictElf, EvictProcess, IsPath, IsTarget, IsRequest, Spell, path_in, pid_in, target_in, batch_in, single_in, cache_in, evict_in, other_in, request_by, request_in}
 use Rattle.bz_requests.proofs.ReadingLemmas.{path_some}
-
--- what is made of a value is made of some value
-map_some : {A B : Type 0} (f : A → B) (o : Option A) (y : B) → option_map f o ≡ Some y → (x : A) × (o ≡ Some x) × (f x ≡ y)
-map_some f None y is = cc
-map_some f (Some x) y is = let same : f x ≡ y = cc in (x, refl, same)
-
--- what comes of a value comes of some value
-then_some : {A B : Type 0} (f : A → Option B) (o : Option A) (y : B) → option_and_then f o ≡ Some y → (x : A) × (o ≡ Some x) × (f x ≡ Some y)
-then_some f None y is = cc
-then_some f (Some x) y is = (x, refl, is)
 
 -- a text that is tested to be a word is the word
 is_word : (text word : List ℕ) → bytes_eq text word ≡ true → text ≡ word
@@ -55,17 +46,6 @@ target_found kind field target =
     (λ is read. let pid = map_some (λ pid. Process pid) (pid_in field) target read in
     subst (IsTarget kind field) pid.2 (is_word kind (codes "process") is, decimal_whole_found 10 4294967295 field pid.0 pid.1))
     (λ other read. cc))))
-
-addresses_found : (texts : List (List ℕ)) (addrs : List ℕ) → each_address_in texts ≡ Some addrs → AllZip IsAddress texts addrs
-addresses_found [] [] read = tt
-addresses_found [] (addr ∷ addrs) read = cc
-addresses_found (text ∷ texts) addrs read = by_parts (addresses_found texts) addrs read
-  where
-    by_parts : ((rest : List ℕ) → each_address_in texts ≡ Some rest → AllZip IsAddress texts rest) → (all : List ℕ) → each_address_in (text ∷ texts) ≡ Some all → AllZip IsAddress (text ∷ texts) all
-    by_parts more all from =
-        let first = then_some (λ addr. option_map (λ addrs. addr ∷ addrs) (each_address_in texts)) (address_in text) all from in
-        let others = map_some (λ addrs. first.0 ∷ addrs) (each_address_in texts) all first.2 in
-        subst (AllZip IsAddress (text ∷ texts)) others.2 (address_found text first.0 first.1, more others.0 others.1)
 
 batch_found : (kind field : List ℕ) (others : List (List ℕ)) (request : Request) → batch_in kind field others ≡ Some request → Spell (kind ∷ field ∷ others) request
 batch_found kind field others request read =
@@ -148,12 +128,6 @@ target_again kind field (Gsym path) (is, spelled) = ap (λ k. target_in k field)
 target_again kind field (Elf path) (is, spelled) = ap (λ k. target_in k field) is ∙ ap (option_map (λ path. Elf path)) (path_again field path spelled)
 target_again kind field (Process pid) (is, spelled) =
     ap (λ k. target_in k field) is ∙ ap (option_map (λ pid. Process pid)) (decimal_whole_again 10 4294967295 field pid spelled)
-
-addresses_again : (texts : List (List ℕ)) (addrs : List ℕ) → AllZip IsAddress texts addrs → each_address_in texts ≡ Some addrs
-addresses_again [] [] each = refl
-addresses_again [] (addr ∷ addrs) each = absurd each
-addresses_again (text ∷ texts) [] each = absurd each
-addresses_again (text ∷ texts) (addr ∷ addrs) each = rw (address_again text addr each.0, addresses_again texts addrs each.1) refl
 
 batch_again : (kind field : List ℕ) (others : List (List ℕ)) (target : Target) (addrs : List ℕ) → IsTarget kind field target → AllZip IsAddress others addrs →
     batch_in kind field others ≡ Some (Batch target addrs)

@@ -4,7 +4,7 @@ use Rattle.std.specs.List.{AllZip}
 use Rattle.std.specs.Str.{IsUtf8, is_utf8}
 use Rattle.bz_base.specs.InputKind.{AddressKind, InFile, InProcess, InTable}
 use Rattle.bz_base.specs.Number.{IsDecimal, decimal_at, whole}
-use Rattle.bz_lines.specs.Addresses.{IsAddress, address_in}
+use Rattle.bz_lines.specs.Addresses.{IsAddress, address_in, each_address_in}
 use Rattle.bz_lines.specs.Fields.{AreFields, fields}
 use Rattle.bz_lines.specs.Lines.{AreItems, items_in}
 use Rattle.bz_requests.specs.declared.requests.Request as made_request
@@ -106,11 +106,6 @@ target_in kind field =
     else (if bytes_eq kind (codes "gsym") then option_map (λ path. Gsym path) (path_in field)
     else (if bytes_eq kind (codes "elf") then option_map (λ path. Elf path) (path_in field)
     else (if bytes_eq kind (codes "process") then option_map (λ pid. Process pid) (pid_in field) else None)))
-
--- addresses, each of them well formed
-abbrev pub each_address_in : List (List ℕ) → Option (List ℕ)
-each_address_in [] = Some []
-each_address_in (field ∷ others) = option_and_then (λ addr. option_map (λ addrs. addr ∷ addrs) (each_address_in others)) (address_in field)
 
 abbrev pub batch_in : List ℕ → List ℕ → List (List ℕ) → Option Request
 batch_in kind field others = option_and_then (λ target. option_map (λ addrs. Batch target addrs) (each_address_in others)) (target_in kind field)

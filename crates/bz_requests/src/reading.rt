@@ -1,11 +1,11 @@
 //! The requests that lines spell.
 
 ghost use Rattle.std.specs.Prelude.{◌≡◌, ◌∷◌, ℕ, Ok, Err, Some, None, bytes_eq, map, option_map, string_bytes, IfOk, IsErrOf};
-ghost use Rattle.bz_requests.specs.Requests.{batch_in, cache_in, each_address_in, evict_in, other_in, path_in, pid_in, request_by, request_in, request_of, requests_in, single_in, target_in, target_of};
+ghost use Rattle.bz_requests.specs.Requests.{batch_in, cache_in, evict_in, other_in, path_in, pid_in, request_by, request_in, request_of, requests_in, single_in, target_in, target_of};
 
 use crate::requests::{Request, Target};
 use bz_base::whole_decimal;
-use bz_lines::{BadInput, FromLine, address, fields, read_lines};
+use bz_lines::{BadInput, FromLine, address, each_address, fields, read_lines};
 use std::alloc::{AllocError, Global};
 
 /// The requests that the lines of the input say: one on each line, or none where it is empty.
@@ -141,23 +141,10 @@ fn batch(
     let Some(target) = named_target(alloc, kind, text)? else {
         return Ok(None);
     };
-    match addresses(alloc, addrs)? {
+    match each_address(alloc, addrs)? {
         Some(addrs) => Ok(Some(Request::Batch(target, addrs))),
         None => Ok(None),
     }
-}
-
-fn addresses(alloc: Global, texts: &[&[u8]]) -> Result<Option<Vec<u64>>, AllocError>
-    ensures { IfOk result (λ addrs. option_map (λ all. all.items) addrs ≡ each_address_in (map (λ field. field.now) texts.now)) }
-{
-    let mut all = Vec::with_capacity(alloc, texts.len())?;
-    for text in texts {
-        let Some(addr) = address(text) else {
-            return Ok(None);
-        };
-        all.push(addr)?;
-    }
-    Ok(Some(all))
 }
 
 fn named_target(alloc: Global, kind: &[u8], text: &[u8]) -> Result<Option<Target>, AllocError>

@@ -2,20 +2,11 @@
 use Rattle.std.proofs.Common.{◌≡◌, ℕ, ◌≤◌, Bool, true, false, cond, nat_le, List, [], ◌∷◌, codes, Option, Some, None, option_map, option_and_then, bytes_eq, unwrap_or, refl, subst, arith}
 use Rattle.std.proofs.lemmas.Bool.{cond_both}
 use Rattle.bz_base.proofs.NumberLemmas.{decimal_whole_found}
+use Rattle.bz_lines.proofs.OptionLemmas.{map_some, then_some}
 use Rattle.clap.specs.Words.{Row, Text, all_of, first_of}
 use Rattle.bz_words.specs.Command.{Batch, Canonical, Command, Converted, Frames, Generate, Job, Make, Serve, Stacks, batch_in, command_by, command_in, command_read, config_in, generate_in, is_source, job_by, job_by_rows, job_in, kind_for, number_in, numbers_in, on_path_in, path_job, serve_in, some_in, target_in, unless_faulty}
 use Rattle.bz_words.specs.Definition.{faults, rows}
 use Rattle.bz_run.specs.Generated.{HasSmallNumbers}
-
--- what is made of a value is made of some value
-map_some : {A B : Type 0} (f : A → B) (o : Option A) (y : B) → option_map f o ≡ Some y → (x : A) × (o ≡ Some x) × (f x ≡ y)
-map_some f None y is = cc
-map_some f (Some x) y is = let same : f x ≡ y = cc in (x, refl, same)
-
--- what comes of a value comes of some value
-then_some : {A B : Type 0} (f : A → Option B) (o : Option A) (y : B) → option_and_then f o ≡ Some y → (x : A) × (o ≡ Some x) × (f x ≡ Some y)
-then_some f None y is = cc
-then_some f (Some x) y is = (x, refl, is)
 
 if_some : (b : Bool) (m n : ℕ) → cond b (Some m) None ≡ Some n → m ≡ n
 if_some true m n is = cc

@@ -2,23 +2,14 @@
 use Rattle.std.proofs.Common.{Bor, map, ◌≡◌, ℕ, ◌<◌, List, [], ◌∷◌, ◌++◌, length, Option, Some, None, option_map, option_and_then, refl, ap, subst, ◌∙◌, arith}
 use Rattle.std.specs.List.{AllZip}
 use Rattle.bz_base.proofs.NumberLemmas.{decimal_whole_found, decimal_whole_again}
-use Rattle.bz_lines.specs.Addresses.{IsAddress, address_in}
+use Rattle.bz_lines.specs.Addresses.{IsAddress, address_in, each_address_in}
 use Rattle.bz_lines.specs.Fields.{AreFields, fields}
 use Rattle.bz_lines.specs.Lines.{Agrees}
 use Rattle.bz_lines.proofs.AddressLemmas.{address_found, address_again}
 use Rattle.bz_lines.proofs.FieldLemmas.{are_fields, fields_are}
+use Rattle.bz_lines.proofs.OptionLemmas.{map_some, then_some}
 use Rattle.bz_stacks.specs.Stack.{Taken}
-use Rattle.bz_stacks.specs.Spelling.{IsCount, IsStack, count_in, counted_in, each_in, stack_by, stack_in, taken_by, with_addr}
-
--- what is made of a value is made of some value
-map_some : {A B : Type 0} (f : A → B) (o : Option A) (y : B) → option_map f o ≡ Some y → (x : A) × (o ≡ Some x) × (f x ≡ y)
-map_some f None y is = cc
-map_some f (Some x) y is = let same : f x ≡ y = cc in (x, refl, same)
-
--- what comes of a value comes of some value
-then_some : {A B : Type 0} (f : A → Option B) (o : Option A) (y : B) → option_and_then f o ≡ Some y → (x : A) × (o ≡ Some x) × (f x ≡ Some y)
-then_some f None y is = cc
-then_some f (Some x) y is = (x, refl, is)
+use Rattle.bz_stacks.specs.Spelling.{IsCount, IsStack, count_in, counted_in, stack_by, stack_in, taken_by, with_addr}
 
 -- fields are addresses and then a count
 record IsCounted (all : List (List ℕ)) (stack : Taken) : Type 0 where
@@ -92,12 +83,12 @@ one_more_read (Some a) None count = refl
 one_more_read (Some a) (Some all) None = refl
 one_more_read (Some a) (Some all) (Some number) = refl
 
-counted_by : (front : List (List ℕ)) (last : List ℕ) → counted_in (front ++ last ∷ []) ≡ taken_by (each_in front) (count_in last)
+counted_by : (front : List (List ℕ)) (last : List ℕ) → counted_in (front ++ last ∷ []) ≡ taken_by (each_address_in front) (count_in last)
 counted_by [] last = refl
 counted_by (field ∷ []) last = one_more_read (address_in field) (Some []) (count_in last)
 counted_by (field ∷ next ∷ front) last =
     ap (λ read. option_and_then (λ addr. option_map (with_addr addr) read) (address_in field)) (counted_by (next ∷ front) last)
-    ∙ one_more_read (address_in field) (each_in (next ∷ front)) (count_in last)
+    ∙ one_more_read (address_in field) (each_address_in (next ∷ front)) (count_in last)
 
 last_behind : (front : List (Bor (List ℕ))) (last : Bor (List ℕ)) → map (λ field. field.now) (front ++ last ∷ []) ≡ map (λ field. field.now) front ++ last.now ∷ []
 last_behind [] last = refl
@@ -108,7 +99,7 @@ as_long [] some = absurd (omega (arith, some))
 as_long (field ∷ front) some = omega arith
 
 -- the last field is the count, and those before it the addresses
-pub by_last : (all front : List (Bor (List ℕ))) (last : Bor (List ℕ)) → all ≡ front ++ last ∷ [] → 0 < length front → stack_by (map (λ field. field.now) all) ≡ taken_by (each_in (map (λ field. field.now) front)) (count_in last.now)
+pub by_last : (all front : List (Bor (List ℕ))) (last : Bor (List ℕ)) → all ≡ front ++ last ∷ [] → 0 < length front → stack_by (map (λ field. field.now) all) ≡ taken_by (each_address_in (map (λ field. field.now) front)) (count_in last.now)
 by_last all front last is some =
     ap (λ l. stack_by (map (λ field. field.now) l)) is
     ∙ ap stack_by (last_behind front last)

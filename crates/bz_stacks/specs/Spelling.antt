@@ -38,11 +38,6 @@ counted_in [] = None
 counted_in (last ∷ []) = option_map (λ count. record { addrs = []; count = count }) (count_in last)
 counted_in (field ∷ next ∷ others) = option_and_then (λ addr. option_map (with_addr addr) (counted_in (next ∷ others))) (address_in field)
 
--- the addresses that fields are
-abbrev pub each_in : List (List ℕ) → Option (List ℕ)
-each_in [] = Some []
-each_in (field ∷ others) = option_and_then (λ addr. option_map (λ addrs. addr ∷ addrs) (each_in others)) (address_in field)
-
 -- a stack of addresses and a count that were read
 abbrev pub taken_by : Option (List ℕ) → Option ℕ → Option Taken
 taken_by addrs count = option_and_then (λ all. option_map (λ number. record { addrs = all; count = number }) count) addrs

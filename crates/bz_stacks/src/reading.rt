@@ -1,13 +1,14 @@
 //! The stacks that lines spell.
 
-ghost use Rattle.std.specs.Prelude.{◌≡◌, ℕ, Ok, Err, map, option_map, IfOk, IsErrOf};
-ghost use Rattle.bz_stacks.specs.Spelling.{count_in, each_in, stack_by, stack_in, stacks_in, taken_by};
+ghost use Rattle.std.specs.Prelude.{◌≡◌, ℕ, Ok, Err, map, IfOk, IsErrOf};
+ghost use Rattle.bz_lines.specs.Addresses.{each_address_in};
+ghost use Rattle.bz_stacks.specs.Spelling.{count_in, stack_by, stack_in, stacks_in, taken_by};
 ghost use Rattle.bz_stacks.specs.Stack.{Taken};
 
 use crate::error::StackError;
 use crate::stack::Stack;
 use bz_base::whole_decimal;
-use bz_lines::{BadInput, FromLine, address, fields, read_lines};
+use bz_lines::{BadInput, FromLine, each_address, fields, read_lines};
 use std::alloc::{AllocError, Global};
 
 /// The stacks that the lines of the input say: one on each line, or none where it is empty. A line is
@@ -58,28 +59,15 @@ fn stack_of_fields(alloc: Global, fields: &[&[u8]]) -> Result<Option<Stack>, All
 
 // The stack of addresses and a count.
 fn counted_stack(alloc: Global, front: &[&[u8]], last: &[u8]) -> Result<Option<Stack>, AllocError>
-    ensures { IfOk result (λ stack. stack ≡ taken_by (each_in (map (λ field. field.now) front.now)) (count_in last.now)) }
+    ensures { IfOk result (λ stack. stack ≡ taken_by (each_address_in (map (λ field. field.now) front.now)) (count_in last.now)) }
 {
-    let Some(addrs) = addresses(alloc, front)? else {
+    let Some(addrs) = each_address(alloc, front)? else {
         return Ok(None);
     };
     match count(last) {
         Some(count) => Ok(Some(Stack::new(addrs, count))),
         None => Ok(None),
     }
-}
-
-fn addresses(alloc: Global, texts: &[&[u8]]) -> Result<Option<Vec<u64>>, AllocError>
-    ensures { IfOk result (λ addrs. option_map (λ all. all.items) addrs ≡ each_in (map (λ field. field.now) texts.now)) }
-{
-    let mut all = Vec::with_capacity(alloc, texts.len())?;
-    for text in texts {
-        let Some(addr) = address(text) else {
-            return Ok(None);
-        };
-        all.push(addr)?;
-    }
-    Ok(Some(all))
 }
 
 fn count(text: &[u8]) -> Option<u32>
