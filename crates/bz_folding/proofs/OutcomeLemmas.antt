@@ -5,40 +5,26 @@ use Rattle.bz_base.specs.Answer.{Answer}
 use Rattle.bz_base.specs.InputKind.{InFile}
 use Rattle.bz_base.specs.declared.error.Error.{Error}
 use Rattle.bz_files.specs.World.{World, entry_at}
-use Rattle.bz_lines.proofs.LineGrammarLemmas.{items_found, items_again, first_bad_found, first_bad_again}
+use Rattle.bz_lines.proofs.LineGrammarLemmas.{items_again}
 use Rattle.bz_requests.specs.declared.requests.Config.{Config}
 use Rattle.bz_stacks.specs.Spelling.{IsStack, stack_in, stacks_in}
 use Rattle.bz_stacks.specs.Stack.{Taken}
 use Rattle.bz_stacks.proofs.SpellingLemmas.{stack_agrees}
 use Rattle.bz_symq.specs.Command.{Asking, Breakpad, of_file}
-use Rattle.bz_symq.specs.InputText.{greatest_input}
+use Rattle.bz_symq.specs.InputText.{AsksFor, IsBadInput, greatest_input}
 use Rattle.bz_symq.specs.Outcome.{Outcome}
 use Rattle.bz_symq.specs.Run.{Ends}
 use Rattle.bz_symq.specs.Targets.{IsCause, IsFileCause, IsRefusalOf}
 use Rattle.bz_symq.specs.declared.status.Status.TheVariants as statuses
+use Rattle.bz_symq.proofs.InputTextLemmas.{asks_from_read, bad_from_read}
 use Rattle.bz_symq.proofs.TargetLemmas.{answers_found, answers_given, cause_found, refusal_given}
 use Rattle.bz_stacks.specs.Fold.{addrs_of}
 use Rattle.bz_folding.specs.StackOutcome.{answers_in, by_length, by_stacks, by_text, folded_by, stacks_outcome}
-use Rattle.bz_folding.specs.StackRun.{AsksFor, IsBadInput, IsFoldable, IsFolded, IsRefusable, IsRefused}
+use Rattle.bz_folding.specs.StackRun.{IsFoldable, IsFolded, IsRefusable, IsRefused}
 
 -- the Breakpad file at a path is asked for offsets in it
 abbrev asking_of : List ℕ → Config → Asking
 asking_of path config = of_file (Breakpad path) InFile config
-
-module _ (input : List ℕ) (short : length input ≤ greatest_input) where
-  -- an input that isn't read as stacks is a bad one
-  pub bad_from_read : (read : Result (List Taken) ℕ) → stacks_in input ≡ read → IsErr read → IsBadInput input
-  bad_from_read (Ok stacks) is bad = cc
-  bad_from_read (Err n) is bad = inr (n, first_bad_found stack_in IsStack stack_agrees input n is)
-
-  -- and only such an input
-  pub err_from_bad : IsBadInput input → IsErr (stacks_in input)
-  err_from_bad (inl long) = absurd (omega arith)
-  err_from_bad (inr (n, bad)) = rw (first_bad_again stack_in IsStack stack_agrees input n bad) refl
-
-  -- the stacks that are read are asked for
-  pub asks_from_read : (stacks : List Taken) → stacks_in input ≡ Ok stacks → AsksFor input stacks
-  asks_from_read stacks read = record { short = short; stacks_are = items_found stack_in IsStack stack_agrees input stacks read }
 
 -- an answer by which a run is done is Ok, and one by which it is refused is a refusal
 ok_from_done : (stacks : List Taken) (answer : Result (List Answer) Error) → (by_text (folded_by stacks answer)).status ≡ statuses.Done → (answers : List Answer) × (answer ≡ Ok answers)
@@ -53,16 +39,16 @@ module _ (path : List ℕ) (config : Config) (input : List ℕ) (world : World) 
   -- what a run that asks its file knows
   record IsAsking : Type 0 where
     stacks : List Taken
-    asks : AsksFor input stacks
+    asks : AsksFor IsStack input stacks
     ends : stacks_outcome path config input world ≡ by_text (folded_by stacks (answers_in path config world stacks))
 
   -- a run asks its file, or its input is bad and is named
   abbrev IsSorted : Type 0
-  IsSorted = IsAsking ⊎ (IsBadInput input × ((stacks_outcome path config input world).status ≡ statuses.Input))
+  IsSorted = IsAsking ⊎ (IsBadInput IsStack input × ((stacks_outcome path config input world).status ≡ statuses.Input))
 
   sorted_read : length input ≤ greatest_input → ltb greatest_input (length input) ≡ false → (read : Result (List Taken) ℕ) → stacks_in input ≡ read → IsSorted
-  sorted_read short fits (Ok stacks) is = inl (record { stacks = stacks; asks = asks_from_read input short stacks is; ends = rw (fits, is) refl })
-  sorted_read short fits (Err n) is = inr (bad_from_read input short (Err n) is refl, rw (fits, is) refl)
+  sorted_read short fits (Ok stacks) is = inl (record { stacks = stacks; asks = asks_from_read stack_in IsStack stack_agrees input short stacks is; ends = rw (fits, is) refl })
+  sorted_read short fits (Err n) is = inr (bad_from_read stack_in IsStack stack_agrees input (Err n) is refl, rw (fits, is) refl)
 
   sorted_long : (long : Bool) → ltb greatest_input (length input) ≡ long → IsSorted
   sorted_long true is = inr (inl (ltb-true _ _ is), rw is refl)
@@ -72,8 +58,8 @@ module _ (path : List ℕ) (config : Config) (input : List ℕ) (world : World) 
   sorted = sorted_long (ltb greatest_input (length input)) refl
 
   -- stacks are folded by the answer of the file
-  asked_outcome : (stacks : List Taken) → AsksFor input stacks → stacks_outcome path config input world ≡ by_text (folded_by stacks (answers_in path config world stacks))
-  asked_outcome stacks asks = rw (le-ltb _ _ asks.short, items_again stack_in IsStack stack_agrees input stacks asks.stacks_are) refl
+  asked_outcome : (stacks : List Taken) → AsksFor IsStack input stacks → stacks_outcome path config input world ≡ by_text (folded_by stacks (answers_in path config world stacks))
+  asked_outcome stacks asks = rw (le-ltb _ _ asks.short, items_again stack_in IsStack stack_agrees input stacks asks.items_are) refl
 
   -- the answers of a run that is done
   done_known : (known : IsAsking) → (stacks_outcome path config input world).status ≡ statuses.Done → (answers : List Answer) × (answers_in path config world known.stacks ≡ Ok answers)

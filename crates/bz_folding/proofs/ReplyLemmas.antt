@@ -1,24 +1,27 @@
 -- What the reply to an input of stacks is.
-use Rattle.std.proofs.Common.{◌≡◌, ◌≢◌, ◌↔◌, ℕ, ◌<◌, ◌≤◌, List, length, Option, Result, Ok, Err, IfOk, IsErr, refl, ap, subst, inl, inr}
-use Rattle.std.proofs.lemmas.Bool.{false≢true, le-ltb, lt-ltb}
+use Rattle.std.proofs.Common.{◌≡◌, ◌≢◌, ◌↔◌, ℕ, ◌<◌, ◌≤◌, List, length, Option, Result, Ok, Err, IfOk, IsErrOf, refl, ap, subst, inl}
+use Rattle.std.proofs.lemmas.Bool.{le-ltb, lt-ltb}
 use Rattle.bz_base.specs.declared.error.Error.{Error}
 use Rattle.bz_base.specs.declared.error.Error.TheVariants as errors
 use Rattle.bz_cache.specs.Format.{FailsAs}
 use Rattle.bz_files.specs.World.{World, Told}
 use Rattle.bz_requests.specs.declared.requests.Config.{Config}
-use Rattle.bz_stacks.specs.Spelling.{stacks_in}
+use Rattle.bz_stacks.specs.Spelling.{IsStack, stack_in, stacks_in}
 use Rattle.bz_stacks.specs.Stack.{Taken}
-use Rattle.bz_symq.specs.InputText.{greatest_input}
+use Rattle.bz_stacks.proofs.SpellingLemmas.{stack_agrees}
+use Rattle.bz_symq.proofs.InputTextLemmas.{asks_from_read, bad_from_read, err_from_bad}
+use Rattle.bz_symq.proofs.ReplyLemmas.{input_iff, never_usage, no_failure_from}
+use Rattle.bz_symq.specs.InputText.{IsBadInput, greatest_input}
 use Rattle.bz_symq.specs.Outcome.{Outcome, too_long}
-use Rattle.bz_symq.specs.Reply.{Replies, RepliesTo, outcome_of}
+use Rattle.bz_symq.specs.Reply.{IsInputStatus, Replies, RepliesTo, RepliesUnread, outcome_of}
 use Rattle.bz_symq.specs.Run.{IsNoFailure}
+use Rattle.bz_symq.specs.declared.input.ReadStop.{ReadStop}
+use Rattle.bz_symq.specs.declared.input.ReadStop.TheVariants as stops
 use Rattle.bz_symq.specs.declared.reply.Reply.{Reply}
 use Rattle.bz_symq.specs.declared.status.Status.{Status}
 use Rattle.bz_symq.specs.declared.status.Status.TheVariants as statuses
 use Rattle.bz_folding.specs.StackOutcome.{by_stacks, by_text, stacks_outcome}
-use Rattle.bz_folding.specs.StackReply.{IsInputReply, IsInputStatus, IsRunReply, RepliesToStacks}
-use Rattle.bz_folding.specs.StackRun.{IsBadInput}
-use Rattle.bz_folding.proofs.OutcomeLemmas.{asks_from_read, bad_from_read, err_from_bad}
+use Rattle.bz_folding.specs.StackReply.{IsInputReply, IsRunReply, RepliesToStacks}
 
 -- where folding was refused, the reply to the refusal is the reply to the stacks
 pub replies_refused : (expected : Result (List ℕ) Error) (error : Error) (result : Result Reply Error) → FailsAs expected error → RepliesTo error result → Replies (by_text expected) result
@@ -27,40 +30,19 @@ replies_refused expected errors.OutOfMemory result comes is = rw is tt
 replies_refused expected _ (Ok reply) comes is = rw comes is
 replies_refused expected _ (Err e) comes is = rw is tt
 
--- what holds holds wherever a reply is given
-pub given_always : {A B : Type 0} {P : Type 0} (result : Result A B) → P → IfOk result (λ _. P)
-given_always (Ok given) holds = holds
-given_always (Err e) holds = tt
-
--- the status of a reply to an input is no failure
-no_failure_from : (read : Result (List Taken) ℕ) (status : Status) → IsInputStatus read status → IsNoFailure status
-no_failure_from (Err n) status is = (λ other. cc, λ other. cc)
-no_failure_from (Ok stacks) status (inl is) = (λ other. cc, λ other. cc)
-no_failure_from (Ok stacks) status (inr is) = (λ other. cc, λ other. cc)
-
--- and not that of words that give no command
-never_usage : (read : Result (List Taken) ℕ) (status : Status) → IsInputStatus read status → status ≢ statuses.Usage
-never_usage (Err n) status is other = cc
-never_usage (Ok stacks) status (inl is) other = cc
-never_usage (Ok stacks) status (inr is) other = cc
-
--- and that of a bad input exactly where the input isn't read
-input_iff : (read : Result (List Taken) ℕ) (status : Status) → IsInputStatus read status → (status ≡ statuses.Input) ↔ IsErr read
-input_iff (Err n) status is = (λ _. refl, λ _. is)
-input_iff (Ok stacks) status (inl is) = (λ other. cc, λ err. absurd (false≢true err))
-input_iff (Ok stacks) status (inr is) = (λ other. cc, λ err. absurd (false≢true err))
-
 module _ (path : List ℕ) (config : Config) where
   module _ (input : List ℕ) (short : length input ≤ greatest_input) where
     -- the stacks that a reply folds are those that the run is asked for
     run_from_input : (reply : Reply) → IsInputReply config input reply → IsRunReply config input reply
-    run_from_input reply answered done = let given = answered done in (given.0, asks_from_read input short given.0 given.1, given.2)
+    run_from_input reply answered done = let given = answered done in (given.0, asks_from_read stack_in IsStack stack_agrees input short given.0 given.1, given.2)
 
     -- a reply's status is that of a bad input exactly where the input is one
-    bad_iff : (status : Status) → IsInputStatus (stacks_in input) status → (status ≡ statuses.Input) ↔ IsBadInput input
+    bad_iff : (status : Status) → IsInputStatus (stacks_in input) status → (status ≡ statuses.Input) ↔ IsBadInput IsStack input
     bad_iff status is =
-        let read = input_iff (stacks_in input) status is in
-        (λ at. bad_from_read input short (stacks_in input) refl (read.0 at), λ bad. read.1 (err_from_bad input short bad))
+        let read = input_iff (stacks_in input) status is in (
+          λ at. bad_from_read stack_in IsStack stack_agrees input (stacks_in input) refl (read.0 at),
+          λ bad. read.1 (err_from_bad stack_in IsStack stack_agrees input short bad),
+        )
 
     -- an input that isn't too long is replied to by what is read of it
     outcome_read : (text : List ℕ) (world : World) → input ≡ text → by_stacks path config world (stacks_in input) ≡ stacks_outcome path config text world
@@ -98,6 +80,10 @@ module _ (path : List ℕ) (config : Config) where
         input = λ text told. (λ _. inl (long text told), λ _. status);
       }
 
--- a run whose input is too long isn't done
-pub never_done : (reply : Reply) → outcome_of reply ≡ too_long → reply.status ≡ statuses.Done → ⊥
-never_done reply long done = let status : reply.status ≡ statuses.Input = ap (λ (o : Outcome). o.status) long in cc
+  -- and to one that wasn't read for another reason
+  pub reply_from_unread : {A : Type 0} (left : Option (List ℕ)) (seen : Option World) (stop : ReadStop) (result : Result Reply Error) → RepliesUnread stop result →
+      Told left (λ text. IsErrOf {T = A} (Err stop) stops.TooLong → greatest_input < length text) → RepliesToStacks path config left seen result
+  reply_from_unread left seen stops.TooLong (Ok reply) is long = reply_from_long left seen reply (λ text told. long text told refl) is
+  reply_from_unread left seen stops.TooLong (Err e) is long = absurd is
+  reply_from_unread left seen stops.Fault result is long = rw is (record { reply = λ text told world sees. tt; answered = λ text told. tt; no_failure = tt; usage = tt; input = λ text told. tt })
+  reply_from_unread left seen stops.Memory result is long = rw is (record { reply = λ text told world sees. tt; answered = λ text told. tt; no_failure = tt; usage = tt; input = λ text told. tt })

@@ -6,11 +6,11 @@ use Rattle.bz_files.specs.World.{World, Told}
 use Rattle.bz_files.specs.declared.files.Files as files_trait
 use Rattle.bz_files.specs.declared.text.TextIn as input_trait
 use Rattle.bz_requests.specs.declared.requests.Config.{Config}
-use Rattle.bz_stacks.specs.Spelling.{stacks_in}
+use Rattle.bz_stacks.specs.Spelling.{IsStack, stacks_in}
 use Rattle.bz_stacks.specs.Stack.{Taken}
 use Rattle.bz_stacks.specs.Text.{folded_text}
 use Rattle.bz_symbolize.specs.Promise.{IsBreakpadBatch}
-use Rattle.bz_symq.specs.InputText.{MovesAtMost, greatest_input}
+use Rattle.bz_symq.specs.InputText.{AsksFor, IsBadInput, IsReadWhole, MovesAtMost, greatest_input}
 use Rattle.bz_symq.specs.Kept.{opts_in}
 use Rattle.bz_symq.specs.Reply.{Replies, text_of}
 use Rattle.bz_symq.specs.Run.{IsNoFailure}
@@ -19,7 +19,6 @@ use Rattle.bz_symq.specs.declared.status.Status.{Status}
 use Rattle.bz_symq.specs.declared.status.Status.TheVariants as statuses
 use Rattle.bz_stacks.specs.Fold.{addrs_of, seen_by}
 use Rattle.bz_folding.specs.StackOutcome.{stacks_outcome}
-use Rattle.bz_folding.specs.StackRun.{AsksFor, IsBadInput, IsReadWhole}
 
 -- the text is that of the stacks by the plain answers of some Breakpad file
 pub record IsSomeText (config : Config) (stacks : List Taken) (text : List ℕ) : Type 0 where
@@ -38,12 +37,7 @@ IsInputReply config input reply = reply.status ≡ statuses.Done → (stacks : L
 
 -- an input that isn't too long
 abbrev pub IsRunReply : Config → List ℕ → Reply → Type 0
-IsRunReply config input reply = reply.status ≡ statuses.Done → (stacks : List Taken) × AsksFor input stacks × IsSomeText config stacks (text_of reply.said)
-
--- the statuses of replies to what was read of an input: a line is no stack, or the stacks are folded or refused
-abbrev pub IsInputStatus : Result (List Taken) ℕ → Status → Type 0
-IsInputStatus (Err n) status = status ≡ statuses.Input
-IsInputStatus (Ok stacks) status = (status ≡ statuses.Done) ⊎ (status ≡ statuses.Refused)
+IsRunReply config input reply = reply.status ≡ statuses.Done → (stacks : List Taken) × AsksFor IsStack input stacks × IsSomeText config stacks (text_of reply.said)
 
 -- a reply to an input of stacks was to be made, with what is left of the input, and the world in view
 pub record RepliesToStacks (path : List ℕ) (config : Config) (left : Option (List ℕ)) (seen : Option World) (result : Result Reply Error) : Type 0 where
@@ -54,12 +48,12 @@ pub record RepliesToStacks (path : List ℕ) (config : Config) (left : Option (L
   pub no_failure : IfOk result (λ given. IsNoFailure given.status)
   -- status 2 is for words that give no command, and the input alone decides on status 3
   pub usage : IfOk result (λ given. given.status ≢ statuses.Usage)
-  pub input : Told left (λ text. IfOk result (λ given. (given.status ≡ statuses.Input) ↔ IsBadInput text))
+  pub input : Told left (λ text. IfOk result (λ given. (given.status ≡ statuses.Input) ↔ IsBadInput IsStack text))
 
 -- a reply was to be made: the input comes first, then the file
 pub record TakesTurns {R F : Type 0} (reads : input_trait.Ghosts R) (result : Result Reply Error) (input_before input_after : R) (files_before files_after : F) : Type 0 where
   -- for a bad input no file is looked at
-  pub unlooked : Told (reads.left input_before) (λ text. IsBadInput text → files_after ≡ files_before)
+  pub unlooked : Told (reads.left input_before) (λ text. IsBadInput IsStack text → files_after ≡ files_before)
   -- a reply that is given has read the input, and none reads on past the byte that makes it too long
   pub read : IfOk result (λ given. IsReadWhole (reads.left input_before) (reads.left input_after))
   pub bounded : MovesAtMost (greatest_input + 1) (reads.left input_before) (reads.left input_after)

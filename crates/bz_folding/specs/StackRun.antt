@@ -12,14 +12,13 @@ use Rattle.bz_files.specs.World.{World, Told, entry_at, in_view}
 use Rattle.bz_files.specs.declared.files.Files as files_trait
 use Rattle.bz_files.specs.declared.text.TextIn as input_trait
 use Rattle.bz_files.specs.declared.text.TextOut as output_trait
-use Rattle.bz_lines.specs.Lines.{HasBadLine}
 use Rattle.bz_requests.specs.declared.requests.Config.{Config}
-use Rattle.bz_stacks.specs.Spelling.{AreStacks, IsStack}
+use Rattle.bz_stacks.specs.Spelling.{IsStack}
 use Rattle.bz_stacks.specs.Stack.{Taken}
 use Rattle.bz_stacks.specs.Text.{folded_text}
 use Rattle.bz_symbolize.specs.Promise.{IsBreakpadBatch}
 use Rattle.bz_symq.specs.Command.{Breakpad}
-use Rattle.bz_symq.specs.InputText.{MovesAtMost, greatest_input, left_over}
+use Rattle.bz_symq.specs.InputText.{AsksFor, IsBadInput, IsReadWhole, MovesAtMost, greatest_input}
 use Rattle.bz_symq.specs.Kept.{opts_in}
 use Rattle.bz_symq.specs.Outcome.{refused}
 use Rattle.bz_symq.specs.Run.{Ends, Fails, IsNoFailure, IsOrFails}
@@ -29,19 +28,10 @@ use Rattle.bz_symq.specs.declared.status.Status.TheVariants as statuses
 use Rattle.bz_stacks.specs.Fold.{addrs_of, seen_by}
 use Rattle.bz_folding.specs.StackOutcome.{stacks_outcome}
 
--- the input asks for these stacks: it isn't too long, and they are those that its lines say, in order
-pub record AsksFor (text : List ℕ) (stacks : List Taken) : Type 0 where
-  pub short : length text ≤ greatest_input
-  pub stacks_are : AreStacks text stacks
-
--- the input is too long, or has a line that is no stack
-abbrev pub IsBadInput : List ℕ → Type 0
-IsBadInput text = (greatest_input < length text) ⊎ HasBadLine IsStack text
-
 -- the input is stacks, and a Breakpad file lies at the path
 pub record IsFoldable (path text : List ℕ) (world : World) : Type 0 where
   pub stacks : List Taken
-  pub asks : AsksFor text stacks
+  pub asks : AsksFor IsStack text stacks
   pub there : HasFile (λ bytes. (table : Table) × IsFile bytes table) (entry_at world path)
 
 -- the input was stacks; their text, by the plain answers of the file's table at the addresses of each of them, is what was
@@ -49,7 +39,7 @@ pub record IsFoldable (path text : List ℕ) (world : World) : Type 0 where
 pub record IsFolded (path : List ℕ) (config : Config) (text : List ℕ) (world : World) (old : List ℕ) (new : Option (List ℕ)) : Type 0 where
   pub stacks : List Taken
   pub answers : List Answer
-  pub asks : AsksFor text stacks
+  pub asks : AsksFor IsStack text stacks
   pub answers_are : HasFile (λ bytes. IsBreakpadBatch (opts_in config) bytes (addrs_of stacks) answers) (entry_at world path)
   pub written : new ≡ Some (old ++ folded_text (seen_by stacks answers))
 
@@ -58,7 +48,7 @@ pub record IsSomeFolded (config : Config) (text old : List ℕ) (new : Option (L
   pub stacks : List Taken
   pub answers : List Answer
   pub bytes : List ℕ
-  pub asks : AsksFor text stacks
+  pub asks : AsksFor IsStack text stacks
   pub answers_are : IsBreakpadBatch (opts_in config) bytes (addrs_of stacks) answers
   pub written : new ≡ Some (old ++ folded_text (seen_by stacks answers))
 
@@ -66,17 +56,13 @@ pub record IsSomeFolded (config : Config) (text old : List ℕ) (new : Option (L
 pub record IsRefusable (path text : List ℕ) (world : World) : Type 0 where
   pub stacks : List Taken
   pub refusal : Error
-  pub asks : AsksFor text stacks
+  pub asks : AsksFor IsStack text stacks
   pub cause : IsFileCause (IsRefusalOf (Breakpad path) InFile) (entry_at world path) refusal
 
 -- the input was such stacks: the refusal is what was written
 pub record IsRefused (path text : List ℕ) (world : World) (old : List ℕ) (new : Option (List ℕ)) : Type 0 where
   pub refusable : IsRefusable path text world
   pub written : new ≡ Some (old ++ (refused refusable.refusal).text)
-
--- the input was read: to its end, or to the byte that makes it too long
-abbrev pub IsReadWhole : Option (List ℕ) → Option (List ℕ) → Type 0
-IsReadWhole before after = Told before (λ text. after ≡ Some (left_over text))
 
 -- all that a run over an input of stacks promises
 pub record RunsStacks {R W F : Type 0} (reads : input_trait.Ghosts R) (writes : output_trait.Ghosts W) (looks : files_trait.Ghosts F) (path : List ℕ) (config : Config) (ended : Status)
@@ -99,13 +85,13 @@ pub record RunsStacks {R W F : Type 0} (reads : input_trait.Ghosts R) (writes : 
       Told (writes.written output_before) (λ old. IsRefused path text world old (writes.written output_after))))
   -- status 2 is for words that give no command, and the input alone decides on status 3
   pub usage : ended ≢ statuses.Usage
-  pub input : Told (reads.left input_before) (λ text. (ended ≡ statuses.Input → IsBadInput text) × (IsBadInput text → IsOrFails statuses.Input ended))
+  pub input : Told (reads.left input_before) (λ text. (ended ≡ statuses.Input → IsBadInput IsStack text) × (IsBadInput IsStack text → IsOrFails statuses.Input ended))
   -- stacks are folded where a Breakpad file lies at the path, unless something fails or memory runs out
   pub complete : Told (reads.left input_before) (λ text. Told (in_view (looks.worlds files_before)) (λ world. IsFoldable path text world → IsOrFails statuses.Done ended))
   -- and refused where none does, unless something fails or memory runs out
   pub refuses : Told (reads.left input_before) (λ text. Told (in_view (looks.worlds files_before)) (λ world. IsRefusable path text world → IsOrFails statuses.Refused ended))
   -- for a bad input no file is looked at
-  pub unlooked : Told (reads.left input_before) (λ text. IsBadInput text → files_after ≡ files_before)
+  pub unlooked : Told (reads.left input_before) (λ text. IsBadInput IsStack text → files_after ≡ files_before)
   -- a run that doesn't fail has read the input, and no run reads on past the byte that makes it too long
   pub read : IsNoFailure ended → IsReadWhole (reads.left input_before) (reads.left input_after)
   pub bounded : MovesAtMost (greatest_input + 1) (reads.left input_before) (reads.left input_after)

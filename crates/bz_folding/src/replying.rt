@@ -8,20 +8,18 @@ ghost use Rattle.bz_files.specs.World.{Told, in_view};
 ghost use Rattle.bz_stacks.specs.Spelling.{stacks_in};
 ghost use Rattle.bz_symq.specs.Command.{Breakpad as BreakpadAt};
 ghost use Rattle.bz_symq.specs.InputText.{greatest_input};
-ghost use Rattle.bz_symq.specs.Reply.{IsDoneReply, Replies};
+ghost use Rattle.bz_symq.specs.Reply.{IsDoneReply, IsInputStatus, Replies};
 ghost use Rattle.bz_symq.specs.Targets.{IsSourceOf};
 ghost use Rattle.bz_symq.specs.Turns.{FailsAtOne, ReadsOneFor};
 ghost use Rattle.bz_folding.specs.StackOutcome.{answers_in, by_stacks, folded_by};
-ghost use Rattle.bz_folding.specs.StackReply.{IsInputReply, IsInputStatus, IsSomeText, IsTextReply, RepliesToStacks, TakesTurns};
+ghost use Rattle.bz_folding.specs.StackReply.{IsInputReply, IsSomeText, IsTextReply, RepliesToStacks, TakesTurns};
 
 use bz_base::{Error, Input, Result};
 use bz_files::{Files, TextIn};
 use bz_requests::Config;
 use bz_stacks::{Stack, StackError, fold, read_stacks};
 use bz_symbolize::source::{Breakpad, Source};
-use bz_symq::{
-    ReadStop, Reply, Said, Status, bad_line, new_symbolizer, read_input, refusal, stored_reply,
-};
+use bz_symq::{Reply, Said, Status, bad_line, new_symbolizer, read_input, refusal, unread};
 use std::alloc::Global;
 
 /// What a run over an input of stacks ends with and writes, before any of it is written.
@@ -39,9 +37,7 @@ pub fn reply_with_stacks<R: TextIn, F: Files>(
 {
     match read_input(alloc, input) {
         Ok(text) => reply_to_input(alloc, path, config, text, files),
-        Err(ReadStop::TooLong) => Ok(stored_reply(Status::Input, "input: too long\n")),
-        Err(ReadStop::Fault) => Err(Error::ReadFault),
-        Err(ReadStop::Memory) => Err(Error::OutOfMemory),
+        Err(stop) => unread(stop),
     }
 }
 

@@ -3,9 +3,10 @@ use Rattle.std.proofs.Common.{◌≡◌, ◌⊎◌, ◌↔◌, ◌≤◌, ◌<�
 use Rattle.std.proofs.lemmas.Bool.{false≢true, le-ltb, lt-ltb, ltb-false}
 use Rattle.bz_base.specs.declared.types.FindSymOpts.{FindSymOpts}
 use Rattle.bz_files.specs.World.{World}
-use Rattle.bz_lines.proofs.LineGrammarLemmas.{first_bad_again, first_bad_found, items_again, items_found}
+use Rattle.bz_lines.proofs.LineGrammarLemmas.{first_bad_found}
 use Rattle.bz_store.specs.Frames.{Frame}
-use Rattle.bz_symq.specs.InputText.{greatest_input}
+use Rattle.bz_symq.proofs.InputTextLemmas.{asks_from_read, err_from_bad}
+use Rattle.bz_symq.specs.InputText.{IsBadInput, greatest_input}
 use Rattle.bz_symq.specs.Outcome.{Outcome, too_long}
 use Rattle.bz_symq.specs.Reply.{text_of}
 use Rattle.bz_symq.specs.Run.{Ends}
@@ -15,20 +16,15 @@ use Rattle.bz_symq.specs.declared.status.Status.TheVariants as statuses
 use Rattle.bz_frames.proofs.FrameLemmas.{frame_agrees}
 use Rattle.bz_frames.specs.FrameLines.{IsFrame, frame_in, frames_in}
 use Rattle.bz_frames.specs.FrameReply.{IsFrameStatus, IsFramesReply, by_frames}
-use Rattle.bz_frames.specs.FrameRun.{AreAnswered, AsksFor, IsBadInput, NamesBad, by_length, frames_outcome}
+use Rattle.bz_frames.specs.FrameRun.{AreAnswered, NamesBad, by_length, frames_outcome}
 use Rattle.bz_frames.specs.FrameTurns.{IsRunReply}
 
 module _ (text : List ℕ) (short : length text ≤ greatest_input) where
-  -- of a bad input that isn't too long no frames are read
-  pub none_read : IsBadInput text → IsErr (frames_in text)
-  none_read (inl long) = absurd (omega (arith, short, long))
-  none_read (inr (n, bad)) = rw (first_bad_again frame_in IsFrame frame_agrees text n bad) refl
-
-  -- so what is read decides on the status
-  pub status_read : (asked : Result (List Frame) ℕ) → frames_in text ≡ asked → (status : Status) → IsFrameStatus asked status → (status ≡ statuses.Input) ↔ IsBadInput text
+  -- what is read decides on the status
+  pub status_read : (asked : Result (List Frame) ℕ) → frames_in text ≡ asked → (status : Status) → IsFrameStatus asked status → (status ≡ statuses.Input) ↔ IsBadInput IsFrame text
   status_read (Ok frames) is status done = (
     λ input. let both : statuses.Done ≡ statuses.Input = sym done ∙ input in cc,
-    λ bad. absurd (false≢true (rw is at (none_read bad))),
+    λ bad. absurd (false≢true (rw is at (err_from_bad frame_in IsFrame frame_agrees text short bad))),
   )
   status_read (Err n) is status input = (λ _. inr (n, first_bad_found frame_in IsFrame frame_agrees text n is), λ _. input)
 
@@ -38,7 +34,7 @@ module _ (text : List ℕ) (short : length text ≤ greatest_input) where
   reply_read root opts (Ok frames) opens_before opens_after is reply status (readings, are, said) done = record {
     frames = frames;
     readings = readings;
-    asks = record { short = short; frames_are = items_found frame_in IsFrame frame_agrees text frames is };
+    asks = asks_from_read frame_in IsFrame frame_agrees text short frames is;
     readings_are = are;
     said_is = said;
   }
@@ -50,10 +46,6 @@ module _ (text : List ℕ) (short : length text ≤ greatest_input) where
   bad_read root opts (Ok frames) opens_before opens_after is reply status found input = let never : statuses.Done ≡ statuses.Input = sym status ∙ input in cc
   bad_read root opts (Err n) opens_before opens_after is reply status named input =
       inr (short, (n, first_bad_found frame_in IsFrame frame_agrees text n is, ap (λ (o : Outcome). o.text) named))
-
--- an input that asks for frames isn't bad
-pub never_bad : (text : List ℕ) (frames : List Frame) → AsksFor text frames → IsBadInput text → ⊥
-never_bad text frames asks bad = absurd (false≢true (rw (items_again frame_in IsFrame frame_agrees text frames asks.frames_are) at (none_read text asks.short bad)))
 
 -- a run that gives a reply is done, or its input is bad
 pub either_status : (asked : Result (List Frame) ℕ) (status : Status) → IsFrameStatus asked status → (status ≡ statuses.Input) ⊎ (status ≡ statuses.Done)
@@ -72,7 +64,7 @@ module _ (world : World) (root : List ℕ) (opts : FindSymOpts) where
       Ends (by_frames world root opts asked) old statuses.Done new → AreAnswered world root opts text old new
   answered_by text old new short (Ok frames) is ends = record {
     frames = frames;
-    asks = record { short = short; frames_are = items_found frame_in IsFrame frame_agrees text frames is };
+    asks = asks_from_read frame_in IsFrame frame_agrees text short frames is;
     written = ends.1;
   }
   answered_by text old new short (Err n) is ends = let never : statuses.Input ≡ statuses.Done = ends.0 in cc

@@ -10,6 +10,8 @@ use Rattle.bz_files.specs.declared.text.TextOut as output_trait
 use Rattle.bz_store.specs.Frames.{Frame}
 use Rattle.bz_symq.proofs.EndLemmas.{IsFailure, done_no_failure, failed_ends, input_no_failure, never, status_from}
 use Rattle.bz_symq.proofs.FaultLemmas.{fails_after, fails_as, fails_before, fault_from_fails, steady_from_fails}
+use Rattle.bz_symq.proofs.InputTextLemmas.{never_bad}
+use Rattle.bz_symq.specs.InputText.{AsksFor}
 use Rattle.bz_symq.specs.Outcome.{Outcome}
 use Rattle.bz_symq.specs.Reply.{outcome_of, text_of}
 use Rattle.bz_symq.specs.Run.{Ends, Fails, IsNoFailure, IsOrFails}
@@ -17,8 +19,10 @@ use Rattle.bz_symq.specs.Writing.{Finishes}
 use Rattle.bz_symq.specs.declared.reply.Reply.{Reply}
 use Rattle.bz_symq.specs.declared.status.Status.{Status}
 use Rattle.bz_symq.specs.declared.status.Status.TheVariants as statuses
-use Rattle.bz_frames.proofs.InputLemmas.{answered_from_ends, never_bad}
-use Rattle.bz_frames.specs.FrameRun.{AreSomeAnswered, AsksFor, NamesBad, RunsFrames, frames_outcome}
+use Rattle.bz_frames.proofs.FrameLemmas.{frame_agrees}
+use Rattle.bz_frames.proofs.InputLemmas.{answered_from_ends}
+use Rattle.bz_frames.specs.FrameLines.{IsFrame, frame_in}
+use Rattle.bz_frames.specs.FrameRun.{AreSomeAnswered, NamesBad, RunsFrames, frames_outcome}
 use Rattle.bz_frames.specs.FrameTurns.{IsRunReply, RepliesToInput}
 
 module _ {R W F : Type 0} (reads : input_trait.Ghosts R) (writes : output_trait.Ghosts W) (looks : files_trait.Ghosts F) (root : List ℕ) (opts : FindSymOpts) (ended : Status)
@@ -63,8 +67,8 @@ module _ {R W F : Type 0} (reads : input_trait.Ghosts R) (writes : output_trait.
       by_status (inl input) = by_input (rw input at finished.status)
       by_status (inr done) = inr (rw done at finished.status)
 
-      by_frames : (text : List ℕ) → reads.left input_before ≡ Some text → (frames : List Frame) → AsksFor text frames → (reply.status ≡ statuses.Input) ⊎ (reply.status ≡ statuses.Done) → IsOrFails statuses.Done ended
-      by_frames text left frames asks (inl input) = absurd (never_bad text frames asks ((given.input text left).0 input))
+      by_frames : (text : List ℕ) → reads.left input_before ≡ Some text → (frames : List Frame) → AsksFor IsFrame text frames → (reply.status ≡ statuses.Input) ⊎ (reply.status ≡ statuses.Done) → IsOrFails statuses.Done ended
+      by_frames text left frames asks (inl input) = absurd (never_bad frame_in IsFrame frame_agrees text frames asks ((given.input text left).0 input))
       by_frames text left frames asks (inr done) = rw done at finished.status
 
       answered_from : (text old : List ℕ) → Ends (outcome_of reply) old statuses.Done (writes.written output_after) →

@@ -1,6 +1,7 @@
 -- What a reply to an input of frames comes to, from what was read of the input.
-use Rattle.std.proofs.Common.{◌≡◌, ◌↔◌, ◌+◌, ◌≤◌, ◌<◌, ℕ, List, length, Result, Ok, Err, IfOk, refl, sym, ap, subst, ◌∙◌, inl, inr}
+use Rattle.std.proofs.Common.{◌≡◌, ◌↔◌, ◌+◌, ◌≤◌, ◌<◌, ℕ, List, length, Result, Some, Ok, Err, IfOk, IsErrOf, refl, sym, ap, subst, ◌∙◌, inl, inr}
 use Rattle.bz_base.specs.declared.error.Error.{Error}
+use Rattle.bz_base.specs.declared.error.Error.TheVariants as errors
 use Rattle.bz_base.specs.declared.types.FindSymOpts.{FindSymOpts}
 use Rattle.bz_files.specs.Count.{CountsFaults}
 use Rattle.bz_files.specs.Looked.{Faulted}
@@ -8,25 +9,25 @@ use Rattle.bz_files.specs.World.{Told}
 use Rattle.bz_files.specs.declared.files.Files as files_trait
 use Rattle.bz_files.specs.declared.text.TextIn as input_trait
 use Rattle.bz_symq.proofs.EndLemmas.{input_no_failure}
-use Rattle.bz_symq.proofs.FaultLemmas.{counts_still}
-use Rattle.bz_symq.specs.InputText.{MovesAtMost, greatest_input}
+use Rattle.bz_symq.proofs.FaultLemmas.{counts_as, counts_still, no_fault}
+use Rattle.bz_symq.proofs.InputTextLemmas.{err_from_bad}
+use Rattle.bz_symq.proofs.ReplyLemmas.{when_given}
+use Rattle.bz_symq.specs.InputText.{IsBadInput, IsReadWhole, MovesAtMost, greatest_input, left_over}
 use Rattle.bz_symq.specs.Outcome.{Outcome, too_long}
-use Rattle.bz_symq.specs.Reply.{Replies, outcome_of, text_of}
+use Rattle.bz_symq.specs.Reply.{Replies, RepliesUnread, outcome_of, text_of}
 use Rattle.bz_symq.specs.Run.{IsNoFailure}
+use Rattle.bz_symq.specs.declared.input.ReadStop.{ReadStop}
+use Rattle.bz_symq.specs.declared.input.ReadStop.TheVariants as stops
 use Rattle.bz_symq.specs.declared.reply.Reply.{Reply}
 use Rattle.bz_symq.specs.declared.status.Status.TheVariants as statuses
-use Rattle.bz_frames.proofs.InputLemmas.{bad_read, either_status, none_read, outcome_long, outcome_short, reply_read, status_read}
-use Rattle.bz_frames.specs.FrameLines.{frames_in}
+use Rattle.bz_frames.proofs.FrameLemmas.{frame_agrees}
+use Rattle.bz_frames.proofs.InputLemmas.{bad_read, either_status, outcome_long, outcome_short, reply_read, status_read}
+use Rattle.bz_frames.specs.FrameLines.{IsFrame, frame_in, frames_in}
 use Rattle.bz_frames.specs.FrameReply.{IsFramesReply, RepliesFrames, opens_by}
-use Rattle.bz_frames.specs.FrameRun.{IsBadInput, IsReadWhole, NamesBad, frames_outcome}
+use Rattle.bz_frames.specs.FrameRun.{NamesBad, frames_outcome}
 use Rattle.bz_frames.specs.FrameTurns.{IsRunReply, RepliesToInput}
 
--- what holds of a given reply, by what else does
-when_given : {A E : Type 0} {P Q : A → Type 0} (result : Result A E) → ((given : A) → P given → Q given) → IfOk result P → IfOk result Q
-when_given (Ok given) follows is = follows given is
-when_given (Err e) follows is = tt
-
--- and by two things that do
+-- what holds of a given reply, by two things that do
 when_both : {A E : Type 0} {P Q S : A → Type 0} (result : Result A E) → ((given : A) → P given → Q given → S given) → IfOk result P → IfOk result Q → IfOk result S
 when_both (Ok given) follows is also = follows given is also
 when_both (Err e) follows is also = tt
@@ -47,10 +48,10 @@ module _ {R F : Type 0} (reads : input_trait.Ghosts R) (looks : files_trait.Ghos
         (reply_read text short root opts (frames_in text) _ _ refl given status are done)) replied.status answered;
     named = λ all left. when_both result
         (λ given status are input. subst (λ lines. NamesBad lines (text_of given.said)) (whole all left) (bad_read text short root opts (frames_in text) _ _ refl given status are input)) replied.status answered;
-    input = λ all left. when_given result (λ given is. subst (λ lines. (given.status ≡ statuses.Input) ↔ IsBadInput lines) (whole all left) (status_read text short (frames_in text) refl given.status is)) replied.status;
+    input = λ all left. when_given result (λ given is. subst (λ lines. (given.status ≡ statuses.Input) ↔ IsBadInput IsFrame lines) (whole all left) (status_read text short (frames_in text) refl given.status is)) replied.status;
     opens = λ all left world told. when_given result
         (λ given is done. subst (λ lines. looks.opens files_after ≡ opens_by world root opts (frames_in lines) (looks.opens files_before)) (whole all left) is) (replied.opens world told);
-    unlooked = λ all left bad. replied.unlooked (none_read text short (subst IsBadInput (sym (whole all left)) bad));
+    unlooked = λ all left bad. replied.unlooked (err_from_bad frame_in IsFrame frame_agrees text short (subst (IsBadInput IsFrame) (sym (whole all left)) bad));
     order = inr read;
     read = when_given result (λ given is. read) replied.status;
     bounded = bounded;
@@ -96,3 +97,14 @@ module _ {R F : Type 0} (reads : input_trait.Ghosts R) (looks : files_trait.Ghos
     bounded = bounded;
     fails = inl (refl, counts);
   }
+
+  -- the reply where the input wasn't read to its end
+  pub turns_stopped : {A : Type 0} (stop : ReadStop) (result : Result Reply Error) (files : F) → RepliesUnread stop result →
+      Told (reads.left input_before) (λ text. IsErrOf {T = A} (Err stop) stops.TooLong → greatest_input < length text) →
+      Told (reads.left input_before) (λ text. IsErrOf {T = A} (Err stop) stops.TooLong → reads.left input_after ≡ Some (left_over text)) →
+      CountsFaults (reads.faults input_before) (reads.faults input_after) (IsErrOf {T = A} (Err stop) stops.Fault) → RepliesToInput reads looks root opts result input_before input_after files files
+  turns_stopped stops.TooLong (Ok reply) files is long past counts =
+      turns_long reply files is (λ text left. long text left refl) (λ text left. past text left refl) (no_fault _ _ _ (λ fault. cc) counts)
+  turns_stopped stops.TooLong (Err e) files is long past counts = absurd is
+  turns_stopped stops.Fault result files is long past counts = rw is (turns_unread errors.ReadFault files (λ expected. tt) (counts_as _ _ (λ _. refl) (λ _. refl) counts))
+  turns_stopped stops.Memory result files is long past counts = rw is (turns_unread errors.OutOfMemory files (λ expected. tt) (counts_as _ _ (λ fault. cc) (λ other. cc) counts))

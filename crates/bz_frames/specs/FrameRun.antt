@@ -6,15 +6,15 @@ use Rattle.bz_files.specs.World.{Told, World, in_view}
 use Rattle.bz_files.specs.declared.files.Files as files_trait
 use Rattle.bz_files.specs.declared.text.TextIn as input_trait
 use Rattle.bz_files.specs.declared.text.TextOut as output_trait
-use Rattle.bz_lines.specs.Lines.{HasBadLine, IsFirstBad}
+use Rattle.bz_lines.specs.Lines.{IsFirstBad}
 use Rattle.bz_store.specs.Frames.{Frame, FrameReading}
 use Rattle.bz_store.specs.Plain.{answer_in}
-use Rattle.bz_symq.specs.InputText.{MovesAtMost, greatest_input, left_over}
+use Rattle.bz_symq.specs.InputText.{AsksFor, IsBadInput, IsReadWhole, MovesAtMost, greatest_input}
 use Rattle.bz_symq.specs.Outcome.{Outcome, bad_line, too_long}
 use Rattle.bz_symq.specs.Run.{Ends, Fails, IsNoFailure, IsOrFails}
 use Rattle.bz_symq.specs.declared.status.Status.{Status}
 use Rattle.bz_symq.specs.declared.status.Status.TheVariants as statuses
-use Rattle.bz_frames.specs.FrameLines.{AreFrames, IsFrame, frames_in}
+use Rattle.bz_frames.specs.FrameLines.{IsFrame, frames_in}
 use Rattle.bz_frames.specs.FrameReply.{AreFound, by_frames, opens_by}
 use Rattle.bz_frames.specs.FrameText.{frame_texts}
 
@@ -27,15 +27,6 @@ by_length world root opts text false = by_frames world root opts (frames_in text
 abbrev pub frames_outcome : World → List ℕ → FindSymOpts → List ℕ → Outcome
 frames_outcome world root opts text = by_length world root opts text (nat_lt greatest_input (length text))
 
--- the input asks for these frames: it isn't too long, and they are those that its lines say, in order
-pub record AsksFor (text : List ℕ) (frames : List Frame) : Type 0 where
-  pub short : length text ≤ greatest_input
-  pub frames_are : AreFrames text frames
-
--- the input is too long, or has a line that is neither empty nor a frame
-abbrev pub IsBadInput : List ℕ → Type 0
-IsBadInput text = (greatest_input < length text) ⊎ HasBadLine IsFrame text
-
 -- what is said names the input as too long, or else its first bad line
 abbrev pub NamesBad : List ℕ → List ℕ → Type 0
 NamesBad text said = ((greatest_input < length text) × (said ≡ too_long.text))
@@ -44,20 +35,16 @@ NamesBad text said = ((greatest_input < length text) × (said ≡ too_long.text)
 -- the texts of the world's answers to the input's frames are what was written
 pub record AreAnswered (world : World) (root : List ℕ) (opts : FindSymOpts) (text old : List ℕ) (new : Option (List ℕ)) : Type 0 where
   pub frames : List Frame
-  pub asks : AsksFor text frames
+  pub asks : AsksFor IsFrame text frames
   pub written : new ≡ Some (old ++ frame_texts frames (map (answer_in world root opts) frames))
 
 -- the texts of what was found for the input's frames are what was written, and as many files were read as that takes
 pub record AreSomeAnswered (root : List ℕ) (opts : FindSymOpts) (text old : List ℕ) (new : Option (List ℕ)) (opens_before opens_after : ℕ) : Type 0 where
   pub frames : List Frame
   pub readings : List FrameReading
-  pub asks : AsksFor text frames
+  pub asks : AsksFor IsFrame text frames
   pub readings_are : AreFound root opts frames readings opens_before opens_after
   pub written : new ≡ Some (old ++ frame_texts frames readings)
-
--- the input was read: to its end, or to the byte that makes it too long
-abbrev pub IsReadWhole : Option (List ℕ) → Option (List ℕ) → Type 0
-IsReadWhole before after = Told before (λ text. after ≡ Some (left_over text))
 
 -- all that a run over an input of frames promises
 pub record RunsFrames {R W F : Type 0} (reads : input_trait.Ghosts R) (writes : output_trait.Ghosts W) (looks : files_trait.Ghosts F) (root : List ℕ) (opts : FindSymOpts) (ended : Status)
@@ -75,17 +62,17 @@ pub record RunsFrames {R W F : Type 0} (reads : input_trait.Ghosts R) (writes : 
   pub answered : ended ≡ statuses.Done → Told (reads.left input_before) (λ text. Told (writes.written output_before) (λ old.
       AreSomeAnswered root opts text old (writes.written output_after) (looks.opens files_before) (looks.opens files_after)))
   -- status 3 means that the input is bad, and a bad input is answered by it, unless the run fails
-  pub input : Told (reads.left input_before) (λ text. (ended ≡ statuses.Input → IsBadInput text) × (IsBadInput text → IsOrFails statuses.Input ended))
+  pub input : Told (reads.left input_before) (λ text. (ended ≡ statuses.Input → IsBadInput IsFrame text) × (IsBadInput IsFrame text → IsOrFails statuses.Input ended))
   -- and that what was written names what is bad of it, whatever the files tell
   pub named : ended ≡ statuses.Input → Told (reads.left input_before) (λ text. Told (writes.written output_before) (λ old.
       (said : List ℕ) × NamesBad text said × (writes.written output_after ≡ Some (old ++ said))))
   -- an input of frames is answered, unless something fails or memory runs out
-  pub complete : Told (reads.left input_before) (λ text. (frames : List Frame) → AsksFor text frames → IsOrFails statuses.Done ended)
+  pub complete : Told (reads.left input_before) (λ text. (frames : List Frame) → AsksFor IsFrame text frames → IsOrFails statuses.Done ended)
   -- status 0 means that a file was read for each frame whose name is good, whose key wasn't kept, and whose path is present
   pub opens : ended ≡ statuses.Done → Told (reads.left input_before) (λ text. Told (in_view (looks.worlds files_before)) (λ world.
       looks.opens files_after ≡ opens_by world root opts (frames_in text) (looks.opens files_before)))
   -- over a bad input no file is looked at
-  pub unlooked : Told (reads.left input_before) (λ text. IsBadInput text → files_after ≡ files_before)
+  pub unlooked : Told (reads.left input_before) (λ text. IsBadInput IsFrame text → files_after ≡ files_before)
   -- a run that doesn't fail has read the input, and no run reads on past the byte that makes it too long
   pub read : IsNoFailure ended → IsReadWhole (reads.left input_before) (reads.left input_after)
   pub bounded : MovesAtMost (greatest_input + 1) (reads.left input_before) (reads.left input_after)

@@ -4,9 +4,9 @@ ghost use Rattle.bz_frames.specs.FrameRun.{RunsFrames};
 ghost use Rattle.bz_frames.specs.FrameTurns.{RepliesToInput};
 
 use crate::replying::reply_to_frames;
-use bz_base::{Error, FindSymOpts, Result};
+use bz_base::{FindSymOpts, Result};
 use bz_files::{Files, TextIn, TextOut};
-use bz_symq::{ReadStop, Reply, Status, failed, finish, read_input, stored_reply};
+use bz_symq::{Reply, Status, failed, finish, read_input, unread};
 use std::alloc::Global;
 
 /// Reads the whole input, which is frames, one on a line, and writes what they are answered by the symbol
@@ -39,8 +39,6 @@ fn reply_to_input<R: TextIn, F: Files>(
 {
     match read_input(alloc, input) {
         Ok(text) => reply_to_frames(alloc, root, opts, text.as_slice(), files),
-        Err(ReadStop::TooLong) => Ok(stored_reply(Status::Input, "input: too long\n")),
-        Err(ReadStop::Fault) => Err(Error::ReadFault),
-        Err(ReadStop::Memory) => Err(Error::OutOfMemory),
+        Err(stop) => unread(stop),
     }
 }

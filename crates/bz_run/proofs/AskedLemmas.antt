@@ -5,42 +5,40 @@ use Rattle.bz_base.specs.declared.error.Error.{Error}
 use Rattle.bz_base.specs.declared.error.Error.TheVariants as errors
 use Rattle.bz_files.specs.World.{Told}
 use Rattle.bz_files.specs.declared.text.TextIn as input_trait
-use Rattle.bz_lines.proofs.LineGrammarLemmas.{first_bad_again, first_bad_found, items_found}
+use Rattle.bz_lines.proofs.LineGrammarLemmas.{first_bad_again}
 use Rattle.bz_lines.specs.Lines.{HasBadLine}
 use Rattle.bz_requests.proofs.RequestLemmas.{request_agrees}
 use Rattle.bz_requests.specs.Requests.{IsRequest, Request, request_in, requests_in}
 use Rattle.bz_serve.proofs.FaultLemmas.{counts_still}
-use Rattle.bz_symq.specs.InputText.{MovesAtMost, greatest_input}
+use Rattle.bz_symq.proofs.InputTextLemmas.{asks_from_read, bad_from_read}
+use Rattle.bz_symq.specs.InputText.{AsksFor, IsBadInput, IsReadWhole, MovesAtMost, greatest_input, left_over}
 use Rattle.bz_symq.specs.Outcome.{Outcome}
-use Rattle.bz_run.specs.Asked.{AsksFor, IsBadInput, asked_in, asked_of, by_length, named}
-use Rattle.bz_run.specs.Requests.{HasInputStatus, IsReadWhole, ReadsRequests}
+use Rattle.bz_run.specs.Asked.{asked_in, asked_of, by_length, named}
+use Rattle.bz_run.specs.Requests.{HasInputStatus, ReadsRequests}
 use Rattle.bz_run.specs.declared.input.Asked.{Asked}
 
 named_ok : (read : Result (List Request) ℕ) (requests : List Request) → named read ≡ Ok requests → read ≡ Ok requests
 named_ok (Ok all) requests is = cc
 named_ok (Err n) requests is = cc
 
-named_bad : (text : List ℕ) (read : Result (List Request) ℕ) (bad : Outcome) → requests_in text ≡ read → named read ≡ Err bad → HasBadLine IsRequest text
-named_bad text (Ok all) bad is named_is = cc
-named_bad text (Err n) bad is named_is = (n, first_bad_found request_in IsRequest request_agrees text n is)
+named_err : (read : Result (List Request) ℕ) (bad : Outcome) → named read ≡ Err bad → IsErr read
+named_err (Ok all) bad is = cc
+named_err (Err n) bad is = refl
 
-found_by : (text : List ℕ) (requests : List Request) (long : Bool) → ltb greatest_input (length text) ≡ long → by_length text long ≡ Ok requests → AsksFor text requests
+found_by : (text : List ℕ) (requests : List Request) (long : Bool) → ltb greatest_input (length text) ≡ long → by_length text long ≡ Ok requests → AsksFor IsRequest text requests
 found_by text requests true is asked = cc
-found_by text requests false is asked = record {
-  short = ltb-false _ _ is;
-  requests_are = items_found request_in IsRequest request_agrees text requests (named_ok (requests_in text) requests asked);
-}
+found_by text requests false is asked = asks_from_read request_in IsRequest request_agrees text (ltb-false _ _ is) requests (named_ok (requests_in text) requests asked)
 
 -- requests that are read of an input are those that it asks for
-pub asked_found : (text : List ℕ) (requests : List Request) → asked_in text ≡ Ok requests → AsksFor text requests
+pub asked_found : (text : List ℕ) (requests : List Request) → asked_in text ≡ Ok requests → AsksFor IsRequest text requests
 asked_found text requests asked = found_by text requests (ltb greatest_input (length text)) refl asked
 
-bad_by : (text : List ℕ) (bad : Outcome) (long : Bool) → ltb greatest_input (length text) ≡ long → by_length text long ≡ Err bad → IsBadInput text
+bad_by : (text : List ℕ) (bad : Outcome) (long : Bool) → ltb greatest_input (length text) ≡ long → by_length text long ≡ Err bad → IsBadInput IsRequest text
 bad_by text bad true is asked = inl (ltb-true _ _ is)
-bad_by text bad false is asked = inr (named_bad text (requests_in text) bad refl asked)
+bad_by text bad false is asked = bad_from_read request_in IsRequest request_agrees text (requests_in text) refl (named_err (requests_in text) bad asked)
 
 -- an input of which none are read is a bad one
-pub bad_found : (text : List ℕ) (bad : Outcome) → asked_in text ≡ Err bad → IsBadInput text
+pub bad_found : (text : List ℕ) (bad : Outcome) → asked_in text ≡ Err bad → IsBadInput IsRequest text
 bad_found text bad asked = bad_by text bad (ltb greatest_input (length text)) refl asked
 
 bad_line_again : (text : List ℕ) → HasBadLine IsRequest text → (long : Bool) → IsErr (by_length text long)
@@ -48,7 +46,7 @@ bad_line_again text bad true = refl
 bad_line_again text (n, bad) false = rw (first_bad_again request_in IsRequest request_agrees text n bad) refl
 
 -- and of a bad input none are
-pub bad_again : (text : List ℕ) → IsBadInput text → IsErr (asked_in text)
+pub bad_again : (text : List ℕ) → IsBadInput IsRequest text → IsErr (asked_in text)
 bad_again text (inl long) = rw (lt-ltb _ _ long) refl
 bad_again text (inr bad) = bad_line_again text bad (ltb greatest_input (length text))
 

@@ -20,7 +20,7 @@ use Rattle.bz_symq.specs.Writing.{Finishes}
 use Rattle.bz_symq.specs.declared.reply.Reply.{Reply}
 use Rattle.bz_symq.specs.declared.status.Status.{Status}
 use Rattle.bz_symq.specs.declared.status.Status.TheVariants as statuses
-use Rattle.bz_run.specs.Asked.{IsBadInput, asked_in, outcome_by, reads_by}
+use Rattle.bz_run.specs.Asked.{asked_in, outcome_by, reads_by}
 use Rattle.bz_run.specs.Requests.{ReadsRequests, RunsRequests}
 use Rattle.bz_run.specs.Sides.{FailsAtOneSide}
 use Rattle.bz_run.specs.declared.input.Asked.TheVariants as askeds
@@ -53,7 +53,7 @@ input_no_failure : IsNoFailure statuses.Input
 input_no_failure = (λ other. cc, λ other. cc)
 
 -- an input of which requests are read isn't bad
-never_bad : (text : List ℕ) (requests : List Request) → asked_in text ≡ Ok requests → IsBadInput text → ⊥
+never_bad : (text : List ℕ) (requests : List Request) → asked_in text ≡ Ok requests → IsBadInput IsRequest text → ⊥
 never_bad text requests is bad = absurd (false≢true (rw is at (bad_again text bad)))
 
 module _ {R W F : Type 0} (reads : input_trait.Ghosts R) (writes : output_trait.Ghosts W) (looks : files_trait.Ghosts F) (config : Config) (ended : Status)

@@ -1,26 +1,16 @@
 -- What an input of requests asks for.
 use Rattle.std.specs.Prelude.{◌≡◌, ◌⊎◌, ◌<◌, ◌≤◌, ℕ, Bool, map, true, false, nat_lt, List, ◌++◌, length, Option, Some, Result, Ok, Err}
 use Rattle.bz_files.specs.World.{World}
-use Rattle.bz_lines.specs.Lines.{HasBadLine}
-use Rattle.bz_requests.specs.Requests.{AreRequests, IsRequest, Request, requests_in}
+use Rattle.bz_requests.specs.Requests.{IsRequest, Request, requests_in}
 use Rattle.bz_requests.specs.declared.requests.Config.{Config}
 use Rattle.bz_serve.specs.Runs.{run_reads, run_text}
 use Rattle.bz_serve.specs.Serving.{served}
-use Rattle.bz_symq.specs.InputText.{greatest_input}
+use Rattle.bz_symq.specs.InputText.{AsksFor, greatest_input}
 use Rattle.bz_symq.specs.Outcome.{Outcome, bad_line, too_long}
 use Rattle.bz_symq.specs.Reply.{outcome_of}
 use Rattle.bz_requests.specs.Requests.{request_of}
 use Rattle.bz_run.specs.declared.input.Asked.{Asked}
 use Rattle.bz_run.specs.declared.input.Asked.TheVariants as askeds
-
--- the input asks for these requests: it isn't too long, and they are those that its lines say, in order
-pub record AsksFor (text : List ℕ) (requests : List Request) : Type 0 where
-  pub short : length text ≤ greatest_input
-  pub requests_are : AreRequests text requests
-
--- the input is too long, or has a line that is neither empty nor a request
-abbrev pub IsBadInput : List ℕ → Type 0
-IsBadInput text = (greatest_input < length text) ⊎ HasBadLine IsRequest text
 
 -- a bad line is named
 abbrev pub named : Result (List Request) ℕ → Result (List Request) Outcome
@@ -54,5 +44,5 @@ reads_by config worlds own (Err bad) = 0
 -- the texts of the answers to the input's requests are what was written
 pub record IsServed (config : Config) (text : List ℕ) (worlds : List World) (own : ℕ) (old : List ℕ) (new : Option (List ℕ)) : Type 0 where
   pub requests : List Request
-  pub asks : AsksFor text requests
+  pub asks : AsksFor IsRequest text requests
   pub written : new ≡ Some (old ++ run_text config requests worlds own)

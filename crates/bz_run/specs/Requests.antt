@@ -7,21 +7,18 @@ use Rattle.bz_files.specs.World.{Told}
 use Rattle.bz_files.specs.declared.files.Files as files_trait
 use Rattle.bz_files.specs.declared.text.TextIn as input_trait
 use Rattle.bz_files.specs.declared.text.TextOut as output_trait
+use Rattle.bz_requests.specs.Requests.{IsRequest}
 use Rattle.bz_requests.specs.declared.requests.Config.{Config}
 use Rattle.bz_serve.specs.Runs.{worlds_after}
 use Rattle.bz_serve.specs.Serving.{ToldWorlds}
-use Rattle.bz_symq.specs.InputText.{MovesAtMost, greatest_input, left_over}
+use Rattle.bz_symq.specs.InputText.{IsBadInput, IsReadWhole, MovesAtMost, greatest_input}
 use Rattle.bz_symq.specs.Run.{Ends, IsNoFailure, IsOrFails}
 use Rattle.bz_symq.specs.declared.status.Status.{Status}
 use Rattle.bz_symq.specs.declared.status.Status.TheVariants as statuses
-use Rattle.bz_run.specs.Asked.{IsBadInput, IsServed, asked_in, asked_of, outcome_by, reads_by}
+use Rattle.bz_run.specs.Asked.{IsServed, asked_in, asked_of, outcome_by, reads_by}
 use Rattle.bz_run.specs.Sides.{FailsAtOneSide}
 use Rattle.bz_run.specs.declared.input.Asked.{Asked}
 use Rattle.bz_run.specs.declared.input.Asked.TheVariants as askeds
-
--- the input was read: to its end, or to the byte that makes it too long
-abbrev pub IsReadWhole : Option (List ℕ) → Option (List ℕ) → Type 0
-IsReadWhole before after = Told before (λ text. after ≡ Some (left_over text))
 
 -- a bad input is answered by status 3
 abbrev pub HasInputStatus : Asked → Type 0
@@ -47,11 +44,11 @@ pub record RunsRequests {R W F : Type 0} (reads : input_trait.Ghosts R) (writes 
   pub done : ended ≡ statuses.Done → Told (reads.left input_before) (λ text. ToldWorlds (looks.worlds files_before) (λ worlds. Told (writes.written output_before) (λ old.
       IsServed config text worlds (looks.pid files_before) old (writes.written output_after))))
   -- status 3 means that the input is bad, and a bad input is answered by it, unless the run fails
-  pub input : Told (reads.left input_before) (λ text. (ended ≡ statuses.Input → IsBadInput text) × (IsBadInput text → IsOrFails statuses.Input ended))
+  pub input : Told (reads.left input_before) (λ text. (ended ≡ statuses.Input → IsBadInput IsRequest text) × (IsBadInput IsRequest text → IsOrFails statuses.Input ended))
   -- no status comes but 0, 3, 4 and 5
   pub status : (ended ≡ statuses.Input) ⊎ IsOrFails statuses.Done ended
   -- over a bad input no file is looked at
-  pub unlooked : Told (reads.left input_before) (λ text. IsBadInput text → files_after ≡ files_before)
+  pub unlooked : Told (reads.left input_before) (λ text. IsBadInput IsRequest text → files_after ≡ files_before)
   -- a run that doesn't fail has read the input, and no run reads on past the byte that makes it too long
   pub read : IsNoFailure ended → IsReadWhole (reads.left input_before) (reads.left input_after)
   pub bounded : MovesAtMost (greatest_input + 1) (reads.left input_before) (reads.left input_after)

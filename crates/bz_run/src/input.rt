@@ -10,7 +10,7 @@ use bz_base::{Error, Result};
 use bz_files::TextIn;
 use bz_lines::BadInput;
 use bz_requests::{Request, read_requests};
-use bz_symq::{ReadStop, Reply, Status, bad_line, read_input, stored_reply};
+use bz_symq::{Reply, bad_line, read_input, unread};
 use std::alloc::Global;
 
 /// What an input asks for.
@@ -28,9 +28,7 @@ pub(crate) fn requests_asked<R: TextIn>(alloc: Global, input: &mut R) -> Result<
 {
     match read_input(alloc, input) {
         Ok(text) => asked_in_lines(alloc, text.as_slice()),
-        Err(ReadStop::TooLong) => Ok(Asked::Bad(stored_reply(Status::Input, "input: too long\n"))),
-        Err(ReadStop::Fault) => Err(Error::ReadFault),
-        Err(ReadStop::Memory) => Err(Error::OutOfMemory),
+        Err(stop) => Ok(Asked::Bad(unread(stop)?)),
     }
 }
 

@@ -1,13 +1,15 @@
 -- The input, piece by piece, and its addresses.
-use Rattle.std.proofs.Common.{◌≡◌, ℕ, ◌+◌, ◌≤◌, List, [], ◌∷◌, ◌++◌, length, drop, Option, Some, Ok, Err, refl, sym, ap, ◌∙◌, arith}
+use Rattle.std.proofs.Common.{◌≡◌, ℕ, ◌+◌, ◌≤◌, List, [], ◌∷◌, ◌++◌, length, drop, Option, Some, Result, Ok, Err, IsErr, refl, sym, ap, ◌∙◌, inl, inr, arith}
+use Rattle.std.proofs.lemmas.Bool.{false≢true}
 use Rattle.std.proofs.lemmas.List.{length-drop, nil_from_length}
 use Rattle.std.proofs.Math.Seq.{drop-append_seam, drop-append-add}
 use Rattle.bz_files.specs.World.{Told}
 use Rattle.bz_lines.specs.Addresses.{AreAddresses, IsAddress, address_in, addresses_in}
+use Rattle.bz_lines.specs.Lines.{Agrees, items_in}
 use Rattle.bz_lines.proofs.AddressLemmas.{address_agrees}
 use Rattle.bz_lines.proofs.LineGrammarLemmas as lines
 use Rattle.bz_lines.proofs.LineGrammarLemmas.{items_found, items_again}
-use Rattle.bz_symq.specs.InputText.{Moves, MovesAtMost, greatest_input, room_after, left_over, IsFirstBad}
+use Rattle.bz_symq.specs.InputText.{AsksFor, IsBadInput, IsFirstBad, Moves, MovesAtMost, greatest_input, left_over, room_after}
 
 -- what lies past a front is what follows it
 drop_front : (front rest text : List ℕ) (n : ℕ) → text ≡ front ++ rest → length front ≡ n → rest ≡ drop n text
@@ -66,3 +68,23 @@ first_bad_found text n read = lines.first_bad_found address_in IsAddress address
 
 pub first_bad_again : (text : List ℕ) (n : ℕ) → IsFirstBad text n → addresses_in text ≡ Err n
 first_bad_again text n bad = lines.first_bad_again address_in IsAddress address_agrees text n bad
+
+-- What an input of lines asks for, and when it is bad, where reader and relation agree.
+module _ {A : Type 0} (reads : List ℕ → Option A) (Spells : List ℕ → A → Type 0) (agrees : Agrees reads Spells) (text : List ℕ) where
+  -- an input whose lines aren't read is a bad one
+  pub bad_from_read : (read : Result (List A) ℕ) → items_in reads text ≡ read → IsErr read → IsBadInput Spells text
+  bad_from_read (Ok items) is bad = cc
+  bad_from_read (Err n) is bad = inr (n, lines.first_bad_found reads Spells agrees text n is)
+
+  -- and only such an input, if it isn't too long
+  pub err_from_bad : length text ≤ greatest_input → IsBadInput Spells text → IsErr (items_in reads text)
+  err_from_bad short (inl long) = absurd (omega (arith, short, long))
+  err_from_bad short (inr (n, bad)) = rw (lines.first_bad_again reads Spells agrees text n bad) refl
+
+  -- the items that are read are asked for
+  pub asks_from_read : length text ≤ greatest_input → (items : List A) → items_in reads text ≡ Ok items → AsksFor Spells text items
+  asks_from_read short items read = record { short = short; items_are = items_found reads Spells agrees text items read }
+
+  -- and an input that asks for items isn't bad
+  pub never_bad : (items : List A) → AsksFor Spells text items → IsBadInput Spells text → ⊥
+  never_bad items asks bad = absurd (false≢true (rw (items_again reads Spells agrees text items asks.items_are) at (err_from_bad asks.short bad)))

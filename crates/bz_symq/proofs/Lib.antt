@@ -1,4 +1,4 @@
-mod AnswerTextLemmas
+pub mod AnswerTextLemmas
 mod ConversionLemmas
 pub mod EndLemmas
 pub mod FaultLemmas
@@ -8,8 +8,9 @@ mod OutputLemmas
 mod ProcessLemmas
 mod ProductLemmas
 mod ReadLemmas
-mod ReplyLemmas
+pub mod ReplyLemmas
 mod RunLemmas
 mod StandAloneLemmas
 pub mod TargetLemmas
 mod TextsLemmas
+pub mod UnreadLemmas

@@ -16,10 +16,6 @@ use Rattle.bz_symq.specs.declared.reply.Reply.{Reply}
 use Rattle.bz_symq.specs.declared.status.Status.TheVariants as statuses
 use Rattle.bz_symq.proofs.InputTextLemmas.{addresses_again}
 
--- a run whose input is too long isn't done
-pub never_done : (reply : Reply) → outcome_of reply ≡ too_long → reply.status ≡ statuses.Done → ⊥
-never_done reply long done = let status : reply.status ≡ statuses.Input = ap (λ (o : Outcome). o.status) long in cc
-
 module _ {F : Type 0} (looks : files_trait.Ghosts F) (answered : Type 0) (before after : F) where
   -- one file at most was read, unless a process was asked
   most_by_target : (config : Config) (target : Target) (left : Option (List ℕ)) → ReadsForBatch looks config target left answered before after → UnlessTarget target (ReadsOne looks before after)

@@ -1,5 +1,5 @@
 -- What the reply to a command is.
-use Rattle.std.proofs.Common.{◌≡◌, ◌≢◌, ◌↔◌, ℕ, ◌<◌, ◌≤◌, false, List, ◌++◌, length, Option, Some, Result, Ok, Err, IfOk, IsOk, OnOk, IsErr, refl, sym, ap, subst, ◌∙◌, inl, inr, arith}
+use Rattle.std.proofs.Common.{◌≡◌, ◌≢◌, ◌↔◌, ℕ, ◌<◌, ◌≤◌, false, List, ◌++◌, length, Option, Some, Result, Ok, Err, IfOk, IsOk, OnOk, IsErr, IsErrOf, refl, sym, ap, subst, ◌∙◌, inl, inr, arith}
 use Rattle.std.proofs.lemmas.Bool.{false≢true, le-ltb, lt-ltb}
 use Rattle.bz_base.specs.Answer.{Answer}
 use Rattle.bz_base.specs.declared.error.Error.{Error}
@@ -13,10 +13,12 @@ use Rattle.bz_symq.specs.Command.{Asking, Command, Batch, Make, Product}
 use Rattle.bz_symq.specs.InputText.{greatest_input}
 use Rattle.bz_symq.specs.Outcome.{Outcome, by_addresses, by_answer, by_product, run_outcome, too_long}
 use Rattle.bz_symq.specs.Products.{made_in}
-use Rattle.bz_symq.specs.Reply.{outcome_of, text_of, IsInputReply, IsInputStatus, IsProductReply, IsProductStatus, IsRunReply, Replies, RepliesTo, RepliesToCommand}
+use Rattle.bz_symq.specs.Reply.{outcome_of, text_of, IsInputReply, IsInputStatus, IsProductReply, IsProductStatus, IsRunReply, Replies, RepliesTo, RepliesToCommand, RepliesUnread}
 use Rattle.bz_symq.specs.Run.{IsBadInput, IsNoFailure}
 use Rattle.bz_symq.specs.Targets.{takes}
 use Rattle.bz_symq.specs.Turns.{TakesTurns}
+use Rattle.bz_symq.specs.declared.input.ReadStop.{ReadStop}
+use Rattle.bz_symq.specs.declared.input.ReadStop.TheVariants as stops
 use Rattle.bz_symq.specs.declared.reply.Reply.{Reply}
 use Rattle.bz_symq.specs.declared.status.Status.{Status}
 use Rattle.bz_symq.specs.declared.status.Status.TheVariants as statuses
@@ -36,28 +38,33 @@ pub given_always : {A B : Type 0} {P : Type 0} (result : Result A B) → P → I
 given_always (Ok given) holds = holds
 given_always (Err e) holds = tt
 
+-- what holds of a given reply, by what else does
+pub when_given : {A E : Type 0} {P Q : A → Type 0} (result : Result A E) → ((given : A) → P given → Q given) → IfOk result P → IfOk result Q
+when_given (Ok given) follows is = follows given is
+when_given (Err e) follows is = tt
+
 -- what holds of an answered call holds where the call was answered
 pub given_from_ok : {A B : Type 0} (result : Result A B) (P : Type 0) → OnOk result P → IsOk result → P
 given_from_ok (Ok given) P holds is = holds
 given_from_ok (Err e) P holds is = absurd (false≢true is)
 
 -- the status of a reply to an input is no failure
-no_failure_from : (read : Result (List ℕ) ℕ) (status : Status) → IsInputStatus read status → IsNoFailure status
+pub no_failure_from : {A : Type 0} (read : Result A ℕ) (status : Status) → IsInputStatus read status → IsNoFailure status
 no_failure_from (Err n) status is = (λ other. cc, λ other. cc)
-no_failure_from (Ok addrs) status (inl is) = (λ other. cc, λ other. cc)
-no_failure_from (Ok addrs) status (inr is) = (λ other. cc, λ other. cc)
+no_failure_from (Ok items) status (inl is) = (λ other. cc, λ other. cc)
+no_failure_from (Ok items) status (inr is) = (λ other. cc, λ other. cc)
 
 -- and not that of words that give no command
-never_usage : (read : Result (List ℕ) ℕ) (status : Status) → IsInputStatus read status → status ≢ statuses.Usage
+pub never_usage : {A : Type 0} (read : Result A ℕ) (status : Status) → IsInputStatus read status → status ≢ statuses.Usage
 never_usage (Err n) status is other = cc
-never_usage (Ok addrs) status (inl is) other = cc
-never_usage (Ok addrs) status (inr is) other = cc
+never_usage (Ok items) status (inl is) other = cc
+never_usage (Ok items) status (inr is) other = cc
 
 -- and that of a bad input exactly where the input isn't read
-input_iff : (read : Result (List ℕ) ℕ) (status : Status) → IsInputStatus read status → (status ≡ statuses.Input) ↔ IsErr read
+pub input_iff : {A : Type 0} (read : Result A ℕ) (status : Status) → IsInputStatus read status → (status ≡ statuses.Input) ↔ IsErr read
 input_iff (Err n) status is = (λ _. refl, λ _. is)
-input_iff (Ok addrs) status (inl is) = (λ other. cc, λ err. absurd (false≢true err))
-input_iff (Ok addrs) status (inr is) = (λ other. cc, λ err. absurd (false≢true err))
+input_iff (Ok items) status (inl is) = (λ other. cc, λ err. absurd (false≢true err))
+input_iff (Ok items) status (inr is) = (λ other. cc, λ err. absurd (false≢true err))
 
 -- nor is that of a reply that says a product
 product_no_failure : (status : Status) → IsProductStatus status → IsNoFailure status
@@ -130,6 +137,17 @@ reply_from_long command asking command_is left seen own reply long is =
       usage = λ other. cc;
       input = λ text told. (λ _. (asking, command_is, inl (long text told)), λ _. status);
     }
+
+-- and to one that wasn't read for another reason
+pub reply_from_unread : {A : Type 0} (command : Command) (asking : Asking) → command ≡ Batch asking → (left : Option (List ℕ)) (seen : Option World) (own : ℕ) (stop : ReadStop)
+    (result : Result Reply Error) → RepliesUnread stop result → Told left (λ text. IsErrOf {T = A} (Err stop) stops.TooLong → greatest_input < length text) →
+    RepliesToCommand command left seen own result
+reply_from_unread command asking command_is left seen own stops.TooLong (Ok reply) is long = reply_from_long command asking command_is left seen own reply (λ text told. long text told refl) is
+reply_from_unread command asking command_is left seen own stops.TooLong (Err e) is long = absurd is
+reply_from_unread command asking command_is left seen own stops.Fault result is long =
+    rw is (record { reply = λ text told world sees. tt; answered = λ text told. tt; no_failure = tt; usage = tt; input = λ text told. tt })
+reply_from_unread command asking command_is left seen own stops.Memory result is long =
+    rw is (record { reply = λ text told world sees. tt; answered = λ text told. tt; no_failure = tt; usage = tt; input = λ text told. tt })
 
 -- a command that asks for answers asks for no product, nor the other way round
 pub no_make : (command : Command) (asking : Asking) → command ≡ Batch asking → (product : Product) → command ≡ Make product → ⊥

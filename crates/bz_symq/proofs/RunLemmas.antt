@@ -4,7 +4,8 @@ use Rattle.std.proofs.lemmas.Bool.{false≢true, le-ltb, lt-ltb, ltb-false, ltb-
 use Rattle.bz_base.specs.Answer.{Answer}
 use Rattle.bz_base.specs.declared.error.Error.{Error}
 use Rattle.bz_files.specs.World.{World}
-use Rattle.bz_lines.specs.Addresses.{addresses_in}
+use Rattle.bz_lines.proofs.AddressLemmas.{address_agrees}
+use Rattle.bz_lines.specs.Addresses.{IsAddress, address_in, addresses_in}
 use Rattle.bz_symq.specs.Command.{Asking, Command, Batch, Make, Product}
 use Rattle.bz_symq.specs.InputText.{HasBadLine, greatest_input}
 use Rattle.bz_symq.specs.Outcome.{Outcome, run_outcome, by_length, by_addresses, by_answer, by_product}
@@ -13,20 +14,19 @@ use Rattle.bz_symq.specs.Run.{Asks, Ends, IsAnswerable, IsBadInput, IsDone, IsMa
 use Rattle.bz_symq.specs.Targets.{answer_to}
 use Rattle.bz_symq.specs.declared.status.Status.{Status}
 use Rattle.bz_symq.specs.declared.status.Status.TheVariants as statuses
-use Rattle.bz_symq.proofs.InputTextLemmas.{addresses_found, addresses_again, first_bad_found, first_bad_again}
+use Rattle.bz_symq.proofs.InputTextLemmas as inputs
+use Rattle.bz_symq.proofs.InputTextLemmas.{addresses_found, addresses_again, first_bad_again}
 use Rattle.bz_symq.proofs.ProductLemmas.{made_found, made_given, unmade_found, unmade_given}
 use Rattle.bz_symq.proofs.TargetLemmas.{answers_found, answers_given, cause_found, has_answers, refusal_given}
 
 module _ (command : Command) (asking : Asking) (input : List ℕ) (command_is : command ≡ Batch asking) (short : length input ≤ greatest_input) where
   -- an input that isn't read as addresses is a bad one
   pub bad_from_read : (read : Result (List ℕ) ℕ) → addresses_in input ≡ read → IsErr read → IsBadInput command input
-  bad_from_read (Ok addrs) is bad = cc
-  bad_from_read (Err n) is bad = (asking, command_is, inr (n, first_bad_found input n is))
+  bad_from_read read is bad = (asking, command_is, inputs.bad_from_read address_in IsAddress address_agrees input read is bad)
 
   -- and only such an input
   pub err_from_bad : IsBadInput command input → IsErr (addresses_in input)
-  err_from_bad (named, same, inl long) = absurd (omega arith)
-  err_from_bad (named, same, inr (n, bad)) = rw (first_bad_again input n bad) refl
+  err_from_bad (named, same, bad) = inputs.err_from_bad address_in IsAddress address_agrees input short bad
 
 -- a run that asks its source ends by its answer
 abbrev is_asking : Status → Bool

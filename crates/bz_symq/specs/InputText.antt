@@ -1,5 +1,5 @@
 -- The program's input: how long it may be, how it is read, and its first bad line.
-use Rattle.std.specs.Prelude.{◌≡◌, ℕ, ◌+◌, ◌-◌, ◌≤◌, List, ◌++◌, drop, Option, Some}
+use Rattle.std.specs.Prelude.{◌≡◌, ◌⊎◌, ℕ, ◌+◌, ◌-◌, ◌<◌, ◌≤◌, List, ◌++◌, drop, length, Option, Some}
 use Rattle.bz_files.specs.World.{Told}
 use Rattle.bz_lines.specs.Addresses.{IsAddress}
 use Rattle.bz_lines.specs.Lines as lines
@@ -16,6 +16,17 @@ IsFirstBad text n = lines.IsFirstBad IsAddress text n
 abbrev pub HasBadLine : List ℕ → Type 0
 HasBadLine text = lines.HasBadLine IsAddress text
 
+-- an input of lines, by what each of them spells
+module _ {A : Type 0} (Spells : List ℕ → A → Type 0) where
+  -- the input asks for these items: it isn't too long, and they are those that its lines say, in order
+  pub record AsksFor (text : List ℕ) (items : List A) : Type 0 where
+    pub short : length text ≤ greatest_input
+    pub items_are : lines.AreItems Spells text items
+
+  -- the input is too long, or has a line that is neither empty nor an item
+  abbrev pub IsBadInput : List ℕ → Type 0
+  IsBadInput text = (greatest_input < length text) ⊎ lines.HasBadLine Spells text
+
 -- the bytes in front of what was left have been moved, and the rest is left
 abbrev pub Moves : Option (List ℕ) → Option (List ℕ) → List ℕ → Type 0
 Moves before after front = Told before (λ text. (rest : List ℕ) × (text ≡ front ++ rest) × (after ≡ Some rest))
@@ -31,3 +42,7 @@ left_over text = drop (greatest_input + 1) text
 -- no more than so many bytes in front of what was left have been moved
 abbrev pub MovesAtMost : ℕ → Option (List ℕ) → Option (List ℕ) → Type 0
 MovesAtMost bound before after = Told before (λ text. (n : ℕ) × (n ≤ bound) × (after ≡ Some (drop n text)))
+
+-- the input was read: to its end, or to the byte that makes it too long
+abbrev pub IsReadWhole : Option (List ℕ) → Option (List ℕ) → Type 0
+IsReadWhole before after = Told before (λ text. after ≡ Some (left_over text))

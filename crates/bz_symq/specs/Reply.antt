@@ -8,10 +8,12 @@ use Rattle.bz_files.specs.World.{World, Told}
 use Rattle.bz_lines.specs.Addresses.{addresses_in}
 use Rattle.bz_symq.specs.AnswerText.{answer_texts}
 use Rattle.bz_symq.specs.Command.{Asking, Command, Product}
-use Rattle.bz_symq.specs.Outcome.{Outcome, refused, run_outcome}
+use Rattle.bz_symq.specs.Outcome.{Outcome, refused, run_outcome, too_long}
 use Rattle.bz_symq.specs.Products.{MadeOfSome}
 use Rattle.bz_symq.specs.Run.{IsBadInput, IsNoFailure, IsSomeDone, IsSomeMade}
 use Rattle.bz_symq.specs.Targets.{AnswersSome}
+use Rattle.bz_symq.specs.declared.input.ReadStop.{ReadStop}
+use Rattle.bz_symq.specs.declared.input.ReadStop.TheVariants as stops
 use Rattle.bz_symq.specs.declared.reply.Reply.{Reply}
 use Rattle.bz_symq.specs.declared.reply.Said.{Said}
 use Rattle.bz_symq.specs.declared.reply.Said.TheVariants as saids
@@ -42,6 +44,13 @@ RepliesTo errors.ReadFault result = result ≡ Err errors.ReadFault
 RepliesTo errors.OutOfMemory result = result ≡ Err errors.OutOfMemory
 RepliesTo refusal (Ok reply) = outcome_of reply ≡ refused refusal
 RepliesTo refusal (Err e) = e ≡ errors.OutOfMemory
+
+-- where the input wasn't read to its end: one that is too long is named so, and a fault and want of memory stay what they are
+abbrev pub RepliesUnread : ReadStop → Result Reply Error → Type 0
+RepliesUnread stops.TooLong (Ok reply) = outcome_of reply ≡ too_long
+RepliesUnread stops.TooLong (Err e) = ⊥
+RepliesUnread stops.Fault result = result ≡ Err errors.ReadFault
+RepliesUnread stops.Memory result = result ≡ Err errors.OutOfMemory
 
 -- the text is that of answers to the addresses; those of a file are by some bytes in its format
 pub record IsBatchText (asking : Asking) (addrs text : List ℕ) : Type 0 where
@@ -75,10 +84,10 @@ abbrev pub IsDoneReply : Result Reply Error → Type 0
 IsDoneReply (Ok reply) = reply.status ≡ statuses.Done
 IsDoneReply (Err e) = ⊥
 
--- the statuses of replies to what was read of an input: a line isn't well formed, or its addresses are answered or refused
-abbrev pub IsInputStatus : Result (List ℕ) ℕ → Status → Type 0
+-- the statuses of replies to what was read of an input: a line isn't well formed, or what the lines say is answered or refused
+abbrev pub IsInputStatus : {A : Type 0} → Result A ℕ → Status → Type 0
 IsInputStatus (Err n) status = status ≡ statuses.Input
-IsInputStatus (Ok addrs) status = (status ≡ statuses.Done) ⊎ (status ≡ statuses.Refused)
+IsInputStatus (Ok items) status = (status ≡ statuses.Done) ⊎ (status ≡ statuses.Refused)
 
 -- a reply to the command was to be made, with what it sees of the input and the world in view, and the id of the own process
 pub record RepliesToCommand (command : Command) (left : Option (List ℕ)) (seen : Option World) (own : ℕ) (result : Result Reply Error) : Type 0 where

@@ -8,10 +8,11 @@ use Rattle.bz_files.specs.World.{World, Told, in_view}
 use Rattle.bz_files.specs.declared.files.Files as files_trait
 use Rattle.bz_files.specs.declared.text.TextIn as input_trait
 use Rattle.bz_files.specs.declared.text.TextOut as output_trait
-use Rattle.bz_lines.specs.Addresses.{AreAddresses}
+use Rattle.bz_lines.specs.Addresses.{AreAddresses, IsAddress}
 use Rattle.bz_symq.specs.AnswerText.{answer_texts}
 use Rattle.bz_symq.specs.Command.{Asking, Batch, Command, Make, OneFile, OneProcess, Product, Target, seen_by}
-use Rattle.bz_symq.specs.InputText.{HasBadLine, greatest_input, left_over, MovesAtMost}
+use Rattle.bz_symq.specs.InputText as inputs
+use Rattle.bz_symq.specs.InputText.{greatest_input, MovesAtMost}
 use Rattle.bz_symq.specs.Outcome.{Outcome, refused, refused_as, run_outcome}
 use Rattle.bz_symq.specs.Processes.{process_batch}
 use Rattle.bz_symq.specs.Products.{MadeIn, MadeOfSome, UnmadeIn}
@@ -118,12 +119,11 @@ pub record IsUnmade (command : Command) (world : World) (old : List ℕ) (new : 
 -- the command asks for answers, and the input is too long for that, or has a line that isn't well formed
 abbrev pub IsBadInput : Command → List ℕ → Type 0
 IsBadInput command input =
-    (asking : Asking) × (command ≡ Batch asking)
-    × ((greatest_input < length input) ⊎ HasBadLine input)
+    (asking : Asking) × (command ≡ Batch asking) × inputs.IsBadInput IsAddress input
 
 -- the input at which answers are asked for was read: to its end, or to the byte that makes it too long
 abbrev pub IsReadWhole : Command → Option (List ℕ) → Option (List ℕ) → Type 0
-IsReadWhole command before after = (asking : Asking) → command ≡ Batch asking → Told before (λ text. after ≡ Some (left_over text))
+IsReadWhole command before after = (asking : Asking) → command ≡ Batch asking → inputs.IsReadWhole before after
 
 -- this holds, unless a process is asked
 abbrev pub UnlessTarget : Target → Type 0 → Type 0

@@ -9,7 +9,7 @@ ghost use Rattle.bz_lines.specs.Addresses.{addresses_in};
 ghost use Rattle.bz_symq.specs.Command.{asking_of, command_of, file_target_of, of_file, seen_by, target_of, Batch as OneBatch, OneFile};
 ghost use Rattle.bz_symq.specs.Counted.{AnswersInFew, InputTakesFew, RunTakesFew, TakesFew};
 ghost use Rattle.bz_symq.specs.Outcome.{by_answer, by_addresses};
-ghost use Rattle.bz_symq.specs.Reply.{IsBatchReply, IsDoneReply, IsInputReply, IsInputStatus, Replies, RepliesToCommand};
+ghost use Rattle.bz_symq.specs.Reply.{IsBatchReply, IsDoneReply, IsInputReply, IsInputStatus, Replies, RepliesToCommand, RepliesUnread};
 ghost use Rattle.bz_symq.specs.Run.{Runs};
 ghost use Rattle.bz_symq.specs.Targets.{answer_to, file_takes, takes, AnswersSome, IsSourceOf};
 ghost use Rattle.bz_symq.specs.Turns.{FailsAtOne, ReadsFor, ReadsForInput, ReadsOneFor, TakesTurns};
@@ -92,6 +92,17 @@ pub fn failed(error: Error) -> Status
     }
 }
 
+/// What is answered where the input wasn't read to its end: one that is too long is named so.
+pub fn unread(stop: ReadStop) -> Result<Reply>
+    ensures { RepliesUnread stop result }
+{
+    match stop {
+        ReadStop::TooLong => Ok(stored_reply(Status::Input, "input: too long\n")),
+        ReadStop::Fault => Err(Error::ReadFault),
+        ReadStop::Memory => Err(Error::OutOfMemory),
+    }
+}
+
 // What the run ends with and writes, before any of it is written.
 fn reply_to_command<R: TextIn, F: Files, L: Ledger>(
     alloc: Global,
@@ -128,9 +139,7 @@ fn reply_with_answers<R: TextIn, F: Files, L: Ledger>(
 {
     match input::read_input(alloc, input) {
         Ok(text) => reply_to_input(alloc, batch, text, files, steps),
-        Err(ReadStop::TooLong) => Ok(stored_reply(Status::Input, "input: too long\n")),
-        Err(ReadStop::Fault) => Err(Error::ReadFault),
-        Err(ReadStop::Memory) => Err(Error::OutOfMemory),
+        Err(stop) => unread(stop),
     }
 }
 

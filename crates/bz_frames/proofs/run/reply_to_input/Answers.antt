@@ -1,9 +1,8 @@
-use Rattle.std.proofs.Common.{◌≡◌, ◌≤◌, Err, length, refl, ap, arith}
-use Rattle.bz_symq.proofs.FaultLemmas.{counts_as, no_fault}
+use Rattle.std.proofs.Common.{◌≤◌, length, arith}
+use Rattle.bz_symq.proofs.FaultLemmas.{no_fault}
 use Rattle.bz_symq.specs.InputText.{greatest_input}
-use Rattle.bz_symq.specs.declared.input.ReadStop.TheVariants as stops
 use Rattle.bz_symq.proofs.InputTextLemmas.{over_at_end}
-use Rattle.bz_frames.proofs.TurnLemmas.{turns_long, turns_replied, turns_unread}
+use Rattle.bz_frames.proofs.TurnLemmas.{turns_replied, turns_stopped}
 use Rattle.bz_frames.proofs.run.reply_to_input.Goals as goal
 
 -- the input was read whole, and its lines were replied to
@@ -16,23 +15,8 @@ returns-in-Ok g c =
     (no_fault _ _ _ (λ never. cc) c.in-Ok.ensures.faults)
     (rw c.as_slice.ensures.value at c.reply_to_frames.ensures.reply) (rw c.as_slice.ensures.value at c.reply_to_frames.ensures.answered)
 
--- the input is too long
-pub returns-in-Err-TooLong : goal.returns-in-Err-TooLong
-returns-in-Err-TooLong g c =
-    turns_long g.R.TextIn g.F.Files c.args.root.now c.args.opts.now _ _ c.in-Err-TooLong.ensures.bounded c.stored_reply.result _ c.stored_reply.ensures
-    (λ text left. c.in-Err-TooLong.ensures.long text left (ap Err c.in-Err-TooLong.field-0-is))
-    (λ text left. c.in-Err-TooLong.ensures.past text left (ap Err c.in-Err-TooLong.field-0-is))
-    (no_fault _ _ _ (λ fault. let is : c.in-Err-TooLong.field-0 ≡ stops.TooLong = c.in-Err-TooLong.field-0-is in cc) c.in-Err-TooLong.ensures.faults)
-
--- it wasn't read to its end
-pub returns-in-Err-Fault : goal.returns-in-Err-Fault
-returns-in-Err-Fault g c =
-    let is : c.in-Err-Fault.field-0 ≡ stops.Fault = c.in-Err-Fault.field-0-is in
-    turns_unread g.R.TextIn g.F.Files c.args.root.now c.args.opts.now _ _ c.in-Err-Fault.ensures.bounded _ _ (λ expected. tt)
-    (counts_as _ _ (λ _. refl) (λ _. ap Err is) c.in-Err-Fault.ensures.faults)
-
-pub returns-in-Err-Memory : goal.returns-in-Err-Memory
-returns-in-Err-Memory g c =
-    let is : c.in-Err-Memory.field-0 ≡ stops.Memory = c.in-Err-Memory.field-0-is in
-    turns_unread g.R.TextIn g.F.Files c.args.root.now c.args.opts.now _ _ c.in-Err-Memory.ensures.bounded _ _ (λ expected. tt)
-    (counts_as _ _ (λ fault. cc) (λ other. cc) c.in-Err-Memory.ensures.faults)
+-- the input wasn't read to its end
+pub returns-in-Err : goal.returns-in-Err
+returns-in-Err g c =
+    let stopped = c.in-Err.ensures in
+    turns_stopped g.R.TextIn g.F.Files c.args.root.now c.args.opts.now _ _ stopped.bounded c.in-Err.stop c.unread.result _ c.unread.ensures stopped.long stopped.past stopped.faults
