@@ -15,7 +15,7 @@ use Rattle.bz_symq.specs.Writing.{Finishes}
 use Rattle.bz_symq.specs.declared.reply.Reply.{Reply}
 use Rattle.bz_symq.specs.declared.status.Status.{Status}
 use Rattle.bz_symq.specs.declared.status.Status.TheVariants as statuses
-use Rattle.bz_symq.proofs.EndLemmas.{IsFailure, done_no_failure, failed_ends, input_no_failure, never, refused_no_failure, status_from, usage_no_failure}
+use Rattle.bz_symq.proofs.EndLemmas.{IsFailure, done_no_failure, failed_ends, input_no_failure, never, order_unwritten, refused_no_failure, status_from, usage_no_failure}
 use Rattle.bz_symq.proofs.FaultLemmas.{before_from_fails, fails_after, fails_as, fails_before, fault_from_fails, steady_from_fails}
 use Rattle.bz_folding.specs.StackOutcome.{stacks_outcome}
 use Rattle.bz_folding.specs.StackReply.{RepliesToStacks, TakesTurns}
@@ -92,7 +92,7 @@ module _ {R W F : Type 0} (reads : input_trait.Ghosts R) (writes : output_trait.
     unlooked = turns.unlooked;
     read = λ no_failure. absurd (never ended ended no_failure failed refl);
     bounded = turns.bounded;
-    order = by_order turns.order;
+    order = order_unwritten unwritten turns.order;
     silent = λ text left world seen nothing. unwritten;
     most = opens.most;
     opened = λ world seen done. absurd (never ended statuses.Done done_no_failure failed done);
@@ -104,7 +104,3 @@ module _ {R W F : Type 0} (reads : input_trait.Ghosts R) (writes : output_trait.
     where
       fails : Fails reads writes looks ended input_before input_after output_before output_after files_before files_after
       fails = fails_before reads writes looks ended _ _ _ _ _ _ (fails_as reads looks same_fault.0 same_fault.1 counts) unwritten
-
-      by_order : {P : Type 0} → (files_after ≡ files_before) ⊎ P → ((files_after ≡ files_before) × (output_after ≡ output_before)) ⊎ P
-      by_order (inl unlooked) = inl (unlooked, unwritten)
-      by_order (inr read) = inr read

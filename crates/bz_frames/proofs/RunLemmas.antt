@@ -8,7 +8,7 @@ use Rattle.bz_files.specs.declared.files.Files as files_trait
 use Rattle.bz_files.specs.declared.text.TextIn as input_trait
 use Rattle.bz_files.specs.declared.text.TextOut as output_trait
 use Rattle.bz_store.specs.Frames.{Frame}
-use Rattle.bz_symq.proofs.EndLemmas.{IsFailure, done_no_failure, failed_ends, input_no_failure, never, status_from}
+use Rattle.bz_symq.proofs.EndLemmas.{IsFailure, done_no_failure, failed_ends, input_no_failure, never, order_unwritten, status_from}
 use Rattle.bz_symq.proofs.FaultLemmas.{fails_after, fails_as, fails_before, fault_from_fails, steady_from_fails}
 use Rattle.bz_symq.proofs.InputTextLemmas.{never_bad}
 use Rattle.bz_symq.specs.InputText.{AsksFor}
@@ -104,7 +104,7 @@ module _ {R W F : Type 0} (reads : input_trait.Ghosts R) (writes : output_trait.
     unlooked = given.unlooked;
     read = λ no_failure. absurd (never ended ended no_failure failed refl);
     bounded = given.bounded;
-    order = by_order given.order;
+    order = order_unwritten unwritten given.order;
     silent = λ text left world told nothing. unwritten;
     fails = fails;
     fault = fault_from_fails _ _ _ _ _ _ _ _ _ _ fails;
@@ -113,7 +113,3 @@ module _ {R W F : Type 0} (reads : input_trait.Ghosts R) (writes : output_trait.
     where
       fails : Fails reads writes looks ended input_before input_after output_before output_after files_before files_after
       fails = fails_before reads writes looks ended _ _ _ _ _ _ (fails_as reads looks same_fault.0 same_fault.1 given.fails) unwritten
-
-      by_order : {P : Type 0} → (files_after ≡ files_before) ⊎ P → ((files_after ≡ files_before) × (output_after ≡ output_before)) ⊎ P
-      by_order (inl unlooked) = inl (unlooked, unwritten)
-      by_order (inr read) = inr read

@@ -4,7 +4,7 @@ use Rattle.bz_files.specs.declared.text.IoFault.{IoFault}
 use Rattle.bz_files.specs.declared.text.IoFault.TheVariants as faults
 use Rattle.bz_files.specs.declared.text.TextOut as output_trait
 use Rattle.bz_requests.specs.declared.requests.Config.{Config}
-use Rattle.bz_serve.proofs.FaultLemmas.{counts_as, counts_still}
+use Rattle.bz_symq.proofs.FaultLemmas.{counts_as, counts_still}
 use Rattle.bz_symq.specs.Writing.{WritesText}
 use Rattle.bz_symq.specs.declared.status.Status.{Status}
 use Rattle.bz_symq.specs.declared.status.Status.TheVariants as statuses

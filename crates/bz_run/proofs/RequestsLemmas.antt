@@ -7,13 +7,14 @@ use Rattle.bz_files.specs.Count.{CountsFaults}
 use Rattle.bz_files.specs.declared.files.Files as files_trait
 use Rattle.bz_files.specs.declared.text.TextIn as input_trait
 use Rattle.bz_files.specs.declared.text.TextOut as output_trait
-use Rattle.bz_requests.specs.Requests.{Request, request_of}
+use Rattle.bz_requests.specs.Requests.{IsRequest, Request, request_of}
 use Rattle.bz_requests.specs.declared.requests.Config.{Config}
 use Rattle.bz_requests.specs.declared.requests.Request as made
-use Rattle.bz_serve.proofs.FaultLemmas.{counts_as, no_fault}
 use Rattle.bz_serve.specs.Runs.{worlds_after}
 use Rattle.bz_serve.specs.Serving.{Serves}
-use Rattle.bz_symq.specs.Outcome.{Outcome}
+use Rattle.bz_symq.proofs.EndLemmas.{IsFailure, done_no_failure, failed_ends, input_no_failure, never}
+use Rattle.bz_symq.proofs.FaultLemmas.{counts_as, no_fault}
+use Rattle.bz_symq.specs.InputText.{IsBadInput}
 use Rattle.bz_symq.specs.Reply.{outcome_of}
 use Rattle.bz_symq.specs.Run.{Ends, IsNoFailure, IsOrFails}
 use Rattle.bz_symq.specs.Writing.{Finishes}
@@ -27,30 +28,11 @@ use Rattle.bz_run.specs.declared.input.Asked.TheVariants as askeds
 use Rattle.bz_run.proofs.AskedLemmas.{asked_found, bad_again, bad_found}
 use Rattle.bz_run.proofs.SideLemmas.{fails_at_files, fails_at_input, fails_at_output}
 
--- the run failed
-abbrev pub IsFailure : Status → Type 0
-IsFailure ended = (ended ≡ statuses.Fault) ⊎ (ended ≡ statuses.Memory)
-
--- and has written nothing
-pub failed_ends : (expected : Outcome) (old : List ℕ) (ended : Status) (new : Option (List ℕ)) → IsFailure ended → new ≡ Some old → Ends expected old ended new
-failed_ends expected old ended new (inl fault) unwritten = rw fault ([], expected.text, refl, unwritten ∙ ap Some (sym (append-nil old)))
-failed_ends expected old ended new (inr memory) unwritten = rw memory ([], expected.text, refl, unwritten ∙ ap Some (sym (append-nil old)))
-
 -- a status that isn't expected, and is no failure, doesn't come
 other_status : (expected other ended : Status) → (expected ≡ other → ⊥) → IsNoFailure other → IsOrFails expected ended → ended ≡ other → ⊥
 other_status expected other ended apart no_failure (inl same) is = apart (sym same ∙ is)
 other_status expected other ended apart no_failure (inr (inl fault)) is = no_failure.0 (sym is ∙ fault)
 other_status expected other ended apart no_failure (inr (inr memory)) is = no_failure.1 (sym is ∙ memory)
-
-never_failed : (ended other : Status) → IsNoFailure other → IsFailure ended → ended ≡ other → ⊥
-never_failed ended other no_failure (inl fault) is = no_failure.0 (sym is ∙ fault)
-never_failed ended other no_failure (inr memory) is = no_failure.1 (sym is ∙ memory)
-
-done_no_failure : IsNoFailure statuses.Done
-done_no_failure = (λ other. cc, λ other. cc)
-
-input_no_failure : IsNoFailure statuses.Input
-input_no_failure = (λ other. cc, λ other. cc)
 
 -- an input of which requests are read isn't bad
 never_bad : (text : List ℕ) (requests : List Request) → asked_in text ≡ Ok requests → IsBadInput IsRequest text → ⊥
@@ -131,15 +113,15 @@ module _ {R W F : Type 0} (reads : input_trait.Ghosts R) (writes : output_trait.
       RunsRequests reads writes looks config ended input_before input_after output output files files
   requests_unread error given failed same_fault = record {
     ends = λ text left world later told old written. failed_ends _ old ended _ failed written;
-    done = λ done. absurd (never_failed ended statuses.Done done_no_failure failed done);
-    input = λ text left. (λ is. absurd (never_failed ended statuses.Input input_no_failure failed is), λ bad. inr failed);
+    done = λ done. absurd (never ended statuses.Done done_no_failure failed done);
+    input = λ text left. (λ is. absurd (never ended statuses.Input input_no_failure failed is), λ bad. inr failed);
     status = inr (inr failed);
     unlooked = λ text left bad. refl;
-    read = λ no_failure. absurd (never_failed ended ended no_failure failed refl);
+    read = λ no_failure. absurd (never ended ended no_failure failed refl);
     bounded = given.bounded;
     order = inl (refl, refl);
     opens = λ text left world later told. omega arith;
-    turned = λ done. absurd (never_failed ended statuses.Done done_no_failure failed done);
+    turned = λ done. absurd (never ended statuses.Done done_no_failure failed done);
     fails = fails_at_input reads writes looks ended _ _ _ _ _ _ (counts_as _ _ same_fault.0 same_fault.1 given.counts) refl refl;
     pid = refl;
   }

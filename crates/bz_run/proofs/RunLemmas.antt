@@ -15,9 +15,9 @@ use Rattle.bz_frames.specs.FrameRun.{RunsFrames}
 use Rattle.bz_requests.specs.Requests as requests
 use Rattle.bz_requests.specs.declared.requests.Config.{Config}
 use Rattle.bz_gen_job.specs.Generating.{generated_summary}
-use Rattle.bz_serve.proofs.FaultLemmas.{counts_still}
+use Rattle.bz_symq.proofs.FaultLemmas.{counts_still}
 use Rattle.bz_serve.specs.Serving.{served}
-use Rattle.bz_symq.proofs.EndLemmas.{runs_without_reply}
+use Rattle.bz_symq.proofs.EndLemmas.{failed_ends, runs_without_reply}
 use Rattle.bz_symq.specs.Command as asked
 use Rattle.bz_symq.specs.Reply.{IsDoneReply}
 use Rattle.bz_symq.specs.Run as one_command
@@ -30,7 +30,7 @@ use Rattle.bz_words.specs.Command.{Batch, Command, Frames, Generate, Job, Make, 
 use Rattle.bz_run.specs.Misuse.{Misused, usage}
 use Rattle.bz_run.specs.Run.{Runs, RunsCommand, RunsJob, asked_target}
 use Rattle.bz_run.specs.Sides.{FailsAtOneSide}
-use Rattle.bz_run.proofs.RequestsLemmas.{failed_ends, requests_unread}
+use Rattle.bz_run.proofs.RequestsLemmas.{requests_unread}
 use Rattle.bz_run.proofs.SideLemmas.{fails_at_output}
 
 -- what the status of a run says of its command

@@ -8,7 +8,7 @@ use Rattle.bz_requests.specs.Requests.{Request}
 use Rattle.bz_requests.specs.declared.requests.Config.{Config}
 use Rattle.bz_symq.specs.Run.{WritesFront}
 use Rattle.bz_symq.specs.declared.status.Status.{Status}
-use Rattle.bz_serve.proofs.FaultLemmas.{counts_as, counts_still, no_fault}
+use Rattle.bz_symq.proofs.FaultLemmas.{counts_as, counts_still, no_fault}
 use Rattle.bz_symq.specs.Kept.{Kept, new_kept, settings_of}
 use Rattle.bz_serve.specs.Runs.{reads_from, seen_first, texts_from, turns, worlds_after}
 use Rattle.bz_serve.specs.Serving.{EndsAs, Served, Serves, ServesAll, ToldWorlds}

@@ -10,7 +10,7 @@ use Rattle.bz_symq.specs.Outcome.{Outcome}
 use Rattle.bz_symq.specs.Reply.{RepliesTo}
 use Rattle.bz_symq.specs.declared.reply.Reply.{Reply}
 use Rattle.bz_symq.specs.declared.reply.Said.{Said}
-use Rattle.bz_serve.proofs.FaultLemmas.{counts_as, counts_still}
+use Rattle.bz_symq.proofs.FaultLemmas.{counts_as, counts_still}
 use Rattle.bz_symq.specs.Kept.{Kept}
 use Rattle.bz_serve.specs.Serving.{Does, Replied, Says, SaysRefusal}
 use Rattle.bz_serve.specs.Steps.{Doing, done_by, forgetting, okay, said}

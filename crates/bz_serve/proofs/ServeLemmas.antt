@@ -11,7 +11,7 @@ use Rattle.bz_symq.specs.Reply.{text_of}
 use Rattle.bz_symq.specs.Run.{WritesFront}
 use Rattle.bz_symq.specs.Writing.{WritesText}
 use Rattle.bz_symq.specs.declared.reply.Said.{Said}
-use Rattle.bz_serve.proofs.FaultLemmas.{counts_as, counts_still}
+use Rattle.bz_symq.proofs.FaultLemmas.{counts_as, counts_still}
 use Rattle.bz_symq.specs.Kept.{Kept}
 use Rattle.bz_serve.specs.Serving.{Replied, Served, StopsAs, stop_by}
 use Rattle.bz_serve.specs.Steps.{Step}

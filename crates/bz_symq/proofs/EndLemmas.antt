@@ -52,6 +52,12 @@ pub failed_ends : (expected : Outcome) (old : List ℕ) (ended : Status) (new : 
 failed_ends expected old ended new (inl fault) unwritten = rw fault ([], expected.text, refl, unwritten ∙ ap Some (sym (append-nil old)))
 failed_ends expected old ended new (inr memory) unwritten = rw memory ([], expected.text, refl, unwritten ∙ ap Some (sym (append-nil old)))
 
+-- where nothing was written, the output too is as it was until the input is read
+pub order_unwritten : {W F P : Type 0} {output_before output_after : W} {files_before files_after : F} → output_after ≡ output_before → (files_after ≡ files_before) ⊎ P →
+    ((files_after ≡ files_before) × (output_after ≡ output_before)) ⊎ P
+order_unwritten unwritten (inl unlooked) = inl (unlooked, unwritten)
+order_unwritten unwritten (inr read) = inr read
+
 module _ {R W F : Type 0} (reads : input_trait.Ghosts R) (writes : output_trait.Ghosts W) (looks : files_trait.Ghosts F) (command : Command) (ended : Status)
     (input_before input_after : R) (output_before output_after : W) (files_before files_after : F) where
   -- a reply was given, and its writing ended the run
@@ -121,7 +127,7 @@ module _ {R W F : Type 0} (reads : input_trait.Ghosts R) (writes : output_trait.
     untaken = turns.untaken;
     read = λ no_failure. absurd (never ended ended no_failure failed refl);
     bounded = turns.bounded;
-    order = by_order turns.order;
+    order = order_unwritten unwritten turns.order;
     silent = λ text left world seen nothing. unwritten;
     most = most_read looks (IsDoneReply (Err e)) files_before files_after command _ opens;
     opened = one_opened looks (IsDoneReply (Err e)) files_before files_after (ended ≡ statuses.Done) command _ (λ done. absurd (never ended statuses.Done done_no_failure failed done)) opens;
@@ -134,7 +140,3 @@ module _ {R W F : Type 0} (reads : input_trait.Ghosts R) (writes : output_trait.
     where
       fails : Fails reads writes looks ended input_before input_after output_before output_after files_before files_after
       fails = fails_before reads writes looks ended _ _ _ _ _ _ (fails_as reads looks same_fault.0 same_fault.1 counts) unwritten
-
-      by_order : {P : Type 0} → (files_after ≡ files_before) ⊎ P → ((files_after ≡ files_before) × (output_after ≡ output_before)) ⊎ P
-      by_order (inl unlooked) = inl (unlooked, unwritten)
-      by_order (inr read) = inr read

@@ -12,12 +12,12 @@ use Rattle.bz_symq.specs.declared.status.Status.{Status}
 use Rattle.bz_symq.specs.declared.status.Status.TheVariants as statuses
 
 -- the side at which a run that ended so has failed, where it can only be this one
-abbrev failed_at : Side → Status → Option Side
+abbrev pub failed_at : Side → Status → Option Side
 failed_at side statuses.Fault = Some side
 failed_at side _ = None
 
 -- it is named exactly where the run ended by a fault
-fault_iff : (side : Side) (ended : Status) → (ended ≡ statuses.Fault) ↔ IsSome (failed_at side ended)
+pub fault_iff : (side : Side) (ended : Status) → (ended ≡ statuses.Fault) ↔ IsSome (failed_at side ended)
 fault_iff side statuses.Fault = (λ _. refl, λ _. refl)
 fault_iff side _ = (λ is. cc, λ some. absurd (false≢true some))
 
@@ -51,10 +51,10 @@ no_fault before after failed never counts = by_steady counts.steady
     by_steady (inr same) = same
 
 -- the counts at the side that failed, and at the others
-counts_here : (side : Side) (ended : Status) (before after : ℕ) → CountsFaults before after (ended ≡ statuses.Fault) → CountsFaults before after (failed_at side ended ≡ Some side)
+pub counts_here : (side : Side) (ended : Status) (before after : ℕ) → CountsFaults before after (ended ≡ statuses.Fault) → CountsFaults before after (failed_at side ended ≡ Some side)
 counts_here side ended before after counts = counts_as before after (λ is. ap (failed_at side) is) (λ at. (fault_at side side ended at).0) counts
 
-counts_there : (side other : Side) (ended : Status) (before after : ℕ) → (side ≡ other → ⊥) → after ≡ before → CountsFaults before after (failed_at side ended ≡ Some other)
+pub counts_there : (side other : Side) (ended : Status) (before after : ℕ) → (side ≡ other → ⊥) → after ≡ before → CountsFaults before after (failed_at side ended ≡ Some other)
 counts_there side other ended before after apart same = counts_still before after _ (λ at. apart (fault_at side other ended at).1) same
 
 module _ {R W F : Type 0} (reads : input_trait.Ghosts R) (writes : output_trait.Ghosts W) (looks : files_trait.Ghosts F) (ended : Status)

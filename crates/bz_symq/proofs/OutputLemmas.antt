@@ -149,10 +149,3 @@ owned_next addrs owned index addr answer old new in_addrs in_owned is_addr is_an
   slice_get-map reading owned index ∙ ap (option_map reading) (slice_get_read owned (length owned) index answer refl in_owned is_answer),
   subst (λ (a : ℕ). new ≡ old ++ answer_text a (reading answer)) (get_or_read addrs index addr in_addrs is_addr 0) grows,
 )
-
--- past the lesser of two lengths one of them is past
-pub past_either : (a b n : ℕ) → min a b ≤ n → (a ≤ n) ⊎ (b ≤ n)
-past_either a b n past = elim (cases_lt n a) [
-  | inl below ↦ inr (first_of (omega (arith, past), grind (arith, past)))
-  | inr above ↦ inl above
-]
