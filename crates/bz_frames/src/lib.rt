@@ -8,6 +8,5 @@ mod run;
 mod writing;
 
 pub use reading::read_frames;
-pub use replying::reply_to_frames;
 pub use run::run_frames;
-pub use writing::{frame_text, frame_texts, push_frame};
+pub use writing::{frame_text, frame_texts};

@@ -21,14 +21,14 @@ pub fn run_frames<R: TextIn, W: TextOut, F: Files>(
 ) -> Status
     ensures { RunsFrames R.TextIn W.TextOut F.Files root.now opts.now result input.old input.new output.old output.new files.old files.new }
 {
-    match reply_to_input(alloc, root, opts, input, files) {
+    match reply_with_frames(alloc, root, opts, input, files) {
         Ok(reply) => finish(alloc, output, &reply),
         Err(error) => failed(error),
     }
 }
 
 // What the run ends with and writes, before any of it is written.
-fn reply_to_input<R: TextIn, F: Files>(
+fn reply_with_frames<R: TextIn, F: Files>(
     alloc: Global,
     root: &str,
     opts: &FindSymOpts,

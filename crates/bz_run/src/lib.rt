@@ -9,5 +9,3 @@ mod requests;
 mod targets;
 
 pub use program::run;
-pub use requests::serve_input;
-pub use targets::asked_target;

@@ -31,11 +31,11 @@ pub fn run<R: TextIn, W: TextOut, F: Files>(
 ) -> Status
     ensures { Runs R.TextIn W.TextOut F.Files (map string_bytes words.now) result input.old input.new output.old output.new files.old files.new }
 {
-    run_command(alloc, words, input, output, files)
+    run_words(alloc, words, input, output, files)
 }
 
 // The run of the command, or the usage where there is none.
-fn run_command<R: TextIn, W: TextOut, F: Files>(
+fn run_words<R: TextIn, W: TextOut, F: Files>(
     alloc: Global,
     words: &[String],
     input: &mut R,
@@ -94,7 +94,7 @@ fn run_batch<R: TextIn, W: TextOut, F: Files>(
         config,
     };
     let command = bz_symq::Command::Batch(batch);
-    bz_symq::run(alloc, &command, input, output, files)
+    bz_symq::run_command(alloc, &command, input, output, files)
 }
 
 // What is made of one file; no settings change it.
@@ -108,5 +108,5 @@ fn make<R: TextIn, W: TextOut, F: Files>(
     ensures { (config : Config) → RunsJob R.TextIn W.TextOut F.Files config (Make (product_of product.now)) result input.old input.new output.old output.new files.old files.new }
 {
     let command = bz_symq::Command::Make(asked_product(product));
-    bz_symq::run(alloc, &command, input, output, files)
+    bz_symq::run_command(alloc, &command, input, output, files)
 }

@@ -11,7 +11,7 @@ use std::alloc::Global;
 
 /// Reads the whole input, which is requests, one on a line, and answers them one after the other, each
 /// in its world of files.
-pub fn serve_input<R: TextIn, W: TextOut, F: Files>(
+pub(crate) fn serve_input<R: TextIn, W: TextOut, F: Files>(
     alloc: Global,
     config: Config,
     input: &mut R,

@@ -11,7 +11,7 @@ use bz_symq::FileTarget;
 use bz_words::Product;
 
 /// The target of a request, as one of a batch: it lends the path.
-pub fn asked_target(target: &Target) -> bz_symq::Target<'_>
+pub(crate) fn asked_target(target: &Target) -> bz_symq::Target<'_>
     ensures { Rattle.bz_symq.specs.Command.target_of result ≡ asked_target (target_of target.now) }
 {
     match target {

@@ -22,6 +22,6 @@ pub use command::{Batch, Command, FileTarget, Product, Target};
 pub use input::{ReadStop, read_input};
 pub use output::{finish, write_said};
 pub use own_process::own_pid;
-pub use program::{failed, run, run_counted, unread};
+pub use program::{failed, run_command, run_counted, unread};
 pub use reply::{Reply, Said, bad_line, refusal, stored_reply};
 pub use status::Status;

@@ -33,7 +33,7 @@ use std::marker::Brand;
 use std::sync::ledger::{Blank, Ledger};
 
 /// Answers the addresses of the whole input, or makes a product, and writes what comes of it.
-pub fn run<R: TextIn, W: TextOut, F: Files>(
+pub fn run_command<R: TextIn, W: TextOut, F: Files>(
     alloc: Global,
     command: &Command<'_>,
     input: &mut R,

@@ -2,7 +2,7 @@
 
 use crate::runs::put;
 use bz_files::{MemFiles, MemIn, MemOut};
-use bz_symq::{Command, Product, Status, run};
+use bz_symq::{Command, Product, Status, run_command};
 use std::alloc::Global;
 
 /// A Breakpad file of one function with one line.
@@ -131,7 +131,7 @@ fn ends_by(alloc: Global, (path, file, faults, status, written): &Ending) -> boo
     let mut output = MemOut::new(alloc);
     output.fail_call(faults.1);
     let command = Command::Make(Product::Converted(path));
-    let ends = run(alloc, &command, &mut input, &mut output, &mut files);
+    let ends = run_command(alloc, &command, &mut input, &mut output, &mut files);
     ends == *status && output.written() == *written
 }
 

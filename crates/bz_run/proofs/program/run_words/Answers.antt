@@ -2,7 +2,7 @@ use Rattle.std.proofs.Common.{map, string_bytes}
 use Rattle.bz_words.specs.Command.{command_in}
 use Rattle.bz_run.proofs.NumberLemmas.{command_small}
 use Rattle.bz_run.proofs.RunLemmas.{unstarted}
-use Rattle.bz_run.proofs.program.run_command.Goals as goal
+use Rattle.bz_run.proofs.program.run_words.Goals as goal
 
 -- nothing was come to
 pub returns-in-Err-OutOfMemory : goal.returns-in-Err-OutOfMemory

@@ -3,7 +3,7 @@ use Rattle.bz_symq.proofs.FaultLemmas.{no_fault}
 use Rattle.bz_symq.specs.InputText.{greatest_input}
 use Rattle.bz_symq.proofs.InputTextLemmas.{over_at_end}
 use Rattle.bz_frames.proofs.TurnLemmas.{turns_replied, turns_stopped}
-use Rattle.bz_frames.proofs.run.reply_to_input.Goals as goal
+use Rattle.bz_frames.proofs.run.reply_with_frames.Goals as goal
 
 -- the input was read whole, and its lines were replied to
 pub returns-in-Ok : goal.returns-in-Ok
