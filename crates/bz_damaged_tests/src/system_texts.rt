@@ -2,13 +2,10 @@
 
 use bz_base::{Error, Pid};
 use bz_proc::{PerfMap, parse_maps, parse_ns_tgid};
+use bz_samples::THREE_MAPPINGS;
 use std::alloc::Global;
 
-/// Three mappings, of which a file's name and a part's name may be cut.
-const MAPS: &[u8] =
-    b"1000-2000 r-xp 00000000 08:01 11 /bin/bad\n3000-4000 rw-p 00000000 00:00 0\n5000-6000 r-xp 00000000 00:00 0 [vdso]\n";
-
-/// From how many bytes on, up to how many, the text tells so many mappings; or it isn't of mappings,
+/// From how many bytes on, up to how many, a text of three mappings tells so many; or it isn't of mappings,
 /// since its last line doesn't reach to its inode.
 const MAPPINGS: &[(usize, usize, Option<usize>)] = &[
     (0, 0, Some(0)),
@@ -31,7 +28,7 @@ fn tells_mappings(alloc: Global, text: &[u8], expected: Option<usize>) -> bool {
 /// Whether it does so cut to each of these lengths.
 fn tells_cut_mappings(alloc: Global, from: usize, to: usize, expected: Option<usize>) -> bool {
     for len in from..=to {
-        let Some(front) = MAPS.get(..len) else {
+        let Some(front) = THREE_MAPPINGS.get(..len) else {
             return false;
         };
         if !tells_mappings(alloc, front, expected) {

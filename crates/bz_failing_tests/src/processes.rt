@@ -4,13 +4,10 @@ use crate::sources::{Kind, is_named, is_unknown, put};
 use crate::trials::{Trial, holds};
 use bz_base::{Error, Input, Reason, Result, Symbolized};
 use bz_files::MemFiles;
+use bz_samples::{PERF_FUNCTION, THREE_MAPPINGS};
 use bz_symbolize::Symbolizer;
 use bz_symbolize::source::Source;
 use std::alloc::Global;
-
-/// The mappings of a process that maps a file, memory and a part of the system.
-const THREE: &[u8] =
-    b"1000-2000 r-xp 00000000 08:01 11 /bin/bad\n3000-4000 rw-p 00000000 00:00 0\n5000-6000 r-xp 00000000 00:00 0 [vdso]\n";
 
 /// Puts the files of process 7 with these mappings: its mapped file isn't an ELF file, and its perf map
 /// has a function. Says whether memory was left.
@@ -18,12 +15,7 @@ fn put_process(alloc: Global, files: &mut MemFiles, maps: &[u8]) -> bool {
     put(alloc, files, "/proc/7/maps", maps)
         && put(alloc, files, "/proc/7/map_files/1000-2000", b"\x7fELF")
         && put(alloc, files, "/proc/7/status", b"Name:\tx\n")
-        && put(
-            alloc,
-            files,
-            "/proc/7/root/tmp/perf-7.map",
-            b"3000 10 jit\n",
-        )
+        && put(alloc, files, "/proc/7/root/tmp/perf-7.map", PERF_FUNCTION)
 }
 
 /// Outside the mappings, in a part of the system, in memory with a perf map, past the first mapping's
@@ -74,7 +66,7 @@ pub(crate) fn fails_or_answers(
     src: &Source<'_>,
     look: u64,
 ) -> bool {
-    put_process(alloc, files, THREE)
+    put_process(alloc, files, THREE_MAPPINGS)
         && files.fail_call(alloc, look).is_ok()
         && fails_or_is_answered(alloc, symbolizer, files, src)
         && fails_or_is_answered(alloc, symbolizer, files, src)
@@ -102,7 +94,7 @@ pub(crate) fn has_no_mappings(
 ) -> bool {
     put_process(alloc, files, b"")
         && ask_all(alloc, symbolizer, files, src) == Err(Error::UnexpectedEof)
-        && put_process(alloc, files, THREE)
+        && put_process(alloc, files, THREE_MAPPINGS)
         && ask_all(alloc, symbolizer, files, src) == Ok(true)
 }
 

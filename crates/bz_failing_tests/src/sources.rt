@@ -2,7 +2,7 @@
 
 use bz_base::{Input, Reason, Result, Symbolized};
 use bz_files::MemFiles;
-use bz_samples::{ELF_FUNCTION, GSYM_LINES};
+use bz_samples::{ELF_FUNCTION, GSYM_LINES, PERF_FUNCTION};
 use bz_symbolize::Pid;
 use bz_symbolize::source::{Breakpad, Elf, GsymFile, Process, Source};
 use std::alloc::Global;
@@ -126,12 +126,7 @@ pub(crate) fn put(alloc: Global, files: &mut MemFiles, path: &str, bytes: &[u8])
 pub(crate) fn put_good(alloc: Global, files: &mut MemFiles, kind: &Kind) -> bool {
     put(alloc, files, path_of(kind), bytes_of(kind))
         && put(alloc, files, "/proc/7/status", b"Name:\tx\n")
-        && put(
-            alloc,
-            files,
-            "/proc/7/root/tmp/perf-7.map",
-            b"3000 10 jit\n",
-        )
+        && put(alloc, files, "/proc/7/root/tmp/perf-7.map", PERF_FUNCTION)
 }
 
 /// Whether the answer is a symbol with this name.

@@ -2,6 +2,7 @@
 
 use bz_base::{Error, Pid};
 use bz_proc::{EntryPath, MapsEntry, PathName, parse_maps};
+use bz_samples::THREE_MAPPINGS;
 use std::alloc::Global;
 
 /// A mapping: its start, its end and its offset, the path that stands for it and the file's own. A
@@ -63,10 +64,6 @@ fn is_refused(alloc: Global, text: &[u8]) -> bool {
     }
 }
 
-/// The mappings of a process that maps a file, memory and a part of the system.
-pub(crate) const THREE: &[u8] =
-    b"1000-2000 r-xp 00000000 08:01 11 /bin/bad\n3000-4000 rw-p 00000000 00:00 0\n5000-6000 r-xp 00000000 00:00 0 [vdso]\n";
-
 #[test]
 fn a_text_tells_its_mappings(rt: HostRuntime) {
     let told = &[
@@ -74,7 +71,7 @@ fn a_text_tells_its_mappings(rt: HostRuntime) {
         (0x3000, 0x4000, 0, "", ""),
         (0x5000, 0x6000, 0, "", "[vdso]"),
     ];
-    assert!(rt; tells(rt.alloc(), Pid::from(7), THREE, told));
+    assert!(rt; tells(rt.alloc(), Pid::from(7), THREE_MAPPINGS, told));
     assert!(rt; tells(rt.alloc(), Pid::from(7), b"", &[]));
 }
 

@@ -1,8 +1,8 @@
 //! Which mapping answers for an address.
 
-use crate::maps::THREE;
 use bz_base::{Error, Pid};
 use bz_proc::{Mappings, owner, parse_maps};
+use bz_samples::THREE_MAPPINGS;
 use std::alloc::Global;
 
 /// Mappings in no order, that overlap, hold one another, repeat, or are empty.
@@ -13,18 +13,18 @@ const MIXED: &[u8] =
 const OWNERS: &[(&[u8], u64, Option<usize>)] = &[
     (b"", 0, None),
     (b"", u64::MAX, None),
-    (THREE, 0, None),
-    (THREE, 0xfff, None),
-    (THREE, 0x1000, Some(0)),
-    (THREE, 0x1fff, Some(0)),
-    (THREE, 0x2000, None),
-    (THREE, 0x2fff, None),
-    (THREE, 0x3000, Some(1)),
-    (THREE, 0x4000, None),
-    (THREE, 0x5000, Some(2)),
-    (THREE, 0x5fff, Some(2)),
-    (THREE, 0x6000, None),
-    (THREE, u64::MAX, None),
+    (THREE_MAPPINGS, 0, None),
+    (THREE_MAPPINGS, 0xfff, None),
+    (THREE_MAPPINGS, 0x1000, Some(0)),
+    (THREE_MAPPINGS, 0x1fff, Some(0)),
+    (THREE_MAPPINGS, 0x2000, None),
+    (THREE_MAPPINGS, 0x2fff, None),
+    (THREE_MAPPINGS, 0x3000, Some(1)),
+    (THREE_MAPPINGS, 0x4000, None),
+    (THREE_MAPPINGS, 0x5000, Some(2)),
+    (THREE_MAPPINGS, 0x5fff, Some(2)),
+    (THREE_MAPPINGS, 0x6000, None),
+    (THREE_MAPPINGS, u64::MAX, None),
     // The first mapping ends above these, and begins above them too.
     (MIXED, 0x15, None),
     (MIXED, 0x2f, None),

@@ -1,9 +1,9 @@
 //! Mappings that are read from files.
 
-use crate::maps::THREE;
 use bz_base::{Error, Pid};
 use bz_files::MemFiles;
 use bz_proc::read_maps;
+use bz_samples::THREE_MAPPINGS;
 use std::alloc::Global;
 
 /// Puts a text of mappings at the path.
@@ -15,7 +15,7 @@ fn put(alloc: Global, files: &mut MemFiles, path: &str, text: &[u8]) -> Result<(
 /// Puts the mappings of process 7 and a text that is none of the own process, denies those of 8, and
 /// lets a call fail.
 fn fill(alloc: Global, files: &mut MemFiles) -> Result<(), Error> {
-    put(alloc, files, "/proc/7/maps", THREE)?;
+    put(alloc, files, "/proc/7/maps", THREE_MAPPINGS)?;
     put(alloc, files, "/proc/self/maps", b"x\n")?;
     files.deny(alloc, "/proc/8/maps")?;
     // Of the calls that follow one fails: the fifth.

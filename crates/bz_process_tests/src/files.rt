@@ -3,11 +3,8 @@
 use bz_base::{Error, Pid, Reason, Symbolized};
 use bz_files::MemFiles;
 use bz_process::ProcessQuery;
+use bz_samples::{PERF_FUNCTION, THREE_MAPPINGS};
 use std::alloc::Global;
-
-/// The mappings of a process that maps a file, memory and a part of the system.
-const THREE: &[u8] =
-    b"1000-2000 r-xp 00000000 08:01 11 /bin/bad\n3000-4000 rw-p 00000000 00:00 0\n5000-6000 r-xp 00000000 00:00 0 [vdso]\n";
 
 /// Puts bytes at a path.
 pub(crate) fn put(
@@ -22,15 +19,10 @@ pub(crate) fn put(
 
 /// Puts the files of process 7: its mapped file isn't an ELF file, and its perf map has a function.
 pub(crate) fn fill(alloc: Global, files: &mut MemFiles) -> Result<(), Error> {
-    put(alloc, files, "/proc/7/maps", THREE)?;
+    put(alloc, files, "/proc/7/maps", THREE_MAPPINGS)?;
     put(alloc, files, "/proc/7/map_files/1000-2000", b"\x7fELF")?;
     put(alloc, files, "/proc/7/status", b"Name:\tx\n")?;
-    put(
-        alloc,
-        files,
-        "/proc/7/root/tmp/perf-7.map",
-        b"3000 10 jit\n",
-    )
+    put(alloc, files, "/proc/7/root/tmp/perf-7.map", PERF_FUNCTION)
 }
 
 /// How process 7 is asked.

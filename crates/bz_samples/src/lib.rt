@@ -1,4 +1,4 @@
-//! Small files of each format, which tests read as they are or with some bytes changed.
+//! Small files of each format, and what a system tells of a process, which tests read as they are or with some bytes changed.
 #![tactic(auto)]
 
 ghost use Rattle.std.specs.Prelude.{◌≡◌, length, IfOk};
@@ -91,6 +91,13 @@ pub const ELF_FUNCTION: [u8; 368] = [
     0x03, 0x00, 0x00, 0x00, 0x00, 0x00, 0x00, 0x00, 0x00, 0x00, 0x00, 0x00, 0x00, 0x00, 0x00, 0x00,
     0x00, 0x00, 0x00, 0x00, 0x00, 0x00, 0x00, 0x00, 0x00, 0x00, 0x00, 0x00, 0x00, 0x00, 0x00, 0x00,
 ];
+
+/// The mappings of a process that maps a file, memory and a part of the system.
+pub const THREE_MAPPINGS: &[u8] =
+    b"1000-2000 r-xp 00000000 08:01 11 /bin/bad\n3000-4000 rw-p 00000000 00:00 0\n5000-6000 r-xp 00000000 00:00 0 [vdso]\n";
+
+/// A perf map of one function: `jit` from 0x3000 on with 0x10 bytes.
+pub const PERF_FUNCTION: &[u8] = b"3000 10 jit\n";
 
 /// A copy of the bytes with new ones from a place on. Those that would lie past the end are left out.
 pub fn damaged(alloc: Global, bytes: &[u8], place: usize, new: &[u8]) -> Result<Vec<u8>, AllocError>

@@ -3,7 +3,7 @@
 use crate::runs::{ALL, ends_so, put};
 use bz_base::Error;
 use bz_files::MemFiles;
-use bz_samples::ELF_FUNCTION;
+use bz_samples::{ELF_FUNCTION, PERF_FUNCTION};
 use bz_symq::Status;
 use std::alloc::Global;
 
@@ -72,12 +72,7 @@ fn leave(alloc: Global, files: &mut MemFiles) -> Result<(), Error> {
         b"3000-4000 rw-p 00000000 00:00 0\n",
     )?;
     put(alloc, files, "/proc/7/status", b"Name:\tx\n")?;
-    put(
-        alloc,
-        files,
-        "/proc/7/root/tmp/perf-7.map",
-        b"3000 10 jit\n",
-    )?;
+    put(alloc, files, "/proc/7/root/tmp/perf-7.map", PERF_FUNCTION)?;
     files.schedule(alloc)?;
     files.schedule(alloc)?;
     files.remove("/proc/7/maps");

@@ -6,29 +6,20 @@ use crate::asking::{answers_single, is_named, is_unknown, look_up, put};
 use crate::calling::answers_in;
 use bz_base::{Error, Input, Reason, Result, Steps, Symbolized};
 use bz_files::MemFiles;
-use bz_samples::ELF_FUNCTION;
+use bz_samples::{ELF_FUNCTION, PERF_FUNCTION, THREE_MAPPINGS};
 use bz_symbolize::source::{Elf, Process, Source};
 use bz_symbolize::{Pid, Symbolizer};
 use std::alloc::Global;
 use std::marker::Brand;
 use std::sync::ledger::{Blank, Ledger};
 
-/// The mappings of a process that maps a file, memory and a part of the system.
-const THREE: &[u8] =
-    b"1000-2000 r-xp 00000000 08:01 11 /bin/bad\n3000-4000 rw-p 00000000 00:00 0\n5000-6000 r-xp 00000000 00:00 0 [vdso]\n";
-
 /// Puts the files of process 7: its mapped file isn't an ELF file, and its perf map has a function.
 /// Says whether memory was left.
 pub(crate) fn put_process(alloc: Global, files: &mut MemFiles) -> bool {
-    put(alloc, files, "/proc/7/maps", THREE)
+    put(alloc, files, "/proc/7/maps", THREE_MAPPINGS)
         && put(alloc, files, "/proc/7/map_files/1000-2000", b"\x7fELF")
         && put(alloc, files, "/proc/7/status", b"Name:\tx\n")
-        && put(
-            alloc,
-            files,
-            "/proc/7/root/tmp/perf-7.map",
-            b"3000 10 jit\n",
-        )
+        && put(alloc, files, "/proc/7/root/tmp/perf-7.map", PERF_FUNCTION)
 }
 
 /// Process 7.

@@ -2,16 +2,12 @@
 
 use crate::runs::{USAGE, put, run_on};
 use bz_files::{MemFiles, MemOut};
-use bz_samples::ELF_FUNCTION;
+use bz_samples::{ELF_FUNCTION, THREE_MAPPINGS};
 use bz_symq::{Status, own_pid};
 use std::alloc::Global;
 
 /// The own process.
 const OWN: u32 = 7;
-
-/// The mappings of a process that maps a file, memory and a part of the system.
-const THREE: &[u8] =
-    b"1000-2000 r-xp 00000000 08:01 11 /bin/bad\n3000-4000 rw-p 00000000 00:00 0\n5000-6000 r-xp 00000000 00:00 0 [vdso]\n";
 
 /// The mappings of a process that maps an ELF file, and memory.
 const ELF: &[u8] =
@@ -40,7 +36,7 @@ const FIVE: &str =
 const ROWS: &[ProcessRow] = &[
     (
         "7",
-        THREE,
+        THREE_MAPPINGS,
         b"",
         "7000\n5000\n3008\n2800\n1004\n",
         Status::Done,
@@ -48,7 +44,7 @@ const ROWS: &[ProcessRow] = &[
     ),
     (
         "0000000007",
-        THREE,
+        THREE_MAPPINGS,
         b"",
         "7000\n5000\n3008\n2800\n1004\n",
         Status::Done,
@@ -56,7 +52,7 @@ const ROWS: &[ProcessRow] = &[
     ),
     (
         "0",
-        THREE,
+        THREE_MAPPINGS,
         b"",
         "7000\n5000\n3008\n2800\n1004\n",
         Status::Done,
@@ -78,10 +74,10 @@ const ROWS: &[ProcessRow] = &[
         Status::Done,
         "0x400088: f+0x8 start 0x400080 size 0x10 module /bin/e at -\n0x400090: ? address not found in symbolization source\n",
     ),
-    ("7", THREE, b"", "", Status::Done, ""),
+    ("7", THREE_MAPPINGS, b"", "", Status::Done, ""),
     (
         "7",
-        THREE,
+        THREE_MAPPINGS,
         b"",
         "7000\nx\n",
         Status::Input,
@@ -89,7 +85,7 @@ const ROWS: &[ProcessRow] = &[
     ),
     (
         "8",
-        THREE,
+        THREE_MAPPINGS,
         b"",
         "7000\n",
         Status::Refused,
@@ -97,7 +93,7 @@ const ROWS: &[ProcessRow] = &[
     ),
     (
         "9",
-        THREE,
+        THREE_MAPPINGS,
         b"",
         "7000\n",
         Status::Refused,
@@ -105,7 +101,7 @@ const ROWS: &[ProcessRow] = &[
     ),
     (
         "9",
-        THREE,
+        THREE_MAPPINGS,
         b"",
         "",
         Status::Refused,
@@ -129,19 +125,19 @@ const ROWS: &[ProcessRow] = &[
     ),
     (
         "4294967295",
-        THREE,
+        THREE_MAPPINGS,
         b"",
         "",
         Status::Refused,
         "refused: NotFound\n",
     ),
-    ("4294967296", THREE, b"", "", Status::Usage, USAGE),
-    ("00000000007", THREE, b"", "", Status::Usage, USAGE),
-    ("+7", THREE, b"", "", Status::Usage, USAGE),
-    ("-7", THREE, b"", "", Status::Usage, USAGE),
-    ("7x", THREE, b"", "", Status::Usage, USAGE),
-    ("self", THREE, b"", "", Status::Usage, USAGE),
-    ("", THREE, b"", "", Status::Usage, USAGE),
+    ("4294967296", THREE_MAPPINGS, b"", "", Status::Usage, USAGE),
+    ("00000000007", THREE_MAPPINGS, b"", "", Status::Usage, USAGE),
+    ("+7", THREE_MAPPINGS, b"", "", Status::Usage, USAGE),
+    ("-7", THREE_MAPPINGS, b"", "", Status::Usage, USAGE),
+    ("7x", THREE_MAPPINGS, b"", "", Status::Usage, USAGE),
+    ("self", THREE_MAPPINGS, b"", "", Status::Usage, USAGE),
+    ("", THREE_MAPPINGS, b"", "", Status::Usage, USAGE),
 ];
 
 /// Puts what lies where the mappings and the status of a process do. Says whether memory was left.
