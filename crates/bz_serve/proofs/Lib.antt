@@ -1,3 +1,4 @@
+pub mod BoundLemmas
 pub mod DoesLemmas
 pub mod LoopLemmas
 pub mod ReplyLemmas

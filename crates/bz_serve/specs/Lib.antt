@@ -1,3 +1,4 @@
+pub mod Bounds
 pub mod Runs
 pub mod Serving
 pub mod Steps
