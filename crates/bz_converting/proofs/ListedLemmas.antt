@@ -126,14 +126,14 @@ module _ {X : Type 0} (same : X → X → Bool) where
         (grows_on (firsts same xs) (firsts same (xs ++ x ∷ [])) (firsts same ((xs ++ x ∷ []) ++ more)) (subst Q (sym (firsts_last xs x)) (one_grows (firsts same xs) x)) (firsts_grow more (xs ++ x ∷ [])))
 
     -- a map with the indexes, and that of one more
-    module _ {K : Type 0} (cmp : K → K → Ordering) (view : K → X) (tied : (a b : K) → is_eq (cmp a b) ≡ same (view a) (view b)) where
-      pub indexes_more : (m n : BTreeMap K ℕ) (xs : List X) (key : K) → HasIndexes cmp view same m xs → index_if same (view key) xs ≡ None →
-          ((q : K) → get cmp n q ≡ cond (is_eq (cmp key q)) (Some (length xs)) (get cmp m q)) → HasIndexes cmp view same n (xs ++ view key ∷ [])
-      indexes_more m n xs key has new updates q =
-          updates q ∙ ap (λ b. cond b (Some (length xs)) (get cmp m q)) (tied key q) ∙ ap (λ o. cond (same (view key) (view q)) (Some (length xs)) o) (has q)
-          ∙ by (same (view key) (view q)) refl (index_if same (view q) xs) refl ∙ sym (index_last (view q) xs (view key)) where
-            by : (b : Bool) → same (view key) (view q) ≡ b → (o : Option ℕ) → index_if same (view q) xs ≡ o → cond b (Some (length xs)) o ≡ or_else o (cond b (Some (length xs)) None)
+    module _ {K Q : Type 0} (cmp : K → K → Ordering) (key : Q → K) (view : Q → X) (tied : (a b : Q) → is_eq (cmp (key a) (key b)) ≡ same (view a) (view b)) where
+      pub indexes_more : (m n : BTreeMap K ℕ) (xs : List X) (one : Q) → HasIndexes cmp key view same m xs → index_if same (view one) xs ≡ None →
+          ((k : K) → get cmp n k ≡ cond (is_eq (cmp (key one) k)) (Some (length xs)) (get cmp m k)) → HasIndexes cmp key view same n (xs ++ view one ∷ [])
+      indexes_more m n xs one has new updates q =
+          updates (key q) ∙ ap (λ b. cond b (Some (length xs)) (get cmp m (key q))) (tied one q) ∙ ap (λ o. cond (same (view one) (view q)) (Some (length xs)) o) (has q)
+          ∙ by (same (view one) (view q)) refl (index_if same (view q) xs) refl ∙ sym (index_last (view q) xs (view one)) where
+            by : (b : Bool) → same (view one) (view q) ≡ b → (o : Option ℕ) → index_if same (view q) xs ≡ o → cond b (Some (length xs)) o ≡ or_else o (cond b (Some (length xs)) None)
             by true is None found = refl
-            by true is (Some i) found = absurd (none-some i (sym new ∙ ap (λ x. index_if same x xs) (exact (view key) (view q) is) ∙ found))
+            by true is (Some i) found = absurd (none-some i (sym new ∙ ap (λ x. index_if same x xs) (exact (view one) (view q) is) ∙ found))
             by false is None found = refl
             by false is (Some i) found = refl

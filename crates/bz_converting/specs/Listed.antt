@@ -14,6 +14,6 @@ module _ {X : Type 0} (same : X → X → Bool) where
   index_if x [] = None
   index_if x (y ∷ ys) = if same y x then Some 0 else option_map suc (index_if x ys)
 
--- the map has the index of each that is listed, by its key
-abbrev pub HasIndexes : {K X : Type 0} → (K → K → Ordering) → (K → X) → (X → X → Bool) → BTreeMap K ℕ → List X → Type 0
-HasIndexes {K} cmp view same indexes listed = (key : K) → get cmp indexes key ≡ index_if same (view key) listed
+-- the map has the index of each that is listed, by the key of what it is listed for
+abbrev pub HasIndexes : {K Q X : Type 0} → (K → K → Ordering) → (Q → K) → (Q → X) → (X → X → Bool) → BTreeMap K ℕ → List X → Type 0
+HasIndexes {K} {Q} cmp key view same indexes listed = (q : Q) → get cmp indexes (key q) ≡ index_if same (view q) listed
