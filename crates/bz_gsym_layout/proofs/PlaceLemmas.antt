@@ -65,22 +65,6 @@ module _ {X : Type 0} (t : Tables) (view : X → Code) (xs : List X) (i : ℕ) (
       ∙ ap (λ n. places ++ n ∷ data_places t next codes) filled
       ∙ ap (λ n. places ++ (at + padding at) ∷ data_places t n codes) e ∙ ap (λ l. places ++ data_places t at (map view l)) (sym (item_drop xs i d within)) ∙ left
 
-  pub data_length : i < length xs → (at place next end : ℕ) → place ≡ at + padding at → next ≡ place + length (code_bytes t code) →
-      at + length (data_bytes t at (map view (drop i xs))) ≡ end → next + length (data_bytes t next codes) ≡ end
-  data_length within at place next end filled further left =
-      let e : next ≡ at + padding at + length (code_bytes t code) = omega (arith, further, filled) in
-      let later : List ℕ = data_bytes t (at + padding at + length (code_bytes t code)) codes in
-      omega (
-        arith,
-        e,
-        ap (λ n. length (data_bytes t n codes)) e,
-        left,
-        ap (λ l. length (data_bytes t at (map view l))) (item_drop xs i d within),
-        length-append (zeros (padding at)) (code_bytes t code ++ later),
-        length-append (code_bytes t code) later,
-        length_zeros (padding at),
-      )
-
   -- and written
   pub written_turn : i < length xs → (out filled new whole : List ℕ) → filled ≡ out ++ zeros (padding (length out)) → new ≡ filled ++ code_bytes t code →
       out ++ data_bytes t (length out) (map view (drop i xs)) ≡ whole → new ++ data_bytes t (length new) codes ≡ whole
@@ -97,9 +81,6 @@ module _ {X : Type 0} (t : Tables) (view : X → Code) (xs : List X) (i : ℕ) (
 module _ {X : Type 0} (t : Tables) (view : X → Code) (xs : List X) (i : ℕ) where
   pub places_end : length xs ≤ i → (places whole : List ℕ) (at : ℕ) → places ++ data_places t at (map view (drop i xs)) ≡ whole → places ≡ whole
   places_end past places whole at left = sym (append-nil places) ∙ ap (λ l. places ++ data_places t at (map view l)) (sym (drop_all xs i past)) ∙ left
-
-  pub data_end : length xs ≤ i → (at end : ℕ) → at + length (data_bytes t at (map view (drop i xs))) ≡ end → at ≡ end
-  data_end past at end left = omega (arith, left, ap (λ l. length (data_bytes t at (map view l))) (drop_all xs i past))
 
   pub written_end : length xs ≤ i → (out whole : List ℕ) → out ++ data_bytes t (length out) (map view (drop i xs)) ≡ whole → out ≡ whole
   written_end past out whole left = sym (append-nil out) ∙ ap (λ l. out ++ data_bytes t (length out) (map view l)) (sym (drop_all xs i past)) ∙ left

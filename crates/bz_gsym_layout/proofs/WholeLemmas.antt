@@ -1,8 +1,8 @@
 -- The parts of a file that are written one after another are the layout of its plan.
-use Rattle.std.proofs.Common.{◌≡◌, ℕ, suc, ◌+◌, ◌*◌, ◌≤◌, List, [], ◌∷◌, ◌++◌, flat_map, length, map, refl, sym, ap, subst, ◌∙◌, arith, append_assoc}
+use Rattle.std.proofs.Common.{◌≡◌, ℕ, zero, suc, ◌+◌, ◌*◌, ◌≤◌, List, [], ◌∷◌, ◌++◌, drop, flat_map, length, map, take, refl, sym, ap, subst, ◌∙◌, arith, append_assoc, append-nil}
 use Rattle.std.specs.Str.{bytes_eq}
-use Rattle.std.proofs.lemmas.List.{length-map}
-use Rattle.bz_gsym_layout.specs.Indexed.{AreFiles, AreFunctions, IsPlan, code_of, codes_of, source_of, sources_listed, texts_listed}
+use Rattle.std.proofs.lemmas.List.{length-append, length-map}
+use Rattle.bz_gsym_layout.specs.Indexed.{AreFiles, AreFunctions, IsPlan, code_of, codes_of, source_of, sources_listed, tables_listed, texts_listed}
 use Rattle.bz_gsym_layout.specs.Layout as layout
 use Rattle.bz_gsym_layout.specs.Layout.{Tables, data_bytes, file_bytes, head_bytes, laid_out, string_bytes, strings_place, table_bytes, tables_of, word, zeros}
 use Rattle.bz_gsym_layout.specs.Numbering.{same_source, sources_of, stored, texts_of}
@@ -15,7 +15,22 @@ use Rattle.bz_gsym_layout.specs.declared.plan.SourceFile.{SourceFile}
 use Rattle.bz_gsym_layout.proofs.DistinctLemmas.{Differ, firsts_differ}
 use Rattle.bz_gsym_layout.proofs.IndexedLemmas.{code_is, files_are, more_sources, starts_are}
 use Rattle.bz_gsym_layout.proofs.LayoutLemmas.{length_is, to_data}
+use Rattle.bz_gsym_layout.proofs.LoopLemmas.{drop_all}
 use Rattle.bz_gsym_layout.proofs.PlaceLemmas.{length_text_places}
+
+drop_front : (xs ys : List ℕ) → drop (length xs) (xs ++ ys) ≡ ys
+drop_front [] ys = refl
+drop_front (x ∷ xs) ys = drop_front xs ys
+
+take_whole : (n : ℕ) (xs : List ℕ) → length xs ≤ n → take n xs ≡ xs
+take_whole zero [] many = refl
+take_whole (suc n) [] many = refl
+take_whole zero (x ∷ xs) many = absurd (omega arith)
+take_whole (suc n) (x ∷ xs) many = ap (λ l. x ∷ l) (take_whole n xs (omega arith))
+
+-- bytes in the place of as many
+pub put_whole : (n : ℕ) (xs old : List ℕ) → length xs ≡ length old → length old ≤ n → take n (xs ++ drop (length xs) old) ≡ xs
+put_whole n xs old same many = ap (λ l. take n (xs ++ l)) (drop_all old (length xs) (omega arith)) ∙ ap (take n) (append-nil xs) ∙ take_whole n xs (omega arith)
 
 module _ (plan : Plan) (is : IsPlan plan) where
   abbrev pub codes : List Code
@@ -23,7 +38,7 @@ module _ (plan : Plan) (is : IsPlan plan) where
 
   -- the tables that the plan lists
   abbrev pub listed : Tables
-  listed = record { texts = texts_listed plan; sources = sources_listed plan }
+  listed = tables_listed plan
 
   listed_are : listed ≡ tables_of codes
   listed_are =
@@ -148,9 +163,19 @@ module _ (plan : Plan) (is : IsPlan plan) where
       (e2 ∙ ap (λ k. o1 ++ k) starts_written) (e3 ∙ ap (λ k. o2 ++ flat_map (word 4) k) found_is) (e4 ∙ ap (λ k. o3 ++ word 4 k) s) e5
       (e6 ∙ ap (λ k. o5 ++ k) files_written) e7 e8
 
-  -- and all
-  pub all_is : (front_part out : List ℕ) → front_part ≡ front → out ≡ front_part ++ data_bytes listed (length front_part) codes → out ≡ layout.layout codes
-  all_is front_part out same wrote = whole_is out (wrote ∙ ap (λ l. l ++ data_bytes listed (length l) codes) same)
+  pub front_len : (front_part : List ℕ) → front_part ≡ front → length front_part ≡ data_at
+  front_len front_part same = ap length same ∙ front_many
+
+  -- with the data behind it, it is the whole
+  pub all_is : (front_part : List ℕ) → front_part ≡ front → front_part ++ data_bytes listed (length front_part) codes ≡ layout.layout codes
+  all_is front_part same = whole_is _ (ap (λ l. l ++ data_bytes listed (length l) codes) same)
+
+  -- the data behind bytes, in whose place what stands before the data comes
+  pub filled_is : (blank front_part out new : List ℕ) → length blank ≡ data_at → length front_part ≡ length blank → out ≡ blank ++ data_bytes listed (length blank) codes →
+      front_part ++ data_bytes listed (length front_part) codes ≡ layout.layout codes → new ≡ front_part ++ drop (length front_part) out → new ≡ layout.layout codes
+  filled_is blank front_part out new many same wrote whole filled =
+      filled ∙ ap (λ l. front_part ++ drop (length front_part) l) wrote ∙ ap (λ n. front_part ++ drop n (blank ++ data_bytes listed (length blank) codes)) same
+      ∙ ap (λ l. front_part ++ l) (drop_front blank (data_bytes listed (length blank) codes)) ∙ ap (λ n. front_part ++ data_bytes listed n codes) (sym same) ∙ whole
 
   -- what is found of the plan's functions, and written of them
   module _ (functions : List Function) (found : List ℕ) (same_functions : functions ≡ plan.functions.items) (same_places : found ≡ places) where
@@ -168,21 +193,21 @@ module _ (plan : Plan) (is : IsPlan plan) where
     are : AreCodesOf listed found view functions
     are = subst (λ l. AreCodesOf listed l view functions) (sym same_places) (subst (AreCodesOf listed places view) (sym same_functions) functions_are)
 
-    pub end_is : (at end : ℕ) → at ≡ data_at →
-        ((t : Tables) (view : Function → Code) → AreCodesOf t found view functions → end ≡ at + length (data_bytes t at (map view functions))) →
-        length (layout.layout codes) ≡ end
-    end_is at end at_is ends =
-        whole_many end
-        (ends listed view are ∙ ap (λ n. n + length (data_bytes listed n (map view functions))) at_is
-        ∙ ap (λ l. data_at + length (data_bytes listed data_at (map view l))) same_functions)
+    pub data_is : (old new : List ℕ) →
+        ((t : Tables) (view : Function → Code) → AreCodesOf t found view functions → new ≡ old ++ data_bytes t (length old) (map view functions)) →
+        new ≡ old ++ data_bytes listed (length old) codes
+    data_is old new wrote = wrote listed view are ∙ ap (λ l. old ++ data_bytes listed (length old) (map view l)) same_functions
+
+    pub end_is : (old new : List ℕ) → length old ≡ data_at →
+        ((t : Tables) (view : Function → Code) → AreCodesOf t found view functions → new ≡ old ++ data_bytes t (length old) (map view functions)) →
+        length (layout.layout codes) ≡ length new
+    end_is old new at_is wrote =
+        let wrote_is : new ≡ old ++ data_bytes listed (length old) codes = data_is old new wrote in
+        whole_many (length new)
+        (ap length wrote_is ∙ length-append old (data_bytes listed (length old) codes) ∙ ap (λ n. n + length (data_bytes listed n codes)) at_is)
 
     pub places_are : (at : ℕ) (starts : List ℕ) → at ≡ data_at →
         ((t : Tables) (view : Function → Code) → AreCodesOf t found view functions → starts ≡ layout.data_places t at (map view functions)) →
         starts ≡ layout.data_places listed data_at codes
     places_are at starts at_is places_is =
         places_is listed view are ∙ ap (λ n. layout.data_places listed n (map view functions)) at_is ∙ ap (λ l. layout.data_places listed data_at (map view l)) same_functions
-
-    pub data_is : (old new : List ℕ) →
-        ((t : Tables) (view : Function → Code) → AreCodesOf t found view functions → new ≡ old ++ data_bytes t (length old) (map view functions)) →
-        new ≡ old ++ data_bytes listed (length old) codes
-    data_is old new wrote = wrote listed view are ∙ ap (λ l. old ++ data_bytes listed (length old) (map view l)) same_functions

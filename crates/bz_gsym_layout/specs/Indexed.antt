@@ -1,6 +1,7 @@
 -- What a plan says, whose functions refer to texts and source files by their indexes, and which plans are well formed.
 use Rattle.std.specs.Prelude.{◌≡◌, ℕ, ◌<◌, List, [], length, map, Some, slice_get, slice_index_or}
 use Rattle.bz_gsym_layout.specs.InOrder.{AreInOrder, NeverBefore, depth_of}
+use Rattle.bz_gsym_layout.specs.Layout.{Tables}
 use Rattle.bz_gsym_layout.specs.Nesting.{map_forest, nested}
 use Rattle.bz_gsym_layout.specs.Numbering.{sources_in, texts_in}
 use Rattle.bz_gsym_layout.specs.Pass.{AreWithin}
@@ -45,6 +46,10 @@ texts_listed plan = map (λ text. text.now) plan.texts.items
 
 abbrev pub sources_listed : Plan → List Source
 sources_listed plan = map (source_of (texts_listed plan)) plan.sources.items
+
+-- and the tables of them
+abbrev pub tables_listed : Plan → Tables
+tables_listed plan = record { texts = texts_listed plan; sources = sources_listed plan }
 
 -- the functions of a plan, in texts
 abbrev pub codes_of : Plan → List Code

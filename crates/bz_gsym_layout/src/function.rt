@@ -24,7 +24,7 @@ const ROW_LEN: usize = 9;
 const CALL_LEN: usize = 16;
 
 /// About how many bytes a function's data have.
-fn usual_len(function: &Function) -> usize {
+pub(crate) fn usual_function_len(function: &Function) -> usize {
     let rows = function.rows.len().saturating_mul(ROW_LEN);
     let calls = function.calls.len().saturating_mul(CALL_LEN);
     rows.saturating_add(calls).saturating_add(64)
@@ -70,7 +70,7 @@ fn push_inline_entry(
     if function.calls.is_empty() {
         return Ok(());
     }
-    let mut text = Vec::new(alloc);
+    let mut text = Vec::with_capacity(alloc, function.calls.len().saturating_mul(CALL_LEN))?;
     let root = Numbers {
         offset: 0,
         size: u64::from(function.size),
@@ -99,15 +99,4 @@ pub(crate) fn push_function(
     push_line_entry(alloc, out, function.start, &function.rows)?;
     push_inline_entry(alloc, out, function, places)?;
     push_zeros(out, 8)
-}
-
-/// How many bytes a function's data has.
-pub(crate) fn function_len(alloc: Global, function: &Function, places: &[u64]) -> Result<u64>
-    requires { IsFunction (length places.now) (2 ^ 64 - 1) function.now }
-    ensures len { IfOk result (λ len. (t : Tables) (c : Code) → IsCodeOf t places.now c function.now → len ≡ length (code_bytes t c)) }
-    ensures memory { IsOkUnless result LayoutError.OutOfMemory }
-{
-    let mut bytes = Vec::with_capacity(alloc, usual_len(function))?;
-    push_function(alloc, &mut bytes, function, places)?;
-    Ok(bytes.len() as u64)
 }
