@@ -16,11 +16,14 @@ ghost use Rattle.bz_canon.specs.Parts.{canon_functions, functions_text, lines_of
 
 use crate::canonical_run::is_canonical_run;
 use crate::record::{push_func, push_inlinee, push_line, push_module, push_named, push_public};
-use bz_base::{Error, Result, Steps};
+use bz_base::{Result, Steps};
 use bz_breakpad::{Function, Inlinee, PublicSymbol, SourceLine, SymbolFile};
 use std::alloc::Global;
 use std::marker::Brand;
 use std::sync::ledger::{Blank, Ledger};
+
+/// Of so many functions the line records are touched together, before the first of them is written.
+const TOGETHER: usize = 32;
 
 /// The canonical text of a file: a Breakpad file that answers alike at every address. Files have the
 /// same one exactly where the canonical forms of their tables are equal. OutOfMemory: memory ran out.
@@ -96,33 +99,71 @@ fn push_functions_blank<L: Ledger>(
     ensures memory { IsOkUnless result Error.OutOfMemory }
 {
     let mut steps = Steps::<L>::new(blank);
+    let mut may_copy = false;
     for index in 0..file.function_count() {
+        if index % TOGETHER == 0 {
+            may_copy = any_seems_canonical(file, index, &mut steps);
+        }
         let function = file.function(index, &mut steps);
-        push_function(alloc, text, &function)?;
+        push_function(alloc, text, &function, may_copy)?;
     }
     Ok(())
 }
 
-/// A function, with its inlined calls by depth and start, and its lines by start and size.
-fn push_function(alloc: Global, text: &mut Vec<u8>, function: &Function<'_>) -> Result<()>
+/// Whether any of the next functions, from an index on, has line records that seem canonical. All are
+/// read, though one would do, so that memory fetches the records of all at once.
+fn any_seems_canonical<L: Ledger>(file: &SymbolFile, from: usize, steps: &mut Steps<L>) -> bool {
+    let to = file.function_count().min(from.saturating_add(TOGETHER));
+    let mut any = false;
+    for index in from..to {
+        let function = file.function(index, steps);
+        any |= seems_canonical(&function);
+    }
+    any
+}
+
+/// Whether the line records of a function begin and end as canonical ones may.
+fn seems_canonical(function: &Function<'_>) -> bool {
+    match function.line_text() {
+        Some([first, .., last]) => *first > b' ' && *last == b'\n',
+        _ => false,
+    }
+}
+
+/// A function, with its inlined calls by depth and start, and its lines by start and size. These are
+/// copied as they stand where that is allowed and they are seen to be canonical.
+fn push_function(
+    alloc: Global,
+    text: &mut Vec<u8>,
+    function: &Function<'_>,
+    may_copy: bool,
+) -> Result<()>
     ensures ok { OnOk result (text.new.items ≡ text.old.items ++ records_text (function_records (canon_function function.now))) }
     ensures memory { IsOkUnless result Error.OutOfMemory }
 {
     push_func(text, function)?;
     let inlinees = function.inlinees(alloc)?;
     push_inlinees(text, &inlinees)?;
-    push_lines_of(alloc, text, function)?;
+    push_lines_of(alloc, text, function, may_copy)?;
     Ok(())
 }
 
-/// The line records of a function, by start and size.
-fn push_lines_of(alloc: Global, text: &mut Vec<u8>, function: &Function<'_>) -> Result<()>
+/// The line records of a function, by start and size. They are copied as they stand where that is
+/// allowed and they are seen to be canonical.
+fn push_lines_of(
+    alloc: Global,
+    text: &mut Vec<u8>,
+    function: &Function<'_>,
+    may_copy: bool,
+) -> Result<()>
     ensures ok { OnOk result (text.new.items ≡ text.old.items ++ lines_of (λ l. OfFunc (line_one l)) (lines_in_order function.now)) }
     ensures memory { IsOkUnless result Error.OutOfMemory }
 {
-    if let Some(run) = canonical_run(function) {
-        text.extend_from_slice(run)?;
-        return Ok(());
+    if may_copy {
+        if let Some(run) = canonical_run(function) {
+            text.extend_from_slice(run)?;
+            return Ok(());
+        }
     }
     let lines = function.lines(alloc)?;
     push_lines(text, &lines)?;
