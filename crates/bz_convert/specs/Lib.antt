@@ -8,3 +8,4 @@ pub mod Plan
 pub mod Points
 pub mod Reach
 pub mod Rows
+pub mod RowsAndCalls

@@ -1,4 +1,4 @@
-//! The first fault of a file.
+//! The first fault of a file, and the rows and inlined calls of a function without one.
 
 ghost use Rattle.std.specs.Prelude.{◌≡◌, ◌<◌, true, Some, option_map, IfOk, IsOkUnless};
 ghost use Rattle.bz_base.specs.declared.error.Error.{Error};
@@ -6,17 +6,28 @@ ghost use Rattle.bz_breakpad_lines.specs.Reader.{table_in};
 ghost use Rattle.bz_breakpad_lines.specs.Table.{Table};
 ghost use Rattle.bz_convert.specs.Fault.{checked_fault, fault_in, fault_of, zero_in, ◌or◌};
 ghost use Rattle.bz_convert.specs.Plan.{is_checked};
+ghost use Rattle.bz_convert.specs.RowsAndCalls.{AreRowsAndCalls, fault_found};
 
 use crate::calls::calls_fault;
+use crate::clean_ids::CleanIds;
 use crate::error::ConvertError;
 use crate::ids::{has_zero, ids_fault, texts_have_zero};
-use crate::known::KnownIds;
-use crate::rows::walk_records;
-use bz_base::{Error, Result, Steps};
-use bz_breakpad::{Function, SymbolFile};
+use crate::rows::{Walked, walk_records};
+use bz_base::{Result, Steps};
+use bz_breakpad::{Function, Inlinee, SourceLine, SymbolFile};
 use std::alloc::Global;
 use std::marker::Brand;
 use std::sync::ledger::{Blank, Ledger};
+
+/// The rows and inlined calls of a function without a fault. One whose end passes 64 bits has neither.
+#[derive(Drop)]
+pub struct RowsAndCalls {
+    /// Each row: an address, relative to the module's base, and the line record that answers from there
+    /// on.
+    pub rows: Vec<(u64, SourceLine)>,
+    /// The inlined calls, in the order of depth and start.
+    pub calls: Vec<Inlinee>,
+}
 
 /// The fault for which a file isn't converted, if it has one: the first one of the first function with
 /// a fault, by start, size and place in the file. OutOfMemory: memory ran out.
@@ -40,46 +51,53 @@ fn first_fault_blank<L: Ledger>(
     ensures memory { IsOkUnless result Error.OutOfMemory }
 {
     let mut steps = Steps::<L>::new(blank);
-    let ids = KnownIds::new(alloc, file)?;
+    let ids = CleanIds::new(alloc, file)?;
     let mut before = None;
     for index in 0..file.function_count() {
         let function = file.function(index, &mut steps);
-        if let Some(fault) = fault_of(alloc, &ids, before, &function)? {
-            return Ok(Some(fault));
+        match rows_and_calls(alloc, &ids, before, &function)? {
+            Ok(_found) => {}
+            Err(fault) => return Ok(Some(fault)),
         }
         before = Some(function.addr());
     }
     Ok(None)
 }
 
-/// The first fault of a function, by where the one before it starts.
-fn fault_of(
+/// The rows and inlined calls of a function of the file that the ids are of, or its first fault.
+/// Functions go by start and size; the one before it starts there, if there is one. OutOfMemory: memory
+/// ran out.
+pub fn rows_and_calls(
     alloc: Global,
-    ids: &KnownIds<'_>,
+    ids: &CleanIds<'_>,
     before: Option<u64>,
     function: &Function<'_>,
-) -> Result<Option<ConvertError>>
-    ensures fault { IfOk result (λ fault. (table : Table) → table_in ids.now ≡ Some table → fault ≡ fault_of table before function.now) }
+) -> Result<std::result::Result<RowsAndCalls, ConvertError>>
+    ensures fault { IfOk result (λ found. (table : Table) → table_in ids.now ≡ Some table → fault_found found ≡ fault_of table before function.now) }
+    ensures found { IfOk result (λ found. IfOk found (AreRowsAndCalls function.now)) }
     ensures memory { IsOkUnless result Error.OutOfMemory }
 {
     let addr = function.addr();
     if function.size() == 0 {
-        return Ok(Some(ConvertError::ZeroSize { addr }));
+        return Ok(Err(ConvertError::ZeroSize { addr }));
     }
     if before == Some(addr) {
-        return Ok(Some(ConvertError::EqualStarts { addr }));
+        return Ok(Err(ConvertError::EqualStarts { addr }));
     }
     if is_checked(function) {
-        return checked_fault(alloc, ids, function);
+        return checked_rows_and_calls(alloc, ids, function);
     }
     if has_zero(function.name()) {
-        return Ok(Some(ConvertError::ZeroByte { func: addr }));
+        return Ok(Err(ConvertError::ZeroByte { func: addr }));
     }
-    Ok(None)
+    Ok(Ok(RowsAndCalls {
+        rows: Vec::new(alloc),
+        calls: Vec::new(alloc),
+    }))
 }
 
 /// Whether a function has a size, and its end fits 64 bits.
-pub fn is_checked(function: &Function<'_>) -> bool
+fn is_checked(function: &Function<'_>) -> bool
     ensures { result ≡ is_checked function.now }
 {
     function.size() != 0
@@ -89,31 +107,32 @@ pub fn is_checked(function: &Function<'_>) -> bool
             .is_some()
 }
 
-/// The first fault of a function that has a size and whose end fits 64 bits.
-fn checked_fault(
+/// The same of a function that has a size and whose end fits 64 bits.
+fn checked_rows_and_calls(
     alloc: Global,
-    ids: &KnownIds<'_>,
+    ids: &CleanIds<'_>,
     function: &Function<'_>,
-) -> Result<Option<ConvertError>>
+) -> Result<std::result::Result<RowsAndCalls, ConvertError>>
     requires { is_checked function.now ≡ true }
-    ensures fault { IfOk result (λ fault. (table : Table) → table_in ids.now ≡ Some table → fault ≡ (checked_fault table function.now or zero_in table function.now)) }
+    ensures fault { IfOk result (λ found. (table : Table) → table_in ids.now ≡ Some table → fault_found found ≡ (checked_fault table function.now or zero_in table function.now)) }
+    ensures found { IfOk result (λ found. IfOk found (AreRowsAndCalls function.now)) }
     ensures memory { IsOkUnless result Error.OutOfMemory }
 {
     let func = function.addr();
     let lines = function.lines(alloc)?;
-    let walked = walk_records(alloc, function, &lines)?;
-    if let Some(addr) = walked.gap {
-        return Ok(Some(ConvertError::LineGap { func, addr }));
+    let Walked { rows, gap } = walk_records(alloc, function, &lines)?;
+    if let Some(addr) = gap {
+        return Ok(Err(ConvertError::LineGap { func, addr }));
     }
     let calls = function.inlinees(alloc)?;
     if let Some(fault) = calls_fault(alloc, function, &calls)? {
-        return Ok(Some(fault));
+        return Ok(Err(fault));
     }
     if let Some(fault) = ids_fault(ids, func, &lines, &calls) {
-        return Ok(Some(fault));
+        return Ok(Err(fault));
     }
-    if texts_have_zero(ids, function, &walked.rows, &calls) {
-        return Ok(Some(ConvertError::ZeroByte { func }));
+    if texts_have_zero(ids, function, &rows, &calls) {
+        return Ok(Err(ConvertError::ZeroByte { func }));
     }
-    Ok(None)
+    Ok(Ok(RowsAndCalls { rows, calls }))
 }

@@ -13,8 +13,8 @@ ghost use Rattle.bz_convert.specs.Plan.{changes, code_of, is_checked, located};
 ghost use Rattle.bz_convert.specs.Points.{row_seen};
 ghost use Rattle.bz_gsym_layout.specs.Numbering.{texts_of};
 
+use crate::clean_ids::CleanIds;
 use crate::error::ConvertError;
-use crate::known::KnownIds;
 use bz_base::split_source;
 use bz_breakpad::{Function, Inlinee, SourceLine, SymbolFile};
 
@@ -30,7 +30,7 @@ pub fn located(file: &SymbolFile, id: u32) -> Option<Source<'_>>
 
 /// The first fault of the ids of a function's line records and inlined calls.
 pub(crate) fn ids_fault(
-    ids: &KnownIds<'_>,
+    ids: &CleanIds<'_>,
     func: u64,
     lines: &[SourceLine],
     calls: &[Inlinee],
@@ -49,7 +49,7 @@ pub(crate) fn ids_fault(
 }
 
 /// The first line record whose file isn't known.
-fn line_file_fault(ids: &KnownIds<'_>, func: u64, lines: &[SourceLine]) -> Option<ConvertError>
+fn line_file_fault(ids: &CleanIds<'_>, func: u64, lines: &[SourceLine]) -> Option<ConvertError>
     ensures { (table : Table) → table_in ids.now ≡ Some table → result ≡ line_file_fault table func (map line_seen lines.now) }
 {
     for line in lines {
@@ -64,7 +64,7 @@ fn line_file_fault(ids: &KnownIds<'_>, func: u64, lines: &[SourceLine]) -> Optio
 }
 
 /// The first inlined call of some size whose file isn't known.
-fn call_file_fault(ids: &KnownIds<'_>, func: u64, calls: &[Inlinee]) -> Option<ConvertError>
+fn call_file_fault(ids: &CleanIds<'_>, func: u64, calls: &[Inlinee]) -> Option<ConvertError>
     ensures { (table : Table) → table_in ids.now ≡ Some table → result ≡ call_file_fault table func (map kept_inlinee calls.now) }
 {
     for call in calls {
@@ -79,7 +79,7 @@ fn call_file_fault(ids: &KnownIds<'_>, func: u64, calls: &[Inlinee]) -> Option<C
 }
 
 /// The first inlined call of some size whose name isn't known.
-fn origin_fault(ids: &KnownIds<'_>, func: u64, calls: &[Inlinee]) -> Option<ConvertError>
+fn origin_fault(ids: &CleanIds<'_>, func: u64, calls: &[Inlinee]) -> Option<ConvertError>
     ensures { (table : Table) → table_in ids.now ≡ Some table → result ≡ origin_fault table func (map kept_inlinee calls.now) }
 {
     for call in calls {
@@ -123,7 +123,7 @@ pub(crate) fn file_has_zero(file: &SymbolFile, id: u32) -> bool
 /// Whether a text that is laid out for a function holds a zero byte: its name, or one of its rows or
 /// inlined calls.
 pub(crate) fn texts_have_zero(
-    ids: &KnownIds<'_>,
+    ids: &CleanIds<'_>,
     function: &Function<'_>,
     rows: &[(u64, SourceLine)],
     calls: &[Inlinee],
@@ -144,7 +144,7 @@ pub(crate) fn texts_have_zero(
 }
 
 /// Whether the texts of rows hold a zero byte.
-fn rows_have_zero(ids: &KnownIds<'_>, rows: &[(u64, SourceLine)]) -> bool
+fn rows_have_zero(ids: &CleanIds<'_>, rows: &[(u64, SourceLine)]) -> bool
     ensures { (table : Table) → table_in ids.now ≡ Some table → result ≡ list_any (row_has_zero table) (map row_seen rows.now) }
 {
     for row in rows {
@@ -156,7 +156,7 @@ fn rows_have_zero(ids: &KnownIds<'_>, rows: &[(u64, SourceLine)]) -> bool
 }
 
 /// Whether the texts of inlined calls of some size hold a zero byte.
-fn calls_have_zero(ids: &KnownIds<'_>, calls: &[Inlinee]) -> bool
+fn calls_have_zero(ids: &CleanIds<'_>, calls: &[Inlinee]) -> bool
     ensures { (table : Table) → table_in ids.now ≡ Some table → result ≡ list_any (sized_with (call_has_zero table)) (map kept_inlinee calls.now) }
 {
     for call in calls {
@@ -168,7 +168,7 @@ fn calls_have_zero(ids: &KnownIds<'_>, calls: &[Inlinee]) -> bool
 }
 
 /// Whether the name of an inlined call, or directory or name of its file, hold a zero byte.
-fn call_has_zero(ids: &KnownIds<'_>, call: &Inlinee) -> bool
+fn call_has_zero(ids: &CleanIds<'_>, call: &Inlinee) -> bool
     ensures { (table : Table) → table_in ids.now ≡ Some table → result ≡ call_has_zero table (kept_inlinee call.now) }
 {
     ids.origin_has_zero(call.origin_id) || ids.file_has_zero(call.call_file)

@@ -1,15 +1,15 @@
-//! Why a Breakpad file isn't converted to GSYM, and the rows of its functions.
+//! Why a Breakpad file isn't converted to GSYM, and the rows and inlined calls of its functions.
 #![tactic(auto)]
 
 mod calls;
+mod clean_ids;
 mod error;
 mod fault;
 mod ids;
-mod known;
 pub mod laws;
 mod rows;
 
+pub use clean_ids::CleanIds;
 pub use error::ConvertError;
-pub use fault::{first_fault, is_checked};
+pub use fault::{RowsAndCalls, first_fault, rows_and_calls};
 pub use ids::{Source, located};
-pub use rows::{Walked, walk_lines};

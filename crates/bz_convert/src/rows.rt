@@ -38,20 +38,9 @@ impl Spanned for Point {
 /// The rows of a function, each with the line record that answers from there on, and the first
 /// address without a line above one that has a line.
 #[derive(Drop)]
-pub struct Walked {
+pub(crate) struct Walked {
     pub rows: Vec<(u64, SourceLine)>,
     pub gap: Option<u64>,
-}
-
-/// Walks over the addresses of a function whose end fits 64 bits.
-pub fn walk_lines(alloc: Global, function: &Function<'_>) -> Result<Walked>
-    requires { is_checked function.now ≡ true }
-    ensures rows { IfOk result (λ walked. map row_seen walked.rows.items ≡ changes function.now) }
-    ensures gap { IfOk result (λ walked. walked.gap ≡ gap_from (λ addr. line_at addr function.now.lines) None function.now.start function.now.size) }
-    ensures memory { IsOkUnless result Error.OutOfMemory }
-{
-    let lines = function.lines(alloc)?;
-    walk_records(alloc, function, &lines)
 }
 
 /// Walks over the addresses of a function whose end fits 64 bits, and which has these line records.

@@ -6,9 +6,9 @@ use Rattle.bz_breakpad_function.specs.InOrder.{functions_in_order, ordered_funct
 use Rattle.bz_breakpad_function.specs.Indexed.{functions_of}
 use Rattle.bz_breakpad_lines.specs.Reader.{table_in}
 use Rattle.bz_breakpad_lines.specs.Table.{Function, Table}
-use Rattle.bz_convert.specs.Fault.{fault_in}
+use Rattle.bz_convert.specs.Fault.{fault_in, fault_of}
 use Rattle.bz_convert.specs.Plan.{is_checked, plan}
-use Rattle.bz_convert.proofs.FaultLemmas.{all_clean}
+use Rattle.bz_convert.proofs.FaultLemmas.{clean}
 use Rattle.bz_converting.specs.Laid.{AreApart, IsFunctionFor, sources_used, texts_used}
 use Rattle.bz_converting.specs.Numbered.{IsNumbering, listed_sources, listed_texts}
 use Rattle.bz_converting.specs.declared.numbering.Numbering.{Numbering}
@@ -30,12 +30,12 @@ module _ (bytes : List ℕ) where
   in_order : (table : Table) → table_in bytes ≡ Some table → functions_in_order bytes ≡ ordered_functions table.functions
   in_order table read = ap (λ o. ordered_functions (functions_of o)) read
 
-  -- no calls of a function overlap, in a file without a fault
-  pub calls_apart : (n : ℕ) → option_map (λ (t : Table). length t.functions) (table_in bytes) ≡ Some n → ((table : Table) → table_in bytes ≡ Some table → fault_in table ≡ None) →
-      (i : ℕ) (f : Function) → slice_get (functions_in_order bytes) i ≡ Some f → is_checked f ≡ true → AreApart f
-  calls_apart n count clean i f at checked =
+  -- no calls of a function without a fault overlap
+  pub calls_apart : (n : ℕ) → option_map (λ (t : Table). length t.functions) (table_in bytes) ≡ Some n → (before : Option ℕ) (f : Function) →
+      ((table : Table) → table_in bytes ≡ Some table → fault_of table before f ≡ None) → is_checked f ≡ true → AreApart f
+  calls_apart n count before f none checked =
       let t = table_there (table_in bytes) (λ (t : Table). length t.functions) n count in
-      ((all_clean t.0 (ordered_functions t.0.functions) None (clean t.0 t.1) f (i, ap (λ fs. slice_get fs i) (sym (in_order t.0 t.1)) ∙ at)).nested checked).apart
+      ((clean t.0 before f (none t.0 t.1)).nested checked).apart
 
   module _ (table : Table) (read : table_in bytes ≡ Some table) where
     pub collected_turn : (old new : Numbering) (i : ℕ) (f : Function) → slice_get (functions_in_order bytes) i ≡ Some f → (gs more : List Planned) (g : Planned) → more ≡ gs ++ g ∷ [] →

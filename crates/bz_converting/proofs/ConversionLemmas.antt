@@ -1,5 +1,5 @@
 -- What a file is converted to is told by what its bytes are to be, and the refusal by its cause.
-use Rattle.std.proofs.Common.{◌≡◌, ◌≢◌, ℕ, ◌<◌, ◌≤◌, ◌^◌, List, length, Option, Some, None, Result, Ok, Err, refl, sym, ap, ◌∙◌, lt-ltb, le-ltb}
+use Rattle.std.proofs.Common.{◌≡◌, ◌≢◌, ℕ, ◌<◌, ◌≤◌, ◌^◌, List, length, Option, Some, None, Ok, Err, refl, sym, ap, ◌∙◌, lt-ltb, le-ltb}
 use Rattle.bz_breakpad_lines.specs.Table.{Table}
 use Rattle.bz_convert.specs.Fault.{fault_in}
 use Rattle.bz_convert.specs.Plan.{plan}

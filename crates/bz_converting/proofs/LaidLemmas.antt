@@ -1,18 +1,16 @@
 -- The inlined calls that are laid out for a function are there only where there are rows.
-use Rattle.std.proofs.Common.{◌≡◌, ℕ, zero, suc, ◌<◌, Bool, true, false, cond, List, [], ◌∷◌, length, None, refl, arith}
+use Rattle.std.proofs.Common.{◌≡◌, ℕ, zero, suc, ◌<◌, Bool, true, false, cond, List, [], ◌∷◌, length, None, refl, sym, ap, ◌∙◌, arith}
+use Rattle.std.proofs.lemmas.List.{length-map}
 use Rattle.bz_breakpad_function.specs.Places.{line_at}
 use Rattle.bz_breakpad_lines.specs.Table.{Function, SourceLine}
 use Rattle.bz_convert.specs.Plan.{changes, is_checked, same_line, sized_calls}
+use Rattle.bz_convert.specs.RowsAndCalls.{AreRowsAndCalls}
+use Rattle.bz_convert.specs.Points.{row_seen}
 use Rattle.bz_convert.specs.Rows.{rows_from}
+use Rattle.bz_convert.specs.declared.fault.RowsAndCalls.{RowsAndCalls}
 use Rattle.bz_converting.specs.Laid.{calls_beside, laid_calls}
 
 module _ (f : Function) where
-  pub laid_none : length (changes f) ≡ 0 → [] ≡ laid_calls f
-  laid_none none = by (changes f) none where
-    by : (rows : List (ℕ × SourceLine)) → length rows ≡ 0 → [] ≡ calls_beside rows (sized_calls f)
-    by [] none = refl
-    by (row ∷ rows) none = absurd (omega arith)
-
   pub laid_some : 0 < length (changes f) → sized_calls f ≡ laid_calls f
   laid_some some = by (changes f) some where
     by : (rows : List (ℕ × SourceLine)) → 0 < length rows → sized_calls f ≡ calls_beside rows (sized_calls f)
@@ -25,6 +23,13 @@ module _ (f : Function) where
     by true is rows some = is
     by false is rows some = absurd (omega arith)
 
-  pub some_rows : (rows : ℕ) → rows ≡ length (changes f) → (rows ≡ 0 → ⊥) → 0 < length (changes f)
-  some_rows zero count some = absurd (some refl)
-  some_rows (suc n) count some = omega (arith, count)
+  -- where rows were found, the function has some
+  module _ (found : RowsAndCalls) (are : AreRowsAndCalls f found) where
+    rows_counted : length found.rows.items ≡ length (changes f)
+    rows_counted = sym (length-map found.rows.items row_seen) ∙ ap length are.rows
+
+    pub some_rows : (length found.rows.items ≡ 0 → ⊥) → 0 < length (changes f)
+    some_rows some = by (length found.rows.items) rows_counted some where
+      by : (rows : ℕ) → rows ≡ length (changes f) → (rows ≡ 0 → ⊥) → 0 < length (changes f)
+      by zero count some = absurd (some refl)
+      by (suc n) count some = omega (arith, count)

@@ -1,12 +1,14 @@
 //! The inlined calls of a function, as a plan has them.
 
-ghost use Rattle.std.specs.Prelude.{◌≡◌, ◌++◌, ℕ, List, true, flat_map, length, map, option_map, None, Some, IfOk, IsOkUnless, OnOk};
+ghost use Rattle.std.specs.Prelude.{◌≡◌, ◌++◌, ℕ, List, true, flat_map, map, option_map, None, Some, IfOk, IsOkUnless, OnOk};
 ghost use Rattle.std.specs.List.{AllZip, filter};
 ghost use Rattle.bz_base.specs.declared.error.Error.{Error};
 ghost use Rattle.bz_breakpad.specs.Lent.{kept_inlinee};
+ghost use Rattle.bz_breakpad_function.specs.InOrder.{calls_in_order};
 ghost use Rattle.bz_breakpad_lines.specs.Reader.{table_in};
-ghost use Rattle.bz_breakpad_lines.specs.Table.{Table};
-ghost use Rattle.bz_convert.specs.Plan.{changes, has_size, is_checked, sized_calls};
+ghost use Rattle.bz_breakpad_lines.specs.Table.{Function, Table};
+ghost use Rattle.bz_convert.specs.Plan.{has_size, is_checked, sized_calls};
+ghost use Rattle.bz_convert.specs.RowsAndCalls.{AreRowsAndCalls};
 ghost use Rattle.bz_converting.specs.Laid.{AreApart, IsNodeFor, laid_calls, sources_of_call, texts_of_call};
 ghost use Rattle.bz_converting.specs.Numbered.{IsNumbering, listed_sources, listed_texts, origin_named};
 ghost use Rattle.bz_converting.specs.Sized.{is_repeated, placed_calls, without_repeats};
@@ -14,7 +16,8 @@ ghost use Rattle.bz_gsym_layout.specs.Plan.{Source};
 
 use crate::numbering::Numbering;
 use bz_base::{Result, Spanned, sort_table};
-use bz_breakpad::{Function, Inlinee, SymbolFile};
+use bz_breakpad::{Inlinee, SymbolFile};
+use bz_convert::RowsAndCalls;
 use bz_gsym_layout::Node;
 use std::alloc::Global;
 
@@ -38,27 +41,23 @@ impl Spanned for PlacedCall {
     }
 }
 
-/// The inlined calls that are laid out for a function which has so many rows.
-pub(crate) fn calls_of(alloc: Global, function: &Function<'_>, rows: usize) -> Result<Vec<Inlinee>>
-    requires apart { is_checked function.now ≡ true → AreApart function.now }
-    requires rows { rows ≡ length (changes function.now) }
-    ensures calls { IfOk result (λ calls. map kept_inlinee calls.items ≡ laid_calls function.now) }
+/// The inlined calls that are laid out for a function which has these rows and calls.
+pub(crate) fn calls_of(alloc: Global, found: &RowsAndCalls) -> Result<Vec<Inlinee>>
+    ensures calls { IfOk result (λ calls. (f : Function) → (is_checked f ≡ true → AreApart f) → AreRowsAndCalls f found.now → map kept_inlinee calls.items ≡ laid_calls f) }
     ensures memory { IsOkUnless result Error.OutOfMemory }
 {
-    if rows == 0 {
+    if found.rows.is_empty() {
         return Ok(Vec::new(alloc));
     }
-    sized_calls(alloc, function)
+    sized_calls(alloc, &found.calls)
 }
 
-/// The inlined calls of a function that have a size, each once, by start and depth.
-fn sized_calls(alloc: Global, function: &Function<'_>) -> Result<Vec<Inlinee>>
-    requires { AreApart function.now }
-    ensures calls { IfOk result (λ calls. map kept_inlinee calls.items ≡ sized_calls function.now) }
+/// The inlined calls that have a size, each once, by start and depth.
+fn sized_calls(alloc: Global, calls: &[Inlinee]) -> Result<Vec<Inlinee>>
+    ensures calls { IfOk result (λ sized. (f : Function) → AreApart f → map kept_inlinee calls.now ≡ calls_in_order f → map kept_inlinee sized.items ≡ sized_calls f) }
     ensures memory { IsOkUnless result Error.OutOfMemory }
 {
-    let calls = function.inlinees(alloc)?;
-    let mut placed = placed_calls(alloc, &calls)?;
+    let mut placed = placed_calls(alloc, calls)?;
     sort_table(&mut placed)?;
     without_repeats(alloc, &placed)
 }

@@ -14,8 +14,8 @@ ghost use Rattle.bz_gsym_layout.specs.Layout.{layout};
 
 use crate::plan::plan_of;
 use bz_breakpad::SymbolFile;
+use bz_convert::ConvertError;
 use bz_convert::laws::conversions_answer_alike;
-use bz_convert::{ConvertError, first_fault};
 use bz_gsym_layout::{LayoutError, write};
 use std::alloc::Global;
 
@@ -33,14 +33,10 @@ pub fn convert(alloc: Global, file: &SymbolFile) -> Result<Vec<u8>, ConvertError
     ensures refusal { IfErr result (λ e. (table : Table) → table_in file.now ≡ Some table → Refuses e (fault_in table) (length (layout (plan table)))) }
 {
     conversions_answer_alike();
-    let Ok(fault) = first_fault(alloc, file) else {
-        return Err(ConvertError::OutOfMemory);
-    };
-    if let Some(fault) = fault {
-        return Err(fault);
-    }
-    let Ok(plan) = plan_of(alloc, file) else {
-        return Err(ConvertError::OutOfMemory);
+    let plan = match plan_of(alloc, file) {
+        Ok(Ok(plan)) => plan,
+        Ok(Err(fault)) => return Err(fault),
+        Err(_) => return Err(ConvertError::OutOfMemory),
     };
     match write(alloc, &plan) {
         Ok(bytes) => Ok(bytes),

@@ -5,15 +5,17 @@ ghost use Rattle.bz_base.specs.declared.error.Error.{Error};
 ghost use Rattle.bz_breakpad_lines.specs.Reader.{table_in};
 ghost use Rattle.bz_breakpad_lines.specs.Table.{Table};
 ghost use Rattle.bz_convert.specs.Plan.{is_checked};
+ghost use Rattle.bz_convert.specs.RowsAndCalls.{AreRowsAndCalls};
 ghost use Rattle.bz_converting.specs.Laid.{AreApart, IsFunctionFor, sources_used, texts_used};
 ghost use Rattle.bz_converting.specs.Numbered.{IsNumbering, listed_sources, listed_texts};
 ghost use Rattle.bz_gsym_layout.specs.Plan.{Source};
 
 use crate::calls::{calls_of, nodes_of};
 use crate::numbering::Numbering;
-use crate::rows::{lines_of, rows_of};
+use crate::rows::rows_of;
 use bz_base::Result;
 use bz_breakpad::{Function, SymbolFile};
+use bz_convert::RowsAndCalls;
 use bz_gsym_layout::Function as PlannedFunction;
 use std::alloc::Global;
 
@@ -23,8 +25,10 @@ pub(crate) fn function_of<'a>(
     numbering: &mut Numbering<'a>,
     file: &'a SymbolFile,
     function: &Function<'a>,
+    found: &RowsAndCalls,
 ) -> Result<PlannedFunction>
-    requires { is_checked function.now ≡ true → AreApart function.now }
+    requires apart { is_checked function.now ≡ true → AreApart function.now }
+    requires found { AreRowsAndCalls function.now found.now }
     ensures numbering { OnOk result ((table : Table) (texts : List (List ℕ)) (sources : List Source) → table_in file.now ≡ Some table → IsNumbering table texts sources numbering.old →
         IsNumbering table (texts ++ texts_used table function.now) (sources ++ sources_used table function.now) numbering.new) }
     ensures function { IfOk result (λ planned. (table : Table) (texts : List (List ℕ)) (sources : List Source) → table_in file.now ≡ Some table → IsNumbering table texts sources numbering.old →
@@ -32,9 +36,8 @@ pub(crate) fn function_of<'a>(
     ensures memory { IsOkUnless result Error.OutOfMemory }
 {
     let name = numbering.text(function.name())?;
-    let lines = lines_of(alloc, function)?;
-    let rows = rows_of(alloc, numbering, file, &lines)?;
-    let calls = calls_of(alloc, function, lines.len())?;
+    let rows = rows_of(alloc, numbering, file, &found.rows)?;
+    let calls = calls_of(alloc, found)?;
     let calls = nodes_of(alloc, numbering, file, &calls)?;
     Ok(PlannedFunction {
         start: function.addr(),

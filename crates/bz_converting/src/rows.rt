@@ -6,7 +6,6 @@ ghost use Rattle.bz_base.specs.declared.error.Error.{Error};
 ghost use Rattle.bz_breakpad_lines.specs.Reader.{table_in};
 ghost use Rattle.bz_breakpad_lines.specs.Table.{Table};
 ghost use Rattle.bz_convert.specs.Ids.{lent_source};
-ghost use Rattle.bz_convert.specs.Plan.{changes};
 ghost use Rattle.bz_convert.specs.Points.{row_seen};
 ghost use Rattle.bz_converting.specs.Laid.{IsRowFor, sources_of_row, texts_of_row};
 ghost use Rattle.bz_converting.specs.Numbered.{IsNumbering, listed_sources, source_named};
@@ -14,8 +13,8 @@ ghost use Rattle.bz_gsym_layout.specs.Plan.{Source};
 
 use crate::numbering::Numbering;
 use bz_base::Result;
-use bz_breakpad::{Function, SourceLine, SymbolFile};
-use bz_convert::{Source, is_checked, located, walk_lines};
+use bz_breakpad::{SourceLine, SymbolFile};
+use bz_convert::{Source, located};
 use bz_gsym_layout::Row;
 use std::alloc::Global;
 
@@ -27,18 +26,6 @@ pub(crate) fn source_of(file: &SymbolFile, id: u32) -> Source<'_>
         Some(source) => source,
         None => (None, ""),
     }
-}
-
-/// The addresses of a function at which another line record answers than before, with those records.
-pub(crate) fn lines_of(alloc: Global, function: &Function<'_>) -> Result<Vec<(u64, SourceLine)>>
-    ensures lines { IfOk result (λ lines. map row_seen lines.items ≡ changes function.now) }
-    ensures memory { IsOkUnless result Error.OutOfMemory }
-{
-    if !is_checked(function) {
-        return Ok(Vec::new(alloc));
-    }
-    let walked = walk_lines(alloc, function)?;
-    Ok(walked.rows)
 }
 
 /// The row of a line record that answers from an address on.

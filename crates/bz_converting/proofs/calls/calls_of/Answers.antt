@@ -1,11 +1,15 @@
-use Rattle.std.proofs.Common.{◌∙◌}
+use Rattle.std.proofs.Common.{[], ap, arith, map, if◌then◌else◌, ◌∙◌}
+use Rattle.bz_breakpad.specs.Lent.{kept_inlinee}
+use Rattle.bz_breakpad_function.specs.InOrder.{calls_in_order}
 use Rattle.bz_converting.proofs.LaidLemmas.{laid_checked, laid_some, some_rows}
 use Rattle.bz_converting.proofs.NumberingLemmas.{if_ok}
 use Rattle.bz_converting.proofs.calls.calls_of.Goals as goal
 
-pub sized_calls-requires : goal.sized_calls-requires
-sized_calls-requires c = c.requires.apart (laid_checked c.args.function.now (some_rows c.args.function.now c.args.rows c.requires.rows c.if-rows-eq0.false))
-
 pub returns-clause-calls : goal.returns-clause-calls
 returns-clause-calls c =
-    if_ok c.sized_calls.result _ _ (λ calls is. is ∙ laid_some c.args.function.now (some_rows c.args.function.now c.args.rows c.requires.rows c.if-rows-eq0.false)) c.sized_calls.ensures.calls
+    if_ok c.sized_calls.result _ _
+    (λ calls is f apart are.
+    let some = some_rows f c.args.found.now are (λ none. grind (arith, none, c.is_empty.ensures, c.if-is_empty.false)) in
+    let checked = laid_checked f some in
+    is f (apart checked) (ap (map kept_inlinee) c.deref.ensures.value ∙ (are.calls ∙ ap (λ b. if b then calls_in_order f else []) checked)) ∙ laid_some f some)
+    c.sized_calls.ensures.calls

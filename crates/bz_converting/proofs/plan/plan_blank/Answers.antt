@@ -1,37 +1,76 @@
-use Rattle.std.proofs.Common.{[], arith, subst, sym, take}
+use Rattle.std.proofs.Common.{[], IfOk, None, Some, ap, arith, drop, length, refl, sym, subst, take, ◌+◌, ◌≡◌, ◌≤◌, ◌∙◌}
 use Rattle.bz_breakpad_function.specs.InOrder.{ordered_functions}
-use Rattle.bz_converting.proofs.CollectedLemmas.{calls_apart, collected_turn, plan_codes, plan_formed}
+use Rattle.bz_breakpad_lines.specs.Reader.{table_in}
+use Rattle.bz_breakpad_lines.specs.Table.{Table}
+use Rattle.bz_convert.specs.Fault.{fault_of, first_fault}
+use Rattle.bz_convert.specs.RowsAndCalls.{AreRowsAndCalls, fault_found}
+use Rattle.bz_convert.proofs.FileTurns.{turn_on, turn_out, turns_end}
+use Rattle.bz_converting.proofs.CollectedLemmas.{calls_apart, collected_turn, plan_codes, plan_formed, table_there}
 use Rattle.bz_converting.specs.Laid.{IsFunctionFor, sources_used, texts_used}
 use Rattle.bz_converting.specs.Numbered.{listed_sources, listed_texts}
 use Rattle.bz_converting.proofs.PlannedLemmas.{Collected}
+use Rattle.bz_converting.proofs.RefusedLemmas.{fault_told}
 use Rattle.bz_converting.proofs.SoFarLemmas.{none_yet}
 use Rattle.bz_converting.proofs.plan.plan_blank.Goals as goal
 
 pub function_of-requires : goal.function_of-requires
-function_of-requires g c checked i there =
-    calls_apart c.args.file.now c.function_count-index-end.result c.function_count-index-end.ensures.table c.requires.clean c.loop-index.index c.function-function.result c.function-function.ensures.function checked i there
+function_of-requires g c =
+    let s = c.loop-index in
+    let f = c.function-function.result in
+    let none : (table : Table) → table_in c.args.file.now ≡ Some table → fault_of table s.before f ≡ None = λ table read.
+    sym (c.in_ok-found.ensures.fault table (ap table_in c.in_ok-ids.ensures.ok ∙ read)) ∙ ap fault_found c.in-Ok.is in
+    record {
+      apart = λ checked. calls_apart c.args.file.now c.function_count-index-end.result c.function_count-index-end.ensures.table s.before f none checked;
+      found = subst (λ r. IfOk r (AreRowsAndCalls f)) c.in-Ok.is c.in_ok-found.ensures.found;
+    }
 
 pub loop-index-init : goal.loop-index-init
-loop-index-init g c table read =
-    none_yet table (texts_used table) (sources_used table) (λ n. IsFunctionFor table (listed_texts n.texts) (listed_sources n)) [] [] c.in_ok-numbering.numbering c.in_ok-functions.functions.items c.in_ok-functions.ensures.items
-    (c.in_ok-numbering.ensures.numbering table)
+loop-index-init g c = record {
+  clean = λ table read. refl;
+  collected = λ table read.
+      none_yet table (texts_used table) (sources_used table) (λ n. IsFunctionFor table (listed_texts n.texts) (listed_sources n)) [] [] c.in_ok-numbering.numbering c.in_ok-functions.functions.items c.in_ok-functions.ensures.items
+      (c.in_ok-numbering.ensures.numbering table);
+}
 
 pub loop-index-preserved : goal.loop-index-preserved
-loop-index-preserved g c table read =
+loop-index-preserved g c =
     let s = c.loop-index in
-    collected_turn c.args.file.now table read s.numbering c.function_of.new.numbering s.index c.function-function.result c.function-function.ensures.function s.functions.items c.push.new.self.items
-    c.in_ok-function_of.field-0 c.in_ok-push.ensures.items (s.invariant table read) c.in_ok-function_of.ensures.numbering c.in_ok-function_of.ensures.function
+    record {
+      clean = λ table read.
+          ap (λ a. first_fault table (Some a) (drop (s.index + 1) (ordered_functions table.functions))) c.addr.ensures
+          ∙ turn_on c.args.file.now table read s.before s.index c.function-function.result c.function-function.ensures.function
+          (ap fault_found (sym c.in-Ok.is) ∙ c.in_ok-found.ensures.fault table (ap table_in c.in_ok-ids.ensures.ok ∙ read)) (s.invariant.clean table read);
+      collected = λ table read.
+          collected_turn c.args.file.now table read s.numbering c.function_of.new.numbering s.index c.function-function.result c.function-function.ensures.function s.functions.items c.push.new.self.items
+          c.in_ok-function_of.field-0 c.in_ok-push.ensures.items (s.invariant.collected table read) c.in_ok-function_of.ensures.numbering c.in_ok-function_of.ensures.function;
+    }
 
-pub returns-clause-formed : goal.returns-clause-formed
-returns-clause-formed g c table read =
+pub returns-in-Err-clause-plan : goal.returns-in-Err-clause-plan
+returns-in-Err-clause-plan g c =
     let s = c.loop-index in
-    plan_formed c.args.file.now table read c.function_count-index-end.result c.function_count-index-end.ensures.table (c.requires.clean table read) s.index (omega (arith, c.loop-index-test.false)) s.numbering c.into_plan.result
-    c.into_plan.ensures.texts c.into_plan.ensures.sources
-    (subst (λ gs. Collected table s.numbering (take s.index (ordered_functions table.functions)) gs.items) (sym c.into_plan.ensures.functions) (s.invariant table read))
+    let f = c.function-function.result in
+    let count = c.function_count-index-end.ensures.table in
+    let there = table_there (table_in c.args.file.now) (λ (t : Table). length t.functions) c.function_count-index-end.result count in
+    let out =
+    turn_out c.args.file.now c.function_count-index-end.result count s.before s.index f c.function-function.ensures.function c.in-Err.fault
+    (λ table read. ap fault_found (sym c.in-Err.is) ∙ c.in_ok-found.ensures.fault table (ap table_in c.in_ok-ids.ensures.ok ∙ read)) s.invariant.clean in
+    (there.0, there.1, fault_told (table_in c.args.file.now) (Some c.in-Err.fault) out there.0 there.1)
 
-pub returns-clause-codes : goal.returns-clause-codes
-returns-clause-codes g c table read =
+pub returns-clause-plan : goal.returns-clause-plan
+returns-clause-plan g c =
     let s = c.loop-index in
-    plan_codes c.args.file.now table read c.function_count-index-end.result c.function_count-index-end.ensures.table (c.requires.clean table read) s.index (omega (arith, c.loop-index-test.false)) s.numbering c.into_plan.result
-    c.into_plan.ensures.texts c.into_plan.ensures.sources
-    (subst (λ gs. Collected table s.numbering (take s.index (ordered_functions table.functions)) gs.items) (sym c.into_plan.ensures.functions) (s.invariant table read))
+    let bytes = c.args.file.now in
+    let n = c.function_count-index-end.result in
+    let count = c.function_count-index-end.ensures.table in
+    let past : n ≤ s.index = omega (arith, c.loop-index-test.false) in
+    let there = table_there (table_in bytes) (λ (t : Table). length t.functions) n count in
+    let none = fault_told (table_in bytes) None (turns_end bytes n count s.before s.index past s.invariant.clean) there.0 there.1 in
+    let all = subst (λ gs. Collected there.0 s.numbering (take s.index (ordered_functions there.0.functions)) gs.items) (sym c.into_plan.ensures.functions) (s.invariant.collected there.0 there.1) in (
+      there.0,
+      there.1,
+      record {
+        clean = none;
+        formed = plan_formed bytes there.0 there.1 n count none s.index past s.numbering c.into_plan.result c.into_plan.ensures.texts c.into_plan.ensures.sources all;
+        codes = plan_codes bytes there.0 there.1 n count none s.index past s.numbering c.into_plan.result c.into_plan.ensures.texts c.into_plan.ensures.sources all;
+      },
+    )

@@ -17,7 +17,7 @@ use std::marker::Model;
 
 /// A file, of whose ids some are known to name texts without a zero byte. Contracts see the file.
 #[derive(Drop)]
-pub(crate) struct KnownIds<'a> {
+pub struct CleanIds<'a> {
     file: &'a SymbolFile,
     /// Whether this is known of each id of FILE records from 0 on.
     files: Vec<bool>,
@@ -25,7 +25,7 @@ pub(crate) struct KnownIds<'a> {
     origins: Vec<bool>,
 }
 
-impl<'a> Model for KnownIds<'a> {
+impl<'a> Model for CleanIds<'a> {
     ghost use Rattle.std.specs.Prelude.{ℕ, List};
     ghost use Rattle.bz_convert.specs.Ids.{AreClean};
 
@@ -36,15 +36,15 @@ impl<'a> Model for KnownIds<'a> {
     ghost invariant = { λ ids. AreClean ids.file.now ids.files.items ids.origins.items };
 }
 
-impl<'a> KnownIds<'a> {
+impl<'a> CleanIds<'a> {
     /// The ids of a file, of which those up to their count are looked at.
-    pub fn new(alloc: Global, file: &'a SymbolFile) -> Result<KnownIds<'a>>
+    pub fn new(alloc: Global, file: &'a SymbolFile) -> Result<CleanIds<'a>>
         ensures ok { IfOk result (λ ids. ids ≡ file.now) }
         ensures memory { IsOkUnless result Error.OutOfMemory }
     {
         let files = clean_files(alloc, file)?;
         let origins = clean_origins(alloc, file)?;
-        Ok(KnownIds {
+        Ok(CleanIds {
             file,
             files,
             origins,
@@ -52,7 +52,7 @@ impl<'a> KnownIds<'a> {
     }
 
     /// Whether no source file of an id is known.
-    pub fn lacks_file(&self, id: u32) -> bool
+    pub(crate) fn lacks_file(&self, id: u32) -> bool
         ensures { (table : Table) → table_in self.now ≡ Some table → result ≡ is_none (located table id) }
     {
         if is_set(&self.files, id) {
@@ -62,7 +62,7 @@ impl<'a> KnownIds<'a> {
     }
 
     /// Whether no origin of an id is known.
-    pub fn lacks_origin(&self, id: u32) -> bool
+    pub(crate) fn lacks_origin(&self, id: u32) -> bool
         ensures { (table : Table) → table_in self.now ≡ Some table → result ≡ is_none (name_for id table.origins) }
     {
         if is_set(&self.origins, id) {
@@ -72,7 +72,7 @@ impl<'a> KnownIds<'a> {
     }
 
     /// Whether directory or name of the file of an id hold a zero byte.
-    pub fn file_has_zero(&self, id: u32) -> bool
+    pub(crate) fn file_has_zero(&self, id: u32) -> bool
         ensures { (table : Table) → table_in self.now ≡ Some table → result ≡ file_has_zero table id }
     {
         if is_set(&self.files, id) {
@@ -82,7 +82,7 @@ impl<'a> KnownIds<'a> {
     }
 
     /// Whether the name of an origin holds a zero byte.
-    pub fn origin_has_zero(&self, id: u32) -> bool
+    pub(crate) fn origin_has_zero(&self, id: u32) -> bool
         ensures { (table : Table) → table_in self.now ≡ Some table → result ≡ has_zero (unwrap_or (name_for id table.origins) []) }
     {
         if is_set(&self.origins, id) {

@@ -3,7 +3,7 @@ use Rattle.std.specs.List.{slice_get}
 use Rattle.std.proofs.lemmas.List.{length_push}
 use Rattle.bz_convert.specs.Ids.{IsCleanOrigin}
 use Rattle.bz_convert.proofs.MemberLemmas.{each_more}
-use Rattle.bz_convert.proofs.known.clean_origins.Goals as goal
+use Rattle.bz_convert.proofs.clean_ids.clean_origins.Goals as goal
 
 pub loop-id-preserved : goal.loop-id-preserved
 loop-id-preserved c =
