@@ -1,5 +1,24 @@
-mod AskedLemmas
-mod NumberLemmas
-mod RequestsLemmas
-mod RunLemmas
-mod SideLemmas
+pub mod AskedLemmas
+pub mod DoesLemmas
+pub mod FoldLemmas
+pub mod FrameInputLemmas
+pub mod FrameLemmas
+pub mod FrameRunLemmas
+pub mod FrameTextLemmas
+pub mod FrameTurnLemmas
+pub mod GeneratedAskingLemmas
+pub mod GeneratedBoundLemmas
+pub mod GeneratedEndLemmas
+pub mod NumberLemmas
+pub mod RequestBoundLemmas
+pub mod RequestReplyLemmas
+pub mod RequestsLemmas
+pub mod RunLemmas
+pub mod ServeLemmas
+pub mod ServingLoopLemmas
+pub mod SideLemmas
+pub mod StackCountLemmas
+pub mod StackEndLemmas
+pub mod StackOutcomeLemmas
+pub mod StackReplyLemmas
+pub mod TallyLemmas

@@ -10,8 +10,8 @@ use Rattle.bz_files.specs.declared.text.TextOut as output_trait
 use Rattle.bz_requests.specs.Requests.{IsRequest, Request, request_of}
 use Rattle.bz_requests.specs.declared.requests.Config.{Config}
 use Rattle.bz_requests.specs.declared.requests.Request as made
-use Rattle.bz_serve.specs.Runs.{worlds_after}
-use Rattle.bz_serve.specs.Serving.{Serves}
+use Rattle.bz_run.specs.RequestRuns.{worlds_after}
+use Rattle.bz_run.specs.Serving.{Serves}
 use Rattle.bz_symq.proofs.EndLemmas.{IsFailure, done_no_failure, failed_ends, input_no_failure, never}
 use Rattle.bz_symq.proofs.FaultLemmas.{counts_as, no_fault}
 use Rattle.bz_symq.specs.InputText.{IsBadInput}

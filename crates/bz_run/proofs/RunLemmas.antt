@@ -7,16 +7,16 @@ use Rattle.bz_base.specs.declared.types.FindSymOpts.{FindSymOpts}
 use Rattle.bz_files.specs.declared.files.Files as files_trait
 use Rattle.bz_files.specs.declared.text.TextIn as input_trait
 use Rattle.bz_files.specs.declared.text.TextOut as output_trait
-use Rattle.bz_folding.proofs.EndLemmas as stacks
-use Rattle.bz_folding.specs.StackRun.{RunsStacks}
-use Rattle.bz_frames.proofs.RunLemmas as frames
-use Rattle.bz_frames.proofs.TurnLemmas.{turns_unread}
-use Rattle.bz_frames.specs.FrameRun.{RunsFrames}
+use Rattle.bz_run.proofs.StackEndLemmas as stacks
+use Rattle.bz_run.specs.StackRun.{RunsStacks}
+use Rattle.bz_run.proofs.FrameRunLemmas as frames
+use Rattle.bz_run.proofs.FrameTurnLemmas.{turns_unread}
+use Rattle.bz_run.specs.FrameRun.{RunsFrames}
 use Rattle.bz_requests.specs.Requests as requests
 use Rattle.bz_requests.specs.declared.requests.Config.{Config}
-use Rattle.bz_gen_job.specs.Generating.{generated_summary}
+use Rattle.bz_run.specs.Generating.{generated_summary}
 use Rattle.bz_symq.proofs.FaultLemmas.{counts_still}
-use Rattle.bz_serve.specs.Serving.{served}
+use Rattle.bz_run.specs.Serving.{served}
 use Rattle.bz_symq.proofs.EndLemmas.{failed_ends, runs_without_reply}
 use Rattle.bz_symq.specs.Command as asked
 use Rattle.bz_symq.specs.Reply.{IsDoneReply}

@@ -3,8 +3,8 @@ use Rattle.std.specs.Prelude.{◌≡◌, ◌⊎◌, ◌<◌, ◌≤◌, ℕ, Boo
 use Rattle.bz_files.specs.World.{World}
 use Rattle.bz_requests.specs.Requests.{IsRequest, Request, requests_in}
 use Rattle.bz_requests.specs.declared.requests.Config.{Config}
-use Rattle.bz_serve.specs.Runs.{run_reads, run_text}
-use Rattle.bz_serve.specs.Serving.{served}
+use Rattle.bz_run.specs.RequestRuns.{run_reads, run_text}
+use Rattle.bz_run.specs.Serving.{served}
 use Rattle.bz_symq.specs.InputText.{AsksFor, greatest_input}
 use Rattle.bz_symq.specs.Outcome.{Outcome, bad_line, too_long}
 use Rattle.bz_symq.specs.Reply.{outcome_of}

@@ -1,7 +1,7 @@
 -- What a run of the generated job promises.
 use Rattle.std.specs.Prelude.{◌≡◌, ◌<◌, ◌≤◌, ℕ}
 use Rattle.bz_files.specs.declared.text.TextOut as output_trait
-use Rattle.bz_gen_job.specs.Generating.{Generates}
+use Rattle.bz_run.specs.Generating.{Generates}
 use Rattle.bz_requests.specs.declared.requests.Config.{Config}
 use Rattle.bz_symq.specs.declared.status.Status.{Status}
 use Rattle.bz_words.specs.Command.{Generate, Job}

@@ -9,8 +9,8 @@ use Rattle.bz_files.specs.declared.text.TextIn as input_trait
 use Rattle.bz_files.specs.declared.text.TextOut as output_trait
 use Rattle.bz_requests.specs.Requests.{IsRequest}
 use Rattle.bz_requests.specs.declared.requests.Config.{Config}
-use Rattle.bz_serve.specs.Runs.{worlds_after}
-use Rattle.bz_serve.specs.Serving.{ToldWorlds}
+use Rattle.bz_run.specs.RequestRuns.{worlds_after}
+use Rattle.bz_run.specs.Serving.{ToldWorlds}
 use Rattle.bz_symq.specs.InputText.{IsBadInput, IsReadWhole, MovesAtMost, greatest_input}
 use Rattle.bz_symq.specs.Run.{Ends, IsNoFailure, IsOrFails}
 use Rattle.bz_symq.specs.declared.status.Status.{Status}

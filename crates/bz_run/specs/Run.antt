@@ -5,8 +5,8 @@ use Rattle.bz_files.specs.declared.text.TextIn as input_trait
 use Rattle.bz_files.specs.declared.text.TextOut as output_trait
 use Rattle.bz_requests.specs.Requests as requests
 use Rattle.bz_requests.specs.declared.requests.Config.{Config}
-use Rattle.bz_folding.specs.StackRun.{RunsStacks}
-use Rattle.bz_frames.specs.FrameRun.{RunsFrames}
+use Rattle.bz_run.specs.StackRun.{RunsStacks}
+use Rattle.bz_run.specs.FrameRun.{RunsFrames}
 use Rattle.bz_symq.specs.Command as asked
 use Rattle.bz_symq.specs.Kept.{opts_in}
 use Rattle.bz_symq.specs.Run as one_command

@@ -9,13 +9,13 @@ ghost use Rattle.bz_run.specs.Run.{Runs, RunsCommand, RunsJob};
 ghost use Rattle.bz_words.specs.Command.{Batch, Make, command_in, job_of, product_of};
 
 use crate::frames::answer_frames;
+use crate::generating::generate;
 use crate::misuse::tell_usage;
 use crate::requests::serve_input;
+use crate::stacks::run_stacks;
 use crate::targets::{asked_product, asked_target};
 use bz_base::Input;
 use bz_files::{Files, TextIn, TextOut};
-use bz_folding::run_stacks;
-use bz_gen_job::generate;
 use bz_requests::{Config, Target};
 use bz_symq::Status;
 use bz_words::{BadWords, Job, Product, read_command};

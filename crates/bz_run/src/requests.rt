@@ -3,9 +3,9 @@
 ghost use Rattle.bz_run.specs.Requests.{RunsRequests};
 
 use crate::input::{Asked, requests_asked};
+use crate::serving::serve;
 use bz_files::{Files, TextIn, TextOut};
 use bz_requests::Config;
-use bz_serve::serve;
 use bz_symq::{Status, failed, finish};
 use std::alloc::Global;
 

@@ -1,5 +1,0 @@
-mod CountLemmas
-pub mod EndLemmas
-mod FoldLemmas
-mod OutcomeLemmas
-mod ReplyLemmas

@@ -1,3 +1,0 @@
-pub mod StackOutcome
-pub mod StackRun
-pub mod StackReply

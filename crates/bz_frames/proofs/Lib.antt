@@ -1,5 +1,0 @@
-pub mod FrameLemmas
-pub mod InputLemmas
-pub mod RunLemmas
-pub mod TextLemmas
-pub mod TurnLemmas

@@ -1,4 +1,0 @@
-mod AskingLemmas
-mod BoundLemmas
-mod EndLemmas
-mod TallyLemmas

@@ -1,6 +1,0 @@
-use Rattle.bz_gen_job.proofs.TallyLemmas.{TalliedSoFar}
-use Rattle.bz_gen_job.proofs.tally.tally_of.Given as goal
-
--- the answers so far are counted
-abbrev pub invariant-loop-index : goal.invariant-loop-index
-invariant-loop-index l = TalliedSoFar l.lookups.answers l.tally l.index

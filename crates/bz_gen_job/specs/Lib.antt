@@ -1,2 +1,0 @@
-pub mod Generating
-pub mod Summary

@@ -1,0 +1,41 @@
+-- What the generated job promises.
+use Rattle.std.specs.Prelude.{◌≡◌, ℕ, List, Result, Ok, Err}
+use Rattle.bz_base.specs.Answer.{Answer}
+use Rattle.bz_files.specs.Count.{CountsFaults}
+use Rattle.bz_files.specs.World.{Told}
+use Rattle.bz_files.specs.declared.text.IoFault.{IoFault}
+use Rattle.bz_files.specs.declared.text.IoFault.TheVariants as faults
+use Rattle.bz_files.specs.declared.text.TextOut as output_trait
+use Rattle.bz_breakpad.specs.Plain.{batch}
+use Rattle.bz_gen.specs.Generated.{addresses_after}
+use Rattle.bz_gen_file.specs.GeneratedTable.{generated_table}
+use Rattle.bz_requests.specs.declared.requests.Config.{Config}
+use Rattle.bz_symq.specs.Kept.{settings_of}
+use Rattle.bz_run.specs.Serving.{served}
+use Rattle.bz_symbolize.specs.State.{opts_of}
+use Rattle.bz_symq.specs.Run.{Ends, IsOrFails}
+use Rattle.bz_symq.specs.declared.status.Status.{Status}
+use Rattle.bz_symq.specs.declared.status.Status.TheVariants as statuses
+use Rattle.bz_run.specs.GeneratedSummary.{summary_text}
+
+-- the plain answers of the generated text's table at the generated addresses
+abbrev pub generated_answers : Config → ℕ → ℕ → ℕ → List Answer
+generated_answers config seed functions addresses = batch (generated_table functions) (opts_of (settings_of config)) (addresses_after functions seed addresses)
+
+abbrev pub generated_summary : Config → ℕ → ℕ → ℕ → List ℕ
+generated_summary config seed functions addresses = summary_text functions addresses (generated_answers config seed functions addresses)
+
+-- how the job ends once its summary was to be written
+abbrev pub ended_by : Result (Unit {0}) IoFault → Status
+ended_by (Ok written) = statuses.Done
+ended_by (Err faults.Fault) = statuses.Fault
+ended_by (Err faults.OutOfMemory) = statuses.Memory
+
+-- all that the generated job promises
+pub record Generates {W : Type 0} (writes : output_trait.Ghosts W) (config : Config) (seed functions addresses : ℕ) (ended : Status) (before after : W) : Type 0 where
+  -- status 0 means that the summary is what was written, and status 4 or 5 that a front of it is
+  pub ends : Told (writes.written before) (λ was. Ends (served (generated_summary config seed functions addresses)) was ended (writes.written after))
+  -- no other status comes
+  pub status : IsOrFails statuses.Done ended
+  -- a fault comes exactly where one call of the output failed
+  pub fails : CountsFaults (writes.faults before) (writes.faults after) (ended ≡ statuses.Fault)

@@ -1,0 +1,50 @@
+//! The generated job.
+
+ghost use Rattle.std.specs.Prelude.{◌≡◌, ◌<◌, ◌≤◌};
+ghost use Rattle.bz_run.specs.Generating.{Generates, ended_by};
+
+mod asking;
+mod steady_files;
+mod summary;
+mod tally;
+
+use crate::generating::summary::generated_summary;
+use bz_files::{IoFault, TextOut};
+use bz_requests::Config;
+use bz_symq::{Said, Status, write_said};
+use std::alloc::Global;
+use std::borrow::CowStr;
+
+/// Puts the text of so many functions at a path in memory, asks a new symbolizer for so many addresses
+/// by the numbers after the seed, and writes what it counts of the answers: a line each for the
+/// functions, the addresses, how many are known and how many aren't, the inlined calls, and the sum of
+/// the offsets, in bytes. It ends by `Done`; by `Fault` where writing failed; or by `Memory`.
+pub fn generate<W: TextOut>(
+    alloc: Global,
+    config: Config,
+    seed: u64,
+    functions: u64,
+    addresses: u64,
+    output: &mut W,
+) -> Status
+    requires seed { seed < 2147483648 }
+    requires functions { functions ≤ 100000 }
+    requires addresses { addresses ≤ 100000 }
+    ensures { Generates W.TextOut config seed functions addresses result output.old output.new }
+{
+    match generated_summary(alloc, config, seed, functions, addresses) {
+        Ok(text) => ended_by(write_said(alloc, output, &Said::Text(CowStr::Owned(text)))),
+        Err(_) => Status::Memory,
+    }
+}
+
+// How the job ends once its summary was to be written.
+fn ended_by(put: Result<(), IoFault>) -> Status
+    ensures { result ≡ ended_by put }
+{
+    match put {
+        Ok(()) => Status::Done,
+        Err(IoFault::Fault) => Status::Fault,
+        Err(IoFault::OutOfMemory) => Status::Memory,
+    }
+}

@@ -1,0 +1,5 @@
+//! Frames of a crash, and runs over them.
+
+mod answers;
+mod lines;
+mod runs;

@@ -1,0 +1,6 @@
+//! Runs of requests.
+
+mod faults;
+mod processes;
+mod runs;
+mod worlds;

@@ -1,0 +1,5 @@
+//! Runs that fold stacks.
+
+mod endings;
+mod runs;
+mod texts;

@@ -1,4 +1,0 @@
-pub mod Bounds
-pub mod Runs
-pub mod Serving
-pub mod Steps
