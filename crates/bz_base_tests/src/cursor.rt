@@ -60,79 +60,45 @@ const SIGNED: [(&[u8], Option<i64>); 18] = [
     (b"\xff", None),
 ];
 
-/// Whether this unsigned number is in front of the bytes and takes all of them, or there is none.
-fn reads_uleb(bytes: &[u8], want: Option<u64>) -> bool {
-    let mut cursor = Cursor::new(bytes);
-    cursor.read_uleb() == want && (cursor.rest().is_empty() || want.is_none())
-}
-
-/// Whether this signed number is in front of the bytes and takes all of them, or there is none.
-fn reads_sleb(bytes: &[u8], want: Option<i64>) -> bool {
-    let mut cursor = Cursor::new(bytes);
-    cursor.read_sleb() == want && (cursor.rest().is_empty() || want.is_none())
-}
-
 #[test]
-fn reads_unsigned_numbers(rt: HostRuntime) {
+fn reads_numbers_in_front(rt: HostRuntime) {
     for (bytes, want) in &UNSIGNED {
-        assert!(rt; reads_uleb(bytes, *want), "not {want:?}");
+        let mut cursor = Cursor::new(bytes);
+        assert!(rt; cursor.read_uleb() == *want && (cursor.rest().is_empty() || want.is_none()));
     }
-}
-
-#[test]
-fn reads_signed_numbers(rt: HostRuntime) {
     for (bytes, want) in &SIGNED {
-        assert!(rt; reads_sleb(bytes, *want), "not {want:?}");
+        let mut cursor = Cursor::new(bytes);
+        assert!(rt; cursor.read_sleb() == *want && (cursor.rest().is_empty() || want.is_none()));
     }
 }
 
-/// Whether these bytes were read.
-fn is_read(read: Option<&[u8]>, want: &[u8]) -> bool {
-    match read {
-        Some(read) => read == want,
-        None => false,
-    }
-}
-
-/// Whether the numbers at the start are read in turn.
-fn reads_numbers(cursor: &mut Cursor<'_>) -> bool {
-    cursor.read_u8() == Some(1)
-        && cursor.read_u16() == Some(0x0302)
-        && cursor.read_u32() == Some(0x07060504)
-        && cursor.place() == 7
-}
-
-/// Whether the next place divisible by 4 is gone to, and then stayed at.
-fn aligns(cursor: &mut Cursor<'_>) -> bool {
-    cursor.align4().is_some()
-        && cursor.place() == 8
-        && cursor.align4().is_some()
-        && cursor.place() == 8
-}
-
-/// Whether a text is read behind a long number, and nothing that isn't there.
-fn reads_text(cursor: &mut Cursor<'_>) -> bool {
-    cursor.read_u64().is_some()
-        && cursor.place() == 16
-        && is_read(cursor.read_cstr(), b"b")
-        && cursor.place() == 18
-        && cursor.read_cstr().is_none()
-        && cursor.read_u32().is_none()
-}
-
-/// Whether the last two bytes are read, and nothing after them.
-fn reads_rest(cursor: &mut Cursor<'_>) -> bool {
-    cursor.read_slice(3).is_none()
-        && cursor.rest() == b"cd".as_slice()
-        && is_read(cursor.read_slice(2), b"cd")
-        && cursor.read_u8().is_none()
-}
-
+/// Numbers are read from the start on. The next place divisible by 4 is gone to, and stayed at. A text
+/// is read behind a long number, then the last two bytes, and nothing that isn't there.
 #[test]
 fn reads_pieces_in_turn(rt: HostRuntime) {
     let mut cursor = Cursor::new(
         b"\x01\x02\x03\x04\x05\x06\x07\x08\x09\x0a\x0b\x0c\x0d\x0e\x0f\x10b\0cd",
     );
-    assert!(rt; reads_numbers(&mut cursor) && aligns(&mut cursor));
-    assert!(rt; reads_text(&mut cursor) && reads_rest(&mut cursor));
+    assert!(rt;
+        cursor.read_u8() == Some(1)
+            && cursor.read_u16() == Some(0x0302)
+            && cursor.read_u32() == Some(0x07060504)
+            && cursor.place() == 7
+            && cursor.align4().is_some()
+            && cursor.place() == 8
+            && cursor.align4().is_some()
+            && cursor.place() == 8
+    );
+    assert!(rt;
+        cursor.read_u64().is_some()
+            && cursor.place() == 16
+            && cursor.read_cstr() == Some(b"b".as_slice())
+            && cursor.place() == 18
+            && cursor.read_cstr().is_none()
+            && cursor.read_u32().is_none()
+            && cursor.read_slice(3).is_none()
+            && cursor.rest() == b"cd".as_slice()
+            && cursor.read_slice(2) == Some(b"cd".as_slice())
+            && cursor.read_u8().is_none()
+    );
 }

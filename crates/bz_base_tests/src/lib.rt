@@ -5,8 +5,6 @@
 #[cfg(test)]
 mod answers;
 #[cfg(test)]
-mod chain;
-#[cfg(test)]
 mod cursor;
 #[cfg(test)]
 mod nearest;
@@ -16,7 +14,5 @@ mod path;
 mod pids;
 #[cfg(test)]
 mod resolve;
-#[cfg(test)]
-mod samples;
 #[cfg(test)]
 mod text;

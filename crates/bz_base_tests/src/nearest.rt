@@ -1,21 +1,86 @@
-//! Which record answers for an address, of small tables.
+//! Which record answers for an address, and which are around it, of small tables.
 
 ghost use Rattle.std.specs.Prelude.{◌≡◌, ◌<◌, length, map};
 
-use crate::samples::{Entry, entries, id_of};
 use bz_base::{
-    Place, Starts, Steps, covering_at, covers, nearest, nearest_by_scan, nearest_covering,
-    nearest_each, place_found, sort_table, starts_of,
+    Nested, Place, Spanned, Starts, Steps, chain_in, covering_at, covers, inner_in, nearest,
+    nearest_by_scan, nearest_covering, nearest_each, place_found, sort_nested, sort_table,
+    starts_of,
 };
 use std::alloc::{AllocError, Global};
 use std::marker::Brand;
 use std::sync::ledger::{Blank, Ledger};
 
-/// An end may reach the last address, and not pass it.
-#[test]
-fn covers_up_to_the_last_address(rt: HostRuntime) {
-    assert!(rt; covers(5, 0, 5) && covers(16, 4, 19) && covers(u64::MAX - 4, 4, u64::MAX - 1));
-    assert!(rt; !covers(16, 4, 20) && !covers(u64::MAX - 3, 4, u64::MAX - 3));
+/// A record with the number of its place in the file.
+#[derive(Drop)]
+struct Entry {
+    start: u64,
+    size: u64,
+    depth: u32,
+    id: u8,
+}
+
+impl Spanned for Entry {
+    ghost start = { λ e. e.start };
+
+    ghost size = { λ e. e.size };
+
+    fn start(&self) -> u64 {
+        self.start
+    }
+
+    fn size(&self) -> u64 {
+        self.size
+    }
+}
+
+impl Nested for Entry {
+    ghost depth = { λ e. e.depth };
+
+    fn depth(&self) -> u32 {
+        self.depth
+    }
+}
+
+/// Records of these starts, sizes and depths, in the order of their file.
+fn entries(alloc: Global, spans: &[(u64, u64, u32)]) -> Result<Vec<Entry>, AllocError> {
+    let mut entries = Vec::new(alloc);
+    let mut id: u8 = 0;
+    for (start, size, depth) in spans {
+        entries.push(Entry {
+            start: *start,
+            size: *size,
+            depth: *depth,
+            id,
+        })?;
+        id = id.wrapping_add(1);
+    }
+    Ok(entries)
+}
+
+/// The number of the record, or 99 where there is none.
+fn id_of(entry: Option<&Entry>) -> u8 {
+    match entry {
+        Some(entry) => entry.id,
+        None => 99,
+    }
+}
+
+/// Starts, sizes and depths in the order of a file, of which two are equal.
+const NESTED: [(u64, u64, u32); 5] = [(4, 9, 1), (0, 20, 0), (4, 9, 1), (5, 2, 2), (6, 0, 3)];
+
+/// Whether a chain has the records around 6, from the outermost on.
+fn is_around(chain: &[&Entry]) -> bool {
+    chain.len() == 3 && chain[0].id == 1 && chain[1].id == 2 && chain[2].id == 3
+}
+
+/// Whether the records around 6 are found once they are sorted, and the last one of depth 1 that
+/// begins before it.
+fn finds_around(alloc: Global) -> Result<bool, AllocError> {
+    let mut table = entries(alloc, &NESTED)?;
+    sort_nested(&mut table)?;
+    let chain = chain_in(alloc, &table, 6)?;
+    Ok(is_around(&chain) && id_of(inner_in(&table, 1, 6)) == 2)
 }
 
 /// Starts and sizes in the order of a file, of which several are equal.
@@ -42,13 +107,6 @@ const ANSWERS: [(u64, u8); 9] = [
 ];
 
 /// Whether a look at each record finds the one that answers, in the order of the file.
-fn scan_finds(alloc: Global) -> bool {
-    match entries(alloc, &SPANS) {
-        Ok(list) => scan_answers(&list),
-        Err(_) => false,
-    }
-}
-
 fn scan_answers(list: &[Entry]) -> bool {
     for (addr, want) in &ANSWERS {
         if id_of(nearest_by_scan(list, *addr)) != *want {
@@ -58,20 +116,11 @@ fn scan_answers(list: &[Entry]) -> bool {
     true
 }
 
-/// Whether the searches find the record that answers, in a table that is sorted.
-fn search_finds<L: Ledger>(blank: Blank, alloc: Global) -> Result<bool, AllocError>
-    requires name { blank.name ≡ L.name }
-    requires parts { blank.parts ≡ L.parts }
-    requires some { 0 < L.parts }
-{
-    let mut table = entries(alloc, &SPANS)?;
-    sort_table(&mut table)?;
-    let starts = starts_of(alloc, &table)?;
-    let mut steps = Steps::<L>::new(blank);
-    Ok(search_answers(alloc, &table, &starts, &mut steps))
-}
+/// Addresses that are searched together.
+const TOGETHER: [u64; 9] = [17, 16, 40, 7, 32, 8, 15, 23, 24];
 
-/// Whether the record that answers is found, and its place alone.
+/// Whether the searches find the record that answers, in a table that is sorted. Addresses that are
+/// searched together, in one sweep, have the places that one has by a search.
 fn search_answers<L: Ledger>(
     alloc: Global,
     table: &[Entry],
@@ -88,49 +137,44 @@ fn search_answers<L: Ledger>(
     let place = place_found(nearest(starts, 17, steps));
     place == Some(4)
         && id_of(covering_at(table, place, 17)) == 4
-        && places_agree(alloc, starts, steps)
+        && is_placed(alloc, starts, &TOGETHER, 0, Some(4), steps)
+        && is_placed(alloc, starts, &TOGETHER[..1], 0, Some(4), steps)
+        && is_placed(alloc, starts, &TOGETHER, 3, Place::none().get(), steps)
 }
 
-/// Addresses that are searched together.
-const TOGETHER: [u64; 9] = [17, 16, 40, 7, 32, 8, 15, 23, 24];
-
-/// Whether many addresses, which are found in one sweep, have the places that one has by a search.
-fn places_agree<L: Ledger>(alloc: Global, starts: &Starts, steps: &mut Steps<L>) -> bool {
-    place_among(alloc, starts, &TOGETHER, 0, steps) == Ok(Some(4))
-        && place_among(alloc, starts, &TOGETHER[..1], 0, steps) == Ok(Some(4))
-        && place_among(alloc, starts, &TOGETHER, 3, steps) == Ok(Place::none().get())
-}
-
-/// The place that the address of this number has, found with others.
-fn place_among<L: Ledger>(
-    alloc: Global,
-    starts: &Starts,
-    addrs: &[u64],
-    number: usize,
-    steps: &mut Steps<L>,
-) -> Result<Option<usize>, AllocError>
-    requires { number < length addrs.now }
-{
-    let places = nearest_each(alloc, starts, addrs, steps)?;
-    Ok(places[number].get())
-}
-
-/// Addresses, and for each the place of its start among the sorted ones, and this start.
-const PLACES: [(u64, usize, u64); 4] = [(10, 0, 10), (15, 1, 10), (20, 2, 20), (99, 3, 20)];
-
-/// Whether places are found among starts that were put in order by std, and among none.
-fn sorted_finds<L: Ledger>(blank: Blank, alloc: Global) -> Result<bool, AllocError>
+/// Whether the record that answers is found by a look at each, and by searches once they are sorted.
+fn finds_record<L: Ledger>(blank: Blank, alloc: Global) -> Result<bool, AllocError>
     requires name { blank.name ≡ L.name }
     requires parts { blank.parts ≡ L.parts }
     requires some { 0 < L.parts }
 {
-    let mut numbers = vec![in alloc; 20, 10, 20, 10]?;
-    numbers.sort_unstable();
-    let starts = Starts::from_sorted(numbers);
-    let none = Starts::from_sorted(Vec::new(alloc));
     let mut steps = Steps::<L>::new(blank);
-    Ok(has_places(&starts, &mut steps) && none.len() == 0 && nearest(&none, 9, &mut steps) == None)
+    let mut table = entries(alloc, &SPANS)?;
+    let scanned = scan_answers(&table);
+    sort_table(&mut table)?;
+    let starts = starts_of(alloc, &table)?;
+    Ok(scanned && search_answers(alloc, &table, &starts, &mut steps))
 }
+
+/// Whether the address of this number has this place, found with others.
+fn is_placed<L: Ledger>(
+    alloc: Global,
+    starts: &Starts,
+    addrs: &[u64],
+    number: usize,
+    want: Option<usize>,
+    steps: &mut Steps<L>,
+) -> bool
+    requires { number < length addrs.now }
+{
+    match nearest_each(alloc, starts, addrs, steps) {
+        Ok(places) => places[number].get() == want,
+        Err(_) => false,
+    }
+}
+
+/// Addresses, and for each the place of its start among the sorted ones, and this start.
+const PLACES: [(u64, usize, u64); 4] = [(10, 0, 10), (15, 1, 10), (20, 2, 20), (99, 3, 20)];
 
 fn has_places<L: Ledger>(starts: &Starts, steps: &mut Steps<L>) -> bool {
     for (addr, place, start) in &PLACES {
@@ -141,18 +185,32 @@ fn has_places<L: Ledger>(starts: &Starts, steps: &mut Steps<L>) -> bool {
     nearest(starts, 9, steps) == None
 }
 
+/// Whether places are found among starts that were put in order by std, and among none.
+fn finds_places<L: Ledger>(blank: Blank, alloc: Global) -> Result<bool, AllocError>
+    requires name { blank.name ≡ L.name }
+    requires parts { blank.parts ≡ L.parts }
+    requires some { 0 < L.parts }
+{
+    let mut steps = Steps::<L>::new(blank);
+    let mut numbers = vec![in alloc; 20, 10, 20, 10]?;
+    numbers.sort_unstable();
+    let starts = Starts::from_sorted(numbers);
+    let none = Starts::from_sorted(Vec::new(alloc));
+    Ok(has_places(&starts, &mut steps) && none.len() == 0 && nearest(&none, 9, &mut steps) == None)
+}
+
+/// A record covers the addresses up to its end, which may reach the last one and not pass it.
 #[test]
-fn finds_nearest_by_a_scan(rt: HostRuntime) {
+fn finds_records(rt: HostRuntime) {
+    assert!(rt;
+        covers(5, 0, 5)
+            && covers(16, 4, 19)
+            && covers(u64::MAX - 4, 4, u64::MAX - 1)
+            && !covers(16, 4, 20)
+            && !covers(u64::MAX - 3, 4, u64::MAX - 3)
+    );
     assert!(rt; size_of::<Steps<Brand>>() == 0 && size_of::<Place>() == 4);
-    assert!(rt; scan_finds(rt.alloc()));
-}
-
-#[test]
-fn finds_nearest_by_a_search(rt: HostRuntime) {
-    assert!(rt; search_finds::<Brand>(Blank::new(1), rt.alloc()) == Ok(true));
-}
-
-#[test]
-fn finds_nearest_among_sorted_numbers(rt: HostRuntime) {
-    assert!(rt; sorted_finds::<Brand>(Blank::new(1), rt.alloc()) == Ok(true));
+    assert!(rt; finds_around(rt.alloc()) == Ok(true));
+    assert!(rt; finds_record::<Brand>(Blank::new(1), rt.alloc()) == Ok(true));
+    assert!(rt; finds_places::<Brand>(Blank::new(1), rt.alloc()) == Ok(true));
 }

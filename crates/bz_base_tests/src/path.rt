@@ -30,28 +30,19 @@ const PATHS: [(&str, &str, &str); 4] = [
     ("", "b", "b"),
 ];
 
-/// Whether a directory is this one, where an empty text stands for none.
-fn is_directory(directory: Option<&str>, want: &str) -> bool {
-    match directory {
-        Some(directory) => !directory.is_empty() && directory == want,
-        None => want.is_empty(),
-    }
-}
-
 /// Whether a text has this directory and file, where an empty text stands for none.
 fn splits_into(text: &str, directory: &str, file: &str) -> bool {
     match split_source(text) {
-        Some((front, last)) => is_directory(front, directory) && !last.is_empty() && last == file,
+        Some((Some(front), last)) => {
+            !front.is_empty() && front == directory && !last.is_empty() && last == file
+        }
+        Some((None, last)) => directory.is_empty() && !last.is_empty() && last == file,
         None => directory.is_empty() && file.is_empty(),
     }
 }
 
 /// Whether this is the path of a file in a directory, or of a file without one.
-fn joins_to(alloc: Global, directory: Option<&str>, file: &str, want: &str) -> bool {
-    let dir = match directory {
-        Some(directory) => Some(CowStr::Borrowed(directory)),
-        None => None,
-    };
+fn joins_to(alloc: Global, dir: Option<CowStr<'_>>, file: &str, want: &str) -> bool {
     let place = CodeInfo {
         dir,
         file: CowStr::Borrowed(file),
@@ -65,16 +56,12 @@ fn joins_to(alloc: Global, directory: Option<&str>, file: &str, want: &str) -> b
 }
 
 #[test]
-fn splits_paths(rt: HostRuntime) {
+fn splits_and_joins_paths(rt: HostRuntime) {
     for (text, directory, file) in &SPLITS {
-        assert!(rt; splits_into(text, directory, file), "of {text}");
+        assert!(rt; splits_into(text, directory, file));
     }
-}
-
-#[test]
-fn joins_paths(rt: HostRuntime) {
-    for (dir, file, want) in &PATHS {
-        assert!(rt; joins_to(rt.alloc(), Some(*dir), file, want), "not {want}");
+    for (directory, file, want) in &PATHS {
+        assert!(rt; joins_to(rt.alloc(), Some(CowStr::Borrowed(directory)), file, want));
     }
     assert!(rt; joins_to(rt.alloc(), None, "source.c", "source.c"));
 }

@@ -1,6 +1,6 @@
 //! Processes as callers name them.
 
-use bz_base::{Pid, Result};
+use bz_base::Pid;
 use std::alloc::Global;
 use std::cmp::Ordering;
 use std::num::NonZeroU32;
@@ -13,31 +13,22 @@ const PROCESSES: [(u32, u32, &str); 4] = [
     (4294967295, 4294967295, "4294967295"),
 ];
 
-/// Whether the process that is made from a number resolves to the id and prints the text.
-fn names(alloc: Global, number: u32, id: u32, text: &str) -> Result<bool> {
-    let pid = Pid::from(number);
-    let printed = format!(in alloc; "{pid}")?;
-    Ok(pid.resolve(7) == id && printed.as_str() == text)
-}
+/// The numbers of two processes, and how they stand: the own one comes first.
+const PAIRS: [(u32, u32, Ordering); 6] = [
+    (0, 0, Ordering::Equal),
+    (0, 1, Ordering::Less),
+    (9, 10, Ordering::Less),
+    (9, 0, Ordering::Greater),
+    (10, 10, Ordering::Equal),
+    (10, 9, Ordering::Greater),
+];
 
-#[test]
-fn resolves_and_prints(rt: HostRuntime) {
-    for (number, id, text) in &PROCESSES {
-        assert!(rt; names(rt.alloc(), *number, *id, text) == Ok(true));
+/// Whether the process resolves to the id and prints the text.
+fn is_named(alloc: Global, pid: Pid, id: u32, text: &str) -> bool {
+    match format!(in alloc; "{pid}") {
+        Ok(printed) => pid.resolve(7) == id && printed.as_str() == text,
+        Err(_) => false,
     }
-}
-
-/// Whether two processes stand so, and are equal exactly where neither comes first.
-fn stand(first: u32, second: u32, order: Ordering) -> bool {
-    let (first, second) = (Pid::from(first), Pid::from(second));
-    first.cmp(&second) == order && (first == second) == (order == Ordering::Equal)
-}
-
-#[test]
-fn the_own_process_comes_first(rt: HostRuntime) {
-    assert!(rt; stand(0, 0, Ordering::Equal) && stand(0, 1, Ordering::Less));
-    assert!(rt; stand(9, 10, Ordering::Less) && stand(9, 0, Ordering::Greater));
-    assert!(rt; stand(10, 10, Ordering::Equal) && stand(10, 9, Ordering::Greater));
 }
 
 /// Whether a process holds this id.
@@ -48,8 +39,22 @@ fn holds(pid: Pid, number: u32) -> bool {
     }
 }
 
+/// Two processes are equal exactly where neither comes first.
 #[test]
 fn processes_are_made_from_numbers(rt: HostRuntime) {
-    assert!(rt; holds(Pid::from(0), 0) && holds(Pid::from(12), 12));
-    assert!(rt; !holds(Pid::from(0), 12) && !holds(Pid::from(12), 0));
+    for (number, id, text) in &PROCESSES {
+        assert!(rt; is_named(rt.alloc(), Pid::from(*number), *id, text));
+    }
+    for (first, second, order) in &PAIRS {
+        let (first, second) = (Pid::from(*first), Pid::from(*second));
+        assert!(rt;
+            first.cmp(&second) == *order && (first == second) == (*order == Ordering::Equal)
+        );
+    }
+    assert!(rt;
+        holds(Pid::from(0), 0)
+            && holds(Pid::from(12), 12)
+            && !holds(Pid::from(0), 12)
+            && !holds(Pid::from(12), 0)
+    );
 }

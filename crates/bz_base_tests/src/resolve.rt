@@ -5,16 +5,16 @@ ghost use Rattle.bz_base.specs.Refusals.{IsFormatRefusal};
 ghost use Rattle.bz_base.specs.Resolution.{StartsBefore};
 
 use bz_base::{
-    Addr, Error, FindSymOpts, Reason, Resolve, ResolvedSym, SrcLang, Sym, Symbolize,
-    TranslateFileOffset,
+    Addr, Error, FindSymOpts, Reason, Resolve, ResolvedSym, SrcLang, Symbolize, TranslateFileOffset,
 };
 use std::alloc::Global;
 
 /// A file of one function without end, which lies at this address and begins the file.
-#[derive(Drop)]
 struct OneFunction {
     start: Addr,
 }
+
+static MAIN: OneFunction = OneFunction { start: 0x1000 };
 
 impl Symbolize for OneFunction {
     ghost may_find = { λ _ _ addr answer. IfOk answer (StartsBefore addr) };
@@ -48,47 +48,39 @@ impl TranslateFileOffset for OneFunction {
     }
 }
 
-/// How far into `main` an address lies, or 99 for another symbol; none where there is no symbol.
-fn place_in_main<T: Symbolize>(
-    table: &T,
-    alloc: Global,
-    addr: Addr,
-) -> Result<Option<usize>, Error> {
-    match table.find_sym(alloc, addr, &FindSymOpts::Basic)? {
-        Ok(found) => Ok(Some(place_in(&found.into_sym(addr)))),
-        Err(_) => Ok(None),
-    }
-}
-
-fn place_in(symbol: &Sym<'_>) -> usize {
-    if symbol.name.as_str() == "main" && symbol.addr == 0x1000 {
-        symbol.offset
-    } else {
-        99
+/// Whether the address lies so far into `main`, or has no symbol.
+fn is_found<T: Symbolize>(table: &T, alloc: Global, addr: Addr, offset: Option<usize>) -> bool {
+    match table.find_sym(alloc, addr, &FindSymOpts::Basic) {
+        Ok(Ok(found)) => {
+            let symbol = found.into_sym(addr);
+            symbol.name.as_str() == "main" && symbol.addr == 0x1000 && Some(symbol.offset) == offset
+        }
+        Ok(Err(_)) => offset.is_none(),
+        Err(_) => false,
     }
 }
 
 /// The same of the file's byte at an offset. Nothing is there whose address would pass the last one.
-fn place_of_offset<T: Resolve>(
+fn is_found_in_file<T: Resolve>(
     table: &T,
     alloc: Global,
     file_offset: u64,
-) -> Result<Option<usize>, Error> {
-    match table.file_offset_to_virt_offset(file_offset)? {
-        Some(addr) => place_in_main(table, alloc, addr),
-        None => Ok(None),
+    offset: Option<usize>,
+) -> bool {
+    match table.file_offset_to_virt_offset(file_offset) {
+        Ok(Some(addr)) => is_found(table, alloc, addr, offset),
+        Ok(None) => offset.is_none(),
+        Err(_) => false,
     }
 }
 
-/// Whether the function is found sixteen bytes into the file, nothing past the end and nothing below
-/// the function.
-fn finds_main(table: &OneFunction, alloc: Global) -> bool {
-    place_of_offset(table, alloc, 16) == Ok(Some(16))
-        && place_of_offset(table, alloc, u64::MAX) == Ok(None)
-        && place_in_main(table, alloc, 0xfff) == Ok(None)
-}
-
+/// The function is found sixteen bytes into the file, nothing past the end and nothing below the
+/// function.
 #[test]
 fn finds_the_symbol_of_a_file_offset(rt: HostRuntime) {
-    assert!(rt; finds_main(&OneFunction { start: 0x1000 }, rt.alloc()));
+    assert!(rt;
+        is_found_in_file(&MAIN, rt.alloc(), 16, Some(16))
+            && is_found_in_file(&MAIN, rt.alloc(), u64::MAX, None)
+            && is_found(&MAIN, rt.alloc(), 0xfff, None)
+    );
 }

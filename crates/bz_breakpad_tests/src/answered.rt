@@ -1,61 +1,120 @@
 //! What is answered at addresses, in a batch and alone.
 
-use crate::files::{answer_of, answers_of};
-use bz_base::{Error, FindSymOpts, Reason, Symbolized};
+use crate::fact::{Answer, Call};
+use bz_base::{CodeInfo, Error, FindSymOpts, InlinedFn, Reason, Steps, Sym, Symbolized};
 use bz_breakpad::SymbolFile;
 use std::alloc::Global;
+use std::borrow::CowStr;
+use std::sync::ledger::Ledger;
 
-pub(crate) trait Answered {
-    fn addr(&self) -> u64;
-
-    fn opts(&self) -> &FindSymOpts;
-
-    /// Whether this is the answer at the address.
-    fn is_answer(&self, alloc: Global, answer: &Symbolized<'_>) -> Result<bool, Error>;
-}
-
-/// Whether the row's answer is given, in a batch and alone.
-pub(crate) fn is_answered<A: Answered>(
+/// Whether this is answered at the address in a batch.
+pub(crate) fn is_answered_in_batch<L: Ledger>(
     alloc: Global,
     file: &SymbolFile,
-    row: &A,
-) -> Result<bool, Error> {
-    if is_answered_in_batch(alloc, file, row)? {
-        return is_answered_alone(alloc, file, row);
-    }
-    Ok(false)
-}
-
-fn is_answered_in_batch<A: Answered>(
-    alloc: Global,
-    file: &SymbolFile,
-    row: &A,
-) -> Result<bool, Error> {
-    let answers = answers_of(alloc, file, &[row.addr()], row.opts())?;
-    match answers.first() {
-        Some(answer) => row.is_answer(alloc, answer),
-        None => Ok(false),
-    }
-}
-
-fn is_answered_alone<A: Answered>(
-    alloc: Global,
-    file: &SymbolFile,
-    row: &A,
-) -> Result<bool, Error> {
-    let answer = alone(alloc, file, row.addr(), row.opts())?;
-    row.is_answer(alloc, &answer)
-}
-
-/// The answer at an address alone. What a batch ignores is refused alone.
-fn alone<'a>(
-    alloc: Global,
-    file: &'a SymbolFile,
     addr: u64,
     opts: &FindSymOpts,
-) -> Result<Symbolized<'a>, Error> {
-    match answer_of(alloc, file, addr, opts) {
-        Err(Error::InvalidInput) => Ok(Symbolized::Unknown(Reason::IgnoredError)),
-        answer => answer,
+    expected: &Answer,
+    steps: &mut Steps<L>,
+) -> bool {
+    match file.answer_batch(alloc, &[addr], opts, steps) {
+        Ok(answers) => answers.len() == 1 && is_answer(&answers[0], expected),
+        Err(_) => false,
+    }
+}
+
+/// Whether this is answered alone. What a batch ignores is refused alone.
+pub(crate) fn is_answered_alone<L: Ledger>(
+    alloc: Global,
+    file: &SymbolFile,
+    addr: u64,
+    opts: &FindSymOpts,
+    expected: &Answer,
+    steps: &mut Steps<L>,
+) -> bool {
+    match file.answer(alloc, addr, opts, steps) {
+        Ok(answer) => is_answer(&answer, expected),
+        Err(error) => error == Error::InvalidInput && is_reason(Reason::IgnoredError, expected),
+    }
+}
+
+pub(crate) fn are_answers(answers: &[Symbolized<'_>], expected: &[Answer]) -> bool {
+    if answers.len() != expected.len() {
+        return false;
+    }
+    for index in 0..answers.len() {
+        if !is_answer(&answers[index], &expected[index]) {
+            return false;
+        }
+    }
+    true
+}
+
+fn is_answer(answer: &Symbolized<'_>, expected: &Answer) -> bool {
+    match answer {
+        Symbolized::Sym(symbol) => is_symbol(symbol, expected),
+        Symbolized::Unknown(reason) => is_reason(*reason, expected),
+    }
+}
+
+fn is_reason(reason: Reason, expected: &Answer) -> bool {
+    match expected {
+        Answer::Unknown(expected) => reason == *expected,
+        Answer::Symbol(..) | Answer::Places(..) => false,
+    }
+}
+
+fn is_symbol(symbol: &Sym<'_>, expected: &Answer) -> bool {
+    match expected {
+        Answer::Symbol(name, start, offset, size, module, public) => {
+            symbol.name.as_str() == *name
+                && symbol.addr == *start
+                && symbol.offset == *offset
+                && symbol.size == *size
+                && is_text(&symbol.module, module)
+                && symbol.public == *public
+        }
+        Answer::Places(place, calls) => {
+            is_call(symbol.name.as_str(), &symbol.code_info, place)
+                && are_calls(&symbol.inlined, calls)
+        }
+        Answer::Unknown(_) => false,
+    }
+}
+
+fn are_calls(calls: &[InlinedFn<'_>], expected: &[Call]) -> bool {
+    if calls.len() != expected.len() {
+        return false;
+    }
+    for index in 0..calls.len() {
+        let call = &calls[index];
+        if !is_call(call.name.as_str(), &call.code_info, &expected[index]) {
+            return false;
+        }
+    }
+    true
+}
+
+fn is_call(name: &str, place: &Option<CodeInfo<'_>>, expected: &Call) -> bool {
+    name == expected.0 && is_place(place, expected)
+}
+
+fn is_place(place: &Option<CodeInfo<'_>>, expected: &Call) -> bool {
+    let (_, dir, file, line) = *expected;
+    match place {
+        Some(place) => {
+            !file.is_empty()
+                && is_text(&place.dir, dir)
+                && place.file.as_str() == file
+                && place.line == Some(line)
+        }
+        None => file.is_empty(),
+    }
+}
+
+/// Whether this is the text, which is empty where there is none.
+fn is_text(text: &Option<CowStr<'_>>, expected: &str) -> bool {
+    match text {
+        Some(text) => text.as_str() == expected,
+        None => expected.is_empty(),
     }
 }

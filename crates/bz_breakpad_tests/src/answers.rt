@@ -1,12 +1,13 @@
 //! Which record answers at an address.
 
-use crate::answered::{Answered, is_answered};
-use crate::cases::{Case, assert_held};
-use crate::files::{BAR, answers_of};
-use bz_base::{Error, FindSymOpts, Reason, Sym, Symbolized};
-use bz_breakpad::SymbolFile;
-use std::alloc::Global;
-use std::borrow::CowStr;
+use crate::fact::Answer::{Symbol, Unknown};
+use crate::fact::Fact::{Answer, Batch};
+use crate::fact::Row;
+use crate::files::BAR;
+use crate::holding::hold;
+use crate::read::Way;
+use bz_base::{FindSymOpts, Reason};
+use bz_breakpad::FoundRecord;
 
 const GAP: &[u8] = b"FUNC 1010 10 0 inner\nFUNC 1000 100 0 outer\n";
 
@@ -34,209 +35,247 @@ const BEYOND: &[u8] = b"PUBLIC 10 0 p\nFUNC ffffffffffffffff 10 0 f\n";
 
 const TOP: u64 = 0xffffffffffffffff;
 
-/// A file, an address, and the symbol there: its name, start, offset, size and module, which is empty
-/// where there is none, and whether it is a PUBLIC record.
-#[derive(Drop)]
-struct Known(
-    &'static [u8],
-    u64,
-    &'static str,
-    u64,
-    usize,
-    Option<usize>,
-    &'static str,
-    bool,
-);
-
-const FUNCTIONS: [Known; 12] = [
-    Known(
+/// Answers by the nearest function, by PUBLIC records, and nowhere else.
+const ANSWERS: &[Row] = &[
+    (
         BAR,
-        0x1010,
-        "another func",
-        0x1000,
-        0x10,
-        Some(0x30),
-        "bar",
-        false,
+        &[
+            Answer(
+                0x1010,
+                FindSymOpts::Basic,
+                Symbol("another func", 0x1000, 0x10, Some(0x30), "bar", false),
+            ),
+            Answer(
+                0x1234,
+                FindSymOpts::Basic,
+                Symbol("some public", 0x1234, 0, None, "bar", true),
+            ),
+            Answer(0xfff, FindSymOpts::Basic, Unknown(Reason::UnknownAddr)),
+            Answer(0x1030, FindSymOpts::Basic, Unknown(Reason::UnknownAddr)),
+            Answer(0x1233, FindSymOpts::Basic, Unknown(Reason::UnknownAddr)),
+        ],
     ),
-    Known(GAP, 0x100f, "outer", 0x1000, 0xf, Some(0x100), "", false),
-    Known(EQUAL, 1, "x", 1, 0, Some(2), "", false),
-    Known(EQUAL, 2, "y", 1, 1, Some(3), "", false),
-    Known(EQUAL, 3, "y", 1, 2, Some(3), "", false),
-    Known(EQUAL, 9, "none", 9, 0, Some(0), "", false),
-    Known(
+    (
+        GAP,
+        &[
+            Answer(
+                0x100f,
+                FindSymOpts::Basic,
+                Symbol("outer", 0x1000, 0xf, Some(0x100), "", false),
+            ),
+            Answer(0x1025, FindSymOpts::Basic, Unknown(Reason::UnknownAddr)),
+        ],
+    ),
+    (
+        EQUAL,
+        &[
+            Answer(1, FindSymOpts::Basic, Symbol("x", 1, 0, Some(2), "", false)),
+            Answer(2, FindSymOpts::Basic, Symbol("y", 1, 1, Some(3), "", false)),
+            Answer(3, FindSymOpts::Basic, Symbol("y", 1, 2, Some(3), "", false)),
+            Answer(
+                9,
+                FindSymOpts::Basic,
+                Symbol("none", 9, 0, Some(0), "", false),
+            ),
+            Answer(4, FindSymOpts::Basic, Unknown(Reason::UnknownAddr)),
+            Answer(10, FindSymOpts::Basic, Unknown(Reason::UnknownAddr)),
+        ],
+    ),
+    (
         LAST,
-        0xfffffffffffffffe,
-        "z",
-        0xfffffffffffffff0,
-        14,
-        Some(15),
-        "",
-        false,
+        &[
+            Answer(
+                0xfffffffffffffffe,
+                FindSymOpts::Basic,
+                Symbol("z", 0xfffffffffffffff0, 14, Some(15), "", false),
+            ),
+            Answer(TOP, FindSymOpts::Basic, Unknown(Reason::UnknownAddr)),
+        ],
     ),
-    Known(PUBLICS, 0x20, "f", 0x20, 0, Some(8), "", false),
-    Known(SAME, 0x20, "f", 0x20, 0, Some(8), "", false),
-    Known(SAME, 0x27, "f", 0x20, 7, Some(8), "", false),
-    Known(WITHIN, 0x18, "f", 0x10, 8, Some(0x20), "", false),
-    Known(EMPTY, 0x20, "f", 0x20, 0, Some(0), "", false),
+    (
+        PUBLICS,
+        &[
+            Answer(
+                0x20,
+                FindSymOpts::Basic,
+                Symbol("f", 0x20, 0, Some(8), "", false),
+            ),
+            Answer(
+                0x10,
+                FindSymOpts::Basic,
+                Symbol("p", 0x10, 0, None, "", true),
+            ),
+            Answer(
+                0x1f,
+                FindSymOpts::Basic,
+                Symbol("p", 0x10, 0xf, None, "", true),
+            ),
+            Answer(
+                0x40,
+                FindSymOpts::Basic,
+                Symbol("r", 0x40, 0, None, "", true),
+            ),
+            Answer(
+                0x100,
+                FindSymOpts::Basic,
+                Symbol("r", 0x40, 0xc0, None, "", true),
+            ),
+            Answer(0xf, FindSymOpts::Basic, Unknown(Reason::UnknownAddr)),
+            Answer(0x28, FindSymOpts::Basic, Unknown(Reason::UnknownAddr)),
+            Answer(0x3f, FindSymOpts::Basic, Unknown(Reason::UnknownAddr)),
+        ],
+    ),
+    (
+        SAME,
+        &[
+            Answer(
+                0x20,
+                FindSymOpts::Basic,
+                Symbol("f", 0x20, 0, Some(8), "", false),
+            ),
+            Answer(
+                0x27,
+                FindSymOpts::Basic,
+                Symbol("f", 0x20, 7, Some(8), "", false),
+            ),
+            Answer(0x28, FindSymOpts::Basic, Unknown(Reason::UnknownAddr)),
+        ],
+    ),
+    (
+        WITHIN,
+        &[
+            Answer(
+                0x18,
+                FindSymOpts::Basic,
+                Symbol("f", 0x10, 8, Some(0x20), "", false),
+            ),
+            Answer(
+                0x30,
+                FindSymOpts::Basic,
+                Symbol("p", 0x18, 0x18, None, "", true),
+            ),
+        ],
+    ),
+    (
+        EMPTY,
+        &[
+            Answer(
+                0x20,
+                FindSymOpts::Basic,
+                Symbol("f", 0x20, 0, Some(0), "", false),
+            ),
+            Answer(
+                0x1f,
+                FindSymOpts::Basic,
+                Symbol("p", 0x10, 0xf, None, "", true),
+            ),
+            Answer(0x21, FindSymOpts::Basic, Unknown(Reason::UnknownAddr)),
+        ],
+    ),
+    (
+        ONE,
+        &[
+            Answer(
+                0x10,
+                FindSymOpts::Basic,
+                Symbol("p", 0x10, 0, None, "", true),
+            ),
+            Answer(0xf, FindSymOpts::Basic, Unknown(Reason::UnknownAddr)),
+        ],
+    ),
+    (
+        ZERO,
+        &[
+            Answer(0, FindSymOpts::Basic, Symbol("z", 0, 0, None, "", true)),
+            Answer(
+                TOP,
+                FindSymOpts::Basic,
+                Symbol("z", 0, 0xffffffffffffffff, None, "", true),
+            ),
+        ],
+    ),
+    (
+        BEHIND,
+        &[
+            Answer(
+                0x20,
+                FindSymOpts::Basic,
+                Symbol("p", 0x20, 0, None, "", true),
+            ),
+            Answer(0x18, FindSymOpts::Basic, Unknown(Reason::UnknownAddr)),
+        ],
+    ),
+    (
+        BEYOND,
+        &[
+            Answer(
+                0x20,
+                FindSymOpts::Basic,
+                Symbol("p", 0x10, 0x10, None, "", true),
+            ),
+            Answer(TOP, FindSymOpts::Basic, Unknown(Reason::UnknownAddr)),
+        ],
+    ),
+    (
+        b"INFO x\n",
+        &[Answer(0x10, FindSymOpts::Basic, Unknown(Reason::MissingSyms))],
+    ),
+    (
+        PAST,
+        &[Answer(
+            0xfffffffffffffff0,
+            FindSymOpts::Basic,
+            Unknown(Reason::UnknownAddr),
+        )],
+    ),
 ];
 
-const RECORDS: [Known; 12] = [
-    Known(BAR, 0x1234, "some public", 0x1234, 0, None, "bar", true),
-    Known(ONE, 0x10, "p", 0x10, 0, None, "", true),
-    Known(PUBLICS, 0x10, "p", 0x10, 0, None, "", true),
-    Known(PUBLICS, 0x1f, "p", 0x10, 0xf, None, "", true),
-    Known(PUBLICS, 0x40, "r", 0x40, 0, None, "", true),
-    Known(PUBLICS, 0x100, "r", 0x40, 0xc0, None, "", true),
-    Known(ZERO, 0, "z", 0, 0, None, "", true),
-    Known(ZERO, TOP, "z", 0, 0xffffffffffffffff, None, "", true),
-    Known(WITHIN, 0x30, "p", 0x18, 0x18, None, "", true),
-    Known(BEHIND, 0x20, "p", 0x20, 0, None, "", true),
-    Known(EMPTY, 0x1f, "p", 0x10, 0xf, None, "", true),
-    Known(BEYOND, 0x20, "p", 0x10, 0x10, None, "", true),
+#[test]
+fn answers_by_the_nearest_record(rt: HostRuntime) {
+    assert!(rt; hold(rt.alloc(), ANSWERS, Way::Bytes));
+}
+
+/// Functions, PUBLIC records and addresses with neither, together.
+const BATCHES: &[Row] = &[
+    (
+        BAR,
+        &[Batch(
+            &[0x1010, 0x1234, 0xfff],
+            FindSymOpts::CodeInfoAndInlined,
+            &[
+                FoundRecord::Function(0),
+                FoundRecord::Public(0),
+                FoundRecord::Absent,
+            ],
+            &[
+                Symbol("another func", 0x1000, 0x10, Some(0x30), "bar", false),
+                Symbol("some public", 0x1234, 0, None, "bar", true),
+                Unknown(Reason::UnknownAddr),
+            ],
+        )],
+    ),
+    (
+        PUBLICS,
+        &[Batch(
+            &[0x100, 0x20, 0xf, 0x1f],
+            FindSymOpts::Basic,
+            &[
+                FoundRecord::Public(2),
+                FoundRecord::Function(0),
+                FoundRecord::Absent,
+                FoundRecord::Public(0),
+            ],
+            &[
+                Symbol("r", 0x40, 0xc0, None, "", true),
+                Symbol("f", 0x20, 0, Some(8), "", false),
+                Unknown(Reason::UnknownAddr),
+                Symbol("p", 0x10, 0xf, None, "", true),
+            ],
+        )],
+    ),
 ];
 
-/// A file, an address, and why there is no symbol.
-#[derive(Drop)]
-struct Unanswered(&'static [u8], u64, Reason);
-
-const UNKNOWN: [Unanswered; 17] = [
-    Unanswered(b"INFO x\n", 0x10, Reason::MissingSyms),
-    Unanswered(BAR, 0xfff, Reason::UnknownAddr),
-    Unanswered(BAR, 0x1030, Reason::UnknownAddr),
-    Unanswered(BAR, 0x1233, Reason::UnknownAddr),
-    Unanswered(GAP, 0x1025, Reason::UnknownAddr),
-    Unanswered(EQUAL, 4, Reason::UnknownAddr),
-    Unanswered(EQUAL, 10, Reason::UnknownAddr),
-    Unanswered(PAST, 0xfffffffffffffff0, Reason::UnknownAddr),
-    Unanswered(LAST, TOP, Reason::UnknownAddr),
-    Unanswered(ONE, 0xf, Reason::UnknownAddr),
-    Unanswered(PUBLICS, 0xf, Reason::UnknownAddr),
-    Unanswered(PUBLICS, 0x28, Reason::UnknownAddr),
-    Unanswered(PUBLICS, 0x3f, Reason::UnknownAddr),
-    Unanswered(SAME, 0x28, Reason::UnknownAddr),
-    Unanswered(BEHIND, 0x18, Reason::UnknownAddr),
-    Unanswered(EMPTY, 0x21, Reason::UnknownAddr),
-    Unanswered(BEYOND, TOP, Reason::UnknownAddr),
-];
-
-impl Case for Known {
-    fn text(&self) -> &[u8] {
-        self.0
-    }
-
-    fn holds(&self, alloc: Global, file: &SymbolFile) -> Result<bool, Error> {
-        is_answered(alloc, file, self)
-    }
-}
-
-impl Answered for Known {
-    fn addr(&self) -> u64 {
-        self.1
-    }
-
-    fn opts(&self) -> &FindSymOpts {
-        &FindSymOpts::Basic
-    }
-
-    fn is_answer(&self, _alloc: Global, answer: &Symbolized<'_>) -> Result<bool, Error> {
-        Ok(is_symbol(answer, self))
-    }
-}
-
-fn is_symbol(answer: &Symbolized<'_>, row: &Known) -> bool {
-    match answer {
-        Symbolized::Sym(symbol) => is_in_row(symbol, row),
-        Symbolized::Unknown(_) => false,
-    }
-}
-
-fn is_in_row(symbol: &Sym<'_>, row: &Known) -> bool {
-    symbol.name.as_str() == row.2
-        && symbol.addr == row.3
-        && symbol.offset == row.4
-        && symbol.size == row.5
-        && is_module(&symbol.module, row.6)
-        && symbol.public == row.7
-}
-
-fn is_module(module: &Option<CowStr<'_>>, expected: &str) -> bool {
-    match module {
-        Some(name) => name.as_str() == expected,
-        None => expected.is_empty(),
-    }
-}
-
 #[test]
-fn answers_by_the_nearest_function(rt: HostRuntime) -> Result<(), Error> {
-    assert_held(&rt, rt.alloc(), &FUNCTIONS)
-}
-
-#[test]
-fn answers_by_public_records(rt: HostRuntime) -> Result<(), Error> {
-    assert_held(&rt, rt.alloc(), &RECORDS)
-}
-
-impl Case for Unanswered {
-    fn text(&self) -> &[u8] {
-        self.0
-    }
-
-    fn holds(&self, alloc: Global, file: &SymbolFile) -> Result<bool, Error> {
-        is_answered(alloc, file, self)
-    }
-}
-
-impl Answered for Unanswered {
-    fn addr(&self) -> u64 {
-        self.1
-    }
-
-    fn opts(&self) -> &FindSymOpts {
-        &FindSymOpts::Basic
-    }
-
-    fn is_answer(&self, _alloc: Global, answer: &Symbolized<'_>) -> Result<bool, Error> {
-        Ok(is_unknown(answer, self.2))
-    }
-}
-
-fn is_unknown(answer: &Symbolized<'_>, expected: Reason) -> bool {
-    match answer {
-        Symbolized::Unknown(reason) => *reason == expected,
-        Symbolized::Sym(_) => false,
-    }
-}
-
-#[test]
-fn answers_nowhere_else(rt: HostRuntime) -> Result<(), Error> {
-    assert_held(&rt, rt.alloc(), &UNKNOWN)
-}
-
-/// A file whose functions and PUBLIC records are asked for in one batch.
-#[derive(Drop)]
-struct Together(&'static [u8]);
-
-impl Case for Together {
-    fn text(&self) -> &[u8] {
-        self.0
-    }
-
-    fn holds(&self, alloc: Global, file: &SymbolFile) -> Result<bool, Error> {
-        let answers = answers_of(alloc, file, &[0x100, 0x20, 0xf, 0x1f], &FindSymOpts::Basic)?;
-        Ok(are_in_order(&answers))
-    }
-}
-
-fn are_in_order(answers: &[Symbolized<'_>]) -> bool {
-    answers.len() == 4
-        && is_symbol(&answers[0], &RECORDS[5])
-        && is_symbol(&answers[1], &FUNCTIONS[7])
-        && is_unknown(&answers[2], Reason::UnknownAddr)
-        && is_symbol(&answers[3], &RECORDS[3])
-}
-
-#[test]
-fn answers_functions_and_public_records_together(rt: HostRuntime) -> Result<(), Error> {
-    assert_held(&rt, rt.alloc(), &[Together(PUBLICS)])
+fn answers_functions_and_public_records_together(rt: HostRuntime) {
+    assert!(rt; hold(rt.alloc(), BATCHES, Way::Bytes));
 }

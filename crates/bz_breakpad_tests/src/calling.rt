@@ -4,7 +4,7 @@ ghost use Rattle.std.specs.Prelude.{option_map, string_bytes, IfOk};
 ghost use Rattle.bz_breakpad_tests.specs.Calling.{IsNamed};
 ghost use Rattle.bz_files.specs.World.{in_view};
 
-use crate::files::USUAL;
+use crate::files::{USUAL, put};
 use bz_base::{Addr, FindSymOpts, Result, Symbolize};
 use bz_breakpad::BreakpadResolver;
 use bz_files::{Files, MemFiles};
@@ -22,10 +22,14 @@ fn name_at<F: Files>(alloc: Global, files: &mut F, path: &str, addr: Addr) -> Re
 }
 
 /// Whether the name at an address of the file that `dump_syms` writes is that.
-fn is_named(alloc: Global, addr: Addr, expected: &str) -> Result<bool> {
+fn is_named(alloc: Global, addr: Addr, expected: &str) -> bool {
     let mut files = MemFiles::new(alloc, 0);
-    files.put(alloc, "/app.sym", Vec::from_slice(alloc, USUAL)?)?;
-    match name_at(alloc, &mut files, "/app.sym", addr)? {
+    has_name(alloc, &mut files, addr, expected) == Ok(true)
+}
+
+fn has_name(alloc: Global, files: &mut MemFiles, addr: Addr, expected: &str) -> Result<bool> {
+    put(alloc, files, "/app.sym", USUAL)?;
+    match name_at(alloc, files, "/app.sym", addr)? {
         Some(name) => Ok(name.as_str() == expected),
         None => Ok(false),
     }
@@ -33,6 +37,6 @@ fn is_named(alloc: Global, addr: Addr, expected: &str) -> Result<bool> {
 
 #[test]
 fn names_the_symbol_at_an_address(rt: HostRuntime) {
-    assert!(rt; is_named(rt.alloc(), 0x1174, "main") == Ok(true));
-    assert!(rt; is_named(rt.alloc(), 0x1020, "_start") == Ok(true));
+    assert!(rt; is_named(rt.alloc(), 0x1174, "main"));
+    assert!(rt; is_named(rt.alloc(), 0x1020, "_start"));
 }

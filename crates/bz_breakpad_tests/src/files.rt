@@ -1,12 +1,8 @@
-//! Files of texts, and what they answer.
+//! Texts of Breakpad files that several tables tell of.
 
-ghost use Rattle.std.specs.Prelude.{◌≡◌, ◌<◌};
-
-use bz_base::{Error, FindSymOpts, Steps, Symbolized};
-use bz_breakpad::{Function, SymbolFile};
+use bz_base::Error;
+use bz_files::MemFiles;
 use std::alloc::Global;
-use std::marker::Brand;
-use std::sync::ledger::{Blank, Ledger};
 
 /// Every record that an answer is of: the function at 0x1000 with its line, the PUBLIC record at
 /// 0x1234, and their module.
@@ -21,72 +17,13 @@ pub(crate) const NESTED: &[u8] =
 pub(crate) const USUAL: &[u8] =
     b"MODULE Linux x86_64 D3096ED481217FD4C16B29CD9BC208BA0 app\nINFO CODE_ID D46E09D32181D47FC16B29CD9BC208BA\nFILE 0 /src/app/main.c\nFILE 1 /src/app/util.h\nINLINE_ORIGIN 0 clamp\nFUNC 1160 2a 0 main\nINLINE 0 12 0 0 1170 8\n1160 10 10 0\n1170 8 4 1\n1178 12 13 0\nPUBLIC 1020 0 _start\nSTACK CFI INIT 1160 2a .cfa: $rsp 8 + .ra: .cfa -8 + ^\nSTACK CFI 1161 .cfa: $rsp 16 +\n";
 
-/// The file of a text.
-pub(crate) fn file_of(alloc: Global, text: &[u8]) -> Result<SymbolFile, Error> {
-    let bytes = Vec::from_slice(alloc, text)?;
-    SymbolFile::from_bytes(alloc, bytes)
-}
-
-fn sought<'a, L: Ledger>(blank: Blank, file: &'a SymbolFile, addr: u64) -> Option<Function<'a>>
-    requires name { blank.name ≡ L.name }
-    requires parts { blank.parts ≡ L.parts }
-    requires some { 0 < L.parts }
-{
-    let mut steps = Steps::<L>::new(blank);
-    file.find_function(addr, &mut steps)
-}
-
-/// The function that answers for an address.
-pub(crate) fn function_of<'a>(file: &'a SymbolFile, addr: u64) -> Option<Function<'a>> {
-    sought::<Brand>(Blank::new(1), file, addr)
-}
-
-fn counted_batch<'a, L: Ledger>(
+/// Puts a copy of the text at the path.
+pub(crate) fn put(
     alloc: Global,
-    blank: Blank,
-    file: &'a SymbolFile,
-    addrs: &[u64],
-    opts: &FindSymOpts,
-) -> Result<Vec<Symbolized<'a>>, Error>
-    requires name { blank.name ≡ L.name }
-    requires parts { blank.parts ≡ L.parts }
-    requires some { 0 < L.parts }
-{
-    let mut steps = Steps::<L>::new(blank);
-    file.answer_batch(alloc, addrs, opts, &mut steps)
-}
-
-/// The answers of a batch.
-pub(crate) fn answers_of<'a>(
-    alloc: Global,
-    file: &'a SymbolFile,
-    addrs: &[u64],
-    opts: &FindSymOpts,
-) -> Result<Vec<Symbolized<'a>>, Error> {
-    counted_batch::<Brand>(alloc, Blank::new(1), file, addrs, opts)
-}
-
-fn counted<'a, L: Ledger>(
-    alloc: Global,
-    blank: Blank,
-    file: &'a SymbolFile,
-    addr: u64,
-    opts: &FindSymOpts,
-) -> Result<Symbolized<'a>, Error>
-    requires name { blank.name ≡ L.name }
-    requires parts { blank.parts ≡ L.parts }
-    requires some { 0 < L.parts }
-{
-    let mut steps = Steps::<L>::new(blank);
-    file.answer(alloc, addr, opts, &mut steps)
-}
-
-/// The answer at an address alone.
-pub(crate) fn answer_of<'a>(
-    alloc: Global,
-    file: &'a SymbolFile,
-    addr: u64,
-    opts: &FindSymOpts,
-) -> Result<Symbolized<'a>, Error> {
-    counted::<Brand>(alloc, Blank::new(1), file, addr, opts)
+    files: &mut MemFiles,
+    path: &str,
+    text: &[u8],
+) -> Result<(), Error> {
+    files.put(alloc, path, Vec::from_slice(alloc, text)?)?;
+    Ok(())
 }

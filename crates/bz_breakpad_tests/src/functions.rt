@@ -1,46 +1,12 @@
-//! What a file's functions tell, and what is found in one.
+//! What a file's functions tell, what is found in one, and their orders.
 
-use crate::cases::{Case, assert_held};
-use crate::files::{BAR, NESTED, function_of};
-use bz_base::Error;
-use bz_breakpad::{Function, Inlinee, SourceLine, SymbolFile};
-use std::alloc::Global;
-
-/// An address, and whether the function of BAR answers for it.
-#[derive(Drop)]
-struct Covered(u64, bool);
-
-const COVERED: [Covered; 4] = [
-    Covered(0xfff, false),
-    Covered(0x1000, true),
-    Covered(0x102f, true),
-    Covered(0x1030, false),
-];
-
-impl Case for Covered {
-    fn text(&self) -> &[u8] {
-        BAR
-    }
-
-    fn holds(&self, _alloc: Global, file: &SymbolFile) -> Result<bool, Error> {
-        Ok(match function_of(file, self.0) {
-            Some(function) => self.1 && is_bar(&function),
-            None => !self.1,
-        })
-    }
-}
-
-fn is_bar(function: &Function<'_>) -> bool {
-    function.name() == "another func"
-        && function.addr() == 0x1000
-        && function.size() == 0x30
-        && function.parameter_size() == 0x10
-}
-
-#[test]
-fn finds_functions(rt: HostRuntime) -> Result<(), Error> {
-    assert_held(&rt, rt.alloc(), &COVERED)
-}
+use crate::fact::Fact::{Function, Functions};
+use crate::fact::Row;
+use crate::fact::Told::{CallAtDepth, Calls, CallsAround, LineRecord, Lines, Nothing, Parts};
+use crate::files::{BAR, NESTED};
+use crate::holding::hold;
+use crate::read::Way;
+use bz_breakpad::{Inlinee, SourceLine};
 
 /// The line of NESTED at 0x1010.
 const LINE: SourceLine = SourceLine {
@@ -48,6 +14,16 @@ const LINE: SourceLine = SourceLine {
     size: 0x10,
     file: 8,
     line: 52,
+};
+
+/// The outer call there.
+const OUTER: Inlinee = Inlinee {
+    depth: 0,
+    addr: 0x1000,
+    size: 0x20,
+    call_file: 15,
+    call_line: 60,
+    origin_id: 2,
 };
 
 /// The inner call there.
@@ -60,40 +36,111 @@ const INNER: Inlinee = Inlinee {
     origin_id: 1,
 };
 
-/// A file with these lines and calls.
-#[derive(Drop)]
-struct Calling(&'static [u8]);
-
-impl Case for Calling {
-    fn text(&self) -> &[u8] {
-        self.0
-    }
-
-    fn holds(&self, alloc: Global, file: &SymbolFile) -> Result<bool, Error> {
-        match function_of(file, 0x1010) {
-            Some(function) => Ok(
-                has_lines(&function) && has_inner_call(&function) && has_calls(alloc, &function)?,
-            ),
-            None => Ok(false),
-        }
-    }
-}
-
-fn has_lines(function: &Function<'_>) -> bool {
-    function.find_line(0x1010) == Some(LINE) && function.find_line(0x1030) == None
-}
-
-fn has_inner_call(function: &Function<'_>) -> bool {
-    function.find_inlinee_at_depth(1, 0x1010) == Some(INNER)
-        && function.find_inlinee_at_depth(2, 0x1010) == None
-}
-
-fn has_calls(alloc: Global, function: &Function<'_>) -> Result<bool, Error> {
-    let calls = function.find_inlinees(alloc, 0x1010)?;
-    Ok(calls.len() == 2 && calls.last() == Some(&INNER))
-}
+const FOUND: &[Row] = &[
+    (
+        BAR,
+        &[
+            Function(0xfff, Nothing),
+            Function(0x1000, Parts("another func", 0x1000, 0x30, 0x10)),
+            Function(0x102f, Parts("another func", 0x1000, 0x30, 0x10)),
+            Function(0x1030, Nothing),
+        ],
+    ),
+    (
+        NESTED,
+        &[
+            Function(0x1010, LineRecord(0x1010, Some(LINE))),
+            Function(0x1010, LineRecord(0x1030, None)),
+            Function(0x1010, CallAtDepth(1, 0x1010, Some(INNER))),
+            Function(0x1010, CallAtDepth(2, 0x1010, None)),
+            Function(0x1010, CallsAround(0x1010, &[OUTER, INNER])),
+        ],
+    ),
+];
 
 #[test]
-fn finds_lines_and_calls(rt: HostRuntime) -> Result<(), Error> {
-    assert_held(&rt, rt.alloc(), &[Calling(NESTED)])
+fn finds_functions_lines_and_calls(rt: HostRuntime) {
+    assert!(rt; hold(rt.alloc(), FOUND, Way::Bytes));
+}
+
+/// The ranges of calls of three depths, of which two are alike in depth and start.
+const INLINEES: &[Inlinee] = &[
+    Inlinee {
+        depth: 0,
+        addr: 0x1000,
+        size: 0x40,
+        call_file: 4,
+        call_line: 20,
+        origin_id: 1,
+    },
+    Inlinee {
+        depth: 1,
+        addr: 0x1008,
+        size: 8,
+        call_file: 5,
+        call_line: 21,
+        origin_id: 2,
+    },
+    Inlinee {
+        depth: 1,
+        addr: 0x1008,
+        size: 2,
+        call_file: 6,
+        call_line: 23,
+        origin_id: 4,
+    },
+    Inlinee {
+        depth: 1,
+        addr: 0x1010,
+        size: 0x10,
+        call_file: 5,
+        call_line: 21,
+        origin_id: 2,
+    },
+    Inlinee {
+        depth: 2,
+        addr: 0x1010,
+        size: 4,
+        call_file: 5,
+        call_line: 22,
+        origin_id: 3,
+    },
+];
+
+/// Functions and lines in the order of start and size, and calls in the order of depth and start.
+const IN_ORDER: &[Row] = &[
+    (b"FUNC 10 8 0 a\nFUNC 20 8 0 b\n", &[Functions(&["a", "b"])]),
+    (
+        b"FUNC 30 10 0 c\nFUNC 10 20 0 b\nFUNC m 10 8 0 a\nFUNC 30 10 4 d\n",
+        &[Functions(&["a", "b", "c", "d"])],
+    ),
+    (b"FILE 1 a\n", &[Functions(&[])]),
+    // a run of lines, before another record and at the end of the file
+    (
+        b"FUNC 1000 60 0 f\n1000 10 7 1\n1010 8 3 1\n1020 8 5 1\nINFO a record of more bytes than a load\n",
+        &[Function(0x1000, Lines(&[7, 3, 5]))],
+    ),
+    (
+        b"FUNC 1000 60 0 f\n1000 10 7 1\n1010 8 3 1\n",
+        &[Function(0x1000, Lines(&[7, 3]))],
+    ),
+    (
+        b"FUNC 1000 60 0 f\n1020 8 4 1\n1010 8 2 1\n1000 10 1 1\n1010 8 3 2\n1010 4 9 1\n",
+        &[Function(0x1000, Lines(&[1, 9, 2, 3, 4]))],
+    ),
+    (
+        b"FUNC 1000 60 0 f\n1000 10 7 1\nINLINE 0 5 1 1 1000 8\n1010 8 3 1\nFUNC 2000 10 0 g\n2000 10 8 1\n",
+        &[Function(0x1000, Lines(&[7, 3]))],
+    ),
+    (b"FUNC 1000 60 0 f\n", &[Function(0x1000, Lines(&[]))]),
+    // calls out of order
+    (
+        b"FUNC 1000 100 0 f\nINLINE 1 21 5 2 1010 10 1008 8\nINLINE 0 20 4 1 1000 40\nINLINE 2 22 5 3 1010 4\nINLINE 1 23 6 4 1008 2\n",
+        &[Function(0x1000, Calls(INLINEES))],
+    ),
+];
+
+#[test]
+fn functions_lines_and_calls_in_order(rt: HostRuntime) {
+    assert!(rt; hold(rt.alloc(), IN_ORDER, Way::Bytes));
 }

@@ -8,7 +8,7 @@ mod answers;
 #[cfg(test)]
 mod calling;
 #[cfg(test)]
-mod cases;
+mod fact;
 #[cfg(test)]
 mod files;
 #[cfg(test)]
@@ -16,18 +16,26 @@ mod found;
 #[cfg(test)]
 mod functions;
 #[cfg(test)]
-mod in_order;
+mod holding;
 #[cfg(test)]
 mod inspected;
 #[cfg(test)]
 mod lines;
 #[cfg(test)]
+mod named;
+#[cfg(test)]
 mod names;
 #[cfg(test)]
-mod names_in_order;
-#[cfg(test)]
 mod places;
+#[cfg(test)]
+mod read;
+#[cfg(test)]
+mod resolved;
 #[cfg(test)]
 mod resolvers;
 #[cfg(test)]
 mod texts;
+#[cfg(test)]
+mod told;
+#[cfg(test)]
+mod walked;

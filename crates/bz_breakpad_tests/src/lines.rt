@@ -1,10 +1,10 @@
 //! Which line record answers: of runs, which are found by their text, and of lines out of order.
 
-use crate::cases::{Case, assert_held};
-use crate::files::function_of;
-use bz_base::Error;
-use bz_breakpad::SymbolFile;
-use std::alloc::Global;
+use crate::fact::Fact::Function;
+use crate::fact::Row;
+use crate::fact::Told::Line;
+use crate::holding::hold;
+use crate::read::Way;
 
 /// 20 lines one after another, each with a gap after it.
 const RUN: &[u8] = b"\
@@ -46,62 +46,70 @@ const INTERRUPTED: &[u8] =
 const CARRIAGE_RETURNS: &[u8] =
     b"FUNC 1000 40 0 f\r\n1000 10 1 1\r\n1010 8 2 1\r\n1020 8 3 1\nINFO a record of more bytes than a load\n";
 
-/// A file, an address, and the line that answers there.
-#[derive(Drop)]
-struct Line(&'static [u8], u64, Option<u32>);
-
-const LINES: [Line; 30] = [
-    Line(RUN, 0xff8, None),
-    Line(RUN, 0x1000, Some(1001)),
-    Line(RUN, 0x1007, Some(1001)),
-    Line(RUN, 0x1008, None),
-    Line(RUN, 0x1010, Some(1002)),
-    Line(RUN, 0x10a0, Some(1011)),
-    Line(RUN, 0x10a7, Some(1011)),
-    Line(RUN, 0x10af, None),
-    Line(RUN, 0x10b3, Some(1012)),
-    Line(RUN, 0x1130, Some(1020)),
-    Line(RUN, 0x1137, Some(1020)),
-    Line(RUN, 0x1138, None),
-    Line(DIGITS_GROW, 0xfef, Some(1)),
-    Line(DIGITS_GROW, 0xff0, Some(2)),
-    Line(DIGITS_GROW, 0x1000, Some(3)),
-    Line(DIGITS_GROW, 0x101f, Some(4)),
-    Line(DISORDERED, 0x1000, Some(1)),
-    Line(DISORDERED, 0x1014, Some(2)),
-    Line(DISORDERED, 0x1018, None),
-    Line(DISORDERED, 0x1020, Some(3)),
-    Line(EQUAL, 0x1003, Some(1)),
-    Line(EQUAL, 0x1010, Some(3)),
-    Line(EQUAL, 0x1011, Some(2)),
-    Line(EQUAL, 0x1020, Some(4)),
-    Line(INTERRUPTED, 0x1008, Some(1)),
-    Line(INTERRUPTED, 0x1010, Some(2)),
-    Line(INTERRUPTED, 0x1027, Some(3)),
-    Line(CARRIAGE_RETURNS, 0x100f, Some(1)),
-    Line(CARRIAGE_RETURNS, 0x1010, Some(2)),
-    Line(CARRIAGE_RETURNS, 0x1020, Some(3)),
+const LINES: &[Row] = &[
+    (
+        RUN,
+        &[
+            Function(0xff8, Line(0xff8, None)),
+            Function(0x1000, Line(0x1000, Some(1001))),
+            Function(0x1007, Line(0x1007, Some(1001))),
+            Function(0x1008, Line(0x1008, None)),
+            Function(0x1010, Line(0x1010, Some(1002))),
+            Function(0x10a0, Line(0x10a0, Some(1011))),
+            Function(0x10a7, Line(0x10a7, Some(1011))),
+            Function(0x10af, Line(0x10af, None)),
+            Function(0x10b3, Line(0x10b3, Some(1012))),
+            Function(0x1130, Line(0x1130, Some(1020))),
+            Function(0x1137, Line(0x1137, Some(1020))),
+            Function(0x1138, Line(0x1138, None)),
+        ],
+    ),
+    (
+        DIGITS_GROW,
+        &[
+            Function(0xfef, Line(0xfef, Some(1))),
+            Function(0xff0, Line(0xff0, Some(2))),
+            Function(0x1000, Line(0x1000, Some(3))),
+            Function(0x101f, Line(0x101f, Some(4))),
+        ],
+    ),
+    (
+        DISORDERED,
+        &[
+            Function(0x1000, Line(0x1000, Some(1))),
+            Function(0x1014, Line(0x1014, Some(2))),
+            Function(0x1018, Line(0x1018, None)),
+            Function(0x1020, Line(0x1020, Some(3))),
+        ],
+    ),
+    (
+        EQUAL,
+        &[
+            Function(0x1003, Line(0x1003, Some(1))),
+            Function(0x1010, Line(0x1010, Some(3))),
+            Function(0x1011, Line(0x1011, Some(2))),
+            Function(0x1020, Line(0x1020, Some(4))),
+        ],
+    ),
+    (
+        INTERRUPTED,
+        &[
+            Function(0x1008, Line(0x1008, Some(1))),
+            Function(0x1010, Line(0x1010, Some(2))),
+            Function(0x1027, Line(0x1027, Some(3))),
+        ],
+    ),
+    (
+        CARRIAGE_RETURNS,
+        &[
+            Function(0x100f, Line(0x100f, Some(1))),
+            Function(0x1010, Line(0x1010, Some(2))),
+            Function(0x1020, Line(0x1020, Some(3))),
+        ],
+    ),
 ];
 
-impl Case for Line {
-    fn text(&self) -> &[u8] {
-        self.0
-    }
-
-    fn holds(&self, _alloc: Global, file: &SymbolFile) -> Result<bool, Error> {
-        Ok(line_in(file, self.1) == self.2)
-    }
-}
-
-fn line_in(file: &SymbolFile, addr: u64) -> Option<u32> {
-    let function = function_of(file, addr)?;
-    match function.find_line(addr) {
-        Some(line) => Some(line.line),
-        None => None,
-    }
-}
-
 #[test]
-fn lines_of_runs_and_lists(rt: HostRuntime) -> Result<(), Error> {
-    assert_held(&rt, rt.alloc(), &LINES)
+fn lines_of_runs_and_lists(rt: HostRuntime) {
+    assert!(rt; hold(rt.alloc(), LINES, Way::Bytes));
 }

@@ -1,219 +1,189 @@
 //! Which texts are Breakpad files, and how many records they have.
 
-use crate::cases::{Case, assert_held};
+use crate::fact::Fact::{FileCount, FunctionCount, PublicCount, Records};
+use crate::fact::Row;
 use crate::files::{BAR, NESTED, USUAL};
+use crate::holding::hold;
+use crate::read::{Way, records_of};
 use bz_base::Error;
-use bz_breakpad::{SymbolFile, SymbolParser};
-use bz_cache::Version;
 use std::alloc::Global;
 
-/// How many records the file of a text has.
-fn records_of(alloc: Global, text: &[u8]) -> Result<u64, Error> {
-    let bytes = Vec::from_slice(alloc, text)?;
-    let (_file, records) = SymbolParser::run(alloc, bytes)?;
-    Ok(records)
-}
-
-/// A text, and how many records, functions, ids of files and PUBLIC records its file has.
-#[derive(Drop)]
-struct Counted(&'static [u8], u64, usize, usize, usize);
-
-const COUNTED: [Counted; 10] = [
-    Counted(BAR, 5, 1, 1, 1),
-    Counted(
+const COUNTED: &[Row] = &[
+    (
+        BAR,
+        &[Records(5), FunctionCount(1), FileCount(1), PublicCount(1)],
+    ),
+    (
         b"MODULE Linux x86 ffff0000 bar\r\nFILE 53 bar.c\r\nPUBLIC 1234 10 some public\r\nFUNC 1000 30 10 another func\r\n1000 30 7 53\r\n",
-        5,
-        1,
-        1,
-        1,
+        &[Records(5), FunctionCount(1), FileCount(1), PublicCount(1)],
     ),
-    Counted(
+    (
         b"MODULE Linux x86 ffff0000 bar\r\r\nFILE 53 bar.c\r\r\nPUBLIC 1234 10 some public\r\r\nFUNC 1000 30 10 another func\r\r\n1000 30 7 53\r\r\n",
-        5,
-        1,
-        1,
-        1,
+        &[Records(5), FunctionCount(1), FileCount(1), PublicCount(1)],
     ),
-    Counted(NESTED, 13, 1, 3, 0),
-    Counted(
+    (
+        NESTED,
+        &[Records(13), FunctionCount(1), FileCount(3), PublicCount(0)],
+    ),
+    (
         b"FUNC 1000 10 0 f\n\n1000 10 5 1\nFILE 1 a.c\n\n",
-        3,
-        1,
-        1,
-        0,
+        &[Records(3), FunctionCount(1), FileCount(1), PublicCount(0)],
     ),
-    Counted(b"MODULE a b c \n", 1, 0, 0, 0),
-    Counted(b"FILE 1 a\n \t\n  FILE 1 b\r\n", 2, 0, 1, 0),
-    Counted(USUAL, 13, 1, 2, 1),
-    Counted(
+    (
+        b"MODULE a b c \n",
+        &[Records(1), FunctionCount(0), FileCount(0), PublicCount(0)],
+    ),
+    (
+        b"FILE 1 a\n \t\n  FILE 1 b\r\n",
+        &[Records(2), FunctionCount(0), FileCount(1), PublicCount(0)],
+    ),
+    (
+        USUAL,
+        &[Records(13), FunctionCount(1), FileCount(2), PublicCount(1)],
+    ),
+    (
         b"FUNC 1 2 3 x\nFUNC 1 2 3 x\nPUBLIC 1 2 x\nPUBLIC 1 2 x\nFILE 1 a\nFILE 0000000001 a\nFILE 2 a\n",
-        7,
-        2,
-        2,
-        2,
+        &[Records(7), FunctionCount(2), FileCount(2), PublicCount(2)],
     ),
-    Counted(b"PUBLIC 10 0 p\n", 1, 0, 0, 1),
+    (
+        b"PUBLIC 10 0 p\n",
+        &[Records(1), FunctionCount(0), FileCount(0), PublicCount(1)],
+    ),
 ];
 
-impl Case for Counted {
-    fn text(&self) -> &[u8] {
-        self.0
-    }
-
-    fn holds(&self, alloc: Global, file: &SymbolFile) -> Result<bool, Error> {
-        let records = records_of(alloc, self.0)?;
-        Ok(
-            records == self.1
-                && file.function_count() == self.2
-                && file.file_count() == self.3
-                && file.public_count() == self.4,
-        )
-    }
-}
-
 #[test]
-fn counts_records(rt: HostRuntime) -> Result<(), Error> {
-    assert_held(&rt, rt.alloc(), &COUNTED)
+fn counts_records(rt: HostRuntime) {
+    assert!(rt; hold(rt.alloc(), COUNTED, Way::Bytes));
+    assert!(rt; hold(rt.alloc(), COUNTED, Way::Version));
 }
 
-fn version_of(alloc: Global, text: &[u8]) -> Result<SymbolFile, Error> {
-    let bytes = Vec::from_slice(alloc, text)?;
-    <SymbolFile as Version>::parse(alloc, bytes)
-}
-
-/// Whether a cache keeps a version of the text, with this many functions.
-fn is_version(alloc: Global, text: &[u8], functions: usize) -> Result<bool, Error> {
-    let version = version_of(alloc, text)?;
-    version.formed();
-    Ok(version.function_count() == functions)
-}
-
-#[test]
-fn is_a_version(rt: HostRuntime) -> Result<(), Error> {
-    assert!(rt; is_version(rt.alloc(), BAR, 1)?);
-    Ok(())
-}
-
-/// How many records a text has, and the text.
-#[derive(Drop)]
-struct Recorded(u64, &'static [u8]);
-
-const READ: [Recorded; 67] = [
+const READ: &[Row] = &[
     // numbers
-    Recorded(1, b"FUNC 0000000000000001 00000002 00000003 x\n"),
-    Recorded(1, b"FUNC ffffffffffffffff ffffffff ffffffff x\n"),
-    Recorded(1, b"FUNC FfFfFFFFFFFFFFFF AbCdEf09 0 x\n"),
-    Recorded(1, b"PUBLIC ffffffffffffffff ffffffff x\n"),
-    Recorded(1, b"PUBLIC 0000000000000000 00000000 x\n"),
-    Recorded(1, b"FILE 4294967295 a\n"),
-    Recorded(1, b"FILE 0000000001 a\n"),
-    Recorded(1, b"INLINE_ORIGIN 4294967295 a\n"),
-    Recorded(2, b"FUNC 1 2 3 x\nINLINE_ORIGIN 4294967295 a\n"),
-    Recorded(
-        2,
+    (
+        b"FUNC 0000000000000001 00000002 00000003 x\n",
+        &[Records(1)],
+    ),
+    (
+        b"FUNC ffffffffffffffff ffffffff ffffffff x\n",
+        &[Records(1)],
+    ),
+    (b"FUNC FfFfFFFFFFFFFFFF AbCdEf09 0 x\n", &[Records(1)]),
+    (b"PUBLIC ffffffffffffffff ffffffff x\n", &[Records(1)]),
+    (b"PUBLIC 0000000000000000 00000000 x\n", &[Records(1)]),
+    (b"FILE 4294967295 a\n", &[Records(1)]),
+    (b"FILE 0000000001 a\n", &[Records(1)]),
+    (b"INLINE_ORIGIN 4294967295 a\n", &[Records(1)]),
+    (b"FUNC 1 2 3 x\nINLINE_ORIGIN 4294967295 a\n", &[Records(2)]),
+    (
         b"FUNC 1 2 3 x\nffffffffffffffff ffffffff 4294967295 4294967295\n",
+        &[Records(2)],
     ),
-    Recorded(
-        2,
+    (
         b"FUNC 1 2 3 x\n0000000000000000 00000000 0000000000 0000000000\n",
+        &[Records(2)],
     ),
-    Recorded(
-        2,
+    (
         b"FUNC 1 2 3 x\nINLINE 4294967295 4294967295 4294967295 4294967295 ffffffffffffffff ffffffff\n",
+        &[Records(2)],
     ),
-    Recorded(2, b"FUNC 1 2 3 x\nFACE 1 2 3\n"),
+    (b"FUNC 1 2 3 x\nFACE 1 2 3\n", &[Records(2)]),
     // separators
-    Recorded(1, b"MODULE  a  b  c  d\n"),
-    Recorded(1, b"MODULE\ta \tb \tc \td\n"),
-    Recorded(1, b"MODULE a\tb c\t d \t \n"),
-    Recorded(1, b"MODULE a b c d e\n"),
-    Recorded(1, b"INFO\tx\n"),
-    Recorded(1, b"INFO \n"),
-    Recorded(1, b"INFO URL x\n"),
-    Recorded(1, b"FILE\t 1 \ta\n"),
-    Recorded(1, b"INLINE_ORIGIN\t1\ta\n"),
-    Recorded(1, b"PUBLIC\tm\t1\t2\tx\n"),
-    Recorded(1, b"PUBLIC  m  1  2  x\n"),
-    Recorded(1, b"FUNC\tm\t1\t2\t3\tx\n"),
-    Recorded(1, b"FUNC  m  1  2  3  x\n"),
-    Recorded(1, b"STACK WIN\tx\n"),
-    Recorded(1, b"STACK WIN \n"),
-    Recorded(1, b"STACK CFI INIT\t\n"),
-    Recorded(2, b"FUNC 1 2 3 x\nINLINE \t0\t 1\t0  5\t1\t1  1  1\n"),
-    Recorded(2, b"FUNC 1 2 3 x\nINLINE_ORIGIN\t1 a\n\n"),
-    Recorded(3, b"FUNC 1 2 3 x\n1\t1\t1\t1\n1  1  1  1\n"),
-    Recorded(3, b"FUNC 1 2 3 x\nINLINE_ORIGIN \t1\ta\n1 1 1 1\n"),
-    Recorded(3, b"STACK CFI INIT a\nSTACK CFI\tb\nSTACK CFI \n"),
-    // names
-    Recorded(1, b"PUBLIC m 1 2 m\n"),
-    Recorded(1, b"PUBLIC 1 2 m\n"),
-    Recorded(1, b"PUBLIC 1 2 \n"),
-    Recorded(1, b"FUNC m 1 2 3 m\n"),
-    Recorded(1, b"FUNC 1 2 3 m\n"),
-    Recorded(1, b"FUNC 1 2 3 \n"),
-    Recorded(1, b"FUNC 1 2 3 \xc3\xa9\xf0\x9f\x98\x80\x00\n"),
-    Recorded(1, b"FILE 1 \n"),
-    Recorded(1, b"INLINE_ORIGIN 1 \n"),
-    Recorded(1, b"MODULE \xff \xfe \xfd d\n"),
-    Recorded(1, b"INFO \xff\n"),
-    Recorded(1, b"STACK WIN \xff\x00\n"),
-    Recorded(2, b"FUNC 1 2 3 x\nINLINE_ORIGIN 1 \n"),
-    Recorded(2, b"STACK CFI INIT \xff\nSTACK CFI \xff\n"),
-    // roles
-    Recorded(2, b"FUNC 1 2 3 x\nINLINE 0 1 0 5 1 1 2 2 3 3\n"),
-    Recorded(2, b"STACK CFI INIT a\nSTACK WIN a\n\n"),
-    Recorded(3, b"FUNC 1 2 3 x\nFUNC 1 2 3 y\n1 1 1 1\n"),
-    Recorded(3, b"STACK CFI INIT a\nFUNC 1 2 3 x\n1 1 1 1\n"),
-    Recorded(3, b"FUNC 1 2 3 x\nSTACK CFI INIT a\nSTACK CFI b\n"),
-    Recorded(3, b"STACK CFI INIT a\nSTACK CFI INIT b\nSTACK CFI c\n"),
-    Recorded(
-        4,
-        b"FUNC 1 2 3 x\nINLINE_ORIGIN 1 a\nINLINE 0 1 0 5 1 1\n1 1 1 1\n",
+    (b"MODULE  a  b  c  d\n", &[Records(1)]),
+    (b"MODULE\ta \tb \tc \td\n", &[Records(1)]),
+    (b"MODULE a\tb c\t d \t \n", &[Records(1)]),
+    (b"MODULE a b c d e\n", &[Records(1)]),
+    (b"INFO\tx\n", &[Records(1)]),
+    (b"INFO \n", &[Records(1)]),
+    (b"INFO URL x\n", &[Records(1)]),
+    (b"FILE\t 1 \ta\n", &[Records(1)]),
+    (b"INLINE_ORIGIN\t1\ta\n", &[Records(1)]),
+    (b"PUBLIC\tm\t1\t2\tx\n", &[Records(1)]),
+    (b"PUBLIC  m  1  2  x\n", &[Records(1)]),
+    (b"FUNC\tm\t1\t2\t3\tx\n", &[Records(1)]),
+    (b"FUNC  m  1  2  3  x\n", &[Records(1)]),
+    (b"STACK WIN\tx\n", &[Records(1)]),
+    (b"STACK WIN \n", &[Records(1)]),
+    (b"STACK CFI INIT\t\n", &[Records(1)]),
+    (
+        b"FUNC 1 2 3 x\nINLINE \t0\t 1\t0  5\t1\t1  1  1\n",
+        &[Records(2)],
     ),
-    Recorded(
-        4,
+    (b"FUNC 1 2 3 x\nINLINE_ORIGIN\t1 a\n\n", &[Records(2)]),
+    (b"FUNC 1 2 3 x\n1\t1\t1\t1\n1  1  1  1\n", &[Records(3)]),
+    (
+        b"FUNC 1 2 3 x\nINLINE_ORIGIN \t1\ta\n1 1 1 1\n",
+        &[Records(3)],
+    ),
+    (
+        b"STACK CFI INIT a\nSTACK CFI\tb\nSTACK CFI \n",
+        &[Records(3)],
+    ),
+    // names
+    (b"PUBLIC m 1 2 m\n", &[Records(1)]),
+    (b"PUBLIC 1 2 m\n", &[Records(1)]),
+    (b"PUBLIC 1 2 \n", &[Records(1)]),
+    (b"FUNC m 1 2 3 m\n", &[Records(1)]),
+    (b"FUNC 1 2 3 m\n", &[Records(1)]),
+    (b"FUNC 1 2 3 \n", &[Records(1)]),
+    (b"FUNC 1 2 3 \xc3\xa9\xf0\x9f\x98\x80\x00\n", &[Records(1)]),
+    (b"FILE 1 \n", &[Records(1)]),
+    (b"INLINE_ORIGIN 1 \n", &[Records(1)]),
+    (b"MODULE \xff \xfe \xfd d\n", &[Records(1)]),
+    (b"INFO \xff\n", &[Records(1)]),
+    (b"STACK WIN \xff\x00\n", &[Records(1)]),
+    (b"FUNC 1 2 3 x\nINLINE_ORIGIN 1 \n", &[Records(2)]),
+    (b"STACK CFI INIT \xff\nSTACK CFI \xff\n", &[Records(2)]),
+    // roles
+    (b"FUNC 1 2 3 x\nINLINE 0 1 0 5 1 1 2 2 3 3\n", &[Records(2)]),
+    (b"STACK CFI INIT a\nSTACK WIN a\n\n", &[Records(2)]),
+    (b"FUNC 1 2 3 x\nFUNC 1 2 3 y\n1 1 1 1\n", &[Records(3)]),
+    (b"STACK CFI INIT a\nFUNC 1 2 3 x\n1 1 1 1\n", &[Records(3)]),
+    (
+        b"FUNC 1 2 3 x\nSTACK CFI INIT a\nSTACK CFI b\n",
+        &[Records(3)],
+    ),
+    (
+        b"STACK CFI INIT a\nSTACK CFI INIT b\nSTACK CFI c\n",
+        &[Records(3)],
+    ),
+    (
+        b"FUNC 1 2 3 x\nINLINE_ORIGIN 1 a\nINLINE 0 1 0 5 1 1\n1 1 1 1\n",
+        &[Records(4)],
+    ),
+    (
         b"STACK CFI INIT a\nSTACK CFI INIT\nSTACK CFI INITb\nSTACK CFI  INIT b\n",
+        &[Records(4)],
     ),
     // line ends and white space
-    Recorded(1, b"FILE 1 a\n\r\n\n \t\r \n"),
-    Recorded(2, b"FUNC 1 2 3 x\r\r\r\n1 1 1 1\r\n"),
-    Recorded(2, b"FUNC 1 2 3 x\n\n \n\r1 1 1 1\n"),
-    Recorded(2, b"FUNC 1 2 3 x\n INLINE 0 1 0 5 1 1\n"),
-    Recorded(2, b"FUNC 1 2 3 x\n\n FUNC 1 2 3 x\n"),
-    Recorded(2, b"STACK CFI INIT a\n\n STACK CFI b\n"),
-    Recorded(
-        3,
+    (b"FILE 1 a\n\r\n\n \t\r \n", &[Records(1)]),
+    (b"FUNC 1 2 3 x\r\r\r\n1 1 1 1\r\n", &[Records(2)]),
+    (b"FUNC 1 2 3 x\n\n \n\r1 1 1 1\n", &[Records(2)]),
+    (b"FUNC 1 2 3 x\n INLINE 0 1 0 5 1 1\n", &[Records(2)]),
+    (b"FUNC 1 2 3 x\n\n FUNC 1 2 3 x\n", &[Records(2)]),
+    (b"STACK CFI INIT a\n\n STACK CFI b\n", &[Records(2)]),
+    (
         b"FUNC 1 2 3 \r\nINLINE 0 1 0 5 1 1\r\nINLINE_ORIGIN 1 \r\n",
+        &[Records(3)],
     ),
-    Recorded(3, b"FILE 1 a\n\r FILE 2 b\n\t\tFILE 3 c\n"),
-    Recorded(3, b"FUNC 1 2 3 x\n1 1 1 1\nFILE 1 a\n\n"),
-    Recorded(
-        4,
+    (b"FILE 1 a\n\r FILE 2 b\n\t\tFILE 3 c\n", &[Records(3)]),
+    (b"FUNC 1 2 3 x\n1 1 1 1\nFILE 1 a\n\n", &[Records(3)]),
+    (
         b"MODULE a b c d\r\nINFO \r\nSTACK CFI INIT \r\nSTACK CFI \r\n",
+        &[Records(4)],
     ),
-    Recorded(
-        6,
+    (
         b"MODULE a b c d\n\nFILE 1 a\n\nINLINE_ORIGIN 1 a\n\nPUBLIC 1 2 x\n\nINFO a\n\nSTACK WIN a\n\n",
+        &[Records(6)],
     ),
 ];
 
-impl Case for Recorded {
-    fn text(&self) -> &[u8] {
-        self.1
-    }
-
-    fn holds(&self, alloc: Global, _file: &SymbolFile) -> Result<bool, Error> {
-        Ok(records_of(alloc, self.1)? == self.0)
-    }
-}
-
 #[test]
-fn reads_texts(rt: HostRuntime) -> Result<(), Error> {
-    assert_held(&rt, rt.alloc(), &READ)
+fn reads_texts(rt: HostRuntime) {
+    assert!(rt; hold(rt.alloc(), READ, Way::Bytes));
 }
 
 /// Texts that are no Breakpad files.
-const REFUSED: [&[u8]; 162] = [
+const REFUSED: &[&[u8]] = &[
     // no lines
     b"",
     b"FUNC 1 2 3 x",
@@ -391,7 +361,7 @@ fn is_refused(alloc: Global, text: &[u8]) -> bool {
 
 #[test]
 fn refuses_texts(rt: HostRuntime) {
-    for index in 0..REFUSED.len() {
-        assert!(rt; is_refused(rt.alloc(), REFUSED[index]), "row {index}");
+    for text in REFUSED {
+        assert!(rt; is_refused(rt.alloc(), text));
     }
 }

@@ -53,6 +53,57 @@ fn answers(cache: &mut FileCache<Note>, alloc: Global, files: &mut MemFiles, tex
     }
 }
 
+/// Whether a version with the stamp of the file at `/s` is kept.
+fn is_kept(cache: &FileCache<Note>, files: &mut MemFiles) -> bool {
+    match files.stat("/s") {
+        Ok(stamp) => cache.is_kept(&stamp),
+        Err(_) => false,
+    }
+}
+
+/// Takes in a note as that of the file at `/s`.
+fn take_in(cache: &mut FileCache<Note>, alloc: Global, files: &mut MemFiles) -> Result<()> {
+    let note = Note::parse(alloc, b"V1".to_vec(alloc)?)?;
+    let note = Rc::new(alloc, note)?;
+    cache.insert_value(alloc, files, "/s", note)
+}
+
+/// Puts the first text at `/s` again, with its stamp. Says whether memory was left.
+fn put_back(alloc: Global, files: &mut MemFiles, stamp: Stamp) -> bool {
+    match b"V1".to_vec(alloc) {
+        Ok(bytes) => files.put_as(alloc, "/s", stamp, bytes).is_ok(),
+        Err(_) => false,
+    }
+}
+
+/// What happens to a file that a new cache looks at.
+enum Course {
+    ChangesUnseen,
+    Changes,
+    IsPinned,
+    IsTakenIn,
+    ChangesBack,
+    HasTwoPaths,
+}
+
+/// What may happen.
+static COURSES: [Course; 6] = [
+    Course::ChangesUnseen,
+    Course::Changes,
+    Course::IsPinned,
+    Course::IsTakenIn,
+    Course::ChangesBack,
+    Course::HasTwoPaths,
+];
+
+/// Whether a changed file is answered by its first version where nothing is reloaded.
+fn stays(cache: &mut FileCache<Note>, alloc: Global, files: &mut MemFiles) -> bool {
+    put(alloc, files, b"V1")
+        && answers(cache, alloc, files, b"V1")
+        && put(alloc, files, b"V2")
+        && answers(cache, alloc, files, b"V1")
+}
+
 /// Whether a file is read once where it has changed, and refused where a look fails.
 fn reads_anew(cache: &mut FileCache<Note>, alloc: Global, files: &mut MemFiles) -> bool {
     // A version is looked at twice, for its stamp and its bytes, and once where it is kept.
@@ -68,59 +119,22 @@ fn reads_anew(cache: &mut FileCache<Note>, alloc: Global, files: &mut MemFiles) 
         && files.opens() == 2
 }
 
-/// Whether a version with the stamp of the file at `/s` is kept.
-fn is_kept(cache: &FileCache<Note>, files: &mut MemFiles) -> bool {
-    match files.stat("/s") {
-        Ok(stamp) => cache.is_kept(&stamp),
-        Err(_) => false,
-    }
-}
-
-/// Whether a changed file is still answered by its first version.
-fn stays(cache: &mut FileCache<Note>, alloc: Global, files: &mut MemFiles) -> bool {
-    put(alloc, files, b"V2") && answers(cache, alloc, files, b"V1")
-}
-
-/// Whether a changed file is answered by its first version from the first look on.
-fn stays_from_the_first(cache: &mut FileCache<Note>, alloc: Global, files: &mut MemFiles) -> bool {
-    put(alloc, files, b"V1") && answers(cache, alloc, files, b"V1") && stays(cache, alloc, files)
-}
-
-#[test]
-fn a_path_keeps_its_version_where_nothing_is_reloaded(rt: HostRuntime) {
-    let mut files = MemFiles::new(rt.alloc(), 0);
-    let mut cache = FileCache::<Note>::builder()
-        .enable_auto_reload(false)
-        .build(rt.alloc());
-    let held = stays_from_the_first(&mut cache, rt.alloc(), &mut files);
-    assert!(rt; held);
-}
-
-/// Whether a path answers by its first version from when it is pinned.
-fn stays_pinned(cache: &mut FileCache<Note>, alloc: Global, files: &mut MemFiles) -> bool {
+/// Whether a path answers by its first version from when it is pinned. It is looked at anew from when
+/// it is unpinned, and then let go with both versions.
+fn stays_while_pinned(cache: &mut FileCache<Note>, alloc: Global, files: &mut MemFiles) -> bool {
     put(alloc, files, b"V1")
         && answers(cache, alloc, files, b"V1")
         && is_kept(cache, files)
         && cache.pin("/s").is_some()
         && cache.is_pinned("/s")
-        && stays(cache, alloc, files)
-}
-
-/// Whether it is looked at anew from when it is unpinned, and then let go with both versions.
-fn goes_unpinned(cache: &mut FileCache<Note>, alloc: Global, files: &mut MemFiles) -> bool {
-    cache.unpin("/s").is_some()
+        && put(alloc, files, b"V2")
+        && answers(cache, alloc, files, b"V1")
+        && cache.unpin("/s").is_some()
         && answers(cache, alloc, files, b"V2")
         && cache.entry_count() == 2
         && cache.path_count() == 1
         && cache.evict("/s")
         && cache.entry_count() == 0
-}
-
-/// Takes in a note as that of the file at `/s`.
-fn take_in(cache: &mut FileCache<Note>, alloc: Global, files: &mut MemFiles) -> Result<()> {
-    let note = Note::parse(alloc, b"V1".to_vec(alloc)?)?;
-    let note = Rc::new(alloc, note)?;
-    cache.insert_value(alloc, files, "/s", note)
 }
 
 /// Whether a note is taken in once where a file is, which isn't read.
@@ -133,24 +147,15 @@ fn takes_in_once(cache: &mut FileCache<Note>, alloc: Global, files: &mut MemFile
         && take_in(cache, alloc, files) == Err(Error::AlreadyExists)
 }
 
-/// Puts the first text at `/s` again, with its stamp. Says whether memory was left.
-fn put_back(alloc: Global, files: &mut MemFiles, stamp: Stamp) -> bool {
-    match b"V1".to_vec(alloc) {
-        Ok(bytes) => files.put_as(alloc, "/s", stamp, bytes).is_ok(),
-        Err(_) => false,
-    }
-}
-
 /// Whether a path whose file changes and changes back, and that so names a stamp twice, lets both
 /// versions go.
-fn changes_back(cache: &mut FileCache<Note>, alloc: Global, files: &mut MemFiles) -> bool {
-    if !put(alloc, files, b"V1") {
-        return false;
-    }
+fn lets_both_go(cache: &mut FileCache<Note>, alloc: Global, files: &mut MemFiles) -> bool {
+    let written = put(alloc, files, b"V1");
     let Ok(stamp) = files.stat("/s") else {
         return false;
     };
-    answers(cache, alloc, files, b"V1")
+    written
+        && answers(cache, alloc, files, b"V1")
         && put(alloc, files, b"V2")
         && answers(cache, alloc, files, b"V2")
         && put_back(alloc, files, stamp)
@@ -160,17 +165,13 @@ fn changes_back(cache: &mut FileCache<Note>, alloc: Global, files: &mut MemFiles
         && cache.entry_count() == 0
 }
 
-/// Looks at two paths of one file. Says whether it is found at both.
-fn looks_at_two(cache: &mut FileCache<Note>, alloc: Global, files: &mut MemFiles) -> bool {
+/// Whether the one version of a file that is found at two paths stays until both are forgotten.
+fn stays_for_two(cache: &mut FileCache<Note>, alloc: Global, files: &mut MemFiles) -> bool {
     put(alloc, files, b"V1")
         && files.link(alloc, "/b", "/s") == Ok(true)
         && answers(cache, alloc, files, b"V1")
         && cache.entry(alloc, files, "/b").is_ok()
-}
-
-/// Whether the one version stays until both paths are forgotten.
-fn stays_for_two(cache: &mut FileCache<Note>) -> bool {
-    cache.entry_count() == 1
+        && cache.entry_count() == 1
         && cache.path_count() == 2
         && !cache.evict("/s")
         && cache.entry_count() == 1
@@ -180,52 +181,28 @@ fn stays_for_two(cache: &mut FileCache<Note>) -> bool {
         && cache.pin("/b").is_none()
 }
 
-/// What happens to a file that a new cache looks at.
-#[derive(Drop)]
-enum Course {
-    Changes,
-    IsPinned,
-    IsTakenIn,
-    ChangesBack,
-    HasTwoPaths,
-}
-
-/// Whether the cache does then as it should.
-fn goes_well(alloc: Global, course: Course) -> bool {
+/// Whether a new cache does then as it should.
+fn goes_well(alloc: Global, course: &Course) -> bool {
+    let builder = FileCache::<Note>::builder();
+    let builder = match course {
+        Course::ChangesUnseen => builder.enable_auto_reload(false),
+        _ => builder,
+    };
+    let mut cache = builder.build(alloc);
     let mut files = MemFiles::new(alloc, 0);
-    let mut cache = FileCache::<Note>::builder().build(alloc);
     match course {
+        Course::ChangesUnseen => stays(&mut cache, alloc, &mut files),
         Course::Changes => reads_anew(&mut cache, alloc, &mut files),
-        Course::IsPinned => stays_pinned(&mut cache, alloc, &mut files)
-            && goes_unpinned(&mut cache, alloc, &mut files),
+        Course::IsPinned => stays_while_pinned(&mut cache, alloc, &mut files),
         Course::IsTakenIn => takes_in_once(&mut cache, alloc, &mut files),
-        Course::ChangesBack => changes_back(&mut cache, alloc, &mut files),
-        Course::HasTwoPaths => looks_at_two(&mut cache, alloc, &mut files)
-            && stays_for_two(&mut cache),
+        Course::ChangesBack => lets_both_go(&mut cache, alloc, &mut files),
+        Course::HasTwoPaths => stays_for_two(&mut cache, alloc, &mut files),
     }
 }
 
 #[test]
-fn a_changed_file_is_read_anew(rt: HostRuntime) {
-    assert!(rt; goes_well(rt.alloc(), Course::Changes));
-}
-
-#[test]
-fn a_pinned_path_keeps_its_version(rt: HostRuntime) {
-    assert!(rt; goes_well(rt.alloc(), Course::IsPinned));
-}
-
-#[test]
-fn a_version_is_taken_in_unread(rt: HostRuntime) {
-    assert!(rt; goes_well(rt.alloc(), Course::IsTakenIn));
-}
-
-#[test]
-fn a_path_counts_once_at_a_stamp(rt: HostRuntime) {
-    assert!(rt; goes_well(rt.alloc(), Course::ChangesBack));
-}
-
-#[test]
-fn a_version_stays_while_a_path_names_it(rt: HostRuntime) {
-    assert!(rt; goes_well(rt.alloc(), Course::HasTwoPaths));
+fn versions_are_kept_while_they_are_named(rt: HostRuntime) {
+    for course in &COURSES {
+        assert!(rt; goes_well(rt.alloc(), course));
+    }
 }

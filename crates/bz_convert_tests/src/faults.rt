@@ -2,13 +2,13 @@
 
 use bz_base::Error;
 use bz_breakpad::SymbolFile;
-use bz_convert::first_fault;
+use bz_convert::{ConvertError, first_fault};
 use std::alloc::Global;
-use std::test::Fail;
 
 /// A file's text, and what is said of its first fault: nothing where it has none. Each cause once; sizes
-/// of 0, equal calls, and functions whose end passes 64 bits.
-const CAUSES: [(&[u8], &str); 18] = [
+/// of 0, equal calls, and functions whose end passes 64 bits. Then files with several causes: in one
+/// function the first by the kinds' order, in several the one of the least start.
+const CAUSES: &[(&[u8], &str)] = &[
     (
         b"MODULE Linux x86 ffff0000 bar\nFILE 53 bar.c\nPUBLIC 1234 10 some public\nFUNC 1000 30 10 another func\n1000 30 7 53\n",
         "",
@@ -69,11 +69,6 @@ const CAUSES: [(&[u8], &str); 18] = [
         "a text of the function at 0x10 holds a zero byte",
     ),
     (b"FUNC ffffffffffffffff 2 0 f\n1 1 1 9\n", ""),
-];
-
-/// The same of files with several causes: in one function the first by the kinds' order, in several the
-/// one of the least start.
-const SEVERAL: [(&[u8], &str); 5] = [
     (
         b"FUNC 10 8 0 f\n10 4 1 9\n",
         "the function at 0x10 has no line at 0x14",
@@ -96,28 +91,37 @@ const SEVERAL: [(&[u8], &str); 5] = [
     ),
 ];
 
+fn is_message(alloc: Global, error: ConvertError, expected: &str) -> Result<bool, Error> {
+    let mut message = String::new(alloc);
+    write!(message, "{error}")?;
+    Ok(message.as_str() == expected)
+}
+
+fn is_first(alloc: Global, file: &SymbolFile, said: &str) -> Result<bool, Error> {
+    match first_fault(alloc, file)? {
+        Some(fault) => is_message(alloc, fault, said),
+        None => Ok(said.is_empty()),
+    }
+}
+
 /// Whether this is said of the first fault of a text.
 fn is_said(alloc: Global, text: &[u8], said: &str) -> Result<bool, Error> {
     let file = SymbolFile::from_bytes(alloc, Vec::from_slice(alloc, text)?)?;
-    let mut message = String::new(alloc);
-    if let Some(fault) = first_fault(alloc, &file)? {
-        write!(message, "{fault}")?;
-    }
-    Ok(message.as_str() == said)
+    is_first(alloc, &file, said)
 }
 
 #[test]
-fn finds_each_cause(rt: HostRuntime) -> Result<(), Fail> {
-    for row in &CAUSES {
-        assert!(rt; is_said(rt.alloc(), row.0, row.1)?, "of {:?}", row.0);
+fn finds_the_first_cause(rt: HostRuntime) {
+    for row in CAUSES {
+        assert!(rt; is_said(rt.alloc(), row.0, row.1) == Ok(true));
     }
-    Ok(())
 }
 
+/// The length of a file that is too large is said in decimal digits.
 #[test]
-fn finds_the_first_of_several(rt: HostRuntime) -> Result<(), Fail> {
-    for row in &SEVERAL {
-        assert!(rt; is_said(rt.alloc(), row.0, row.1)?, "of {:?}", row.0);
-    }
-    Ok(())
+fn tells_the_length_of_a_large_file(rt: HostRuntime) {
+    let error = ConvertError::TooLarge { bytes: 4294967296 };
+    assert!(rt;
+        is_message(rt.alloc(), error, "the converted file has 4294967296 bytes") == Ok(true)
+    );
 }

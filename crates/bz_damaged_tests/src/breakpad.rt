@@ -19,25 +19,6 @@ fn is_taken_as(alloc: Global, text: &[u8], expected: bool) -> bool {
     }
 }
 
-/// Whether the text's last line is ended.
-fn is_ended(text: &[u8]) -> bool {
-    match text.last() {
-        Some(byte) => *byte == b'\n',
-        None => false,
-    }
-}
-
-#[test]
-fn a_cut_text_is_taken_where_its_last_line_is_ended(rt: HostRuntime) {
-    for len in 0..BAR.len() {
-        let front = &BAR[..len];
-        assert!(rt;
-            is_taken_as(rt.alloc(), front, is_ended(front)),
-            "{len} bytes"
-        );
-    }
-}
-
 /// Texts whose numbers are the greatest, or one past it, and whether they are taken.
 const TEXTS: &[(&[u8], bool)] = &[
     // A line record may end past 64 bits.
@@ -47,8 +28,13 @@ const TEXTS: &[(&[u8], bool)] = &[
 ];
 
 #[test]
-fn numbers_reach_to_the_end_of_their_range(rt: HostRuntime) {
-    for (text, taken) in TEXTS {
-        assert!(rt; is_taken_as(rt.alloc(), text, *taken));
+fn texts_are_taken_by_their_lines_and_numbers(rt: HostRuntime) {
+    // A cut text is taken where its last line is ended.
+    for len in 0..BAR.len() {
+        let front = &BAR[..len];
+        assert!(rt; is_taken_as(rt.alloc(), front, front.ends_with(b"\n")));
+    }
+    for row in TEXTS {
+        assert!(rt; is_taken_as(rt.alloc(), row.0, row.1));
     }
 }

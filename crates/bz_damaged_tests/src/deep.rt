@@ -1,6 +1,7 @@
 //! Calls inside one another, many levels deep.
 
-use bz_base::{CodeInfo, Error, FindSymOpts, InlinedFn, Reason, ResolvedSym, Symbolize};
+use bz_base::FindSymOpts::CodeInfoAndInlined;
+use bz_base::{CodeInfo, Error, InlinedFn, Reason, ResolvedSym, Symbolize};
 use bz_breakpad::BreakpadResolver;
 use bz_files::MemFiles;
 use bz_gsym::GsymContext;
@@ -38,19 +39,6 @@ const WHOLE: &[u8] = b"\xe0\xc8\x10\0";
 
 const UNENDED: &[u8] = b"\xdf\xc8\x10\0";
 
-/// The file whose tree has so many bytes of one with nodes one inside the other, each of 0x20 bytes.
-fn file_of(alloc: Global, len: &[u8]) -> Result<Vec<u8>, AllocError> {
-    let mut bytes = Vec::from_slice(alloc, &FRONT)?;
-    bytes.extend_from_slice(len)?;
-    for _ in 0..DEPTH {
-        bytes.extend_from_slice(b"\x01\x00\x20\x01\x01\0\0\0\x01\x03")?;
-    }
-    for _ in 0..DEPTH {
-        bytes.push(0)?;
-    }
-    Ok(bytes)
-}
-
 /// Whether the place is that line of `a.c`.
 fn is_at(place: &Option<CodeInfo<'_>>, line: u32) -> bool {
     match place {
@@ -59,90 +47,70 @@ fn is_at(place: &Option<CodeInfo<'_>>, line: u32) -> bool {
     }
 }
 
-/// Whether the call is of a function with this name, and lies at that line.
-fn is_call(call: &InlinedFn<'_>, name: &str, line: u32) -> bool {
-    call.name.as_str() == name && is_at(&call.code_info, line)
-}
-
 /// Whether all calls are of functions with this name, the last one at the last line, and the others
 /// where the next one is called.
 fn are_calls(calls: &[InlinedFn<'_>], name: &str) -> bool {
     let Some((last, outer)) = calls.split_last() else {
-        return false;
+        return true;
     };
     for call in outer {
-        if !is_call(call, name, CALL_LINE) {
+        if call.name.as_str() != name || !is_at(&call.code_info, CALL_LINE) {
             return false;
         }
     }
-    is_call(last, name, LAST_LINE)
+    last.name.as_str() == name && is_at(&last.code_info, LAST_LINE)
 }
 
-/// Whether the symbol has so many calls of functions with this name in it, or none and the last line.
-fn is_nest(symbol: &ResolvedSym<'_>, name: &str, count: usize) -> bool {
-    if count == 0 {
-        return symbol.inlined.is_empty() && is_at(&symbol.code_info, LAST_LINE);
-    }
-    symbol.inlined.len() == count
-        && is_at(&symbol.code_info, CALL_LINE)
-        && are_calls(symbol.inlined.as_slice(), name)
-}
-
-/// Whether it is the symbol that is found.
-fn is_found_nest(found: &Result<ResolvedSym<'_>, Reason>, name: &str, count: usize) -> bool {
+/// Whether the symbol that is found has so many calls of functions with this name in it, or none and
+/// the last line; or without a count it is refused.
+fn is_nest(
+    found: &Result<Result<ResolvedSym<'_>, Reason>, Error>,
+    name: &str,
+    count: Option<usize>,
+) -> bool {
+    let line = if count == Some(0) {
+        LAST_LINE
+    } else {
+        CALL_LINE
+    };
     match found {
-        Ok(symbol) => is_nest(symbol, name, count),
-        Err(_) => false,
+        Ok(Ok(symbol)) => {
+            count == Some(symbol.inlined.len())
+                && is_at(&symbol.code_info, line)
+                && are_calls(symbol.inlined.as_slice(), name)
+        }
+        Ok(Err(_)) => false,
+        Err(error) => count == None && *error == Error::InvalidData,
     }
 }
 
 /// Whether the file answers an address by so many calls.
-fn has_calls(alloc: Global, context: &GsymContext<'_>, addr: u64, count: usize) -> bool {
-    match context.find_sym(alloc, addr, &FindSymOpts::CodeInfoAndInlined) {
-        Ok(found) => is_found_nest(&found, "main", count),
-        Err(_) => false,
+fn has_calls(alloc: Global, context: &GsymContext<'_>, addr: u64, count: Option<usize>) -> bool {
+    is_nest(
+        &context.find_sym(alloc, addr, &CodeInfoAndInlined),
+        "main",
+        count,
+    )
+}
+
+/// Whether the file whose tree has so many bytes of one with nodes one inside the other, each of 0x20
+/// bytes, answers by so many calls in the nodes and behind them.
+fn has_tree(
+    alloc: Global,
+    len: &[u8],
+    inside: Option<usize>,
+    behind: Option<usize>,
+) -> Result<bool, Error> {
+    let mut bytes = Vec::from_slice(alloc, &FRONT)?;
+    bytes.extend_from_slice(len)?;
+    for _ in 0..DEPTH {
+        bytes.extend_from_slice(b"\x01\x00\x20\x01\x01\0\0\0\x01\x03")?;
     }
-}
-
-/// Whether the file refuses an address.
-fn refuses(alloc: Global, context: &GsymContext<'_>, addr: u64) -> bool {
-    match context.find_sym(alloc, addr, &FindSymOpts::CodeInfoAndInlined) {
-        Ok(_) => false,
-        Err(error) => error == Error::InvalidData,
+    for _ in 0..DEPTH {
+        bytes.push(0)?;
     }
-}
-
-/// Whether the file answers in the nodes and behind them.
-fn answers_whole(alloc: Global) -> bool {
-    let Ok(bytes) = file_of(alloc, WHOLE) else {
-        return false;
-    };
-    match GsymContext::parse_header(bytes.as_slice()) {
-        Ok(context) => has_calls(alloc, &context, 0x1005, 99_999)
-            && has_calls(alloc, &context, 0x1020, 0),
-        Err(_) => false,
-    }
-}
-
-#[test]
-fn a_gsym_file_answers_by_a_deep_tree(rt: HostRuntime) {
-    assert!(rt; answers_whole(rt.alloc()));
-}
-
-/// Whether the file without the tree's last byte refuses in the nodes and behind them.
-fn refuses_unended(alloc: Global) -> bool {
-    let Ok(bytes) = file_of(alloc, UNENDED) else {
-        return false;
-    };
-    match GsymContext::parse_header(bytes.as_slice()) {
-        Ok(context) => refuses(alloc, &context, 0x1005) && refuses(alloc, &context, 0x1020),
-        Err(_) => false,
-    }
-}
-
-#[test]
-fn a_gsym_file_with_an_unended_tree_refuses(rt: HostRuntime) {
-    assert!(rt; refuses_unended(rt.alloc()));
+    let context = GsymContext::parse_header(bytes.as_slice())?;
+    Ok(has_calls(alloc, &context, 0x1005, inside) && has_calls(alloc, &context, 0x1020, behind))
 }
 
 /// A text of a function with calls one inside the other, each of 0x10 bytes.
@@ -155,32 +123,27 @@ fn text_of(alloc: Global) -> Result<String, AllocError> {
     Ok(text)
 }
 
-/// The resolver of that text.
-fn resolver_of(alloc: Global) -> Result<BreakpadResolver, Error> {
-    let mut files = MemFiles::new(alloc, 0);
-    let text = text_of(alloc)?;
-    files.put(alloc, "/p", text.into_bytes())?;
-    BreakpadResolver::open(alloc, &mut files, "/p")
-}
-
 /// Whether the resolver answers an address by so many calls.
 fn finds_calls(alloc: Global, resolver: &BreakpadResolver, addr: u64, count: usize) -> bool {
-    match resolver.find_sym(alloc, addr, &FindSymOpts::CodeInfoAndInlined) {
-        Ok(found) => is_found_nest(&found, "g", count),
-        Err(_) => false,
-    }
+    is_nest(
+        &resolver.find_sym(alloc, addr, &CodeInfoAndInlined),
+        "g",
+        Some(count),
+    )
 }
 
-/// Whether the text answers in the calls and behind them.
-fn finds_in_nest(alloc: Global) -> bool {
-    match resolver_of(alloc) {
-        Ok(resolver) => finds_calls(alloc, &resolver, 0x1005, 100_000)
-            && finds_calls(alloc, &resolver, 0x1010, 0),
-        Err(_) => false,
-    }
+/// Whether that text answers by all its calls in them, and by none behind them.
+fn has_nest(alloc: Global) -> Result<bool, Error> {
+    let mut files = MemFiles::new(alloc, 0);
+    files.put(alloc, "/p", text_of(alloc)?.into_bytes())?;
+    let resolver = BreakpadResolver::open(alloc, &mut files, "/p")?;
+    Ok(finds_calls(alloc, &resolver, 0x1005, 100_000) && finds_calls(alloc, &resolver, 0x1010, 0))
 }
 
 #[test]
-fn a_breakpad_file_answers_by_a_deep_nest(rt: HostRuntime) {
-    assert!(rt; finds_in_nest(rt.alloc()));
+fn deep_calls_answer(rt: HostRuntime) {
+    assert!(rt; has_tree(rt.alloc(), WHOLE, Some(99_999), Some(0)) == Ok(true));
+    // A tree without its last byte is refused in the nodes and behind them.
+    assert!(rt; has_tree(rt.alloc(), UNENDED, None, None) == Ok(true));
+    assert!(rt; has_nest(rt.alloc()) == Ok(true));
 }

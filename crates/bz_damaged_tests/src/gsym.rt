@@ -3,7 +3,7 @@
 use bz_base::{Cursor, Error};
 use bz_gsym::{GsymContext, LineTableHeader, LineTableRow, run_op};
 use bz_samples::{GSYM_LINES, damaged};
-use std::alloc::{AllocError, Global};
+use std::alloc::Global;
 
 /// A file of one start of one byte, behind a base address that is the last one. Its symbol has no data.
 const LAST_BASE: [u8; 60] = [
@@ -15,55 +15,47 @@ const LAST_BASE: [u8; 60] = [
     0x01, 0x00, 0x00, 0x00, 0x00, 0x00, 0x00, 0x00, 0x00, 0x00, 0x00, 0x00,
 ];
 
-/// The start, and the address that it stands for, or none where that is past 64 bits.
-const STARTS: &[(&[u8], Option<u64>)] = &[
-    (b"\x01", None),
-    (b"\xff", None),
-    (b"\0", Some(u64::MAX)),
+/// A file, bytes that stand in it from a place on, how it is refused then, if it is, and the address that
+/// its only start stands for, or none where that is past 64 bits.
+type Row = (
+    &'static [u8],
+    usize,
+    &'static [u8],
+    Option<Error>,
+    Option<u64>,
+);
+
+const STARTS: &[Row] = &[
+    (&LAST_BASE, 48, b"\x01", None, None),
+    (&LAST_BASE, 48, b"\xff", None, None),
+    (&LAST_BASE, 48, b"\0", None, Some(u64::MAX)),
+    // A count of addresses that the bytes cannot hold.
+    (
+        &GSYM_LINES,
+        16,
+        b"\xff\xff\xff\xff",
+        Some(Error::InvalidData),
+        None,
+    ),
 ];
 
-/// Whether the only start of the file stands for this address, which is found there alone.
-fn has_address(bytes: &[u8], expected: Option<u64>) -> bool {
-    let Ok(context) = GsymContext::parse_header(bytes) else {
+/// Whether the start of the file stands for this address, which is found there alone, or the file is
+/// refused so.
+fn has_address(alloc: Global, (file, place, new, refusal, expected): &Row) -> bool {
+    let Ok(bytes) = damaged(alloc, file, *place, new) else {
         return false;
     };
     let found = if expected.is_some() { Some(0) } else { None };
-    context.addr_at(0) == expected
-        && context.addr_at(1) == None
-        && context.find_addr(u64::MAX) == found
-        && context.find_addr(u64::MAX - 1) == None
-}
-
-/// Whether it does so with another start in the file.
-fn has_address_with(alloc: Global, start: &[u8], expected: Option<u64>) -> bool {
-    match damaged(alloc, &LAST_BASE, 48, start) {
-        Ok(bytes) => has_address(bytes.as_slice(), expected),
-        Err(_) => false,
-    }
-}
-
-#[test]
-fn an_address_past_64_bits_is_none(rt: HostRuntime) {
-    for (start, expected) in STARTS {
-        assert!(rt; has_address_with(rt.alloc(), start, *expected));
-    }
-}
-
-/// Whether the bytes, if memory was left for them, are refused.
-fn is_refused(bytes: Result<Vec<u8>, AllocError>) -> bool {
-    let Ok(bytes) = bytes else {
-        return false;
-    };
     match GsymContext::parse_header(bytes.as_slice()) {
-        Ok(_) => false,
-        Err(error) => error == Error::InvalidData,
+        Ok(context) => {
+            *refusal == None
+                && context.addr_at(0) == *expected
+                && context.addr_at(1) == None
+                && context.find_addr(u64::MAX) == found
+                && context.find_addr(u64::MAX - 1) == None
+        }
+        Err(error) => *refusal == Some(error),
     }
-}
-
-#[test]
-fn a_count_that_the_bytes_cannot_hold_is_refused(rt: HostRuntime) {
-    let bytes = damaged(rt.alloc(), &GSYM_LINES, 16, b"\xff\xff\xff\xff");
-    assert!(rt; is_refused(bytes));
 }
 
 /// The least and the greatest line delta, between which there is none.
@@ -82,8 +74,11 @@ fn ends_table(min_delta: i64, max_delta: i64) -> bool {
 }
 
 #[test]
-fn a_special_operator_without_deltas_ends_the_table(rt: HostRuntime) {
-    for (min_delta, max_delta) in NO_DELTAS {
-        assert!(rt; ends_table(*min_delta, *max_delta));
+fn numbers_reach_to_the_end_of_their_range(rt: HostRuntime) {
+    for row in STARTS {
+        assert!(rt; has_address(rt.alloc(), row));
+    }
+    for row in NO_DELTAS {
+        assert!(rt; ends_table(row.0, row.1));
     }
 }

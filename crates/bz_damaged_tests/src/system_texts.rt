@@ -17,34 +17,14 @@ const MAPPINGS: &[(usize, usize, Option<usize>)] = &[
     (105, 113, Some(3)),
 ];
 
-/// Whether the text tells so many mappings, or else is refused.
-fn tells_mappings(alloc: Global, text: &[u8], expected: Option<usize>) -> bool {
-    match parse_maps(alloc, Pid::Slf, text) {
+/// Whether the text, cut to this length, tells so many mappings, or else is refused.
+fn tells_mappings(alloc: Global, len: usize, expected: Option<usize>) -> bool {
+    let Some(front) = THREE_MAPPINGS.get(..len) else {
+        return false;
+    };
+    match parse_maps(alloc, Pid::Slf, front) {
         Ok(entries) => expected == Some(entries.len()),
-        Err(error) => expected.is_none() && error == Error::InvalidData,
-    }
-}
-
-/// Whether it does so cut to each of these lengths.
-fn tells_cut_mappings(alloc: Global, from: usize, to: usize, expected: Option<usize>) -> bool {
-    for len in from..=to {
-        let Some(front) = THREE_MAPPINGS.get(..len) else {
-            return false;
-        };
-        if !tells_mappings(alloc, front, expected) {
-            return false;
-        }
-    }
-    true
-}
-
-#[test]
-fn cut_mappings_are_told_as_far_as_their_inode(rt: HostRuntime) {
-    for (from, to, expected) in MAPPINGS {
-        assert!(rt;
-            tells_cut_mappings(rt.alloc(), *from, *to, *expected),
-            "from {from} bytes on"
-        );
+        Err(error) => expected == None && error == Error::InvalidData,
     }
 }
 
@@ -64,9 +44,12 @@ const PERF_MAPS: &[(usize, usize, bool)] = &[
     (123, 220, true),
 ];
 
-/// Whether the bytes are taken as is expected, or else refused as no perf map.
-fn is_taken_as(alloc: Global, text: &[u8], expected: bool) -> bool {
-    let Ok(bytes) = Vec::from_slice(alloc, text) else {
+/// Whether the text, cut to this length, is taken as is expected, or else refused as no perf map.
+fn is_taken_as(alloc: Global, len: usize, expected: bool) -> bool {
+    let Some(front) = PERF_MAP.get(..len) else {
+        return false;
+    };
+    let Ok(bytes) = Vec::from_slice(alloc, front) else {
         return false;
     };
     match PerfMap::parse(alloc, bytes) {
@@ -75,62 +58,46 @@ fn is_taken_as(alloc: Global, text: &[u8], expected: bool) -> bool {
     }
 }
 
-/// Whether it is so cut to each of these lengths.
-fn is_taken_cut(alloc: Global, from: usize, to: usize, expected: bool) -> bool {
-    for len in from..=to {
-        let Some(front) = PERF_MAP.get(..len) else {
-            return false;
-        };
-        if !is_taken_as(alloc, front, expected) {
-            return false;
-        }
-    }
-    true
-}
-
-#[test]
-fn a_cut_perf_map_is_taken_as_far_as_its_last_name(rt: HostRuntime) {
-    for (from, to, expected) in PERF_MAPS {
-        assert!(rt;
-            is_taken_cut(rt.alloc(), *from, *to, *expected),
-            "from {from} bytes on"
-        );
-    }
-}
-
 /// A status with three ids.
 const STATUS: &[u8] = b"Name:\tcat\nNStgid:\t1337\t12\t5\n";
 
-/// From how many bytes on, up to how many, the text tells this id, if it tells one.
-const IDS: &[(usize, usize, Option<u32>)] = &[
-    (0, 16, None),
-    (19, 19, Some(1)),
-    (20, 20, Some(13)),
-    (21, 21, Some(133)),
-    (22, 23, Some(1337)),
-    (24, 24, Some(1)),
-    (25, 26, Some(12)),
-    (27, 28, Some(5)),
+/// From how many bytes on, up to how many, the text tells this id, if it tells one, or is refused.
+const IDS: &[(usize, usize, Result<Option<u32>, Error>)] = &[
+    (0, 16, Ok(None)),
+    // The label alone, and with a blank behind it.
+    (17, 18, Err(Error::InvalidData)),
+    (19, 19, Ok(Some(1))),
+    (20, 20, Ok(Some(13))),
+    (21, 21, Ok(Some(133))),
+    (22, 23, Ok(Some(1337))),
+    (24, 24, Ok(Some(1))),
+    (25, 26, Ok(Some(12))),
+    (27, 28, Ok(Some(5))),
 ];
 
-/// Whether the text, cut to each of these lengths, tells this.
-fn tells_cut(from: usize, to: usize, expected: &Result<Option<u32>, Error>) -> bool {
-    for len in from..=to {
-        let Some(front) = STATUS.get(..len) else {
-            return false;
-        };
-        if parse_ns_tgid(front) != *expected {
-            return false;
-        }
+/// Whether the text, cut to this length, tells this.
+fn tells_id(len: usize, expected: &Result<Option<u32>, Error>) -> bool {
+    match STATUS.get(..len) {
+        Some(front) => parse_ns_tgid(front) == *expected,
+        None => false,
     }
-    true
 }
 
 #[test]
-fn a_cut_status_tells_its_last_id(rt: HostRuntime) {
-    for (from, to, id) in IDS {
-        assert!(rt; tells_cut(*from, *to, &Ok(*id)), "from {from} bytes on");
+fn cut_texts_are_told_as_far_as_they_reach(rt: HostRuntime) {
+    for row in MAPPINGS {
+        for len in row.0..=row.1 {
+            assert!(rt; tells_mappings(rt.alloc(), len, row.2));
+        }
     }
-    // The label alone, and with a blank behind it.
-    assert!(rt; tells_cut(17, 18, &Err(Error::InvalidData)));
+    for row in PERF_MAPS {
+        for len in row.0..=row.1 {
+            assert!(rt; is_taken_as(rt.alloc(), len, row.2));
+        }
+    }
+    for row in IDS {
+        for len in row.0..=row.1 {
+            assert!(rt; tells_id(len, &row.2));
+        }
+    }
 }

@@ -4,14 +4,10 @@
 #[cfg(test)]
 mod calling;
 #[cfg(test)]
-mod heads;
+mod files;
 #[cfg(test)]
 mod made;
 #[cfg(test)]
 mod names;
 #[cfg(test)]
 mod resolvers;
-#[cfg(test)]
-mod segments;
-#[cfg(test)]
-mod symbols;

@@ -3,19 +3,6 @@
 use bz_samples::ELF_FUNCTION;
 use std::alloc::{AllocError, Global};
 
-/// Adds a function: the place of its name in the strings, its start and its size.
-pub(crate) fn add_function(
-    symbols: &mut Vec<u8>,
-    name: u32,
-    start: u64,
-    size: u8,
-) -> Result<(), AllocError> {
-    symbols.extend_from_slice(&name.to_le_bytes())?;
-    symbols.extend_from_slice(&[2, 0, 1, 0])?;
-    symbols.extend_from_slice(&start.to_le_bytes())?;
-    symbols.extend_from_slice(&[size, 0, 0, 0, 0, 0, 0, 0])
-}
-
 /// Writes a number of 8 bytes at a place.
 fn write_number(bytes: &mut Vec<u8>, place: usize, number: u64) {
     let digits = number.to_le_bytes();

@@ -1,20 +1,10 @@
 //! Which names are taken: UTF-8 that a zero byte ends, wherever in the strings it begins.
 
-use crate::heads::{BAD, is_refused_as};
-use crate::made::{add_function, with_symbols};
-use bz_base::{FindSymOpts, Symbolize};
+use crate::files::tells;
+use crate::made::with_symbols;
+use bz_base::Error;
 use bz_elf::{ElfFile, laws};
 use std::alloc::{AllocError, Global};
-
-/// A file with these strings, and with functions of one byte each, from the address 0 on, that have their
-/// names at these places.
-fn with_names(alloc: Global, strings: &[u8], places: &[u32]) -> Result<Vec<u8>, AllocError> {
-    let mut symbols = Vec::new(alloc);
-    for (i, place) in places.iter().enumerate() {
-        add_function(&mut symbols, *place, i as u64, 1)?;
-    }
-    with_symbols(alloc, symbols.as_slice(), strings)
-}
 
 /// Strings that are UTF-8.
 const TEXT: &[u8] = b"\0a\xc3\xa9b\0\xe2\x82\xac\0cd";
@@ -23,8 +13,10 @@ const TEXT: &[u8] = b"\0a\xc3\xa9b\0\xe2\x82\xac\0cd";
 /// a later one.
 const MIXED: &[u8] = b"\0ab\xffc\0d\0\xc3\0\xe2\x82\xace\0f\0\x80";
 
-/// Strings, places of names in them, and the names.
-const NAMES: &[(&[u8], &[u32], &[&str])] = &[
+/// Strings, places of names in them, and the names, or nothing where the last of them is none.
+type Row = (&'static [u8], &'static [u32], &'static [&'static str]);
+
+const NAMES: &[Row] = &[
     (
         TEXT,
         &[0, 1, 2, 4, 5, 6, 9],
@@ -42,79 +34,69 @@ const NAMES: &[(&[u8], &[u32], &[&str])] = &[
         &["e", "€e", "f", "", "", "", "", ""],
     ),
     (b"\xff\0", &[1], &[""]),
-];
-
-/// Strings, and places of names of which the last is none.
-const NO_NAMES: &[(&[u8], &[u32])] = &[
     // Within a character, behind the last zero byte, at the end and past it.
-    (TEXT, &[1, 3]),
-    (TEXT, &[7]),
-    (TEXT, &[6, 8]),
-    (TEXT, &[10]),
-    (TEXT, &[12]),
-    (TEXT, &[13]),
-    (TEXT, &[u32::MAX]),
+    (TEXT, &[1, 3], &[]),
+    (TEXT, &[7], &[]),
+    (TEXT, &[6, 8], &[]),
+    (TEXT, &[10], &[]),
+    (TEXT, &[12], &[]),
+    (TEXT, &[13], &[]),
+    (TEXT, &[u32::MAX], &[]),
     // No UTF-8 from there on, also where it lies in front of a name that is good.
-    (MIXED, &[1]),
-    (MIXED, &[4, 2]),
-    (MIXED, &[4, 3]),
-    (MIXED, &[8]),
-    (MIXED, &[10, 11]),
-    (MIXED, &[10, 12]),
-    (MIXED, &[15, 17]),
-    (MIXED, &[15, 18]),
+    (MIXED, &[1], &[]),
+    (MIXED, &[4, 2], &[]),
+    (MIXED, &[4, 3], &[]),
+    (MIXED, &[8], &[]),
+    (MIXED, &[10, 11], &[]),
+    (MIXED, &[10, 12], &[]),
+    (MIXED, &[15, 17], &[]),
+    (MIXED, &[15, 18], &[]),
     // No zero byte.
-    (b"ab", &[0]),
-    (b"", &[0]),
+    (b"ab", &[0], &[]),
+    (b"", &[0], &[]),
 ];
 
-/// Whether the function at an address has this name.
-fn is_named(alloc: Global, file: &ElfFile, addr: u64, name: &str) -> bool {
-    match file.find_sym(alloc, addr, &FindSymOpts::Basic) {
-        Ok(Ok(symbol)) => symbol.name == name,
-        _ => false,
+/// A file with these strings, and with functions of one byte each, from the address 0 on, that have their
+/// names at these places.
+fn with_names(alloc: Global, strings: &[u8], places: &[u32]) -> Result<Vec<u8>, AllocError> {
+    let mut symbols = Vec::new(alloc);
+    for (i, place) in places.iter().enumerate() {
+        let name = place.to_le_bytes();
+        let start = (i % 256) as u8;
+        symbols.extend_from_slice(&[
+            name[0], name[1], name[2], name[3], 2, 0, 1, 0, start, 0, 0, 0, 0, 0, 0, 0, 1, 0, 0, 0,
+            0, 0, 0, 0,
+        ])?;
     }
+    with_symbols(alloc, symbols.as_slice(), strings)
 }
 
-/// Whether the bytes, if memory was left for them, are a file whose functions have these names.
-fn has_names(alloc: Global, bytes: Result<Vec<u8>, AllocError>, names: &[&str]) -> bool {
-    let Ok(bytes) = bytes else {
+/// Whether the functions, of one byte each from the address 0 on, have these names, of which there are some.
+fn are_named(alloc: Global, file: &ElfFile, names: &[&'static str]) -> bool {
+    for (i, name) in names.iter().enumerate() {
+        let addr = i as u64;
+        if !tells(alloc, file, addr, "", &(*name, addr, Some(1), None)) {
+            return false;
+        }
+    }
+    !names.is_empty()
+}
+
+/// Whether the file has the row's names, or is refused where there are none.
+fn has_names(alloc: Global, (strings, places, names): &Row) -> bool {
+    let Ok(bytes) = with_names(alloc, strings, places) else {
         return false;
     };
     match ElfFile::from_bytes(alloc, bytes) {
         Ok(file) => are_named(alloc, &file, names),
-        Err(_) => false,
+        Err(error) => names.is_empty() && error == Error::InvalidData,
     }
-}
-
-fn are_named(alloc: Global, file: &ElfFile, names: &[&str]) -> bool {
-    for (i, name) in names.iter().enumerate() {
-        if !is_named(alloc, file, i as u64, name) {
-            return false;
-        }
-    }
-    true
 }
 
 #[test]
 fn names_stand_where_characters_begin(rt: HostRuntime) {
     laws::names_are_exact();
-    let alloc = rt.alloc();
-    for (strings, places, names) in NAMES {
-        assert!(rt;
-            has_names(alloc, with_names(alloc, strings, places), names),
-            "{names:?} in {strings:?}"
-        );
-    }
-}
-
-#[test]
-fn no_name_stands_elsewhere(rt: HostRuntime) {
-    let alloc = rt.alloc();
-    for (strings, places) in NO_NAMES {
-        assert!(rt;
-            is_refused_as(alloc, with_names(alloc, strings, places), BAD),
-            "{places:?} in {strings:?}"
-        );
+    for row in NAMES {
+        assert!(rt; has_names(rt.alloc(), row));
     }
 }

@@ -2,8 +2,8 @@
 
 ghost use Rattle.std.specs.Prelude.{◌≡◌, ◌<◌};
 
-use crate::sources::{Question, input, is_named};
-use bz_base::{Result, Steps, Symbolized};
+use crate::sources::{Question, Told};
+use bz_base::{Input, Result, Steps, Symbolized};
 use bz_files::MemFiles;
 use bz_symbolize::source::Source;
 use bz_symbolize::{Lookups, Symbolizer};
@@ -17,26 +17,52 @@ pub(crate) enum Call {
     Counted,
     LookedUp,
     Single,
+    /// A batch without addresses.
+    Empty,
 }
 
-/// Each of them.
+/// The calls that ask for the addresses of a question, of which the last two take its first alone.
 pub(crate) const CALLS: &[Call] = &[Call::Batch, Call::Counted, Call::LookedUp, Call::Single];
 
-/// Whether the only answer is a symbol with this name.
-fn are_named(answers: &[Symbolized<'_>], name: &str) -> bool {
-    match answers.first() {
-        Some(answer) => answers.len() == 1 && is_named(answer, name),
-        None => false,
+/// The addresses as an input of this kind.
+fn input<T: Drop>(kind: Input<()>, addrs: T) -> Input<T> {
+    match kind {
+        Input::FileOffset(_) => Input::FileOffset(addrs),
+        Input::VirtOffset(_) => Input::VirtOffset(addrs),
+        Input::AbsAddr(_) => Input::AbsAddr(addrs),
     }
 }
 
-/// Whether the only address that was looked up is answered by a symbol with this name.
-fn is_looked_up(alloc: Global, lookups: &Lookups<'_>, name: &str) -> bool {
+/// Whether the answer is what is told at this place. No symbol has inlined calls.
+fn is_told(answer: &Symbolized<'_>, told: &[Told], place: usize) -> bool {
+    match (answer, told.get(place)) {
+        (Symbolized::Sym(symbol), Some((name, None, placed))) => {
+            symbol.name.as_str() == *name
+                && symbol.code_info.is_some() == *placed
+                && symbol.inlined.is_empty()
+        }
+        (Symbolized::Unknown(given), Some((_, Some(reason), _))) => given == reason,
+        _ => false,
+    }
+}
+
+/// Whether the answers are what is told.
+fn are_told(answers: &[Symbolized<'_>], told: &[Told]) -> bool {
+    for place in 0..answers.len() {
+        if !is_told(&answers[place], told, place) {
+            return false;
+        }
+    }
+    answers.len() == told.len()
+}
+
+/// Whether the only address that was looked up is answered by what is told.
+fn is_looked_up(alloc: Global, lookups: &Lookups<'_>, told: &[Told]) -> bool {
     if lookups.len() != 1 {
         return false;
     }
     match lookups.answer(alloc, 0) {
-        Ok(answer) => is_named(&answer, name),
+        Ok(answer) => is_told(&answer, told, 0),
         Err(_) => false,
     }
 }
@@ -46,10 +72,11 @@ fn batch(
     symbolizer: &mut Symbolizer,
     files: &mut MemFiles,
     src: &Source<'_>,
-    question: &Question,
+    input: Input<&[u64]>,
+    told: &[Told],
 ) -> Result<bool> {
-    let answers = symbolizer.symbolize(alloc, files, src, input(question.kind, &[question.addr]))?;
-    Ok(are_named(&answers, question.name))
+    let answers = symbolizer.symbolize(alloc, files, src, input)?;
+    Ok(are_told(&answers, told))
 }
 
 fn single(
@@ -57,15 +84,11 @@ fn single(
     symbolizer: &mut Symbolizer,
     files: &mut MemFiles,
     src: &Source<'_>,
-    question: &Question,
+    input: Input<u64>,
+    told: &[Told],
 ) -> Result<bool> {
-    let answer = symbolizer.symbolize_single(
-        alloc,
-        files,
-        src,
-        input(question.kind, question.addr),
-    )?;
-    Ok(is_named(&answer, question.name))
+    let answer = symbolizer.symbolize_single(alloc, files, src, input)?;
+    Ok(is_told(&answer, told, 0))
 }
 
 fn counted<L: Ledger>(
@@ -73,7 +96,8 @@ fn counted<L: Ledger>(
     symbolizer: &mut Symbolizer,
     files: &mut MemFiles,
     src: &Source<'_>,
-    question: &Question,
+    input: Input<&[u64]>,
+    told: &[Told],
     blank: Blank,
 ) -> Result<bool>
     requires name { blank.name ≡ L.name }
@@ -81,14 +105,8 @@ fn counted<L: Ledger>(
     requires some { 0 < L.parts }
 {
     let mut steps = Steps::<L>::new(blank);
-    let answers = symbolizer.symbolize_counted(
-        alloc,
-        files,
-        src,
-        input(question.kind, &[question.addr]),
-        &mut steps,
-    )?;
-    Ok(are_named(&answers, question.name))
+    let answers = symbolizer.symbolize_counted(alloc, files, src, input, &mut steps)?;
+    Ok(are_told(&answers, told))
 }
 
 fn looked_up<L: Ledger>(
@@ -96,7 +114,8 @@ fn looked_up<L: Ledger>(
     symbolizer: &mut Symbolizer,
     files: &mut MemFiles,
     src: &Source<'_>,
-    question: &Question,
+    input: Input<Vec<u64>>,
+    told: &[Told],
     blank: Blank,
 ) -> Result<bool>
     requires name { blank.name ≡ L.name }
@@ -104,12 +123,11 @@ fn looked_up<L: Ledger>(
     requires some { 0 < L.parts }
 {
     let mut steps = Steps::<L>::new(blank);
-    let addrs = Vec::from_slice(alloc, &[question.addr])?;
-    let lookups = symbolizer.look_up(alloc, files, src, input(question.kind, addrs), &mut steps)?;
-    Ok(is_looked_up(alloc, &lookups, question.name))
+    let lookups = symbolizer.look_up(alloc, files, src, input, &mut steps)?;
+    Ok(is_looked_up(alloc, &lookups, told))
 }
 
-/// Whether the call answers the address by a symbol with this name, or why it is refused.
+/// Whether the call answers the question by what is told, or why it is refused.
 pub(crate) fn ask(
     alloc: Global,
     symbolizer: &mut Symbolizer,
@@ -118,14 +136,34 @@ pub(crate) fn ask(
     call: &Call,
     question: &Question,
 ) -> Result<bool> {
+    let (kind, addrs, told) = *question;
+    let Some(first) = addrs.first() else {
+        return Ok(false);
+    };
     match call {
-        Call::Batch => batch(alloc, symbolizer, files, src, question),
-        Call::Counted => {
-            counted::<Brand>(alloc, symbolizer, files, src, question, Blank::new(1))
-        }
+        Call::Batch => batch(alloc, symbolizer, files, src, input(kind, addrs), told),
+        Call::Counted => counted::<Brand>(
+            alloc,
+            symbolizer,
+            files,
+            src,
+            input(kind, addrs),
+            told,
+            Blank::new(1),
+        ),
         Call::LookedUp => {
-            looked_up::<Brand>(alloc, symbolizer, files, src, question, Blank::new(1))
+            let alone = Vec::from_slice(alloc, &[*first])?;
+            looked_up::<Brand>(
+                alloc,
+                symbolizer,
+                files,
+                src,
+                input(kind, alone),
+                told,
+                Blank::new(1),
+            )
         }
-        Call::Single => single(alloc, symbolizer, files, src, question),
+        Call::Single => single(alloc, symbolizer, files, src, input(kind, *first), told),
+        Call::Empty => batch(alloc, symbolizer, files, src, input(kind, &[]), &[]),
     }
 }

@@ -7,16 +7,10 @@ mod asking;
 #[cfg(test)]
 mod causes;
 #[cfg(test)]
-mod damaged_files;
-#[cfg(test)]
 mod faults;
 #[cfg(test)]
 mod keeping;
 #[cfg(test)]
-mod processes;
-#[cfg(test)]
-mod reading;
-#[cfg(test)]
 mod sources;
 #[cfg(test)]
-mod trials;
+mod steps;

@@ -1,8 +1,9 @@
-//! The sources that are asked, one of each kind, and what their files are.
+//! The sources that are asked, what their files are, and what they answer.
 
-use bz_base::{Input, Reason, Result, Symbolized};
+use bz_base::Input::{AbsAddr, FileOffset, VirtOffset};
+use bz_base::{Input, Reason, Result};
 use bz_files::MemFiles;
-use bz_samples::{ELF_FUNCTION, GSYM_LINES, PERF_FUNCTION};
+use bz_samples::{ELF_FUNCTION, GSYM_LINES, PERF_FUNCTION, THREE_MAPPINGS, damaged};
 use bz_symbolize::Pid;
 use bz_symbolize::source::{Breakpad, Elf, GsymFile, Process, Source};
 use std::alloc::Global;
@@ -12,100 +13,96 @@ pub(crate) enum Kind {
     Breakpad,
     Gsym,
     Elf,
+    /// Process 7.
     Process,
 }
 
-/// What an address is counted from.
-#[derive(Clone, Copy)]
-pub(crate) enum AddressKind {
-    FileOffset,
-    VirtOffset,
-    AbsAddr,
+/// A path, and the bytes of the file that is put there, where others replace them from a place on.
+pub(crate) type File = (&'static str, &'static [u8], usize, &'static [u8]);
+
+/// What an address is told: the name of its symbol, or why it has none; and whether it has a place in the
+/// source code.
+pub(crate) type Told = (&'static str, Option<Reason>, bool);
+
+/// The kind of addresses, the addresses, and what they are told.
+pub(crate) type Question = (Input<()>, &'static [u64], &'static [Told]);
+
+/// A source, the path of the file that it names, good files for it, what it is asked then, and how many
+/// files are read for that.
+pub(crate) struct Asked {
+    pub kind: Kind,
+    pub path: &'static str,
+    pub files: &'static [File],
+    pub question: Question,
+    pub reads: u64,
 }
 
-/// The addresses as an input of their kind.
-pub(crate) fn input<T: Drop>(kind: AddressKind, addrs: T) -> Input<T> {
-    match kind {
-        AddressKind::FileOffset => Input::FileOffset(addrs),
-        AddressKind::VirtOffset => Input::VirtOffset(addrs),
-        AddressKind::AbsAddr => Input::AbsAddr(addrs),
-    }
-}
-
-/// An address, and the name of the symbol that answers there.
-#[derive(Drop)]
-pub(crate) struct Question {
-    pub addr: u64,
-    pub kind: AddressKind,
-    pub name: &'static str,
-}
-
-/// The path of the file that a source names: for process 7 that of its mappings.
-pub(crate) fn path_of(kind: &Kind) -> &'static str {
-    match kind {
-        Kind::Breakpad => "/s.sym",
-        Kind::Gsym => "/m.gsym",
-        Kind::Elf => "/e",
-        Kind::Process => "/proc/7/maps",
-    }
-}
-
-/// What a good file of the kind holds.
-fn bytes_of(kind: &Kind) -> &'static [u8] {
-    match kind {
-        Kind::Breakpad => b"FUNC 1000 20 0 one\n",
-        Kind::Gsym => &GSYM_LINES,
-        Kind::Elf => &ELF_FUNCTION,
-        Kind::Process => b"3000-4000 rw-p 00000000 00:00 0\n",
-    }
-}
-
-const ONE: Question = Question {
-    addr: 0x1010,
-    kind: AddressKind::FileOffset,
-    name: "one",
+pub(crate) const BREAKPAD: &Asked = &Asked {
+    kind: Kind::Breakpad,
+    path: "/s.sym",
+    files: &[("/s.sym", b"FUNC 1000 20 0 one\n", 0, b"")],
+    question: (FileOffset(()), &[0x1010], &[("one", None, false)]),
+    reads: 1,
 };
 
-const MAIN: Question = Question {
-    addr: 0x1004,
-    kind: AddressKind::VirtOffset,
-    name: "main",
+pub(crate) const GSYM: &Asked = &Asked {
+    kind: Kind::Gsym,
+    path: "/m.gsym",
+    files: &[("/m.gsym", &GSYM_LINES, 0, b"")],
+    question: (VirtOffset(()), &[0x1004], &[("main", None, true)]),
+    reads: 1,
 };
 
-const F: Question = Question {
-    addr: 0x400088,
-    kind: AddressKind::VirtOffset,
-    name: "f",
+pub(crate) const ELF: &Asked = &Asked {
+    kind: Kind::Elf,
+    path: "/e",
+    files: &[("/e", &ELF_FUNCTION, 0, b"")],
+    question: (VirtOffset(()), &[0x400088], &[("f", None, false)]),
+    reads: 1,
 };
 
-const JIT: Question = Question {
-    addr: 0x3008,
-    kind: AddressKind::AbsAddr,
-    name: "jit",
+/// Of a process the status and the perf map are read too.
+pub(crate) const PROCESS: &Asked = &Asked {
+    kind: Kind::Process,
+    path: "/proc/7/maps",
+    files: &[
+        ("/proc/7/maps", b"3000-4000 rw-p 00000000 00:00 0\n", 0, b""),
+        ("/proc/7/status", b"Name:\tx\n", 0, b""),
+        ("/proc/7/root/tmp/perf-7.map", PERF_FUNCTION, 0, b""),
+    ],
+    question: (AbsAddr(()), &[0x3008], &[("jit", None, false)]),
+    reads: 3,
 };
 
-/// What the good file of a kind is asked.
-pub(crate) fn question_of(kind: &Kind) -> &'static Question {
-    match kind {
-        Kind::Breakpad => &ONE,
-        Kind::Gsym => &MAIN,
-        Kind::Elf => &F,
-        Kind::Process => &JIT,
-    }
-}
+/// A process whose mapped file isn't an ELF file. It is asked outside the mappings, in a part of the system,
+/// in memory with a perf map, past the first mapping's end and before the next, and in the mapped file.
+pub(crate) const MAPPED: &Asked = &Asked {
+    kind: Kind::Process,
+    path: "/proc/7/maps",
+    files: &[
+        ("/proc/7/maps", THREE_MAPPINGS, 0, b""),
+        ("/proc/7/map_files/1000-2000", b"\x7fELF", 0, b""),
+        ("/proc/7/status", b"Name:\tx\n", 0, b""),
+        ("/proc/7/root/tmp/perf-7.map", PERF_FUNCTION, 0, b""),
+    ],
+    question: (
+        AbsAddr(()),
+        &[0x7000, 0x5000, 0x3008, 0x2800, 0x1004],
+        &[
+            ("", Some(Reason::Unmapped), false),
+            ("", Some(Reason::Unsupported), false),
+            ("jit", None, false),
+            ("", Some(Reason::Unmapped), false),
+            ("", Some(Reason::IgnoredError), false),
+        ],
+    ),
+    reads: 4,
+};
 
-/// How many files are read for that: of a process the status and the perf map too.
-pub(crate) fn reads_of(kind: &Kind) -> u64 {
-    match kind {
-        Kind::Process => 3,
-        _ => 1,
-    }
-}
-
-/// The source of a kind.
-pub(crate) fn source(alloc: Global, kind: &Kind) -> Result<Source<'static>> {
-    let path = String::from_str(alloc, path_of(kind))?;
-    Ok(match kind {
+/// The source.
+pub(crate) fn source(alloc: Global, asked: &Asked) -> Result<Source<'static>> {
+    let path = String::from_str(alloc, asked.path)?;
+    Ok(match asked.kind {
         Kind::Breakpad => Source::from(Breakpad::new(path)),
         Kind::Gsym => Source::from(GsymFile::new(path)),
         Kind::Elf => Source::from(Elf::new(path)),
@@ -113,34 +110,15 @@ pub(crate) fn source(alloc: Global, kind: &Kind) -> Result<Source<'static>> {
     })
 }
 
-/// Puts the bytes at the path. Says whether memory was left.
-pub(crate) fn put(alloc: Global, files: &mut MemFiles, path: &str, bytes: &[u8]) -> bool {
-    match Vec::from_slice(alloc, bytes) {
-        Ok(copy) => files.put(alloc, path, copy).is_ok(),
-        Err(_) => false,
+/// Puts the files. Says whether memory was left.
+pub(crate) fn put_all(alloc: Global, files: &mut MemFiles, all: &[File]) -> bool {
+    for (path, bytes, place, new) in all {
+        let Ok(copy) = damaged(alloc, bytes, *place, new) else {
+            return false;
+        };
+        if files.put(alloc, path, copy).is_err() {
+            return false;
+        }
     }
-}
-
-/// Puts a good file of the kind, and the status and the perf map of process 7. Says whether memory was
-/// left.
-pub(crate) fn put_good(alloc: Global, files: &mut MemFiles, kind: &Kind) -> bool {
-    put(alloc, files, path_of(kind), bytes_of(kind))
-        && put(alloc, files, "/proc/7/status", b"Name:\tx\n")
-        && put(alloc, files, "/proc/7/root/tmp/perf-7.map", PERF_FUNCTION)
-}
-
-/// Whether the answer is a symbol with this name.
-pub(crate) fn is_named(answer: &Symbolized<'_>, name: &str) -> bool {
-    match answer.as_sym() {
-        Some(symbol) => symbol.name.as_str() == name,
-        None => false,
-    }
-}
-
-/// Whether the answer is that there is no symbol, for this reason.
-pub(crate) fn is_unknown(answer: &Symbolized<'_>, expected: Reason) -> bool {
-    match answer {
-        Symbolized::Sym(_) => false,
-        Symbolized::Unknown(reason) => *reason == expected,
-    }
+    true
 }

@@ -15,11 +15,11 @@ struct Failing {
 
 impl Failing {
     fn look<T>(&self, path: &str) -> io::Result<T> {
-        if path != "/a" {
-            return Err(io::Error::from(ErrorKind::Unsupported));
-        }
-        let kind = self.kind.get();
-        self.kind.set(ErrorKind::NotFound);
+        let kind = if path == "/a" {
+            self.kind.replace(ErrorKind::NotFound)
+        } else {
+            ErrorKind::Unsupported
+        };
         Err(io::Error::from(kind))
     }
 }
@@ -70,22 +70,6 @@ impl std::rt::Files for Failing {
     }
 }
 
-/// Files over such a runtime.
-fn first_fails(kind: ErrorKind) -> RealFiles<Failing> {
-    let kind = Cell::new(kind);
-    RealFiles::new(Failing { kind }, 0)
-}
-
-/// Whether a failure has these answers at a look and at a read, and only faults are counted.
-fn fails_as(alloc: Global, kind: ErrorKind, stat: FileError, read: FileError) -> bool {
-    let mut looked = first_fails(kind);
-    let mut opened = first_fails(kind);
-    looked.stat("/a") == Err(stat)
-        && looked.faults() == u64::from(stat == FileError::Fault)
-        && opened.read(alloc, "/a").err() == Some(read)
-        && opened.faults() == u64::from(read == FileError::Fault)
-}
-
 /// Failures, with their answers at a look and at a read.
 const ANSWERS: [(ErrorKind, FileError, FileError); 4] = [
     (
@@ -106,9 +90,29 @@ const ANSWERS: [(ErrorKind, FileError, FileError); 4] = [
     (ErrorKind::Other, FileError::Fault, FileError::Fault),
 ];
 
+/// Whether a failure has these answers at a look and at a read, and only faults are counted.
+fn fails_as(alloc: Global, kind: ErrorKind, stat: FileError, read: FileError) -> bool {
+    let mut looked = RealFiles::new(
+        Failing {
+            kind: Cell::new(kind),
+        },
+        0,
+    );
+    let mut opened = RealFiles::new(
+        Failing {
+            kind: Cell::new(kind),
+        },
+        0,
+    );
+    looked.stat("/a") == Err(stat)
+        && looked.faults() == u64::from(stat == FileError::Fault)
+        && opened.read(alloc, "/a").err() == Some(read)
+        && opened.faults() == u64::from(read == FileError::Fault)
+}
+
 #[test]
 fn each_failure_of_the_system_has_its_answer(rt: HostRuntime) {
     for (kind, stat, read) in &ANSWERS {
-        assert!(rt; fails_as(rt.alloc(), *kind, *stat, *read), "not {read:?}");
+        assert!(rt; fails_as(rt.alloc(), *kind, *stat, *read));
     }
 }

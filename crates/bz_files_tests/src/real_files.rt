@@ -1,14 +1,17 @@
 //! Files of the system.
 
 use bz_files::{FileError, Files, RealFiles};
-use std::alloc::{AllocError, Global};
+use std::alloc::Global;
 use std::fs::OpenFile;
 use std::os::unix::fs::symlink;
 use std::time::{Duration, SystemTime};
 use std::{fs, io};
 
+/// The files of this system.
+type Real<'a> = RealFiles<&'a HostRuntime>;
+
 /// Whether a look at the file of seven bytes tells its stamp, and the same by another path.
-fn has_stamp(files: &mut RealFiles<HostRuntime>) -> bool {
+fn has_stamp(files: &mut Real<'_>) -> bool {
     match files.stat("bz_files_real") {
         Ok(stamp) => stamp.size == 7
             && stamp.inode > 0
@@ -18,85 +21,60 @@ fn has_stamp(files: &mut RealFiles<HostRuntime>) -> bool {
     }
 }
 
-fn has_text(files: &mut RealFiles<HostRuntime>, alloc: Global) -> bool {
-    match files.read(alloc, "bz_files_real") {
-        Ok(bytes) => bytes.as_slice() == b"one two".as_slice(),
+/// Whether the file at the path is read, and has this text: all of it, or at its start.
+fn has_text(files: &mut Real<'_>, alloc: Global, path: &str, text: &[u8], whole: bool) -> bool {
+    match files.read(alloc, path) {
+        Ok(bytes) => bytes.starts_with(text) && (bytes.len() == text.len() || !whole),
         Err(_) => false,
     }
 }
 
-/// Why the file at the path isn't read, if it isn't.
-fn refusal(files: &mut RealFiles<HostRuntime>, alloc: Global, path: &str) -> Option<FileError> {
-    match files.read(alloc, path) {
-        Ok(_) => None,
-        Err(error) => Some(error),
-    }
+/// Whether the file at the path isn't read, for this reason.
+fn is_refused(files: &mut Real<'_>, alloc: Global, path: &str, reason: FileError) -> bool {
+    files.read(alloc, path).err() == Some(reason)
 }
 
-/// Paths at which no file can be, beside one that is too long.
-const ABSENT: [&str; 4] = [
+/// Paths at which no file can be. The last is too long.
+const ABSENT: [&str; 5] = [
     "bz_files_absent",
     "bz_files_real/inside",
     "",
     "bz_files\0real",
+    "xxxxxxxxxxxxxxxxxxxxxxxxxxxxxxxxxxxxxxxxxxxxxxxxxxxxxxxxxxxxxxxxxxxxxxxxxxxxxxxxxxxxxxxxxxxxxxxxxxxxxxxxxxxxxxxxxxxxxxxxxxxxxxxxxxxxxxxxxxxxxxxxxxxxxxxxxxxxxxxxxxxxxxxxxxxxxxxxxxxxxxxxxxxxxxxxxxxxxxxxxxxxxxxxxxxxxxxxxxxxxxxxxxxxxxxxxxxxxxxxxxxxxxxxxxxxxxxxxxxxxxxxxxxxxxxxxxxxxxxxxxxxxxxxxxxxxxxxxxxx",
 ];
 
-fn is_absent(files: &mut RealFiles<HostRuntime>, alloc: Global, path: &str) -> bool {
-    files.stat(path) == Err(FileError::NotFound)
-        && refusal(files, alloc, path) == Some(FileError::NotFound)
-}
-
 /// Whether no file is at any path at which none can be.
-fn are_absent(files: &mut RealFiles<HostRuntime>, alloc: Global) -> Result<bool, AllocError> {
+fn are_absent(files: &mut Real<'_>, alloc: Global) -> bool {
     for path in &ABSENT {
-        if !is_absent(files, alloc, path) {
-            return Ok(false);
+        if files.stat(path) != Err(FileError::NotFound)
+            || !is_refused(files, alloc, path, FileError::NotFound)
+        {
+            return false;
         }
     }
-    let long = "x".repeat(alloc, 300)?;
-    Ok(is_absent(files, alloc, long.as_str()))
+    true
 }
 
-/// Whether a file that tells no length is read too.
-fn reads_without_length(files: &mut RealFiles<HostRuntime>, alloc: Global) -> bool {
-    let tells_none = match files.stat("/proc/version") {
+/// Whether a file tells no length.
+fn tells_no_length(files: &mut Real<'_>, path: &str) -> bool {
+    match files.stat(path) {
         Ok(stamp) => stamp.size == 0,
         Err(_) => false,
-    };
-    match files.read(alloc, "/proc/version") {
-        Ok(bytes) => tells_none && bytes.starts_with(b"Linux version "),
-        Err(_) => false,
     }
 }
 
-/// Whether all looks are answered, and those that read are counted.
-fn are_looked_at(files: &mut RealFiles<HostRuntime>, alloc: Global) -> Result<bool, AllocError> {
-    let seen = has_stamp(files) && has_text(files, alloc);
-    let absent = are_absent(files, alloc)?;
-    let read_once = files.opens() == 1;
-    let read = reads_without_length(files, alloc);
-    let counted = files.faults() == 0 && files.opens() == 2 && files.own_pid() == 7;
-    Ok(seen && absent && read_once && read && counted)
-}
-
-/// Whether all looks are answered by files of this system.
-fn looks_are_answered(rt: &HostRuntime) -> bool {
-    match rt.clone() {
-        Ok(own) => {
-            let mut files = RealFiles::new(own, 7);
-            files.begin();
-            are_looked_at(&mut files, rt.alloc()) == Ok(true)
-        }
-        Err(_) => false,
-    }
-}
-
-#[test]
-fn real_files_are_looked_at(rt: HostRuntime) {
-    let written = fs::write(&rt, "bz_files_real", b"one two".as_slice()).is_ok();
-    let answered = looks_are_answered(&rt);
-    let removed = fs::remove_file(&rt, "bz_files_real").is_ok();
-    assert!(rt; written && answered && removed);
+/// Whether all looks are answered, also of a file that tells no length. Those that read are counted.
+fn are_looked_at(files: &mut Real<'_>, alloc: Global) -> bool {
+    files.begin();
+    has_stamp(files)
+        && has_text(files, alloc, "bz_files_real", b"one two", true)
+        && are_absent(files, alloc)
+        && files.opens() == 1
+        && tells_no_length(files, "/proc/version")
+        && has_text(files, alloc, "/proc/version", b"Linux version ", false)
+        && files.faults() == 0
+        && files.opens() == 2
+        && files.own_pid() == 7
 }
 
 /// Whether the stamps of two files are told apart, and the time of the first is told whole.
@@ -107,67 +85,59 @@ fn are_told_apart(files: &mut RealFiles<HostRuntime>) -> Result<bool, FileError>
     Ok(timed && one.dev == two.dev && one.dev > 0 && one.inode != two.inode)
 }
 
-/// Makes the two files. Only the first one's time is set.
-fn make_two(rt: &HostRuntime) -> io::Result<()> {
-    let changed = Duration::new(1_234_567_890, 987_654_321);
-    if let Some(changed) = SystemTime::UNIX_EPOCH.checked_add(changed) {
-        fs::create(rt, "bz_files_one")?.set_modified(changed)?;
-    }
-    fs::create(rt, "bz_files_two")?;
-    Ok(())
-}
-
-/// Takes away two files.
-fn remove_two(rt: &HostRuntime, one: &str, two: &str) -> io::Result<()> {
-    fs::remove_file(rt, one)?;
-    fs::remove_file(rt, two)
-}
-
-/// Whether the two files of this system are told apart.
-fn two_are_told_apart(rt: &HostRuntime) -> bool {
-    match rt.clone() {
-        Ok(own) => are_told_apart(&mut RealFiles::new(own, 0)) == Ok(true),
-        Err(_) => false,
-    }
-}
-
-#[test]
-fn real_stamps_tell_files_apart(rt: HostRuntime) {
-    let made = make_two(&rt).is_ok();
-    let told_apart = two_are_told_apart(&rt);
-    let removed = remove_two(&rt, "bz_files_one", "bz_files_two").is_ok();
-    assert!(rt; made && told_apart && removed);
-}
-
 /// Whether a folder, a link to itself and a file that is too long are faults, and each is counted.
-fn fail_in_turn(files: &mut RealFiles<HostRuntime>, alloc: Global) -> bool {
-    refusal(files, alloc, ".") == Some(FileError::Fault)
+fn fail_in_turn(files: &mut Real<'_>, alloc: Global) -> bool {
+    is_refused(files, alloc, ".", FileError::Fault)
         && files.faults() == 1
         && files.stat("bz_files_loop") == Err(FileError::Fault)
         && files.faults() == 2
-        && refusal(files, alloc, "bz_files_long") == Some(FileError::Fault)
+        && is_refused(files, alloc, "bz_files_long", FileError::Fault)
         && files.faults() == 3
         && files.opens() == 0
 }
 
-/// Makes the link, and the file with a hole: one byte too long, and no byte is stored.
-fn make_failing(rt: &HostRuntime) -> io::Result<()> {
+/// The files that are made.
+const MADE: [&str; 5] = [
+    "bz_files_real",
+    "bz_files_one",
+    "bz_files_two",
+    "bz_files_loop",
+    "bz_files_long",
+];
+
+/// Makes them. Only the first empty one's time is set. The last has a hole: one byte too long, and no
+/// byte is stored.
+fn make(rt: &HostRuntime) -> io::Result<()> {
+    let changed = Duration::new(1_234_567_890, 987_654_321);
+    fs::write(rt, "bz_files_real", b"one two".as_slice())?;
+    if let Some(changed) = SystemTime::UNIX_EPOCH.checked_add(changed) {
+        fs::create(rt, "bz_files_one")?.set_modified(changed)?;
+    }
+    fs::create(rt, "bz_files_two")?;
     symlink(rt, "bz_files_loop", "bz_files_loop")?;
     fs::create(rt, "bz_files_long")?.set_len(1_073_741_825)
 }
 
-/// Whether they are faults of files of this system.
-fn faults_are_counted(rt: &HostRuntime) -> bool {
-    match rt.clone() {
-        Ok(own) => fail_in_turn(&mut RealFiles::new(own, 0), rt.alloc()),
-        Err(_) => false,
+/// Takes them away. Says whether each was there.
+fn remove(rt: &HostRuntime) -> bool {
+    let mut removed = true;
+    for path in &MADE {
+        removed = fs::remove_file(rt, *path).is_ok() && removed;
     }
+    removed
+}
+
+/// Whether the files are looked at, told apart, and fail.
+fn answer(rt: &HostRuntime) -> bool {
+    are_looked_at(&mut RealFiles::new(rt, 7), rt.alloc())
+        && are_told_apart(&mut RealFiles::new(rt.clone(), 0)) == Ok(true)
+        && fail_in_turn(&mut RealFiles::new(rt, 0), rt.alloc())
 }
 
 #[test]
-fn real_files_fail(rt: HostRuntime) {
-    let made = make_failing(&rt).is_ok();
-    let failed = faults_are_counted(&rt);
-    let removed = remove_two(&rt, "bz_files_loop", "bz_files_long").is_ok();
-    assert!(rt; made && failed && removed);
+fn real_files_are_looked_at_told_apart_and_fail(rt: HostRuntime) {
+    let made = make(&rt).is_ok();
+    let answered = answer(&rt);
+    let removed = remove(&rt);
+    assert!(rt; made && answered && removed);
 }

@@ -24,12 +24,6 @@ fn goes_in_pieces(alloc: Global) -> bool {
     put && written.as_slice() == b"abcde".as_slice()
 }
 
-#[test]
-fn real_texts_go_in_pieces(rt: HostRuntime) {
-    assert!(rt; comes_in_pieces());
-    assert!(rt; goes_in_pieces(rt.alloc()));
-}
-
 /// A reader and writer that fails at its first call, and then serves.
 #[derive(Drop)]
 struct FailsOnce {
@@ -93,8 +87,7 @@ fn goes_while_there_is_room() -> bool {
 }
 
 #[test]
-fn real_texts_fail(rt: HostRuntime) {
-    assert!(rt; comes_after_a_fault());
-    assert!(rt; goes_after_a_fault());
-    assert!(rt; goes_while_there_is_room());
+fn real_texts_go_in_pieces_and_fail(rt: HostRuntime) {
+    assert!(rt; comes_in_pieces() && comes_after_a_fault());
+    assert!(rt; goes_in_pieces(rt.alloc()) && goes_after_a_fault() && goes_while_there_is_room());
 }

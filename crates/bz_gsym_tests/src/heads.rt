@@ -5,14 +5,6 @@ use bz_gsym::{GsymContext, laws};
 use bz_samples::{GSYM_LINES, damaged};
 use std::alloc::Global;
 
-/// Whether the bytes are taken as is expected, or else refused as outside the format.
-fn is_taken_as(bytes: &[u8], expected: bool) -> bool {
-    match GsymContext::parse_header(bytes) {
-        Ok(_) => expected,
-        Err(error) => !expected && error == Error::InvalidData,
-    }
-}
-
 /// Bytes that stand in the file from a place on, and whether it is taken then.
 type Row = (usize, &'static [u8], bool);
 
@@ -69,11 +61,14 @@ const HEADS: &[Row] = &[
     (64, b"\x0b\0\0\0", false),
 ];
 
-/// Whether the file with these bytes is taken so.
-fn is_taken(alloc: Global, row: &Row) -> bool {
-    match damaged(alloc, &GSYM_LINES, row.0, row.1) {
-        Ok(bytes) => is_taken_as(bytes.as_slice(), row.2),
-        Err(_) => false,
+/// Whether the file with these bytes from a place on is taken, or else refused as outside the format.
+fn is_taken(alloc: Global, file: &[u8], (place, new, expected): &Row) -> bool {
+    let Ok(bytes) = damaged(alloc, file, *place, new) else {
+        return false;
+    };
+    match GsymContext::parse_header(bytes.as_slice()) {
+        Ok(_) => *expected,
+        Err(error) => !*expected && error == Error::InvalidData,
     }
 }
 
@@ -81,14 +76,10 @@ fn is_taken(alloc: Global, row: &Row) -> bool {
 fn heads_are_taken_by_their_tables(rt: HostRuntime) {
     laws::files_are_exact();
     for row in HEADS {
-        assert!(rt; is_taken(rt.alloc(), row));
+        assert!(rt; is_taken(rt.alloc(), &GSYM_LINES, row));
     }
-}
-
-#[test]
-fn a_cut_file_is_taken_once_its_tables_are_whole(rt: HostRuntime) {
-    // The string table is the last of them, and ends at 102.
+    // Of a file that is cut the string table has to be whole: the last of the tables, which ends at 102.
     for len in 0..104usize {
-        assert!(rt; is_taken_as(&GSYM_LINES[..len], len >= 102));
+        assert!(rt; is_taken(rt.alloc(), &GSYM_LINES[..len], &(0, b"", len >= 102)));
     }
 }

@@ -48,155 +48,108 @@ const FAR: &[u8] =
 const RANGES: &[u8] =
     b"\x02\x08\x04\x20\x04\x01\x01\0\0\0\x00\x00\x01\x18\x01\x00\x0e\0\0\0\x01\x09\x01\x19\x01\x00\x02\0\0\0\x01\x06\x00";
 
-/// A tree, an address, and the frames around it. Each tree's base is 0x1000.
-type TreeRow = (&'static [u8], u64, &'static [InlineFrame]);
+/// A tree, an address, whether the tree is taken, and the frames around the address. Each tree's base is
+/// 0x1000.
+type TreeRow = (&'static [u8], u64, bool, &'static [InlineFrame]);
 
 const TREES: &[TreeRow] = &[
-    (NESTED, 0x0fff, &[]),
-    (NESTED, 0x1003, &[MAIN]),
-    (NESTED, 0x1004, &[MAIN, SUB]),
-    (NESTED, 0x1007, &[MAIN, SUB]),
-    (NESTED, 0x1008, &[MAIN]),
-    (NESTED, 0x1020, &[]),
-    (RANGES, 0x1020, &[MAIN, SUB]),
-    (RANGES, 0x1021, &[MAIN, NEXT]),
-    (RANGES, 0x100c, &[]),
+    (NESTED, 0x0fff, true, &[]),
+    (NESTED, 0x1003, true, &[MAIN]),
+    (NESTED, 0x1004, true, &[MAIN, SUB]),
+    (NESTED, 0x1007, true, &[MAIN, SUB]),
+    (NESTED, 0x1008, true, &[MAIN]),
+    (NESTED, 0x1020, true, &[]),
+    (RANGES, 0x1020, true, &[MAIN, SUB]),
+    (RANGES, 0x1021, true, &[MAIN, NEXT]),
+    (RANGES, 0x100c, true, &[]),
     // What is passed over may lie anywhere.
-    (FAR, 0x1020, &[]),
+    (FAR, 0x1020, true, &[]),
     // A count of 0 is a tree without nodes.
-    (b"\0", 0x1000, &[]),
+    (b"\0", 0x1000, true, &[]),
     // The greatest call file; call lines that are cut to 32 bits.
     (
         b"\x01\x00\x10\x00\x01\0\0\0\xff\xff\xff\xff\x0f\x00",
         0x1000,
+        true,
         &[LAST_FILE],
     ),
     (
         b"\x01\x00\x10\x00\x01\0\0\0\x00\x80\x80\x80\x80\x10",
         0x1000,
+        true,
         &[LAST_LINE],
     ),
     (
         b"\x01\x00\x10\x00\x01\0\0\0\x00\xff\xff\xff\xff\x0f",
         0x1000,
+        true,
         &[LAST_LINE],
     ),
-];
-
-/// Bytes that are refused around an address.
-const REFUSED: &[(&[u8], u64)] = &[
     // What is read may not lie past 64 bits.
-    (FAR, 0x1005),
+    (FAR, 0x1005, false, &[]),
     // Bytes or numbers are missing.
-    (b"", 0x1000),
-    (b"\x01", 0x1000),
-    (b"\xff\xff\xff\xff\xff\xff\xff\xff\xff\x01", 0x1000),
+    (b"", 0x1000, false, &[]),
+    (b"\x01", 0x1000, false, &[]),
+    (
+        b"\xff\xff\xff\xff\xff\xff\xff\xff\xff\x01",
+        0x1000,
+        false,
+        &[],
+    ),
     // A call file past 32 bits.
     (
         b"\x01\x00\x10\x00\x01\0\0\0\x80\x80\x80\x80\x10\x00",
         0x1000,
+        false,
+        &[],
     ),
 ];
 
-/// Whether the bytes give these frames around an address.
-fn gives(alloc: Global, bytes: &[u8], addr: u64, expected: &[InlineFrame]) -> bool {
-    match InlineInfo::parse_inline_stack(alloc, bytes, 0x1000, addr) {
-        Ok(frames) => frames.as_slice() == expected,
-        Err(_) => false,
-    }
-}
-
-/// Whether the bytes are refused around an address.
-fn refuses(alloc: Global, bytes: &[u8], addr: u64) -> bool {
-    match InlineInfo::parse_inline_stack(alloc, bytes, 0x1000, addr) {
-        Ok(_) => false,
-        Err(error) => error == Error::InvalidData,
-    }
-}
-
-#[test]
-fn gives_the_frames_around_an_address(rt: HostRuntime) {
-    laws::trees_are_exact();
-    laws::frames_are_the_trees();
-    for row in TREES {
-        assert!(rt; gives(rt.alloc(), row.0, row.1, row.2));
-    }
-}
-
-#[test]
-fn refuses_what_is_outside_the_format(rt: HostRuntime) {
-    for row in REFUSED {
-        assert!(rt; refuses(rt.alloc(), row.0, row.1));
-    }
-}
-
-const DEPTH: usize = 100000;
-
-/// A tree of nodes one inside the other, each of 0x20 bytes.
-fn deep(alloc: Global) -> Result<Vec<u8>, AllocError> {
-    let mut bytes = Vec::new(alloc);
-    for _ in 0..DEPTH {
-        bytes.extend_from_slice(b"\x01\x00\x20\x01\x01\0\0\0\x01\x03")?;
-    }
-    for _ in 0..DEPTH {
-        bytes.push(0)?;
-    }
-    Ok(bytes)
-}
-
-/// Each frame of that tree.
+/// A node of the deep tree.
 const LEVEL: InlineFrame = InlineFrame {
     name: 1,
     call_file: 1,
     call_line: 3,
 };
 
-/// Whether the tree gives so many frames around an address, all alike.
-fn gives_levels(alloc: Global, bytes: &[u8], addr: u64, count: usize) -> bool {
-    let Ok(frames) = InlineInfo::parse_inline_stack(alloc, bytes, 0x1000, addr) else {
-        return false;
-    };
-    for frame in &frames {
-        if *frame != LEVEL {
-            return false;
-        }
-    }
-    frames.len() == count
-}
+const DEPTH: usize = 100000;
 
-/// Whether the tree gives its frames inside, and none outside.
-fn is_walked(alloc: Global, bytes: &[u8]) -> bool {
-    gives_levels(alloc, bytes, 0x1005, DEPTH) && gives_levels(alloc, bytes, 0x1020, 0)
-}
-
-/// Whether the tree is refused inside and outside.
-fn is_refused(alloc: Global, bytes: &[u8]) -> bool {
-    refuses(alloc, bytes, 0x1005) && refuses(alloc, bytes, 0x1020)
-}
-
-/// Whether this is so of the deep tree.
-fn walks_deep(alloc: Global) -> bool {
-    match deep(alloc) {
-        Ok(bytes) => is_walked(alloc, bytes.as_slice()),
-        Err(_) => false,
+/// Whether the bytes give these frames around an address, or are refused where they aren't taken.
+fn gives(alloc: Global, bytes: &[u8], addr: u64, taken: bool, expected: &[InlineFrame]) -> bool {
+    match InlineInfo::parse_inline_stack(alloc, bytes, 0x1000, addr) {
+        Ok(frames) => taken && frames.as_slice() == expected,
+        Err(error) => !taken && error == Error::InvalidData,
     }
 }
 
-#[test]
-fn walks_a_deep_tree(rt: HostRuntime) {
-    assert!(rt; walks_deep(rt.alloc()));
+/// Whether a tree of nodes one inside the other, each of 0x20 bytes, gives its frames inside and none
+/// outside, and is refused in both places without its last byte.
+fn walks_deep(alloc: Global) -> Result<bool, AllocError> {
+    let mut bytes = Vec::new(alloc);
+    let mut levels = Vec::new(alloc);
+    for _ in 0..DEPTH {
+        bytes.extend_from_slice(b"\x01\x00\x20\x01\x01\0\0\0\x01\x03")?;
+        levels.push(LEVEL)?;
+    }
+    for _ in 1..DEPTH {
+        bytes.push(0)?;
+    }
+    let refused = gives(alloc, bytes.as_slice(), 0x1005, false, &[])
+        && gives(alloc, bytes.as_slice(), 0x1020, false, &[]);
+    bytes.push(0)?;
+    Ok(
+        refused
+            && gives(alloc, bytes.as_slice(), 0x1005, true, levels.as_slice())
+            && gives(alloc, bytes.as_slice(), 0x1020, true, &[]),
+    )
 }
 
-/// Whether the deep tree without its last byte is refused.
-fn refuses_unended(alloc: Global) -> bool {
-    let Ok(mut bytes) = deep(alloc) else {
-        return false;
-    };
-    bytes.pop();
-    is_refused(alloc, bytes.as_slice())
-}
-
 #[test]
-fn a_deep_tree_without_its_end_is_refused(rt: HostRuntime) {
-    assert!(rt; refuses_unended(rt.alloc()));
+fn trees_give_the_frames_around_an_address(rt: HostRuntime) {
+    laws::trees_are_exact();
+    laws::frames_are_the_trees();
+    for row in TREES {
+        assert!(rt; gives(rt.alloc(), row.0, row.1, row.2, row.3));
+    }
+    assert!(rt; walks_deep(rt.alloc()) == Ok(true));
 }

@@ -2,6 +2,8 @@
 #![tactic(auto)]
 
 #[cfg(test)]
+mod answers;
+#[cfg(test)]
 mod calling;
 #[cfg(test)]
 mod heads;
@@ -10,12 +12,8 @@ mod inlines;
 #[cfg(test)]
 mod lines;
 #[cfg(test)]
-mod places;
-#[cfg(test)]
 mod resolvers;
 #[cfg(test)]
 mod searches;
-#[cfg(test)]
-mod symbols;
 #[cfg(test)]
 mod tables;

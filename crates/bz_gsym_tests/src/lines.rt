@@ -1,7 +1,9 @@
 //! Line tables, and the states that answer for addresses.
 
-use bz_base::{CodeInfo, Cursor, Error, FindSymOpts, Reason, ResolvedSym};
-use bz_gsym::{GsymContext, LineTableHeader, LineTableRow, RunResult, laws, run_op};
+use crate::answers::{self, NOWHERE, REFUSED, UNKNOWN, answers};
+use bz_base::Cursor;
+use bz_base::FindSymOpts::CodeInfo;
+use bz_gsym::{LineTableHeader, LineTableRow, RunResult, laws, run_op};
 use std::alloc::{AllocError, Global};
 
 /// Address, file and line of a state.
@@ -9,6 +11,9 @@ type State = (u64, u32, u32);
 
 /// No row of the table answers.
 const NO_ROW: State = (0, 0, 0);
+
+/// The table's head isn't whole.
+const NO_HEAD: State = (0, 0, 1);
 
 /// The example's table: rows at 0x1000, 0x1008 and 0x1018, and then line 10.
 const TABLE: &[u8] = b"\x7c\x0a\x05\x08\x82\x02\x10\x03\x03\x00";
@@ -112,67 +117,40 @@ const TABLES: &[Row] = &[
     // What stands behind the end.
     (b"\x7c\x0a\x05\x08\x00\x03\x01", 0x1000, (0x1000, 1, 5)),
     (b"\x7c\x0a\x05\x08\x00\x82", 0x2000, (0x1000, 1, 5)),
+    // No head, since a number is missing.
+    (b"", 0x1000, NO_HEAD),
+    (b"\x7c\x0a", 0x1000, NO_HEAD),
+    (b"\x7c\x0a\x80", 0x1000, NO_HEAD),
+    (b"\x7c\x80", 0x1000, NO_HEAD),
 ];
-
-/// Tables whose head isn't whole.
-const NO_HEADS: &[&[u8]] = &[b"", b"\x7c\x0a", b"\x7c\x0a\x80", b"\x7c\x80"];
-
-/// A state as it is told.
-fn state(row: &LineTableRow) -> State {
-    (row.addr, row.file_idx, row.file_line)
-}
 
 /// The state that answers for an address: that of the row before the first one above it, or without one
 /// above, if there is a row, the state at the end.
-fn answering(header: &LineTableHeader, operators: &[u8], addr: u64) -> State {
-    let mut row = LineTableRow::from_header(header, 0x1000);
-    let mut ops = Cursor::new(operators);
+fn answering(table: &[u8], addr: u64) -> State {
+    let mut ops = Cursor::new(table);
+    let Some(header) = LineTableHeader::parse(&mut ops) else {
+        return NO_HEAD;
+    };
+    let mut row = LineTableRow::from_header(&header, 0x1000);
     let mut last = NO_ROW;
     // No operator is shorter than one byte.
-    for _ in operators {
-        match run_op(&mut row, header, &mut ops) {
+    for _ in table {
+        match run_op(&mut row, &header, &mut ops) {
             Some(RunResult::Ok) => {}
             Some(RunResult::NewRow) => {
                 if addr < row.addr {
                     return last;
                 }
-                last = state(&row);
+                last = (row.addr, row.file_idx, row.file_line);
             }
             Some(RunResult::End) => break,
             None => break,
         }
     }
-    if last == NO_ROW { NO_ROW } else { state(&row) }
-}
-
-/// Whether the table's state that answers is the row's.
-fn is_answered(row: &Row) -> bool {
-    let (bytes, addr, expected) = row;
-    let mut table = Cursor::new(bytes);
-    match LineTableHeader::parse(&mut table) {
-        Some(header) => answering(&header, table.rest(), *addr) == *expected,
-        None => false,
-    }
-}
-
-#[test]
-fn lines_answer_for_addresses(rt: HostRuntime) {
-    laws::line_states_go_on();
-    laws::lines_are_known_early();
-    for row in TABLES {
-        assert!(rt; is_answered(row));
-    }
-}
-
-/// Whether bytes don't begin with a head.
-fn has_no_head(bytes: &[u8]) -> bool {
-    LineTableHeader::parse(&mut Cursor::new(bytes)).is_none()
-}
-
-#[test]
-fn heads_are_whole(rt: HostRuntime) {
-    for bytes in NO_HEADS {
-        assert!(rt; has_no_head(bytes));
+    if last == NO_ROW {
+        NO_ROW
+    } else {
+        (row.addr, row.file_idx, row.file_line)
     }
 }
 
@@ -197,148 +175,93 @@ const FRONT: [u8; 148] = [
     0x00, 0x00, 0x00, 0x00, 0x01, 0x00, 0x00, 0x00, 0x01, 0x00, 0x00, 0x00,
 ];
 
-/// The file with this line table.
-fn file_with(alloc: Global, table: &[u8]) -> Result<Vec<u8>, AllocError> {
+/// What the file answers for an address by a state. Its symbol answers from its start on.
+fn answer_by(addr: u64, (_, file, line): &State) -> answers::Row {
+    let main = ("main", 0x1000, 0);
+    let (symbol, place) = match (addr >= 0x1000, file, line) {
+        (false, _, _) => (UNKNOWN, NOWHERE),
+        (true, 0, 0) => (main, NOWHERE),
+        (true, 1, line) => (main, ("", "1", *line)),
+        (true, 2, line) => (main, ("", "2", *line)),
+        (true, 7, line) => (main, ("", "7", *line)),
+        _ => (REFUSED, NOWHERE),
+    };
+    (0, &[], addr, CodeInfo, symbol, place, "", NOWHERE)
+}
+
+/// Whether the file with the row's table answers for its address by its state.
+fn answers_by_state(alloc: Global, (table, addr, state): &Row) -> Result<bool, AllocError> {
     let mut bytes = Vec::from_slice(alloc, &FRONT)?;
     bytes.extend_from_slice(&[(table.len() % 256) as u8, 0, 0, 0])?;
     bytes.extend_from_slice(table)?;
-    Ok(bytes)
+    Ok(answers(alloc, bytes.as_slice(), &answer_by(*addr, state)))
 }
 
-/// The name of a file in it.
-fn file_name(index: u32) -> &'static str {
-    match index {
-        1 => "1",
-        2 => "2",
-        7 => "7",
-        _ => "",
-    }
-}
-
-/// Whether the place is the state's file and line, or there is neither.
-fn is_place(place: &Option<CodeInfo<'_>>, (_, file, line): &State) -> bool {
-    match place {
-        Some(place) => place.file.as_str() == file_name(*file) && place.line == Some(*line),
-        None => *file == 0,
-    }
-}
-
-/// Whether the symbol is at the state's place.
-fn lies_at(found: &Result<ResolvedSym<'_>, Reason>, expected: &State) -> bool {
-    match found {
-        Ok(symbol) => is_place(&symbol.code_info, expected),
-        Err(_) => false,
-    }
-}
-
-/// Whether the file answers for the address by a state.
-fn answers(alloc: Global, bytes: &[u8], addr: u64, expected: &State) -> bool {
-    let Ok(context) = GsymContext::parse_header(bytes) else {
-        return false;
-    };
-    match context.find_sym(alloc, addr, &FindSymOpts::CodeInfo) {
-        Ok(found) => lies_at(&found, expected),
-        Err(_) => false,
-    }
-}
-
-/// Whether the file with the row's table answers for its address, where that isn't below the symbol.
-fn answers_row(alloc: Global, row: &Row) -> bool {
-    if row.1 < 0x1000 {
-        return true;
-    }
-    match file_with(alloc, row.0) {
-        Ok(bytes) => answers(alloc, bytes.as_slice(), row.1, &row.2),
-        Err(_) => false,
-    }
-}
-
-/// A symbol answers from its start on.
 #[test]
-fn files_answer_by_their_line_tables(rt: HostRuntime) {
+fn lines_answer_for_addresses(rt: HostRuntime) {
+    laws::line_states_go_on();
+    laws::lines_are_known_early();
     for row in TABLES {
-        assert!(rt; answers_row(rt.alloc(), row));
+        assert!(rt;
+            answering(row.0, row.1) == row.2 && answers_by_state(rt.alloc(), row) == Ok(true)
+        );
     }
 }
 
-/// Whether the file refuses to tell its symbol's line.
-fn refuses(alloc: Global, bytes: &[u8]) -> bool {
-    let Ok(context) = GsymContext::parse_header(bytes) else {
-        return false;
-    };
-    match context.find_sym(alloc, 0x1000, &FindSymOpts::CodeInfo) {
-        Ok(_) => false,
-        Err(error) => error == Error::InvalidData,
-    }
-}
-
-/// Whether the file with this table refuses so.
-fn refuses_table(alloc: Global, table: &[u8]) -> bool {
-    match file_with(alloc, table) {
-        Ok(bytes) => refuses(alloc, bytes.as_slice()),
-        Err(_) => false,
-    }
-}
-
-#[test]
-fn files_without_a_head_are_refused(rt: HostRuntime) {
-    for table in NO_HEADS {
-        assert!(rt; refuses_table(rt.alloc(), table));
-    }
-}
-
-/// The least and the greatest line delta, the operators' bytes, whether a row came (or nothing), the
-/// line and the address then, and how many bytes are left.
-type Operator = (i64, i64, &'static [u8], Option<bool>, u32, u64, usize);
+/// The least and the greatest line delta, the operators' bytes, what the first one came to (or
+/// nothing), the line and the address then, and how many bytes are left.
+type Operator = (i64, i64, &'static [u8], &'static str, u32, u64, usize);
 
 const OPERATORS: &[Operator] = &[
-    (i64::MIN, i64::MAX, b"\x04", Some(true), 5, 0x1000, 0),
-    (i64::MIN, i64::MAX, b"\xff", Some(true), 256, 0x1000, 0),
-    (1, 0, b"\x04", None, 5, 0x1000, 0),
-    (2, 0, b"\x04\x01", None, 5, 0x1000, 1),
+    (i64::MIN, i64::MAX, b"\x04", "row", 5, 0x1000, 0),
+    (i64::MIN, i64::MAX, b"\xff", "row", 256, 0x1000, 0),
+    (1, 0, b"\x04", "", 5, 0x1000, 0),
+    (2, 0, b"\x04\x01", "", 5, 0x1000, 1),
     (
         -4,
         10,
         b"\x02\xff\xff\xff\xff\xff\xff\xff\xff\xff\x01",
-        Some(true),
+        "row",
         5,
         0xfff,
         0,
     ),
-    (-4, 10, b"\x03\x7a", Some(false), 4294967295, 0x1000, 0),
-    (-4, 10, b"\x01\x02\x00", Some(false), 5, 0x1000, 1),
-    (-4, 10, b"\x82\x00", Some(true), 7, 0x1008, 1),
-    (-4, 10, b"", None, 5, 0x1000, 0),
-    (-4, 10, b"\x01", None, 5, 0x1000, 0),
-    (-4, 10, b"\x02\x80\x80", None, 5, 0x1000, 2),
-    (-4, 10, b"\x03\x80", None, 5, 0x1000, 1),
+    (-4, 10, b"\x03\x7a", "state", 4294967295, 0x1000, 0),
+    (-4, 10, b"\x01\x02\x00", "state", 5, 0x1000, 1),
+    (-4, 10, b"\x82\x00", "row", 7, 0x1008, 1),
+    (-4, 10, b"", "", 5, 0x1000, 0),
+    (-4, 10, b"\x01", "", 5, 0x1000, 0),
+    (-4, 10, b"\x02\x80\x80", "", 5, 0x1000, 2),
+    (-4, 10, b"\x03\x80", "", 5, 0x1000, 1),
+    (-4, 10, b"\x00", "end", 5, 0x1000, 0),
 ];
-
-/// A head with line 5.
-fn head(min_delta: i64, max_delta: i64) -> LineTableHeader {
-    LineTableHeader {
-        min_delta,
-        max_delta,
-        first_line: 5,
-    }
-}
-
-/// Whether an operator gave a row, or none, as expected.
-fn gave(given: &Option<RunResult>, came: &Option<bool>) -> bool {
-    match (given, came) {
-        (Some(given), Some(came)) => matches!(given, RunResult::NewRow) == *came,
-        (None, None) => true,
-        _ => false,
-    }
-}
 
 /// Whether the operator at the front runs as its row says.
 fn runs((min_delta, max_delta, bytes, came, line, addr, left): &Operator) -> bool {
-    let header = head(*min_delta, *max_delta);
+    let header = LineTableHeader {
+        min_delta: *min_delta,
+        max_delta: *max_delta,
+        first_line: 5,
+    };
     let mut row = LineTableRow::from_header(&header, 0x1000);
     let mut ops = Cursor::new(bytes);
-    let given = run_op(&mut row, &header, &mut ops);
-    gave(&given, came) && row.file_line == *line && row.addr == *addr && ops.rest().len() == *left
+    let given = match run_op(&mut row, &header, &mut ops) {
+        Some(RunResult::Ok) => "state",
+        Some(RunResult::NewRow) => "row",
+        Some(RunResult::End) => "end",
+        None => "",
+    };
+    given == *came && row.file_line == *line && row.addr == *addr && ops.rest().len() == *left
+}
+
+/// Whether the head of the example's table has its deltas and its line.
+fn reads_a_head() -> bool {
+    match LineTableHeader::parse(&mut Cursor::new(TABLE)) {
+        Some(header) => {
+            header.min_delta == -4 && header.max_delta == 10 && header.first_line == 5
+        }
+        None => false,
+    }
 }
 
 #[test]
@@ -346,28 +269,5 @@ fn operators_run_one_by_one(rt: HostRuntime) {
     for row in OPERATORS {
         assert!(rt; runs(row));
     }
-}
-
-#[test]
-fn an_operator_ends_the_table(rt: HostRuntime) {
-    let header = head(-4, 10);
-    let mut row = LineTableRow::from_header(&header, 0x1000);
-    let ended = run_op(&mut row, &header, &mut Cursor::new(b"\x00"));
-    assert!(rt; matches!(ended, Some(RunResult::End)));
-}
-
-/// Whether the head has these deltas, and line 5.
-fn has_deltas(header: &Option<LineTableHeader>, min_delta: i64, max_delta: i64) -> bool {
-    match header {
-        Some(header) => {
-            header.min_delta == min_delta && header.max_delta == max_delta && header.first_line == 5
-        }
-        None => false,
-    }
-}
-
-#[test]
-fn heads_are_read(rt: HostRuntime) {
-    let mut head = Cursor::new(TABLE);
-    assert!(rt; has_deltas(&LineTableHeader::parse(&mut head), -4, 10));
+    assert!(rt; reads_a_head());
 }

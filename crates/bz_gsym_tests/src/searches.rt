@@ -6,13 +6,12 @@ use std::alloc::{AllocError, Global};
 
 /// A file with these starts, each of so many bytes, and base address 0x1000. Its symbols have no data.
 fn file_of(alloc: Global, size: u8, starts: &[u8]) -> Result<Vec<u8>, AllocError> {
-    let mut bytes = Vec::from_slice(alloc, b"MYSG\x01\0")?;
-    bytes.push(size)?;
-    bytes.extend_from_slice(b"\0\0\x10\0\0\0\0\0\0")?;
-    bytes.push((starts.len() % 256) as u8)?;
-    for _ in 0..31 {
-        bytes.push(0)?;
-    }
+    let count = (starts.len() % 256) as u8;
+    let head = [
+        b'M', b'Y', b'S', b'G', 1, 0, size, 0, 0, 0x10, 0, 0, 0, 0, 0, 0, count,
+    ];
+    let mut bytes = Vec::from_slice(alloc, &head)?;
+    bytes.extend_from_slice(&[0; 31])?;
     for start in starts {
         bytes.push(*start)?;
         for _ in 1..size {
@@ -25,7 +24,7 @@ fn file_of(alloc: Global, size: u8, starts: &[u8]) -> Result<Vec<u8>, AllocError
         bytes.push(0)?;
     }
     for _ in 0..=starts.len() {
-        bytes.extend_from_slice(b"\0\0\0\0")?;
+        bytes.extend_from_slice(&[0; 4])?;
     }
     Ok(bytes)
 }
@@ -57,107 +56,87 @@ const STARTS: &[&[u8]] = &[
 
 const SIZES: &[u8] = &[1, 2, 4, 8];
 
-/// Whether the search finds at each distance from the base address what a scan of the starts finds.
-fn finds_as_scanned(context: &GsymContext<'_>, starts: &[u8]) -> bool {
-    for distance in 0..17u8 {
-        if context.find_addr(0x1000 + u64::from(distance)) != scanned(starts, distance) {
-            return false;
-        }
-    }
-    context.find_addr(0xfff) == None
-}
-
-/// Whether it does so in a file with these starts, each of so many bytes.
-fn finds_in_file(alloc: Global, size: u8, starts: &[u8]) -> bool {
+/// Whether the search in a file with these starts, each of so many bytes, finds at each distance from the
+/// base address what a scan of the starts finds, and nothing below.
+fn finds_as_scanned(alloc: Global, size: u8, starts: &[u8]) -> bool {
     let Ok(bytes) = file_of(alloc, size, starts) else {
         return false;
     };
-    match GsymContext::parse_header(bytes.as_slice()) {
-        Ok(context) => finds_as_scanned(&context, starts),
-        Err(_) => false,
+    let Ok(context) = GsymContext::parse_header(bytes.as_slice()) else {
+        return false;
+    };
+    let mut found = context.find_addr(0xfff) == None;
+    for distance in 0..17u8 {
+        let index = context.find_addr(0x1000 + u64::from(distance));
+        found = found && index == scanned(starts, distance);
     }
+    found
 }
 
-/// Whether it does so in the files of each size.
-fn finds_in_each_size(alloc: Global, starts: &[u8]) -> bool {
-    for size in SIZES {
-        if !finds_in_file(alloc, *size, starts) {
-            return false;
+/// A file of starts of two bytes each, as LLVM's tools wrote them, without data of symbols.
+const WRITTEN: [u8; 216] = [
+    // The head: magic, version, address size 2, base address 0, 27 addresses, no strings.
+    0x4d, 0x59, 0x53, 0x47, 0x01, 0x00, 0x02, 0x00, 0x00, 0x00, 0x00, 0x00, 0x00, 0x00, 0x00, 0x00,
+    0x1b, 0x00, 0x00, 0x00, 0x00, 0x00, 0x00, 0x00, 0x00, 0x00, 0x00, 0x00, 0x00, 0x00, 0x00, 0x00,
+    0x00, 0x00, 0x00, 0x00, 0x00, 0x00, 0x00, 0x00, 0x00, 0x00, 0x00, 0x00, 0x00, 0x00, 0x00, 0x00,
+    // The starts, the least byte first.
+    0x9c, 0x60, 0xb4, 0x60, 0xc0, 0x60, 0xf0, 0x60, 0x30, 0x61, 0x70, 0x61, 0x80, 0x61, 0xa0, 0x61,
+    0xe0, 0x64, 0x30, 0x6b, 0x20, 0x6e, 0x80, 0x70, 0xd0, 0x76, 0x50, 0x78, 0xa0, 0x79, 0x90, 0x85,
+    0x30, 0x87, 0xa0, 0x8a, 0xe0, 0x8c, 0x00, 0xf4, 0xd0, 0xf5, 0x30, 0xf7, 0xf0, 0xf8, 0x40, 0xfa,
+    0xf0, 0xfb, 0xa0, 0xfc, 0x80, 0xff,
+    // Filling; the data places; no files.
+    0x00, 0x00, 0x00, 0x00, 0x00, 0x00, 0x00, 0x00, 0x00, 0x00, 0x00, 0x00, 0x00, 0x00, 0x00, 0x00,
+    0x00, 0x00, 0x00, 0x00, 0x00, 0x00, 0x00, 0x00, 0x00, 0x00, 0x00, 0x00, 0x00, 0x00, 0x00, 0x00,
+    0x00, 0x00, 0x00, 0x00, 0x00, 0x00, 0x00, 0x00, 0x00, 0x00, 0x00, 0x00, 0x00, 0x00, 0x00, 0x00,
+    0x00, 0x00, 0x00, 0x00, 0x00, 0x00, 0x00, 0x00, 0x00, 0x00, 0x00, 0x00, 0x00, 0x00, 0x00, 0x00,
+    0x00, 0x00, 0x00, 0x00, 0x00, 0x00, 0x00, 0x00, 0x00, 0x00, 0x00, 0x00, 0x00, 0x00, 0x00, 0x00,
+    0x00, 0x00, 0x00, 0x00, 0x00, 0x00, 0x00, 0x00, 0x00, 0x00, 0x00, 0x00, 0x00, 0x00, 0x00, 0x00,
+    0x00, 0x00, 0x00, 0x00, 0x00, 0x00, 0x00, 0x00, 0x00, 0x00, 0x00, 0x00, 0x00, 0x00, 0x00, 0x00,
+    0x00, 0x00,
+];
+
+/// A file, bytes that stand in it from a place on, an address, and the index and the start that are found
+/// for it.
+type Row = (
+    &'static [u8],
+    usize,
+    &'static [u8],
+    u64,
+    Option<usize>,
+    Option<u64>,
+);
+
+const FOUND: &[Row] = &[
+    // The last start is below the address.
+    (&WRITTEN, 0, b"", 0x10635, Some(26), Some(0xff80)),
+    // Addresses of 3 bytes are unknown.
+    (&GSYM_LINES, 6, b"\x03", 0, None, None),
+    (&GSYM_LINES, 6, b"\x03", 0x1000, None, None),
+    (&GSYM_LINES, 6, b"\x03", 0x1040, None, None),
+    (&GSYM_LINES, 6, b"\x03", 18446744073709551615, None, None),
+];
+
+/// Whether the file finds what the row says: the start of the index, or that of the first one.
+fn finds(alloc: Global, (file, place, new, addr, index, start): &Row) -> bool {
+    let Ok(bytes) = damaged(alloc, file, *place, new) else {
+        return false;
+    };
+    match GsymContext::parse_header(bytes.as_slice()) {
+        Ok(context) => {
+            context.find_addr(*addr) == *index && context.addr_at(index.unwrap_or(0)) == *start
         }
+        Err(_) => false,
     }
-    true
 }
 
 #[test]
 fn halving_finds_what_a_scan_finds(rt: HostRuntime) {
     for starts in STARTS {
-        assert!(rt; finds_in_each_size(rt.alloc(), starts));
-    }
-}
-
-const ADDRESSES: &[u64] = &[0, 0x1000, 0x1040, 18446744073709551615];
-
-/// Whether the file has no index for any of these addresses, nor an address for an index.
-fn is_not_searched(bytes: &[u8]) -> bool {
-    let Ok(context) = GsymContext::parse_header(bytes) else {
-        return false;
-    };
-    for addr in ADDRESSES {
-        if context.find_addr(*addr) != None {
-            return false;
+        for size in SIZES {
+            assert!(rt; finds_as_scanned(rt.alloc(), *size, starts));
         }
     }
-    context.addr_at(0) == None
-}
-
-/// Whether the example file, with addresses of 3 bytes, isn't searched.
-fn passes_over_another_size(alloc: Global) -> bool {
-    match damaged(alloc, &GSYM_LINES, 6, b"\x03") {
-        Ok(bytes) => is_not_searched(bytes.as_slice()),
-        Err(_) => false,
+    for row in FOUND {
+        assert!(rt; finds(rt.alloc(), row));
     }
-}
-
-#[test]
-fn addresses_of_another_size_are_unknown(rt: HostRuntime) {
-    assert!(rt; passes_over_another_size(rt.alloc()));
-}
-
-/// Starts of two bytes each, as LLVM's tools wrote them, the least byte first.
-const WRITTEN: [u8; 54] = [
-    156, 96, 180, 96, 192, 96, 240, 96, 48, 97, 112, 97, 128, 97, 160, 97, 224, 100, 48, 107, 32,
-    110, 128, 112, 208, 118, 80, 120, 160, 121, 144, 133, 48, 135, 160, 138, 224, 140, 0, 244, 208,
-    245, 48, 247, 240, 248, 64, 250, 240, 251, 160, 252, 128, 255,
-];
-
-/// A file with those starts.
-fn written_file(alloc: Global) -> Result<Vec<u8>, AllocError> {
-    let mut bytes = Vec::from_slice(alloc, b"MYSG\x01\0\x02\0\0\0\0\0\0\0\0\0\x1b\0\0\0")?;
-    bytes.extend_from_slice(&[0; 28])?;
-    bytes.extend_from_slice(&WRITTEN)?;
-    bytes.extend_from_slice(&[0; 114])?;
-    Ok(bytes)
-}
-
-/// Whether the file finds its last start below the address, by its index and by the address there.
-fn finds_last(bytes: &[u8], addr: u64, index: usize, start: u64) -> bool {
-    match GsymContext::parse_header(bytes) {
-        Ok(context) => {
-            context.find_addr(addr) == Some(index) && context.addr_at(index) == Some(start)
-        }
-        Err(_) => false,
-    }
-}
-
-/// Whether the written file finds its last start.
-fn finds_last_written(alloc: Global) -> bool {
-    match written_file(alloc) {
-        Ok(bytes) => finds_last(bytes.as_slice(), 0x10635, 26, 0xff80),
-        Err(_) => false,
-    }
-}
-
-#[test]
-fn finds_the_last_of_a_written_table(rt: HostRuntime) {
-    assert!(rt; finds_last_written(rt.alloc()));
 }

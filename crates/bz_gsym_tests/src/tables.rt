@@ -3,97 +3,48 @@
 use bz_gsym::{GsymContext, laws, parse_address_data};
 use bz_samples::GSYM_LINES;
 
-/// Whether the file has these two addresses.
-fn has_addresses(context: &GsymContext<'_>, first: u64, second: u64) -> bool {
-    context.header().num_addrs == 2
-        && context.addr_at(0) == Some(first)
-        && context.addr_at(1) == Some(second)
-        && context.addr_at(2) == None
-}
+/// Places in the string table, and the strings there; outside it there is none.
+const STRINGS: &[(usize, &str)] = &[
+    (0, ""),
+    (1, "main"),
+    (3, "in"),
+    (14, "sub"),
+    (17, ""),
+    (18, NONE),
+    (1000, NONE),
+];
 
-/// Whether the last of its two symbols has this size and its name at this place.
-fn has_symbol(context: &GsymContext<'_>, size: u32, name: u32) -> bool {
-    match context.addr_info(1) {
-        Some(info) => info.size == size && info.name == name && context.addr_info(2).is_none(),
-        None => false,
-    }
-}
-
-/// Whether the last of its two files has its directory and its name at these places.
-fn has_file(context: &GsymContext<'_>, directory: u32, filename: u32) -> bool {
-    match context.file_info(1) {
-        Some(file) => {
-            file.directory == directory
-                && file.filename == filename
-                && context.file_info(2).is_none()
-        }
-        None => false,
-    }
-}
-
-/// Whether the example file's tables are read so.
-fn reads_tables() -> bool {
-    match GsymContext::parse_header(&GSYM_LINES) {
-        Ok(context) => {
-            has_addresses(&context, 0x1000, 0x1040)
-                && has_symbol(&context, 0, 14)
-                && has_file(&context, 6, 10)
-        }
-        Err(_) => false,
-    }
-}
-
-#[test]
-fn tables_are_read_by_index(rt: HostRuntime) {
-    assert!(rt; reads_tables());
-}
-
-/// Places in the string table, and the strings there.
-const STRINGS: &[(usize, &str)] = &[(0, ""), (1, "main"), (3, "in"), (14, "sub"), (17, "")];
-
-/// Places outside it.
-const OUTSIDE: &[usize] = &[18, 1000];
-
-/// Whether the string is at the place.
-fn is_string(context: &GsymContext<'_>, place: usize, text: &str) -> bool {
-    match context.get_str(place) {
-        Some(found) => found == text,
-        None => false,
-    }
-}
+const NONE: &str = "(none)";
 
 /// Whether all strings are at their places.
 fn has_strings(context: &GsymContext<'_>) -> bool {
     for row in STRINGS {
-        if !is_string(context, row.0, row.1) {
+        if context.get_str(row.0).unwrap_or(NONE) != row.1 {
             return false;
         }
     }
     true
 }
 
-/// Whether there is no string at any place outside.
-fn has_none_outside(context: &GsymContext<'_>) -> bool {
-    for place in OUTSIDE {
-        if context.get_str(*place).is_some() {
-            return false;
-        }
-    }
-    true
-}
-
-/// Whether the example file's strings are read so.
-fn reads_strings() -> bool {
-    match GsymContext::parse_header(&GSYM_LINES) {
-        Ok(context) => has_strings(&context) && has_none_outside(&context),
-        Err(_) => false,
-    }
-}
-
-#[test]
-fn strings_are_read_by_place(rt: HostRuntime) {
-    laws::strings_are_exact();
-    assert!(rt; reads_strings());
+/// Whether the example file has its two addresses, and its second symbol and file with their places.
+fn reads_tables() -> bool {
+    let Ok(context) = GsymContext::parse_header(&GSYM_LINES) else {
+        return false;
+    };
+    let (Some(symbol), Some(file)) = (context.addr_info(1), context.file_info(1)) else {
+        return false;
+    };
+    context.header().num_addrs == 2
+        && context.addr_at(0) == Some(0x1000)
+        && context.addr_at(1) == Some(0x1040)
+        && context.addr_at(2) == None
+        && symbol.size == 0
+        && symbol.name == 14
+        && context.addr_info(2).is_none()
+        && file.directory == 6
+        && file.filename == 10
+        && context.file_info(2).is_none()
+        && has_strings(&context)
 }
 
 /// Bytes, and the type and the length of each data entry in front of them.
@@ -128,8 +79,10 @@ fn lists(bytes: &[u8], expected: &[(u32, usize)]) -> bool {
 }
 
 #[test]
-fn data_entries_end_where_the_list_does(rt: HostRuntime) {
+fn tables_are_read_by_index_and_place(rt: HostRuntime) {
+    laws::strings_are_exact();
     laws::entries_are_exact();
+    assert!(rt; reads_tables());
     for row in ENTRIES {
         assert!(rt; lists(row.0, row.1));
     }

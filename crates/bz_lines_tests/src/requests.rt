@@ -4,7 +4,6 @@ use bz_base::Input;
 use bz_lines::BadInput;
 use bz_requests::{Request, Target, read_requests};
 use std::alloc::Global;
-use std::test::Fail;
 
 /// Requests of every kind; lines that end in a carriage return, that are empty, and one that lacks
 /// its end.
@@ -24,9 +23,11 @@ static SAID: [(&str, &str, &str, u32, usize, u64); 8] = [
     ("evict", "process", "", 4_294_967_295, 0, 0),
 ];
 
-/// An input, and its first line that isn't well formed: words that are none, too few fields and too
-/// many, two spaces and one at the end, texts that aren't UTF-8, and numbers that are too great.
-static BAD: [(&[u8], u64); 24] = [
+/// An input, and its first line that isn't well formed, 0 for the input above: words that are none, too
+/// few fields and too many, two spaces and one at the end, texts that aren't UTF-8, and numbers that are
+/// too great.
+static INPUTS: [(&[u8], u64); 25] = [
+    (INPUT, 0),
     (b"single breakpad /s.sym\n", 1),
     (b"single breakpad /s.sym 10 20\n", 1),
     (b"single /s.sym 10\n", 1),
@@ -98,37 +99,20 @@ fn are_all(all: &[Request]) -> bool {
     all.len() == SAID.len()
 }
 
-fn reads_all(alloc: Global) -> bool {
-    match read_requests(alloc, INPUT) {
-        Ok(all) => are_all(all.as_slice()),
+/// Whether the input is refused at this line, or says all requests above.
+fn is_read(alloc: Global, text: &[u8], line: u64) -> bool {
+    match read_requests(alloc, text) {
+        Ok(all) => line == 0 && are_all(all.as_slice()),
+        Err(BadInput::Line(number)) => line > 0 && number == line,
         Err(_) => false,
     }
 }
 
-/// Whether the input is refused at this line.
-fn is_bad_at(alloc: Global, text: &[u8], line: u64) -> bool {
-    match read_requests(alloc, text) {
-        Err(BadInput::Line(number)) => number == line,
-        _ => false,
+/// Addresses of a process are absolute.
+#[test]
+fn reads_requests_of_every_kind(rt: HostRuntime) {
+    for (text, line) in &INPUTS {
+        assert!(rt; is_read(rt.alloc(), text, *line));
     }
-}
-
-#[test]
-fn reads_requests_of_every_kind(rt: HostRuntime) -> Result<(), Fail> {
-    assert!(rt; reads_all(rt.alloc()));
-    Ok(())
-}
-
-#[test]
-fn names_the_first_line_that_is_no_request(rt: HostRuntime) -> Result<(), Fail> {
-    for row in &BAD {
-        assert!(rt; is_bad_at(rt.alloc(), row.0, row.1));
-    }
-    Ok(())
-}
-
-#[test]
-fn addresses_of_a_process_are_absolute(rt: HostRuntime) -> Result<(), Fail> {
     assert!(rt; Target::Process(0).usual_kind() == Input::AbsAddr(()));
-    Ok(())
 }

@@ -6,8 +6,6 @@ mod maps;
 #[cfg(test)]
 mod owners;
 #[cfg(test)]
-mod perf_ids;
-#[cfg(test)]
 mod perf_maps;
 #[cfg(test)]
 mod reading;

@@ -27,21 +27,33 @@ fn is_named(name: &Option<PathName>, maps_file: &str, text: &str) -> bool {
     }
 }
 
-/// Whether the mapping is this one.
-fn is_told(entry: &MapsEntry, told: &Told) -> bool {
+/// Whether the copy of a name is equal to it.
+fn is_copied(alloc: Global, name: &PathName) -> bool {
+    match name.try_clone(alloc) {
+        Ok(copy) => copy == *name,
+        Err(_) => false,
+    }
+}
+
+/// Whether the mapping is this one, and its name is copied, if it has one.
+fn is_told(alloc: Global, entry: &MapsEntry, told: &Told) -> bool {
     entry.range.start == told.0
         && entry.range.end == told.1
         && entry.offset == told.2
         && is_named(&entry.path_name, told.3, told.4)
+        && match &entry.path_name {
+            Some(name) => is_copied(alloc, name),
+            None => true,
+        }
 }
 
 /// Whether the mappings are these, in this order.
-fn are_told(entries: &[MapsEntry], told: &[Told]) -> bool {
+fn are_told(alloc: Global, entries: &[MapsEntry], told: &[Told]) -> bool {
     if entries.len() != told.len() {
         return false;
     }
     for (entry, want) in entries.iter().zip(told) {
-        if !is_told(entry, want) {
+        if !is_told(alloc, entry, want) {
             return false;
         }
     }
@@ -51,7 +63,7 @@ fn are_told(entries: &[MapsEntry], told: &[Told]) -> bool {
 /// Whether the text tells these mappings of the process.
 fn tells(alloc: Global, pid: Pid, text: &[u8], told: &[Told]) -> bool {
     match parse_maps(alloc, pid, text) {
-        Ok(entries) => are_told(entries.as_slice(), told),
+        Ok(entries) => are_told(alloc, entries.as_slice(), told),
         Err(_) => false,
     }
 }
@@ -64,16 +76,12 @@ fn is_refused(alloc: Global, text: &[u8]) -> bool {
     }
 }
 
-#[test]
-fn a_text_tells_its_mappings(rt: HostRuntime) {
-    let told = &[
-        (0x1000, 0x2000, 0, "/proc/7/map_files/1000-2000", "/bin/bad"),
-        (0x3000, 0x4000, 0, "", ""),
-        (0x5000, 0x6000, 0, "", "[vdso]"),
-    ];
-    assert!(rt; tells(rt.alloc(), Pid::from(7), THREE_MAPPINGS, told));
-    assert!(rt; tells(rt.alloc(), Pid::from(7), b"", &[]));
-}
+/// The mappings of a process that maps a file, memory and a part of the system.
+const THREE_TOLD: &[Told] = &[
+    (0x1000, 0x2000, 0, "/proc/7/map_files/1000-2000", "/bin/bad"),
+    (0x3000, 0x4000, 0, "", ""),
+    (0x5000, 0x6000, 0, "", "[vdso]"),
+];
 
 /// Lines, and the mapping that each tells of the process that reads it.
 const LINES: &[(&[u8], Told)] = &[
@@ -172,10 +180,13 @@ const LINES: &[(&[u8], Told)] = &[
         b"1-2 r--p 3 0:0 4 [heap] (deleted)\n",
         (1, 2, 3, "", "[heap] (deleted)"),
     ),
+    (b"1-2 r--p 3 0:0 4 [heap]\n", (1, 2, 3, "", "[heap]")),
 ];
 
 #[test]
-fn a_line_tells_its_mapping(rt: HostRuntime) {
+fn a_text_tells_its_mappings(rt: HostRuntime) {
+    assert!(rt; tells(rt.alloc(), Pid::from(7), THREE_MAPPINGS, THREE_TOLD));
+    assert!(rt; tells(rt.alloc(), Pid::from(7), b"", &[]));
     for (line, told) in LINES {
         assert!(rt; tells(rt.alloc(), Pid::Slf, line, &[*told]));
     }
@@ -252,36 +263,4 @@ fn other_lines_are_refused(rt: HostRuntime) {
     for text in REFUSED {
         assert!(rt; is_refused(rt.alloc(), text));
     }
-}
-
-/// The name of the only mapping that a text tells.
-fn only_name(alloc: Global, text: &[u8]) -> Result<Option<PathName>, Error> {
-    let mut entries = parse_maps(alloc, Pid::Slf, text)?;
-    match entries.pop() {
-        Some(
-            MapsEntry {
-                range: _,
-                offset: _,
-                path_name,
-            },
-        ) => Ok(path_name),
-        None => Ok(None),
-    }
-}
-
-/// Whether the copy of a name is equal to it.
-fn is_copied(alloc: Global, text: &[u8]) -> Result<bool, Error> {
-    match only_name(alloc, text)? {
-        Some(name) => {
-            let copy = name.try_clone(alloc)?;
-            Ok(copy == name)
-        }
-        None => Ok(false),
-    }
-}
-
-#[test]
-fn names_are_copied(rt: HostRuntime) {
-    assert!(rt; is_copied(rt.alloc(), b"1-2 r--p 3 0:0 4 /a (deleted)\n") == Ok(true));
-    assert!(rt; is_copied(rt.alloc(), b"1-2 r--p 3 0:0 4 [heap]\n") == Ok(true));
 }

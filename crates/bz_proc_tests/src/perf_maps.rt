@@ -1,5 +1,6 @@
 //! Perf maps: what they answer, which bytes are taken, and where they lie.
 
+use crate::reading::put;
 use bz_base::{Error, FindSymOpts, Pid, Reason, ResolvedSym, Symbolize};
 use bz_cache::FileCache;
 use bz_files::MemFiles;
@@ -135,21 +136,17 @@ const REFUSED: &[&[u8]] = &[
     b"10 8 x\n20 \r8 y\n",
 ];
 
-/// Whether a symbol is this function.
-fn is_function(symbol: &ResolvedSym<'_>, told: &Told) -> bool {
-    let (name, start, size) = told;
-    symbol.name == *name
-        && symbol.addr == *start
-        && symbol.size == Some(*size)
-        && symbol.module.is_none()
-        && symbol.code_info.is_none()
-        && symbol.inlined.is_empty()
-}
-
 /// Whether this is told.
 fn is_told(found: &Result<ResolvedSym<'_>, Reason>, told: &Told) -> bool {
     match found {
-        Ok(symbol) => is_function(symbol, told),
+        Ok(symbol) => {
+            symbol.name == told.0
+                && symbol.addr == told.1
+                && symbol.size == Some(told.2)
+                && symbol.module.is_none()
+                && symbol.code_info.is_none()
+                && symbol.inlined.is_empty()
+        }
         Err(reason) => *reason == Reason::UnknownAddr && told.2 == UNKNOWN.2,
     }
 }
@@ -162,10 +159,17 @@ fn tells(alloc: Global, map: &PerfMap, addr: u64, told: &Told) -> bool {
     }
 }
 
+/// The perf map of these bytes.
+fn parsed(alloc: Global, bytes: &[u8]) -> Result<PerfMap, Error> {
+    PerfMap::parse(alloc, Vec::from_slice(alloc, bytes)?)
+}
+
 /// Whether the bytes are a perf map that tells this of an address.
-fn answers(alloc: Global, bytes: &[u8], addr: u64, told: &Told) -> Result<bool, Error> {
-    let map = PerfMap::parse(alloc, Vec::from_slice(alloc, bytes)?)?;
-    Ok(tells(alloc, &map, addr, told))
+fn answers(alloc: Global, bytes: &[u8], addr: u64, told: &Told) -> bool {
+    match parsed(alloc, bytes) {
+        Ok(map) => tells(alloc, &map, addr, told),
+        Err(_) => false,
+    }
 }
 
 #[test]
@@ -174,34 +178,23 @@ fn answers_by_the_nearest_function(rt: HostRuntime) {
     perf_laws::perf_maps_are_exact();
     perf_laws::perf_answers_start_before();
     for (bytes, addr, told) in ANSWERS {
-        let answered = answers(rt.alloc(), bytes, *addr, told);
-        assert!(rt; answered == Ok(true), "{} at {addr}", told.0);
+        assert!(rt; answers(rt.alloc(), bytes, *addr, told));
     }
 }
 
 /// Whether the bytes are refused as no perf map.
-fn is_refused(alloc: Global, bytes: &[u8]) -> Result<bool, Error> {
-    match PerfMap::parse(alloc, Vec::from_slice(alloc, bytes)?) {
-        Ok(_) => Ok(false),
-        Err(error) => Ok(error == Error::InvalidData),
+fn is_refused(alloc: Global, bytes: &[u8]) -> bool {
+    match parsed(alloc, bytes) {
+        Ok(_) => false,
+        Err(error) => error == Error::InvalidData,
     }
 }
 
 #[test]
 fn refuses_lines_of_another_form(rt: HostRuntime) {
     for bytes in REFUSED {
-        assert!(rt;
-            is_refused(rt.alloc(), bytes) == Ok(true),
-            "{} bytes",
-            bytes.len()
-        );
+        assert!(rt; is_refused(rt.alloc(), bytes));
     }
-}
-
-/// Whether the perf map of a process lies here, where the own process is 7.
-fn lies_at(alloc: Global, process: u32, ns_tgid: u32, want: &str) -> Result<bool, Error> {
-    let path = PerfMap::path(alloc, Pid::from(process), 7, ns_tgid)?;
-    Ok(path.as_str() == want)
 }
 
 /// Processes, of which 0 is the own one, their own ids, and where their perf maps lie.
@@ -217,27 +210,38 @@ const PATHS: &[(u32, u32, &str)] = &[
     (1, 0, "/proc/1/root/tmp/perf-0.map"),
 ];
 
-#[test]
-fn lies_in_the_folder_that_the_process_sees(rt: HostRuntime) {
-    for (process, ns_tgid, want) in PATHS {
-        assert!(rt;
-            lies_at(rt.alloc(), *process, *ns_tgid, want) == Ok(true),
-            "{want}"
-        );
+/// Whether the perf map of a process lies here, where the own process is 7.
+fn lies_at(alloc: Global, process: u32, ns_tgid: u32, want: &str) -> bool {
+    match PerfMap::path(alloc, Pid::from(process), 7, ns_tgid) {
+        Ok(path) => path.as_str() == want,
+        Err(_) => false,
     }
 }
 
+#[test]
+fn lies_in_the_folder_that_the_process_sees(rt: HostRuntime) {
+    for (process, ns_tgid, want) in PATHS {
+        assert!(rt; lies_at(rt.alloc(), *process, *ns_tgid, want));
+    }
+}
+
+/// Whether a perf map of the files answers from the cache.
+fn answers_from(alloc: Global, files: &mut MemFiles, cache: &mut FileCache<PerfMap>) -> bool {
+    put(alloc, files, "/map", PYTHON)
+        && match cache.entry(alloc, files, "/map") {
+            Ok(map) => tells(alloc, map, 0x7fbf1fc2144c, &MODULE),
+            Err(_) => false,
+        }
+}
+
 /// Whether a perf map in a cache answers.
-fn cached_answers(alloc: Global, files: &mut MemFiles) -> Result<bool, Error> {
-    files.put(alloc, "/map", Vec::from_slice(alloc, PYTHON)?)?;
-    let mut cache = FileCache::<PerfMap>::builder().build(alloc);
-    let map = cache.entry(alloc, files, "/map")?;
-    Ok(tells(alloc, map, 0x7fbf1fc2144c, &MODULE))
+fn cached_answers(alloc: Global) -> bool {
+    let mut files = MemFiles::new(alloc, 0);
+    let mut cache = FileCache::builder().build(alloc);
+    answers_from(alloc, &mut files, &mut cache)
 }
 
 #[test]
 fn answers_from_a_cache(rt: HostRuntime) {
-    let mut files = MemFiles::new(rt.alloc(), 0);
-    let answered = cached_answers(rt.alloc(), &mut files);
-    assert!(rt; answered == Ok(true));
+    assert!(rt; cached_answers(rt.alloc()));
 }

@@ -3,13 +3,12 @@
 ghost use Rattle.std.specs.Prelude.{IfErr};
 ghost use Rattle.bz_process.specs.Member.{MayRefuseMember};
 
-use crate::files::{fill, is_reason, is_symbol, query};
-use bz_base::{Addr, Error, FindSymOpts, Input, Reason, Result, Symbolized};
-use bz_cache::FileCache;
+use crate::files::FIRST;
+use crate::steps::{Step, Told, holds};
+use bz_base::{Input, Reason, Result};
 use bz_elf::ElfResolver;
-use bz_files::MemFiles;
 use bz_proc::PathName;
-use bz_process::{ProcessDispatch, ProcessMemberInfo, Processes};
+use bz_process::{ProcessDispatch, ProcessMemberInfo};
 use bz_samples::ELF_FUNCTION;
 use std::alloc::Global;
 
@@ -42,31 +41,19 @@ fn vdso(alloc: Global) -> Result<Option<ElfResolver>>
     Ok(Some(resolver))
 }
 
-const ADDRS: &[Addr] = &[0x5088, 0x1004];
-
-fn are_answered(answers: &[Symbolized<'_>]) -> bool {
-    answers.len() == 2
-        && is_symbol(&answers[0], "f", 0x400080, "/vdso.so")
-        && is_reason(&answers[1], Reason::IgnoredError)
-}
-
-fn resolver_answers(alloc: Global) -> Result<bool> {
-    let mut files = MemFiles::new(alloc, 0);
-    fill(alloc, &mut files)?;
-    let mut elf = FileCache::builder().build(alloc);
-    let mut processes = Processes::new(alloc, true, ForVdso);
-    let answers = processes.symbolize(
-        &mut elf,
-        alloc,
-        &mut files,
-        &query(true, true),
-        &FindSymOpts::Basic,
-        Input::AbsAddr(ADDRS),
-    )?;
-    Ok(are_answered(&answers))
-}
+/// The resolver answers for the part of the system, and for a mapped file no one does.
+const RESOLVED: &[Step] = &[
+    Step::Files(FIRST),
+    Step::Batch(
+        Input::AbsAddr(&[0x5088, 0x1004]),
+        &[
+            Told::Symbol("f", 0x400080, "/vdso.so"),
+            Told::Unknown(Reason::IgnoredError),
+        ],
+    ),
+];
 
 #[test]
 fn a_resolver_answers_for_a_part_of_the_system(rt: HostRuntime) {
-    assert!(rt; resolver_answers(rt.alloc()) == Ok(true));
+    assert!(rt; holds(rt.alloc(), ForVdso, &[RESOLVED]));
 }

@@ -1,69 +1,42 @@
-//! The files of processes that are asked, and what is told of addresses.
+//! The files of processes that are asked.
 
-use bz_base::{Error, Pid, Reason, Symbolized};
 use bz_files::MemFiles;
-use bz_process::ProcessQuery;
 use bz_samples::{PERF_FUNCTION, THREE_MAPPINGS};
 use std::alloc::Global;
 
-/// Puts bytes at a path.
-pub(crate) fn put(
-    alloc: Global,
-    files: &mut MemFiles,
-    path: &str,
-    bytes: &[u8],
-) -> Result<(), Error> {
-    files.put(alloc, path, Vec::from_slice(alloc, bytes)?)?;
-    Ok(())
-}
+/// A path, and the bytes that lie there.
+pub(crate) type File = (&'static str, &'static [u8]);
 
-/// Puts the files of process 7: its mapped file isn't an ELF file, and its perf map has a function.
-pub(crate) fn fill(alloc: Global, files: &mut MemFiles) -> Result<(), Error> {
-    put(alloc, files, "/proc/7/maps", THREE_MAPPINGS)?;
-    put(alloc, files, "/proc/7/map_files/1000-2000", b"\x7fELF")?;
-    put(alloc, files, "/proc/7/status", b"Name:\tx\n")?;
-    put(alloc, files, "/proc/7/root/tmp/perf-7.map", PERF_FUNCTION)
-}
+/// The files of process 7: its mapped file isn't an ELF file, and its perf map has a function.
+pub(crate) const FIRST: &[File] = &[
+    ("/proc/7/maps", THREE_MAPPINGS),
+    ("/proc/7/map_files/1000-2000", b"\x7fELF"),
+    ("/proc/7/status", b"Name:\tx\n"),
+    ("/proc/7/root/tmp/perf-7.map", PERF_FUNCTION),
+];
 
-/// How process 7 is asked.
-pub(crate) fn query(perf_map: bool, map_files: bool) -> ProcessQuery {
-    ProcessQuery {
-        pid: Pid::from(7),
-        perf_map,
-        map_files,
+/// Other files of process 7 than the first ones.
+pub(crate) const LATER: &[File] = &[
+    ("/proc/7/maps", b"3000-5000 rw-p 00000000 00:00 0\n"),
+    ("/proc/7/status", b"Name:\ty\n"),
+    ("/proc/7/root/tmp/perf-7.map", b"3000 10 later\n"),
+];
+
+/// Puts bytes at a path. Says whether there was memory.
+pub(crate) fn put(alloc: Global, files: &mut MemFiles, path: &str, bytes: &[u8]) -> bool {
+    match Vec::from_slice(alloc, bytes) {
+        Ok(bytes) => files.put(alloc, path, bytes).is_ok(),
+        Err(_) => false,
     }
 }
 
-/// Whether there is no symbol, for this reason.
-pub(crate) fn is_reason(answer: &Symbolized<'_>, reason: Reason) -> bool {
-    match answer {
-        Symbolized::Sym(_) => false,
-        Symbolized::Unknown(told) => *told == reason,
-    }
-}
-
-/// Whether the symbol of this name starts there and has 16 bytes, of which the address is the ninth,
-/// and this module; an empty text is none.
-pub(crate) fn is_symbol(answer: &Symbolized<'_>, name: &str, start: u64, module: &str) -> bool {
-    match answer {
-        Symbolized::Sym(symbol) => {
-            symbol.name.as_str() == name
-                && symbol.addr == start
-                && symbol.offset == 8
-                && symbol.size == Some(16)
-                && module_of(answer) == module
+/// Lets these be the only files, at which nobody looked yet. Says whether there was memory.
+pub(crate) fn replace(alloc: Global, files: &mut MemFiles, all: &[File]) -> bool {
+    *files = MemFiles::new(alloc, 0);
+    for (path, bytes) in all {
+        if !put(alloc, files, path, bytes) {
+            return false;
         }
-        Symbolized::Unknown(_) => false,
     }
-}
-
-/// The module of the symbol, or an empty text.
-fn module_of<'s>(answer: &'s Symbolized<'_>) -> &'s str {
-    match answer {
-        Symbolized::Sym(symbol) => match &symbol.module {
-            Some(module) => module.as_str(),
-            None => "",
-        },
-        Symbolized::Unknown(_) => "",
-    }
+    true
 }

@@ -9,3 +9,7 @@ mod caching;
 mod dispatchers;
 #[cfg(test)]
 mod files;
+#[cfg(test)]
+mod refusals;
+#[cfg(test)]
+mod steps;

@@ -1,215 +1,254 @@
 //! Stacks that are folded by what sources answer, and refused as these refuse.
 
-use bz_base::{Error, Input};
+use bz_base::Error::{NotFound, Unsupported};
+use bz_base::Input::{AbsAddr, FileOffset, VirtOffset};
+use bz_base::{Input, Result};
 use bz_files::MemFiles;
 use bz_samples::GSYM_CALLS;
 use bz_stacks::{Stack, fold, read_stacks};
 use bz_symbolize::source::{Breakpad, GsymData, Process, Source};
 use bz_symbolize::{Pid, Symbolizer};
 use std::alloc::Global;
-use std::test::Fail;
 
-/// Puts the bytes at the path.
-pub(crate) fn put(
-    alloc: Global,
-    files: &mut MemFiles,
-    path: &str,
-    bytes: &[u8],
-) -> Result<(), Error> {
-    let copy = Vec::from_slice(alloc, bytes)?;
-    files.put(alloc, path, copy)?;
-    Ok(())
+/// A source that is asked.
+enum Asked {
+    /// The Breakpad file at `/s.sym`.
+    File,
+    /// GSYM bytes that are handed in.
+    Bytes,
+    /// Process 7.
+    Process,
 }
 
-/// Folds stacks, of which there are few.
+/// A path, and the bytes of the file that is put there.
+type Put = (&'static str, &'static [u8]);
+
+/// Files that are put; the kind of the addresses and the lines of stacks that are folded then; a text, and
+/// whether it is theirs, or how they are refused; and how many files are read by then.
+type Step = (
+    &'static [Put],
+    Input<()>,
+    &'static str,
+    &'static str,
+    Result<bool>,
+    u64,
+);
+
+/// Inlined calls inside one another.
+const NESTED: &[Put] = &[(
+    "/s.sym",
+    b"FILE 15 o.c\nFILE 4 m.c\nFILE 8 i2.c\nFUNC 1000 30 10 outer_func()\nINLINE_ORIGIN 1 inner_func_2()\nINLINE_ORIGIN 2 mid_func()\nINLINE_ORIGIN 3 inner_func_1()\nINLINE 0 60 15 2 1000 20\nINLINE 1 12 4 3 1000 10\nINLINE 1 17 4 1 1010 10\n1000 10 42 7\n1010 10 52 8\n1020 10 62 15\n",
+)];
+
+/// A name with a `;`.
+const SEMICOLON: &[Put] = &[("/s.sym", b"FUNC 1 1 0 a;b\n")];
+
+/// An inlined call whose origin is missing.
+const NO_ORIGIN: &[Put] = &[(
+    "/s.sym",
+    b"FILE 0 a.c\nFUNC 10 8 0 f\nINLINE 0 1 0 3 10 4\n10 8 1 0\n",
+)];
+
+const PLAIN: &[Put] = &[("/s.sym", b"FUNC 1 1 0 a\n")];
+
+const ONE: &[Put] = &[("/s.sym", b"FUNC 1000 20 0 one\n")];
+
+/// The mappings of process 7, its status and its perf map.
+const PROCESS: &[Put] = &[
+    (
+        "/proc/7/maps",
+        b"3000-4000 rw-p 00000000 00:00 0\n5000-6000 r-xp 00000000 00:00 0 [vdso]\n",
+    ),
+    ("/proc/7/status", b"Name:\tx\n"),
+    ("/proc/7/root/tmp/perf-7.map", b"3000 10 jit\n3010 10 a;b\n"),
+];
+
+/// A source, and what is asked of it one after the other.
+const ROWS: &[(Asked, &[Step])] = &[
+    // Paths of one address and of two.
+    (
+        Asked::File,
+        &[(
+            NESTED,
+            FileOffset(()),
+            "1010 2\n1020 3\n1010 5\n2000 1020 1\n",
+            "[unknown];outer_func() 1\nouter_func() 3\nouter_func();mid_func();inner_func_2() 7\n",
+            Ok(true),
+            1,
+        )],
+    ),
+    // One path from different addresses.
+    (
+        Asked::File,
+        &[(
+            NESTED,
+            FileOffset(()),
+            "1020 1010 1\n\n0x102f 0x101F 2\r\n1020 0",
+            "outer_func() 0\nouter_func();outer_func();mid_func();inner_func_2() 3\n",
+            Ok(true),
+            1,
+        )],
+    ),
+    // The same counts in other groups and in another order.
+    (
+        Asked::File,
+        &[(
+            NESTED,
+            FileOffset(()),
+            "2000 102f 1\n1011 3\n1020 1\n101f 4\n1021 2\n",
+            "[unknown];outer_func() 1\nouter_func() 3\nouter_func();mid_func();inner_func_2() 7\n",
+            Ok(true),
+            1,
+        )],
+    ),
+    (
+        Asked::File,
+        &[(SEMICOLON, FileOffset(()), "1 4\n", "a:b 4\n", Ok(true), 1)],
+    ),
+    // The address of the missing origin is refused.
+    (
+        Asked::File,
+        &[(
+            NO_ORIGIN,
+            FileOffset(()),
+            "10 1\n14 2\n",
+            "[unknown] 1\nf 2\n",
+            Ok(true),
+            1,
+        )],
+    ),
+    // No stack.
+    (
+        Asked::File,
+        &[(PLAIN, FileOffset(()), "\n\r\n", "", Ok(true), 1)],
+    ),
+    // Refused calls read no file, and leave nothing in the way of one that is answered.
+    (
+        Asked::File,
+        &[
+            (&[], FileOffset(()), "1000 1\n", "", Err(NotFound), 0),
+            (ONE, AbsAddr(()), "1000 1\n", "", Err(Unsupported), 0),
+            (&[], FileOffset(()), "1010 1\n", "one 1\n", Ok(true), 1),
+        ],
+    ),
+    // `main` with a call of `sub`, `sub` alone, and no symbol.
+    (
+        Asked::Bytes,
+        &[(
+            &[],
+            VirtOffset(()),
+            "1040 1004 2\n1020 3\n1040 1005 1\n",
+            "[unknown] 3\nsub;main;sub 3\n",
+            Ok(true),
+            0,
+        )],
+    ),
+    // A process answers by its perf map.
+    (
+        Asked::Process,
+        &[(
+            PROCESS,
+            AbsAddr(()),
+            "3008 7000 1\n5000 3008 3018 2\n3000 2000 4\n",
+            "[unknown];jit;a:b 2\njit;[unknown] 5\n",
+            Ok(true),
+            3,
+        )],
+    ),
+    // It refuses another kind of address, and one that isn't there is refused.
+    (
+        Asked::Process,
+        &[
+            (&[], AbsAddr(()), "1000 1\n", "", Err(NotFound), 0),
+            (PROCESS, FileOffset(()), "1000 1\n", "", Err(Unsupported), 0),
+        ],
+    ),
+];
+
+/// The source.
+fn source(alloc: Global, asked: &Asked) -> Result<Source<'static>> {
+    match asked {
+        Asked::File => Ok(Source::from(Breakpad::new(String::from_str(alloc, "/s.sym")?))),
+        Asked::Bytes => Ok(Source::from(GsymData::new(&GSYM_CALLS))),
+        Asked::Process => Ok(Source::from(Process::new(Pid::from(7)))),
+    }
+}
+
+/// Puts the files. Says whether memory was left.
+fn put_all(alloc: Global, files: &mut MemFiles, all: &[Put]) -> bool {
+    for (path, bytes) in all {
+        let Ok(copy) = Vec::from_slice(alloc, bytes) else {
+            return false;
+        };
+        if files.put(alloc, path, copy).is_err() {
+            return false;
+        }
+    }
+    true
+}
+
+/// Whether the stacks, of which there are few, fold to the step's text, or how they are refused.
 fn fold_few(
     alloc: Global,
     symbolizer: &mut Symbolizer,
     files: &mut MemFiles,
     src: &Source<'_>,
-    kind: Input<()>,
     stacks: &[Stack],
-) -> Result<Vec<u8>, Error> {
+    step: &Step,
+) -> Result<bool> {
     if stacks.len() > 9 {
-        return Ok(Vec::new(alloc));
-    }
-    fold(alloc, symbolizer, files, src, kind, stacks)
-}
-
-/// Whether the stacks of lines fold to this text.
-pub(crate) fn folds(
-    alloc: Global,
-    symbolizer: &mut Symbolizer,
-    files: &mut MemFiles,
-    src: &Source<'_>,
-    kind: Input<()>,
-    lines: &str,
-    text: &str,
-) -> Result<bool, Error> {
-    let Ok(stacks) = read_stacks(alloc, lines.as_bytes()) else {
         return Ok(false);
-    };
-    let folded = fold_few(alloc, symbolizer, files, src, kind, &stacks)?;
-    Ok(folded.as_slice() == text.as_bytes())
+    }
+    let text = fold(alloc, symbolizer, files, src, step.1, stacks)?;
+    Ok(text.as_slice() == step.3.as_bytes())
 }
 
-/// Whether folding stacks is refused so.
-fn refuses(
+/// The same of the stacks of the step's lines.
+fn fold_lines(
     alloc: Global,
     symbolizer: &mut Symbolizer,
     files: &mut MemFiles,
     src: &Source<'_>,
-    kind: Input<()>,
-    refusal: Error,
+    step: &Step,
+) -> Result<bool> {
+    match read_stacks(alloc, step.2.as_bytes()) {
+        Ok(stacks) => fold_few(alloc, symbolizer, files, src, &stacks, step),
+        Err(_) => Ok(false),
+    }
+}
+
+/// Whether each step is answered or refused so.
+fn are_answered(
+    alloc: Global,
+    symbolizer: &mut Symbolizer,
+    files: &mut MemFiles,
+    src: &Source<'_>,
+    steps: &[Step],
 ) -> bool {
-    folds(alloc, symbolizer, files, src, kind, "1000 1\n", "") == Err(refusal)
+    for step in steps {
+        if !put_all(alloc, files, step.0)
+            || fold_lines(alloc, symbolizer, files, src, step) != step.4
+            || files.opens() != step.5
+        {
+            return false;
+        }
+    }
+    true
 }
 
-/// The Breakpad file at `/s.sym`.
-fn breakpad(alloc: Global) -> Result<Source<'static>, Error> {
-    Ok(Source::from(Breakpad::new(String::from_str(alloc, "/s.sym")?)))
-}
-
-/// Process 7.
-fn process() -> Source<'static> {
-    Source::from(Process::new(Pid::from(7)))
-}
-
-/// Puts the mappings of process 7, its status and its perf map.
-fn put_process(alloc: Global, files: &mut MemFiles) -> Result<(), Error> {
-    put(
-        alloc,
-        files,
-        "/proc/7/maps",
-        b"3000-4000 rw-p 00000000 00:00 0\n5000-6000 r-xp 00000000 00:00 0 [vdso]\n",
-    )?;
-    put(alloc, files, "/proc/7/status", b"Name:\tx\n")?;
-    put(
-        alloc,
-        files,
-        "/proc/7/root/tmp/perf-7.map",
-        b"3000 10 jit\n3010 10 a;b\n",
-    )
-}
-
-/// Whether bytes that are handed in answer: `main` with a call of `sub`, `sub` alone, and no symbol.
-fn folds_data(alloc: Global) -> Result<bool, Error> {
+/// Whether each step is answered or refused so by a new symbolizer.
+fn holds(alloc: Global, asked: &Asked, steps: &[Step]) -> bool {
+    let Ok(src) = source(alloc, asked) else {
+        return false;
+    };
     let mut files = MemFiles::new(alloc, 0);
     let mut symbolizer = Symbolizer::new(alloc);
-    let src = Source::from(GsymData::new(&GSYM_CALLS));
-    let kind = Input::VirtOffset(());
-    let lines = "1040 1004 2\n1020 3\n1040 1005 1\n";
-    let text = "[unknown] 3\nsub;main;sub 3\n";
-    folds(alloc, &mut symbolizer, &mut files, &src, kind, lines, text)
+    are_answered(alloc, &mut symbolizer, &mut files, &src, steps)
 }
 
 #[test]
-fn folds_what_bytes_answer(rt: HostRuntime) -> Result<(), Fail> {
-    assert!(rt; folds_data(rt.alloc())?);
-    Ok(())
-}
-
-/// Whether a process answers, by its perf map.
-fn folds_process(alloc: Global) -> Result<bool, Error> {
-    let mut files = MemFiles::new(alloc, 0);
-    let mut symbolizer = Symbolizer::new(alloc);
-    put_process(alloc, &mut files)?;
-    let kind = Input::AbsAddr(());
-    let lines = "3008 7000 1\n5000 3008 3018 2\n3000 2000 4\n";
-    let text = "[unknown];jit;a:b 2\njit;[unknown] 5\n";
-    folds(
-        alloc,
-        &mut symbolizer,
-        &mut files,
-        &process(),
-        kind,
-        lines,
-        text,
-    )
-}
-
-#[test]
-fn folds_what_a_process_answers(rt: HostRuntime) -> Result<(), Fail> {
-    assert!(rt; folds_process(rt.alloc())?);
-    Ok(())
-}
-
-/// Whether calls are refused, read no file, and leave nothing in the way of a call that is answered.
-fn goes_on_after_refusals(alloc: Global) -> Result<bool, Error> {
-    let mut files = MemFiles::new(alloc, 0);
-    let mut symbolizer = Symbolizer::new(alloc);
-    let src = breakpad(alloc)?;
-    let offset = Input::FileOffset(());
-    let addr = Input::AbsAddr(());
-    let absent = refuses(
-        alloc,
-        &mut symbolizer,
-        &mut files,
-        &src,
-        offset,
-        Error::NotFound,
-    );
-    put(alloc, &mut files, "/s.sym", b"FUNC 1000 20 0 one\n")?;
-    let other = refuses(
-        alloc,
-        &mut symbolizer,
-        &mut files,
-        &src,
-        addr,
-        Error::Unsupported,
-    );
-    Ok(
-        absent
-            && other
-            && files.opens() == 0
-            && folds(
-                alloc,
-                &mut symbolizer,
-                &mut files,
-                &src,
-                offset,
-                "1010 1\n",
-                "one 1\n",
-            )?
-            && files.opens() == 1,
-    )
-}
-
-#[test]
-fn refuses_as_the_file_does(rt: HostRuntime) -> Result<(), Fail> {
-    assert!(rt; goes_on_after_refusals(rt.alloc())?);
-    Ok(())
-}
-
-/// Whether a process refuses another kind of address, and one that isn't there is refused.
-fn process_refuses(alloc: Global) -> Result<bool, Error> {
-    let mut files = MemFiles::new(alloc, 0);
-    let mut symbolizer = Symbolizer::new(alloc);
-    let src = process();
-    let addr = Input::AbsAddr(());
-    let offset = Input::FileOffset(());
-    let absent = refuses(
-        alloc,
-        &mut symbolizer,
-        &mut files,
-        &src,
-        addr,
-        Error::NotFound,
-    );
-    put_process(alloc, &mut files)?;
-    let other = refuses(
-        alloc,
-        &mut symbolizer,
-        &mut files,
-        &src,
-        offset,
-        Error::Unsupported,
-    );
-    Ok(absent && other && files.opens() == 0)
-}
-
-#[test]
-fn refuses_as_the_process_does(rt: HostRuntime) -> Result<(), Fail> {
-    assert!(rt; process_refuses(rt.alloc())?);
-    Ok(())
+fn folds_what_sources_answer(rt: HostRuntime) {
+    for row in ROWS {
+        assert!(rt; holds(rt.alloc(), &row.0, row.1));
+    }
 }

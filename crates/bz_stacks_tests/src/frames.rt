@@ -1,88 +1,171 @@
 //! What stacks of answers fold to.
 
-use crate::folding::{Row, add_rows, fold_to, reads};
-use bz_base::Error;
-use bz_stacks::Folded;
+use bz_base::{InlinedFn, Reason, Result, Sym, Symbolized};
+use bz_stacks::{Folded, Stack};
 use std::alloc::Global;
-use std::test::Fail;
+use std::borrow::CowStr;
 
-/// Stacks, and their text: none; no addresses; an unknown address, an ignored error and inlined calls;
-/// names that end a frame or a line, or are empty; a count of 0; a path that a name spells; sums past 32
-/// bits; paths that begin with others, in the order of their bytes.
-const TEXTS: [(&[Row], &str); 11] = [
-    (&[], ""),
-    (&[(&[], 3)], " 3\n"),
-    (&[(&[], 3), (&[Some(("", &[]))], 4)], " 7\n"),
-    (&[(&[None, None], 2)], "[unknown];[unknown] 2\n"),
-    (
-        &[(&[Some(("f", &["g", "h"])), Some(("i", &["j"]))], 1)],
-        "f;g;h;i;j 1\n",
-    ),
-    (&[(&[Some(("a;b", &[]))], 4)], "a:b 4\n"),
-    (
-        &[(&[Some(("\r\n", &[";", "a\rb\nc"])), Some(("", &[""]))], 5)],
+/// An answer: the name of a symbol, and those of the calls that were inlined there. An unknown address has
+/// no name.
+type Answered = &'static [&'static str];
+
+/// A stack by the answers to its addresses, and its count.
+type Row = (&'static [Answered], u32);
+
+/// Stacks that are added, how many there are then, and the text that they fold to.
+type Step = (&'static [Row], u32, &'static str);
+
+/// What is added one after the other. First each time one text: of no stack; of no addresses; of an unknown
+/// address, an ignored error and inlined calls; of names that end a frame or a line, or are empty; of a count
+/// of 0; of a path that a name spells; of sums past 32 bits; of paths that begin with others, in the order of
+/// their bytes. At last stacks that go on being added after a text was asked for.
+const ROWS: &[&[Step]] = &[
+    &[(&[], 0, "")],
+    &[(&[(&[], 3)], 1, " 3\n")],
+    &[(&[(&[], 3), (&[&[""]], 4)], 2, " 7\n")],
+    &[(&[(&[&[], &[]], 2)], 1, "[unknown];[unknown] 2\n")],
+    &[(&[(&[&["f", "g", "h"], &["i", "j"]], 1)], 1, "f;g;h;i;j 1\n")],
+    &[(&[(&[&["a;b"]], 4)], 1, "a:b 4\n")],
+    &[(
+        &[(&[&["\r\n", ";", "a\rb\nc"], &["", ""]], 5)],
+        1,
         "::;:;a:b:c;; 5\n",
-    ),
-    (&[(&[Some(("f", &[]))], 0)], "f 0\n"),
-    (
+    )],
+    &[(&[(&[&["f"]], 0)], 1, "f 0\n")],
+    &[(
         &[
-            (&[Some(("a", &["b"]))], 1),
-            (&[Some(("a", &[])), Some(("b", &[]))], 2),
-            (&[Some(("a;b", &[]))], 4),
-            (&[Some(("a:b", &[]))], 8),
+            (&[&["a", "b"]], 1),
+            (&[&["a"], &["b"]], 2),
+            (&[&["a;b"]], 4),
+            (&[&["a:b"]], 8),
         ],
+        4,
         "a:b 12\na;b 3\n",
-    ),
-    (
+    )],
+    &[(
         &[
-            (&[Some(("f", &[]))], 4294967295),
-            (&[Some(("g", &[]))], 4294967295),
-            (&[Some(("f", &[]))], 4294967295),
+            (&[&["f"]], 4294967295),
+            (&[&["g"]], 4294967295),
+            (&[&["f"]], 4294967295),
         ],
+        3,
         "f 8589934590\ng 4294967295\n",
-    ),
-    (
+    )],
+    &[(
         &[
-            (&[Some(("b", &[]))], 1),
-            (&[Some(("ab", &[]))], 2),
-            (&[Some(("ä", &[]))], 3),
-            (&[Some(("a", &[])), None], 4),
-            (&[Some(("a", &[]))], 5),
-            (&[Some(("B", &[]))], 6),
-            (&[Some(("a b", &[]))], 7),
+            (&[&["b"]], 1),
+            (&[&["ab"]], 2),
+            (&[&["ä"]], 3),
+            (&[&["a"], &[]], 4),
+            (&[&["a"]], 5),
+            (&[&["B"]], 6),
+            (&[&["a b"]], 7),
         ],
+        7,
         "B 6\na 5\na b 7\na;[unknown] 4\nab 2\nb 1\nä 3\n",
-    ),
+    )],
+    &[
+        (&[], 0, ""),
+        (
+            &[(&[&["f"]], 2), (&[&[], &["f", "g"]], 1)],
+            2,
+            "[unknown];f;g 1\nf 2\n",
+        ),
+        (
+            &[(&[&["f"]], 5), (&[&["e"]], 1)],
+            4,
+            "[unknown];f;g 1\ne 1\nf 7\n",
+        ),
+        (&[], 4, "[unknown];f;g 1\ne 1\nf 7\n"),
+    ],
 ];
 
-/// Stacks that are added one after the other, and their text at the end.
-const FIRST: [Row; 2] = [(&[Some(("f", &[]))], 2), (&[None, Some(("f", &["g"]))], 1)];
-
-const SECOND: [Row; 2] = [(&[Some(("f", &[]))], 5), (&[Some(("e", &[]))], 1)];
-
-#[test]
-fn writes_a_line_for_each_path(rt: HostRuntime) -> Result<(), Fail> {
-    for row in &TEXTS {
-        assert!(rt; fold_to(rt.alloc(), row.0, row.1)?, "of {:?}", row.1);
+/// The answer of these names. An unknown address has this reason.
+fn answer(alloc: Global, names: &[&'static str], reason: Reason) -> Result<Symbolized<'static>> {
+    let Some((name, calls)) = names.split_first() else {
+        return Ok(Symbolized::Unknown(reason));
+    };
+    let mut inlined = Vec::new(alloc);
+    for call in calls {
+        inlined.push(InlinedFn {
+            name: CowStr::Borrowed(*call),
+            code_info: None,
+        })?;
     }
-    Ok(())
+    Ok(Symbolized::Sym(Sym {
+        name: CowStr::Borrowed(*name),
+        module: None,
+        addr: 0,
+        offset: 0,
+        size: None,
+        code_info: None,
+        inlined,
+        public: false,
+    }))
 }
 
-/// Whether stacks go on being added after a text was asked for.
-fn goes_on(alloc: Global) -> Result<bool, Error> {
+/// The answers of a row. An unknown one at an odd place is an ignored error.
+fn answers(alloc: Global, row: &[Answered]) -> Result<Vec<Symbolized<'static>>> {
+    let mut answers = Vec::new(alloc);
+    for names in row {
+        let reason = if answers.len() % 2 == 0 {
+            Reason::UnknownAddr
+        } else {
+            Reason::IgnoredError
+        };
+        answers.push(answer(alloc, names, reason)?)?;
+    }
+    Ok(answers)
+}
+
+/// Adds a stack of this count, where there may be one more and each of its addresses has an answer. Says
+/// whether it was added.
+fn add(folded: &mut Folded, stack: &Stack, answers: &[Symbolized<'_>], count: u32) -> bool {
+    stack.count() == count
+        && answers.len() == stack.addrs().len()
+        && folded.stacks() < u32::MAX
+        && folded.add(stack, answers).is_ok()
+}
+
+/// Adds the stack of a row. Says whether it was added.
+fn add_row(alloc: Global, folded: &mut Folded, row: &Row) -> Result<bool> {
+    let stack = Stack::new(vec![in alloc; 0x1010; row.0.len()]?, row.1);
+    let answers = answers(alloc, row.0)?;
+    Ok(add(folded, &stack, &answers, row.1))
+}
+
+/// Whether the folded stacks are so many, with this text.
+fn reads(alloc: Global, folded: &Folded, stacks: u32, text: &str) -> bool {
+    match folded.text(alloc) {
+        Ok(written) => folded.stacks() == stacks && written.as_slice() == text.as_bytes(),
+        Err(_) => false,
+    }
+}
+
+/// Whether the stacks read so after each step.
+fn read_so(alloc: Global, folded: &mut Folded, steps: &[Step]) -> bool {
+    for step in steps {
+        for row in step.0 {
+            if add_row(alloc, folded, row) != Ok(true) {
+                return false;
+            }
+        }
+        if !reads(alloc, folded, step.1, step.2) {
+            return false;
+        }
+    }
+    true
+}
+
+/// Whether they do where nothing was folded before.
+fn holds(alloc: Global, steps: &[Step]) -> bool {
     let mut folded = Folded::new(alloc);
-    Ok(
-        reads(alloc, &folded, 0, "")?
-            && add_rows(alloc, &mut folded, &FIRST)?
-            && reads(alloc, &folded, 2, "[unknown];f;g 1\nf 2\n")?
-            && add_rows(alloc, &mut folded, &SECOND)?
-            && reads(alloc, &folded, 4, "[unknown];f;g 1\ne 1\nf 7\n")?
-            && reads(alloc, &folded, 4, "[unknown];f;g 1\ne 1\nf 7\n")?,
-    )
+    read_so(alloc, &mut folded, steps)
 }
 
 #[test]
-fn adds_after_a_text(rt: HostRuntime) -> Result<(), Fail> {
-    assert!(rt; goes_on(rt.alloc())?);
-    Ok(())
+fn writes_a_line_for_each_path(rt: HostRuntime) {
+    for steps in ROWS {
+        assert!(rt; holds(rt.alloc(), steps));
+    }
 }

@@ -4,10 +4,6 @@
 #[cfg(test)]
 mod asking;
 #[cfg(test)]
-mod folding;
-#[cfg(test)]
 mod frames;
-#[cfg(test)]
-mod of_files;
 #[cfg(test)]
 mod reading;

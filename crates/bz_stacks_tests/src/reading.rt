@@ -1,79 +1,73 @@
 //! Lines of stacks.
 
-use bz_stacks::{StackError, read_stacks};
-use std::alloc::Global;
-use std::test::Fail;
+use bz_stacks::{Stack, StackError, read_stacks};
+use std::alloc::{AllocError, Global};
 
-/// An input, how many stacks it says, and the addresses and the count of the last.
-const WELL_FORMED: [(&str, usize, &[u64], u32); 6] = [
-    ("10 1", 1, &[0x10], 1),
+/// An input; how many stacks it says, and the addresses and the count of the last; or, where it says no
+/// stacks, its first line that is none.
+type Row = (&'static str, usize, &'static [u64], u32, u64);
+
+const ROWS: &[Row] = &[
+    ("10 1", 1, &[0x10], 1, 0),
     (
         "\n1 2\r\n\r\n0x10 fFfFfFfFfFfFfFfF 3\n",
         2,
         &[0x10, u64::MAX],
         3,
+        0,
     ),
-    ("1 4294967295\n", 1, &[1], 4294967295),
-    ("1 0000000007\n", 1, &[1], 7),
-    ("10 0\n", 1, &[0x10], 0),
-    ("1 2 3 4\n", 1, &[1, 2, 3], 4),
+    ("1 4294967295\n", 1, &[1], 4294967295, 0),
+    ("1 0000000007\n", 1, &[1], 7, 0),
+    ("10 0\n", 1, &[0x10], 0, 0),
+    ("1 2 3 4\n", 1, &[1, 2, 3], 4, 0),
+    ("1\n", 0, &[], 0, 1),
+    ("1 1\n\n2\nx\n", 0, &[], 0, 3),
+    ("1 4294967296\n", 0, &[], 0, 1),
+    ("1 00000000007\n", 0, &[], 0, 1),
+    ("1 a\n", 0, &[], 0, 1),
+    ("1 0x1\n", 0, &[], 0, 1),
+    ("1 -1\n", 0, &[], 0, 1),
+    ("1  1\n", 0, &[], 0, 1),
+    (" 1 1\n", 0, &[], 0, 1),
+    ("1 1 \n", 0, &[], 0, 1),
+    ("1\t1\n", 0, &[], 0, 1),
+    ("x 1\n", 0, &[], 0, 1),
+    ("1 x 1\n", 0, &[], 0, 1),
+    ("1 1\r\r\n", 0, &[], 0, 1),
 ];
 
-/// An input, and its first line that is no stack.
-const BAD: [(&str, u64); 14] = [
-    ("1\n", 1),
-    ("1 1\n\n2\nx\n", 3),
-    ("1 4294967296\n", 1),
-    ("1 00000000007\n", 1),
-    ("1 a\n", 1),
-    ("1 0x1\n", 1),
-    ("1 -1\n", 1),
-    ("1  1\n", 1),
-    (" 1 1\n", 1),
-    ("1 1 \n", 1),
-    ("1\t1\n", 1),
-    ("x 1\n", 1),
-    ("1 x 1\n", 1),
-    ("1 1\r\r\n", 1),
-];
-
-/// Whether the input says so many stacks, with this one at its end.
-fn says(alloc: Global, text: &str, count: usize, addrs: &[u64], last: u32) -> bool {
-    match read_stacks(alloc, text.as_bytes()) {
-        Ok(stacks) => match stacks.last() {
-            Some(stack) => {
-                stacks.len() == count && stack.addrs() == addrs && stack.count() == last
-            }
-            None => false,
-        },
-        Err(_) => false,
+/// Whether the stacks are as many as the row says, with its one at the end.
+fn are_said(stacks: &[Stack], row: &Row) -> bool {
+    match stacks.last() {
+        Some(stack) => { stacks.len() == row.1 && stack.addrs() == row.2 && stack.count() == row.3 }
+        None => false,
     }
 }
 
-/// Whether the input is refused at this line.
-fn is_bad_at(alloc: Global, text: &str, line: u64) -> bool {
-    match read_stacks(alloc, text.as_bytes()) {
-        Err(StackError::Line(number)) => number == line,
-        _ => false,
+/// Whether the row's input says its stacks, or is refused at its line.
+fn holds(alloc: Global, row: &Row) -> bool {
+    match read_stacks(alloc, row.0.as_bytes()) {
+        Ok(stacks) => are_said(&stacks, row),
+        Err(StackError::Line(number)) => row.1 == 0 && number == row.4,
+        Err(StackError::OutOfMemory) => false,
     }
 }
 
 #[test]
-fn reads_stacks_of_lines(rt: HostRuntime) -> Result<(), Fail> {
-    for row in &WELL_FORMED {
-        assert!(rt;
-            says(rt.alloc(), row.0, row.1, row.2, row.3),
-            "of {:?}",
-            row.0
-        );
+fn reads_stacks_or_names_the_first_bad_line(rt: HostRuntime) {
+    for row in ROWS {
+        assert!(rt; holds(rt.alloc(), row));
     }
-    Ok(())
+}
+
+/// Whether this is the message of a bad line.
+fn is_message(alloc: Global, error: StackError, expected: &str) -> Result<bool, AllocError> {
+    let mut message = String::new(alloc);
+    write!(message, "{error}")?;
+    Ok(message.as_str() == expected)
 }
 
 #[test]
-fn names_the_first_bad_line(rt: HostRuntime) -> Result<(), Fail> {
-    for row in &BAD {
-        assert!(rt; is_bad_at(rt.alloc(), row.0, row.1), "of {:?}", row.0);
-    }
-    Ok(())
+fn names_a_bad_line_by_its_number(rt: HostRuntime) {
+    assert!(rt; is_message(rt.alloc(), StackError::Line(16), "line 16 is no stack") == Ok(true));
 }

@@ -2,8 +2,4 @@
 #![tactic(auto)]
 
 #[cfg(test)]
-mod asking;
-#[cfg(test)]
-mod frames;
-#[cfg(test)]
-mod keeping;
+mod courses;

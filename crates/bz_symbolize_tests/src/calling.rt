@@ -10,7 +10,7 @@ ghost use Rattle.bz_process.specs.Process.{unsaid};
 ghost use Rattle.bz_symbolize.specs.Promise.{IsBreakpadBatch};
 ghost use Rattle.bz_symbolize.specs.State.{default_settings, opts_of};
 
-use crate::asking::put;
+use crate::steps::put;
 use bz_base::{CodeInfo, InlinedFn, Input, Result, Symbolized};
 use bz_files::{Files, MemFiles};
 use bz_symbolize::source::{Breakpad, Process, Source};

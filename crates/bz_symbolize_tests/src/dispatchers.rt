@@ -3,8 +3,9 @@
 ghost use Rattle.std.specs.Prelude.{IfErr};
 ghost use Rattle.bz_process.specs.Member.{MayRefuseMember};
 
-use crate::asking::{is_unknown, put};
-use bz_base::{Error, Input, Reason, Result, Symbolized};
+use crate::steps::put;
+use crate::told::{Told, are_told};
+use bz_base::{Error, Input, Reason, Result};
 use bz_elf::ElfResolver;
 use bz_files::MemFiles;
 use bz_samples::ELF_FUNCTION;
@@ -50,45 +51,48 @@ const THREE: &[u8] =
 /// In the part with a resolver, in the other one, and in the file, which isn't an ELF file.
 const ADDRS: &[u64] = &[0x5088, 0x7008, 0x1004];
 
-/// Whether the answer is `f`, 8 bytes past its start, in the resolver's file.
-fn is_of_resolver(answer: &Symbolized<'_>) -> bool {
-    let Some(symbol) = answer.as_sym() else {
-        return false;
-    };
-    let Some(module) = &symbol.module else {
-        return false;
-    };
-    symbol.name.as_str() == "f" && symbol.offset == 8 && module.as_str() == "/vdso.so"
-}
+/// What is told of them.
+const TOLD: &[Told] = &[
+    Told::InModule("/vdso.so"),
+    Told::Unknown(Reason::IgnoredError),
+    Told::Unknown(Reason::IgnoredError),
+];
 
-fn are_answered(answers: &[Symbolized<'_>]) -> bool {
-    answers.len() == 3
-        && is_of_resolver(&answers[0])
-        && is_unknown(&answers[1], Reason::IgnoredError)
-        && is_unknown(&answers[2], Reason::IgnoredError)
-}
-
-/// Whether a batch and an address alone are answered and refused so.
+/// Whether the batch is answered so.
 fn asks_resolver(
     alloc: Global,
     symbolizer: &mut Symbolizer<ForVdso>,
     files: &mut MemFiles,
     src: &Source<'_>,
-) -> Result<bool> {
-    let answers = symbolizer.symbolize(alloc, files, src, Input::AbsAddr(ADDRS))?;
-    match symbolizer.symbolize_single(alloc, files, src, Input::AbsAddr(0x7008)) {
-        Ok(_) => Ok(false),
-        Err(error) => Ok(error == Error::NotFound && are_answered(answers.as_slice())),
+) -> bool {
+    match symbolizer.symbolize(alloc, files, src, Input::AbsAddr(ADDRS)) {
+        Ok(answers) => are_told(answers.as_slice(), TOLD),
+        Err(_) => false,
     }
 }
 
+/// Whether an address in the part without a resolver is refused alone.
+fn refuses_alone(
+    alloc: Global,
+    symbolizer: &mut Symbolizer<ForVdso>,
+    files: &mut MemFiles,
+    src: &Source<'_>,
+) -> bool {
+    match symbolizer.symbolize_single(alloc, files, src, Input::AbsAddr(0x7008)) {
+        Ok(_) => false,
+        Err(refusal) => refusal == Error::NotFound,
+    }
+}
+
+/// Whether both hold of a symbolizer with the dispatcher.
 fn resolver_answers(alloc: Global) -> bool {
     let mut files = MemFiles::new(alloc, 0);
     let mut symbolizer = Builder::new().set_process_dispatcher(ForVdso).build(alloc);
     let src = Source::from(Process::new(Pid::from(7)));
     put(alloc, &mut files, "/proc/7/maps", THREE)
         && put(alloc, &mut files, "/proc/7/map_files/1000-2000", b"\x7fELF")
-        && asks_resolver(alloc, &mut symbolizer, &mut files, &src) == Ok(true)
+        && asks_resolver(alloc, &mut symbolizer, &mut files, &src)
+        && refuses_alone(alloc, &mut symbolizer, &mut files, &src)
 }
 
 #[test]

@@ -1,13 +1,16 @@
 //! ELF files.
 
-use crate::asking::{Expected, answers, is_unknown, looks_up, put};
-use crate::trials::{Trial, holds};
-use bz_base::{Error, Input, Reason, Result, Sym, Symbolized};
+use crate::asking::Asked::{Batch, LookedUp, Single};
+use crate::asking::Subject::Elf;
+use crate::steps::Step::{Ask, Link, Opens, Put, Register};
+use crate::steps::{Script, hold};
+use crate::told::Told;
+use crate::told::Told::{InModule, Named, Refused, Unknown};
+use bz_base::{Error, Input, Reason, Result};
 use bz_elf::ElfResolver;
 use bz_files::MemFiles;
 use bz_samples::ELF_FUNCTION;
 use bz_symbolize::Symbolizer;
-use bz_symbolize::source::{Elf, Source};
 use std::alloc::Global;
 use std::rc::Rc;
 
@@ -19,212 +22,62 @@ const NO_SYMBOLS: [u8; 64] = [
     0x00, 0x00, 0x00, 0x00, 0x00, 0x00, 0x00, 0x00, 0x00, 0x00, 0x00, 0x00, 0x00, 0x00, 0x00, 0x00,
 ];
 
-/// Puts the files, and at `/l` the one at `/e` under the same stamp; what is at `/d` isn't an ELF file.
-/// Says whether memory was left.
-fn put_files(alloc: Global, files: &mut MemFiles) -> bool {
-    put(alloc, files, "/e", &ELF_FUNCTION)
-        && put(alloc, files, "/n", &NO_SYMBOLS)
-        && put(alloc, files, "/d", b"\x7fELF")
-        && files.link(alloc, "/l", "/e").is_ok()
-}
-
-/// The ELF file at a path.
-fn source(alloc: Global, path: &str) -> Result<Source<'static>> {
-    Ok(Source::from(Elf::new(String::from_str(alloc, path)?)))
-}
-
-/// What is told of an address.
-enum Told {
-    /// The symbol `f`, 8 bytes past its start, with the path of the file as its module.
-    Symbol,
-    /// Why there is no symbol.
-    Unknown(Reason),
-    /// Why it is refused.
-    Refused(Error),
-}
-
-/// The path of a file, an address, and what is told of it.
-type Row = (&'static str, Input<u64>, Told);
-
-const TOLD: [Row; 11] = [
-    ("/e", Input::VirtOffset(0x400088), Told::Symbol),
-    ("/e", Input::FileOffset(0x88), Told::Symbol),
-    ("/l", Input::VirtOffset(0x400088), Told::Symbol),
-    (
-        "/e",
-        Input::VirtOffset(0x400090),
-        Told::Unknown(Reason::UnknownAddr),
-    ),
-    (
-        "/e",
-        Input::FileOffset(0x200),
-        Told::Unknown(Reason::InvalidFileOffset),
-    ),
-    (
-        "/e",
-        Input::AbsAddr(0x400088),
-        Told::Refused(Error::Unsupported),
-    ),
-    (
-        "/n",
-        Input::VirtOffset(0x400088),
-        Told::Unknown(Reason::MissingSyms),
-    ),
-    (
-        "/n",
-        Input::FileOffset(0x88),
-        Told::Unknown(Reason::InvalidFileOffset),
-    ),
-    (
-        "/d",
-        Input::AbsAddr(0x400088),
-        Told::Refused(Error::InvalidData),
-    ),
-    (
-        "/x",
-        Input::AbsAddr(0x400088),
-        Told::Refused(Error::NotFound),
-    ),
-    (
-        "/x",
-        Input::VirtOffset(0x400088),
-        Told::Refused(Error::NotFound),
-    ),
+/// The files, and at `/l` the one at `/e` under the same stamp; what is at `/d` isn't an ELF file.
+const FILES: Script = &[
+    Put("/e", &ELF_FUNCTION),
+    Put("/n", &NO_SYMBOLS),
+    Put("/d", b"\x7fELF"),
+    Link("/l", "/e"),
 ];
 
-/// Whether the symbol is `f`, 8 bytes past its start, in this module.
-fn is_symbol(symbol: &Sym<'_>, path: &str) -> bool {
-    let Some(module) = &symbol.module else {
-        return false;
-    };
-    symbol.name.as_str() == "f" && symbol.offset == 8 && module.as_str() == path
-}
+/// An address in the function, as the symbol table has it.
+const IN_FUNCTION: Input<u64> = Input::VirtOffset(0x400088);
 
-/// Whether the answer is what is told.
-fn is_told(answer: &Symbolized<'_>, path: &str, told: &Told) -> bool {
-    match told {
-        Told::Symbol => is_symbol_of(answer, path),
-        Told::Unknown(reason) => is_unknown(answer, *reason),
-        Told::Refused(_) => false,
-    }
-}
+/// The same address of a process.
+const IN_PROCESS: Input<u64> = Input::AbsAddr(0x400088);
 
-/// Whether the answer is `f`, 8 bytes past its start, in this module.
-fn is_symbol_of(answer: &Symbolized<'_>, path: &str) -> bool {
-    match answer.as_sym() {
-        Some(symbol) => is_symbol(symbol, path),
-        None => false,
-    }
-}
-
-/// Whether the refusal is what is told.
-fn is_told_refusal(refusal: &Error, told: &Told) -> bool {
-    match told {
-        Told::Refused(expected) => *refusal == *expected,
-        _ => false,
-    }
-}
-
-/// Whether the row's address is answered as it tells, of this source.
-fn tells_row(
-    alloc: Global,
-    symbolizer: &mut Symbolizer,
-    files: &mut MemFiles,
-    src: &Source<'_>,
-    row: &Row,
-) -> bool {
-    match symbolizer.symbolize_single(alloc, files, src, row.1) {
-        Ok(answer) => is_told(&answer, row.0, &row.2),
-        Err(refusal) => is_told_refusal(&refusal, &row.2),
-    }
-}
-
-/// Whether the row's address is answered as it tells.
-fn answers_row(
-    alloc: Global,
-    symbolizer: &mut Symbolizer,
-    files: &mut MemFiles,
-    row: &Row,
-) -> bool {
-    match source(alloc, row.0) {
-        Ok(src) => tells_row(alloc, symbolizer, files, &src, row),
-        Err(_) => false,
-    }
-}
-
-/// Whether all rows are answered so, one after the other.
-fn answers_rows(
-    alloc: Global,
-    symbolizer: &mut Symbolizer,
-    files: &mut MemFiles,
-    rows: &[Row],
-) -> bool {
-    for row in rows {
-        if !answers_row(alloc, symbolizer, files, row) {
-            return false;
-        }
-    }
-    true
-}
-
-/// Whether the rows of all kinds of address are answered so, and each file is read once.
-pub(crate) fn answers_each_kind(
-    alloc: Global,
-    symbolizer: &mut Symbolizer,
-    files: &mut MemFiles,
-) -> bool {
-    put_files(alloc, files) && answers_rows(alloc, symbolizer, files, &TOLD) && files.opens() == 3
-}
-
-#[test]
-fn answers_elf_addresses_by_their_kind(rt: HostRuntime) {
-    assert!(rt; holds(rt.alloc(), source(rt.alloc(), "/e"), &Trial::ElfKinds));
-}
+/// Addresses are answered by their kind, and each file is read once.
+const KINDS: Script = &[
+    Ask(Elf("/e"), Single(IN_FUNCTION, InModule("/e"))),
+    Ask(Elf("/e"), Single(Input::FileOffset(0x88), InModule("/e"))),
+    Ask(Elf("/l"), Single(IN_FUNCTION, InModule("/l"))),
+    Ask(
+        Elf("/e"),
+        Single(Input::VirtOffset(0x400090), Unknown(Reason::UnknownAddr)),
+    ),
+    Ask(
+        Elf("/e"),
+        Single(Input::FileOffset(0x200), Unknown(Reason::InvalidFileOffset)),
+    ),
+    Ask(Elf("/e"), Single(IN_PROCESS, Refused(Error::Unsupported))),
+    Ask(Elf("/n"), Single(IN_FUNCTION, Unknown(Reason::MissingSyms))),
+    Ask(
+        Elf("/n"),
+        Single(Input::FileOffset(0x88), Unknown(Reason::InvalidFileOffset)),
+    ),
+    Ask(Elf("/d"), Single(IN_PROCESS, Refused(Error::InvalidData))),
+    Ask(Elf("/x"), Single(IN_PROCESS, Refused(Error::NotFound))),
+    Ask(Elf("/x"), Single(IN_FUNCTION, Refused(Error::NotFound))),
+    Opens(3),
+];
 
 /// A file offset that no segment has, and one in the function.
-const OFFSETS: &[u64] = &[0x200, 0x88];
+const OFFSETS: Input<&[u64]> = Input::FileOffset(&[0x200, 0x88]);
 
-const SECOND: Expected = (Reason::InvalidFileOffset, "f");
+/// What is told of them.
+const OF_OFFSETS: &[Told] = &[Unknown(Reason::InvalidFileOffset), Named("f")];
 
-/// Whether the offsets, looked up, are answered as expected.
-fn looks_offsets_up(
-    alloc: Global,
-    symbolizer: &mut Symbolizer,
-    files: &mut MemFiles,
-    src: &Source<'_>,
-) -> bool {
-    match Vec::from_slice(alloc, OFFSETS) {
-        Ok(addrs) => {
-            let input = Input::FileOffset(addrs);
-            looks_up(alloc, symbolizer, files, src, input, SECOND)
-        }
-        Err(_) => false,
-    }
-}
-
-/// Whether the file of a function answers the offsets, at once and looked up.
-pub(crate) fn answers_offsets(
-    alloc: Global,
-    symbolizer: &mut Symbolizer,
-    files: &mut MemFiles,
-    src: &Source<'_>,
-) -> bool {
-    let input = Input::FileOffset(OFFSETS);
-    put_files(alloc, files)
-        && answers(alloc, symbolizer, files, src, input, SECOND)
-        && looks_offsets_up(alloc, symbolizer, files, src)
-}
-
-#[test]
-fn answers_batches_of_file_offsets(rt: HostRuntime) {
-    assert!(rt; holds(rt.alloc(), source(rt.alloc(), "/e"), &Trial::ElfOffsets));
-}
+/// The offsets are answered at once and looked up.
+const BATCHES: Script = &[
+    Ask(Elf("/e"), Batch(OFFSETS, OF_OFFSETS)),
+    Ask(Elf("/e"), LookedUp(OFFSETS, OF_OFFSETS)),
+];
 
 /// A path, and what registering the file of a function there is refused by.
-type Registration = (&'static str, Option<Error>);
+pub(crate) type Registration = (&'static str, Option<Error>);
 
 /// One after the other. `/d` has other bytes, and `/l` the stamp of `/e`.
-const REGISTERED: [Registration; 5] = [
+const REGISTERED: &[Registration] = &[
     ("/e", None),
     ("/e", Some(Error::AlreadyExists)),
     ("/l", Some(Error::AlreadyExists)),
@@ -232,10 +85,13 @@ const REGISTERED: [Registration; 5] = [
     ("/d", None),
 ];
 
-const UNREAD: [Row; 3] = [
-    ("/e", Input::VirtOffset(0x400088), Told::Symbol),
-    ("/l", Input::VirtOffset(0x400088), Told::Symbol),
-    ("/d", Input::VirtOffset(0x400088), Told::Symbol),
+/// What is registered answers, and no file is read.
+const UNREAD: Script = &[
+    Register(REGISTERED),
+    Ask(Elf("/e"), Single(IN_FUNCTION, InModule("/e"))),
+    Ask(Elf("/l"), Single(IN_FUNCTION, InModule("/l"))),
+    Ask(Elf("/d"), Single(IN_FUNCTION, InModule("/d"))),
+    Opens(0),
 ];
 
 /// The resolver of the file of a function.
@@ -261,32 +117,38 @@ fn registers(
     }
 }
 
-/// Whether registering it at all paths, one after the other, is refused so.
-fn registers_all(alloc: Global, symbolizer: &mut Symbolizer, files: &mut MemFiles) -> bool {
-    let Ok(resolver) = resolver(alloc) else {
-        return false;
-    };
-    for row in &REGISTERED {
-        if !registers(alloc, symbolizer, files, &resolver, row) {
+/// Whether registering it at the paths, one after the other, is refused so.
+fn registers_each(
+    alloc: Global,
+    symbolizer: &mut Symbolizer,
+    files: &mut MemFiles,
+    resolver: &Rc<ElfResolver>,
+    rows: &[Registration],
+) -> bool {
+    for row in rows {
+        if !registers(alloc, symbolizer, files, resolver, row) {
             return false;
         }
     }
     true
 }
 
-/// Whether what is registered then answers, and no file is read.
-pub(crate) fn answers_unread(
+/// Whether registering the resolver of the file of a function is refused so.
+pub(crate) fn registers_all(
     alloc: Global,
     symbolizer: &mut Symbolizer,
     files: &mut MemFiles,
+    rows: &[Registration],
 ) -> bool {
-    put_files(alloc, files)
-        && registers_all(alloc, symbolizer, files)
-        && answers_rows(alloc, symbolizer, files, &UNREAD)
-        && files.opens() == 0
+    match resolver(alloc) {
+        Ok(resolver) => registers_each(alloc, symbolizer, files, &resolver, rows),
+        Err(_) => false,
+    }
 }
 
 #[test]
-fn registered_files_answer_unread(rt: HostRuntime) {
-    assert!(rt; holds(rt.alloc(), source(rt.alloc(), "/e"), &Trial::ElfRegistered));
+fn answers_elf_files(rt: HostRuntime) {
+    assert!(rt; hold(rt.alloc(), &[FILES, KINDS]));
+    assert!(rt; hold(rt.alloc(), &[FILES, BATCHES]));
+    assert!(rt; hold(rt.alloc(), &[FILES, UNREAD]));
 }

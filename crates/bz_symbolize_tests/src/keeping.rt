@@ -1,288 +1,221 @@
 //! What a symbolizer keeps ahead of addresses, and what it forgets.
 
-use crate::asking::{answers_single, is_unknown, put, without_features};
-use crate::process::{process, put_process};
+use crate::asking::Asked::Single;
+use crate::asking::Subject::{Elf, Process};
+use crate::asking::{Asked, Subject};
+use crate::process::FILES;
+use crate::steps::Step::{
+    Ask, AskWithoutFiles, Fail, Faults, Forget, Keep, NoFiles, Opens, Put, Remove, SetNothing,
+};
+use crate::steps::{Script, hold};
+use crate::told::Told::{Named, Refused, Unknown};
 use bz_base::{Error, Input, Reason, Result};
 use bz_files::MemFiles;
 use bz_samples::ELF_FUNCTION;
 use bz_symbolize::cache::{Cache, Elf as ElfToKeep, Process as ProcessToKeep};
 use bz_symbolize::evict::{Elf as ElfToForget, Evict, Process as ProcessToForget};
-use bz_symbolize::source::{Elf, Source};
 use bz_symbolize::{Pid, Symbolizer};
 use std::alloc::Global;
 
-/// The ELF file at `/e`.
-fn elf(alloc: Global) -> Result<Source<'static>> {
-    Ok(Source::from(Elf::new(String::from_str(alloc, "/e")?)))
+/// What is kept or forgotten.
+pub(crate) enum Kept {
+    /// The ELF file at the path.
+    File(&'static str),
+    /// The process of this number, which is the own one for 0, by a new request.
+    Process(u32),
+    /// The same by a request for its mappings or not, and for its perf map or not.
+    Parts(u32, bool, bool),
 }
 
-/// Keeps the ELF file at `/e`.
-fn keep_elf(alloc: Global, symbolizer: &mut Symbolizer, files: &mut MemFiles) -> Result<()> {
-    let request = Cache::from(ElfToKeep::new(String::from_str(alloc, "/e")?));
-    symbolizer.cache(alloc, files, &request)
+/// The process of this number, with those parts that are asked for.
+fn parts_to_keep(number: u32, cache_vmas: bool, cache_perf_map: bool) -> Cache {
+    let mut process = ProcessToKeep::new(Pid::from(number));
+    process.cache_vmas = cache_vmas;
+    process.cache_perf_map = cache_perf_map;
+    Cache::from(process)
 }
 
-/// Forgets the ELF file at `/e`.
-fn forget_elf(alloc: Global, symbolizer: &mut Symbolizer) -> Result<()> {
-    let request = Evict::from(ElfToForget::new(String::from_str(alloc, "/e")?));
-    symbolizer.evict(&request)
+/// The request to keep it.
+pub(crate) fn to_keep(alloc: Global, kept: &Kept) -> Result<Cache> {
+    Ok(match kept {
+        Kept::File(path) => Cache::from(ElfToKeep::new(String::from_str(alloc, path)?)),
+        Kept::Process(number) => Cache::from(ProcessToKeep::new(Pid::from(*number))),
+        Kept::Parts(number, vmas, perf_map) => parts_to_keep(*number, *vmas, *perf_map),
+    })
 }
 
-/// Keeps what may be kept of process 7.
-fn keep_process(alloc: Global, symbolizer: &mut Symbolizer, files: &mut MemFiles) -> Result<()> {
-    let request = Cache::from(ProcessToKeep::new(Pid::from(7)));
-    symbolizer.cache(alloc, files, &request)
+/// The request to forget it.
+pub(crate) fn to_forget(alloc: Global, kept: &Kept) -> Result<Evict> {
+    Ok(match kept {
+        Kept::File(path) => Evict::from(ElfToForget::new(String::from_str(alloc, path)?)),
+        Kept::Process(number) | Kept::Parts(number, _, _) => {
+            Evict::from(ProcessToForget::new(Pid::from(*number)))
+        }
+    })
 }
 
-/// Forgets process 7.
-fn forget_process(symbolizer: &mut Symbolizer) -> Result<()> {
-    let request = Evict::from(ProcessToForget::new(Pid::from(7)));
-    symbolizer.evict(&request)
-}
-
-/// Whether the function of the ELF file answers, or the file is refused so.
-fn answers_elf(
+/// Whether keeping it is refused so, or isn't refused.
+pub(crate) fn keeps(
     alloc: Global,
     symbolizer: &mut Symbolizer,
     files: &mut MemFiles,
-    src: &Source<'_>,
+    kept: &Kept,
     refused: Option<Error>,
 ) -> bool {
-    let input = Input::VirtOffset(0x400088);
-    answers_single(alloc, symbolizer, files, src, input, "f", refused)
-}
-
-/// Whether a file that was asked and has other bytes now isn't pinned by a request that is refused.
-fn is_left_unpinned(
-    alloc: Global,
-    symbolizer: &mut Symbolizer,
-    files: &mut MemFiles,
-    src: &Source<'_>,
-) -> bool {
-    put(alloc, files, "/e", &ELF_FUNCTION)
-        && answers_elf(alloc, symbolizer, files, src, None)
-        && put(alloc, files, "/e", b"\x7fELF")
-        && keep_elf(alloc, symbolizer, files) == Err(Error::InvalidData)
-        && files.remove("/e")
-        && answers_elf(alloc, symbolizer, files, src, Some(Error::NotFound))
-}
-
-/// Whether a file that is kept answers without it, also after a refused request, until it is forgotten.
-fn is_kept_until_forgotten(
-    alloc: Global,
-    symbolizer: &mut Symbolizer,
-    files: &mut MemFiles,
-    src: &Source<'_>,
-) -> bool {
-    put(alloc, files, "/e", &ELF_FUNCTION)
-        && keep_elf(alloc, symbolizer, files) == Ok(())
-        && files.remove("/e")
-        && answers_elf(alloc, symbolizer, files, src, None)
-        && keep_elf(alloc, symbolizer, files) == Err(Error::NotFound)
-        && answers_elf(alloc, symbolizer, files, src, None)
-        && forget_elf(alloc, symbolizer) == Ok(())
-        && answers_elf(alloc, symbolizer, files, src, Some(Error::NotFound))
-}
-
-fn keeps_an_elf_file(alloc: Global) -> Result<bool> {
-    let mut files = MemFiles::new(alloc, 0);
-    let mut symbolizer = Symbolizer::new(alloc);
-    let src = elf(alloc)?;
-    Ok(
-        is_left_unpinned(alloc, &mut symbolizer, &mut files, &src)
-            && is_kept_until_forgotten(alloc, &mut symbolizer, &mut files, &src),
-    )
-}
-
-#[test]
-fn an_elf_file_answers_without_it_until_it_is_forgotten(rt: HostRuntime) {
-    assert!(rt; keeps_an_elf_file(rt.alloc()) == Ok(true));
-}
-
-/// Whether a file that is held and isn't looked at anew is kept as it is, and none is read.
-fn is_kept_as_held(
-    alloc: Global,
-    symbolizer: &mut Symbolizer,
-    files: &mut MemFiles,
-    src: &Source<'_>,
-) -> bool {
-    put(alloc, files, "/e", &ELF_FUNCTION)
-        && answers_elf(alloc, symbolizer, files, src, None)
-        && put(alloc, files, "/e", b"\x7fELF")
-        && keep_elf(alloc, symbolizer, files) == Ok(())
-        && files.opens() == 1
-        && answers_elf(alloc, symbolizer, files, src, None)
-}
-
-fn keeps_as_held(alloc: Global) -> Result<bool> {
-    let mut files = MemFiles::new(alloc, 0);
-    let mut symbolizer = without_features(alloc);
-    let src = elf(alloc)?;
-    Ok(is_kept_as_held(alloc, &mut symbolizer, &mut files, &src))
-}
-
-#[test]
-fn a_file_that_is_not_looked_at_anew_is_kept_as_it_is_held(rt: HostRuntime) {
-    assert!(rt; keeps_as_held(rt.alloc()) == Ok(true));
-}
-
-/// Whether the perf map of process 7 answers though no file is there, or the process is refused so.
-fn answers_alone(alloc: Global, symbolizer: &mut Symbolizer, refused: Option<Error>) -> bool {
-    let mut none = MemFiles::new(alloc, 0);
-    let input = Input::AbsAddr(0x3008);
-    answers_single(
-        alloc,
-        symbolizer,
-        &mut none,
-        &process(),
-        input,
-        "jit",
-        refused,
-    )
-}
-
-/// Whether a process that is kept answers without its files, also after a refused request, until it is
-/// forgotten.
-fn is_process_kept(alloc: Global, symbolizer: &mut Symbolizer, files: &mut MemFiles) -> bool {
-    put_process(alloc, files)
-        && keep_process(alloc, symbolizer, files) == Ok(())
-        && answers_alone(alloc, symbolizer, None)
-        && put(alloc, files, "/proc/7/maps", b"x\n")
-        && keep_process(alloc, symbolizer, files) == Err(Error::InvalidData)
-        && answers_alone(alloc, symbolizer, None)
-        && forget_process(symbolizer) == Ok(())
-        && answers_alone(alloc, symbolizer, Some(Error::NotFound))
-}
-
-fn keeps_a_process(alloc: Global) -> bool {
-    let mut files = MemFiles::new(alloc, 0);
-    let mut symbolizer = Symbolizer::new(alloc);
-    is_process_kept(alloc, &mut symbolizer, &mut files)
-}
-
-#[test]
-fn a_process_answers_without_its_files_until_it_is_forgotten(rt: HostRuntime) {
-    assert!(rt; keeps_a_process(rt.alloc()));
-}
-
-/// Keeps what is asked for of process 7.
-fn keep_parts(
-    alloc: Global,
-    symbolizer: &mut Symbolizer,
-    files: &mut MemFiles,
-    cache_vmas: bool,
-    cache_perf_map: bool,
-) -> Result<()> {
-    let mut request = ProcessToKeep::new(Pid::from(7));
-    request.cache_vmas = cache_vmas;
-    request.cache_perf_map = cache_perf_map;
-    symbolizer.cache(alloc, files, &Cache::from(request))
-}
-
-/// Whether the perf map alone is kept where it alone is asked for, and nothing is read where nothing is.
-fn are_parts_kept(alloc: Global, symbolizer: &mut Symbolizer, files: &mut MemFiles) -> bool {
-    put_process(alloc, files)
-        && keep_parts(alloc, symbolizer, files, false, false) == Ok(())
-        && files.opens() == 0
-        && keep_parts(alloc, symbolizer, files, false, true) == Ok(())
-        && answers_alone(alloc, symbolizer, Some(Error::NotFound))
-        && keep_parts(alloc, symbolizer, files, true, false) == Ok(())
-        && answers_alone(alloc, symbolizer, None)
-}
-
-fn keeps_parts(alloc: Global) -> bool {
-    let mut files = MemFiles::new(alloc, 0);
-    let mut symbolizer = Symbolizer::new(alloc);
-    are_parts_kept(alloc, &mut symbolizer, &mut files)
-}
-
-#[test]
-fn what_is_asked_for_of_a_process_is_kept(rt: HostRuntime) {
-    assert!(rt; keeps_parts(rt.alloc()));
-}
-
-/// Whether an address outside the mappings that were kept of process 7 has none.
-fn is_unmapped(alloc: Global, symbolizer: &mut Symbolizer) -> bool {
-    let mut none = MemFiles::new(alloc, 0);
-    match symbolizer.symbolize_single(alloc, &mut none, &process(), Input::AbsAddr(0x4008)) {
-        Ok(answer) => is_unknown(&answer, Reason::Unmapped),
+    match to_keep(alloc, kept) {
+        Ok(request) => symbolizer.cache(alloc, files, &request).err() == refused,
         Err(_) => false,
     }
 }
 
-/// Whether the ELF file at `/e` answers though it isn't there.
-fn is_pinned(alloc: Global, symbolizer: &mut Symbolizer, src: &Source<'_>) -> bool {
-    let mut none = MemFiles::new(alloc, 0);
-    answers_elf(alloc, symbolizer, &mut none, src, None)
+/// Whether it is forgotten.
+pub(crate) fn forgets(alloc: Global, symbolizer: &mut Symbolizer, kept: &Kept) -> bool {
+    match to_forget(alloc, kept) {
+        Ok(request) => symbolizer.evict(&request).is_ok(),
+        Err(_) => false,
+    }
 }
 
-/// Puts other files of process 7 than the first ones. Says whether memory was left.
-fn put_later(alloc: Global, files: &mut MemFiles) -> bool {
-    put(
+const FILE: Kept = Kept::File("/e");
+
+/// The function of the ELF file answers.
+const ANSWERS: Asked = Single(Input::VirtOffset(0x400088), Named("f"));
+
+/// The ELF file is absent.
+const ABSENT: Asked = Single(Input::VirtOffset(0x400088), Refused(Error::NotFound));
+
+/// A file that was asked and has other bytes now isn't pinned by a request that is refused.
+const LEFT_UNPINNED: Script = &[
+    Put("/e", &ELF_FUNCTION),
+    Ask(Elf("/e"), ANSWERS),
+    Put("/e", b"\x7fELF"),
+    Keep(FILE, Some(Error::InvalidData)),
+    Remove("/e"),
+    Ask(Elf("/e"), ABSENT),
+];
+
+/// A file that is kept answers without it, also after a refused request, until it is forgotten.
+const KEPT_UNTIL_FORGOTTEN: Script = &[
+    Put("/e", &ELF_FUNCTION),
+    Keep(FILE, None),
+    Remove("/e"),
+    Ask(Elf("/e"), ANSWERS),
+    Keep(FILE, Some(Error::NotFound)),
+    Ask(Elf("/e"), ANSWERS),
+    Forget(FILE),
+    Ask(Elf("/e"), ABSENT),
+];
+
+/// A file that is held and isn't looked at anew is kept as it is, and none is read.
+const KEPT_AS_HELD: Script = &[
+    SetNothing,
+    Put("/e", &ELF_FUNCTION),
+    Ask(Elf("/e"), ANSWERS),
+    Put("/e", b"\x7fELF"),
+    Keep(FILE, None),
+    Opens(1),
+    Ask(Elf("/e"), ANSWERS),
+];
+
+const PROCESS: Kept = Kept::Process(7);
+
+/// The perf map of process 7 answers.
+const ANSWERS_JIT: Asked = Single(Input::AbsAddr(0x3008), Named("jit"));
+
+/// The process is absent.
+const ABSENT_PROCESS: Asked = Single(Input::AbsAddr(0x3008), Refused(Error::NotFound));
+
+/// A process that is kept answers without its files, also after a refused request, until it is
+/// forgotten.
+const PROCESS_KEPT: Script = &[
+    Keep(PROCESS, None),
+    AskWithoutFiles(Process(7), ANSWERS_JIT),
+    Put("/proc/7/maps", b"x\n"),
+    Keep(PROCESS, Some(Error::InvalidData)),
+    AskWithoutFiles(Process(7), ANSWERS_JIT),
+    Forget(PROCESS),
+    AskWithoutFiles(Process(7), ABSENT_PROCESS),
+];
+
+/// The perf map alone is kept where it alone is asked for, and nothing is read where nothing is.
+const PARTS_KEPT: Script = &[
+    Keep(Kept::Parts(7, false, false), None),
+    Opens(0),
+    Keep(Kept::Parts(7, false, true), None),
+    AskWithoutFiles(Process(7), ABSENT_PROCESS),
+    Keep(Kept::Parts(7, true, false), None),
+    AskWithoutFiles(Process(7), ANSWERS_JIT),
+];
+
+#[test]
+fn what_is_kept_answers_until_it_is_forgotten(rt: HostRuntime) {
+    assert!(rt; hold(rt.alloc(), &[LEFT_UNPINNED, KEPT_UNTIL_FORGOTTEN]));
+    assert!(rt; hold(rt.alloc(), &[KEPT_AS_HELD]));
+    assert!(rt; hold(rt.alloc(), &[FILES, PROCESS_KEPT]));
+    assert!(rt; hold(rt.alloc(), &[FILES, PARTS_KEPT]));
+}
+
+/// The ELF file is kept.
+const FILE_KEPT: Script = &[Put("/e", &ELF_FUNCTION), Keep(FILE, None)];
+
+/// All that may be kept of process 7 is kept.
+const ALL_KEPT: Script = &[Keep(PROCESS, None)];
+
+/// Other files of process 7 than the first ones come, whose looks are counted anew.
+const LATER: Script = &[
+    NoFiles,
+    Put("/proc/7/maps", b"3000-5000 rw-p 00000000 00:00 0\n"),
+    Put("/proc/7/status", b"Name:\ty\n"),
+    Put("/proc/7/root/tmp/perf-7.map", b"3000 10 later\n"),
+];
+
+/// A request for the later files, of which one look fails, is refused.
+const REFUSED: Script = &[Keep(PROCESS, Some(Error::ReadFault)), Faults(1)];
+
+/// All that was kept answers as before, and an address that only the later files map has no mapping.
+const BOTH_STAY: Script = &[
+    AskWithoutFiles(Process(7), ANSWERS_JIT),
+    AskWithoutFiles(
+        Process(7),
+        Single(Input::AbsAddr(0x4008), Unknown(Reason::Unmapped)),
+    ),
+    AskWithoutFiles(Elf("/e"), ANSWERS),
+];
+
+/// Nothing is kept of the process, but the ELF file is.
+const FILE_STAYS: Script = &[
+    AskWithoutFiles(Process(7), ABSENT_PROCESS),
+    AskWithoutFiles(Elf("/e"), ANSWERS),
+];
+
+/// A look fails: the mappings are read, and the perf map is looked at and read.
+const FAILS: &[Script] = &[&[Fail(1)], &[Fail(2)], &[Fail(3)]];
+
+/// A look fails. Here the status is read too.
+const FAILS_WITH_STATUS: &[Script] = &[&[Fail(1)], &[Fail(2)], &[Fail(3)], &[Fail(4)]];
+
+/// Whether all that was kept answers as before where the look fails.
+fn both_stay(alloc: Global, fails: Script) -> bool {
+    hold(
         alloc,
-        files,
-        "/proc/7/maps",
-        b"3000-5000 rw-p 00000000 00:00 0\n",
-    ) && put(alloc, files, "/proc/7/status", b"Name:\ty\n")
-        && put(
-            alloc,
-            files,
-            "/proc/7/root/tmp/perf-7.map",
-            b"3000 10 later\n",
-        )
-}
-
-/// Keeps the ELF file at `/e`, and process 7 if that is wanted. Says whether memory was left.
-fn keep_first(alloc: Global, symbolizer: &mut Symbolizer, with_process: bool) -> bool {
-    let mut files = MemFiles::new(alloc, 0);
-    put(alloc, &mut files, "/e", &ELF_FUNCTION)
-        && keep_elf(alloc, symbolizer, &mut files) == Ok(())
-        && put_process(alloc, &mut files)
-        && (!with_process || keep_process(alloc, symbolizer, &mut files) == Ok(()))
-}
-
-/// Whether a request for the later files, of which the call of this number fails, is refused.
-fn fails_at(alloc: Global, symbolizer: &mut Symbolizer, call: u64) -> bool {
-    let mut files = MemFiles::new(alloc, 0);
-    put_later(alloc, &mut files)
-        && files.fail_call(alloc, call).is_ok()
-        && keep_process(alloc, symbolizer, &mut files) == Err(Error::ReadFault)
-        && files.faults() == 1
-}
-
-/// Whether all that was kept answers as before where the call of this number fails.
-fn stays_at(alloc: Global, call: u64) -> Result<bool> {
-    let mut symbolizer = Symbolizer::new(alloc);
-    let src = elf(alloc)?;
-    Ok(
-        keep_first(alloc, &mut symbolizer, true)
-            && fails_at(alloc, &mut symbolizer, call)
-            && answers_alone(alloc, &mut symbolizer, None)
-            && is_unmapped(alloc, &mut symbolizer)
-            && is_pinned(alloc, &mut symbolizer, &src),
+        &[FILE_KEPT, FILES, ALL_KEPT, LATER, fails, REFUSED, BOTH_STAY],
     )
 }
 
-/// Whether nothing is kept of the process where the call of this number fails, but the ELF file is.
-fn stays_new_at(alloc: Global, call: u64) -> Result<bool> {
-    let mut symbolizer = Symbolizer::new(alloc);
-    let src = elf(alloc)?;
-    Ok(
-        keep_first(alloc, &mut symbolizer, false)
-            && fails_at(alloc, &mut symbolizer, call)
-            && answers_alone(alloc, &mut symbolizer, Some(Error::NotFound))
-            && is_pinned(alloc, &mut symbolizer, &src),
+/// Whether nothing is kept of the process where the look fails, but the ELF file is.
+fn file_stays(alloc: Global, fails: Script) -> bool {
+    hold(
+        alloc,
+        &[FILE_KEPT, FILES, LATER, fails, REFUSED, FILE_STAYS],
     )
 }
 
 #[test]
-fn a_call_of_files_that_fails_changes_nothing(rt: HostRuntime) {
-    // The mappings are read, and the perf map is looked at and read.
-    for call in 1..4 {
-        assert!(rt; stays_at(rt.alloc(), call) == Ok(true));
+fn a_look_that_fails_changes_nothing(rt: HostRuntime) {
+    for fails in FAILS {
+        assert!(rt; both_stay(rt.alloc(), fails));
     }
-    // Here the status is read too.
-    for call in 1..5 {
-        assert!(rt; stays_new_at(rt.alloc(), call) == Ok(true));
+    for fails in FAILS_WITH_STATUS {
+        assert!(rt; file_stays(rt.alloc(), fails));
     }
 }

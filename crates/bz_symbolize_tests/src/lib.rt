@@ -24,4 +24,6 @@ mod lookups;
 #[cfg(test)]
 mod process;
 #[cfg(test)]
-mod trials;
+mod steps;
+#[cfg(test)]
+mod told;

@@ -1,0 +1,194 @@
+//! What the tests do, step by step, over new files in memory and new symbolizers.
+
+use crate::asking::{Asked, Subject, asks};
+use crate::elf::{Registration, registers_all};
+use crate::keeping::{Kept, forgets, keeps};
+use crate::process::asks_caller;
+use bz_base::Error;
+use bz_files::{Files, MemFiles, Stamp};
+use bz_symbolize::{Builder, Symbolizer};
+use std::alloc::Global;
+
+/// What is done, or asked. A symbolizer is asked, and also another one, which starts with every feature
+/// off and doesn't look at files anew.
+pub(crate) enum Step {
+    /// The bytes are put at the path.
+    Put(&'static str, &'static [u8]),
+    /// The bytes are put at the path under the stamp that it has.
+    PutUnderItsStamp(&'static str, &'static [u8]),
+    /// The path gets what is at the other one, under the same stamp.
+    Link(&'static str, &'static str),
+    /// What is at the path is taken away.
+    Remove(&'static str),
+    /// There are no files any more, and none has been read.
+    NoFiles,
+    /// The look of this number is to fail.
+    Fail(u64),
+    /// So many looks have failed.
+    Faults(u64),
+    /// So many files have been read.
+    Opens(u64),
+    /// The symbolizer is a new one, whose answers have places or not, and inlined calls or not.
+    Set(bool, bool),
+    /// The symbolizer is a new one with every feature off.
+    SetNothing,
+    /// The symbolizer answers as is told.
+    Ask(Subject, Asked),
+    /// The other symbolizer does.
+    AskStill(Subject, Asked),
+    /// The symbolizer does, though no file is there.
+    AskWithoutFiles(Subject, Asked),
+    /// A caller with a symbolizer of its own gets what is told of process 7.
+    Call,
+    /// It is asked to keep this, and refuses so, if it does.
+    Keep(Kept, Option<Error>),
+    /// It is asked to forget this.
+    Forget(Kept),
+    /// A resolver is registered so, one registration after the other.
+    Register(&'static [Registration]),
+}
+
+/// Steps, one after the other.
+pub(crate) type Script = &'static [Step];
+
+/// Puts the bytes at the path. Says whether memory was left.
+pub(crate) fn put(alloc: Global, files: &mut MemFiles, path: &str, bytes: &[u8]) -> bool {
+    match Vec::from_slice(alloc, bytes) {
+        Ok(copy) => files.put(alloc, path, copy).is_ok(),
+        Err(_) => false,
+    }
+}
+
+/// Puts the bytes at the path under this stamp. Says whether memory was left.
+fn put_under(alloc: Global, files: &mut MemFiles, path: &str, stamp: Stamp, bytes: &[u8]) -> bool {
+    match Vec::from_slice(alloc, bytes) {
+        Ok(copy) => files.put_as(alloc, path, stamp, copy).is_ok(),
+        Err(_) => false,
+    }
+}
+
+/// Puts the bytes at the path under the stamp that it has. Says whether it has one.
+fn put_under_its_stamp(alloc: Global, files: &mut MemFiles, path: &str, bytes: &[u8]) -> bool {
+    match files.stat(path) {
+        Ok(stamp) => put_under(alloc, files, path, stamp, bytes),
+        Err(_) => false,
+    }
+}
+
+/// A symbolizer that doesn't look at files anew, with every feature off.
+fn without_features(alloc: Global) -> Symbolizer {
+    Symbolizer::builder()
+        .enable_auto_reload(false)
+        .enable_code_info(false)
+        .enable_inlined_fns(false)
+        .enable_demangling(false)
+        .set_debug_dirs(Some(Vec::new(alloc)))
+        .build(alloc)
+}
+
+/// A symbolizer whose answers have places or not, and inlined calls or not.
+fn with_features(alloc: Global, places: bool, calls: bool) -> Symbolizer {
+    Builder::new()
+        .enable_code_info(places)
+        .enable_inlined_fns(calls)
+        .build(alloc)
+}
+
+/// Whether the symbolizer answers as is told where no file is there.
+fn asks_without_files(
+    alloc: Global,
+    symbolizer: &mut Symbolizer,
+    subject: &Subject,
+    asked: &Asked,
+) -> bool {
+    let mut none = MemFiles::new(alloc, 0);
+    asks(alloc, symbolizer, &mut none, subject, asked)
+}
+
+/// Takes the step, which is about files alone. Says whether all is as it says.
+fn holds_of_files(alloc: Global, files: &mut MemFiles, step: &Step) -> bool {
+    match step {
+        Step::Put(path, bytes) => put(alloc, files, path, bytes),
+        Step::PutUnderItsStamp(path, bytes) => put_under_its_stamp(alloc, files, path, bytes),
+        Step::Link(path, old) => files.link(alloc, path, old).is_ok(),
+        Step::Remove(path) => files.remove(path),
+        Step::NoFiles => {
+            *files = MemFiles::new(alloc, 0);
+            true
+        }
+        Step::Fail(call) => files.fail_call(alloc, *call).is_ok(),
+        Step::Faults(count) => files.faults() == *count,
+        Step::Opens(count) => files.opens() == *count,
+        Step::Call => asks_caller(alloc, files),
+        _ => false,
+    }
+}
+
+/// Takes the step. Says whether all is as it says.
+fn holds_of(
+    alloc: Global,
+    symbolizer: &mut Symbolizer,
+    still: &mut Symbolizer,
+    files: &mut MemFiles,
+    step: &Step,
+) -> bool {
+    match step {
+        Step::Set(places, calls) => {
+            *symbolizer = with_features(alloc, *places, *calls);
+            true
+        }
+        Step::SetNothing => {
+            *symbolizer = without_features(alloc);
+            true
+        }
+        Step::Ask(subject, asked) => asks(alloc, symbolizer, files, subject, asked),
+        Step::AskStill(subject, asked) => asks(alloc, still, files, subject, asked),
+        Step::AskWithoutFiles(subject, asked) => {
+            asks_without_files(alloc, symbolizer, subject, asked)
+        }
+        Step::Keep(kept, refused) => keeps(alloc, symbolizer, files, kept, *refused),
+        Step::Forget(kept) => forgets(alloc, symbolizer, kept),
+        Step::Register(rows) => registers_all(alloc, symbolizer, files, rows),
+        _ => holds_of_files(alloc, files, step),
+    }
+}
+
+/// Takes the steps. Says whether all is as they say.
+fn hold_of(
+    alloc: Global,
+    symbolizer: &mut Symbolizer,
+    still: &mut Symbolizer,
+    files: &mut MemFiles,
+    steps: &[Step],
+) -> bool {
+    for step in steps {
+        if !holds_of(alloc, symbolizer, still, files, step) {
+            return false;
+        }
+    }
+    true
+}
+
+/// Takes the steps, part after part. Says whether all is as they say.
+fn all_hold_of(
+    alloc: Global,
+    symbolizer: &mut Symbolizer,
+    still: &mut Symbolizer,
+    files: &mut MemFiles,
+    parts: &[Script],
+) -> bool {
+    for steps in parts {
+        if !hold_of(alloc, symbolizer, still, files, steps) {
+            return false;
+        }
+    }
+    true
+}
+
+/// Whether all is as the steps say, part after part, over new files and new symbolizers.
+pub(crate) fn hold(alloc: Global, parts: &[Script]) -> bool {
+    let mut files = MemFiles::new(alloc, 0);
+    let mut symbolizer = Symbolizer::new(alloc);
+    let mut still = without_features(alloc);
+    all_hold_of(alloc, &mut symbolizer, &mut still, &mut files, parts)
+}
