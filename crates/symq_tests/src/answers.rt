@@ -1,23 +1,23 @@
 //! The answers of Breakpad files.
 
-use crate::runs::{ADDRESSES, FIRST, ends_so, over_first};
-use bz_symq::Status;
-use std::alloc::Global;
+use crate::nested::NESTED;
+use crate::runs::Edit::Text;
+use crate::runs::{ADDRESSES, FIRST_RUN, Row, ends_so};
 
 const ANSWERS: &str =
     "0x1010: another func+0x10 start 0x1000 size 0x30 module bar at -\n0x1030: ? address not found in symbolization source\n";
 
-/// The same, where a line record tells the place.
-const PLACED: &str =
-    "0x1010: another func+0x10 start 0x1000 size 0x30 module bar at bar.c:7\n0x1030: ? address not found in symbolization source\n";
-
-/// The same, in a call that was inlined.
-const INLINED: &str =
-    "0x1010: another func+0x10 start 0x1000 size 0x30 module bar at bar.c:5\n  a at bar.c:7\n0x1030: ? address not found in symbolization source\n";
-
-/// A file of several records, and the same with carriage returns before its line feeds.
-const RECORDS: &str =
-    "MODULE Linux x86 ffff0000 bar\nFILE 53 bar.c\nPUBLIC 1234 10 some public\nFUNC 1000 30 10 another func\n1000 30 7 53\n";
+/// A file of several records, whose line record tells the place; the same with carriage returns before
+/// its line feeds follows.
+const PLACED: Row = Row {
+    edits: &[Text(
+        "/a.sym",
+        "MODULE Linux x86 ffff0000 bar\nFILE 53 bar.c\nPUBLIC 1234 10 some public\nFUNC 1000 30 10 another func\n1000 30 7 53\n",
+    )],
+    input: "1010\n0x1030\n",
+    written: "0x1010: another func+0x10 start 0x1000 size 0x30 module bar at bar.c:7\n0x1030: ? address not found in symbolization source\n",
+    ..FIRST_RUN
+};
 
 const ONE_RETURN: &str =
     "MODULE Linux x86 ffff0000 bar\r\nFILE 53 bar.c\r\nPUBLIC 1234 10 some public\r\nFUNC 1000 30 10 another func\r\n1000 30 7 53\r\n";
@@ -25,64 +25,91 @@ const ONE_RETURN: &str =
 const TWO_RETURNS: &str =
     "MODULE Linux x86 ffff0000 bar\r\r\nFILE 53 bar.c\r\r\nPUBLIC 1234 10 some public\r\r\nFUNC 1000 30 10 another func\r\r\n1000 30 7 53\r\r\n";
 
-/// A file of every kind of record, with a blank line.
-const EVERY_KIND: &str =
-    "MODULE Linux x86 ffff0000 bar\nINFO CODE_ID 0\n\nFILE 53 bar.c\nINLINE_ORIGIN 1 a\nFUNC m 1000 30 10 another func\nINLINE 0 5 53 1 1000 8 1010 8\nINLINE_ORIGIN 2 b\n1000 30 7 53\nPUBLIC m 1234 10 some public\nSTACK WIN 4 1000 30\nSTACK CFI INIT 1000 30 .cfa: $rsp 8 +\nSTACK CFI 1001 .cfa: $rsp 16 +\n";
+/// A file of every kind of record, with a blank line, and a place in a call that was inlined.
+const EVERY_KIND: Row = Row {
+    edits: &[Text(
+        "/a.sym",
+        "MODULE Linux x86 ffff0000 bar\nINFO CODE_ID 0\n\nFILE 53 bar.c\nINLINE_ORIGIN 1 a\nFUNC m 1000 30 10 another func\nINLINE 0 5 53 1 1000 8 1010 8\nINLINE_ORIGIN 2 b\n1000 30 7 53\nPUBLIC m 1234 10 some public\nSTACK WIN 4 1000 30\nSTACK CFI INIT 1000 30 .cfa: $rsp 8 +\nSTACK CFI 1001 .cfa: $rsp 16 +\n",
+    )],
+    input: ADDRESSES,
+    written: "0x1010: another func+0x10 start 0x1000 size 0x30 module bar at bar.c:5\n  a at bar.c:7\n0x1030: ? address not found in symbolization source\n",
+    ..FIRST_RUN
+};
 
-/// A file, an input, and what is written.
-type Answered = (&'static str, &'static str, &'static str);
+/// Calls in calls: they stand below their caller, each with its place; outside of them the line record
+/// has it.
+const CALLS: Row = Row {
+    edits: &[Text("/a.sym", NESTED)],
+    input: "1010\n1020\n1000\n",
+    written: "0x1010: outer_func()+0x10 start 0x1000 size 0x30 module - at o.c:60\n  mid_func() at m.c:17\n  inner_func_2() at i2.c:52\n0x1020: outer_func()+0x20 start 0x1000 size 0x30 module - at o.c:62\n0x1000: ? an error occurred but was ignored in batch mode\n",
+    ..FIRST_RUN
+};
 
-const ANSWERED: &[Answered] = &[
-    (FIRST, ADDRESSES, ANSWERS),
-    (RECORDS, "1010\n0x1030\n", PLACED),
-    (ONE_RETURN, "1010\n0x1030\n", PLACED),
-    (TWO_RETURNS, "1010\n0x1030\n", PLACED),
-    (EVERY_KIND, ADDRESSES, INLINED),
-    (FIRST, "0x1010\r\n\r\n1030", ANSWERS),
-    (
-        "PUBLIC 10 0 p\n",
-        "10\nf\n",
-        "0x10: p+0x0 start 0x10 size - module - at - public\n0xf: ? address not found in symbolization source\n",
-    ),
-    (
-        "INFO x\n",
-        "10\n",
-        "0x10: ? symbolization source has no or no relevant symbols\n",
-    ),
-    (
-        "FUNC 1000 10 0 f\n\n1000 10 5 1\nFILE 1 a.c\n\n",
-        "1000\n",
-        "0x1000: f+0x0 start 0x1000 size 0x10 module - at a.c:5\n",
-    ),
-    (FIRST, "", ""),
-    (
-        "FUNC 1 2 3 x\nFUNC 1 3 3 y\n",
-        "1\n2\n4\n",
-        "0x1: x+0x0 start 0x1 size 0x2 module - at -\n0x2: y+0x1 start 0x1 size 0x3 module - at -\n0x4: ? address not found in symbolization source\n",
-    ),
-    (
-        "MODULE a b c d\n",
-        "1\n",
-        "0x1: ? symbolization source has no or no relevant symbols\n",
-    ),
-    (
-        "MODULE a b c \nFUNC 0 1 0 \n",
-        "0\n",
-        "0x0: +0x0 start 0x0 size 0x1 module  at -\n",
-    ),
+const ROWS: &[Row] = &[
+    Row {
+        input: ADDRESSES,
+        written: ANSWERS,
+        ..FIRST_RUN
+    },
+    PLACED,
+    Row {
+        edits: &[Text("/a.sym", ONE_RETURN)],
+        ..PLACED
+    },
+    Row {
+        edits: &[Text("/a.sym", TWO_RETURNS)],
+        ..PLACED
+    },
+    EVERY_KIND,
+    CALLS,
+    Row {
+        input: "0x1010\r\n\r\n1030",
+        written: ANSWERS,
+        ..FIRST_RUN
+    },
+    Row {
+        edits: &[Text("/a.sym", "PUBLIC 10 0 p\n")],
+        input: "10\nf\n",
+        written: "0x10: p+0x0 start 0x10 size - module - at - public\n0xf: ? address not found in symbolization source\n",
+        ..FIRST_RUN
+    },
+    Row {
+        edits: &[Text("/a.sym", "INFO x\n")],
+        input: "10\n",
+        written: "0x10: ? symbolization source has no or no relevant symbols\n",
+        ..FIRST_RUN
+    },
+    Row {
+        edits: &[Text("/a.sym", "FUNC 1000 10 0 f\n\n1000 10 5 1\nFILE 1 a.c\n\n")],
+        input: "1000\n",
+        written: "0x1000: f+0x0 start 0x1000 size 0x10 module - at a.c:5\n",
+        ..FIRST_RUN
+    },
+    FIRST_RUN,
+    Row {
+        edits: &[Text("/a.sym", "FUNC 1 2 3 x\nFUNC 1 3 3 y\n")],
+        input: "1\n2\n4\n",
+        written: "0x1: x+0x0 start 0x1 size 0x2 module - at -\n0x2: y+0x1 start 0x1 size 0x3 module - at -\n0x4: ? address not found in symbolization source\n",
+        ..FIRST_RUN
+    },
+    Row {
+        edits: &[Text("/a.sym", "MODULE a b c d\n")],
+        input: "1\n",
+        written: "0x1: ? symbolization source has no or no relevant symbols\n",
+        ..FIRST_RUN
+    },
+    Row {
+        edits: &[Text("/a.sym", "MODULE a b c \nFUNC 0 1 0 \n")],
+        input: "0\n",
+        written: "0x0: +0x0 start 0x0 size 0x1 module  at -\n",
+        ..FIRST_RUN
+    },
 ];
-
-/// Whether the addresses of the input are answered so, of the file.
-fn answers(alloc: Global, (file, input, written): &Answered) -> bool {
-    let mut row = over_first("/a.sym", input, Status::Done, written);
-    row.file = file.as_bytes();
-    ends_so(alloc, &row)
-}
 
 /// Each form of an answer's line, and of a file each kind of record.
 #[test]
 fn answers_addresses_in_their_order(rt: HostRuntime) {
-    for row in ANSWERED {
-        assert!(rt; answers(rt.alloc(), row));
+    for row in ROWS {
+        assert!(rt; ends_so(rt.alloc(), row));
     }
 }

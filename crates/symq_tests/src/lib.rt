@@ -34,4 +34,6 @@ mod stacks;
 #[cfg(test)]
 mod texts;
 #[cfg(test)]
+mod trials;
+#[cfg(test)]
 mod words;

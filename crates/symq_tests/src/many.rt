@@ -2,7 +2,6 @@
 
 ghost use Rattle.std.specs.Prelude.{◌≡◌, ◌<◌};
 
-use crate::runs::{Trial, holds};
 use bz_base::{CodeInfo, Input, Reason, Result, Steps, Sym, Symbolized, whole_decimal};
 use bz_files::MemFiles;
 use bz_symbolize::Symbolizer;
@@ -11,23 +10,15 @@ use std::alloc::Global;
 use std::marker::Brand;
 use std::sync::ledger::{Blank, Ledger};
 
-/// How many functions a large file has, and how often it is asked in each of two ways.
-const FUNCTIONS: u32 = 100_000;
+/// How many addresses are asked for, and by how many bytes they step through the file; their order, as
+/// a factor that has nothing in common with how many there are, and a first step; and how often they
+/// are asked for in each of two ways.
+pub(crate) type Batch = (u64, u64, u64, u64, u32);
 
-const CALLS: u32 = 50;
-
-/// How many addresses a batch has that steps through a file of 2000 functions by 37 bytes.
-const STEPS: u32 = 3460;
-
-/// The address of a function.
-fn start_of(number: u32) -> u64 {
-    4096 + 64 * u64::from(number)
-}
-
-/// A function. The first eight bytes are of a call that was inlined, and the first sixteen and the
-/// others have a line each.
+/// Pushes a function. The first eight of its 48 bytes are of a call that was inlined, and the first
+/// sixteen and the others have a line each.
 fn push_function(text: &mut String, number: u32) -> Result<()> {
-    let start = start_of(number);
+    let start = 4096 + 64 * u64::from(number);
     let later = start.wrapping_add(16);
     let first = u64::from(number) + 1;
     let second = u64::from(number) + 2;
@@ -56,255 +47,141 @@ fn put_generated(alloc: Global, files: &mut MemFiles, functions: u32) -> bool {
     }
 }
 
-/// Whether the symbol is the function with the number, this many bytes past its start.
-fn is_function(symbol: &Sym<'_>, number: u64, offset: u64) -> bool {
-    symbol.offset as u64 == offset
-        && symbol.size == Some(0x30)
-        && has_number(symbol.name.as_str(), number)
+/// The step that comes at an index in the order of a batch.
+fn step_at(index: u64, batch: &Batch) -> u64 {
+    let step = index.wrapping_mul(batch.2).wrapping_add(batch.3);
+    step.checked_rem(batch.0).unwrap_or(0)
 }
 
-/// Whether the name is `f` and the number.
-fn has_number(name: &str, number: u64) -> bool {
-    match name.strip_prefix('f') {
-        Some(digits) => whole_decimal(digits.as_bytes(), 10, 4_294_967_295) == Some(number),
-        None => false,
-    }
-}
-
-/// Whether the symbol's place has this line, and that of its one inlined call the other, or there is
-/// no such call.
-fn has_lines(symbol: &Sym<'_>, line: u64, called: Option<u64>) -> bool {
-    let calls = match symbol.inlined.as_slice() {
-        [] => called == None,
-        [call] => called != None && line_of(&call.code_info) == called,
-        _ => false,
-    };
-    calls && line_of(&symbol.code_info) == Some(line)
-}
-
-fn line_of(place: &Option<CodeInfo<'_>>) -> Option<u64> {
-    match place {
-        Some(place) => match place.line {
-            Some(line) => Some(u64::from(line)),
-            None => None,
-        },
-        None => None,
-    }
-}
-
-/// Whether the symbol has the lines of a function this many bytes past its start: those of the call, or
-/// of one of its two line records.
-fn is_placed(symbol: &Sym<'_>, offset: u64, first: u64, second: u64) -> bool {
-    if offset < 8 {
-        has_lines(symbol, 7, Some(first))
-    } else if offset < 16 {
-        has_lines(symbol, first, None)
-    } else {
-        offset < 48 && has_lines(symbol, second, None)
-    }
-}
-
-/// Whether the answer is that at the address after so many steps.
-fn is_step(answer: &Symbolized<'_>, step: u32) -> bool {
-    let past = 37 * u64::from(step);
-    let number = past / 64;
-    let offset = past % 64;
-    match answer {
-        Symbolized::Sym(symbol) => {
-            is_placed(symbol, offset, number + 1, number + 2) && is_function(symbol, number, offset)
-        }
-        Symbolized::Unknown(reason) => offset >= 48 && *reason == Reason::UnknownAddr,
-    }
-}
-
-/// An order of the steps: a factor that has nothing in common with how many there are, and a first one.
-type Order = (u32, u32);
-
-/// The step that comes at an index in an order.
-fn step_at(index: u32, (factor, first): Order) -> u32 {
-    index.wrapping_mul(factor).wrapping_add(first) % STEPS
-}
-
-/// The addresses after the steps in an order.
-fn addresses_in(alloc: Global, order: Order) -> Result<Vec<u64>> {
+/// The addresses of a batch.
+fn addresses_of(alloc: Global, batch: &Batch) -> Result<Vec<u64>> {
     let mut addrs = Vec::new(alloc);
-    for index in 0..STEPS {
-        addrs.push(4096 + 37 * u64::from(step_at(index, order)))?;
+    for index in 0..batch.0 {
+        let past = batch.1.wrapping_mul(step_at(index, batch));
+        addrs.push(past.wrapping_add(4096))?;
     }
     Ok(addrs)
 }
 
-/// Whether the plain answer after so many steps is the same.
-fn is_plain(answer: &Symbolized<'_>, plain: &[Symbolized<'_>], step: u32) -> bool {
+/// Whether the symbol is the function so many bytes past the first one.
+fn is_function(symbol: &Sym<'_>, past: u64) -> bool {
+    let number = match symbol.name.as_str().strip_prefix('f') {
+        Some(digits) => whole_decimal(digits.as_bytes(), 10, 4_294_967_295),
+        None => None,
+    };
+    number == Some(past / 64) && symbol.offset as u64 == past % 64 && symbol.size == Some(0x30)
+}
+
+/// The line of a place, 0 where there is none.
+fn line_of(place: &Option<CodeInfo<'_>>) -> u64 {
+    match place {
+        Some(place) => u64::from(place.line.unwrap_or(0)),
+        None => 0,
+    }
+}
+
+/// Whether the symbol's place has this line, and that of its one inlined call the other, or there is
+/// no such call, and the other is 0.
+fn has_lines(symbol: &Sym<'_>, line: u64, called: u64) -> bool {
+    let calls = match symbol.inlined.as_slice() {
+        [] => called == 0,
+        [call] => called != 0 && line_of(&call.code_info) == called,
+        _ => false,
+    };
+    calls && line_of(&symbol.code_info) == line
+}
+
+/// Whether the symbol has the lines of the function so many bytes past the first one: those of the call,
+/// or of one of its two line records.
+fn is_placed(symbol: &Sym<'_>, past: u64) -> bool {
+    let first = past / 64 + 1;
+    match past % 64 {
+        0..8 => has_lines(symbol, 7, first),
+        8..16 => has_lines(symbol, first, 0),
+        _ => has_lines(symbol, first + 1, 0),
+    }
+}
+
+/// Whether the answer is that at the address so many bytes past the first one.
+fn is_right(answer: &Symbolized<'_>, past: u64, places: bool) -> bool {
+    match answer {
+        Symbolized::Sym(symbol) => {
+            past % 64 < 48 && is_function(symbol, past) && (!places || is_placed(symbol, past))
+        }
+        Symbolized::Unknown(reason) => past % 64 >= 48 && *reason == Reason::UnknownAddr,
+    }
+}
+
+/// Whether the plain answer at the step is the same.
+fn is_plain(answer: &Symbolized<'_>, plain: &[Symbolized<'_>], step: u64) -> bool {
     match plain.get(step as usize) {
         Some(other) => *other == *answer,
         None => false,
     }
 }
 
-/// Whether the answers are those after the steps in an order, and the same as the plain ones.
-fn are_steps(answers: &[Symbolized<'_>], order: Order, plain: &[Symbolized<'_>]) -> bool {
-    for (index, answer) in (0..STEPS).zip(answers.iter()) {
-        let step = step_at(index, order);
-        if !is_step(answer, step) || !is_plain(answer, plain, step) {
-            return false;
-        }
-    }
-    answers.len() == STEPS as usize
-}
-
-/// Whether the batch in an order is answered so.
-fn answers_in_order(
-    alloc: Global,
-    symbolizer: &mut Symbolizer,
-    files: &mut MemFiles,
-    src: &Source<'_>,
-    addrs: &[u64],
-    order: Order,
+/// Whether the answers are those of the batch, with their places or not, and the same as the plain ones.
+fn are_right(
+    answers: &[Symbolized<'_>],
+    batch: &Batch,
+    places: bool,
     plain: &[Symbolized<'_>],
 ) -> bool {
-    match symbolizer.symbolize(alloc, files, src, Input::FileOffset(addrs)) {
-        Ok(answers) => are_steps(answers.as_slice(), order, plain),
-        Err(_) => false,
-    }
-}
-
-/// Ascending, descending and mixed order.
-const ORDERS: &[Order] = &[ASCENDING, (STEPS - 1, STEPS - 1), (1009, 0)];
-
-const ASCENDING: Order = (1, 0);
-
-/// Whether the batch in each order is answered so.
-fn answers_in_orders(
-    alloc: Global,
-    symbolizer: &mut Symbolizer,
-    files: &mut MemFiles,
-    src: &Source<'_>,
-    plain: &[Symbolized<'_>],
-) -> bool {
-    for order in ORDERS {
-        let Ok(addrs) = addresses_in(alloc, *order) else {
-            return false;
-        };
-        let addrs = addrs.as_slice();
-        if !answers_in_order(alloc, symbolizer, files, src, addrs, *order, plain) {
+    for (index, answer) in (0..batch.0).zip(answers.iter()) {
+        let step = step_at(index, batch);
+        let past = batch.1.wrapping_mul(step);
+        if !is_right(answer, past, places) || !is_plain(answer, plain, step) {
             return false;
         }
     }
-    true
-}
-
-/// Whether this is so beside the answers in ascending order.
-fn answers_alike(
-    alloc: Global,
-    symbolizer: &mut Symbolizer,
-    files: &mut MemFiles,
-    src: &Source<'_>,
-) -> bool {
-    let Ok(addrs) = addresses_in(alloc, ASCENDING) else {
-        return false;
-    };
-    match symbolizer.symbolize(alloc, files, src, Input::FileOffset(addrs.as_slice())) {
-        Ok(plain) => answers_in_orders(alloc, symbolizer, files, src, plain.as_slice()),
-        Err(_) => false,
-    }
-}
-
-/// Whether this is so of a file of 2000 functions.
-pub(crate) fn answers_steps(
-    alloc: Global,
-    symbolizer: &mut Symbolizer,
-    files: &mut MemFiles,
-    src: &Source<'_>,
-) -> bool {
-    put_generated(alloc, files, 2000) && answers_alike(alloc, symbolizer, files, src)
-}
-
-/// Addresses in ascending, descending and mixed order have the same answers.
-#[test]
-fn answers_in_any_order(rt: HostRuntime) {
-    assert!(rt; holds(rt.alloc(), true, &Trial::Orders));
-}
-
-/// The addresses of all functions of the large file, the last one first.
-fn all_starts(alloc: Global) -> Result<Vec<u64>> {
-    let mut addrs = Vec::new(alloc);
-    for number in (0..FUNCTIONS).rev() {
-        addrs.push(start_of(number))?;
-    }
-    Ok(addrs)
-}
-
-/// Whether the answer is the function with the number, at its start.
-fn is_start(answer: &Symbolized<'_>, number: u64) -> bool {
-    match answer.as_sym() {
-        Some(symbol) => is_function(symbol, number, 0),
-        None => false,
-    }
-}
-
-/// Whether the answers are all functions of the large file at their starts, the last one first.
-fn are_functions(answers: &[Symbolized<'_>]) -> bool {
-    for (number, answer) in (0..FUNCTIONS).rev().zip(answers.iter()) {
-        if !is_start(answer, u64::from(number)) {
-            return false;
-        }
-    }
-    answers.len() == FUNCTIONS as usize
+    answers.len() as u64 == batch.0
 }
 
 /// Whether a call answers so.
-fn answers_all(
+fn answers_once(
     alloc: Global,
     symbolizer: &mut Symbolizer,
     files: &mut MemFiles,
     src: &Source<'_>,
     addrs: &[u64],
+    batch: &Batch,
+    places: bool,
+    plain: &[Symbolized<'_>],
 ) -> bool {
     match symbolizer.symbolize(alloc, files, src, Input::FileOffset(addrs)) {
-        Ok(answers) => are_functions(answers.as_slice()),
+        Ok(answers) => are_right(answers.as_slice(), batch, places, plain),
         Err(_) => false,
     }
-}
-
-/// Whether each of many calls answers so.
-fn answers_often(
-    alloc: Global,
-    symbolizer: &mut Symbolizer,
-    files: &mut MemFiles,
-    src: &Source<'_>,
-    addrs: &[u64],
-) -> bool {
-    for _ in 0..CALLS {
-        if !answers_all(alloc, symbolizer, files, src, addrs) {
-            return false;
-        }
-    }
-    true
 }
 
 /// Whether a counted call answers so.
-fn answers_all_counted<L: Ledger>(
+fn answers_once_counted<L: Ledger>(
     alloc: Global,
     symbolizer: &mut Symbolizer,
     files: &mut MemFiles,
     src: &Source<'_>,
     addrs: &[u64],
+    batch: &Batch,
+    places: bool,
+    plain: &[Symbolized<'_>],
     steps: &mut Steps<L>,
 ) -> bool {
     match symbolizer.symbolize_counted(alloc, files, src, Input::FileOffset(addrs), steps) {
-        Ok(answers) => are_functions(answers.as_slice()),
+        Ok(answers) => are_right(answers.as_slice(), batch, places, plain),
         Err(_) => false,
     }
 }
 
-/// Whether each of many counted calls answers so.
-fn answers_counted<L: Ledger>(
+/// Whether calls of both kinds answer so again and again.
+fn answers_often<L: Ledger>(
     alloc: Global,
     symbolizer: &mut Symbolizer,
     files: &mut MemFiles,
     src: &Source<'_>,
     addrs: &[u64],
+    batch: &Batch,
+    places: bool,
+    plain: &[Symbolized<'_>],
     blank: Blank,
 ) -> bool
     requires name { blank.name ≡ L.name }
@@ -312,44 +189,83 @@ fn answers_counted<L: Ledger>(
     requires some { 0 < L.parts }
 {
     let mut steps = Steps::<L>::new(blank);
-    for _ in 0..CALLS {
-        if !answers_all_counted(alloc, symbolizer, files, src, addrs, &mut steps) {
+    for _ in 0..batch.4 {
+        if !answers_once(alloc, symbolizer, files, src, addrs, batch, places, plain)
+            || !answers_once_counted(
+                alloc, symbolizer, files, src, addrs, batch, places, plain, &mut steps,
+            )
+        {
             return false;
         }
     }
     true
 }
 
-/// Whether the large file is read once for all calls.
-fn answers_of_one_read(
+/// Whether this is so of the addresses of the batch.
+fn answers_batch(
     alloc: Global,
     symbolizer: &mut Symbolizer,
     files: &mut MemFiles,
     src: &Source<'_>,
-    addrs: &[u64],
+    batch: &Batch,
+    places: bool,
+    plain: &[Symbolized<'_>],
 ) -> bool {
-    let blank = Blank::new(1);
-    answers_often(alloc, symbolizer, files, src, addrs)
-        && answers_counted::<Brand>(alloc, symbolizer, files, src, addrs, blank)
-        && files.opens() == 1
-}
-
-/// Whether this is so of all functions.
-pub(crate) fn reads_a_large_file(
-    alloc: Global,
-    symbolizer: &mut Symbolizer,
-    files: &mut MemFiles,
-    src: &Source<'_>,
-) -> bool {
-    let Ok(addrs) = all_starts(alloc) else {
+    let Ok(addrs) = addresses_of(alloc, batch) else {
         return false;
     };
-    put_generated(alloc, files, FUNCTIONS)
-        && answers_of_one_read(alloc, symbolizer, files, src, addrs.as_slice())
+    let addrs = addrs.as_slice();
+    let blank = Blank::new(1);
+    answers_often::<Brand>(
+        alloc, symbolizer, files, src, addrs, batch, places, plain, blank,
+    )
 }
 
-/// A large file that is asked again and again, with and without a count, is read once.
-#[test]
-fn reads_a_large_file_once(rt: HostRuntime) {
-    assert!(rt; holds(rt.alloc(), false, &Trial::Large));
+/// Whether this is so beside the answers in ascending order.
+fn answers_beside_plain(
+    alloc: Global,
+    symbolizer: &mut Symbolizer,
+    files: &mut MemFiles,
+    src: &Source<'_>,
+    batch: &Batch,
+    places: bool,
+) -> bool {
+    let Ok(addrs) = addresses_of(alloc, &(batch.0, batch.1, 1, 0, 1)) else {
+        return false;
+    };
+    match symbolizer.symbolize(alloc, files, src, Input::FileOffset(addrs.as_slice())) {
+        Ok(plain) => {
+            answers_batch(
+                alloc,
+                symbolizer,
+                files,
+                src,
+                batch,
+                places,
+                plain.as_slice(),
+            )
+        }
+        Err(_) => false,
+    }
+}
+
+/// Whether this is so of each batch, and a file of so many functions is read once for all calls.
+pub(crate) fn answers_many(
+    alloc: Global,
+    symbolizer: &mut Symbolizer,
+    files: &mut MemFiles,
+    src: &Source<'_>,
+    functions: u32,
+    batches: &[Batch],
+    places: bool,
+) -> bool {
+    if !put_generated(alloc, files, functions) {
+        return false;
+    }
+    for batch in batches {
+        if !answers_beside_plain(alloc, symbolizer, files, src, batch, places) {
+            return false;
+        }
+    }
+    files.opens() == 1
 }

@@ -1,68 +1,56 @@
 //! Answers that are written in several pieces.
 
-use crate::runs::{Row, ends_into, ends_so, over_first};
+use crate::runs::Edit::Text;
+use crate::runs::{FIRST_RUN, Row, ends_on};
 use bz_base::Result;
-use bz_files::MemOut;
 use bz_symq::Status;
 use std::alloc::Global;
 
-/// One function, and more addresses of it than have their answers written at a time.
-const WIDE: &str = "FUNC 0 bb8 0 f\n";
+/// A run over one function with more addresses than have their answers written at a time.
+const WIDE: Row = Row {
+    edits: &[Text("/a.sym", "FUNC 0 bb8 0 f\n")],
+    ..FIRST_RUN
+};
 
-const ADDRESSES: u64 = 2500;
+/// It, and the same where the second piece can't be written, but the first one is.
+const ROWS: &[Row] = &[
+    WIDE,
+    Row {
+        faults: (0, 0, 2),
+        status: Status::Fault,
+        whole: false,
+        ..WIDE
+    },
+];
 
-/// The addresses from 0 on.
-fn many_addresses(alloc: Global) -> Result<String> {
-    let mut input = String::new(alloc);
-    for addr in 0..ADDRESSES {
+/// Pushes many addresses from 0 on, and the texts of their answers.
+fn push_many(input: &mut String, written: &mut String) -> Result<()> {
+    for addr in 0..2500u64 {
         write!(input, "{addr:x}\n")?;
-    }
-    Ok(input)
-}
-
-/// The texts of their answers.
-fn many_answers(alloc: Global) -> Result<String> {
-    let mut written = String::new(alloc);
-    for addr in 0..ADDRESSES {
         write!(
             written,
             "0x{addr:x}: f+0x{addr:x} start 0x0 size 0xbb8 module - at -\n"
         )?;
     }
-    Ok(written)
+    Ok(())
 }
 
-/// Whether a part is some of the whole from its beginning on, and not all.
-fn is_front(part: &[u8], whole: &[u8]) -> bool {
-    !part.is_empty() && part.len() < whole.len() && whole.starts_with(part)
-}
-
-/// Whether the run ends as the row says, with a front of what it says as written.
-fn writes_a_front(alloc: Global, row: &Row<'_>) -> bool {
-    let mut output = MemOut::new(alloc);
-    ends_into(alloc, row, &mut output) && is_front(output.written(), row.written.as_bytes())
-}
-
-/// Whether the answers are written whole and in order; and where the second piece can't be written,
-/// the first one was.
+/// Whether the answers are written whole and in order, and where that fails, in part.
 fn writes_in_pieces(alloc: Global, input: &str, written: &str) -> bool {
-    let mut row = over_first("/a.sym", input, Status::Done, written);
-    row.file = WIDE.as_bytes();
-    let is_whole = ends_so(alloc, &row);
-    row.faults = (0, 0, 2);
-    row.status = Status::Fault;
-    is_whole && writes_a_front(alloc, &row)
+    for row in ROWS {
+        if !ends_on(alloc, &["breakpad", "/a.sym"], row, input, written) {
+            return false;
+        }
+    }
+    true
 }
 
 /// Whether this is so of many addresses.
 fn writes_many(alloc: Global) -> bool {
-    let Ok(input) = many_addresses(alloc) else {
-        return false;
-    };
-    match many_answers(alloc) {
-        Ok(written) => writes_in_pieces(alloc, input.as_str(), written.as_str()),
-        Err(_) => false,
-    }
+    let mut input = String::new(alloc);
+    let mut written = String::new(alloc);
+    push_many(&mut input, &mut written).is_ok()
+        && writes_in_pieces(alloc, input.as_str(), written.as_str())
 }
 
 #[test]

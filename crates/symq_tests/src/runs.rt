@@ -1,13 +1,49 @@
-//! What the tests share: runs over files, inputs and outputs in memory, and symbolizers over files.
+//! What the tests share: rows that are runs over files, inputs and outputs in memory.
 
-use crate::{many, nested};
 use bz_base::Result;
 use bz_files::{MemFiles, MemIn, MemOut};
 use bz_run::run;
-use bz_symbolize::Symbolizer;
-use bz_symbolize::source::{Breakpad, Source};
-use bz_symq::Status;
+use bz_symq::{Command, Product, Status, run_command};
 use std::alloc::Global;
+
+/// An edit of files in memory.
+pub(crate) enum Edit {
+    /// The text is put at the path.
+    Text(&'static str, &'static str),
+    /// The bytes are put at the path.
+    Bytes(&'static str, &'static [u8]),
+    /// What is at the path may not be read.
+    Deny(&'static str),
+    /// Nothing is at the path any more.
+    Remove(&'static str),
+    /// The world after the last one begins; each request comes one world further.
+    Next,
+}
+
+use Edit::{Bytes, Deny, Next, Remove, Text};
+
+/// What runs are given, and how each of them is to end.
+pub(crate) struct Row {
+    /// The words of each run.
+    pub lines: &'static [&'static [&'static str]],
+    /// The path that is converted by a command in place of words, if it isn't empty.
+    pub converted: &'static str,
+    /// What makes the files, in two parts, and the process that they are seen by.
+    pub edits: &'static [Edit],
+    pub later: &'static [Edit],
+    pub own_pid: u32,
+    /// How many empty lines come before the input.
+    pub blanks: usize,
+    pub input: &'static str,
+    /// The calls of files, input and output that fail, counted from 1; 0 where none does.
+    pub faults: (u64, u64, u64),
+    pub status: Status,
+    pub written: &'static str,
+    /// Whether all of it is written, or a part from its beginning on.
+    pub whole: bool,
+    /// How many files are read, where that is looked at.
+    pub opens: Option<u64>,
+}
 
 /// A Breakpad file of one function.
 pub(crate) const FIRST: &str = "MODULE Linux x86 ffff0000 bar\nFUNC 1000 30 10 another func\n";
@@ -18,50 +54,21 @@ pub(crate) const ADDRESSES: &str = "1010\n1030\n";
 /// How the program is called.
 pub(crate) const USAGE: &str = "usage: symq [OPTION] KIND [ARG]...\n";
 
-/// What a run is given, and how it is to end.
-#[derive(Clone, Copy)]
-pub(crate) struct Row<'a> {
-    /// The kind of source, and the path after it.
-    pub kind: &'a str,
-    pub path: &'a str,
-    /// Where the one file is, and its bytes.
-    pub at: &'a str,
-    pub file: &'a [u8],
-    pub input: &'a [u8],
-    /// The calls of files, input and output that fail, counted from 1; 0 where none does.
-    pub faults: (u64, u64, u64),
-    pub status: Status,
-    pub written: &'a str,
-}
-
-/// A run over the first file.
-pub(crate) fn over_first<'a>(
-    path: &'a str,
-    input: &'a str,
-    status: Status,
-    written: &'a str,
-) -> Row<'a> {
-    over_bytes(path, input.as_bytes(), status, written)
-}
-
-/// A run over the first file with an input of bytes.
-pub(crate) fn over_bytes<'a>(
-    path: &'a str,
-    input: &'a [u8],
-    status: Status,
-    written: &'a str,
-) -> Row<'a> {
-    Row {
-        kind: "breakpad",
-        path,
-        at: "/a.sym",
-        file: FIRST.as_bytes(),
-        input,
-        faults: (0, 0, 0),
-        status,
-        written,
-    }
-}
+/// A run over the first file for no addresses.
+pub(crate) const FIRST_RUN: Row = Row {
+    lines: &[&["breakpad", "/a.sym"]],
+    converted: "",
+    edits: &[Text("/a.sym", FIRST), Deny("/denied")],
+    later: &[],
+    own_pid: 7,
+    blanks: 0,
+    input: "",
+    faults: (0, 0, 0),
+    status: Status::Done,
+    written: "",
+    whole: true,
+    opens: None,
+};
 
 /// Puts the bytes at the path. Says whether memory was left.
 pub(crate) fn put(alloc: Global, files: &mut MemFiles, path: &str, bytes: &[u8]) -> bool {
@@ -71,91 +78,117 @@ pub(crate) fn put(alloc: Global, files: &mut MemFiles, path: &str, bytes: &[u8])
     }
 }
 
-/// Puts the file of a row, and one that may not be read. Says whether memory was left.
-fn put_files(alloc: Global, files: &mut MemFiles, row: &Row<'_>) -> bool {
-    put(alloc, files, row.at, row.file)
-        && files.deny(alloc, "/denied").is_ok()
-        && files.fail_call(alloc, row.faults.0).is_ok()
+/// Makes an edit. Says whether memory was left, and what is removed was there.
+fn make_edit(alloc: Global, files: &mut MemFiles, edit: &Edit) -> bool {
+    match edit {
+        Text(path, text) => put(alloc, files, path, text.as_bytes()),
+        Bytes(path, bytes) => put(alloc, files, path, bytes),
+        Deny(path) => files.deny(alloc, path).is_ok(),
+        Remove(path) => files.remove(path),
+        Next => files.schedule(alloc).is_ok(),
+    }
 }
 
-/// Two words.
-fn two_words(alloc: Global, kind: &str, word: &str) -> Result<Vec<String>> {
+/// Makes the edits in their order. Says whether each was made.
+fn make_edits(alloc: Global, files: &mut MemFiles, edits: &[Edit]) -> bool {
+    for edit in edits {
+        if !make_edit(alloc, files, edit) {
+            return false;
+        }
+    }
+    true
+}
+
+/// The words, owned.
+fn words_of(alloc: Global, line: &[&str]) -> Result<Vec<String>> {
     let mut words = Vec::new(alloc);
-    for text in [kind, word] {
-        words.push(String::from_str(alloc, text)?)?;
+    for word in line {
+        words.push(String::from_str(alloc, word)?)?;
     }
     Ok(words)
 }
 
-/// How a run with two words ends, if memory was left for them and the input.
-pub(crate) fn run_on(
+/// So many empty lines, and then the text.
+fn input_of(alloc: Global, blanks: usize, text: &str) -> Result<Vec<u8>> {
+    let mut input = vec![in alloc; b'\n'; blanks]?;
+    input.extend_from_slice(text.as_bytes())?;
+    Ok(input)
+}
+
+/// How the run of the words ends, or that of the row's command.
+fn ended(
     alloc: Global,
-    kind: &str,
-    word: &str,
-    input: &[u8],
-    files: &mut MemFiles,
+    words: &[String],
+    row: &Row,
+    input: &mut MemIn,
     output: &mut MemOut,
-) -> Option<Status> {
-    let words = two_words(alloc, kind, word).ok()?;
-    let bytes = Vec::from_slice(alloc, input).ok()?;
-    let mut input = MemIn::new(bytes);
-    Some(run(alloc, words.as_slice(), &mut input, output, files))
+    files: &mut MemFiles,
+) -> Status {
+    if row.converted.is_empty() {
+        return run(alloc, words, input, output, files);
+    }
+    let command = Command::Make(Product::Converted(row.converted));
+    run_command(alloc, &command, input, output, files)
 }
 
-/// Whether the run of a row with these words ends by its status.
-fn ends_on(alloc: Global, row: &Row<'_>, words: &[String], output: &mut MemOut) -> bool {
-    let Ok(bytes) = Vec::from_slice(alloc, row.input) else {
-        return false;
-    };
-    let mut input = MemIn::new(bytes);
+/// Whether the part is the whole, or some of it from its beginning on, and not all.
+fn is_written(part: &[u8], text: &[u8], whole: bool) -> bool {
+    if whole {
+        part == text
+    } else {
+        !part.is_empty() && part.len() < text.len() && text.starts_with(part)
+    }
+}
+
+/// Whether the run of the words ends as the row says, with this written.
+fn ends_by(
+    alloc: Global,
+    words: &[String],
+    row: &Row,
+    written: &str,
+    input: &mut MemIn,
+    output: &mut MemOut,
+    files: &mut MemFiles,
+) -> bool {
     input.fail_call(row.faults.1);
-    let mut files = MemFiles::new(alloc, 7);
-    put_files(alloc, &mut files, row)
-        && run(alloc, words, &mut input, output, &mut files) == row.status
-}
-
-/// Whether the run of a row that writes into the output ends by its status.
-pub(crate) fn ends_into(alloc: Global, row: &Row<'_>, output: &mut MemOut) -> bool {
     output.fail_call(row.faults.2);
-    match two_words(alloc, row.kind, row.path) {
-        Ok(words) => ends_on(alloc, row, words.as_slice(), output),
-        Err(_) => false,
-    }
+    make_edits(alloc, files, row.edits)
+        && make_edits(alloc, files, row.later)
+        && files.fail_call(alloc, row.faults.0).is_ok()
+        && ended(alloc, words, row, input, output, files) == row.status
+        && is_written(output.written(), written.as_bytes(), row.whole)
+        && row.opens.unwrap_or(files.opens()) == files.opens()
 }
 
-/// Whether the run ends as the row says, with what it says as written.
-pub(crate) fn ends_so(alloc: Global, row: &Row<'_>) -> bool {
-    let mut output = MemOut::new(alloc);
-    ends_into(alloc, row, &mut output) && output.written() == row.written.as_bytes()
-}
-
-/// What is tried of a symbolizer, told at the function that tries it.
-pub(crate) enum Trial {
-    Nested,
-    Orders,
-    Large,
-}
-
-/// Whether it holds of the source, over new files and this symbolizer.
-fn holds_over(alloc: Global, symbolizer: &mut Symbolizer, src: &Source<'_>, trial: &Trial) -> bool {
-    let mut files = MemFiles::new(alloc, 7);
-    match trial {
-        Trial::Nested => nested::answers_nested(alloc, symbolizer, &mut files, src),
-        Trial::Orders => many::answers_steps(alloc, symbolizer, &mut files, src),
-        Trial::Large => many::reads_a_large_file(alloc, symbolizer, &mut files, src),
-    }
-}
-
-/// The Breakpad file at `/s.sym`.
-fn source(alloc: Global) -> Result<Source<'static>> {
-    Ok(Source::from(Breakpad::new(String::from_str(alloc, "/s.sym")?)))
-}
-
-/// Whether it holds of the Breakpad file at `/s.sym`, by a symbolizer that tells places or not.
-pub(crate) fn holds(alloc: Global, places: bool, trial: &Trial) -> bool {
-    let Ok(src) = source(alloc) else {
+/// Whether the run of the line over this input ends as the row says, with this written.
+pub(crate) fn ends_on(alloc: Global, line: &[&str], row: &Row, input: &str, written: &str) -> bool {
+    let Ok(words) = words_of(alloc, line) else {
         return false;
     };
-    let mut symbolizer = Symbolizer::builder().enable_code_info(places).build(alloc);
-    holds_over(alloc, &mut symbolizer, &src, trial)
+    let Ok(bytes) = input_of(alloc, row.blanks, input) else {
+        return false;
+    };
+    let mut input = MemIn::new(bytes);
+    let mut output = MemOut::new(alloc);
+    let mut files = MemFiles::new(alloc, row.own_pid);
+    let words = words.as_slice();
+    ends_by(
+        alloc,
+        words,
+        row,
+        written,
+        &mut input,
+        &mut output,
+        &mut files,
+    )
+}
+
+/// Whether each run of the row ends as it says.
+pub(crate) fn ends_so(alloc: Global, row: &Row) -> bool {
+    for line in row.lines {
+        if !ends_on(alloc, line, row, row.input, row.written) {
+            return false;
+        }
+    }
+    true
 }

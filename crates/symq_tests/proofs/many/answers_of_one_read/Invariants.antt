@@ -1,5 +1,0 @@
-use Rattle.symq_tests.proofs.many.answers_of_one_read.Given as goal
-
--- the count is kept in the name of the blank that it is made of
-abbrev pub ghosts-answers_counted : goal.ghosts-answers_counted
-ghosts-answers_counted a = record { name = a.blank.name; parts = a.blank.parts }
