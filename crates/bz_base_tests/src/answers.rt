@@ -4,23 +4,27 @@ use bz_base::{CodeInfo, Error, ErrorKind, InlinedFn, Input, Reason, Result, Sym,
 use std::alloc::Global;
 use std::borrow::CowStr;
 
-/// Reasons and errors print in words, and tell their text and kind. An input keeps its kind under a
-/// map, and lends and gives what it holds.
-#[test]
-fn reasons_errors_and_inputs_tell_what_they_are(rt: HostRuntime) {
-    let printed = match format!(in rt.alloc(); "{} {}", Reason::UnknownAddr, Error::NotFound) {
+/// Whether a reason and an error print in words.
+fn print_in_words(alloc: Global) -> bool {
+    match format!(in alloc; "{} {}", Reason::UnknownAddr, Error::NotFound) {
         Ok(text) => text.as_str() == "address not found in symbolization source NotFound",
         Err(_) => false,
-    };
-    let input = Input::VirtOffset(3);
+    }
+}
+
+/// Whether an input keeps its kind under a map, and lends and gives what it holds.
+fn keeps_its_kind(input: Input<u64>) -> bool {
+    input.map(|x: u64| x == 3) == Input::VirtOffset(true)
+        && *input.as_inner_ref() == 3
+        && input.into_inner() == 3
+}
+
+#[test]
+fn reasons_errors_and_inputs_tell_what_they_are(rt: HostRuntime) {
+    assert!(rt; print_in_words(rt.alloc()) && keeps_its_kind(Input::VirtOffset(3)));
     assert!(rt;
-        printed
-            && Reason::MissingComponent.as_bytes()
-                == b"proc maps entry has no component\0".as_slice()
+        Reason::MissingComponent.as_bytes() == b"proc maps entry has no component\0".as_slice()
             && Error::InvalidInput.kind() == ErrorKind::InvalidInput
-            && input.map(|x: u64| x == 3) == Input::VirtOffset(true)
-            && *input.as_inner_ref() == 3
-            && input.into_inner() == 3
     );
 }
 
@@ -62,48 +66,74 @@ fn is_cloned(alloc: Global, symbol: &Sym<'_>, lent: bool) -> bool {
     }
 }
 
-fn is_factorial(symbol: Option<&Sym<'_>>) -> bool {
-    match symbol {
-        Some(symbol) => symbol.name.as_str() == "factorial" && symbol.inlined.len() == 1,
+fn is_factorial(symbol: &Sym<'_>) -> bool {
+    symbol.name.as_str() == "factorial" && symbol.inlined.len() == 1
+}
+
+fn lends_factorial(known: &Symbolized<'_>) -> bool {
+    match known.as_sym() {
+        Some(symbol) => is_factorial(symbol),
         None => false,
     }
 }
 
-/// Whether an answer lends its symbol and then gives it.
 fn gives_factorial(known: Symbolized<'_>) -> bool {
-    let lent = is_factorial(known.as_sym());
-    let given = known.into_sym();
-    lent && is_factorial(given.as_ref())
+    match known.into_sym() {
+        Some(symbol) => is_factorial(&symbol),
+        None => false,
+    }
 }
 
-/// Whether a symbol is cloned, first as it was made and then with texts of its own, which an answer
-/// gives.
+/// Whether an answer that owns its texts is cloned, lends its symbol and then gives it.
+fn owned_is_cloned_and_given(alloc: Global, symbol: Sym<'static>) -> bool {
+    let cloned = is_cloned(alloc, &symbol, false);
+    let known = Symbolized::Sym(symbol);
+    let lent = lends_factorial(&known);
+    gives_factorial(known) && lent && cloned
+}
+
+/// Whether a symbol is cloned, as it was made and with texts of its own, and then given.
 fn is_cloned_and_given(alloc: Global) -> Result<bool> {
     let symbol = symbol(alloc)?;
     let lent = is_cloned(alloc, &symbol, true);
-    let symbol = symbol.into_owned(alloc)?;
-    let owned = is_cloned(alloc, &symbol, false);
-    Ok(gives_factorial(Symbolized::Sym(symbol)) && lent && owned)
+    let owned = symbol.into_owned(alloc)?;
+    Ok(owned_is_cloned_and_given(alloc, owned) && lent)
 }
 
-/// Whether copies of a call and of a place are equal to them, and one of an answer that is none.
-fn parts_are_cloned(alloc: Global) -> bool {
-    let call = match CALL.try_clone(alloc) {
-        Ok(copy) => copy == CALL,
-        Err(_) => false,
-    };
-    let place = match PLACE.try_clone(alloc) {
-        Ok(copy) => copy == PLACE,
-        Err(_) => false,
-    };
-    let answer = Symbolized::Unknown(Reason::Unmapped);
-    match answer.try_clone(alloc) {
-        Ok(copy) => copy == answer && call && place,
+/// Whether a copy of a call is equal to it.
+fn call_is_cloned(alloc: Global, call: &InlinedFn<'_>) -> bool {
+    match call.try_clone(alloc) {
+        Ok(copy) => copy == *call,
         Err(_) => false,
     }
 }
 
+/// Whether a copy of a place is equal to it.
+fn place_is_cloned(alloc: Global, place: &CodeInfo<'_>) -> bool {
+    match place.try_clone(alloc) {
+        Ok(copy) => copy == *place,
+        Err(_) => false,
+    }
+}
+
+/// Whether a copy of an answer is equal to it.
+fn answer_is_cloned(alloc: Global, answer: &Symbolized<'_>) -> bool {
+    match answer.try_clone(alloc) {
+        Ok(copy) => copy == *answer,
+        Err(_) => false,
+    }
+}
+
+/// Whether a call and a place are cloned, and an answer that is none.
+fn parts_are_cloned(alloc: Global) -> bool {
+    let call = call_is_cloned(alloc, &CALL);
+    let place = place_is_cloned(alloc, &PLACE);
+    let answer = answer_is_cloned(alloc, &Symbolized::Unknown(Reason::Unmapped));
+    call && place && answer
+}
+
 #[test]
 fn answers_are_cloned_and_give_their_symbols(rt: HostRuntime) {
-    assert!(rt; is_cloned_and_given(rt.alloc()) == Ok(true) && parts_are_cloned(rt.alloc()));
+    assert!(rt; is_cloned_and_given(rt.alloc()) == Ok(true));
+    assert!(rt; parts_are_cloned(rt.alloc()));
 }

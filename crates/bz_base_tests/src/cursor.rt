@@ -60,45 +60,76 @@ const SIGNED: [(&[u8], Option<i64>); 18] = [
     (b"\xff", None),
 ];
 
-#[test]
-fn reads_numbers_in_front(rt: HostRuntime) {
+/// Whether each unsigned number is in front of the bytes and takes all of them, or there is none.
+fn unsigned_are_read() -> bool {
     for (bytes, want) in &UNSIGNED {
         let mut cursor = Cursor::new(bytes);
-        assert!(rt; cursor.read_uleb() == *want && (cursor.rest().is_empty() || want.is_none()));
+        if cursor.read_uleb() != *want || (want.is_some() && !cursor.rest().is_empty()) {
+            return false;
+        }
     }
-    for (bytes, want) in &SIGNED {
-        let mut cursor = Cursor::new(bytes);
-        assert!(rt; cursor.read_sleb() == *want && (cursor.rest().is_empty() || want.is_none()));
-    }
+    true
 }
 
-/// Numbers are read from the start on. The next place divisible by 4 is gone to, and stayed at. A text
-/// is read behind a long number, then the last two bytes, and nothing that isn't there.
+/// Whether each signed number is in front of the bytes and takes all of them, or there is none.
+fn signed_are_read() -> bool {
+    for (bytes, want) in &SIGNED {
+        let mut cursor = Cursor::new(bytes);
+        if cursor.read_sleb() != *want || (want.is_some() && !cursor.rest().is_empty()) {
+            return false;
+        }
+    }
+    true
+}
+
+#[test]
+fn reads_numbers_in_front(rt: HostRuntime) {
+    assert!(rt; unsigned_are_read() && signed_are_read());
+}
+
+/// Whether the numbers at the start are read in turn.
+fn reads_numbers(cursor: &mut Cursor<'_>) -> bool {
+    cursor.read_u8() == Some(1)
+        && cursor.read_u16() == Some(0x0302)
+        && cursor.read_u32() == Some(0x07060504)
+        && cursor.place() == 7
+}
+
+/// Whether the next place divisible by 4 is gone to, and then stayed at.
+fn aligns(cursor: &mut Cursor<'_>) -> bool {
+    cursor.align4().is_some()
+        && cursor.place() == 8
+        && cursor.align4().is_some()
+        && cursor.place() == 8
+}
+
+/// Whether a text is read behind a long number, and nothing that isn't there.
+fn reads_text(cursor: &mut Cursor<'_>) -> bool {
+    cursor.read_u64().is_some()
+        && cursor.place() == 16
+        && cursor.read_cstr() == Some(b"b".as_slice())
+        && cursor.place() == 18
+        && cursor.read_cstr().is_none()
+        && cursor.read_u32().is_none()
+}
+
+/// Whether the last two bytes are read, and nothing after them.
+fn reads_rest(cursor: &mut Cursor<'_>) -> bool {
+    cursor.read_slice(3).is_none()
+        && cursor.rest() == b"cd".as_slice()
+        && cursor.read_slice(2) == Some(b"cd".as_slice())
+        && cursor.read_u8().is_none()
+}
+
+/// Whether all of these are read in turn.
+fn reads_in_turn(cursor: &mut Cursor<'_>) -> bool {
+    reads_numbers(cursor) && aligns(cursor) && reads_text(cursor) && reads_rest(cursor)
+}
+
 #[test]
 fn reads_pieces_in_turn(rt: HostRuntime) {
     let mut cursor = Cursor::new(
         b"\x01\x02\x03\x04\x05\x06\x07\x08\x09\x0a\x0b\x0c\x0d\x0e\x0f\x10b\0cd",
     );
-    assert!(rt;
-        cursor.read_u8() == Some(1)
-            && cursor.read_u16() == Some(0x0302)
-            && cursor.read_u32() == Some(0x07060504)
-            && cursor.place() == 7
-            && cursor.align4().is_some()
-            && cursor.place() == 8
-            && cursor.align4().is_some()
-            && cursor.place() == 8
-    );
-    assert!(rt;
-        cursor.read_u64().is_some()
-            && cursor.place() == 16
-            && cursor.read_cstr() == Some(b"b".as_slice())
-            && cursor.place() == 18
-            && cursor.read_cstr().is_none()
-            && cursor.read_u32().is_none()
-            && cursor.read_slice(3).is_none()
-            && cursor.rest() == b"cd".as_slice()
-            && cursor.read_slice(2) == Some(b"cd".as_slice())
-            && cursor.read_u8().is_none()
-    );
+    assert!(rt; reads_in_turn(&mut cursor));
 }

@@ -1,6 +1,7 @@
 //! Which record answers for an address, and which are around it, of small tables.
 
 ghost use Rattle.std.specs.Prelude.{◌≡◌, ◌<◌, length, map};
+ghost use Rattle.bz_search.specs.Starts.{NeverDescends};
 
 use bz_base::{
     Nested, Place, Spanned, Starts, Steps, chain_in, covering_at, covers, inner_in, nearest,
@@ -74,13 +75,19 @@ fn is_around(chain: &[&Entry]) -> bool {
     chain.len() == 3 && chain[0].id == 1 && chain[1].id == 2 && chain[2].id == 3
 }
 
-/// Whether the records around 6 are found once they are sorted, and the last one of depth 1 that
-/// begins before it.
+/// Whether the records around 6 are found, and the last one of depth 1 that begins before it.
+fn has_around(alloc: Global, table: &[Entry]) -> bool {
+    match chain_in(alloc, table, 6) {
+        Ok(chain) => is_around(&chain) && id_of(inner_in(table, 1, 6)) == 2,
+        Err(_) => false,
+    }
+}
+
+/// Whether they are found once the records are sorted.
 fn finds_around(alloc: Global) -> Result<bool, AllocError> {
     let mut table = entries(alloc, &NESTED)?;
     sort_nested(&mut table)?;
-    let chain = chain_in(alloc, &table, 6)?;
-    Ok(is_around(&chain) && id_of(inner_in(&table, 1, 6)) == 2)
+    Ok(has_around(alloc, &table))
 }
 
 /// Starts and sizes in the order of a file, of which several are equal.
@@ -116,17 +123,8 @@ fn scan_answers(list: &[Entry]) -> bool {
     true
 }
 
-/// Addresses that are searched together.
-const TOGETHER: [u64; 9] = [17, 16, 40, 7, 32, 8, 15, 23, 24];
-
-/// Whether the searches find the record that answers, in a table that is sorted. Addresses that are
-/// searched together, in one sweep, have the places that one has by a search.
-fn search_answers<L: Ledger>(
-    alloc: Global,
-    table: &[Entry],
-    starts: &Starts,
-    steps: &mut Steps<L>,
-) -> bool
+/// Whether a search finds the record that answers, in a table that is sorted.
+fn search_answers<L: Ledger>(table: &[Entry], starts: &Starts, steps: &mut Steps<L>) -> bool
     requires { starts.now ≡ map (λ e. e.start) table.now }
 {
     for (addr, want) in &ANSWERS {
@@ -134,26 +132,15 @@ fn search_answers<L: Ledger>(
             return false;
         }
     }
-    let place = place_found(nearest(starts, 17, steps));
-    place == Some(4)
-        && id_of(covering_at(table, place, 17)) == 4
-        && is_placed(alloc, starts, &TOGETHER, 0, Some(4), steps)
-        && is_placed(alloc, starts, &TOGETHER[..1], 0, Some(4), steps)
-        && is_placed(alloc, starts, &TOGETHER, 3, Place::none().get(), steps)
+    true
 }
 
-/// Whether the record that answers is found by a look at each, and by searches once they are sorted.
-fn finds_record<L: Ledger>(blank: Blank, alloc: Global) -> Result<bool, AllocError>
-    requires name { blank.name ≡ L.name }
-    requires parts { blank.parts ≡ L.parts }
-    requires some { 0 < L.parts }
+/// Whether the record that answers is found at its place.
+fn is_at_its_place<L: Ledger>(table: &[Entry], starts: &Starts, steps: &mut Steps<L>) -> bool
+    requires { starts.now ≡ map (λ e. e.start) table.now }
 {
-    let mut steps = Steps::<L>::new(blank);
-    let mut table = entries(alloc, &SPANS)?;
-    let scanned = scan_answers(&table);
-    sort_table(&mut table)?;
-    let starts = starts_of(alloc, &table)?;
-    Ok(scanned && search_answers(alloc, &table, &starts, &mut steps))
+    let place = place_found(nearest(starts, 17, steps));
+    place == Some(4) && id_of(covering_at(table, place, 17)) == 4
 }
 
 /// Whether the address of this number has this place, found with others.
@@ -173,6 +160,36 @@ fn is_placed<L: Ledger>(
     }
 }
 
+/// Addresses that are searched together.
+const TOGETHER: [u64; 9] = [17, 16, 40, 7, 32, 8, 15, 23, 24];
+
+/// Whether many addresses, which are found in one sweep, have the places that one has by a search.
+fn places_agree<L: Ledger>(alloc: Global, starts: &Starts, steps: &mut Steps<L>) -> bool {
+    is_placed(alloc, starts, &TOGETHER, 0, Some(4), steps)
+        && is_placed(alloc, starts, &TOGETHER[..1], 0, Some(4), steps)
+        && is_placed(alloc, starts, &TOGETHER, 3, Place::none().get(), steps)
+}
+
+/// Whether searches find the record that answers, in a table that is sorted.
+fn finds_sorted<L: Ledger>(alloc: Global, table: &[Entry], steps: &mut Steps<L>) -> bool
+    requires { NeverDescends (map (λ e. e.start) table.now) }
+{
+    match starts_of(alloc, table) {
+        Ok(starts) => search_answers(table, &starts, steps)
+            && is_at_its_place(table, &starts, steps)
+            && places_agree(alloc, &starts, steps),
+        Err(_) => false,
+    }
+}
+
+/// Whether the record that answers is found by a look at each, and by searches once they are sorted.
+fn finds_record<L: Ledger>(alloc: Global, steps: &mut Steps<L>) -> Result<bool, AllocError> {
+    let mut table = entries(alloc, &SPANS)?;
+    let scanned = scan_answers(&table);
+    sort_table(&mut table)?;
+    Ok(scanned && finds_sorted(alloc, &table, steps))
+}
+
 /// Addresses, and for each the place of its start among the sorted ones, and this start.
 const PLACES: [(u64, usize, u64); 4] = [(10, 0, 10), (15, 1, 10), (20, 2, 20), (99, 3, 20)];
 
@@ -185,32 +202,47 @@ fn has_places<L: Ledger>(starts: &Starts, steps: &mut Steps<L>) -> bool {
     nearest(starts, 9, steps) == None
 }
 
-/// Whether places are found among starts that were put in order by std, and among none.
-fn finds_places<L: Ledger>(blank: Blank, alloc: Global) -> Result<bool, AllocError>
+/// Whether places are found among starts that are put in order by std.
+fn sorted_have_places<L: Ledger>(mut numbers: Vec<u64>, steps: &mut Steps<L>) -> bool {
+    numbers.sort_unstable();
+    let starts = Starts::from_sorted(numbers);
+    has_places(&starts, steps)
+}
+
+/// Whether no place is found among no starts.
+fn none_has_places<L: Ledger>(none: &Starts, steps: &mut Steps<L>) -> bool {
+    none.len() == 0 && nearest(none, 9, steps) == None
+}
+
+/// Whether places are found among starts that were not in order, and none among none.
+fn finds_places<L: Ledger>(alloc: Global, steps: &mut Steps<L>) -> Result<bool, AllocError> {
+    let none = none_has_places(&Starts::from_sorted(Vec::new(alloc)), steps);
+    let numbers = vec![in alloc; 20, 10, 20, 10]?;
+    Ok(sorted_have_places(numbers, steps) && none)
+}
+
+/// Whether records and places are found, in counted steps.
+fn finds<L: Ledger>(blank: Blank, alloc: Global) -> bool
     requires name { blank.name ≡ L.name }
     requires parts { blank.parts ≡ L.parts }
     requires some { 0 < L.parts }
 {
     let mut steps = Steps::<L>::new(blank);
-    let mut numbers = vec![in alloc; 20, 10, 20, 10]?;
-    numbers.sort_unstable();
-    let starts = Starts::from_sorted(numbers);
-    let none = Starts::from_sorted(Vec::new(alloc));
-    Ok(has_places(&starts, &mut steps) && none.len() == 0 && nearest(&none, 9, &mut steps) == None)
+    finds_record(alloc, &mut steps) == Ok(true) && finds_places(alloc, &mut steps) == Ok(true)
 }
 
-/// A record covers the addresses up to its end, which may reach the last one and not pass it.
+/// Whether a record covers the addresses up to its end, which may reach the last one and not pass it.
+fn covers_up_to_its_end() -> bool {
+    covers(5, 0, 5)
+        && covers(16, 4, 19)
+        && covers(u64::MAX - 4, 4, u64::MAX - 1)
+        && !covers(16, 4, 20)
+        && !covers(u64::MAX - 3, 4, u64::MAX - 3)
+}
+
 #[test]
 fn finds_records(rt: HostRuntime) {
-    assert!(rt;
-        covers(5, 0, 5)
-            && covers(16, 4, 19)
-            && covers(u64::MAX - 4, 4, u64::MAX - 1)
-            && !covers(16, 4, 20)
-            && !covers(u64::MAX - 3, 4, u64::MAX - 3)
-    );
     assert!(rt; size_of::<Steps<Brand>>() == 0 && size_of::<Place>() == 4);
-    assert!(rt; finds_around(rt.alloc()) == Ok(true));
-    assert!(rt; finds_record::<Brand>(Blank::new(1), rt.alloc()) == Ok(true));
-    assert!(rt; finds_places::<Brand>(Blank::new(1), rt.alloc()) == Ok(true));
+    assert!(rt; covers_up_to_its_end() && finds_around(rt.alloc()) == Ok(true));
+    assert!(rt; finds::<Brand>(Blank::new(1), rt.alloc()));
 }

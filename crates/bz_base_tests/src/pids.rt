@@ -31,6 +31,31 @@ fn is_named(alloc: Global, pid: Pid, id: u32, text: &str) -> bool {
     }
 }
 
+/// Whether all processes resolve and print so.
+fn are_named(alloc: Global) -> bool {
+    for (number, id, text) in &PROCESSES {
+        if !is_named(alloc, Pid::from(*number), *id, text) {
+            return false;
+        }
+    }
+    true
+}
+
+/// Whether two processes stand so, and are equal exactly where neither comes first.
+fn stand(first: Pid, second: Pid, order: Ordering) -> bool {
+    first.cmp(&second) == order && (first == second) == (order == Ordering::Equal)
+}
+
+/// Whether all pairs stand so.
+fn all_stand() -> bool {
+    for (first, second, order) in &PAIRS {
+        if !stand(Pid::from(*first), Pid::from(*second), *order) {
+            return false;
+        }
+    }
+    true
+}
+
 /// Whether a process holds this id.
 fn holds(pid: Pid, number: u32) -> bool {
     match NonZeroU32::new(number) {
@@ -39,22 +64,15 @@ fn holds(pid: Pid, number: u32) -> bool {
     }
 }
 
-/// Two processes are equal exactly where neither comes first.
+/// Whether processes hold the numbers that they are made from, and no other.
+fn hold_their_numbers() -> bool {
+    holds(Pid::from(0), 0)
+        && holds(Pid::from(12), 12)
+        && !holds(Pid::from(0), 12)
+        && !holds(Pid::from(12), 0)
+}
+
 #[test]
 fn processes_are_made_from_numbers(rt: HostRuntime) {
-    for (number, id, text) in &PROCESSES {
-        assert!(rt; is_named(rt.alloc(), Pid::from(*number), *id, text));
-    }
-    for (first, second, order) in &PAIRS {
-        let (first, second) = (Pid::from(*first), Pid::from(*second));
-        assert!(rt;
-            first.cmp(&second) == *order && (first == second) == (*order == Ordering::Equal)
-        );
-    }
-    assert!(rt;
-        holds(Pid::from(0), 0)
-            && holds(Pid::from(12), 12)
-            && !holds(Pid::from(0), 12)
-            && !holds(Pid::from(12), 0)
-    );
+    assert!(rt; are_named(rt.alloc()) && all_stand() && hold_their_numbers());
 }

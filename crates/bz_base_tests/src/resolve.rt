@@ -5,7 +5,8 @@ ghost use Rattle.bz_base.specs.Refusals.{IsFormatRefusal};
 ghost use Rattle.bz_base.specs.Resolution.{StartsBefore};
 
 use bz_base::{
-    Addr, Error, FindSymOpts, Reason, Resolve, ResolvedSym, SrcLang, Symbolize, TranslateFileOffset,
+    Addr, Error, FindSymOpts, Reason, Resolve, ResolvedSym, SrcLang, Sym, Symbolize,
+    TranslateFileOffset,
 };
 use std::alloc::Global;
 
@@ -48,13 +49,15 @@ impl TranslateFileOffset for OneFunction {
     }
 }
 
+/// Whether the symbol is `main`, and an address lies so far in it.
+fn is_main(symbol: &Sym<'_>, offset: Option<usize>) -> bool {
+    symbol.name.as_str() == "main" && symbol.addr == 0x1000 && Some(symbol.offset) == offset
+}
+
 /// Whether the address lies so far into `main`, or has no symbol.
 fn is_found<T: Symbolize>(table: &T, alloc: Global, addr: Addr, offset: Option<usize>) -> bool {
     match table.find_sym(alloc, addr, &FindSymOpts::Basic) {
-        Ok(Ok(found)) => {
-            let symbol = found.into_sym(addr);
-            symbol.name.as_str() == "main" && symbol.addr == 0x1000 && Some(symbol.offset) == offset
-        }
+        Ok(Ok(found)) => is_main(&found.into_sym(addr), offset),
         Ok(Err(_)) => offset.is_none(),
         Err(_) => false,
     }

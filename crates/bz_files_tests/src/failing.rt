@@ -90,24 +90,28 @@ const ANSWERS: [(ErrorKind, FileError, FileError); 4] = [
     (ErrorKind::Other, FileError::Fault, FileError::Fault),
 ];
 
-/// Whether a failure has these answers at a look and at a read, and only faults are counted.
+/// Whether the first look has this answer, and only a fault is counted.
+fn looks_as(files: &mut RealFiles<Failing>, answer: FileError) -> bool {
+    files.stat("/a") == Err(answer) && files.faults() == u64::from(answer == FileError::Fault)
+}
+
+/// Whether the first read has this answer, and only a fault is counted.
+fn reads_as(files: &mut RealFiles<Failing>, alloc: Global, answer: FileError) -> bool {
+    files.read(alloc, "/a").err() == Some(answer)
+        && files.faults() == u64::from(answer == FileError::Fault)
+}
+
+/// Files over such a runtime.
+fn first_fails(kind: ErrorKind) -> RealFiles<Failing> {
+    let kind = Cell::new(kind);
+    RealFiles::new(Failing { kind }, 0)
+}
+
+/// Whether a failure has these answers at a look and at a read.
 fn fails_as(alloc: Global, kind: ErrorKind, stat: FileError, read: FileError) -> bool {
-    let mut looked = RealFiles::new(
-        Failing {
-            kind: Cell::new(kind),
-        },
-        0,
-    );
-    let mut opened = RealFiles::new(
-        Failing {
-            kind: Cell::new(kind),
-        },
-        0,
-    );
-    looked.stat("/a") == Err(stat)
-        && looked.faults() == u64::from(stat == FileError::Fault)
-        && opened.read(alloc, "/a").err() == Some(read)
-        && opened.faults() == u64::from(read == FileError::Fault)
+    let looked = looks_as(&mut first_fails(kind), stat);
+    let opened = reads_as(&mut first_fails(kind), alloc, read);
+    looked && opened
 }
 
 #[test]

@@ -21,36 +21,59 @@ fn put(files: &mut MemFiles, alloc: Global, text: &str) -> Result<Option<Stamp>,
     files.put(alloc, "/a", text.as_bytes().to_vec(alloc)?)
 }
 
-/// Whether the looks answer by what was put, and the fourth one fails. What is at a path is taken
-/// away once, and all that happened is counted.
-fn answer_in_turn(files: &mut MemFiles, alloc: Global, stamp: Stamp) -> bool {
+/// Puts a text at `/a`, the same file at `/b`, and then another text at `/a` under the same stamp.
+/// Gives this stamp.
+fn put_two(files: &mut MemFiles, alloc: Global) -> Result<Option<Stamp>, Error> {
+    let Some(stamp) = put(files, alloc, "one")? else {
+        return Ok(None);
+    };
+    let linked = files.link(alloc, "/b", "/a")?;
+    files.put_as(alloc, "/a", stamp, b"two".to_vec(alloc)?)?;
+    Ok(if linked { Some(stamp) } else { None })
+}
+
+/// Whether the looks answer by what was put, and the fourth one fails.
+fn answers_in_turn(files: &mut MemFiles, alloc: Global, stamp: Stamp) -> bool {
     files.stat("/b") == Ok(stamp)
         && has_text(files, alloc, "two")
         && files.stat("/c") == Err(FileError::Denied)
         && files.stat("/b") == Err(FileError::Fault)
-        && files.remove("/b")
-        && !files.remove("/b")
-        && files.faults() == 1
-        && files.opens() == 1
-        && files.own_pid() == 7
 }
 
-/// Whether files hold what is put: a text at `/a`, the same file at `/b`, and then another text at
-/// `/a` under the same stamp. One may not be read, and a look fails.
-fn hold(files: &mut MemFiles, alloc: Global) -> Result<bool, Error> {
+/// Whether what is at a path is taken away once, and all that happened is counted.
+fn removes_and_counts(files: &mut MemFiles) -> bool {
+    let removed = files.remove("/b") && !files.remove("/b");
+    removed && files.faults() == 1 && files.opens() == 1 && files.own_pid() == 7
+}
+
+/// Whether files hold what is put, one that may not be read, and a look that fails.
+fn holds(files: &mut MemFiles, alloc: Global) -> Result<bool, Error> {
     files.begin();
-    let Some(stamp) = put(files, alloc, "one")? else {
+    let Some(stamp) = put_two(files, alloc)? else {
         return Ok(false);
     };
-    let linked = files.link(alloc, "/b", "/a")?;
-    files.put_as(alloc, "/a", stamp, b"two".to_vec(alloc)?)?;
     files.deny(alloc, "/c")?;
     files.fail_call(alloc, 4)?;
-    Ok(linked && answer_in_turn(files, alloc, stamp))
+    Ok(answers_in_turn(files, alloc, stamp) && removes_and_counts(files))
+}
+
+#[test]
+fn memory_files_hold_what_is_put(rt: HostRuntime) {
+    let held = holds(&mut MemFiles::new(rt.alloc(), 7), rt.alloc()) == Ok(true);
+    assert!(rt; held);
 }
 
 /// What the file at `/a` holds in each world that is scheduled.
 const TEXTS: [&str; 3] = ["one", "two", "three"];
+
+/// Schedules these worlds, behind a first one that is empty.
+fn schedule(files: &mut MemFiles, alloc: Global) -> Result<(), Error> {
+    for text in &TEXTS {
+        files.schedule(alloc)?;
+        put(files, alloc, text)?;
+    }
+    Ok(())
+}
 
 /// Whether the scheduled worlds come into view one by one, and the last one stays.
 fn come_in_turn(files: &mut MemFiles, alloc: Global) -> bool {
@@ -71,13 +94,10 @@ fn is_absent(files: &mut MemFiles, path: &str) -> bool
     matches!(files.stat(path), Err(FileError::NotFound))
 }
 
-/// Whether the worlds, scheduled behind a first one that is empty, are seen in turn. An edit of the
-/// last one is seen too: it is in view once all have come, and it is the one that edits change.
+/// Whether the worlds are seen in turn, and an edit of the last one too.
 fn are_seen(files: &mut MemFiles, alloc: Global) -> Result<bool, Error> {
-    for text in &TEXTS {
-        files.schedule(alloc)?;
-        put(files, alloc, text)?;
-    }
+    schedule(files, alloc)?;
+    // The last world is in view once all have come, and it is the one that edits change.
     Ok(
         is_absent(files, "/a")
             && come_in_turn(files, alloc)
@@ -86,14 +106,8 @@ fn are_seen(files: &mut MemFiles, alloc: Global) -> Result<bool, Error> {
     )
 }
 
-/// Whether new files hold what is put, and others show worlds in turn.
-fn hold_and_are_seen(alloc: Global) -> bool {
-    let mut files = MemFiles::new(alloc, 7);
-    let mut others = MemFiles::new(alloc, 7);
-    hold(&mut files, alloc) == Ok(true) && are_seen(&mut others, alloc) == Ok(true)
-}
-
 #[test]
-fn memory_files_hold_what_is_put_and_worlds_come_in_turn(rt: HostRuntime) {
-    assert!(rt; hold_and_are_seen(rt.alloc()));
+fn memory_worlds_come_in_turn(rt: HostRuntime) {
+    let seen = are_seen(&mut MemFiles::new(rt.alloc(), 7), rt.alloc()) == Ok(true);
+    assert!(rt; seen);
 }

@@ -14,6 +14,14 @@ fn comes_in_pieces(input: &mut MemIn) -> bool {
         && input.faults() == 1
 }
 
+/// Whether a text comes so of bytes in memory.
+fn comes_of_bytes(alloc: Global) -> bool {
+    match b"abcde".to_vec(alloc) {
+        Ok(bytes) => comes_in_pieces(&mut MemIn::new(bytes)),
+        Err(_) => false,
+    }
+}
+
 /// Whether a text goes in pieces, with a failure in between.
 fn goes_in_pieces(output: &mut MemOut) -> bool {
     output.fail_call(2);
@@ -23,17 +31,8 @@ fn goes_in_pieces(output: &mut MemOut) -> bool {
         && output.faults() == 1
 }
 
-/// Whether texts come from bytes in memory, and go there.
-fn come_and_go(alloc: Global) -> bool {
-    match b"abcde".to_vec(alloc) {
-        Ok(bytes) => {
-            comes_in_pieces(&mut MemIn::new(bytes)) && goes_in_pieces(&mut MemOut::new(alloc))
-        }
-        Err(_) => false,
-    }
-}
-
 #[test]
 fn memory_texts_go_in_pieces(rt: HostRuntime) {
-    assert!(rt; come_and_go(rt.alloc()));
+    let went = goes_in_pieces(&mut MemOut::new(rt.alloc()));
+    assert!(rt; went && comes_of_bytes(rt.alloc()));
 }

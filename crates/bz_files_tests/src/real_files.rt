@@ -21,6 +21,14 @@ fn has_stamp(files: &mut Real<'_>) -> bool {
     }
 }
 
+/// Whether the file at the path tells no length.
+fn tells_no_length(files: &mut Real<'_>, path: &str) -> bool {
+    match files.stat(path) {
+        Ok(stamp) => stamp.size == 0,
+        Err(_) => false,
+    }
+}
+
 /// Whether the file at the path is read, and has this text: all of it, or at its start.
 fn has_text(files: &mut Real<'_>, alloc: Global, path: &str, text: &[u8], whole: bool) -> bool {
     match files.read(alloc, path) {
@@ -55,22 +63,18 @@ fn are_absent(files: &mut Real<'_>, alloc: Global) -> bool {
     true
 }
 
-/// Whether a file tells no length.
-fn tells_no_length(files: &mut Real<'_>, path: &str) -> bool {
-    match files.stat(path) {
-        Ok(stamp) => stamp.size == 0,
-        Err(_) => false,
-    }
-}
-
-/// Whether all looks are answered, also of a file that tells no length. Those that read are counted.
+/// Whether looks at files, and at paths without one, are answered, and the one that reads is counted.
 fn are_looked_at(files: &mut Real<'_>, alloc: Global) -> bool {
     files.begin();
     has_stamp(files)
         && has_text(files, alloc, "bz_files_real", b"one two", true)
         && are_absent(files, alloc)
         && files.opens() == 1
-        && tells_no_length(files, "/proc/version")
+}
+
+/// Whether a file that tells no length is read too, and all that happened is counted.
+fn reads_without_length(files: &mut Real<'_>, alloc: Global) -> bool {
+    tells_no_length(files, "/proc/version")
         && has_text(files, alloc, "/proc/version", b"Linux version ", false)
         && files.faults() == 0
         && files.opens() == 2
@@ -85,14 +89,17 @@ fn are_told_apart(files: &mut RealFiles<HostRuntime>) -> Result<bool, FileError>
     Ok(timed && one.dev == two.dev && one.dev > 0 && one.inode != two.inode)
 }
 
+/// Whether the file at the path is a fault at a read, after which so many are counted.
+fn is_fault(files: &mut Real<'_>, alloc: Global, path: &str, faults: u64) -> bool {
+    is_refused(files, alloc, path, FileError::Fault) && files.faults() == faults
+}
+
 /// Whether a folder, a link to itself and a file that is too long are faults, and each is counted.
 fn fail_in_turn(files: &mut Real<'_>, alloc: Global) -> bool {
-    is_refused(files, alloc, ".", FileError::Fault)
-        && files.faults() == 1
+    is_fault(files, alloc, ".", 1)
         && files.stat("bz_files_loop") == Err(FileError::Fault)
         && files.faults() == 2
-        && is_refused(files, alloc, "bz_files_long", FileError::Fault)
-        && files.faults() == 3
+        && is_fault(files, alloc, "bz_files_long", 3)
         && files.opens() == 0
 }
 
@@ -105,17 +112,27 @@ const MADE: [&str; 5] = [
     "bz_files_long",
 ];
 
-/// Makes them. Only the first empty one's time is set. The last has a hole: one byte too long, and no
-/// byte is stored.
-fn make(rt: &HostRuntime) -> io::Result<()> {
+/// Makes the two empty ones. Only the first one's time is set.
+fn make_two(rt: &HostRuntime) -> io::Result<()> {
     let changed = Duration::new(1_234_567_890, 987_654_321);
-    fs::write(rt, "bz_files_real", b"one two".as_slice())?;
     if let Some(changed) = SystemTime::UNIX_EPOCH.checked_add(changed) {
         fs::create(rt, "bz_files_one")?.set_modified(changed)?;
     }
     fs::create(rt, "bz_files_two")?;
+    Ok(())
+}
+
+/// Makes the link, and the file with a hole: one byte too long, and no byte is stored.
+fn make_failing(rt: &HostRuntime) -> io::Result<()> {
     symlink(rt, "bz_files_loop", "bz_files_loop")?;
     fs::create(rt, "bz_files_long")?.set_len(1_073_741_825)
+}
+
+/// Makes all of them.
+fn make(rt: &HostRuntime) -> bool {
+    fs::write(rt, "bz_files_real", b"one two".as_slice()).is_ok()
+        && make_two(rt).is_ok()
+        && make_failing(rt).is_ok()
 }
 
 /// Takes them away. Says whether each was there.
@@ -127,16 +144,21 @@ fn remove(rt: &HostRuntime) -> bool {
     removed
 }
 
+/// Whether the files are looked at and read.
+fn all_are_looked_at(files: &mut Real<'_>, alloc: Global) -> bool {
+    are_looked_at(files, alloc) && reads_without_length(files, alloc)
+}
+
 /// Whether the files are looked at, told apart, and fail.
 fn answer(rt: &HostRuntime) -> bool {
-    are_looked_at(&mut RealFiles::new(rt, 7), rt.alloc())
+    all_are_looked_at(&mut RealFiles::new(rt, 7), rt.alloc())
         && are_told_apart(&mut RealFiles::new(rt.clone(), 0)) == Ok(true)
         && fail_in_turn(&mut RealFiles::new(rt, 0), rt.alloc())
 }
 
 #[test]
 fn real_files_are_looked_at_told_apart_and_fail(rt: HostRuntime) {
-    let made = make(&rt).is_ok();
+    let made = make(&rt);
     let answered = answer(&rt);
     let removed = remove(&rt);
     assert!(rt; made && answered && removed);

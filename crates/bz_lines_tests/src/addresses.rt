@@ -57,14 +57,29 @@ fn has_fields(alloc: Global, text: &[u8], count: usize, last: &[u8]) -> bool {
     }
 }
 
-/// Fields are cut at each space. An address is a whole text.
+/// Whether all inputs are read so.
+fn inputs_are_read(alloc: Global) -> bool {
+    for row in &INPUTS {
+        if !says(alloc, row.0, row.1, row.2, row.3) {
+            return false;
+        }
+    }
+    true
+}
+
+/// Whether fields are cut at each space.
+fn fields_are_cut(alloc: Global) -> bool {
+    for row in &FIELDS {
+        if !has_fields(alloc, row.0, row.1, row.2) {
+            return false;
+        }
+    }
+    true
+}
+
+/// An address is a whole text.
 #[test]
 fn reads_addresses_of_lines_and_fields(rt: HostRuntime) {
-    for row in &INPUTS {
-        assert!(rt; says(rt.alloc(), row.0, row.1, row.2, row.3));
-    }
-    for row in &FIELDS {
-        assert!(rt; has_fields(rt.alloc(), row.0, row.1, row.2));
-    }
+    assert!(rt; inputs_are_read(rt.alloc()) && fields_are_cut(rt.alloc()));
     assert!(rt; address(b"0x1f") == Some(31) && address(b"1f ") == None);
 }

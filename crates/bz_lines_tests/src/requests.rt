@@ -108,11 +108,23 @@ fn is_read(alloc: Global, text: &[u8], line: u64) -> bool {
     }
 }
 
-/// Addresses of a process are absolute.
+/// Whether all inputs are read so.
+fn inputs_are_read(alloc: Global) -> bool {
+    for (text, line) in &INPUTS {
+        if !is_read(alloc, text, *line) {
+            return false;
+        }
+    }
+    true
+}
+
+/// Whether addresses of the target are absolute.
+fn is_absolute(target: &Target) -> bool {
+    target.usual_kind() == Input::AbsAddr(())
+}
+
 #[test]
 fn reads_requests_of_every_kind(rt: HostRuntime) {
-    for (text, line) in &INPUTS {
-        assert!(rt; is_read(rt.alloc(), text, *line));
-    }
-    assert!(rt; Target::Process(0).usual_kind() == Input::AbsAddr(()));
+    assert!(rt; inputs_are_read(rt.alloc()));
+    assert!(rt; is_absolute(&Target::Process(0)));
 }

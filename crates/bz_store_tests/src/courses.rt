@@ -1,6 +1,6 @@
 //! What stores answer frames, and which files they keep.
 
-use bz_base::{Error, FindSymOpts, Symbolized};
+use bz_base::{Error, FindSymOpts, Sym, Symbolized};
 use bz_files::MemFiles;
 use bz_store::{CrashFrame, FrameAnswer, Store};
 use std::alloc::Global;
@@ -158,21 +158,19 @@ fn frames(alloc: Global, rows: &[Frame]) -> Result<Vec<CrashFrame>, Error> {
     Ok(frames)
 }
 
+/// Whether the symbol is that of the function at its 16th byte.
+fn is_the_function(sym: &Sym<'_>) -> bool {
+    sym.name.as_str() == "another func"
+        && sym.addr == 0x1000
+        && sym.offset == 0x10
+        && sym.size == Some(0x30)
+}
+
 /// A letter for an answer: `f` the function of the file at its 16th byte, `s` another symbol, `u` an
 /// unknown address, `n` a bad name, `a` no file, `d` denied, `x` a bad file.
 fn letter(answer: &FrameAnswer) -> u8 {
     match answer {
-        FrameAnswer::Known(Symbolized::Sym(sym)) => {
-            if sym.name.as_str() == "another func"
-                && sym.addr == 0x1000
-                && sym.offset == 0x10
-                && sym.size == Some(0x30)
-            {
-                b'f'
-            } else {
-                b's'
-            }
-        }
+        FrameAnswer::Known(Symbolized::Sym(sym)) => if is_the_function(sym) { b'f' } else { b's' },
         FrameAnswer::Known(Symbolized::Unknown(_)) => b'u',
         FrameAnswer::BadName => b'n',
         FrameAnswer::NoFile => b'a',

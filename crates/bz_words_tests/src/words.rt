@@ -238,6 +238,14 @@ fn is_target(target: &Target, row: &Row) -> bool {
     }
 }
 
+/// Whether the product is this one.
+fn is_product(product: &Product, row: &Row) -> bool {
+    match product {
+        Product::Converted(text) => row.2 == "convert" && text.as_str() == row.4,
+        Product::Canonical(text) => row.2 == "canon" && text.as_str() == row.4,
+    }
+}
+
 /// Whether the job is this one.
 fn is_job(job: &Job, row: &Row) -> bool {
     match job {
@@ -248,8 +256,7 @@ fn is_job(job: &Job, row: &Row) -> bool {
             functions,
             addresses,
         } => row.2 == "gen" && row.5 == [*seed, *functions, *addresses].as_slice(),
-        Job::Make(Product::Converted(text)) => row.2 == "convert" && text.as_str() == row.4,
-        Job::Make(Product::Canonical(text)) => row.2 == "canon" && text.as_str() == row.4,
+        Job::Make(product) => is_product(product, row),
         Job::Stacks(text) => row.2 == "stacks" && text.as_str() == row.4,
         Job::Frames(text) => row.2 == "frames" && text.as_str() == row.4,
     }
@@ -263,23 +270,51 @@ fn is_command(command: &Command, row: Option<&Row>) -> bool {
     }
 }
 
-/// Whether a line is taken as this command, or refused where there is none.
-fn is_read(alloc: Global, line: &str, row: Option<&Row>) -> bool {
-    let Some(words) = words_of(alloc, line) else {
-        return false;
-    };
-    match read_command(alloc, words.as_slice()) {
+/// Whether words are taken as this command, or refused where there is none.
+fn are_read(alloc: Global, words: &[String], row: Option<&Row>) -> bool {
+    match read_command(alloc, words) {
         Ok(command) => is_command(&command, row),
         Err(bad) => bad == BadWords::Usage && row.is_none(),
     }
 }
 
-/// Whether what `clap` says of a line begins so, and has no line feed at its end.
-fn is_complaint(alloc: Global, line: &str, start: &str) -> bool {
-    let Some(words) = words_of(alloc, line) else {
-        return false;
-    };
-    match complaint(alloc, words.as_slice()) {
+/// Whether a line is taken as this command, or refused where there is none.
+fn is_read(alloc: Global, line: &str, row: Option<&Row>) -> bool {
+    match words_of(alloc, line) {
+        Some(words) => are_read(alloc, words.as_slice(), row),
+        None => false,
+    }
+}
+
+/// Whether flags and values are taken in each place.
+fn are_taken(alloc: Global) -> bool {
+    for row in &TAKEN {
+        if !is_read(alloc, row.0, Some(row)) {
+            return false;
+        }
+    }
+    true
+}
+
+/// Whether what is no command line is refused.
+fn are_refused(alloc: Global) -> bool {
+    for line in &REFUSED {
+        if !is_read(alloc, line, None) {
+            return false;
+        }
+    }
+    true
+}
+
+#[test]
+fn reads_command_lines(rt: HostRuntime) {
+    assert!(rt; are_taken(rt.alloc()) && are_refused(rt.alloc()));
+    assert!(rt; are_read(rt.alloc(), &[], None));
+}
+
+/// Whether what `clap` says of words begins so, and has no line feed at its end.
+fn are_complained_of(alloc: Global, words: &[String], start: &str) -> bool {
+    match complaint(alloc, words) {
         Ok(Some(said)) => {
             !start.is_empty() && said.as_str().starts_with(start) && !said.as_str().ends_with('\n')
         }
@@ -288,16 +323,16 @@ fn is_complaint(alloc: Global, line: &str, start: &str) -> bool {
     }
 }
 
-/// Flags and values are taken in each place. What is no command line is refused, as no words are.
+/// The same of a line.
+fn is_complaint(alloc: Global, line: &str, start: &str) -> bool {
+    match words_of(alloc, line) {
+        Some(words) => are_complained_of(alloc, words.as_slice(), start),
+        None => false,
+    }
+}
+
 #[test]
-fn reads_command_lines_and_says_what_clap_says(rt: HostRuntime) {
-    for row in &TAKEN {
-        assert!(rt; is_read(rt.alloc(), row.0, Some(row)));
-    }
-    for line in &REFUSED {
-        assert!(rt; is_read(rt.alloc(), line, None));
-    }
-    assert!(rt; matches!(read_command(rt.alloc(), &[]), Err(BadWords::Usage)));
+fn says_what_clap_says(rt: HostRuntime) {
     for (line, start) in &COMPLAINTS {
         assert!(rt; is_complaint(rt.alloc(), line, start));
     }
