@@ -152,7 +152,7 @@ fn all_are_looked_at(files: &mut Real<'_>, alloc: Global) -> bool {
 /// Whether the files are looked at, told apart, and fail.
 fn answer(rt: &HostRuntime) -> bool {
     all_are_looked_at(&mut RealFiles::new(rt, 7), rt.alloc())
-        && are_told_apart(&mut RealFiles::new(rt.clone(), 0)) == Ok(true)
+        && are_told_apart(&mut RealFiles::new(*rt, 0)) == Ok(true)
         && fail_in_turn(&mut RealFiles::new(rt, 0), rt.alloc())
 }
 
