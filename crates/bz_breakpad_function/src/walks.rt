@@ -5,7 +5,8 @@ ghost use Rattle.std.specs.List.{AllByRecursion};
 ghost use Rattle.bz_base.specs.Line as base;
 ghost use Rattle.bz_breakpad_function.specs.InOrder.{IsTextOfLines};
 ghost use Rattle.bz_breakpad_function.specs.Lent.{kept_inlinee};
-ghost use Rattle.bz_breakpad_lines.specs.LineStarts.{ReadsLine, line_read};
+ghost use Rattle.bz_breakpad_lines.specs.LineStarts.{ReadsLine};
+ghost use Rattle.bz_breakpad_lines.specs.Stops.{AreStops};
 ghost use Rattle.bz_breakpad_lines.specs.Told.{line_seen};
 ghost use Rattle.bz_breakpad_table.specs.Kept.{IsRunAt, function_seen, kept_call, kept_lines, text_at};
 ghost use Rattle.bz_breakpad_table.specs.LineRun.{AreLineRecords, IsRunFront, lines_in};
@@ -15,7 +16,7 @@ use crate::calls::inlinee_of;
 use crate::line_run::{LINE_LEN, ends_line};
 use crate::types::Inlinee;
 use bz_base::first_line;
-use bz_breakpad_lines::{SourceLine, line_at, line_len};
+use bz_breakpad_lines::{Shown, SourceLine, Stops, line_at, line_or_zeros, next_line};
 use bz_breakpad_table::{CallRange, FunctionTable, KeptFunction, LineRecords, Part};
 use std::alloc::{AllocError, Global};
 
@@ -146,27 +147,55 @@ fn lines_in_front(alloc: Global, text: &[u8], len: usize) -> Result<Vec<SourceLi
     let mut lines = Vec::with_capacity(alloc, len / LINE_LEN + 1)?;
     let mut rest = text;
     let mut left = len;
+    let mut stops = Stops::none();
     while left > 0 {
-        lines.push(line_or_none(rest, 0))?;
-        let first = first_len(rest, left);
-        rest = &rest[first..];
-        left -= first;
+        let first = first_of_run(Shown { text: rest, stops }, left);
+        lines.push(first.line)?;
+        rest = &rest[first.len..];
+        left -= first.len;
+        stops = first.stops;
     }
     Ok(lines)
 }
 
-/// How many bytes the first line takes, with its end, of a run that is so many bytes of the text.
+/// The first line of a run.
+#[derive(Clone, Copy)]
+struct FirstOfRun {
+    /// Its record.
+    line: SourceLine,
+    /// How many bytes it takes, with its end.
+    len: usize,
+    /// What is shown of the bytes behind it.
+    stops: Stops,
+}
+
+/// The first line of a run that is so many bytes of the text.
 #[inline(always)]
-fn first_len(text: &[u8], len: usize) -> usize
-    requires run { IsRunFront text.now len }
+fn first_of_run(shown: Shown<'_>, len: usize) -> FirstOfRun
+    requires run { IsRunFront shown.text.now len }
     requires some { 0 < len }
-    ensures lines { lines_in (take len text.now) ≡ line_read text.now 0 ∷ lines_in (take (len - result) (drop result text.now)) }
-    ensures rest { IsRunFront (drop result text.now) (len - result) }
-    ensures some { 0 < result }
-    ensures within { result ≤ len }
+    requires stops { AreStops shown.text.now shown.stops }
+    ensures lines { lines_in (take len shown.entry.text.now) ≡ line_seen result.line ∷ lines_in (take (len - result.len) (drop result.len shown.entry.text.now)) }
+    ensures rest { IsRunFront (drop result.len shown.entry.text.now) (len - result.len) }
+    ensures some { 0 < result.len }
+    ensures within { result.len ≤ len }
+    ensures stops { AreStops (drop result.len shown.entry.text.now) result.stops }
 {
-    let end = line_len(text) + 1;
-    if end < len { end } else { len }
+    let next = next_line(shown);
+    let end = next.len + 1;
+    if end < len {
+        FirstOfRun {
+            line: next.line,
+            len: end,
+            stops: next.stops,
+        }
+    } else {
+        FirstOfRun {
+            line: next.line,
+            len,
+            stops: Stops::none(),
+        }
+    }
 }
 
 /// The line records that begin at places in the bytes.
@@ -192,7 +221,7 @@ fn line_of_run(text: &[u8], index: usize) -> SourceLine
     requires within { index < length (lines_in text.now) }
     ensures { slice_get (lines_in text.now) index ≡ Some (line_seen result) }
 {
-    line_or_none(after_lines(text, index), 0)
+    line_or_zeros(after_lines(text, index), 0)
 }
 
 /// The line record at an index of those that begin at places in the bytes.
@@ -201,7 +230,7 @@ fn line_of_places(bytes: &[u8], places: &[usize], index: usize) -> SourceLine
     requires within { index < length places.now }
     ensures { slice_get (kept_lines bytes.now places.now) index ≡ Some (line_seen result) }
 {
-    line_or_none(bytes, places[index])
+    line_or_zeros(bytes, places[index])
 }
 
 /// How many lines a text has.
@@ -235,20 +264,5 @@ fn after_line(text: &[u8]) -> &[u8]
     match first_line(text) {
         Some((_line, after)) => after,
         None => text,
-    }
-}
-
-/// The line record at a place; one of zeros where none is.
-fn line_or_none(bytes: &[u8], place: usize) -> SourceLine
-    ensures { line_seen result ≡ line_read bytes.now place }
-{
-    match line_at(bytes, place) {
-        Some(line) => line,
-        None => SourceLine {
-            addr: 0,
-            size: 0,
-            line: 0,
-            file: 0,
-        },
     }
 }

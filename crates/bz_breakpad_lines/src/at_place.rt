@@ -5,15 +5,17 @@ ghost use Rattle.std.specs.List.{prefix_len};
 ghost use Rattle.bz_base.specs.Byte.{line_feed};
 ghost use Rattle.bz_breakpad_lines.specs.Calls.{call_in, call_read};
 ghost use Rattle.bz_breakpad_lines.specs.Form.Piece.{Hex};
-ghost use Rattle.bz_breakpad_lines.specs.Line.{line_in};
-ghost use Rattle.bz_breakpad_lines.specs.LineStarts.{ReadsLine, line_start};
+ghost use Rattle.bz_breakpad_lines.specs.Line.{line_in, source_line};
+ghost use Rattle.bz_breakpad_lines.specs.LineStarts.{ReadsLine, line_read, line_start};
+ghost use Rattle.bz_breakpad_lines.specs.QuickLine.{line_between};
 ghost use Rattle.bz_breakpad_lines.specs.Reads.{piece_at};
+ghost use Rattle.bz_breakpad_lines.specs.Stops.{AreDigits};
 ghost use Rattle.bz_breakpad_lines.specs.Told.{line_seen, call_told};
 
 use crate::field::{body, hex};
 use crate::inline::call_line;
 use crate::lanes::few_hex;
-use crate::line::{line_ends, line_feeds};
+use crate::line::{LineEnds, line_ends, line_feeds};
 use crate::quick::Shown;
 use crate::record::{InlineCall, SourceLine, call_front, code_line};
 use crate::values::hex_front;
@@ -76,12 +78,25 @@ fn quick_line(text: &[u8]) -> Option<SourceLine>
     let shown = Shown::at_front(text)?;
     let start = shown.hex_end(0, 8)?;
     let ends = line_ends(shown, start)?;
-    Some(SourceLine {
+    Some(line_by(shown, start, ends))
+}
+
+/// The line record at the front whose fields end there.
+#[inline(always)]
+pub(crate) fn line_by(shown: Shown<'_>, start: u32, ends: LineEnds) -> SourceLine
+    requires room { 72 ≤ length shown.text.now }
+    requires start { AreDigits 16 8 shown.text.now 0 start }
+    requires size { AreDigits 16 8 shown.text.now (start + 1) ends.size }
+    requires line { AreDigits 10 8 shown.text.now (ends.size + 1) ends.line }
+    requires file { AreDigits 10 8 shown.text.now (ends.line + 1) ends.file }
+    ensures { line_seen result ≡ source_line (line_between shown.entry.text.now start ends) }
+{
+    SourceLine {
         addr: u64::from(shown.hex(0, start)),
         size: shown.hex(start + 1, ends.size),
         line: shown.dec(ends.size + 1, ends.line),
         file: shown.dec(ends.line + 1, ends.file),
-    })
+    }
 }
 
 /// The line record that the first line of the text is.
@@ -89,6 +104,21 @@ fn any_line(text: &[u8]) -> Option<SourceLine>
     ensures { option_map line_seen result ≡ line_in text.now }
 {
     code_line(body(&text[..line_len(text)])?)
+}
+
+/// The line record at a place in the bytes; one of zeros where none is.
+pub fn line_or_zeros(bytes: &[u8], place: usize) -> SourceLine
+    ensures { line_seen result ≡ line_read bytes.now place }
+{
+    match line_at(bytes, place) {
+        Some(line) => line,
+        None => SourceLine {
+            addr: 0,
+            size: 0,
+            line: 0,
+            file: 0,
+        },
+    }
 }
 
 /// Where the code of the line record at a place starts.

@@ -20,6 +20,17 @@ pub struct Stops {
 }
 
 impl Stops {
+    /// No bytes.
+    pub fn none() -> Stops
+        ensures { (text : List ℕ) → AreStops text result }
+    {
+        Stops {
+            hex: 0,
+            dec: 0,
+            end: 0,
+        }
+    }
+
     /// The first 64 bytes.
     #[inline(always)]
     pub fn at_front(text: &[u8]) -> Stops

@@ -5,6 +5,7 @@
 mod at_place;
 mod field;
 mod func;
+mod in_turn;
 mod inline;
 mod lanes;
 pub mod laws;
@@ -15,9 +16,10 @@ mod record;
 mod start_text;
 mod values;
 
-pub use at_place::{call_at, line_at, line_len, start_at, start_of};
+pub use at_place::{call_at, line_at, line_len, line_or_zeros, start_at, start_of};
 pub use field::body;
 pub use func::{cfi_line, func_line};
+pub use in_turn::{NextLine, next_line};
 pub use inline::inline_line;
 pub use lanes::Stops;
 pub use line::{QuickLine, line_feeds, quick_line};

@@ -1,10 +1,7 @@
 -- One use more: what was used before adds nothing, and what is new comes last. The index of what is listed.
 use Rattle.std.proofs.Common.{◌≡◌, ℕ, zero, suc, ◌≤◌, Bool, true, false, cond, not, List, [], ◌∷◌, ◌++◌, length, Option, Some, None, option_map, refl, sym, ap, subst, ◌∙◌, arith, append-nil, append_assoc}
 use Rattle.std.specs.Prelude.{◌||◌, is_some}
-use Rattle.std.specs.BTreeMap.{BTreeMap, get}
 use Rattle.std.specs.List.{filter, list_any, slice_get}
-use Rattle.std.specs.Ordering.{is_eq}
-use Rattle.std.specs.declared.cmp.Ordering.{Ordering}
 use Rattle.std.proofs.lemmas.List.{length-append}
 use Rattle.std.proofs.lemmas.Option.{none-some, same_Some}
 use Rattle.bz_converting.specs.Listed.{HasIndexes, index_if, with_one}
@@ -125,12 +122,12 @@ module _ {X : Type 0} (same : X → X → Bool) where
         subst P (append_assoc xs (x ∷ []) more)
         (grows_on (firsts same xs) (firsts same (xs ++ x ∷ [])) (firsts same ((xs ++ x ∷ []) ++ more)) (subst Q (sym (firsts_last xs x)) (one_grows (firsts same xs) x)) (firsts_grow more (xs ++ x ∷ [])))
 
-    -- a map with the indexes, and that of one more
-    module _ {K Q : Type 0} (cmp : K → K → Ordering) (key : Q → K) (view : Q → X) (tied : (a b : Q) → is_eq (cmp (key a) (key b)) ≡ same (view a) (view b)) where
-      pub indexes_more : (m n : BTreeMap K ℕ) (xs : List X) (one : Q) → HasIndexes cmp key view same m xs → index_if same (view one) xs ≡ None →
-          ((k : K) → get cmp n k ≡ cond (is_eq (cmp (key one) k)) (Some (length xs)) (get cmp m k)) → HasIndexes cmp key view same n (xs ++ view one ∷ [])
+    -- the indexes as they are found, and that of one more
+    module _ {Q : Type 0} (equal : Q → Q → Bool) (view : Q → X) (tied : (a b : Q) → equal a b ≡ same (view a) (view b)) where
+      pub indexes_more : (m n : Q → Option ℕ) (xs : List X) (one : Q) → HasIndexes m view same xs → index_if same (view one) xs ≡ None →
+          ((q : Q) → n q ≡ cond (equal one q) (Some (length xs)) (m q)) → HasIndexes n view same (xs ++ view one ∷ [])
       indexes_more m n xs one has new updates q =
-          updates (key q) ∙ ap (λ b. cond b (Some (length xs)) (get cmp m (key q))) (tied one q) ∙ ap (λ o. cond (same (view one) (view q)) (Some (length xs)) o) (has q)
+          updates q ∙ ap (λ b. cond b (Some (length xs)) (m q)) (tied one q) ∙ ap (λ o. cond (same (view one) (view q)) (Some (length xs)) o) (has q)
           ∙ by (same (view one) (view q)) refl (index_if same (view q) xs) refl ∙ sym (index_last (view q) xs (view one)) where
             by : (b : Bool) → same (view one) (view q) ≡ b → (o : Option ℕ) → index_if same (view q) xs ≡ o → cond b (Some (length xs)) o ≡ or_else o (cond b (Some (length xs)) None)
             by true is None found = refl

@@ -1,10 +1,10 @@
 -- Texts and source files are numbered one after another.
 use Rattle.std.proofs.Common.{◌≡◌, ◌⊎◌, inl, inr, ℕ, zero, suc, ◌<◌, Bool, true, false, cond, List, [], ◌∷◌, ◌++◌, drop, length, map, take, Option, Some, None, refl, sym, ap, ap₂, subst, ◌∙◌, arith, append-nil, append_assoc}
 use Rattle.std.specs.Prelude.{◌==◌, ◌&&◌, ◌||◌, IfOk, OnOk, Result, Ok, Err}
-use Rattle.std.specs.BTreeMap.{get}
+use Rattle.std.specs.BTreeMap as btree
 use Rattle.std.specs.Borrow.{Bor}
+use Rattle.std.specs.HashMap.{get}
 use Rattle.std.specs.Cmp.{unsigned_ties}
-use Rattle.std.specs.Cmp.Lexicographic.{slice_cmp}
 use Rattle.std.specs.List.{list_any, slice_get}
 use Rattle.std.specs.Ordering.{is_eq, nat_cmp, ordering_then}
 use Rattle.std.specs.Str.{bytes_eq}
@@ -12,13 +12,11 @@ use Rattle.std.specs.declared.cmp.Ordering.{Ordering}
 use Rattle.std.specs.declared.cmp.Ordering.TheVariants.{Less, Equal, Greater}
 use Rattle.std.proofs.lemmas.Bool.{and_parts, eq-eqb, eqb-true, true≢false}
 use Rattle.std.proofs.lemmas.List.{length-map, map-append}
-use Rattle.std.proofs.lemmas.Map.Text.{is_eq-slice_cmp}
 use Rattle.std.proofs.lemmas.Option.{none-some, same_Some, slice_get_within}
 use Rattle.bz_breakpad_lines.specs.Table.{Table}
 use Rattle.bz_convert.proofs.DistinctLemmas.{any_in}
-use Rattle.bz_converting.specs.Hashed.{hash_of}
 use Rattle.bz_converting.specs.Listed.{HasIndexes, index_if, with_one}
-use Rattle.bz_converting.specs.Numbered.{AreFiles, AreKnown, AreNumbered, AreTexts, IsNumbering, IsRemembered, origin_named, source_named, file_of, hashed, hashed_cmp, listed_sources, listed_texts, pair_cmp, same_file, text_of}
+use Rattle.bz_converting.specs.Numbered.{AreFiles, AreKnown, AreNumbered, AreTexts, IsNumbering, IsRemembered, origin_named, source_named, file_of, listed_sources, listed_texts, pair_cmp, same_file, same_text, text_of}
 use Rattle.bz_converting.specs.declared.numbering.Numbering.{Numbering}
 use Rattle.bz_converting.specs.declared.sources.Sources.{Sources}
 use Rattle.bz_converting.specs.declared.texts.Texts.{Texts}
@@ -37,19 +35,6 @@ both_tie Less q = refl
 both_tie Equal q = refl
 both_tie Greater q = refl
 
--- texts that are the same have one hash
-pub texts_tied : (a b : Bor (List ℕ)) → is_eq (hashed_cmp (hashed a) (hashed b)) ≡ bytes_eq (text_of a) (text_of b)
-texts_tied a b =
-    both_tie (nat_cmp (hash_of a.now) (hash_of b.now)) (slice_cmp nat_cmp a.now b.now) ∙ ap (λ t. t && is_eq (slice_cmp nat_cmp a.now b.now)) (sym (unsigned_ties (hash_of a.now) (hash_of b.now)))
-    ∙ ap (λ t. (hash_of a.now == hash_of b.now) && t) (is_eq-slice_cmp a.now b.now) ∙ by (bytes_eq a.now b.now) refl where
-      never : (t : Bool) → (t && false) ≡ false
-      never true = refl
-      never false = refl
-
-      by : (t : Bool) → bytes_eq a.now b.now ≡ t → ((hash_of a.now == hash_of b.now) && t) ≡ t
-      by true is = ap (λ t. t && true) (eq-eqb (hash_of a.now) (hash_of b.now) (ap hash_of (text_same a.now b.now is)))
-      by false is = never (hash_of a.now == hash_of b.now)
-
 pub last_at : {X : Type 0} (xs : List X) (x : X) → slice_get (xs ++ x ∷ []) (length xs) ≡ Some x
 last_at [] x = refl
 last_at (y ∷ xs) x = last_at xs x
@@ -63,24 +48,23 @@ module _ (used : List (List ℕ)) (t : Texts) (are : AreTexts used t) (text : Li
   }
 
   pub texts_more : (new : Texts) → index_if bytes_eq text (listed_texts t) ≡ None → listed_texts new ≡ listed_texts t ++ text ∷ [] →
-      HasIndexes hashed_cmp hashed text_of bytes_eq new.indexes (listed_texts t ++ text ∷ []) → AreTexts (used ++ text ∷ []) new
+      HasIndexes (get same_text new.indexes) text_of bytes_eq (listed_texts t ++ text ∷ []) → AreTexts (used ++ text ∷ []) new
   texts_more new none listed has = record {
     listed = listed ∙ sym (one_new bytes_eq (listed_texts t) text none) ∙ ap (λ l. with_one bytes_eq l text) are.listed ∙ sym (firsts_last bytes_eq text_same used text);
-    indexes = subst (HasIndexes hashed_cmp hashed text_of bytes_eq new.indexes) (sym listed) has;
+    indexes = subst (HasIndexes (get same_text new.indexes) text_of bytes_eq) (sym listed) has;
   }
 
 -- A text that wasn't used before, as a map and a list take it.
 module _ (used : List (List ℕ)) (t : Texts) (are : AreTexts used t) (text : Bor (List ℕ)) (new : Texts) (index : ℕ) (counted : index ≡ length t.listed.items) (pushed : new.listed.items ≡ t.listed.items ++ text ∷ []) where
-  pub texts_inserted : (key : ℕ × Bor (List ℕ)) → key ≡ hashed text → get hashed_cmp t.indexes key ≡ None →
-      ((k : ℕ × Bor (List ℕ)) → get hashed_cmp new.indexes k ≡ cond (is_eq (hashed_cmp key k)) (Some index) (get hashed_cmp t.indexes k)) → AreTexts (used ++ text.now ∷ []) new
-  texts_inserted key is none updates =
+  pub texts_inserted : get same_text t.indexes text ≡ None →
+      ((k : Bor (List ℕ)) → get same_text new.indexes k ≡ cond (same_text text k) (Some index) (get same_text t.indexes k)) → AreTexts (used ++ text.now ∷ []) new
+  texts_inserted none updates =
       let listed : listed_texts new ≡ listed_texts t ++ text.now ∷ [] = ap (map text_of) pushed ∙ map-append text_of t.listed.items (text ∷ []) in
-      let new_one : index_if bytes_eq text.now (listed_texts t) ≡ None = sym (are.indexes text) ∙ ap (get hashed_cmp t.indexes) (sym is) ∙ none in
+      let new_one : index_if bytes_eq text.now (listed_texts t) ≡ None = sym (are.indexes text) ∙ none in
       let count : index ≡ length (listed_texts t) = counted ∙ sym (length-map t.listed.items text_of) in
       texts_more used t are text.now new new_one listed
-      (indexes_more bytes_eq text_same hashed_cmp hashed text_of texts_tied t.indexes new.indexes (listed_texts t) text are.indexes new_one
-      (λ k. updates k ∙ ap (λ n. cond (is_eq (hashed_cmp key k)) (Some n) (get hashed_cmp t.indexes k)) count
-      ∙ ap (λ p. cond (is_eq (hashed_cmp p k)) (Some (length (listed_texts t))) (get hashed_cmp t.indexes k)) is))
+      (indexes_more bytes_eq text_same same_text text_of (λ a b. refl) (get same_text t.indexes) (get same_text new.indexes) (listed_texts t) text are.indexes new_one
+      (λ k. updates k ∙ ap (λ n. cond (same_text text k) (Some n) (get same_text t.indexes k)) count))
 
   pub text_inserted_at : slice_get (listed_texts new) index ≡ Some text.now
   text_inserted_at =
@@ -177,12 +161,12 @@ module _ (texts : List (List ℕ)) (sources : List Source) (n : Numbering) (is :
       record {
         texts = are;
         sources = ap (λ s. map (source_of (listed_texts new.texts)) s.listed.items) same ∙ files_stay (listed_texts n.texts) (listed_texts new.texts) grows n.sources.listed.items is.within ∙ is.sources;
-        files = subst (λ s. HasIndexes pair_cmp (λ pair. pair) file_of same_file s.indexes s.listed.items) (sym same) is.files;
+        files = subst (λ s. HasIndexes (btree.get pair_cmp s.indexes) file_of same_file s.listed.items) (sym same) is.files;
         within = subst (λ s. indexed.AreFiles (length (listed_texts new.texts)) s.listed.items) (sym same) (within_more (listed_texts n.texts) (listed_texts new.texts) grows n.sources.listed.items is.within);
       }
 
   pub source_numbered : (f : SourceFile) (s : Source) → slice_get (listed_texts n.texts) f.dir ≡ Some s.dir → slice_get (listed_texts n.texts) f.name ≡ Some s.file →
-      (new : Numbering) → new.texts ≡ n.texts → new.sources.listed.items ≡ with_one same_file n.sources.listed.items f → HasIndexes pair_cmp (λ pair. pair) file_of same_file new.sources.indexes new.sources.listed.items →
+      (new : Numbering) → new.texts ≡ n.texts → new.sources.listed.items ≡ with_one same_file n.sources.listed.items f → HasIndexes (btree.get pair_cmp new.sources.indexes) file_of same_file new.sources.listed.items →
       AreNumbered texts (sources ++ s ∷ []) new
   source_numbered f s at_dir at_file new same listed has =
       let all = listed_texts n.texts in
@@ -212,14 +196,15 @@ module _ (texts : List (List ℕ)) (sources : List Source) (old : Numbering) (is
 
 -- A source file that wasn't used before.
 module _ (s : Sources) (has : AreFiles s) (file : SourceFile) (new : Sources) (index : ℕ) (counted : index ≡ length s.listed.items) (pushed : new.listed.items ≡ s.listed.items ++ file ∷ []) where
-  pub file_listed : get pair_cmp s.indexes (file.dir, file.name) ≡ None → new.listed.items ≡ with_one same_file s.listed.items file
+  pub file_listed : btree.get pair_cmp s.indexes (file.dir, file.name) ≡ None → new.listed.items ≡ with_one same_file s.listed.items file
   file_listed none = pushed ∙ sym (one_new same_file s.listed.items file (sym (has (file.dir, file.name)) ∙ none))
 
-  pub files_inserted : get pair_cmp s.indexes (file.dir, file.name) ≡ None → ((q : ℕ × ℕ) → get pair_cmp new.indexes q ≡ cond (is_eq (pair_cmp (file.dir, file.name) q)) (Some index) (get pair_cmp s.indexes q)) → AreFiles new
+  pub files_inserted : btree.get pair_cmp s.indexes (file.dir, file.name) ≡ None →
+      ((q : ℕ × ℕ) → btree.get pair_cmp new.indexes q ≡ cond (is_eq (pair_cmp (file.dir, file.name) q)) (Some index) (btree.get pair_cmp s.indexes q)) → AreFiles new
   files_inserted none updates =
-      subst (HasIndexes pair_cmp (λ pair. pair) file_of same_file new.indexes) (sym pushed)
-      (indexes_more same_file files_same pair_cmp (λ pair. pair) file_of files_tied s.indexes new.indexes s.listed.items (file.dir, file.name) has (sym (has (file.dir, file.name)) ∙ none)
-      (λ q. updates q ∙ ap (λ n. cond (is_eq (pair_cmp (file.dir, file.name) q)) (Some n) (get pair_cmp s.indexes q)) counted))
+      subst (HasIndexes (btree.get pair_cmp new.indexes) file_of same_file) (sym pushed)
+      (indexes_more same_file files_same (λ a b. is_eq (pair_cmp a b)) file_of files_tied (btree.get pair_cmp s.indexes) (btree.get pair_cmp new.indexes) s.listed.items (file.dir, file.name) has
+      (sym (has (file.dir, file.name)) ∙ none) (λ q. updates q ∙ ap (λ n. cond (is_eq (pair_cmp (file.dir, file.name) q)) (Some n) (btree.get pair_cmp s.indexes q)) counted))
 
   pub file_inserted_at : slice_get new.listed.items index ≡ Some file
   file_inserted_at = ap (λ l. slice_get l index) pushed ∙ ap (slice_get (s.listed.items ++ file ∷ [])) counted ∙ last_at s.listed.items file

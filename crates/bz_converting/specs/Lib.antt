@@ -1,6 +1,5 @@
 pub mod Converted
 pub mod FilePlan
-pub mod Hashed
 pub mod Laid
 pub mod Listed
 pub mod Numbered

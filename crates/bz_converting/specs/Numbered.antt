@@ -1,14 +1,14 @@
 -- Texts and source files of a plan that is collected, numbered where they are first used.
 use Rattle.std.specs.Prelude.{◌≡◌, ◌⊎◌, ℕ, Bool, ◌==◌, ◌&&◌, List, [], length, map, Option, Some, slice_get, unwrap_or}
+use Rattle.std.specs.BTreeMap as btree
 use Rattle.std.specs.Borrow.{Bor}
-use Rattle.std.specs.Cmp.Lexicographic.{slice_cmp}
+use Rattle.std.specs.HashMap.{get}
 use Rattle.std.specs.Ordering.{nat_cmp, ordering_then}
 use Rattle.std.specs.Str.{bytes_eq}
 use Rattle.std.specs.declared.cmp.Ordering.{Ordering}
 use Rattle.bz_breakpad_lines.specs.Names.{name_for}
 use Rattle.bz_breakpad_lines.specs.Table.{Table}
 use Rattle.bz_convert.specs.Plan.{located}
-use Rattle.bz_converting.specs.Hashed.{hash_of}
 use Rattle.bz_converting.specs.Listed.{HasIndexes}
 use Rattle.bz_converting.specs.declared.numbering.Numbering.{Numbering}
 use Rattle.bz_converting.specs.declared.sources.Sources.{Sources}
@@ -22,12 +22,8 @@ use Rattle.bz_gsym_layout.specs.declared.plan.SourceFile.{SourceFile}
 abbrev pub listed_texts : Texts → List (List ℕ)
 listed_texts t = map (λ text. text.now) t.listed.items
 
--- what a text is found by: its hash, and the text
-abbrev pub hashed : Bor (List ℕ) → ℕ × Bor (List ℕ)
-hashed text = (hash_of text.now, text)
-
-abbrev pub hashed_cmp : ℕ × Bor (List ℕ) → ℕ × Bor (List ℕ) → Ordering
-hashed_cmp a b = ordering_then (nat_cmp a.0 b.0) (slice_cmp nat_cmp a.1.now b.1.now)
+abbrev pub same_text : Bor (List ℕ) → Bor (List ℕ) → Bool
+same_text a b = bytes_eq a.now b.now
 
 abbrev pub text_of : Bor (List ℕ) → List ℕ
 text_of text = text.now
@@ -35,7 +31,7 @@ text_of text = text.now
 -- the texts were used in this order
 pub record AreTexts (used : List (List ℕ)) (t : Texts) : Type 0 where
   pub listed : listed_texts t ≡ firsts bytes_eq used
-  pub indexes : HasIndexes hashed_cmp hashed text_of bytes_eq t.indexes (listed_texts t)
+  pub indexes : HasIndexes (get same_text t.indexes) text_of bytes_eq (listed_texts t)
 
 abbrev pub same_file : SourceFile → SourceFile → Bool
 same_file a b = a.dir == b.dir && a.name == b.name
@@ -48,7 +44,7 @@ file_of pair = record { dir = pair.0; name = pair.1 }
 
 -- the map has the indexes of the source files
 abbrev pub AreFiles : Sources → Type 0
-AreFiles s = HasIndexes pair_cmp (λ pair. pair) file_of same_file s.indexes s.listed.items
+AreFiles s = HasIndexes (btree.get pair_cmp s.indexes) file_of same_file s.listed.items
 
 -- the source files, in texts
 abbrev pub listed_sources : Numbering → List Source

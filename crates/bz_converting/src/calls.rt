@@ -67,7 +67,7 @@ fn placed_calls(alloc: Global, calls: &[Inlinee]) -> Result<Vec<PlacedCall>>
     ensures calls { IfOk result (λ placed. placed_calls placed.items ≡ filter has_size (map kept_inlinee calls.now)) }
     ensures memory { IsOkUnless result Error.OutOfMemory }
 {
-    let mut placed = Vec::new(alloc);
+    let mut placed = Vec::with_capacity(alloc, calls.len())?;
     for call in calls {
         if call.size > 0 {
             placed.push(PlacedCall { call: *call })?;
@@ -81,7 +81,7 @@ fn without_repeats(alloc: Global, placed: &[PlacedCall]) -> Result<Vec<Inlinee>>
     ensures calls { IfOk result (λ calls. map kept_inlinee calls.items ≡ without_repeats None (placed_calls placed.now)) }
     ensures memory { IsOkUnless result Error.OutOfMemory }
 {
-    let mut calls = Vec::new(alloc);
+    let mut calls = Vec::with_capacity(alloc, placed.len())?;
     let mut before = None;
     for place in placed {
         if !is_repeated(before, &place.call) {

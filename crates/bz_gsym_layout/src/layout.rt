@@ -80,7 +80,8 @@ fn front_of(
     ensures whole { IfOk result (λ front. front.items ++ data_bytes (tables_listed plan.now) (length front.items) (codes_of plan.now) ≡ layout (codes_of plan.now)) }
     ensures memory { IsOkUnless result LayoutError.OutOfMemory }
 {
-    let mut front = Vec::new(alloc);
+    let room = strings_at.saturating_add(texts.end) as usize;
+    let mut front = Vec::with_capacity(alloc, room)?;
     push_head(
         &mut front,
         plan.functions.len() as u64,

@@ -27,7 +27,7 @@ pub(crate) fn place_texts(alloc: Global, texts: &[&str]) -> Result<TextPlaces>
     ensures end { IfOk result (λ found. found.end ≡ 1 + length (flat_map stored (map (λ text. text.now) texts.now))) }
     ensures memory { IsOkUnless result LayoutError.OutOfMemory }
 {
-    let mut places = Vec::new(alloc);
+    let mut places = Vec::with_capacity(alloc, texts.len())?;
     let mut end: u64 = 1;
     for text in texts {
         places.push(end)?;

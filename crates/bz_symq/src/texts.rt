@@ -18,6 +18,10 @@ use std::alloc::Global;
 /// is written.
 const ROOM: usize = 16_777_216;
 
+/// Behind texts that are longer than this, in bytes, answers are made one by one, so that long ones
+/// don't stand in memory together.
+const LONG: usize = 65_536;
+
 /// Where a text stands among others.
 #[derive(Clone, Copy)]
 pub(crate) struct TextPart {
@@ -36,6 +40,8 @@ pub(crate) struct Texts {
     pub text: String,
     /// Where the text of each answer stands, if it was made.
     pub parts: Vec<Option<TextPart>>,
+    /// Whether the next answer is made alone: the last texts were long, or there are none.
+    pub alone: bool,
 }
 
 impl Texts {
@@ -47,6 +53,7 @@ impl Texts {
             first: 0,
             text: String::new(alloc),
             parts: Vec::new(alloc),
+            alone: true,
         }
     }
 
@@ -94,11 +101,20 @@ impl Texts {
     {
         let mut from = 0;
         while from < order.len() && self.text.len() <= ROOM {
-            let to = order.len().min(from.saturating_add(TOGETHER));
+            let to = order.len().min(from.saturating_add(self.together()));
+            let before = self.text.len();
             self.make_some(alloc, lookups, &order[from..to])?;
+            self.alone = self.text.len().saturating_sub(before) > LONG;
             from = to;
         }
         Ok(())
+    }
+
+    // How many answers are made together next.
+    fn together(&self) -> usize
+        ensures { 0 < result }
+    {
+        if self.alone { 1 } else { TOGETHER }
     }
 
     // Makes the texts of the answers at some indices, which are made together.

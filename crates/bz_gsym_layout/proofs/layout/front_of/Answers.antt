@@ -30,7 +30,7 @@ returns c =
     let written : eighth ≡ front plan is =
     front_is plan is c.len.result c.args.strings_at c.args.texts.now.end (c.len-2.result + 1) c.args.places.now
     first second third fourth fifth sixth seventh eighth count c.requires.strings c.requires.end sources starts
-    (c.in_ok-push_head.ensures.ok ∙ ap (λ l. l ++ head_bytes c.len.result c.args.strings_at c.args.texts.now.end) c.new-front.ensures.items)
+    (c.in_ok-push_head.ensures.ok ∙ ap (λ l. l ++ head_bytes c.len.result c.args.strings_at c.args.texts.now.end) c.in_ok-front.ensures.items)
     (c.in_ok-push_starts.ensures.ok ∙ ap (λ l. first ++ flat_map (λ (f : Function). word 8 f.start) l) c.deref.ensures.value)
     c.in_ok-push_places.ensures.ok
     c.in_ok-push_word.ensures.ok c.in_ok-push_zeros.ensures.ok

@@ -1,7 +1,6 @@
-use Rattle.std.proofs.Common.{arith, ap, sym, ◌∙◌}
-use Rattle.std.specs.BTreeMap.{get}
+use Rattle.std.proofs.Common.{arith, sym, ◌∙◌}
 use Rattle.std.specs.Str.{bytes_eq}
-use Rattle.bz_converting.specs.Numbered.{hashed_cmp, listed_texts}
+use Rattle.bz_converting.specs.Numbered.{listed_texts}
 use Rattle.bz_converting.proofs.ListedLemmas.{index_at}
 use Rattle.bz_converting.proofs.NumberingLemmas.{text_inserted_at, texts_again, texts_inserted}
 use Rattle.bz_gsym_layout.proofs.NumberingLemmas.{text_same}
@@ -9,18 +8,16 @@ use Rattle.bz_converting.proofs.texts.Texts.index_of.Goals as goal
 
 pub returns-in-Some-clause-texts : goal.returns-in-Some-clause-texts
 returns-in-Some-clause-texts c used are =
-    texts_again used c.args.self.now are c.args.text.now c.in-Some.index.now
-    (sym (are.indexes c.args.text) ∙ ap (λ h. get hashed_cmp c.args.self.now.indexes (h, c.args.text)) (sym c.hash_of.ensures) ∙ sym c.in-Some.ensures.value)
+    texts_again used c.args.self.now are c.args.text.now c.in-Some.index.now (sym (are.indexes c.args.text) ∙ sym c.in-Some.ensures.value)
 
 pub returns-in-Some-clause-index : goal.returns-in-Some-clause-index
 returns-in-Some-clause-index c used are =
-    index_at bytes_eq text_same c.args.text.now (listed_texts c.args.self.now) c.in-Some.index.now
-    (sym (are.indexes c.args.text) ∙ ap (λ h. get hashed_cmp c.args.self.now.indexes (h, c.args.text)) (sym c.hash_of.ensures) ∙ sym c.in-Some.ensures.value)
+    index_at bytes_eq text_same c.args.text.now (listed_texts c.args.self.now) c.in-Some.index.now (sym (are.indexes c.args.text) ∙ sym c.in-Some.ensures.value)
 
 pub returns-clause-texts : goal.returns-clause-texts
 returns-clause-texts c used are =
     texts_inserted used c.args.self.now are c.args.text (record { listed = c.push.new.self; indexes = c.insert.new.self }) c.len-index.result (omega (arith, c.len-index.ensures)) c.in_ok-push.ensures.items
-    (c.hash_of.result, c.args.text) (ap (λ h. (h, c.args.text)) c.hash_of.ensures) (sym c.in_default.ensures.value) c.in_ok-insert.ensures.updates.0
+    (sym c.in_default.ensures.value) c.in_ok-insert.ensures.updates.0
 
 pub returns-clause-index : goal.returns-clause-index
 returns-clause-index c used are =
