@@ -1,5 +1,5 @@
 -- What standard error says of a run, without the end of its last line.
-use Rattle.std.specs.Prelude.{◌≡◌, ◌↔◌, ℕ, List, ◌++◌, codes, decimal, Option, Some, None}
+use Rattle.std.specs.Prelude.{◌≡◌, ◌↔◌, ℕ, List, ◌++◌, codes, decimal, Option, Some, None, option_and_then}
 use Rattle.bz_base.specs.InputKind.{InFile}
 use Rattle.bz_breakpad_refusal.specs.Refusals.{IsRefusal}
 use Rattle.bz_breakpad_refusal.specs.declared.refused.Refused.{Refused}
@@ -28,6 +28,10 @@ breakpad_path (Make (Canonical path)) = Some path
 breakpad_path (Make (Converted path)) = Some path
 breakpad_path (Stacks path) = Some path
 breakpad_path _ = None
+
+-- the path of the file that the words ask to read so
+abbrev pub file_named : List (List ℕ) → Option (List ℕ)
+file_named words = option_and_then (λ (command : Command). breakpad_path command.job) (command_in words)
 
 -- the line says where the bytes at a path are refused as a Breakpad file
 pub record SaysOf (path bytes line : List ℕ) : Type 0 where

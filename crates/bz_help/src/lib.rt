@@ -7,4 +7,4 @@ mod refused;
 
 pub use failed::Failed;
 pub use messages::{message, stored_message};
-pub use refused::refused_file;
+pub use refused::{named_file, refused_file};

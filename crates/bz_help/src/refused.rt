@@ -1,9 +1,10 @@
 //! Where a file is refused.
 
-ghost use Rattle.std.specs.Prelude.{◌≡◌, map, option_map, string_bytes, IfOk, IfErr};
+ghost use Rattle.std.specs.Prelude.{◌≡◌, map, option_map, string_bytes, IfOk, IfErr, IsOkUnless};
 ghost use Rattle.bz_base.specs.Refusals.{IsFailure};
+ghost use Rattle.bz_base.specs.declared.error.Error.{Error};
 ghost use Rattle.bz_files.specs.World.{Told, in_view};
-ghost use Rattle.bz_help.specs.Messages.{SaysAt, SaysOf, SaysWhere, Tells, breakpad_path, line_about, said_of};
+ghost use Rattle.bz_help.specs.Messages.{SaysAt, SaysOf, SaysWhere, Tells, breakpad_path, file_named, line_about, said_of};
 ghost use Rattle.bz_words.specs.Command.{job_of};
 
 use bz_base::{Error, Input, Result};
@@ -31,6 +32,32 @@ pub fn refused_file<F: Files>(
         },
         Err(BadWords::Usage) => Ok(None),
         Err(BadWords::OutOfMemory) => Err(Error::OutOfMemory),
+    }
+}
+
+/// The path of the file that the words ask to read as a Breakpad file, if they do.
+pub fn named_file(alloc: Global, words: &[String]) -> Result<Option<String>>
+    ensures named { IfOk result (λ path. option_map string_bytes path ≡ file_named (map string_bytes words.now)) }
+    ensures memory { IsOkUnless result Error.OutOfMemory }
+{
+    match read_command(alloc, words) {
+        Ok(command) => path_read(alloc, &command.job),
+        Err(BadWords::Usage) => Ok(None),
+        Err(BadWords::OutOfMemory) => Err(Error::OutOfMemory),
+    }
+}
+
+/// The same of a job.
+fn path_read(alloc: Global, job: &Job) -> Result<Option<String>>
+    ensures named { IfOk result (λ path. option_map string_bytes path ≡ breakpad_path (job_of job.now)) }
+    ensures memory { IsOkUnless result Error.OutOfMemory }
+{
+    match breakpad_path(job) {
+        Some(path) => {
+            let path = path.to_string(alloc)?;
+            Ok(Some(path))
+        }
+        None => Ok(None),
     }
 }
 

@@ -2,7 +2,7 @@
 
 use bz_base::Error;
 use bz_files::{MemFiles, Stamp};
-use bz_help::{Failed, message};
+use bz_help::{Failed, message, named_file};
 use bz_symq::Status;
 use std::alloc::Global;
 use std::test::Fail;
@@ -261,6 +261,38 @@ fn says_what_a_run_lacks(rt: HostRuntime) -> Result<(), Fail> {
     for index in 0..SAID.len() {
         assert!(rt;
             matches!(is_said(rt.alloc(), &SAID[index]), Ok(true)),
+            "row {index}"
+        );
+    }
+    Ok(())
+}
+
+/// Words, and the Breakpad file that they ask to read, or nothing.
+static NAMED: [(&str, &str); 7] = [
+    ("breakpad a.sym", "a.sym"),
+    ("breakpad --no-inlined breakpad", "breakpad"),
+    ("canon a.sym", "a.sym"),
+    ("convert a.sym", "a.sym"),
+    ("stacks a.sym", "a.sym"),
+    ("gsym a.gsym", ""),
+    ("a.sym", ""),
+];
+
+/// Whether the words name that file.
+fn is_named(alloc: Global, words: &str, file: &str) -> Result<bool, Error> {
+    let words = words_of(alloc, words)?;
+    match named_file(alloc, words.as_slice())? {
+        Some(path) => Ok(path.as_str() == file),
+        None => Ok(file.is_empty()),
+    }
+}
+
+#[test]
+fn names_the_file_that_is_read(rt: HostRuntime) -> Result<(), Fail> {
+    for index in 0..NAMED.len() {
+        let (words, file) = NAMED[index];
+        assert!(rt;
+            matches!(is_named(rt.alloc(), words, file), Ok(true)),
             "row {index}"
         );
     }

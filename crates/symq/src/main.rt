@@ -3,7 +3,7 @@
 #![tactic(auto)]
 
 use bz_files::{FileError, Files, RealFiles, RealIn, RealOut};
-use bz_help::{Failed, message, stored_message};
+use bz_help::{Failed, message, named_file, stored_message};
 use bz_run::run;
 use bz_symq::{Status, own_pid};
 use std::borrow::CowStr;
@@ -59,14 +59,13 @@ fn run_real(rt: &HostRuntime) -> (Status, Option<CowStr<'static>>) {
     (status, message)
 }
 
-// Whether a word names a file that can't be read once more.
+// Whether the words name a Breakpad file that can't be read once more.
 fn names_a_pipe(rt: &HostRuntime, words: &[String]) -> bool {
-    for word in words {
-        if is_pipe(rt, word.as_str()) {
-            return true;
-        }
+    match named_file(rt.alloc(), words) {
+        Ok(Some(path)) => is_pipe(rt, path.as_str()),
+        Ok(None) => false,
+        Err(_) => false,
     }
-    false
 }
 
 // Whether a file is there that is neither a regular one nor a folder.
