@@ -59,12 +59,13 @@ fn run_real(rt: &HostRuntime) -> (Status, Option<CowStr<'static>>) {
     (status, message)
 }
 
-// Whether the words name a Breakpad file that can't be read once more.
+// Whether the words name a Breakpad file that can't be read once more; so they may, where there is no
+// memory to tell.
 fn names_a_pipe(rt: &HostRuntime, words: &[String]) -> bool {
     match named_file(rt.alloc(), words) {
         Ok(Some(path)) => is_pipe(rt, path.as_str()),
         Ok(None) => false,
-        Err(_) => false,
+        Err(_) => true,
     }
 }
 
