@@ -6,7 +6,6 @@ ghost use Rattle.bz_base.specs.Line as base;
 ghost use Rattle.bz_breakpad_function.specs.InOrder.{IsTextOfLines};
 ghost use Rattle.bz_breakpad_function.specs.Lent.{kept_inlinee};
 ghost use Rattle.bz_breakpad_lines.specs.LineStarts.{ReadsLine};
-ghost use Rattle.bz_breakpad_lines.specs.Stops.{AreStops};
 ghost use Rattle.bz_breakpad_lines.specs.Told.{line_seen};
 ghost use Rattle.bz_breakpad_table.specs.Kept.{IsRunAt, function_seen, kept_call, kept_lines, text_at};
 ghost use Rattle.bz_breakpad_table.specs.LineRun.{AreLineRecords, IsRunFront, lines_in};
@@ -16,7 +15,7 @@ use crate::calls::inlinee_of;
 use crate::line_run::{LINE_LEN, ends_line};
 use crate::types::Inlinee;
 use bz_base::first_line;
-use bz_breakpad_lines::{Shown, SourceLine, Stops, line_at, line_or_zeros, next_line};
+use bz_breakpad_lines::{SourceLine, line_at, line_or_zeros, next_line};
 use bz_breakpad_table::{CallRange, FunctionTable, KeptFunction, LineRecords, Part};
 use std::alloc::{AllocError, Global};
 
@@ -147,13 +146,11 @@ fn lines_in_front(alloc: Global, text: &[u8], len: usize) -> Result<Vec<SourceLi
     let mut lines = Vec::with_capacity(alloc, len / LINE_LEN + 1)?;
     let mut rest = text;
     let mut left = len;
-    let mut stops = Stops::none();
     while left > 0 {
-        let first = first_of_run(Shown { text: rest, stops }, left);
+        let first = first_of_run(rest, left);
         lines.push(first.line)?;
         rest = &rest[first.len..];
         left -= first.len;
-        stops = first.stops;
     }
     Ok(lines)
 }
@@ -165,35 +162,29 @@ struct FirstOfRun {
     line: SourceLine,
     /// How many bytes it takes, with its end.
     len: usize,
-    /// What is shown of the bytes behind it.
-    stops: Stops,
 }
 
 /// The first line of a run that is so many bytes of the text.
 #[inline(always)]
-fn first_of_run(shown: Shown<'_>, len: usize) -> FirstOfRun
-    requires run { IsRunFront shown.text.now len }
+fn first_of_run(text: &[u8], len: usize) -> FirstOfRun
+    requires run { IsRunFront text.now len }
     requires some { 0 < len }
-    requires stops { AreStops shown.text.now shown.stops }
-    ensures lines { lines_in (take len shown.entry.text.now) ≡ line_seen result.line ∷ lines_in (take (len - result.len) (drop result.len shown.entry.text.now)) }
-    ensures rest { IsRunFront (drop result.len shown.entry.text.now) (len - result.len) }
+    ensures lines { lines_in (take len text.now) ≡ line_seen result.line ∷ lines_in (take (len - result.len) (drop result.len text.now)) }
+    ensures rest { IsRunFront (drop result.len text.now) (len - result.len) }
     ensures some { 0 < result.len }
     ensures within { result.len ≤ len }
-    ensures stops { AreStops (drop result.len shown.entry.text.now) result.stops }
 {
-    let next = next_line(shown);
-    let end = next.len + 1;
+    let next = next_line(text);
+    let end = next.end + 1;
     if end < len {
         FirstOfRun {
             line: next.line,
             len: end,
-            stops: next.stops,
         }
     } else {
         FirstOfRun {
             line: next.line,
             len,
-            stops: Stops::none(),
         }
     }
 }

@@ -1,5 +1,5 @@
 -- Where line records start, and whether their starts stand in order, as the texts of the starts tell it.
-use Rattle.std.specs.Prelude.{◌≡◌, ◌<◌, ◌++◌, ◌∷◌, [], ℕ, List, length, drop, map, slice_index, unwrap_or, bit_or, ◌-◌, IsSome}
+use Rattle.std.specs.Prelude.{◌≡◌, ◌<◌, ◌++◌, ◌∷◌, [], ℕ, List, length, drop, map, slice_index, unwrap_or, bit_or, IsSome}
 use Rattle.std.specs.Int.Digits.{number_from_digits}
 use Rattle.std.specs.Str.Parse.{AllDigits, digits_value}
 use Rattle.bz_breakpad_lines.specs.Line.{line_in}

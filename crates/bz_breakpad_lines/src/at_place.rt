@@ -14,8 +14,8 @@ ghost use Rattle.bz_breakpad_lines.specs.Told.{line_seen, call_told};
 
 use crate::field::{body, hex};
 use crate::inline::call_line;
-use crate::lanes::few_hex;
-use crate::line::{LineEnds, line_ends, line_feeds};
+use crate::lanes::{few_hex, line_feeds};
+use crate::line::{LineEnds, line_ends};
 use crate::quick::Shown;
 use crate::record::{InlineCall, SourceLine, call_front, code_line};
 use crate::values::hex_front;
@@ -75,7 +75,7 @@ pub fn line_at(bytes: &[u8], place: usize) -> Option<SourceLine>
 fn quick_line(text: &[u8]) -> Option<SourceLine>
     ensures { IfSome result (λ line. line_in text.now ≡ Some (line_seen line)) }
 {
-    let shown = Shown::at_front(text)?;
+    let shown = Shown::of_line(text)?;
     let start = shown.hex_end(0, 8)?;
     let ends = line_ends(shown, start)?;
     Some(line_by(shown, start, ends))
@@ -84,7 +84,7 @@ fn quick_line(text: &[u8]) -> Option<SourceLine>
 /// The line record at the front whose fields end there.
 #[inline(always)]
 pub(crate) fn line_by(shown: Shown<'_>, start: u32, ends: LineEnds) -> SourceLine
-    requires room { 72 ≤ length shown.text.now }
+    requires room { 40 ≤ length shown.text.now }
     requires start { AreDigits 16 8 shown.text.now 0 start }
     requires size { AreDigits 16 8 shown.text.now (start + 1) ends.size }
     requires line { AreDigits 10 8 shown.text.now (ends.size + 1) ends.line }

@@ -1,4 +1,4 @@
-//! Where the digits of fields and the lines end, by one load of 64 bytes.
+//! Where the digits of fields and the lines end, by one load.
 
 ghost use Rattle.std.specs.Prelude.{◌≡◌, ◌==◌, ◌<◌, ◌≤◌, ℕ, List, not, length, map, take, drop, IfSome};
 ghost use Rattle.bz_base.specs.Byte.{line_feed};
@@ -20,17 +20,6 @@ pub struct Stops {
 }
 
 impl Stops {
-    /// No bytes.
-    pub fn none() -> Stops
-        ensures { (text : List ℕ) → AreStops text result }
-    {
-        Stops {
-            hex: 0,
-            dec: 0,
-            end: 0,
-        }
-    }
-
     /// The first 64 bytes.
     #[inline(always)]
     pub fn at_front(text: &[u8]) -> Stops
@@ -41,6 +30,19 @@ impl Stops {
             hex: hex_stops(text),
             dec: dec_stops(text),
             end: line_ends(text),
+        }
+    }
+
+    /// The first 32 bytes, which show nearly all line records.
+    #[inline(always)]
+    pub fn of_line(text: &[u8]) -> Stops
+        requires { 32 ≤ length text.now }
+        ensures { AreStops text.now result }
+    {
+        Stops {
+            hex: line_hex_stops(text),
+            dec: line_dec_stops(text),
+            end: line_feeds(text),
         }
     }
 
@@ -116,5 +118,40 @@ fn line_ends(text: &[u8]) -> u64
 {
     u8x64::from_slice(text)
         .simd_eq(u8x64::splat(b'\n'))
+        .to_bitmask()
+}
+
+/// A bit for each of the first 32 bytes that is no hexadecimal digit.
+#[inline(always)]
+fn line_hex_stops(text: &[u8]) -> u64
+    requires { 32 ≤ length text.now }
+    ensures { result ≡ mask_l (map (λ b. not (is_hex b)) (take 32 text.now)) }
+{
+    let bytes = u8x32::from_slice(text);
+    let no_digit = (bytes - u8x32::splat(b'0')).simd_ge(u8x32::splat(10));
+    let no_letter = ((bytes | u8x32::splat(0x20)) - u8x32::splat(b'a')).simd_ge(u8x32::splat(6));
+    (no_digit & no_letter).to_bitmask()
+}
+
+/// A bit for each of the first 32 bytes that is no decimal digit.
+#[inline(always)]
+fn line_dec_stops(text: &[u8]) -> u64
+    requires { 32 ≤ length text.now }
+    ensures { result ≡ mask_l (map (λ b. not (is_decimal b)) (take 32 text.now)) }
+{
+    let bytes = u8x32::from_slice(text);
+    (bytes - u8x32::splat(b'0'))
+        .simd_ge(u8x32::splat(10))
+        .to_bitmask()
+}
+
+/// A bit for each of the first 32 bytes that is a line feed.
+#[inline(always)]
+pub fn line_feeds(text: &[u8]) -> u64
+    requires { 32 ≤ length text.now }
+    ensures { result ≡ mask_l (map (λ b. b == line_feed) (take 32 text.now)) }
+{
+    u8x32::from_slice(text)
+        .simd_eq(u8x32::splat(b'\n'))
         .to_bitmask()
 }

@@ -21,8 +21,8 @@ pub use field::body;
 pub use func::{cfi_line, func_line};
 pub use in_turn::{NextLine, next_line};
 pub use inline::inline_line;
-pub use lanes::Stops;
-pub use line::{QuickLine, line_feeds, quick_line};
+pub use lanes::{Stops, line_feeds};
+pub use line::{QuickLine, quick_line};
 pub use on_run::{RunLine, next_on_run};
 pub use quick::Shown;
 pub use record::{

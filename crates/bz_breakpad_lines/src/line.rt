@@ -15,17 +15,6 @@ use crate::quick::Shown;
 use crate::start_text::StartText;
 use std::simd::prelude::*;
 
-/// A bit for each of the first 32 bytes that is a line feed.
-#[inline(always)]
-pub fn line_feeds(text: &[u8]) -> u64
-    requires { 32 ≤ length text.now }
-    ensures { result ≡ mask_l (map (λ b. b == line_feed) (take 32 text.now)) }
-{
-    u8x32::from_slice(text)
-        .simd_eq(u8x32::splat(b'\n'))
-        .to_bitmask()
-}
-
 /// A line record that is read quickly.
 #[derive(Clone, Copy)]
 pub struct QuickLine {

@@ -36,6 +36,22 @@ impl<'a> Shown<'a> {
         })
     }
 
+    /// What a load shows of the text's first line, if that has room for the numbers of a line record.
+    #[inline(always)]
+    pub fn of_line(text: &'a [u8]) -> Option<Shown<'a>>
+        ensures text { IfSome result (λ shown. shown.text.now ≡ text.now) }
+        ensures room { IfSome result (λ shown. 40 ≤ length text.now) }
+        ensures stops { IfSome result (λ shown. AreStops text.now shown.stops) }
+    {
+        if text.len() < 40 {
+            return None;
+        }
+        Some(Shown {
+            text,
+            stops: Stops::of_line(text),
+        })
+    }
+
     /// The text after so many bytes, and what is left of what was shown.
     #[inline(always)]
     pub fn after(self, len: u32) -> Shown<'a>

@@ -8,22 +8,22 @@ use Rattle.bz_breakpad_function.proofs.walks.first_of_run.Goals as goal
 pub returns-then-end-len-clause-lines : goal.returns-then-end-len-clause-lines
 returns-then-end-len-clause-lines c =
     let next = c.next_line-next in
-    let text = c.args.shown.text.now in
-    let end = next.result.len + 1 in
-    line_then text c.args.len c.requires.run next.result.len next.ensures.len (omega arith)
+    let text = c.args.text.now in
+    let end = next.result.end + 1 in
+    line_then text c.args.len c.requires.run next.result.end next.ensures.end (omega arith)
     ∙ ap (λ (first : SourceLine). first ∷ lines_in (take (c.args.len - end) (drop end text))) (sym next.ensures.line)
 
 pub returns-then-end-len-clause-rest : goal.returns-then-end-len-clause-rest
 returns-then-end-len-clause-rest c =
     let next = c.next_line-next in
-    front_then c.args.shown.text.now c.args.len c.requires.run next.result.len next.ensures.len (omega arith)
+    front_then c.args.text.now c.args.len c.requires.run next.result.end next.ensures.end (omega arith)
 
 pub returns-else-end-len-clause-lines : goal.returns-else-end-len-clause-lines
 returns-else-end-len-clause-lines c =
     let next = c.next_line-next in
-    let text = c.args.shown.text.now in
+    let text = c.args.text.now in
     let len = c.args.len in
     let none : 0 ≡ len - len = omega arith in
-    one_line text len c.requires.run c.requires.some (omega (arith, next.ensures.len))
+    one_line text len c.requires.run c.requires.some (omega (arith, next.ensures.end))
     ∙ ap (λ n. line_read text 0 ∷ lines_in (take n (drop len text))) none
     ∙ ap (λ (first : SourceLine). first ∷ lines_in (take (len - len) (drop len text))) (sym next.ensures.line)

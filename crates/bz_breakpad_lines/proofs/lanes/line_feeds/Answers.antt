@@ -3,7 +3,7 @@ use Rattle.std.proofs.lemmas.List.{length-take-le}
 use Rattle.std.proofs.lemmas.Simd.{zip2_splat}
 use Rattle.bz_base.specs.Byte.{line_feed}
 use Rattle.bz_base.proofs.LoadLemmas.{bits_are}
-use Rattle.bz_breakpad_lines.proofs.line.line_feeds.Goals as goal
+use Rattle.bz_breakpad_lines.proofs.lanes.line_feeds.Goals as goal
 
 pub returns : goal.returns
 returns c =
