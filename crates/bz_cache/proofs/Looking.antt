@@ -1,5 +1,5 @@
 -- What a look answers, by what lies at the path.
-use Rattle.std.proofs.Common.{◌≡◌, ℕ, Bool, true, false, cond, List, [], Option, Some, None, option_map, unwrap_or, option_and_then, not, ◌||◌, is_some, IsSome, Result, Ok, sym, ap, subst, ◌∙◌, refl}
+use Rattle.std.proofs.Common.{◌≡◌, ℕ, Bool, true, false, cond, List, [], Option, Some, None, option_map, unwrap_or, option_and_then, not, ◌||◌, is_some, IsSome, IfOk, OnOk, Result, Ok, Err, sym, ap, subst, ◌∙◌, refl}
 use Rattle.std.specs.FinMap as map
 use Rattle.std.specs.Cmp.Lexicographic.{nat_list_cmp_total}
 use Rattle.std.proofs.lemmas.Bool.{false≢true}
@@ -7,6 +7,7 @@ use Rattle.bz_base.specs.declared.error.Error.{Error}
 use Rattle.bz_files.specs.declared.stamp.Stamp.{Stamp}
 use Rattle.bz_files.specs.World.{Entry, Present}
 use Rattle.bz_cache.specs.Cache.{Cache, PathState, Consistent, is_among, stamp_eq, current_of}
+use Rattle.bz_cache.specs.Format.{Comes}
 use Rattle.bz_cache.specs.Look.{moved, named, with_earlier, by_test, by_entry, IsUnmoved, IsSomeEntry}
 use Rattle.bz_cache.specs.View.{fixed, bytes_at}
 use Rattle.bz_cache.proofs.FiniteMaps.{get_inserted}
@@ -82,6 +83,14 @@ IsStampAt there given = (s : Stamp) × (b : List ℕ) × (there ≡ Some (Presen
 abbrev pub IsBytesAt : Option Entry → List ℕ → Type 0
 IsBytesAt there given = (s : Stamp) × (b : List ℕ) × (there ≡ Some (Present s b)) × (given ≡ b)
 
+-- a file that lies there with the stamp and the bytes
+abbrev pub IsReadAt : Option Entry → Stamp → List ℕ → Type 0
+IsReadAt there given items = (s : Stamp) × (b : List ℕ) × (there ≡ Some (Present s b)) × ((given ≡ s) × (items ≡ b))
+
+-- what was read is what lies there
+pub read_lies : (there : Option Entry) (given : Stamp) (items : List ℕ) → IsReadAt there given items → there ≡ Some (Present given items)
+read_lies there given items found = cc (found.2, found.3.0, found.3.1)
+
 -- what isn't there
 pub none_of : {A : Type 0} (o : Option A) → is_some o ≡ false → o ≡ None
 none_of None absent = refl
@@ -107,6 +116,26 @@ module _ (test : List ℕ → Option Error) (c new : Cache) (p : List ℕ) (s : 
   pub not_unmoved : Consistent test c → is_some (map.get c.kept s) ≡ false → IsUnmoved c p there → ⊥
   not_unmoved consistent absent unmoved = false≢true (sym absent ∙ unmoved_kept test c p s found.1 there consistent unmoved present)
 
+-- a file that was read, by its stamp and its bytes
+module _ (test : List ℕ → Option Error) (c new : Cache) (p : List ℕ) (s : Stamp) (b : List ℕ) where
+  -- what a look at it leaves where the stamp is kept
+  pub left_kept : Consistent test c → IsSome (map.get c.kept s) → new ≡ named c p s (bytes_at c s) → new ≡ (by_entry test c p (Some (Present s b))).1
+  left_kept consistent kept is = is ∙ sym (ap (λ (x : Result (List ℕ) Error × Cache). x.1) (by_kept test c p s b consistent kept))
+
+  -- and where its version is new
+  pub left_new : (v : List ℕ) → map.get c.kept s ≡ None → test b ≡ None → v ≡ b → new ≡ named c p s v → new ≡ (by_entry test c p (Some (Present s b))).1
+  left_new v absent formed version is = is ∙ ap (named c p s) version ∙ sym (ap (λ (x : Result (List ℕ) Error × Cache). x.1) (by_new test c p s b absent formed))
+
+-- an answer and what it leaves, together
+both_of : {A B : Type 0} (x : A × B) (a : A) (b : B) → x.0 ≡ a → b ≡ x.1 → x ≡ (a, b)
+both_of (y, z) a b first second = cc (first, second)
+
+module _ (test : List ℕ → Option Error) (c new : Cache) (p : List ℕ) (there : Option Entry) where
+  -- a look at what lies there is some look
+  pub some_taken : (r : Result Stamp Error) → Comes (bytes_at new) (by_entry test c p there).0 r → OnOk r (new ≡ (by_entry test c p there).1) → IfOk r (λ s. IsSomeEntry test c new p (bytes_at new s))
+  some_taken (Ok s) answer left = (there, both_of _ _ _ answer left)
+  some_taken (Err e) answer left = tt
+
 module _ (test : List ℕ → Option Error) (c new : Cache) (p : List ℕ) (s : Stamp) where
   -- what is left where a stamp is named with its version, as some look leaves it
   as_named : (there : Option Entry) (v : List ℕ) → by_entry test c p there ≡ (Ok v, named c p s v) → new ≡ named c p s v → IsSomeEntry test c new p (bytes_at new s)
@@ -117,8 +146,3 @@ module _ (test : List ℕ → Option Error) (c new : Cache) (p : List ℕ) (s : 
   -- some look leaves what is left where the stamp is kept
   pub some_kept : Consistent test c → IsSome (map.get c.kept s) → new ≡ named c p s (bytes_at c s) → IsSomeEntry test c new p (bytes_at new s)
   some_kept consistent kept is = as_named (Some (Present s [])) (bytes_at c s) (by_kept test c p s [] consistent kept) is
-
-  -- and what is left where a new version was read
-  pub some_new : (items v : List ℕ) → map.get c.kept s ≡ None → test items ≡ None → v ≡ items → new ≡ named c p s v → IsSomeEntry test c new p (bytes_at new s)
-  some_new items v absent formed version is =
-      as_named (Some (Present s v)) v (by_new test c p s v absent (subst (λ (b : List ℕ). test b ≡ None) (sym version) formed)) is

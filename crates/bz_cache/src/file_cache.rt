@@ -5,7 +5,7 @@ ghost use Rattle.std.specs.FinMap as map;
 ghost use Rattle.bz_cache.specs.Cache.{Cache, PathState, Consistent, new_cache, stamp_eq, current_of, is_held, is_pinned, with_pin};
 ghost use Rattle.bz_cache.specs.Eviction.{evicted, evicts};
 ghost use Rattle.bz_files.specs.Looked.{Faulted, Looked, ReadsOne};
-ghost use Rattle.bz_files.specs.World.{Told, in_view, entry_at};
+ghost use Rattle.bz_files.specs.World.{Present, Told, in_view, entry_at};
 ghost use Rattle.bz_cache.specs.Format.{Comes, MayFail};
 ghost use Rattle.bz_cache.specs.Insertion.{insertion, Inserts, MayKeepOut};
 ghost use Rattle.bz_cache.specs.Look.{named, look, by_entry, is_new, will_open, opens_after, IsUnmoved, Lends, Shares};
@@ -14,7 +14,7 @@ ghost use Rattle.bz_cache.specs.View.{fixed, bytes_at};
 
 use crate::version::Version;
 use bz_base::{Error, Result};
-use bz_files::{Files, Stamp};
+use bz_files::{Files, Stamp, StampedBytes};
 use std::alloc::Global;
 use std::collections::BTreeMap;
 use std::marker::Model;
@@ -305,17 +305,38 @@ impl<T: Version + Drop> FileCache<T> {
         ensures files { ReadsFile F.Files (is_new self.old) path.now result files.old files.new }
         ensures refusal { IfErr result (MayFail T.test) }
     {
-        // The stamp comes first: were it taken after the bytes, a file that changed in between would
-        // keep its older bytes under its newer stamp.
+        // This stamp serves to find a kept version alone: the file may be replaced before it is read. So
+        // bytes are kept under the stamp that their own file had when it was opened. Were that taken
+        // after them, a file that changed in between would keep its older bytes under its newer stamp.
         let stamp = lookup::present(files, path)?;
         if self.is_kept(&stamp) {
             self.update_path(alloc, path, stamp)?;
             return Ok(stamp);
         }
-        let bytes = lookup::contents(files, alloc, path)?;
-        let version = T::parse(alloc, bytes)?;
+        let read = lookup::contents(files, alloc, path)?;
+        self.take_in(alloc, path, read)
+    }
+
+    // The stamp of a file that was read, as the path's current one. Its version is taken in if none was
+    // kept under that stamp.
+    fn take_in(&mut self, alloc: Global, path: &str, read: StampedBytes) -> Result<Stamp>
+        ensures stamp { IfOk result (λ stamp. stamp ≡ read.stamp) }
+        ensures answer { Comes (bytes_at self.new) (by_entry T.test self.old path.now (Some (Present read.stamp read.bytes.items))).0 result }
+        ensures state { OnOk result (self.new ≡ (by_entry T.test self.old path.now (Some (Present read.stamp read.bytes.items))).1) }
+        ensures err { OnErr result (self.new ≡ self.old) }
+        ensures current { IfOk result (λ stamp. current_of self.new path.now ≡ Some stamp) }
+        ensures consistent { OnOk result (Consistent T.test self.new) }
+        ensures no_fault { Faulted result → ⊥ }
+        ensures refusal { IfErr result (MayFail T.test) }
+    {
+        let opened = read.stamp;
+        if self.is_kept(&opened) {
+            self.update_path(alloc, path, opened)?;
+            return Ok(opened);
+        }
+        let version = T::parse(alloc, read.bytes)?;
         let shared = Rc::new(alloc, version)?;
-        self.insert_version(alloc, path, stamp, shared)?;
-        Ok(stamp)
+        self.insert_version(alloc, path, opened, shared)?;
+        Ok(opened)
     }
 }

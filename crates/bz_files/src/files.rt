@@ -22,6 +22,15 @@ pub enum FileError {
     OutOfMemory,
 }
 
+/// The bytes of a file that was opened, and its stamp.
+#[derive(Drop)]
+pub struct StampedBytes {
+    /// The stamp that it had when it was opened.
+    pub stamp: Stamp,
+    /// All its bytes.
+    pub bytes: Vec<u8>,
+}
+
 /// Files by their paths, one world of them in view. What a world holds may be told or not.
 pub trait Files {
     /// The worlds to come, the first of them in view; none where nothing is told.
@@ -59,6 +68,15 @@ pub trait Files {
     /// The bytes of the file at the path.
     fn read(&mut self, alloc: Global, path: &str) -> Result<Vec<u8>, FileError>
         ensures answer { Told (in_view (worlds self.old)) (λ world. IsAnswer (λ given stamp bytes. given.items ≡ bytes) (entry_at world path.now) result) }
+        ensures worlds { worlds self.new ≡ worlds self.old }
+        ensures opened { OnOk result (opens self.new ≡ counted (opens self.old)) }
+        ensures unopened { OnErr result (opens self.new ≡ opens self.old) }
+        ensures pid { pid self.new ≡ pid self.old }
+        ensures faults { CountsFaults (faults self.old) (faults self.new) (IsErrOf result FileError.Fault) };
+
+    /// The bytes of the file at the path, with the stamp that the file had when it was opened.
+    fn read_stamped(&mut self, alloc: Global, path: &str) -> Result<StampedBytes, FileError>
+        ensures answer { Told (in_view (worlds self.old)) (λ world. IsAnswer (λ given stamp bytes. (given.stamp ≡ stamp) × (given.bytes.items ≡ bytes)) (entry_at world path.now) result) }
         ensures worlds { worlds self.new ≡ worlds self.old }
         ensures opened { OnOk result (opens self.new ≡ counted (opens self.old)) }
         ensures unopened { OnErr result (opens self.new ≡ opens self.old) }

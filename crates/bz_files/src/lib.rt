@@ -12,7 +12,7 @@ mod stamp;
 mod text;
 mod worlds;
 
-pub use files::{FileError, Files};
+pub use files::{FileError, Files, StampedBytes};
 pub use mem_files::MemFiles;
 pub use mem_text::{MemIn, MemOut};
 pub use real_files::RealFiles;

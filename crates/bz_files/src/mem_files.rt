@@ -7,7 +7,7 @@ ghost use Rattle.bz_files.specs.MemWorlds.{new_worlds, last_world, on_last, is_v
 ghost use Rattle.bz_files.specs.Held.{entry_of};
 
 use crate::counter::Counter;
-use crate::files::{FileError, Files};
+use crate::files::{FileError, Files, StampedBytes};
 use crate::stamp::Stamp;
 use crate::worlds::{Held, Worlds};
 use bz_base::Error;
@@ -132,7 +132,7 @@ impl MemFiles {
         self.worlds.schedule()
     }
 
-    /// Makes look number `n` fail. Each `stat` and each `read` is a look, counted from 1.
+    /// Makes look number `n` fail. Each `stat` and each read is a look, counted from 1.
     pub fn fail_call(&mut self, alloc: Global, n: u64) -> Result<(), Error>
         ensures ok { OnOk result (self.new ≡ record self.old { failing = self.old.failing ++ n ∷ [] }) }
         ensures err { OnErr result (self.new ≡ self.old) }
@@ -221,12 +221,25 @@ impl Files for MemFiles {
         ensures faults { CountsFaults self.old.faults self.new.faults (IsErrOf result FileError.Fault) }
         ensures tells { 0 < length self.old.worlds }
     {
+        match self.read_stamped(alloc, path) {
+            Ok(read) => Ok(read.bytes),
+            Err(failed) => Err(failed),
+        }
+    }
+
+    fn read_stamped(&mut self, alloc: Global, path: &str) -> Result<StampedBytes, FileError>
+        ensures answer { Told (in_view (Some self.old.worlds)) (λ world. IsAnswer (λ given stamp bytes. (given.stamp ≡ stamp) × (given.bytes.items ≡ bytes)) (entry_at world path.now) result) }
+        ensures state { self.new ≡ after_read result self.old }
+        ensures failing { IsErrOf result FileError.Fault ↔ IsTrue (fails_next self.old) }
+        ensures faults { CountsFaults self.old.faults self.new.faults (IsErrOf result FileError.Fault) }
+        ensures tells { 0 < length self.old.worlds }
+    {
         if self.begin_look() {
             return Err(FileError::Fault);
         }
-        let bytes = copy_of(self.worlds.look(path), alloc)?;
+        let read = copy_of(self.worlds.look(path), alloc)?;
         self.opens.add_one();
-        Ok(bytes)
+        Ok(read)
     }
 }
 
@@ -249,14 +262,17 @@ fn fresh(stamps: u64, size: usize) -> Option<Stamp>
     })
 }
 
-/// The bytes of what is held, if they may be read.
-fn copy_of(held: Option<&Held>, alloc: Global) -> Result<Vec<u8>, FileError>
-    ensures answer { IsAnswer (λ given stamp bytes. given.items ≡ bytes) (option_map (λ held. entry_of held.now) held.entry) result }
+/// The bytes of what is held, with their stamp, if they may be read.
+fn copy_of(held: Option<&Held>, alloc: Global) -> Result<StampedBytes, FileError>
+    ensures answer { IsAnswer (λ given stamp bytes. (given.stamp ≡ stamp) × (given.bytes.items ≡ bytes)) (option_map (λ held. entry_of held.now) held.entry) result }
     ensures fault { IsErrOf result FileError.Fault → ⊥ }
 {
     match held {
-        Some(Held::Version(_, bytes)) => match Vec::from_slice(alloc, bytes) {
-            Ok(copy) => Ok(copy),
+        Some(Held::Version(stamp, bytes)) => match Vec::from_slice(alloc, bytes) {
+            Ok(copy) => Ok(StampedBytes {
+                stamp: *stamp,
+                bytes: copy,
+            }),
             Err(_) => Err(FileError::OutOfMemory),
         },
         Some(Held::Denied) => Err(FileError::Denied),

@@ -11,7 +11,7 @@ ghost use Rattle.std.specs.IoError.{error_kind};
 ghost use Rattle.std.specs.List.{list_any};
 
 use crate::counter::Counter;
-use crate::files::{FileError, Files};
+use crate::files::{FileError, Files, StampedBytes};
 use crate::stamp::Stamp;
 use std::alloc::Global;
 use std::fs::{File, Metadata, OpenFile};
@@ -121,10 +121,22 @@ impl<R: rt::Files + Drop> Files for RealFiles<R> {
         ensures state { self.new ≡ after_read result self.old }
         ensures faults { CountsFaults self.old.faults self.new.faults (IsErrOf result FileError.Fault) }
     {
+        match self.read_stamped(alloc, path) {
+            Ok(read) => Ok(read.bytes),
+            Err(failed) => Err(failed),
+        }
+    }
+
+    fn read_stamped(&mut self, alloc: Global, path: &str) -> Result<StampedBytes, FileError>
+        ensures whole { IfOk result (λ read. IsWholeFile R.File.remaining read.bytes.items) }
+        ensures within { IfOk result (λ read. length read.bytes.items ≤ most_bytes) }
+        ensures state { self.new ≡ after_read result self.old }
+        ensures faults { CountsFaults self.old.faults self.new.faults (IsErrOf result FileError.Fault) }
+    {
         match bytes_at(&self.rt, alloc, path) {
-            Ok(bytes) => {
+            Ok(read) => {
                 self.opens.add_one();
-                Ok(bytes)
+                Ok(read)
             }
             Err(failed) => Err(self.count_fault(failed)),
         }
@@ -159,32 +171,33 @@ fn stamp_of(found: &Metadata) -> Stamp
     }
 }
 
-/// The bytes of the file at the path. A longer file than is read is a fault.
-fn bytes_at<R: rt::Files>(rt: &R, alloc: Global, path: &str) -> Result<Vec<u8>, FileError>
-    ensures whole { IfOk result (λ bytes. IsWholeFile R.File.remaining bytes.items) }
-    ensures within { IfOk result (λ bytes. length bytes.items ≤ most_bytes) }
+/// The bytes of the file at the path, with its stamp. A longer file than is read is a fault.
+fn bytes_at<R: rt::Files>(rt: &R, alloc: Global, path: &str) -> Result<StampedBytes, FileError>
+    ensures whole { IfOk result (λ read. IsWholeFile R.File.remaining read.bytes.items) }
+    ensures within { IfOk result (λ read. length read.bytes.items ≤ most_bytes) }
 {
     match read_file(rt, alloc, path) {
-        Ok(bytes) => Ok(bytes),
+        Ok(read) => Ok(read),
         Err(failed) => Err(cause_of(path, failed)),
     }
 }
 
-/// The bytes of the file at the path.
-fn read_file<R: rt::Files>(rt: &R, alloc: Global, path: &str) -> io::Result<Vec<u8>>
-    ensures whole { IfOk result (λ bytes. IsWholeFile R.File.remaining bytes.items) }
-    ensures within { IfOk result (λ bytes. length bytes.items ≤ most_bytes) }
+/// The bytes of the file at the path, with its stamp. Both are those of the file that was opened, also
+/// where the path names another meanwhile.
+fn read_file<R: rt::Files>(rt: &R, alloc: Global, path: &str) -> io::Result<StampedBytes>
+    ensures whole { IfOk result (λ read. IsWholeFile R.File.remaining read.bytes.items) }
+    ensures within { IfOk result (λ read. length read.bytes.items ≤ most_bytes) }
 {
     let file = File::open(rt, path)?;
-    let length = file.metadata()?.size();
-    if length > MOST_BYTES {
+    let stamp = stamp_of(&file.metadata()?);
+    if stamp.size > MOST_BYTES {
         return Err(io::Error::from(ErrorKind::FileTooLarge));
     }
     // What the system says of the length binds no file: it may grow, or have none to tell. So the
     // length only makes room, with one byte more, so that the end is seen without the bytes being
     // moved.
-    match read_whole(alloc, file, length as usize + 1)? {
-        Some(bytes) => Ok(bytes),
+    match read_whole(alloc, file, stamp.size as usize + 1)? {
+        Some(bytes) => Ok(StampedBytes { stamp, bytes }),
         None => Err(io::Error::from(ErrorKind::FileTooLarge)),
     }
 }

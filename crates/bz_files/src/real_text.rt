@@ -7,8 +7,11 @@ ghost use Rattle.bz_files.specs.RealEnd.{new_end};
 
 use crate::counter::Counter;
 use crate::text::{IoFault, TextIn, TextOut};
-use std::io::{Read, Write};
+use std::io::{ErrorKind, Read, Write};
 use std::marker::Model;
+
+/// How many calls in a row the system may interrupt. That many are a fault.
+const MOST_INTERRUPTED: usize = 64;
 
 /// A text that is read from a reader.
 #[derive(Drop)]
@@ -59,11 +62,11 @@ impl<R: Read + Drop> TextIn for RealIn<R> {
         ensures faults { CountsFaults self.old.faults self.new.faults (IsErrOf result IoFault.Fault) }
         ensures no_memory { IsErrOf result IoFault.OutOfMemory → ⊥ }
     {
-        match self.reader.read(piece) {
+        match read_some(&mut self.reader, piece) {
             Ok(n) => Ok(n),
-            Err(_) => {
+            Err(failed) => {
                 self.faults.add_one();
-                Err(IoFault::Fault)
+                Err(failed)
             }
         }
     }
@@ -119,7 +122,7 @@ impl<W: Write + Drop> TextOut for RealOut<W> {
         ensures faults { CountsFaults self.old.faults self.new.faults (IsErrOf result IoFault.Fault) }
         ensures no_memory { IsErrOf result IoFault.OutOfMemory → ⊥ }
     {
-        match self.writer.write(piece) {
+        match write_some(&mut self.writer, piece) {
             Ok(n) if n > 0 || piece.is_empty() => Ok(n),
             _ => {
                 self.faults.add_one();
@@ -127,4 +130,42 @@ impl<W: Write + Drop> TextOut for RealOut<W> {
             }
         }
     }
+}
+
+/// Reads once. A call that the system interrupted is made again.
+fn read_some<R: Read>(reader: &mut R, piece: &mut [u8]) -> Result<usize, IoFault>
+    ensures within { IfOk result (λ n. n ≤ length piece.old) }
+    ensures bytes { ReadConsumes (R.remaining reader.old) (R.remaining reader.new) result piece.new }
+    ensures no_memory { IsErrOf result IoFault.OutOfMemory → ⊥ }
+{
+    for _ in 0..MOST_INTERRUPTED {
+        match reader.read(piece) {
+            Ok(n) => return Ok(n),
+            Err(failed) => {
+                if failed.kind() != ErrorKind::Interrupted {
+                    return Err(IoFault::Fault);
+                }
+            }
+        }
+    }
+    Err(IoFault::Fault)
+}
+
+/// Writes once. A call that the system interrupted is made again.
+fn write_some<W: Write>(writer: &mut W, piece: &[u8]) -> Result<usize, IoFault>
+    ensures within { IfOk result (λ n. n ≤ length piece.now) }
+    ensures bytes { WriteAppends (W.contents writer.old) (W.contents writer.new) result piece.now }
+    ensures no_memory { IsErrOf result IoFault.OutOfMemory → ⊥ }
+{
+    for _ in 0..MOST_INTERRUPTED {
+        match writer.write(piece) {
+            Ok(n) => return Ok(n),
+            Err(failed) => {
+                if failed.kind() != ErrorKind::Interrupted {
+                    return Err(IoFault::Fault);
+                }
+            }
+        }
+    }
+    Err(IoFault::Fault)
 }

@@ -5,7 +5,7 @@ ghost use Rattle.bz_base.specs.declared.error.Error.{Error};
 ghost use Rattle.bz_files.specs.MemWorlds.{after_put, new_worlds};
 
 use bz_base::Error;
-use bz_files::{FileError, Files, MemFiles, Stamp};
+use bz_files::{FileError, Files, MemFiles, Stamp, StampedBytes};
 use std::alloc::Global;
 use std::marker::Model;
 
@@ -65,5 +65,9 @@ impl Files for SteadyFiles {
 
     fn read(&mut self, alloc: Global, path: &str) -> Result<Vec<u8>, FileError> {
         self.files.read(alloc, path)
+    }
+
+    fn read_stamped(&mut self, alloc: Global, path: &str) -> Result<StampedBytes, FileError> {
+        self.files.read_stamped(alloc, path)
     }
 }
