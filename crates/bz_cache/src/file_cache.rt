@@ -81,7 +81,7 @@ impl<T: Version + Drop> FileCache<T> {
         entries::is_kept(&self.entries, stamp)
     }
 
-    /// Keeps a held path at its current version, also where its file changes.
+    /// Keeps a held path at its current version, also where its file changes. None: the path isn't held.
     pub fn pin(&mut self, path: &str) -> Option<()>
         ensures held { is_some result ≡ is_held self.old path.now }
         ensures state { self.new ≡ with_pin true self.old path.now }
@@ -89,7 +89,8 @@ impl<T: Version + Drop> FileCache<T> {
         paths::set_pinned(&mut self.paths, path, true)
     }
 
-    /// Has a held path looked at anew from the next look on.
+    /// Takes the pin off a held path. A cache that reloads looks at it anew from the next look on; any
+    /// other still answers by the version that it has. None: the path isn't held.
     pub fn unpin(&mut self, path: &str) -> Option<()>
         ensures held { is_some result ≡ is_held self.old path.now }
         ensures state { self.new ≡ with_pin false self.old path.now }
@@ -214,7 +215,9 @@ impl<T: Version + Drop> FileCache<T> {
 
     /// The version of the file at the path. A path that is pinned, or that is held where the cache
     /// doesn't reload, answers by the version that it has; any other is looked at, and read where no
-    /// version with its stamp is kept. After a refusal the cache is as before.
+    /// version with its stamp is kept. It is refused by `NotFound`, `PermissionDenied` and `ReadFault` as a
+    /// look is, by the refusal that the format gives to the file's bytes, and by `OutOfMemory`. After a
+    /// refusal the cache is as before.
     pub fn entry<F: Files>(&mut self, alloc: Global, files: &mut F, path: &str) -> Result<&T>
         ensures* after { sem 𝓛 (follows_so (the_row T.row T.Version) (the_row T.row T.Version) self.entry.ghost_name none (λ _ _. ⊤) (λ n. MatchResult result (λ v. Lends T.test self.old n path.now (T.bytes_of v.now) (in_view (F.worlds files.old))) (λ _. n ≡ self.old))) }
         ensures answer { Told (in_view (F.worlds files.old)) (λ w. Comes (λ v. T.bytes_of v.now) (look T.test self.old path.now (entry_at w path.now)).0 result) }
@@ -232,8 +235,9 @@ impl<T: Version + Drop> FileCache<T> {
         Ok(self.version(&stamp))
     }
 
-    /// The same version, shared: the caller keeps it also where the cache lets it go. After a refusal
-    /// the cache is as before; where memory ran out, the file may have been taken in.
+    /// The same version, shared: the caller keeps it also where the cache lets it go. It is refused as
+    /// that is. After a refusal the cache is as before; where memory ran out, the file may have been
+    /// taken in.
     pub fn shared<F: Files>(&mut self, alloc: Global, files: &mut F, path: &str) -> Result<Rc<T>>
         ensures after { Shares (λ v. T.bytes_of v.value) T.test result self.old self.new path.now (in_view (F.worlds files.old)) }
         ensures answer { Told (in_view (F.worlds files.old)) (λ w. Comes (λ v. T.bytes_of v.value) (look T.test self.old path.now (entry_at w path.now)).0 result) }

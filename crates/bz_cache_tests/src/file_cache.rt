@@ -13,9 +13,15 @@ use std::rc::Rc;
 
 /// A text that begins with a `V`.
 #[derive(Drop)]
-struct Note {
+pub(crate) struct Note {
     bytes: Vec<u8>,
     ghost formed: { option_map_or (λ first. first == 86) (slice_get bytes.items 0) false ≡ true },
+}
+
+impl Note {
+    pub(crate) fn text(&self) -> &[u8] {
+        self.bytes.as_slice()
+    }
 }
 
 impl Version for Note {

@@ -5,3 +5,5 @@
 mod file_cache;
 #[cfg(test)]
 mod insert_map;
+#[cfg(test)]
+mod replaced;

@@ -16,6 +16,14 @@ fn has_text(files: &mut MemFiles, alloc: Global, text: &str) -> bool {
     }
 }
 
+/// Whether the file at `/a` comes with this stamp and this text.
+fn has_version(files: &mut MemFiles, alloc: Global, stamp: Stamp, text: &str) -> bool {
+    match files.read_stamped(alloc, "/a") {
+        Ok(read) => read.stamp == stamp && read.bytes.as_slice() == text.as_bytes(),
+        Err(_) => false,
+    }
+}
+
 /// Puts a text at `/a`. Gives its stamp, where the file is seen.
 fn put(files: &mut MemFiles, alloc: Global, text: &str) -> Result<Option<Stamp>, Error> {
     files.put(alloc, "/a", text.as_bytes().to_vec(alloc)?)
@@ -35,7 +43,7 @@ fn put_two(files: &mut MemFiles, alloc: Global) -> Result<Option<Stamp>, Error> 
 /// Whether the looks answer by what was put, and the fourth one fails.
 fn answers_in_turn(files: &mut MemFiles, alloc: Global, stamp: Stamp) -> bool {
     files.stat("/b") == Ok(stamp)
-        && has_text(files, alloc, "two")
+        && has_version(files, alloc, stamp, "two")
         && files.stat("/c") == Err(FileError::Denied)
         && files.stat("/b") == Err(FileError::Fault)
 }

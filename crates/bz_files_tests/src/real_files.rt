@@ -21,6 +21,14 @@ fn has_stamp(files: &mut Real<'_>) -> bool {
     }
 }
 
+/// Whether the file of seven bytes comes with the stamp that a look at it tells.
+fn comes_with_its_stamp(files: &mut Real<'_>, alloc: Global) -> bool {
+    match files.read_stamped(alloc, "bz_files_real") {
+        Ok(read) => read.bytes.len() == 7 && files.stat("bz_files_real") == Ok(read.stamp),
+        Err(_) => false,
+    }
+}
+
 /// Whether the file at the path tells no length.
 fn tells_no_length(files: &mut Real<'_>, path: &str) -> bool {
     match files.stat(path) {
@@ -63,13 +71,14 @@ fn are_absent(files: &mut Real<'_>, alloc: Global) -> bool {
     true
 }
 
-/// Whether looks at files, and at paths without one, are answered, and the one that reads is counted.
+/// Whether looks at files, and at paths without one, are answered, and the two that read are counted.
 fn are_looked_at(files: &mut Real<'_>, alloc: Global) -> bool {
     files.begin();
     has_stamp(files)
         && has_text(files, alloc, "bz_files_real", b"one two", true)
+        && comes_with_its_stamp(files, alloc)
         && are_absent(files, alloc)
-        && files.opens() == 1
+        && files.opens() == 2
 }
 
 /// Whether a file that tells no length is read too, and all that happened is counted.
@@ -77,7 +86,7 @@ fn reads_without_length(files: &mut Real<'_>, alloc: Global) -> bool {
     tells_no_length(files, "/proc/version")
         && has_text(files, alloc, "/proc/version", b"Linux version ", false)
         && files.faults() == 0
-        && files.opens() == 2
+        && files.opens() == 3
         && files.own_pid() == 7
 }
 

@@ -33,18 +33,28 @@ fn real_texts_go_in_pieces(rt: HostRuntime) {
     assert!(rt; comes_in_pieces() && goes_in_pieces(rt.alloc()));
 }
 
-/// A reader and writer that fails at its first call, and then serves.
+/// A reader and writer whose first calls fail in one way, and that then serves.
 #[derive(Drop)]
-struct FailsOnce {
-    failed: bool,
+struct FailsFirst {
+    kind: ErrorKind,
+    /// How many calls still fail.
+    left: u32,
 }
 
-impl Read for FailsOnce {
-    fn read(&mut self, piece: &mut [u8]) -> io::Result<usize> {
-        if !self.failed {
-            self.failed = true;
-            return Err(io::Error::from(ErrorKind::BrokenPipe));
+impl FailsFirst {
+    /// Fails this call, if it is one of the first.
+    fn call(&mut self) -> io::Result<()> {
+        if self.left > 0 {
+            self.left -= 1;
+            return Err(io::Error::from(self.kind));
         }
+        Ok(())
+    }
+}
+
+impl Read for FailsFirst {
+    fn read(&mut self, piece: &mut [u8]) -> io::Result<usize> {
+        self.call()?;
         match piece.first_mut() {
             Some(byte) => {
                 *byte = b'a';
@@ -55,12 +65,9 @@ impl Read for FailsOnce {
     }
 }
 
-impl Write for FailsOnce {
+impl Write for FailsFirst {
     fn write(&mut self, piece: &[u8]) -> io::Result<usize> {
-        if !self.failed {
-            self.failed = true;
-            return Err(io::Error::from(ErrorKind::BrokenPipe));
-        }
+        self.call()?;
         Ok(piece.len())
     }
 
@@ -69,20 +76,39 @@ impl Write for FailsOnce {
     }
 }
 
-/// Whether the first piece is a fault that is counted, and the next one comes.
-fn comes_after_a_fault() -> bool {
+/// A reader and writer of which so many first calls fail in one way.
+fn first_fail(kind: ErrorKind, left: u32) -> FailsFirst {
+    FailsFirst { kind, left }
+}
+
+/// Whether the next piece comes, and so many were faults.
+fn comes(input: &mut RealIn<FailsFirst>, faults: u64) -> bool {
     let mut piece = [0u8; 3];
-    let mut input = RealIn::new(FailsOnce { failed: false });
+    input.take(&mut piece) == Ok(1) && piece == *b"a\0\0" && input.faults() == faults
+}
+
+/// Whether the next piece is a fault.
+fn comes_not(input: &mut RealIn<FailsFirst>) -> bool {
+    let mut piece = [0u8; 3];
     input.take(&mut piece) == Err(IoFault::Fault)
-        && input.take(&mut piece) == Ok(1)
-        && piece == *b"a\0\0"
-        && input.faults() == 1
+}
+
+/// Whether the first piece is a fault that is counted, and the next one comes.
+fn comes_after_a_fault(kind: ErrorKind, calls: u32) -> bool {
+    let mut input = RealIn::new(first_fail(kind, calls));
+    comes_not(&mut input) && comes(&mut input, 1)
 }
 
 /// Whether the first piece is a fault that is counted, and the next one goes.
-fn goes_after_a_fault() -> bool {
-    let mut output = RealOut::new(FailsOnce { failed: false });
+fn goes_after_a_fault(kind: ErrorKind, calls: u32) -> bool {
+    let mut output = RealOut::new(first_fail(kind, calls));
     output.put(b"abc") == Err(IoFault::Fault) && output.put(b"abc") == Ok(3) && output.faults() == 1
+}
+
+/// Whether a piece goes that the system interrupts so often, and nothing is a fault.
+fn goes_after_interrupts(calls: u32) -> bool {
+    let mut output = RealOut::new(first_fail(ErrorKind::Interrupted, calls));
+    output.put(b"abc") == Ok(3) && output.faults() == 0
 }
 
 /// Whether a writer over an array takes nothing once it is full.
@@ -97,5 +123,16 @@ fn goes_while_there_is_room() -> bool {
 
 #[test]
 fn real_texts_fail(rt: HostRuntime) {
-    assert!(rt; comes_after_a_fault() && goes_after_a_fault() && goes_while_there_is_room());
+    assert!(rt; comes_after_a_fault(ErrorKind::BrokenPipe, 1));
+    assert!(rt; goes_after_a_fault(ErrorKind::BrokenPipe, 1));
+    assert!(rt; goes_while_there_is_room());
+}
+
+#[test]
+fn interrupted_calls_are_made_again(rt: HostRuntime) {
+    assert!(rt; comes(&mut RealIn::new(first_fail(ErrorKind::Interrupted, 63)), 0));
+    assert!(rt; goes_after_interrupts(63));
+    // So many in a row are a fault.
+    assert!(rt; comes_after_a_fault(ErrorKind::Interrupted, 64));
+    assert!(rt; goes_after_a_fault(ErrorKind::Interrupted, 64));
 }

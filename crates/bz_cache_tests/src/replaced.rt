@@ -1,0 +1,106 @@
+//! A file that is replaced between a look at it and its being read.
+
+ghost use Rattle.std.specs.Prelude.{◌≡◌};
+
+use crate::file_cache::Note;
+use bz_cache::FileCache;
+use bz_files::{FileError, Files, MemFiles, Stamp, StampedBytes};
+use std::alloc::Global;
+use std::marker::Model;
+
+/// Files in memory that tell nothing. The next world comes into view before each read.
+#[derive(Drop)]
+struct ReplacedFiles {
+    files: MemFiles,
+}
+
+impl Model for ReplacedFiles {
+    ghost use Rattle.bz_files.specs.MemWorlds.{MemWorlds, coded_mem_worlds};
+
+    ghost Value = { MemWorlds };
+
+    ghost coded = { coded_mem_worlds };
+
+    ghost view = { λ a. a.files };
+}
+
+impl Files for ReplacedFiles {
+    ghost use Rattle.std.specs.Prelude.{None};
+
+    ghost worlds = { λ _. None };
+
+    ghost faults = { λ a. a.faults };
+
+    ghost opens = { λ a. a.opens };
+
+    ghost pid = { λ a. a.pid };
+
+    fn begin(&mut self) {
+        self.files.begin();
+    }
+
+    fn own_pid(&self) -> u32 {
+        self.files.own_pid()
+    }
+
+    fn stat(&mut self, path: &str) -> Result<Stamp, FileError> {
+        self.files.stat(path)
+    }
+
+    fn read(&mut self, alloc: Global, path: &str) -> Result<Vec<u8>, FileError> {
+        self.files.begin();
+        self.files.read(alloc, path)
+    }
+
+    fn read_stamped(&mut self, alloc: Global, path: &str) -> Result<StampedBytes, FileError> {
+        self.files.begin();
+        self.files.read_stamped(alloc, path)
+    }
+}
+
+/// Puts a text at `/s`. Gives its stamp, if there is memory and a stamp left.
+fn put(alloc: Global, files: &mut MemFiles, text: &[u8]) -> Option<Stamp> {
+    let bytes = text.to_vec(alloc).ok()?;
+    files.put(alloc, "/s", bytes).ok()?
+}
+
+/// The stamps of a file at `/s` and of the one that replaces it.
+fn replace(alloc: Global, files: &mut MemFiles) -> Option<(Stamp, Stamp)> {
+    let looked = put(alloc, files, b"V1")?;
+    files.schedule(alloc).ok()?;
+    let opened = put(alloc, files, b"V2")?;
+    Some((looked, opened))
+}
+
+/// Whether the cache answers the second text at `/s`.
+fn answers_the_second(
+    cache: &mut FileCache<Note>,
+    alloc: Global,
+    files: &mut ReplacedFiles,
+) -> bool {
+    match cache.entry(alloc, files, "/s") {
+        Ok(note) => note.text() == b"V2".as_slice(),
+        Err(_) => false,
+    }
+}
+
+/// Whether a replaced file is read once, and kept under its own stamp alone.
+fn is_kept_as_opened(alloc: Global, files: MemFiles, looked: &Stamp, opened: &Stamp) -> bool {
+    let mut files = ReplacedFiles { files };
+    let mut cache = FileCache::<Note>::builder().build(alloc);
+    answers_the_second(&mut cache, alloc, &mut files)
+        && cache.is_kept(opened)
+        && !cache.is_kept(looked)
+        && answers_the_second(&mut cache, alloc, &mut files)
+        && files.files.opens() == 1
+}
+
+#[test]
+fn a_replaced_file_is_kept_under_its_own_stamp(rt: HostRuntime) {
+    let mut files = MemFiles::new(rt.alloc(), 0);
+    let kept = match replace(rt.alloc(), &mut files) {
+        Some((looked, opened)) => is_kept_as_opened(rt.alloc(), files, &looked, &opened),
+        None => false,
+    };
+    assert!(rt; kept);
+}
