@@ -69,8 +69,9 @@ impl Model for SymbolFile {
 pub struct SymbolParser;
 
 impl SymbolParser {
-    /// Reads a Breakpad file, and tells how many records it has. OutOfMemory: memory ran out, or the
-    /// file is longer than 4 GiB, past which places in it can't be kept.
+    /// Reads a Breakpad file, and tells how many records it has. InvalidInput: it is no Breakpad file.
+    /// OutOfMemory: memory ran out, or the file is longer than 4 GiB, past which places in it can't be
+    /// kept.
     pub fn run(alloc: Global, bytes: Vec<u8>) -> Result<(SymbolFile, u64)>
         ensures ok { IfOk result (λ read. read.0 ≡ bytes.items) }
         ensures accepted { IfOk result (λ read. (table : Table) × (counted_in bytes.items ≡ Some (table, read.1)) × Accepted bytes.items table read.1) }
@@ -88,8 +89,8 @@ impl SymbolParser {
 }
 
 impl SymbolFile {
-    /// Reads a Breakpad file. OutOfMemory: memory ran out, or the file is longer than 4 GiB, past which
-    /// places in it can't be kept.
+    /// Reads a Breakpad file. InvalidInput: it is no Breakpad file. OutOfMemory: memory ran out, or the
+    /// file is longer than 4 GiB, past which places in it can't be kept.
     pub fn from_bytes(alloc: Global, bytes: Vec<u8>) -> Result<SymbolFile>
         ensures ok { IfOk result (λ file. file ≡ bytes.items) }
         ensures accepted { IfOk result (λ file. (table : Table) × (table_in bytes.items ≡ Some table) × IsFile bytes.items table) }
@@ -262,8 +263,8 @@ impl SymbolFile {
     }
 
     /// The answers to addresses whose records were found, in their order, each the file's answer at
-    /// that address alone; an address that is refused is an ignored error. Nothing is searched for among
-    /// functions and PUBLIC records.
+    /// that address alone; an address that is refused is an ignored error. Addresses are relative to the
+    /// module's base. Nothing is searched for among functions and PUBLIC records.
     pub fn answers_by(
         &self,
         alloc: Global,
@@ -286,7 +287,8 @@ impl SymbolFile {
         batch.answers(alloc, opts)
     }
 
-    /// The answer at an address alone whose record was found.
+    /// The answer at an address alone whose record was found, relative to the module's base. InvalidInput:
+    /// an id of a file or of an origin there names nothing, or a source name has no component.
     pub fn answer_by(
         &self,
         alloc: Global,
@@ -331,7 +333,8 @@ impl SymbolFile {
         self.answers_by(alloc, addrs, &found, opts)
     }
 
-    /// The answer at an address alone, which is relative to the module's base.
+    /// The answer at an address alone, which is relative to the module's base. It is refused as the one
+    /// whose record was found.
     pub fn answer<L: Ledger>(
         &self,
         alloc: Global,

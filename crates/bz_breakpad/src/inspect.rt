@@ -43,12 +43,14 @@ pub trait Inspect {
     /// What it tells of the symbols of a kind, in its order; or the refusal of the kind.
     ghost told: { Self → SymType → Result (List Info) Error };
 
-    /// What is told of the symbols of a name, in the table's order.
+    /// What is told of the symbols of a name, in the table's order: of a Breakpad file by start, size and
+    /// place in the file. Unsupported: the table has no symbols of the kind.
     fn find_addr(&self, alloc: Global, name: &str, opts: &FindAddrOpts) -> Result<Vec<SymInfo<'_>>>
         ensures answer { Gives (λ infos. map info_of infos.items) (told_named name.now (told self.now opts.now.sym_type)) result }
         ensures memory { IfErr result (WantsMemory (IsOk (told self.now opts.now.sym_type))) };
 
-    /// Calls the closure at what is told of each symbol, in the table's order, until it answers false.
+    /// Calls the closure at what is told of each symbol, in the table's order, until it answers false. It
+    /// is refused as the look by a name is.
     fn for_each<F: FnMut(&SymInfo<'_>) -> bool>(&self, opts: &FindAddrOpts, f: F) -> Result<()>
         requires { F.IsAlwaysCallable f }
         ensures { Goes F.FnMut f (told self.now opts.now.sym_type) result };

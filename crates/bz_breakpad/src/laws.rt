@@ -7,9 +7,13 @@ ghost use Rattle.bz_base.specs.Nearest.{IsNearestCovering};
 ghost use Rattle.bz_base.specs.Resolution.{answer_at};
 ghost use Rattle.bz_base.specs.declared.types.FindSymOpts.{FindSymOpts};
 ghost use Rattle.bz_base.specs.declared.types.Reason.{Reason};
+ghost use Rattle.bz_base.specs.declared.types.SymType.{SymType};
+ghost use Rattle.bz_breakpad.specs.Inspect.{info_of};
 ghost use Rattle.bz_breakpad.specs.Listed.{lent_public};
 ghost use Rattle.bz_breakpad.specs.Plain.{function_at, plain};
 ghost use Rattle.bz_breakpad.specs.Resolver.{found_in, unmarked};
+ghost use Rattle.bz_breakpad.specs.declared.inspect.FindAddrOpts.{FindAddrOpts};
+ghost use Rattle.bz_breakpad.specs.declared.inspect.SymInfo.{SymInfo};
 ghost use Rattle.bz_breakpad.specs.declared.types.PublicSymbol.{PublicSymbol};
 ghost use Rattle.bz_breakpad_function.specs.Places.{IsSeen, seen_from};
 ghost use Rattle.bz_breakpad_function.specs.declared.types.Inlinee.{Inlinee};
@@ -17,7 +21,9 @@ ghost use Rattle.bz_breakpad_lines.specs.Table.{Function, Table};
 ghost use Rattle.bz_breakpad_lines.specs.Table as tables;
 ghost use Rattle.bz_breakpad_lines.specs.declared.record.SourceLine.{SourceLine};
 
+use crate::inspect::{FindAddrOpts, SymInfo};
 use crate::types::PublicSymbol;
+use bz_base::SymType;
 use bz_breakpad_function::Inlinee;
 use bz_breakpad_lines::SourceLine;
 
@@ -30,6 +36,17 @@ pub fn records_are_equal_by_field()
 /// PUBLIC records are equal exactly where every field is.
 pub fn public_symbols_are_equal_by_field()
     ensures { (a b : PublicSymbol) → IsTrue (⟦<PublicSymbol<'static> as PartialEq>⟧.eq a b) ↔ (lent_public a ≡ lent_public b) }
+{}
+
+/// What is told of symbols is equal exactly where every field is, and so a clone is.
+pub fn infos_are_equal_by_field()
+    ensures equal { (a b : SymInfo) → IsTrue (⟦<SymInfo<'static> as PartialEq>⟧.eq a b) ↔ (info_of a ≡ info_of b) }
+    ensures clone { (a b : SymInfo) → ⟦<SymInfo<'static> as Clone>⟧.is_clone a b ↔ (info_of a ≡ info_of b) }
+{}
+
+/// By default symbols of any kind are looked for.
+pub fn any_kind_is_looked_for()
+    ensures { (opts : FindAddrOpts) → ⟦<FindAddrOpts as Default>⟧.is_default opts ↔ (opts.sym_type ≡ SymType.Undefined) }
 {}
 
 /// The function that answers for an address is the nearest one, and no other is.

@@ -44,7 +44,8 @@ impl Model for BreakpadResolver {
 }
 
 impl BreakpadResolver {
-    /// Reads the file at the path.
+    /// Reads the file at the path. It is refused by `NotFound`, `PermissionDenied` and `ReadFault` as a
+    /// look is, by `InvalidInput` where the file is no Breakpad file, and by `OutOfMemory`.
     pub fn open<F: Files>(alloc: Global, files: &mut F, path: &str) -> Result<BreakpadResolver>
         ensures answer { Told (in_view (F.worlds files.old)) (λ world. Comes (λ r. r.bytes) (opened (entry_at world path.now)) result) }
         ensures path { IfOk result (λ r. r.path ≡ path.now) }

@@ -17,7 +17,7 @@ line_about path said = codes "symq: " ++ (path ++ (codes ": " ++ said))
 
 -- why a file is no Breakpad file
 abbrev pub said_of : Refused → List ℕ
-said_of (Line number) = codes "line " ++ (decimal number ++ codes ": not a Breakpad record")
+said_of (Line number) = codes "line " ++ (decimal number ++ codes ": no Breakpad record, or out of place")
 said_of NoEnd = codes "the last line has no end"
 said_of Empty = codes "no lines"
 

@@ -1,4 +1,4 @@
-//! What standard error says of a run that gave no answers.
+//! What standard error says of a run that did not end well.
 #![tactic(auto)]
 
 mod failed;

@@ -16,7 +16,7 @@ use std::borrow::CowStr;
 
 /// Of words that `clap` takes, and that are no command.
 const NO_COMMAND: &str =
-    "symq: no such command: it is breakpad PATH, gsym PATH, elf PATH, process PID, canon PATH, convert PATH, stacks PATH, frames ROOT, serve, or gen SEED FUNCTIONS ADDRESSES";
+    "symq: not a command line: one of breakpad PATH, gsym PATH, elf PATH, process PID, canon PATH, convert PATH, stacks PATH, frames ROOT, serve, gen SEED FUNCTIONS ADDRESSES; --input abs, virt or file goes with the first four";
 
 /// What standard error says of a run of these words that ended so, without the end of the last line;
 /// none where standard output says it all, or memory ran out. Of a refused run it says where the
@@ -78,7 +78,7 @@ fn usage(alloc: Global, words: &[String]) -> CowStr<'static> {
     }
 }
 
-// The first line of what `clap` says of words that it refuses.
+// The first line of what `clap` says of words that it refuses, if it is whole by itself.
 fn complaint_line(
     alloc: Global,
     words: &[String],
@@ -87,6 +87,8 @@ fn complaint_line(
         return Ok(None);
     };
     match said.as_str().split_once('\n') {
+        // What is missing stands in the lines behind it.
+        Some((line, _)) if line.ends_with(':') => Ok(None),
         Some((line, _)) => Ok(Some(String::from_str(alloc, line)?)),
         None => Ok(Some(said)),
     }

@@ -109,7 +109,7 @@ fn refused_line(alloc: Global, path: &str, why: Refused) -> std::result::Result<
 {
     match why {
         Refused::Line(number) => {
-            let said = format!(in alloc; "line {number}: not a Breakpad record")?;
+            let said = format!(in alloc; "line {number}: no Breakpad record, or out of place")?;
             line_about(alloc, path, said.as_str())
         }
         Refused::NoEnd => line_about(alloc, path, "the last line has no end"),

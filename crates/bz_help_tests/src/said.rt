@@ -19,7 +19,7 @@ static SAID: [Run; 32] = [
         0,
         0,
         0,
-        "symq: /bad: line 3: not a Breakpad record",
+        "symq: /bad: line 3: no Breakpad record, or out of place",
     ),
     (
         "canon /bad",
@@ -27,7 +27,7 @@ static SAID: [Run; 32] = [
         0,
         0,
         0,
-        "symq: /bad: line 3: not a Breakpad record",
+        "symq: /bad: line 3: no Breakpad record, or out of place",
     ),
     (
         "convert /bad",
@@ -35,7 +35,7 @@ static SAID: [Run; 32] = [
         0,
         0,
         0,
-        "symq: /bad: line 3: not a Breakpad record",
+        "symq: /bad: line 3: no Breakpad record, or out of place",
     ),
     (
         "--no-inlined breakpad /bad",
@@ -43,7 +43,7 @@ static SAID: [Run; 32] = [
         0,
         0,
         0,
-        "symq: /bad: line 3: not a Breakpad record",
+        "symq: /bad: line 3: no Breakpad record, or out of place",
     ),
     (
         "breakpad /cut",
@@ -91,7 +91,7 @@ static SAID: [Run; 32] = [
         0,
         0,
         0,
-        "error: the following required arguments were not provided:",
+        "symq: not a command line: ",
     ),
     ("--help", Status::Usage, 0, 0, 0, "Usage: symq "),
     (
@@ -100,7 +100,7 @@ static SAID: [Run; 32] = [
         0,
         0,
         0,
-        "symq: no such command: ",
+        "symq: not a command line: ",
     ),
     (
         "breakpad",
@@ -108,7 +108,7 @@ static SAID: [Run; 32] = [
         0,
         0,
         0,
-        "symq: no such command: ",
+        "symq: not a command line: ",
     ),
     (
         "process x",
@@ -116,7 +116,7 @@ static SAID: [Run; 32] = [
         0,
         0,
         0,
-        "symq: no such command: ",
+        "symq: not a command line: ",
     ),
     // Sides that failed.
     (

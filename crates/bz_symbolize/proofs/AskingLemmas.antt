@@ -207,6 +207,7 @@ asks_none files reading source opts query state before process form well = recor
   handed = rw form tt;
   rest = rw form tt;
   settings = refl;
+  kept_well = well;
   caches = well;
   looked = record { worlds = refl; pid = refl; faults = record { grows = le_refl _; fault = λ fault. cc fault; steady = inr refl } };
 }

@@ -40,7 +40,7 @@ module _ {A B X : Type 0} (files : Ghosts X) (reading : A → B) (source : Sourc
         look = on_file query source did.called (λ file laws all world seen. look_from_told opts source file query laws old reading world result (all.told world seen).answer);
         kept = on_file query source did.called (λ file laws all. kept_from_some opts source file query laws old reading now result all.some);
         causes = on_file query source did.called (λ file laws all world seen coherent. causes_from_told opts source file query laws old reading world result coherent (all.told world seen).answer);
-        complete = on_file query source did.called (λ file laws all world seen coherent. complete_from_told opts source file query laws old reading world result coherent (all.told world seen).answer);
+        complete = on_file query source did.called (λ file laws all world seen. complete_from_told opts source file query laws old reading did.kept_well world result (all.told world seen).answer);
         told = told_all;
         history = λ world seen. unless_process source (told_all world seen) (λ told. step_from_told result old now _ told.state);
         leaves = on_file query source whole (λ file laws all. leaves_from_some opts source file query laws old reading now all.1 result

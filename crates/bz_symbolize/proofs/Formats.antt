@@ -51,16 +51,19 @@ is_format : {B : Type 0} (query : Query B) (source : Source) → OnFile source (
 is_format query (sources.Breakpad source) = record {
   same = λ s. refl;
   formed = λ bytes version. breakpad_formed bytes version.0 version.1;
+  consistent = λ s well. well.breakpad.consistent;
   answers = λ opts bytes formed served. breakpad_meant query opts bytes formed;
 }
 is_format query (sources.Gsym (gsyms.File source)) = record {
   same = λ s. refl;
   formed = λ bytes version. in_format bytes version;
+  consistent = λ s well. well.gsym.consistent;
   answers = λ opts bytes formed served. record { accepted = gsym_accepted bytes formed; plain = refl };
 }
 is_format query (sources.Elf source) = record {
   same = λ s. refl;
   formed = λ bytes version. profiles.taken bytes version;
+  consistent = λ s well. well.elf.consistent;
   answers = λ opts bytes formed served. record { accepted = profiles.profile bytes formed; served = served; plain = refl };
 }
 is_format query (sources.Gsym (gsyms.Data source)) = tt

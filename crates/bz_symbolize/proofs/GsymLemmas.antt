@@ -51,6 +51,7 @@ module _ {A B X : Type 0} (files : Ghosts X) (reading : A → B) (source : Sourc
     handed = rw is (answer, refl, refl);
     rest = rw is tt;
     settings = refl;
+    kept_well = kept;
     caches = kept;
     looked = record {
       worlds = refl;

@@ -176,6 +176,7 @@ module _ {A B H : Type 0} (reading : A → B) (query : Query B) (singles : H →
       handed = on_handed source did.handed (λ given is. (subst (λ y. Gives reading y result) (sym (handed_made given opts)) (gives_made held result _ follows is.0), is.1, is.2));
       rest = did.rest;
       settings = did.settings;
+      kept_well = did.kept_well;
       caches = did.caches;
       looked = looked_made held result follows did.looked;
     }

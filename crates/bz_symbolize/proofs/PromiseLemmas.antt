@@ -1,28 +1,66 @@
 -- From what a call on one file does to what it promises in the words of the subject, whatever the source and the query.
-use Rattle.std.proofs.Common.{◌≡◌, ◌⊎◌, ℕ, Bool, true, false, cond, List, Option, Some, None, Result, Ok, Err, IfOk, IfErr, inl, inr, refl, sym, subst}
+use Rattle.std.proofs.Common.{◌≡◌, ◌⊎◌, ℕ, Bool, true, false, cond, List, Option, Some, None, unwrap_or, Result, Ok, Err, IfOk, IfErr, inl, inr, refl, sym, ap, subst}
+use Rattle.std.specs.FinMap as map
 use Rattle.std.proofs.lemmas.Bool.{false≢true}
 use Rattle.bz_base.specs.declared.error.Error.{Error}
 use Rattle.bz_base.specs.declared.error.Error.TheVariants as errors
 use Rattle.bz_base.specs.declared.types.FindSymOpts.{FindSymOpts}
-use Rattle.bz_files.specs.World.{World, entry_at}
-use Rattle.bz_cache.specs.Cache.{kept_at}
+use Rattle.bz_files.specs.World.{World, Entry, Denied, Present, entry_at}
+use Rattle.bz_files.specs.declared.stamp.Stamp.{Stamp}
+use Rattle.bz_cache.specs.Cache.{Cache, Consistent, kept_at}
 use Rattle.bz_cache.specs.Coherence.{Coherent}
 use Rattle.bz_cache.specs.Format.{Comes}
-use Rattle.bz_cache.specs.Look.{look}
+use Rattle.bz_cache.specs.Look.{by_entry, by_fixed, look, by_test as look_by_test}
+use Rattle.bz_cache.specs.View.{Shown, bytes_at, by_fixed_view, fixed, shown, view}
 use Rattle.bz_cache.proofs.CoherenceLaws.{shown_by_view}
+use Rattle.bz_cache.proofs.Looking.{current_kept, fixed_current}
+use Rattle.bz_cache.proofs.Naming.{some_at}
 use Rattle.bz_symbolize.proofs.FileLemmas.{look_by_view}
 use Rattle.bz_symbolize.specs.FileCall.{Query, by_test, by_look, query_given, file_answer, ByVersion, FileSome, MayBeRefused, view_answer}
 use Rattle.bz_symbolize.specs.Sources.{FileSource, asked_of}
 use Rattle.bz_symbolize.specs.Promise.{IsAnswerOf, IsVersionOf, AnswersView, AnswersLook, AnswersKept, IsValid, IsServedOrFails, IsServedKept, IsOwnRefusal}
-use Rattle.bz_symbolize.specs.State.{State}
+use Rattle.bz_symbolize.specs.State.{State, WellKept}
 use Rattle.bz_symbolize.specs.declared.source.Source.{Source}
 
--- what is to be shown of each source that is one file: that its cache can be put back, and what its format means, as to a query
+-- what is to be shown of each source that is one file: that its cache can be put back and is well kept, and what its format means, as to a query
 pub record IsFormatOf {B : Type 0} (query : Query B) (source : Source) (file : FileSource) : Type 0 where
   pub same : (s : State) → file.with_cache s (file.cache s) ≡ s
   pub formed : (bytes : List ℕ) → IsVersionOf source bytes → file.test bytes ≡ None
+  pub consistent : (s : State) → WellKept s → Consistent file.test (file.cache s)
   pub answers : (opts : FindSymOpts) (bytes : List ℕ) → file.test bytes ≡ None → file.answering.serves query.kind ≡ true →
       IsAnswerOf source opts bytes query (query.given (λ addr. file.answering.single opts file.path bytes query.kind addr))
+
+-- where a version of the format is in view, a look gives one
+module _ (test : List ℕ → Option Error) (c : Cache) (path : List ℕ) (world : World) (consistent : Consistent test c) (bytes : List ℕ) where
+  -- a version of the format is taken
+  taken : (s : Stamp) (v : List ℕ) → test v ≡ None → (look_by_test c path s v (test v)).0 ≡ Ok v
+  taken s v formed = ap (λ (t : Option Error). (look_by_test c path s v t).0) formed
+
+  -- the kept bytes, or else those that lie there, are in the format
+  either_formed : (o : Option (List ℕ)) (there : List ℕ) → ((kept : List ℕ) → o ≡ Some kept → test kept ≡ None) → test there ≡ None → test (unwrap_or o there) ≡ None
+  either_formed None there kept lies = lies
+  either_formed (Some k) there kept lies = kept k refl
+
+  abbrev IsTaken : Result (List ℕ) Error → Type 0
+  IsTaken answer = (v : List ℕ) × (answer ≡ Ok v) × (test v ≡ None)
+
+  taken_there : (there : Option Entry) → shown there ≡ Shown bytes → test bytes ≡ None → IsTaken (by_entry test c path there).0
+  taken_there None is formed = cc is
+  taken_there (Some Denied) is formed = cc is
+  taken_there (Some (Present s b)) is formed =
+      let same : bytes ≡ b = cc is in
+      let v = unwrap_or (map.get c.kept s) b in
+      let v_formed = either_formed (map.get c.kept s) b (λ k kept. consistent.formed s k kept) (subst (λ (d : List ℕ). test d ≡ None) same formed) in
+      (v, taken s v v_formed, v_formed)
+
+  taken_by : (o : Option Stamp) → fixed c path ≡ o → by_fixed_view c (entry_at world path) o ≡ Shown bytes → test bytes ≡ None → IsTaken (by_fixed test c path (entry_at world path) o).0
+  taken_by None is shows formed = taken_there (entry_at world path) shows formed
+  taken_by (Some s) is shows formed =
+      let kept = current_kept test c path s [] consistent (fixed_current test c path s [] is) in
+      (bytes_at c s, refl, consistent.formed s (bytes_at c s) (some_at (map.get c.kept s) [] kept))
+
+  pub valid_look : view c world path ≡ Shown bytes → test bytes ≡ None → IsTaken (look test c path (entry_at world path)).0
+  valid_look shows formed = taken_by (fixed c path) refl shows formed
 
 module _ {B : Type 0} (opts : FindSymOpts) (source : Source) (file : FileSource) (query : Query B) (laws : IsFormatOf query source file) (old : State) where
   -- what a version answers, or refuses by itself, where it serves the kind of address
@@ -55,13 +93,13 @@ module _ {B : Type 0} (opts : FindSymOpts) (source : Source) (file : FileSource)
   by_version bytes answer (Some e) formed is = cc
 
   by_looked : (world : World) (answer : B) (looked : Result (List ℕ) Error) → (look file.test (file.cache old) file.path (entry_at world file.path)).0 ≡ looked →
-      by_look (asked_of file opts query) looked ≡ Ok answer → AnswersLook opts source file old world query answer
+      by_look (asked_of file opts query) looked ≡ Ok answer → AnswersLook opts source file old world query (Ok answer)
   by_looked world answer (Ok bytes) is comes = record { bytes = bytes; looked = is; answered = by_version bytes answer (file.test bytes) refl comes }
   by_looked world answer (Err e) is comes = cc
 
   by_taken : (world : World) (answer : B) (taken : Bool) →
       cond taken (by_look (asked_of file opts query) (look file.test (file.cache old) file.path (entry_at world file.path)).0) (Err errors.Unsupported) ≡ Ok answer →
-      AnswersLook opts source file old world query answer
+      AnswersLook opts source file old world query (Ok answer)
   by_taken world answer true comes = by_looked world answer _ refl comes
   by_taken world answer false comes = cc
 
@@ -69,13 +107,13 @@ module _ {B : Type 0} (opts : FindSymOpts) (source : Source) (file : FileSource)
     -- an answered call answers the version that a look gives
     pub look_from_told : (world : World) (result : Result A Error) →
         Comes reading (file_answer (asked_of file opts query) (file.cache old) file.path (entry_at world file.path)) result →
-        IfOk result (λ given. AnswersLook opts source file old world query (reading given))
+        IfOk result (λ given. AnswersLook opts source file old world query (Ok (reading given)))
     look_from_told world (Ok given) comes = by_taken world (reading given) (file.answering.takes query.kind) comes
     look_from_told world (Err e) comes = tt
 
     -- where kept versions cohere with the world, that is the version in view
     view_from_look : (world : World) (result : Result A Error) → Coherent (file.cache old).kept world →
-        IfOk result (λ given. AnswersLook opts source file old world query (reading given)) →
+        IfOk result (λ given. AnswersLook opts source file old world query (Ok (reading given))) →
         IfOk result (λ given. AnswersView opts source file old world query (reading given))
     view_from_look world (Ok given) coherent is = record {
       bytes = is.bytes;
@@ -90,31 +128,27 @@ module _ {B : Type 0} (opts : FindSymOpts) (source : Source) (file : FileSource)
         Comes reading (view_answer (asked_of file opts query) (file.cache old) world file.path) result
     causes_from_told world result coherent comes = rw (look_by_view (asked_of file opts query) (file.cache old) world file.path coherent) at comes
 
-    -- a call whose answer is the version's is answered, or refused as the version itself refuses what is asked, or it fails
-    served_by : (bytes : List ℕ) (expected : Result B Error) (result : Result A Error) → IsAnswerOf source opts bytes query expected → Comes reading expected result →
-        IsServedOrFails source opts bytes query result
-    served_by bytes expected (Ok given) is comes = tt
-    served_by bytes expected (Err errors.ReadFault) is comes = tt
-    served_by bytes expected (Err errors.OutOfMemory) is comes = tt
-    served_by bytes expected (Err e) is comes = subst (λ (a : Result B Error). IsAnswerOf source opts bytes query a) comes is
-
-    -- where a version of the format is in view, a call that it serves is such a one
-    complete_from_causes : (world : World) (result : Result A Error) → Comes reading (view_answer (asked_of file opts query) (file.cache old) world file.path) result →
-        (valid : IsValid source file old world query.kind) → IsServedOrFails source opts valid.bytes query result
-    complete_from_causes world result comes valid =
-        let formed = laws.formed valid.bytes valid.formed in
-        let expected : view_answer (asked_of file opts query) (file.cache old) world file.path ≡ query_given file.answering opts file.path query valid.bytes = rw (valid.takes, valid.in_view, formed) refl in
-        served_by valid.bytes _ result (served valid.bytes _ formed valid.serves refl) (rw expected at comes)
+    -- a call whose answer is that of the version which a look gives is answered, or refused as this version refuses, or it fails
+    served_by : (world : World) (bytes : List ℕ) (expected : Result B Error) (result : Result A Error) → (look file.test (file.cache old) file.path (entry_at world file.path)).0 ≡ Ok bytes →
+        IsAnswerOf source opts bytes query expected → Comes reading expected result → IsServedOrFails opts source file old world query result
+    served_by world bytes expected (Ok given) looked is comes = tt
+    served_by world bytes expected (Err errors.ReadFault) looked is comes = tt
+    served_by world bytes expected (Err errors.OutOfMemory) looked is comes = tt
+    served_by world bytes expected (Err e) looked is comes = record { bytes = bytes; looked = looked; answered = subst (λ (a : Result B Error). IsAnswerOf source opts bytes query a) comes is }
 
     pub view_from_told : (world : World) (result : Result A Error) → Coherent (file.cache old).kept world →
         Comes reading (file_answer (asked_of file opts query) (file.cache old) file.path (entry_at world file.path)) result →
         IfOk result (λ given. AnswersView opts source file old world query (reading given))
     view_from_told world result coherent comes = view_from_look world result coherent (look_from_told world result comes)
 
-    pub complete_from_told : (world : World) (result : Result A Error) → Coherent (file.cache old).kept world →
+    -- where a version of the format is in view, a call that it serves is such a one
+    pub complete_from_told : WellKept old → (world : World) (result : Result A Error) →
         Comes reading (file_answer (asked_of file opts query) (file.cache old) file.path (entry_at world file.path)) result →
-        (valid : IsValid source file old world query.kind) → IsServedOrFails source opts valid.bytes query result
-    complete_from_told world result coherent comes valid = complete_from_causes world result (causes_from_told world result coherent comes) valid
+        IsValid source file old world query.kind → IsServedOrFails opts source file old world query result
+    complete_from_told well world result comes valid =
+        let given = valid_look file.test (file.cache old) file.path world (laws.consistent old well) valid.bytes valid.in_view (laws.formed valid.bytes valid.formed) in
+        let expected : file_answer (asked_of file opts query) (file.cache old) file.path (entry_at world file.path) ≡ query_given file.answering opts file.path query given.0 = rw (valid.takes, given.1, given.2) refl in
+        served_by world given.0 _ result given.1 (served given.0 _ given.2 valid.serves refl) (rw expected at comes)
 
     module _ (now : State) where
       -- the version that answered is kept

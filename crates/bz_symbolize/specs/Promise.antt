@@ -84,11 +84,12 @@ pub record AnswersView {B : Type 0} (opts : FindSymOpts) (source : Source) (file
   pub in_view : view (file.cache state) world file.path ≡ Shown bytes
   pub answered : IsAnswerOf source opts bytes query (Ok answer)
 
--- the version that a look at the path gives: the kept bytes of the path's present stamp, else the present bytes; gives this answer
-pub record AnswersLook {B : Type 0} (opts : FindSymOpts) (source : Source) (file : FileSource) (state : State) (world : World) (query : Query B) (answer : B) : Type 0 where
+-- the version that a look at the path gives: the kept bytes of the path's present stamp, else the present bytes; gives this
+-- answer, or this refusal
+pub record AnswersLook {B : Type 0} (opts : FindSymOpts) (source : Source) (file : FileSource) (state : State) (world : World) (query : Query B) (answer : Result B Error) : Type 0 where
   pub bytes : List ℕ
   pub looked : (look file.test (file.cache state) file.path (entry_at world file.path)).0 ≡ Ok bytes
-  pub answered : IsAnswerOf source opts bytes query (Ok answer)
+  pub answered : IsAnswerOf source opts bytes query answer
 
 -- the path is held, and the version kept for its current stamp gives this answer, or this refusal
 pub record AnswersKept {B : Type 0} (opts : FindSymOpts) (source : Source) (file : FileSource) (state : State) (query : Query B) (answer : Result B Error) : Type 0 where
@@ -133,12 +134,13 @@ pub record IsValid (source : Source) (file : FileSource) (state : State) (world 
   pub in_view : view (file.cache state) world file.path ≡ Shown bytes
   pub formed : IsVersionOf source bytes
 
--- the call is answered, or refused as these bytes themselves refuse what is asked; unless a file failed or memory ran out
-abbrev pub IsServedOrFails : {A B : Type 0} → Source → FindSymOpts → List ℕ → Query B → Result A Error → Type 0
-IsServedOrFails source opts bytes query (Ok given) = Unit {0}
-IsServedOrFails source opts bytes query (Err errors.ReadFault) = Unit {0}
-IsServedOrFails source opts bytes query (Err errors.OutOfMemory) = Unit {0}
-IsServedOrFails source opts bytes query (Err e) = IsAnswerOf source opts bytes query (Err e)
+-- the call is answered, or refused as the version that a look gives itself refuses what is asked; unless a file failed or
+-- memory ran out
+abbrev pub IsServedOrFails : {A B : Type 0} → FindSymOpts → Source → FileSource → State → World → Query B → Result A Error → Type 0
+IsServedOrFails opts source file state world query (Ok given) = Unit {0}
+IsServedOrFails opts source file state world query (Err errors.ReadFault) = Unit {0}
+IsServedOrFails opts source file state world query (Err errors.OutOfMemory) = Unit {0}
+IsServedOrFails opts source file state world query (Err e) = AnswersLook opts source file state world query (Err e)
 
 -- the call is answered, or refused as the version that is kept now itself refuses what is asked; unless memory ran out
 abbrev pub IsServedKept : {A B : Type 0} → FindSymOpts → Source → FileSource → Query B → Result A Error → State → Type 0
@@ -159,16 +161,16 @@ pub record Symbolizes {A B X : Type 0} (files : Ghosts X) (reading : A → B) (s
       IfOk result (λ given. AnswersView (opts_of old.settings) source file old world query (reading given))))
   -- wherever they don't, the version that a look gives is answered
   pub look : OnFile source (λ file. Told (in_view (files.worlds before)) (λ world.
-      IfOk result (λ given. AnswersLook (opts_of old.settings) source file old world query (reading given))))
+      IfOk result (λ given. AnswersLook (opts_of old.settings) source file old world query (Ok (reading given)))))
   -- whether or not the files tell what they hold, the kept version is answered
   pub kept : OnFile source (λ file. IfOk result (λ given. AnswersKept (opts_of old.settings) source file now query (Ok (reading given))))
   -- where kept versions cohere with the world in view, each refusal has its cause in the view
   pub causes : OnFile source (λ file. Told (in_view (files.worlds before)) (λ world. Coherent (file.cache old).kept world →
       Comes reading (view_answer (asked_of file (opts_of old.settings) query) (file.cache old) world file.path) result))
-  -- and where a version of the source's format is in view, the call is answered, or refused as that version itself refuses
-  -- what is asked, unless something fails
-  pub complete : OnFile source (λ file. Told (in_view (files.worlds before)) (λ world. Coherent (file.cache old).kept world →
-      (valid : IsValid source file old world query.kind) → IsServedOrFails source (opts_of old.settings) valid.bytes query result))
+  -- wherever a version of the source's format is in view, the call is answered, or refused as the version that a look gives
+  -- itself refuses what is asked, unless something fails
+  pub complete : OnFile source (λ file. Told (in_view (files.worlds before)) (λ world.
+      IsValid source file old world query.kind → IsServedOrFails (opts_of old.settings) source file old world query result))
   -- the answer, the state that is left and the file that is read are those of the definitions, but for a process
   pub told : Told (in_view (files.worlds before)) (λ world. UnlessProcess source (CallTold reading (opts_of old.settings) (form_of source) query result old now world (files.opens before) (files.opens after)))
   -- so the call is one of those whose lists keep versions coherent
@@ -199,5 +201,6 @@ pub record AsksSource {A B X : Type 0} (files : Ghosts X) (reading : A → B) (s
   pub handed : OnHanded source (λ given. Gives reading (handed_answer given opts query) result × (now ≡ old) × (after ≡ before))
   pub rest : OnFile source (λ file. now ≡ file.with_cache old (file.cache now))
   pub settings : now.settings ≡ old.settings
+  pub kept_well : WellKept old
   pub caches : WellKept now
   pub looked : Looked files before after (Faulted result)

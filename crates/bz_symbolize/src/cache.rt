@@ -42,7 +42,9 @@ impl fmt::Debug for Elf {
     }
 }
 
-/// A process. What is kept of it answers also once the process is gone.
+/// A process. What is kept of it answers also once the process is gone. The files that it has mapped
+/// aren't kept: then they answer only with `map_files` off, at their own paths, or where the ELF path
+/// that is looked at is pinned.
 #[derive(Drop)]
 pub struct Process {
     /// The process.

@@ -118,7 +118,8 @@ pub struct Process {
     pub debug_syms: bool,
     /// Whether its perf map answers for addresses of mappings that are of nothing.
     pub perf_map: bool,
-    /// Whether mapped files are looked at by the paths that stand for their mappings, and not by their own.
+    /// Whether mapped files are looked at by the paths that stand for their mappings, which only a
+    /// privileged caller may read, and not by their own, at which another file may lie by now.
     pub map_files: bool,
     /// Whether the symbols of the vDSO are looked for. It has no effect: none are.
     pub vdso: bool,

@@ -8,7 +8,7 @@ ghost use Rattle.bz_symq.specs.Outcome.{code_of, message_of};
 pub enum Status {
     /// 0: the answers, or the product, were written.
     Done,
-    /// 1: the source has no answers, or the product can't be made; the refusal was written.
+    /// 1: the source can't be asked, or the product can't be made; the refusal was written.
     Refused,
     /// 2: the words are no command.
     Usage,

@@ -1,5 +1,5 @@
-//! Symbolizes addresses: the answers of a symbol file, or of a process, to the addresses on standard
-//! input.
+//! Symbolizes addresses, stacks, frames and requests on standard input, by symbol files and processes,
+//! and makes products of symbol files.
 #![tactic(auto)]
 
 use bz_files::{FileError, Files, RealFiles, RealIn, RealOut};

@@ -13,8 +13,9 @@ use bz_process::ProcessDispatch;
 use std::alloc::Global;
 
 impl<D: ProcessDispatch + Drop> Symbolizer<D> {
-    /// Keeps what answers ahead of addresses, so that it answers also once the files have changed or
-    /// are gone.
+    /// Keeps what answers ahead of addresses, so that it answers also once its files have changed or are
+    /// gone: an ELF file, or of a process its mappings, id and perf map. The files that a process has
+    /// mapped aren't kept by that.
     ///
     /// An ELF file is looked at as if its path weren't pinned, and the path is pinned at the version
     /// that this look gives. A symbolizer that doesn't look at files anew pins a held path as it is. It
