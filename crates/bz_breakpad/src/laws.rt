@@ -41,7 +41,7 @@ pub fn public_symbols_are_equal_by_field()
 /// What is told of symbols is equal exactly where every field is, and so a clone is.
 pub fn infos_are_equal_by_field()
     ensures equal { (a b : SymInfo) → IsTrue (⟦<SymInfo<'static> as PartialEq>⟧.eq a b) ↔ (info_of a ≡ info_of b) }
-    ensures clone { (a b : SymInfo) → ⟦<SymInfo<'static> as Clone>⟧.is_clone a b ↔ (info_of a ≡ info_of b) }
+    ensures clone { (a b : SymInfo) → ⟦<SymInfo<'static> as Clone>⟧.is_clone a b → info_of a ≡ info_of b }
 {}
 
 /// By default symbols of any kind are looked for.
