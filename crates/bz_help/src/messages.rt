@@ -18,6 +18,44 @@ use std::borrow::CowStr;
 const NO_COMMAND: &str =
     "symq: not a command line: one of breakpad PATH, gsym PATH, elf PATH, process PID, canon PATH, convert PATH, stacks PATH, frames ROOT, serve, gen SEED FUNCTIONS ADDRESSES; --input abs, virt or file goes with the first four";
 
+/// Kinds, each with what is said where its arguments are wrong.
+static USES: [(&str, &str); 10] = [
+    (
+        "breakpad",
+        "symq: breakpad takes one PATH; addresses come on standard input",
+    ),
+    (
+        "gsym",
+        "symq: gsym takes one PATH; addresses come on standard input",
+    ),
+    (
+        "elf",
+        "symq: elf takes one PATH; addresses come on standard input",
+    ),
+    (
+        "process",
+        "symq: process takes one PID, at most 4294967295; addresses come on standard input",
+    ),
+    (
+        "serve",
+        "symq: serve takes nothing; requests come on standard input",
+    ),
+    (
+        "stacks",
+        "symq: stacks takes one PATH; stacks come on standard input",
+    ),
+    (
+        "frames",
+        "symq: frames takes one ROOT; frames come on standard input",
+    ),
+    ("canon", "symq: canon takes one PATH"),
+    ("convert", "symq: convert takes one PATH"),
+    (
+        "gen",
+        "symq: gen takes SEED, at most 2147483647, FUNCTIONS, 1 to 100000, and ADDRESSES, at most 100000",
+    ),
+];
+
 /// What standard error says of a run of these words that ended so, without the end of the last line;
 /// none where standard output says it all, or memory ran out. Of a refused run it says where the
 /// Breakpad file is refused that the words name; of a faulty command line, what is wrong with it, in
@@ -73,9 +111,29 @@ fn refusal<F: Files>(alloc: Global, words: &[String], files: &mut F) -> Option<C
 fn usage(alloc: Global, words: &[String]) -> CowStr<'static> {
     match complaint_line(alloc, words) {
         Ok(Some(line)) => CowStr::Owned(line),
-        Ok(None) => CowStr::Borrowed(NO_COMMAND),
+        Ok(None) => CowStr::Borrowed(kind_use(words)),
         Err(_) => CowStr::Borrowed(NO_COMMAND),
     }
+}
+
+// What the kind takes that the first word without a dash names, or else which kinds there are.
+fn kind_use(words: &[String]) -> &'static str {
+    for word in words {
+        if !word.as_str().starts_with('-') {
+            return use_of(word.as_str());
+        }
+    }
+    NO_COMMAND
+}
+
+// What the kind of a name takes, or else which kinds there are.
+fn use_of(name: &str) -> &'static str {
+    for (kind, said) in &USES {
+        if *kind == name {
+            return said;
+        }
+    }
+    NO_COMMAND
 }
 
 // The first line of what `clap` says of words that it refuses, if it is whole by itself.

@@ -11,7 +11,7 @@ use std::test::Fail;
 /// input, on standard output, and on files; and how what is said begins, or nothing.
 type Run = (&'static str, Status, u64, u64, u64, &'static str);
 
-static SAID: [Run; 32] = [
+static SAID: [Run; 33] = [
     // Refused files.
     (
         "breakpad /bad",
@@ -108,7 +108,7 @@ static SAID: [Run; 32] = [
         0,
         0,
         0,
-        "symq: not a command line: ",
+        "symq: breakpad takes one PATH; addresses come",
     ),
     (
         "process x",
@@ -116,7 +116,15 @@ static SAID: [Run; 32] = [
         0,
         0,
         0,
-        "symq: not a command line: ",
+        "symq: process takes one PID, ",
+    ),
+    (
+        "--no-reload gen 1 0 4",
+        Status::Usage,
+        0,
+        0,
+        0,
+        "symq: gen takes SEED, ",
     ),
     // Sides that failed.
     (
