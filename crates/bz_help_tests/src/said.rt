@@ -11,7 +11,7 @@ use std::test::Fail;
 /// input, on standard output, and on files; and how what is said begins, or nothing.
 type Run = (&'static str, Status, u64, u64, u64, &'static str);
 
-static SAID: [Run; 33] = [
+static SAID: [Run; 40] = [
     // Refused files.
     (
         "breakpad /bad",
@@ -125,6 +125,62 @@ static SAID: [Run; 33] = [
         0,
         0,
         "symq: gen takes SEED, ",
+    ),
+    (
+        "gsym",
+        Status::Usage,
+        0,
+        0,
+        0,
+        "symq: gsym takes one PATH; addresses",
+    ),
+    (
+        "elf a b",
+        Status::Usage,
+        0,
+        0,
+        0,
+        "symq: elf takes one PATH; addresses",
+    ),
+    (
+        "serve x",
+        Status::Usage,
+        0,
+        0,
+        0,
+        "symq: serve takes nothing; requests",
+    ),
+    (
+        "stacks",
+        Status::Usage,
+        0,
+        0,
+        0,
+        "symq: stacks takes one PATH; stacks",
+    ),
+    (
+        "frames a b",
+        Status::Usage,
+        0,
+        0,
+        0,
+        "symq: frames takes one ROOT; frames",
+    ),
+    (
+        "canon",
+        Status::Usage,
+        0,
+        0,
+        0,
+        "symq: canon takes one PATH",
+    ),
+    (
+        "convert a b",
+        Status::Usage,
+        0,
+        0,
+        0,
+        "symq: convert takes one PATH",
     ),
     // Sides that failed.
     (
