@@ -13,15 +13,17 @@ pub type Result<T> = std::result::Result<T, Error>;
 /// The kinds of refusal.
 #[derive(Clone, Copy, Debug, PartialEq, Eq)]
 pub enum ErrorKind {
-    /// The source doesn't take this kind of input.
+    /// The source doesn't take this kind of input or search; or an ELF file has another class or byte
+    /// order.
     Unsupported,
     /// A file that is needed is absent.
     NotFound,
     /// A file that is needed may not be read.
     PermissionDenied,
-    /// Text outside its format.
+    /// A Breakpad file outside its format; or, of one address there, an id that names nothing, or a
+    /// source's name without a last component.
     InvalidInput,
-    /// Binary tables outside their format.
+    /// GSYM, ELF, mappings, a perf map or a status outside their formats.
     InvalidData,
     /// A process has no mappings.
     UnexpectedEof,
@@ -36,15 +38,17 @@ pub enum ErrorKind {
 /// A refusal.
 #[derive(Clone, Copy, Debug, PartialEq, Eq)]
 pub enum Error {
-    /// The source doesn't take this kind of input.
+    /// The source doesn't take this kind of input or search; or an ELF file has another class or byte
+    /// order.
     Unsupported,
     /// A file that is needed is absent.
     NotFound,
     /// A file that is needed may not be read.
     PermissionDenied,
-    /// Text outside its format.
+    /// A Breakpad file outside its format; or, of one address there, an id that names nothing, or a
+    /// source's name without a last component.
     InvalidInput,
-    /// Binary tables outside their format.
+    /// GSYM, ELF, mappings, a perf map or a status outside their formats.
     InvalidData,
     /// A process has no mappings.
     UnexpectedEof,

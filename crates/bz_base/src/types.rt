@@ -56,7 +56,7 @@ pub struct CodeInfo<'a> {
     pub dir: Option<CowStr<'a>>,
     /// The name of the source file.
     pub file: CowStr<'a>,
-    /// The line, counted from 1.
+    /// The line, as the source has it: counted from 1, and 0 where it names none.
     pub line: Option<u32>,
     /// The column; no source here tells one.
     pub column: Option<u16>,
@@ -84,7 +84,8 @@ pub struct ResolvedSym<'a> {
     pub size: Option<usize>,
     /// The language that the name is from.
     pub lang: SrcLang,
-    /// The place of the address in the source code.
+    /// The place in the symbol's own function: that of the address, or, with inlined calls, that of the
+    /// outermost call.
     pub code_info: Option<CodeInfo<'a>>,
     /// The calls that were inlined at the address, the outermost first.
     pub inlined: Vec<InlinedFn<'a>>,
@@ -103,7 +104,8 @@ pub struct Sym<'a> {
     pub offset: usize,
     /// The symbol's size, in bytes.
     pub size: Option<usize>,
-    /// The place of the address in the source code.
+    /// The place in the symbol's own function: that of the address, or, with inlined calls, that of the
+    /// outermost call.
     pub code_info: Option<CodeInfo<'a>>,
     /// The calls that were inlined at the address, the outermost first.
     pub inlined: Vec<InlinedFn<'a>>,
