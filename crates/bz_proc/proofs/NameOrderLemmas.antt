@@ -1,7 +1,11 @@
--- The order of names reads their texts alone.
-use Rattle.std.proofs.Common.{◌≡◌, ℕ, List, refl, ap, ap₂}
+-- The order of names reads their texts alone, and what is fed of them to a hasher tells the texts.
+use Rattle.std.proofs.Common.{◌≡◌, ◌↔◌, ℕ, Bool, IsTrue, List, [], ◌++◌, get_or, refl, sym, ap, ap₂, ◌∙◌}
+use Rattle.std.specs.Cmp.{Equal-is}
 use Rattle.std.specs.Cmp.Lexicographic.{slice_cmp}
-use Rattle.std.specs.Ordering.{nat_cmp, ordering_then}
+use Rattle.std.specs.Hash.{str, usize}
+use Rattle.std.specs.Ordering.{nat_cmp, ordering_then, is_eq}
+use Rattle.std.specs.declared.cmp.Ordering.{Ordering}
+use Rattle.std.specs.declared.cmp.Ordering.TheVariants.{Equal}
 use Rattle.std.specs.String.{string_bytes}
 use Rattle.bz_proc.specs.Maps.{Name, name_of}
 use Rattle.bz_proc.specs.Maps.Name.{File, Component}
@@ -28,3 +32,20 @@ alike_left (names.Component a) (names.Component b) (names.Component other) is = 
 alike_left (names.Component a) (names.Component b) (names.Path other) is = refl
 alike_left (names.Component a) (names.Path b) other is = cc is
 alike_left (names.Path a) (names.Component b) other is = cc is
+
+-- an order that tells whether two are equal ties exactly there
+pub ties_at_equal : (order : Ordering) (equal : Bool) → equal ≡ is_eq order → (order ≡ Equal) ↔ IsTrue equal
+ties_at_equal order equal told = (λ tie. told ∙ ap is_eq tie, λ same. (Equal-is order).0 (sym told ∙ same))
+
+-- Hashes.
+
+-- what is fed of two texts tells them
+pub texts_fed : (a b x y : List ℕ) → (str a ++ str b) ≡ (str x ++ str y) → (a ≡ x) × (b ≡ y)
+texts_fed a b x y same = (ap (λ writes. get_or writes 0 []) same, ap (λ writes. get_or writes 2 []) same)
+
+-- also behind the place of a variant
+pub file_fed : (a b x y : List ℕ) → (usize 0 ++ (str a ++ str b)) ≡ (usize 0 ++ (str x ++ str y)) → (a ≡ x) × (b ≡ y)
+file_fed a b x y same = (ap (λ writes. get_or writes 1 []) same, ap (λ writes. get_or writes 3 []) same)
+
+pub component_fed : (a b : List ℕ) → (usize 1 ++ str a) ≡ (usize 1 ++ str b) → a ≡ b
+component_fed a b same = ap (λ writes. get_or writes 1 []) same
