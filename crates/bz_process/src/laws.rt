@@ -1,6 +1,6 @@
 //! What holds of calls on processes.
 
-ghost use Rattle.std.specs.Prelude.{◌≡◌, ◌∷◌, [], ℕ, ◌+◌, ◌≤◌, true, map, List, Option, Some, Result, Ok, IfOk, Contains};
+ghost use Rattle.std.specs.Prelude.{◌≡◌, ◌↔◌, ◌∷◌, [], ℕ, ◌+◌, ◌≤◌, true, map, List, Option, Some, Result, Ok, IfOk, Contains};
 ghost use Rattle.std.specs.List.{AllByRecursion};
 ghost use Rattle.bz_base.specs.Answer.{Answer, in_batch};
 ghost use Rattle.bz_base.specs.InputKind.{AddressKind};
@@ -21,8 +21,9 @@ ghost use Rattle.bz_process.specs.ProcessCall.{Change, IsTold, Reaches, after_ch
 ghost use Rattle.bz_process.specs.Processes.{KeptProcesses, SymbolizesAddress, SymbolizesProcess, caches_of, is_in_process, kept_mappings};
 ghost use Rattle.bz_process.specs.Reached.{AreLookedOver, CohereWithAll};
 ghost use Rattle.bz_process.specs.Reads.{HavePaths, reads_again, reads_once};
+ghost use Rattle.bz_process.specs.declared.dispatch.ProcessMemberInfo.{ProcessMemberInfo};
 
-use crate::dispatch::ProcessDispatch;
+use crate::dispatch::{ProcessDispatch, ProcessMemberInfo};
 use bz_files::Files;
 
 /// Whatever a call on a process answers, looks and remembered ids lead from what was kept of files and
@@ -81,4 +82,11 @@ pub fn reads_are_few<D: ProcessDispatch + Drop, F: Files, A>()
         SymbolizesAddress F.Files reading (D.may_dispatch old.dispatcher) D.Resolver.TranslateFileOffset D.Resolver.Symbolize opts asked kind addr result elf elf_now old now before after → in_view (F.worlds before) ≡ Some world →
         ((mappings : List Mapping) → (some_mappings asked.pid (kept_mappings old asked.pid) world (caches_of elf old)).answer ≡ Ok mappings → HavePaths asked paths mappings (addr ∷ [])) →
         F.opens after ≤ F.opens before + reads_once asked world paths (kept_mappings old asked.pid) (caches_of elf old) }
+{}
+
+/// A clone of what a process has mapped has the same range and refers to the same name. Cloning takes no
+/// memory.
+pub fn member_clones_are_equal()
+    ensures clone { (a b : ProcessMemberInfo) → ⟦<ProcessMemberInfo<'static> as Clone>⟧.is_clone a b ↔ (a ≡ b) }
+    ensures no_memory { (a : ProcessMemberInfo) → ⟦<ProcessMemberInfo<'static> as Clone>⟧.is_infallible a }
 {}
