@@ -333,8 +333,8 @@ impl SymbolFile {
         self.answers_by(alloc, addrs, &found, opts)
     }
 
-    /// The answer at an address alone, which is relative to the module's base. It is refused as the one
-    /// whose record was found.
+    /// The answer at an address alone, which is relative to the module's base. InvalidInput: an id of a
+    /// file or of an origin there names nothing, or a source name has no component.
     pub fn answer<L: Ledger>(
         &self,
         alloc: Global,

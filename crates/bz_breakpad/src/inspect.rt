@@ -49,8 +49,8 @@ pub trait Inspect {
         ensures answer { Gives (λ infos. map info_of infos.items) (told_named name.now (told self.now opts.now.sym_type)) result }
         ensures memory { IfErr result (WantsMemory (IsOk (told self.now opts.now.sym_type))) };
 
-    /// Calls the closure at what is told of each symbol, in the table's order, until it answers false. It
-    /// is refused as the look by a name is.
+    /// Calls the closure at what is told of each symbol, in the table's order, until it answers false.
+    /// Unsupported: the table has no symbols of the kind.
     fn for_each<F: FnMut(&SymInfo<'_>) -> bool>(&self, opts: &FindAddrOpts, f: F) -> Result<()>
         requires { F.IsAlwaysCallable f }
         ensures { Goes F.FnMut f (told self.now opts.now.sym_type) result };

@@ -38,7 +38,7 @@ pub fn public_symbols_are_equal_by_field()
     ensures { (a b : PublicSymbol) → IsTrue (⟦<PublicSymbol<'static> as PartialEq>⟧.eq a b) ↔ (lent_public a ≡ lent_public b) }
 {}
 
-/// What is told of symbols is equal exactly where every field is, and so a clone is.
+/// What is told of symbols is equal exactly where every field is. A clone tells the same.
 pub fn infos_are_equal_by_field()
     ensures equal { (a b : SymInfo) → IsTrue (⟦<SymInfo<'static> as PartialEq>⟧.eq a b) ↔ (info_of a ≡ info_of b) }
     ensures clone { (a b : SymInfo) → ⟦<SymInfo<'static> as Clone>⟧.is_clone a b → info_of a ≡ info_of b }

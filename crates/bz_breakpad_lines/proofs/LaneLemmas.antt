@@ -1,12 +1,12 @@
 -- From the bits of one load to where the digits of a field end.
-use Rattle.std.proofs.Common.{◌≡◌, ℕ, zero, suc, ◌+◌, ◌-◌, ◌*◌, ◌/◌, ◌^◌, ◌<◌, ◌≤◌, Bool, true, false, cond, not, List, [], ◌∷◌, map, length, take, drop, refl, sym, ap, ap₂, ◌∙◌, arith, inl, inr}
+use Rattle.std.proofs.Common.{◌≡◌, ℕ, zero, suc, ◌+◌, ◌-◌, ◌*◌, ◌/◌, ◌^◌, ◌<◌, ◌≤◌, Bool, true, false, cond, not, List, [], ◌∷◌, map, length, take, drop, refl, sym, subst, ap, ap₂, ◌∙◌, arith, inl, inr}
 use Rattle.std.specs.List.{prefix_len}
 use Rattle.std.proofs.lemmas.Bool.{cases_eq, cond-false, ne_eqb}
-use Rattle.std.proofs.lemmas.List.{length-drop, length-take-le, take-append-drop}
+use Rattle.std.proofs.lemmas.List.{length-drop, length-map, length-take-le, take-append-drop}
 use Rattle.std.proofs.lemmas.List.Folds.{prefix_len-append}
 use Rattle.std.proofs.lemmas.Nat.{shr-shr}
-use Rattle.std.proofs.lemmas.Simd.{trailing_mask_l}
-use Rattle.std.proofs.Math.Nat.{div-one, div-le_self}
+use Rattle.std.proofs.lemmas.Simd.{mask_l-lt, trailing_mask_l}
+use Rattle.std.proofs.Math.Nat.{div-one, div-le_self, mul_assoc, mul_comm, pow-suc}
 use Rattle.std.proofs.Math.Seq.{take-nil}
 use lib.Count.{count_trailing_zeros}
 use lib.Lanes.{mask_l}
@@ -43,6 +43,25 @@ run_ends p (b ∷ text) some = step (p b) (mask_l (map (λ c. not (p c)) text)) 
   step : (test : Bool) (m n l : ℕ) → (0 < m → n < l) → 0 < cond (not test) 1 0 + 2 * m → cond test (1 + n) 0 < suc l
   step true m n l ends some = let below = ends (omega arith) in omega arith
   step false m n l ends some = omega arith
+
+-- the bits of a front, and behind them those of what follows it
+pub bits_joined : (test : ℕ → Bool) (n m : ℕ) (text : List ℕ) → n ≤ length text →
+    mask_l (map test (take n text)) + 2 ^ n * mask_l (map test (take m (drop n text))) ≡ mask_l (map test (take (n + m) text))
+bits_joined test zero m text within = grind arith
+bits_joined test (suc n) m [] within = absurd (omega arith)
+bits_joined test (suc n) m (b ∷ text) within =
+    let front = mask_l (map test (take n text)) in
+    let more = mask_l (map test (take m (drop n text))) in
+    let next = bits_joined test n m text (omega arith) in
+    let doubled : 2 ^ suc n * more ≡ 2 * (2 ^ n * more) = ap (λ p. p * more) (pow-suc 2 n ∙ mul_comm (2 ^ n) 2) ∙ mul_assoc 2 (2 ^ n) more in
+    let whole : suc n + m ≡ suc (n + m) = omega arith in
+    omega (arith, next, doubled, ap (λ k. mask_l (map test (take k (b ∷ text)))) whole)
+
+-- the bits of so many bytes are a number of as many bits
+pub bits_fit : (test : ℕ → Bool) (n : ℕ) (text : List ℕ) → n ≤ length text → mask_l (map test (take n text)) < 2 ^ n
+bits_fit test n text within =
+    let load = take n text in
+    subst (λ k. mask_l (map test load) < 2 ^ k) (length-map load test ∙ length-take-le n text within) (mask_l-lt (map test load))
 
 -- what is left of the front of a text is the front of what is left
 pub front_from : (from shown : ℕ) (text : List ℕ) → drop from (take shown text) ≡ take (shown - from) (drop from text)

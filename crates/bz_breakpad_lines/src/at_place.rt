@@ -13,9 +13,10 @@ ghost use Rattle.bz_breakpad_lines.specs.Stops.{AreDigits};
 ghost use Rattle.bz_breakpad_lines.specs.Told.{line_seen, call_told};
 
 use crate::field::{body, hex};
+use crate::in_turn::quick_next;
 use crate::inline::call_line;
 use crate::lanes::{few_hex, line_feeds};
-use crate::line::{LineEnds, line_ends};
+use crate::line::LineEnds;
 use crate::quick::Shown;
 use crate::record::{InlineCall, SourceLine, call_front, code_line};
 use crate::values::hex_front;
@@ -64,21 +65,10 @@ pub fn line_at(bytes: &[u8], place: usize) -> Option<SourceLine>
         return None;
     }
     let text = &bytes[place..];
-    match quick_line(text) {
-        Some(line) => Some(line),
+    match quick_next(text) {
+        Some(next) => Some(next.line),
         None => any_line(text),
     }
-}
-
-/// The line record at the front, the quick way.
-#[inline(always)]
-fn quick_line(text: &[u8]) -> Option<SourceLine>
-    ensures { IfSome result (λ line. line_in text.now ≡ Some (line_seen line)) }
-{
-    let shown = Shown::of_line(text)?;
-    let start = shown.hex_end(0, 8)?;
-    let ends = line_ends(shown, start)?;
-    Some(line_by(shown, start, ends))
 }
 
 /// The line record at the front whose fields end there.
@@ -149,7 +139,7 @@ pub fn start_of(text: &[u8]) -> u64
 fn quick_start(text: &[u8]) -> Option<u64>
     ensures { IfSome result (λ start. option_map (λ read. read.0) (piece_at (Hex 16) text.now) ≡ Some start) }
 {
-    if text.len() < 16 {
+    if text.len() < 32 {
         return None;
     }
     let digits = few_hex(text)?;

@@ -36,7 +36,7 @@ pub fn next_line(text: &[u8]) -> NextLine
 
 /// The same, if one load shows the whole line.
 #[inline(always)]
-fn quick_next(text: &[u8]) -> Option<NextLine>
+pub(crate) fn quick_next(text: &[u8]) -> Option<NextLine>
     ensures line { IfSome result (λ next. line_in text.now ≡ Some (line_seen next.line)) }
     ensures end { IfSome result (λ next. next.end ≡ prefix_len (λ b. not (b == line_feed)) text.now) }
     ensures within { IfSome result (λ next. next.end ≤ length text.now) }

@@ -1,6 +1,6 @@
-//! Where the digits of fields and the lines end, by one load.
+//! Where the digits of fields and the lines end, by loads of many bytes.
 
-ghost use Rattle.std.specs.Prelude.{◌≡◌, ◌==◌, ◌<◌, ◌≤◌, ℕ, List, not, length, map, take, drop, IfSome};
+ghost use Rattle.std.specs.Prelude.{◌≡◌, ◌==◌, ◌<◌, ◌≤◌, ◌+◌, ◌*◌, ◌^◌, ℕ, List, not, length, map, take, drop, IfSome};
 ghost use Rattle.bz_base.specs.Byte.{line_feed};
 ghost use Rattle.bz_breakpad_lines.specs.Byte.{is_hex, is_decimal};
 ghost use Rattle.bz_breakpad_lines.specs.Stops.{AreDigits, AreStops};
@@ -8,7 +8,7 @@ ghost use lib.Lanes.{mask_l};
 
 use std::simd::prelude::*;
 
-/// A bit for each byte that one load shows, as far as they haven't been read.
+/// A bit for each byte that is shown at once, as far as they haven't been read.
 #[derive(Clone, Copy)]
 pub struct Stops {
     /// Whether it is no hexadecimal digit.
@@ -26,10 +26,11 @@ impl Stops {
         requires { 64 ≤ length text.now }
         ensures { AreStops text.now result }
     {
+        let more = &text[32..];
         Stops {
-            hex: hex_stops(text),
-            dec: dec_stops(text),
-            end: line_ends(text),
+            hex: joined(hex_stops(text), hex_stops(more)),
+            dec: joined(dec_stops(text), dec_stops(more)),
+            end: joined(line_feeds(text), line_feeds(more)),
         }
     }
 
@@ -40,8 +41,8 @@ impl Stops {
         ensures { AreStops text.now result }
     {
         Stops {
-            hex: line_hex_stops(text),
-            dec: line_dec_stops(text),
+            hex: hex_stops(text),
+            dec: dec_stops(text),
             end: line_feeds(text),
         }
     }
@@ -60,25 +61,23 @@ impl Stops {
     }
 }
 
-/// A bit for each of the first 64 bytes that is no hexadecimal digit.
+/// The bits of 32 bytes, and then those of the next 32.
 #[inline(always)]
-fn hex_stops(text: &[u8]) -> u64
-    requires { 64 ≤ length text.now }
-    ensures { result ≡ mask_l (map (λ b. not (is_hex b)) (take 64 text.now)) }
+fn joined(front: u64, more: u64) -> u64
+    requires front { front < 2 ^ 32 }
+    requires more { more < 2 ^ 32 }
+    ensures { result ≡ front + 2 ^ 32 * more }
 {
-    let bytes = u8x64::from_slice(text);
-    let no_digit = (bytes - u8x64::splat(b'0')).simd_ge(u8x64::splat(10));
-    let no_letter = ((bytes | u8x64::splat(0x20)) - u8x64::splat(b'a')).simd_ge(u8x64::splat(6));
-    (no_digit & no_letter).to_bitmask()
+    front | (more << 32)
 }
 
 /// How many hexadecimal digits stand at the front, if one to eight do.
 #[inline(always)]
 pub fn few_hex(text: &[u8]) -> Option<u32>
-    requires { 16 ≤ length text.now }
+    requires { 32 ≤ length text.now }
     ensures { IfSome result (AreDigits 16 8 text.now 0) }
 {
-    let digits = few_hex_stops(text).trailing_zeros();
+    let digits = hex_stops(text).trailing_zeros();
     if digits == 0 || digits > 8 {
         None
     } else {
@@ -86,44 +85,9 @@ pub fn few_hex(text: &[u8]) -> Option<u32>
     }
 }
 
-/// A bit for each of the first 16 bytes that is no hexadecimal digit.
-#[inline(always)]
-fn few_hex_stops(text: &[u8]) -> u64
-    requires { 16 ≤ length text.now }
-    ensures { result ≡ mask_l (map (λ b. not (is_hex b)) (take 16 text.now)) }
-{
-    let bytes = u8x16::from_slice(text);
-    let no_digit = (bytes - u8x16::splat(b'0')).simd_ge(u8x16::splat(10));
-    let no_letter = ((bytes | u8x16::splat(0x20)) - u8x16::splat(b'a')).simd_ge(u8x16::splat(6));
-    (no_digit & no_letter).to_bitmask()
-}
-
-/// A bit for each of the first 64 bytes that is no decimal digit.
-#[inline(always)]
-fn dec_stops(text: &[u8]) -> u64
-    requires { 64 ≤ length text.now }
-    ensures { result ≡ mask_l (map (λ b. not (is_decimal b)) (take 64 text.now)) }
-{
-    let bytes = u8x64::from_slice(text);
-    (bytes - u8x64::splat(b'0'))
-        .simd_ge(u8x64::splat(10))
-        .to_bitmask()
-}
-
-/// A bit for each of the first 64 bytes that is a line feed.
-#[inline(always)]
-fn line_ends(text: &[u8]) -> u64
-    requires { 64 ≤ length text.now }
-    ensures { result ≡ mask_l (map (λ b. b == line_feed) (take 64 text.now)) }
-{
-    u8x64::from_slice(text)
-        .simd_eq(u8x64::splat(b'\n'))
-        .to_bitmask()
-}
-
 /// A bit for each of the first 32 bytes that is no hexadecimal digit.
 #[inline(always)]
-fn line_hex_stops(text: &[u8]) -> u64
+fn hex_stops(text: &[u8]) -> u64
     requires { 32 ≤ length text.now }
     ensures { result ≡ mask_l (map (λ b. not (is_hex b)) (take 32 text.now)) }
 {
@@ -135,7 +99,7 @@ fn line_hex_stops(text: &[u8]) -> u64
 
 /// A bit for each of the first 32 bytes that is no decimal digit.
 #[inline(always)]
-fn line_dec_stops(text: &[u8]) -> u64
+fn dec_stops(text: &[u8]) -> u64
     requires { 32 ≤ length text.now }
     ensures { result ≡ mask_l (map (λ b. not (is_decimal b)) (take 32 text.now)) }
 {

@@ -201,6 +201,7 @@ pub record AsksSource {A B X : Type 0} (files : Ghosts X) (reading : A → B) (s
   pub handed : OnHanded source (λ given. Gives reading (handed_answer given opts query) result × (now ≡ old) × (after ≡ before))
   pub rest : OnFile source (λ file. now ≡ file.with_cache old (file.cache now))
   pub settings : now.settings ≡ old.settings
+  -- before the call and after it what is kept is well kept
   pub kept_well : WellKept old
   pub caches : WellKept now
   pub looked : Looked files before after (Faulted result)

@@ -7,7 +7,7 @@ use Rattle.bz_breakpad_lines.proofs.lanes.dec_stops.Goals as goal
 
 pub returns : goal.returns
 returns c =
-    let load = take 64 c.args.text.now in
-    let long = length-take-le 64 c.args.text.now c.requires in
-    bits_are 64 (λ b. not (is_decimal b)) c.args.text.now _ (omega arith) c.requires c.type_inv.text _
-    (zip2_of_maps (λ a b. cond (leb a b) 255 0) _ _ load (splat_is_map load 64 10 long) (zip2_splat {Y = ℕ} _ load 64 48 long)) refl
+    let load = take 32 c.args.text.now in
+    let long = length-take-le 32 c.args.text.now c.requires in
+    bits_are 32 (λ b. not (is_decimal b)) c.args.text.now _ (omega arith) c.requires c.type_inv.text _
+    (zip2_of_maps (λ a b. cond (leb a b) 255 0) _ _ load (splat_is_map load 32 10 long) (zip2_splat {Y = ℕ} _ load 32 48 long)) refl

@@ -7,10 +7,10 @@ use Rattle.bz_breakpad_lines.proofs.lanes.hex_stops.Goals as goal
 
 pub returns : goal.returns
 returns c =
-    let load = take 64 c.args.text.now in
-    let long = length-take-le 64 c.args.text.now c.requires in
-    bits_are 64 (λ b. not (is_hex b)) c.args.text.now _ (omega arith) c.requires c.type_inv.text _
+    let load = take 32 c.args.text.now in
+    let long = length-take-le 32 c.args.text.now c.requires in
+    bits_are 32 (λ b. not (is_hex b)) c.args.text.now _ (omega arith) c.requires c.type_inv.text _
     (zip2_of_maps bit_and _ _ load
-    (zip2_of_maps (λ a b. cond (leb a b) 255 0) _ _ load (splat_is_map load 64 10 long) (zip2_splat {Y = ℕ} _ load 64 48 long))
-    (zip2_of_maps (λ a b. cond (leb a b) 255 0) _ _ load (splat_is_map load 64 6 long)
-    (zip2_of_maps _ _ _ load (zip2_splat {Y = ℕ} _ load 64 32 long) (splat_is_map load 64 97 long)))) refl
+    (zip2_of_maps (λ a b. cond (leb a b) 255 0) _ _ load (splat_is_map load 32 10 long) (zip2_splat {Y = ℕ} _ load 32 48 long))
+    (zip2_of_maps (λ a b. cond (leb a b) 255 0) _ _ load (splat_is_map load 32 6 long)
+    (zip2_of_maps _ _ _ load (zip2_splat {Y = ℕ} _ load 32 32 long) (splat_is_map load 32 97 long)))) refl
