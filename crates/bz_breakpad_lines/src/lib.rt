@@ -11,6 +11,7 @@ mod lanes;
 pub mod laws;
 mod line;
 mod on_run;
+mod place;
 mod quick;
 mod record;
 mod start_text;
@@ -24,6 +25,7 @@ pub use inline::inline_line;
 pub use lanes::{Stops, line_feeds};
 pub use line::{QuickLine, quick_line};
 pub use on_run::{RunLine, next_on_run};
+pub use place::{after_white, is_blank};
 pub use quick::Shown;
 pub use record::{
     Context, FuncLine, InlineCall, InnerLine, PublicLine, Range, RecordLine, SourceLine, TopLine,

@@ -1,14 +1,12 @@
 //! The walk over a file's lines: what a line is depends on the record before it.
 
 ghost use Rattle.std.specs.Prelude.{◌≡◌, ◌<◌, ◌≤◌, ◌+◌, ◌^◌, ℕ, List, ◌&&◌, nat_lt, false, length, is_some, IfSome, IfNone, IfOk, IfErr, OnOk};
-ghost use Rattle.std.specs.List.{prefix_len};
 ghost use Rattle.bz_base.specs.declared.error.Error.{Error};
-ghost use Rattle.bz_breakpad_lines.specs.Byte.{is_nothing, is_white};
 ghost use Rattle.bz_breakpad_lines.specs.Reader.{Reading, nothing_read, reading_in};
 ghost use Rattle.bz_breakpad_lines.specs.Says.{module_of};
 ghost use Rattle.bz_breakpad_lines.specs.Stops.{AreStops};
 ghost use Rattle.bz_breakpad_lines.specs.Told.{context_told, record_told};
-ghost use Rattle.bz_breakpad_lines.specs.Walk.{Context, context_after, free_after, text_at};
+ghost use Rattle.bz_breakpad_lines.specs.Walk.{Context};
 ghost use Rattle.bz_breakpad_lines.specs.Walk.Context.{InFunc, Outside};
 ghost use Rattle.bz_breakpad_table.specs.Refusal.{Refuses};
 ghost use Rattle.bz_breakpad_table.specs.Walked.{IsLineAt, IsMidway, IsRefused, IsStep, IsWalked};
@@ -18,8 +16,8 @@ use crate::standing::LinesSoFar;
 use crate::types::Part;
 use bz_base::{Error, Result, next_line};
 use bz_breakpad_lines::{
-    Context, Range, RecordLine, Shown, Stops, TopLine, body, cfi_line, func_line, inline_line,
-    next_on_run, quick_line, read_record,
+    Context, Range, RecordLine, Shown, Stops, after_white, body, cfi_line, func_line, inline_line,
+    is_blank, next_on_run, quick_line, read_record,
 };
 use std::alloc::Global;
 
@@ -229,7 +227,7 @@ impl Walk {
         ensures refusal { IfErr result (IsRefused self.old line.now) }
         ensures few { OnOk result (self.new.count ≤ self.old.count + 1) }
     {
-        let text = text_of(self.free, line);
+        let text = after_white(self.free, line);
         if is_blank(self.free, text) {
             return Ok(());
         }
@@ -243,8 +241,8 @@ impl Walk {
             return Err(Error::InvalidInput);
         }
         let place = start + (line.len() - text.len());
-        self.context = context_after(&found);
-        self.free = free_after(&found);
+        self.context = found.context_after();
+        self.free = found.free_after();
         self.kept.record(
             bytes,
             found,
@@ -257,69 +255,9 @@ impl Walk {
     }
 }
 
-/// The context of the line after the record.
-fn context_after(found: &RecordLine<'_>) -> Context
-    ensures { (ranges : List Range) → context_told result ≡ context_after (record_told found.now ranges) }
-{
-    match found {
-        RecordLine::Top(TopLine::Func(_)) => Context::InFunc,
-        RecordLine::Top(TopLine::StackCfiInit) => Context::InCfi,
-        RecordLine::Top(_) => Context::Outside,
-        RecordLine::OfFunc(_) => Context::InFunc,
-        RecordLine::OfCfi => Context::InCfi,
-    }
-}
-
-/// Whether white space may stand after the record.
-fn free_after(found: &RecordLine<'_>) -> bool
-    ensures { (ranges : List Range) → result ≡ free_after (record_told found.now ranges) }
-{
-    match found {
-        RecordLine::Top(_) => true,
-        RecordLine::OfFunc(_) => false,
-        RecordLine::OfCfi => false,
-    }
-}
-
-/// Whether the record is a MODULE record.
-fn is_module(found: &RecordLine<'_>) -> bool
-    ensures { (ranges : List Range) → result ≡ is_some (module_of (record_told found.now ranges)) }
-{
-    matches!(found, RecordLine::Top(TopLine::Module(_)))
-}
-
 /// Whether the record is a MODULE record that isn't the first of so many.
 fn is_late_module(found: &RecordLine<'_>, count: usize) -> bool
     ensures { (ranges : List Range) → result ≡ (is_some (module_of (record_told found.now ranges)) && nat_lt 0 count) }
 {
-    is_module(found) && count > 0
-}
-
-/// Whether the line is blank, of which this is left after white space.
-fn is_blank(free: bool, text: &[u8]) -> bool
-    ensures { result ≡ (free && is_nothing text.now) }
-{
-    free && text.is_empty()
-}
-
-fn is_white(byte: u8) -> bool
-    ensures { result ≡ is_white byte }
-{
-    byte == b' ' || byte == b'\t' || byte == b'\r'
-}
-
-fn white_len(text: &[u8]) -> usize
-    ensures value { result ≡ prefix_len is_white text.now }
-    ensures within { result ≤ length text.now }
-{
-    text.iter().take_while(|b| is_white(**b)).count()
-}
-
-/// The line without the white space at its front, where that may stand.
-#[tactic(auto, unfolding(bz_breakpad_lines::specs::Walk::text_at))]
-fn text_of(free: bool, line: &[u8]) -> &[u8]
-    ensures text { result.now ≡ text_at free line.now }
-    ensures within { length result.now ≤ length line.now }
-{
-    if free { &line[white_len(line)..] } else { line }
+    found.is_module() && count > 0
 }
