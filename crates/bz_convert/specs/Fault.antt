@@ -6,7 +6,7 @@ use Rattle.bz_base.specs.Span.{inside}
 use Rattle.bz_breakpad_function.specs.InOrder.{calls_in_order, lines_in_order, ordered_functions}
 use Rattle.bz_breakpad_function.specs.Places.{line_at}
 use Rattle.bz_breakpad_lines.specs.Names.{name_for}
-use Rattle.bz_breakpad_lines.specs.Table.{Inlinee, Function, Table}
+use Rattle.bz_breakpad_lines.specs.Table.{Inlinee, Function, SourceLine, Table}
 use Rattle.bz_convert.specs.Plan.{code_of, has_size, is_checked, located, same_call}
 use Rattle.bz_convert.specs.Rows.{gap_from}
 use Rattle.bz_convert.specs.declared.error.ConvertError.{ConvertError}
@@ -55,14 +55,25 @@ not_nested f = option_map (λ i. NotNested f.start i.depth i.start) (find (λ i.
 abbrev pub overlap : Function → Option ConvertError
 overlap f = option_map (λ i. Overlap f.start i.depth i.start) (find (overlaps f) (calls_in_order f))
 
+-- of line records and inlined calls of a function that starts there
+module _ (table : Table) (func : ℕ) where
+  abbrev pub line_file_fault : List SourceLine → Option ConvertError
+  line_file_fault lines = option_map (λ l. NoFile func l.file) (find (λ l. is_none (located table l.file)) lines)
+
+  abbrev pub call_file_fault : List Inlinee → Option ConvertError
+  call_file_fault calls = option_map (λ i. NoFile func i.call_file) (find (λ i. has_size i && is_none (located table i.call_file)) calls)
+
+  abbrev pub origin_fault : List Inlinee → Option ConvertError
+  origin_fault calls = option_map (λ i. NoOrigin func i.origin) (find (λ i. has_size i && is_none (name_for i.origin table.origins)) calls)
+
 abbrev pub no_line_file : Table → Function → Option ConvertError
-no_line_file table f = option_map (λ l. NoFile f.start l.file) (find (λ l. is_none (located table l.file)) (lines_in_order f))
+no_line_file table f = line_file_fault table f.start (lines_in_order f)
 
 abbrev pub no_call_file : Table → Function → Option ConvertError
-no_call_file table f = option_map (λ i. NoFile f.start i.call_file) (find (λ i. has_size i && is_none (located table i.call_file)) (calls_in_order f))
+no_call_file table f = call_file_fault table f.start (calls_in_order f)
 
 abbrev pub no_origin : Table → Function → Option ConvertError
-no_origin table f = option_map (λ i. NoOrigin f.start i.origin) (find (λ i. has_size i && is_none (name_for i.origin table.origins)) (calls_in_order f))
+no_origin table f = origin_fault table f.start (calls_in_order f)
 
 abbrev pub has_zero : List ℕ → Bool
 has_zero text = list_any (λ b. b == zero_byte) text

@@ -1,29 +1,16 @@
 -- Faults of the ids of a function's line records and inlined calls, and of the texts that they name.
-use Rattle.std.specs.Prelude.{◌≡◌, ℕ, Bool, true, false, ◌&&◌, ◌||◌, List, Option, Some, is_none, option_map, slice_get, unwrap_or, []}
+use Rattle.std.specs.Prelude.{◌≡◌, ℕ, Bool, true, false, ◌&&◌, ◌||◌, List, Option, Some, option_map, slice_get, unwrap_or, []}
 use Rattle.std.specs.Borrow.{Bor}
-use Rattle.std.specs.List.{find}
 use Rattle.bz_breakpad_lines.specs.Names.{name_for}
 use Rattle.bz_breakpad_lines.specs.Reader.{table_in}
 use Rattle.bz_breakpad_lines.specs.Table.{Inlinee, SourceLine, Table}
 use Rattle.bz_convert.specs.Fault.{has_zero}
 use Rattle.bz_convert.specs.Plan.{has_size, located, source_by}
-use Rattle.bz_convert.specs.declared.error.ConvertError.{ConvertError}
-use Rattle.bz_convert.specs.declared.error.ConvertError.TheVariants.{NoFile, NoOrigin}
 use Rattle.bz_gsym_layout.specs.Plan.{Source, no_source}
 
 -- a source file that a file lends
 abbrev pub lent_source : Option (Bor (List ℕ)) × Bor (List ℕ) → Source
 lent_source parts = source_by (option_map (λ (dir : Bor (List ℕ)). dir.now) parts.0, parts.1.now)
-
-module _ (table : Table) (func : ℕ) where
-  abbrev pub line_file_fault : List SourceLine → Option ConvertError
-  line_file_fault lines = option_map (λ l. NoFile func l.file) (find (λ l. is_none (located table l.file)) lines)
-
-  abbrev pub call_file_fault : List Inlinee → Option ConvertError
-  call_file_fault calls = option_map (λ i. NoFile func i.call_file) (find (λ i. has_size i && is_none (located table i.call_file)) calls)
-
-  abbrev pub origin_fault : List Inlinee → Option ConvertError
-  origin_fault calls = option_map (λ i. NoOrigin func i.origin) (find (λ i. has_size i && is_none (name_for i.origin table.origins)) calls)
 
 -- the test holds of a call that has a size
 abbrev pub sized_with : (Inlinee → Bool) → Inlinee → Bool

@@ -131,7 +131,7 @@ fn dir_text(dir: Option<&str>) -> &str
     }
 }
 
-/// An index in 32 bits, if they count it.
+/// An index in 32 bits. One that they don't count is told as want of memory.
 fn narrow(index: usize) -> Result<u32>
     ensures ok { IfOk result (λ narrowed. narrowed ≡ index) }
     ensures memory { IsOkUnless result Error.OutOfMemory }

@@ -32,7 +32,7 @@ module _ (asked : Asked) (world : World) (kept : ProcessCaches) where
   perf_map_in_view addr (Ok known) = view_answer (asks_perf_map addr) kept.perf_maps world known.perf_map
   perf_map_in_view addr (Err e) = Err e
 
-  -- an address of a mapping that isn't of anything
+  -- an address of a mapping without a name
   abbrev pub unnamed_in_view : Bool → ℕ → Result Answer Error
   unnamed_in_view true addr = or_unknown (perf_map_in_view addr (remember asked.pid asked.own world kept).answer)
   unnamed_in_view false addr = Ok (Unknown reasons.UnknownAddr)

@@ -120,7 +120,7 @@ remember pid own world kept = by_kept pid own world kept (value_at pid_cmp kept.
 abbrev pub by_perf_map : Pid → ℕ → ℕ → Step Answer
 by_perf_map pid own addr = unless_absent (and_then (remember pid own) (λ known. of_perf_map (asks_perf_map addr) known.perf_map))
 
--- an address of a mapping that isn't of anything
+-- an address of a mapping without a name
 abbrev pub by_asked : Bool → Asked → ℕ → Step Answer
 by_asked true asked addr = by_perf_map asked.pid asked.own addr
 by_asked false asked addr = gives (Unknown reasons.UnknownAddr)

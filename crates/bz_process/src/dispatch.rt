@@ -14,7 +14,7 @@ use std::ops::Range;
 /// What a process has mapped: the addresses, and what is mapped there.
 #[derive(Clone, Debug, Drop)]
 pub struct ProcessMemberInfo<'a> {
-    /// The addresses, absolute in the process.
+    /// The addresses of the mapping that is asked for first, absolute in its process.
     pub range: Range<Addr>,
     /// What is mapped.
     pub member_entry: &'a PathName,
@@ -29,7 +29,9 @@ pub trait ProcessDispatch {
     /// beside that.
     ghost may_dispatch: { Self → Member → Result (Option Self.Resolver) Error → Type 0 };
 
-    /// The resolver for a member; none where the mapped file itself is to answer. It refuses a member by
+    /// The resolver for a member; none where the mapped file itself is to answer. It is asked once for
+    /// each name of what is mapped. What it gave, a resolver or none, is kept for all mappings with an
+    /// equal name, in each process and whatever their addresses; a refusal isn't kept. It refuses a member by
     /// Unsupported, NotFound, PermissionDenied, InvalidInput, InvalidData or UnexpectedEof alone, or by
     /// OutOfMemory.
     fn dispatch(&self, alloc: Global, info: ProcessMemberInfo<'_>) -> Result<Option<Self::Resolver>>

@@ -18,5 +18,6 @@ mod query;
 
 pub use caching::ProcessCaching;
 pub use dispatch::{NoDispatch, ProcessDispatch, ProcessMemberInfo};
+pub use mapped_file::elf_answer_at;
 pub use processes::Processes;
 pub use query::ProcessQuery;

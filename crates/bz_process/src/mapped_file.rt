@@ -2,6 +2,7 @@
 
 ghost use Rattle.std.specs.Prelude.{◌≡◌, ℕ, Ok, None, Some, cond, option_and_then, string_bytes, IfOk, IsOkUnless};
 ghost use Rattle.bz_base.specs.Answer.{reading, resolved_of};
+ghost use Rattle.bz_base.specs.Lent.{IsLent, IsLentResolved};
 ghost use Rattle.bz_base.specs.declared.error.Error.{Error};
 ghost use Rattle.bz_calls.specs.FileCall.{CallsFile};
 ghost use Rattle.bz_elf.specs.Segments.{segments, translated};
@@ -94,7 +95,7 @@ fn at_offset(
 {
     match loaded_at(file, offset)? {
         Some(addr) => {
-            let answer = symbol_at(alloc, file, module_path, addr)?;
+            let answer = elf_answer_at(alloc, file, module_path, addr)?;
             owned_answer(alloc, answer)
         }
         None => Ok(Symbolized::Unknown(Reason::InvalidFileOffset)),
@@ -111,25 +112,28 @@ fn loaded_at(file: &ElfFile, offset: Option<u64>) -> Result<Option<Addr>>
     }
 }
 
-// What an ELF file says of an address as its symbol table has it. The texts are lent.
-fn symbol_at<'a>(
+/// What an ELF file says of an address as its symbol table has it, whose module is this path. The texts
+/// are lent.
+pub fn elf_answer_at<'a>(
     alloc: Global,
     file: &'a ElfFile,
     module_path: &'a str,
     addr: Addr,
 ) -> Result<Symbolized<'a>>
     ensures answer { IfOk result (λ answer. reading answer ≡ elf_by_table module_path.now file.now (Some addr)) }
+    ensures lent { IfOk result IsLent }
     ensures memory { IsOkUnless result Error.OutOfMemory }
 {
     match file.find_sym(alloc, addr, &FindSymOpts::Basic)? {
-        Ok(symbol) => Ok(Symbolized::Sym(named_so(symbol, module_path).into_sym(addr))),
+        Ok(symbol) => Ok(Symbolized::Sym(in_module(symbol, module_path).into_sym(addr))),
         Err(reason) => Ok(Symbolized::Unknown(reason)),
     }
 }
 
 // The symbol, of the module that the path names.
-fn named_so<'a>(mut symbol: ResolvedSym<'a>, module_path: &'a str) -> ResolvedSym<'a>
-    ensures { resolved_of result ≡ record (resolved_of symbol.entry) { «module» = Some module_path.now } }
+fn in_module<'a>(mut symbol: ResolvedSym<'a>, module_path: &'a str) -> ResolvedSym<'a>
+    ensures named { resolved_of result ≡ record (resolved_of symbol.entry) { «module» = Some module_path.now } }
+    ensures lent { IsLentResolved symbol.entry → IsLentResolved result }
 {
     symbol.module = Some(module_path);
     symbol

@@ -38,7 +38,7 @@ pub(crate) struct PerfMaps {
 }
 
 impl PerfMaps {
-    /// The answer to an address of a mapping that isn't of anything.
+    /// The answer to an address of a mapping without a name.
     pub(crate) fn unnamed<F: Files>(
         &mut self,
         alloc: Global,

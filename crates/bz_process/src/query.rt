@@ -7,7 +7,7 @@ use bz_base::Pid;
 pub struct ProcessQuery {
     /// The process.
     pub pid: Pid,
-    /// Whether its perf map answers for addresses of mappings that are of nothing.
+    /// Whether its perf map answers for addresses of mappings without a name.
     pub perf_map: bool,
     /// Whether mapped files are looked at by the paths that stand for their mappings, which only a
     /// privileged caller may read, and not by their own, at which another file may lie by now.

@@ -1,6 +1,6 @@
 //! Stacks that are folded by what a source answers.
 
-ghost use Rattle.std.specs.Prelude.{◌≡◌, ◌<◌, length, map, is_some, IfOk, IsOkUnless};
+ghost use Rattle.std.specs.Prelude.{◌≡◌, ◌<◌, length, map, IfOk, IsOkUnless};
 ghost use Rattle.bz_base.specs.Answer.{reading};
 ghost use Rattle.bz_base.specs.InputKind.{address_kind, payload};
 ghost use Rattle.bz_base.specs.declared.error.Error.{Error};
@@ -8,7 +8,7 @@ ghost use Rattle.bz_process.specs.declared.query.ProcessQuery.{ProcessQuery};
 ghost use Rattle.bz_stacks.specs.Fold.{Folds, addrs_of, seen_by};
 ghost use Rattle.bz_stacks.specs.Text.{folded_text};
 ghost use Rattle.bz_symbolize.specs.Batch.{answers_to};
-ghost use Rattle.bz_symbolize.specs.Sources.{OneProcess, form_of, query_in};
+ghost use Rattle.bz_symbolize.specs.Sources.{OneProcess, form_of};
 ghost use Rattle.bz_symbolize.specs.State.{WellKept};
 
 use crate::folded::Folded;
@@ -27,7 +27,7 @@ use std::sync::ledger::{Blank, Ledger};
 /// stays then.
 ///
 /// No list of all addresses and of all answers is kept, but for a process, whose answers are of many
-/// files.
+/// files. There are fewer than 2^32 stacks, so that no sum passes 64 bits.
 pub fn fold<D: ProcessDispatch + Drop, F: Files>(
     alloc: Global,
     symbolizer: &mut Symbolizer<D>,
@@ -64,7 +64,7 @@ fn fold_blank<D: ProcessDispatch + Drop, F: Files, L: Ledger>(
         Ok(lookups) => fold_lookups(alloc, &lookups, stacks),
         Err(error) => {
             // A process isn't looked up. The refusal changed nothing, and shows that caches are well kept.
-            if is_process(src) {
+            if src.is_process() {
                 fold_process(alloc, symbolizer, files, src, kind, stacks)
             } else {
                 Err(error)
@@ -154,15 +154,5 @@ fn of_kind(kind: Input<()>, addrs: Vec<u64>) -> Input<Vec<u64>>
         Input::AbsAddr(_) => Input::AbsAddr(addrs),
         Input::VirtOffset(_) => Input::VirtOffset(addrs),
         Input::FileOffset(_) => Input::FileOffset(addrs),
-    }
-}
-
-// Whether the source is a process.
-fn is_process(src: &Source<'_>) -> bool
-    ensures { result ≡ is_some (query_in (form_of src.now)) }
-{
-    match src {
-        Source::Process(_) => true,
-        Source::Breakpad(_) | Source::Gsym(_) | Source::Elf(_) => false,
     }
 }

@@ -11,7 +11,7 @@ use Rattle.bz_cache.specs.Look.{opens_after}
 use Rattle.bz_files.specs.World.{World}
 use Rattle.bz_store.specs.Calls.{found_each}
 use Rattle.bz_store.specs.Frames.{Key, Frame, FrameReading, BadName, is_good, key_eq}
-use Rattle.bz_store.specs.Plain.{Agrees, IsOf, answer_in, answered, is_opened_by, keep_key, keep_known, keys, keys_after, opens_after_all, without}
+use Rattle.bz_store.specs.Plain.{Agrees, IsOf, answer_in, answered, is_opened_by, keep_key, keep_answered, keys, keys_after, opens_after_all, without}
 use Rattle.bz_store.specs.Shelf.{Kept, keep}
 use Rattle.bz_store.specs.Visits.{Found, Holds, Absent, Barred, State, by_found, by_source, by_table, found_at, is_opened, is_read, kept_after, source, stays, visit, visited}
 use Rattle.bz_store.proofs.Keeping.{key_is}
@@ -98,12 +98,12 @@ key_there key (e ∷ kept) = elim (key_eq key e.0) as (λ b. is_some (cond b (So
 ]
 
 module _ (cap : ℕ) (opts : FindSymOpts) where
-  keys_table : (key : Key) (offset : ℕ) (bytes : List ℕ) (o : Option Table) (kept : Kept) → keys (stays o (keep cap key bytes kept) kept) ≡ keep_known cap key (by_table opts offset o) (keys kept)
+  keys_table : (key : Key) (offset : ℕ) (bytes : List ℕ) (o : Option Table) (kept : Kept) → keys (stays o (keep cap key bytes kept) kept) ≡ keep_answered cap key (by_table opts offset o) (keys kept)
   keys_table key offset bytes None kept = refl
   keys_table key offset bytes (Some table) kept = keys_kept cap key bytes kept
 
   -- the keys that are kept after a frame go by its answer
-  keys_source : (key : Key) (offset : ℕ) (from : Option Found) (kept : Kept) → keys (kept_after cap key from kept) ≡ keep_known cap key (by_source opts offset from) (keys kept)
+  keys_source : (key : Key) (offset : ℕ) (from : Option Found) (kept : Kept) → keys (kept_after cap key from kept) ≡ keep_answered cap key (by_source opts offset from) (keys kept)
   keys_source key offset None kept = refl
   keys_source key offset (Some Absent) kept = refl
   keys_source key offset (Some Barred) kept = refl

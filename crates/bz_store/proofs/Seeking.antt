@@ -17,7 +17,7 @@ use Rattle.bz_files.specs.Looked.{Faulted, Looked}
 use Rattle.bz_files.specs.World.{Told, World, in_view}
 use Rattle.bz_files.specs.declared.files.Files.{Ghosts}
 use Rattle.bz_store.specs.Calls.{Seeks, with_files}
-use Rattle.bz_store.specs.Frames.{Frame, FrameReading, Key, Known, is_good, key_eq, reading_of}
+use Rattle.bz_store.specs.Frames.{Frame, FrameReading, Key, Answered, is_good, key_eq, reading_of}
 use Rattle.bz_store.specs.Shelf.{Kept, Shelf, brought, keep}
 use Rattle.bz_store.specs.Visits.{Found, Absent, Holds, by_source, by_table, found_at, is_opened, is_read, kept_after, source, stays, visit, visited}
 use Rattle.bz_store.specs.declared.frame.FrameAnswer.{FrameAnswer}
@@ -221,9 +221,9 @@ module _ {X : Type 0} (files : Ghosts X) (key : Key) (before after : Shelf) (old
         }
 
 -- the answers of a batch, as those of frames
-pub known_batch : (opts : FindSymOpts) (table : Table) (offsets : List ℕ) → map Known (batch table opts offsets) ≡ map (λ offset. by_table opts offset (Some table)) offsets
-known_batch opts table [] = refl
-known_batch opts table (offset ∷ offsets) = ap (λ l. by_table opts offset (Some table) ∷ l) (known_batch opts table offsets)
+pub answered_batch : (opts : FindSymOpts) (table : Table) (offsets : List ℕ) → map Answered (batch table opts offsets) ≡ map (λ offset. by_table opts offset (Some table)) offsets
+answered_batch opts table [] = refl
+answered_batch opts table (offset ∷ offsets) = ap (λ l. by_table opts offset (Some table) ∷ l) (answered_batch opts table offsets)
 
 -- what stands behind answers may be told in another way
 pub behind : {A : Type 0} (new old one two : List FrameReading) → one ≡ two → (r : Result A Error) → OnOk r (new ≡ old ++ one) → OnOk r (new ≡ old ++ two)

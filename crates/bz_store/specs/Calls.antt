@@ -70,7 +70,7 @@ pub record AnswersFrames {X A : Type 0} (files : Ghosts X) (readings : A → Lis
   pub alone : Told (in_view (files.worlds old)) (λ world. Agrees world before.root before.files → IfOk result (λ a. readings a ≡ map (answer_in world before.root opts) frames))
   -- and kept files have these bytes afterwards, whatever is answered
   pub agrees : Told (in_view (files.worlds old)) (λ world. Agrees world before.root before.files → Agrees world before.root after.files)
-  -- the keys of frames whose answer is known are kept, in their order
+  -- the keys of frames that their files answered are kept, in their order
   pub kept : IfOk result (λ a. keys after.files ≡ keys_after before.cap (answered frames (readings a)) (keys before.files))
   -- after a refusal, those of some of the frames, in their order, none skipped
   pub err : Told (in_view (files.worlds old)) (λ world. Agrees world before.root before.files →

@@ -4,7 +4,7 @@ use Rattle.std.specs.List.{AllByRecursion, list_any}
 use Rattle.bz_base.specs.declared.types.FindSymOpts.{FindSymOpts}
 use Rattle.bz_cache.specs.Look.{opens_after}
 use Rattle.bz_files.specs.World.{World}
-use Rattle.bz_store.specs.Frames.{Key, Frame, FrameReading, Known, BadName, is_good, key_eq}
+use Rattle.bz_store.specs.Frames.{Key, Frame, FrameReading, Answered, BadName, is_good, key_eq}
 use Rattle.bz_store.specs.Shelf.{Kept}
 use Rattle.bz_store.specs.Visits.{Found, Holds, by_found, found_at, is_read}
 
@@ -31,15 +31,15 @@ without key (k ∷ ks) = if key_eq key k then ks else k ∷ without key ks
 abbrev pub keep_key : ℕ → Key → List Key → List Key
 keep_key cap key keys = take cap (key ∷ without key keys)
 
--- the key of a frame whose answer is known is kept
-abbrev pub keep_known : ℕ → Key → FrameReading → List Key → List Key
-keep_known cap key (Known answer) keys = keep_key cap key keys
-keep_known cap key _ keys = keys
+-- the key of a frame that its file answered is kept
+abbrev pub keep_answered : ℕ → Key → FrameReading → List Key → List Key
+keep_answered cap key (Answered answer) keys = keep_key cap key keys
+keep_answered cap key _ keys = keys
 
 -- the keys that are kept after frames with these answers, in their order
 abbrev pub keys_after : ℕ → List (Frame × FrameReading) → List Key → List Key
 keys_after cap [] keys = keys
-keys_after cap (a ∷ later) keys = keys_after cap later (keep_known cap a.0.file a.1 keys)
+keys_after cap (a ∷ later) keys = keys_after cap later (keep_answered cap a.0.file a.1 keys)
 
 -- each frame with its answer
 abbrev pub answered : List Frame → List FrameReading → List (Frame × FrameReading)
@@ -55,4 +55,4 @@ is_opened_by keys v = is_good v.0.file && (not (list_any (key_eq v.0.file) keys)
 abbrev pub opens_after_all : ℕ → List (Frame × Found) → List FrameReading → List Key → ℕ → ℕ
 opens_after_all cap [] readings keys n = n
 opens_after_all cap (v ∷ vs) [] keys n = n
-opens_after_all cap (v ∷ vs) (r ∷ rs) keys n = opens_after_all cap vs rs (keep_known cap v.0.file r keys) (opens_after (is_opened_by keys v) n)
+opens_after_all cap (v ∷ vs) (r ∷ rs) keys n = opens_after_all cap vs rs (keep_answered cap v.0.file r keys) (opens_after (is_opened_by keys v) n)

@@ -62,7 +62,7 @@ impl CrashFrame {
 #[derive(Drop)]
 pub enum FrameAnswer {
     /// The answer of the module's symbol file at the offset.
-    Known(Symbolized<'static>),
+    Answered(Symbolized<'static>),
     /// The module's name, or its id, isn't one that a folder can have.
     BadName,
     /// There is no symbol file of the module.

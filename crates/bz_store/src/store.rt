@@ -40,7 +40,8 @@ impl Model for Store {
 }
 
 impl Store {
-    /// A store that lies at the root and keeps so many files at most. It keeps none yet.
+    /// A store that lies at the root and keeps so many files at most, and at least one. It keeps none yet.
+    /// The symbol file of a module lies at ROOT/MODULE/ID/MODULE.sym.
     pub fn new(alloc: Global, root: String, capacity: usize) -> Result<Store>
         requires { 1 ≤ capacity }
         ensures ok { IfOk result (λ store. store ≡ new_shelf (string_bytes root) capacity) }
@@ -59,8 +60,10 @@ impl Store {
     }
 
     /// The answers to frames, in their order. A file is read where it isn't kept, and is kept then if it
-    /// is a Breakpad file. ReadFault: a file couldn't be read, and the count of faults rose. OutOfMemory:
-    /// memory ran out. What is kept after a refusal is what is kept after some of the frames.
+    /// is a Breakpad file. It answers by the bytes that were read then, whatever becomes of it, until others
+    /// push it out. A bad name, and a file that is absent, denied or no Breakpad file, are answers and
+    /// no refusals; such a file isn't kept. ReadFault: a file couldn't be read, and the count of faults rose.
+    /// OutOfMemory: memory ran out. What is kept after a refusal is what is kept after some of the frames.
     pub fn answer<F: Files>(
         &mut self,
         alloc: Global,

@@ -4,7 +4,6 @@ pub mod AskingLemmas
 pub mod BatchLemmas
 pub mod CachingLemmas
 pub mod CallLemmas
-pub mod ElfLemmas
 pub mod EvictingLemmas
 pub mod Formats
 pub mod FoundLemmas

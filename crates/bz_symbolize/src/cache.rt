@@ -1,6 +1,6 @@
 //! What a symbolizer may be asked to keep ahead of addresses.
 
-ghost use Rattle.std.specs.Prelude.{◌≡◌, true, string_bytes, IfOk, IsOkUnless};
+ghost use Rattle.std.specs.Prelude.{◌≡◌, true, string_bytes, Ok, IfOk, IsOkUnless};
 ghost use Rattle.bz_base.specs.declared.error.Error.{Error};
 ghost use Rattle.bz_symbolize.specs.Requests.{cache_read, process_caching};
 ghost use Rattle.bz_symbolize.specs.declared.cache.Cache.TheVariants as caches;
@@ -68,10 +68,9 @@ impl Process {
         }
     }
 
-    /// The same of the same process.
+    /// The same of the same process. It takes no memory.
     pub fn try_clone(&self, _alloc: Global) -> Result<Process>
-        ensures same { IfOk result (λ copy. copy ≡ self.now) }
-        ensures memory { IsOkUnless result Error.OutOfMemory }
+        ensures { result ≡ Ok self.now }
     {
         Ok(Process {
             pid: self.pid,

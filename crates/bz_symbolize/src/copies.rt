@@ -1,6 +1,6 @@
 //! Copies of sources.
 
-ghost use Rattle.std.specs.Prelude.{◌≡◌, string_bytes, IfOk, IsOkUnless};
+ghost use Rattle.std.specs.Prelude.{◌≡◌, string_bytes, Ok, IfOk, IsOkUnless};
 ghost use Rattle.bz_base.specs.declared.error.Error.{Error};
 ghost use Rattle.bz_symbolize.specs.SourceRead.{gsym_read, source_read};
 
@@ -20,10 +20,9 @@ impl Breakpad {
 }
 
 impl<'d> GsymData<'d> {
-    /// The same bytes, which stay the caller's.
+    /// The same bytes, which stay the caller's. It takes no memory.
     pub fn try_clone(&self, _alloc: Global) -> Result<GsymData<'d>>
-        ensures same { IfOk result (λ copy. copy.bytes.now ≡ self.now.bytes.now) }
-        ensures memory { IsOkUnless result Error.OutOfMemory }
+        ensures { result ≡ Ok self.now }
     {
         Ok(GsymData { bytes: self.bytes })
     }
@@ -56,10 +55,9 @@ impl Elf {
 }
 
 impl Process {
-    /// The same process, asked in the same way.
+    /// The same process, asked in the same way. It takes no memory.
     pub fn try_clone(&self, _alloc: Global) -> Result<Process>
-        ensures same { IfOk result (λ copy. copy ≡ self.now) }
-        ensures memory { IsOkUnless result Error.OutOfMemory }
+        ensures { result ≡ Ok self.now }
     {
         Ok(Process {
             pid: self.pid,

@@ -1,9 +1,9 @@
 //! An ELF file as one that answers.
 
 ghost use Rattle.std.specs.Prelude.{◌≡◌, Ok, Some, string_bytes, IfOk, IfErr, IsOkUnless};
-ghost use Rattle.bz_base.specs.Answer.{Gives, reading, resolved_of};
+ghost use Rattle.bz_base.specs.Answer.{Gives, reading};
 ghost use Rattle.bz_base.specs.InputKind.{address_kind};
-ghost use Rattle.bz_base.specs.Lent.{IsLent, IsLentResolved};
+ghost use Rattle.bz_base.specs.Lent.{IsLent};
 ghost use Rattle.bz_base.specs.Refusals.{MayRefuse};
 ghost use Rattle.bz_base.specs.declared.error.Error.{Error};
 ghost use Rattle.bz_base.specs.declared.types.FindSymOpts.{FindSymOpts};
@@ -14,11 +14,9 @@ ghost use Rattle.bz_symbolize.specs.Sources.{elf_answering, elf_single, virtual_
 
 use crate::answering::Answers;
 use crate::held::{ElfKind, Held, HeldElf};
-use bz_base::{
-    Addr, Error, FindSymOpts, Input, Reason, ResolvedSym, Result, Symbolize, Symbolized,
-    TranslateFileOffset,
-};
+use bz_base::{Addr, Error, Input, Reason, Result, Symbolized, TranslateFileOffset};
 use bz_elf::ElfFile;
+use bz_process::elf_answer_at;
 use std::alloc::Global;
 use std::rc::Rc;
 
@@ -70,10 +68,7 @@ pub(crate) fn symbol_at<'a>(alloc: Global, elf: &'a HeldElf, addr: Addr) -> Resu
     let Some(addr) = virtual_offset(file, elf.kind, addr)? else {
         return Ok(Symbolized::Unknown(Reason::InvalidFileOffset));
     };
-    match file.find_sym(alloc, addr, &FindSymOpts::Basic)? {
-        Ok(symbol) => Ok(Symbolized::Sym(named(symbol, elf.path.as_str()).into_sym(addr))),
-        Err(reason) => Ok(Symbolized::Unknown(reason)),
-    }
+    elf_answer_at(alloc, file, elf.path.as_str(), addr)
 }
 
 // The address as the symbol table has it: an offset in the file goes through the load segments.
@@ -84,13 +79,4 @@ fn virtual_offset(file: &ElfFile, kind: ElfKind, addr: u64) -> Result<Option<Add
         ElfKind::Table => Ok(Some(addr)),
         ElfKind::File => file.file_offset_to_virt_offset(addr),
     }
-}
-
-// The symbol, of the module that the path names.
-fn named<'a>(mut symbol: ResolvedSym<'a>, path: &'a str) -> ResolvedSym<'a>
-    ensures named { resolved_of result ≡ record (resolved_of symbol.entry) { «module» = Some path.now } }
-    ensures lent { IsLentResolved symbol.entry → IsLentResolved result }
-{
-    symbol.module = Some(path);
-    symbol
 }

@@ -1,6 +1,6 @@
 //! What a symbolizer may be asked to forget.
 
-ghost use Rattle.std.specs.Prelude.{◌≡◌, string_bytes, IfOk, IsOkUnless};
+ghost use Rattle.std.specs.Prelude.{◌≡◌, string_bytes, Ok, IfOk, IsOkUnless};
 ghost use Rattle.bz_base.specs.declared.error.Error.{Error};
 ghost use Rattle.bz_symbolize.specs.Requests.{evict_read};
 ghost use Rattle.bz_symbolize.specs.declared.evict.Evict.TheVariants as evicts;
@@ -56,10 +56,9 @@ impl Process {
         Process { pid }
     }
 
-    /// The same process.
+    /// The same process. It takes no memory.
     pub fn try_clone(&self, _alloc: Global) -> Result<Process>
-        ensures same { IfOk result (λ copy. copy.pid ≡ self.now.pid) }
-        ensures memory { IsOkUnless result Error.OutOfMemory }
+        ensures { result ≡ Ok self.now }
     {
         Ok(Process { pid: self.pid })
     }

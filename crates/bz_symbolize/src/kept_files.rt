@@ -217,7 +217,7 @@ impl KeptFiles {
     }
 
     // The version of the source that answers at this call, held to answer addresses of the input's
-    // kind. This is the one place where formats are told apart. A process has no version.
+    // kind. Here each source is matched to the cache of its format. A process has no version.
     fn hold<'d, F: Files, A>(
         &mut self,
         alloc: Global,

@@ -1,6 +1,6 @@
 //! What a symbolizer reads symbols from.
 
-ghost use Rattle.std.specs.Prelude.{◌≡◌, true};
+ghost use Rattle.std.specs.Prelude.{◌≡◌, true, is_some};
 ghost use Rattle.bz_symbolize.specs.Sources.{form_of, process_query, query_in};
 ghost use Rattle.bz_symbolize.specs.declared.source.Gsym.TheVariants as gsyms;
 ghost use Rattle.bz_symbolize.specs.declared.source.Source.TheVariants as sources;
@@ -109,14 +109,16 @@ impl fmt::Debug for Elf {
     }
 }
 
-/// A process. It takes absolute addresses: those of its memory. What it has mapped there answers.
+/// A process. It takes absolute addresses: those of its memory. What it has mapped there answers. Where a
+/// dispatcher gives no resolver, an address outside all mappings is `Unmapped`, one of `[vdso]`, `[stack]`
+/// and the like `Unsupported`, and one of a mapping without a name `UnknownAddr` where no perf map knows it.
 #[derive(Drop)]
 pub struct Process {
     /// The process.
     pub pid: Pid,
     /// Whether debug symbols are looked for. It has no effect: none are.
     pub debug_syms: bool,
-    /// Whether its perf map answers for addresses of mappings that are of nothing.
+    /// Whether its perf map answers for addresses of mappings without a name.
     pub perf_map: bool,
     /// Whether mapped files are looked at by the paths that stand for their mappings, which only a
     /// privileged caller may read, and not by their own, at which another file may lie by now.
@@ -190,8 +192,14 @@ pub enum Source<'d> {
 }
 
 impl Source<'_> {
-    /// How a process is asked, where the source is one. This is the one place where a process is told
-    /// from sources that a version answers for.
+    /// Whether it is a process, of which no version answers.
+    pub fn is_process(&self) -> bool
+        ensures { result ≡ is_some (query_in (form_of self.now)) }
+    {
+        self.query().is_some()
+    }
+
+    /// How a process is asked, where the source is one.
     pub(crate) fn query(&self) -> Option<ProcessQuery>
         ensures { result ≡ query_in (form_of self.now) }
     {

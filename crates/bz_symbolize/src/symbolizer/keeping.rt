@@ -43,8 +43,8 @@ impl<D: ProcessDispatch + Drop> Symbolizer<D> {
 
     /// Forgets an ELF file: its path, pinned or not, with the versions that no other path names, and what
     /// a dispatcher said of mapped files with this path, their own or the one that stands for the
-    /// mapping. Or forgets a process: its mappings, its id and its perf map. It is always answered, and
-    /// takes no memory.
+    /// mapping. Or forgets a process: its mappings, its id and its perf map. What a dispatcher said stays
+    /// then, as what it said of parts of the system always does. It is always answered, and takes no memory.
     pub fn evict(&mut self, evict: &Evict) -> Result<()>
         ensures { Evicts (evict_read evict.now) result self.old self.new }
     {

@@ -2,7 +2,7 @@ use Rattle.std.proofs.Common.{◌≡◌, Some, map, drop}
 use Rattle.bz_breakpad.specs.Lent.{kept_inlinee}
 use Rattle.bz_breakpad_lines.specs.Reader.{table_in}
 use Rattle.bz_breakpad_lines.specs.Table.{Table}
-use Rattle.bz_convert.specs.Ids.{call_file_fault}
+use Rattle.bz_convert.specs.Fault.{call_file_fault}
 use Rattle.bz_convert.proofs.ids.call_file_fault.Given as goal
 
 -- those so far show nothing
