@@ -1,5 +1,5 @@
 -- What standard error says of a run, without the end of its last line.
-use Rattle.std.specs.Prelude.{◌≡◌, ◌↔◌, ℕ, List, ◌++◌, codes, decimal, Option, Some, None, option_and_then}
+use Rattle.std.specs.Prelude.{◌≡◌, ◌↔◌, ◌⊎◌, ℕ, List, ◌++◌, codes, decimal, Option, Some, None, option_and_then}
 use Rattle.bz_base.specs.InputKind.{InFile}
 use Rattle.bz_breakpad_refusal.specs.Refusals.{IsRefusal}
 use Rattle.bz_breakpad_refusal.specs.declared.refused.Refused.{Refused}
@@ -14,6 +14,10 @@ use Rattle.bz_words.specs.Command.{Batch, Canonical, Command, Converted, Job, Ma
 -- a line about what lies at a path
 abbrev pub line_about : List ℕ → List ℕ → List ℕ
 line_about path said = codes "symq: " ++ (path ++ (codes ": " ++ said))
+
+-- a line that says which file couldn't be read, and why; or that one couldn't be
+abbrev pub IsAboutFile : List ℕ → Type 0
+IsAboutFile line = (line ≡ codes "symq: reading a file failed") ⊎ ((path : List ℕ) × (cause : List ℕ) × (line ≡ line_about path cause))
 
 -- why a file is no Breakpad file
 abbrev pub said_of : Refused → List ℕ

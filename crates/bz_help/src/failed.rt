@@ -1,7 +1,8 @@
 //! What failed.
 
-ghost use Rattle.std.specs.Prelude.{◌≡◌, ◌<◌, codes};
+ghost use Rattle.std.specs.Prelude.{◌≡◌, ◌<◌, codes, string_bytes, IfOk, IfSome};
 ghost use Rattle.std.specs.Cow.{cow_str_bytes};
+ghost use Rattle.bz_help.specs.Messages.{IsAboutFile};
 
 use crate::refused::line_about;
 use bz_base::Result;
@@ -34,6 +35,7 @@ pub(crate) fn failure<F: Files>(
 ) -> CowStr<'static>
     ensures output { 0 < failed.output → cow_str_bytes result ≡ codes "symq: standard output: writing failed" }
     ensures input { failed.output ≡ 0 → 0 < failed.input → cow_str_bytes result ≡ codes "symq: standard input: reading failed" }
+    ensures files { failed.output ≡ 0 → failed.input ≡ 0 → 0 < failed.files → IsAboutFile (cow_str_bytes result) }
     ensures worlds { F.worlds files.new ≡ F.worlds files.old }
 {
     if failed.output > 0 {
@@ -54,6 +56,7 @@ pub(crate) fn failure<F: Files>(
 
 /// A line on the one file that the words ask to read.
 fn failed_file<F: Files>(alloc: Global, words: &[String], files: &mut F) -> Result<Option<String>>
+    ensures line { IfOk result (λ found. IfSome found (λ line. IsAboutFile (string_bytes line))) }
     ensures worlds { F.worlds files.new ≡ F.worlds files.old }
 {
     let Ok(command) = read_command(alloc, words) else {

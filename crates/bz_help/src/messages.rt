@@ -4,7 +4,7 @@ ghost use Rattle.std.specs.Prelude.{◌≡◌, ◌<◌, Some, None, codes, is_so
 ghost use Rattle.std.specs.Cow.{cow_str_bytes};
 ghost use Rattle.bz_files.specs.World.{Told, in_view};
 ghost use Rattle.bz_symq.specs.Outcome.{message_of};
-ghost use Rattle.bz_help.specs.Messages.{IsSilent, IsTold, SaysWhere};
+ghost use Rattle.bz_help.specs.Messages.{IsAboutFile, IsSilent, IsTold, SaysWhere};
 
 use crate::failed::{Failed, failure};
 use crate::refused::refused_file;
@@ -56,10 +56,11 @@ static USES: [(&str, &str); 10] = [
     ),
 ];
 
-/// What standard error says of a run of these words that ended so, without the end of the last line;
-/// none where standard output says it all, or memory ran out. Of a refused run it says where the
-/// Breakpad file is refused that the words name; of a faulty command line, what is wrong with it, in
-/// one line; of a failed run, which side failed, and at which path if that is known.
+/// What standard error says of a run of these words that ended so, without the end of the last line.
+/// It says nothing of a run that is done or whose input is bad, of which standard output says it all. Of a
+/// refused run it says where the Breakpad file is refused that the words name, if that is read once more
+/// and is refused. Of a faulty command line it says what is wrong with it, in one line; of a failed run,
+/// which side failed, by the counts, and at which path if that is known; and that memory ran out.
 pub fn message<F: Files>(
     alloc: Global,
     words: &[String],
@@ -71,6 +72,7 @@ pub fn message<F: Files>(
     ensures refused { status ≡ Status.Refused → Told (in_view (F.worlds files.old)) (λ world. IfSome result (λ line. SaysWhere (map string_bytes words.now) world (cow_str_bytes line))) }
     ensures output { status ≡ Status.Fault → 0 < failed.output → option_map cow_str_bytes result ≡ Some (codes "symq: standard output: writing failed") }
     ensures input { status ≡ Status.Fault → failed.output ≡ 0 → 0 < failed.input → option_map cow_str_bytes result ≡ Some (codes "symq: standard input: reading failed") }
+    ensures files { status ≡ Status.Fault → failed.output ≡ 0 → failed.input ≡ 0 → 0 < failed.files → IfSome result (λ line. IsAboutFile (cow_str_bytes line)) }
     ensures memory { status ≡ Status.Memory → option_map cow_str_bytes result ≡ message_of status }
     ensures told { IsTold status → is_some result ≡ true }
     ensures worlds { F.worlds files.new ≡ F.worlds files.old }
@@ -116,14 +118,29 @@ fn usage(alloc: Global, words: &[String]) -> CowStr<'static> {
     }
 }
 
-// What the kind takes that the first word without a dash names, or else which kinds there are.
+// What the kind takes that the first word without a dash names. Else, or where the words have an option
+// with a value, which kinds there are, and which of them the option goes with.
 fn kind_use(words: &[String]) -> &'static str {
+    if has_value(words) {
+        return NO_COMMAND;
+    }
     for word in words {
         if !word.as_str().starts_with('-') {
             return use_of(word.as_str());
         }
     }
     NO_COMMAND
+}
+
+// Whether a word is the one option that has a value.
+fn has_value(words: &[String]) -> bool {
+    for word in words {
+        let word = word.as_str();
+        if word == "--input" || word.starts_with("--input=") {
+            return true;
+        }
+    }
+    false
 }
 
 // What the kind of a name takes, or else which kinds there are.

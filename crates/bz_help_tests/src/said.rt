@@ -11,7 +11,7 @@ use std::test::Fail;
 /// input, on standard output, and on files; and how what is said begins, or nothing.
 type Run = (&'static str, Status, u64, u64, u64, &'static str);
 
-static SAID: [Run; 40] = [
+static SAID: [Run; 43] = [
     // Refused files.
     (
         "breakpad /bad",
@@ -94,6 +94,30 @@ static SAID: [Run; 40] = [
         "symq: not a command line: ",
     ),
     ("--help", Status::Usage, 0, 0, 0, "Usage: symq "),
+    (
+        "elf /a --input other",
+        Status::Usage,
+        0,
+        0,
+        0,
+        "symq: not a command line: one of ",
+    ),
+    (
+        "convert /a --input abs",
+        Status::Usage,
+        0,
+        0,
+        0,
+        "symq: not a command line: one of ",
+    ),
+    (
+        "--input=virt elf",
+        Status::Usage,
+        0,
+        0,
+        0,
+        "symq: not a command line: one of ",
+    ),
     (
         "what /bad",
         Status::Usage,

@@ -1,10 +1,8 @@
 -- What the generated job promises.
-use Rattle.std.specs.Prelude.{◌≡◌, ℕ, List, Result, Ok, Err}
+use Rattle.std.specs.Prelude.{◌≡◌, ℕ, List}
 use Rattle.bz_base.specs.Answer.{Answer}
 use Rattle.bz_files.specs.Count.{CountsFaults}
 use Rattle.bz_files.specs.World.{Told}
-use Rattle.bz_files.specs.declared.text.IoFault.{IoFault}
-use Rattle.bz_files.specs.declared.text.IoFault.TheVariants as faults
 use Rattle.bz_files.specs.declared.text.TextOut as output_trait
 use Rattle.bz_breakpad.specs.Plain.{batch}
 use Rattle.bz_gen.specs.Generated.{addresses_after}
@@ -24,12 +22,6 @@ generated_answers config seed functions addresses = batch (generated_table funct
 
 abbrev pub generated_summary : Config → ℕ → ℕ → ℕ → List ℕ
 generated_summary config seed functions addresses = summary_text functions addresses (generated_answers config seed functions addresses)
-
--- how the job ends once its summary was to be written
-abbrev pub ended_by : Result (Unit {0}) IoFault → Status
-ended_by (Ok written) = statuses.Done
-ended_by (Err faults.Fault) = statuses.Fault
-ended_by (Err faults.OutOfMemory) = statuses.Memory
 
 -- all that the generated job promises
 pub record Generates {W : Type 0} (writes : output_trait.Ghosts W) (config : Config) (seed functions addresses : ℕ) (ended : Status) (before after : W) : Type 0 where

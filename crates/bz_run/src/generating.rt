@@ -1,7 +1,7 @@
 //! The generated job.
 
 ghost use Rattle.std.specs.Prelude.{◌≡◌, ◌<◌, ◌≤◌};
-ghost use Rattle.bz_run.specs.Generating.{Generates, ended_by};
+ghost use Rattle.bz_run.specs.Generating.{Generates};
 
 mod asking;
 mod steady_files;
@@ -9,9 +9,9 @@ mod summary;
 mod tally;
 
 use crate::generating::summary::generated_summary;
-use bz_files::{IoFault, TextOut};
+use bz_files::TextOut;
 use bz_requests::Config;
-use bz_symq::{Said, Status, write_said};
+use bz_symq::{Reply, Said, Status, finish};
 use std::alloc::Global;
 use std::borrow::CowStr;
 
@@ -33,18 +33,13 @@ pub fn generate<W: TextOut>(
     ensures { Generates W.TextOut config seed functions addresses result output.old output.new }
 {
     match generated_summary(alloc, config, seed, functions, addresses) {
-        Ok(text) => ended_by(write_said(alloc, output, &Said::Text(CowStr::Owned(text)))),
+        Ok(text) => {
+            let summary = Reply {
+                status: Status::Done,
+                said: Said::Text(CowStr::Owned(text)),
+            };
+            finish(alloc, output, &summary)
+        }
         Err(_) => Status::Memory,
-    }
-}
-
-// How the job ends once its summary was to be written.
-fn ended_by(put: Result<(), IoFault>) -> Status
-    ensures { result ≡ ended_by put }
-{
-    match put {
-        Ok(()) => Status::Done,
-        Err(IoFault::Fault) => Status::Fault,
-        Err(IoFault::OutOfMemory) => Status::Memory,
     }
 }

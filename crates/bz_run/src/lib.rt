@@ -10,6 +10,7 @@ mod misuse;
 mod program;
 mod requests;
 mod serving;
+mod source;
 mod stacks;
 mod targets;
 

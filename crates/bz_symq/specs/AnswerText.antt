@@ -37,15 +37,7 @@ line_end false = codes "\n"
 abbrev pub end_text : Option Site → Bool → List ℕ
 end_text site public = codes " at " ++ (place_text site ++ line_end public)
 
--- NAME+0xOFFSET start 0xSTART
-abbrev pub start_text : Symbol → List ℕ
-start_text s = s.name ++ (codes "+" ++ (hex s.offset ++ (codes " start " ++ hex s.addr)))
-
--- size 0xSIZE module MODULE, with a dash for what isn't known
-abbrev pub extent_text : Symbol → List ℕ
-extent_text s = codes " size " ++ (size_text s.size ++ (codes " module " ++ module_text s.«module»))
-
--- +0xOFFSET start 0xSTART size 0xSIZE module
+-- +0xOFFSET start 0xSTART size 0xSIZE module, with a dash for a size that isn't known
 abbrev pub numbers_text : Symbol → List ℕ
 numbers_text s = codes "+" ++ (hex s.offset ++ (codes " start " ++ (hex s.addr ++ (codes " size " ++ (size_text s.size ++ codes " module ")))))
 
@@ -57,8 +49,9 @@ call_text call = codes "  " ++ (call.name ++ end_text call.site false)
 abbrev pub calls_text : List Call → List ℕ
 calls_text calls = flat_map call_text calls
 
+-- NAME, its numbers and MODULE at WHERE, and the calls
 abbrev pub symbol_text : Symbol → List ℕ
-symbol_text s = start_text s ++ (extent_text s ++ (end_text s.site s.public ++ calls_text s.calls))
+symbol_text s = s.name ++ (numbers_text s ++ (module_text s.«module» ++ (end_text s.site s.public ++ calls_text s.calls)))
 
 abbrev pub result_text : Answer → List ℕ
 result_text (Known s) = symbol_text s

@@ -23,5 +23,5 @@ pub use input::{ReadStop, read_input};
 pub use output::{finish, write_said};
 pub use own_process::own_pid;
 pub use program::{failed, run_command, run_counted, unread};
-pub use reply::{Reply, Said, bad_line, refusal, stored_reply};
+pub use reply::{OwnedAnswers, Reply, Said, bad_line, made_reply, refusal, stored_reply};
 pub use status::Status;

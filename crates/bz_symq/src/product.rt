@@ -20,7 +20,7 @@ ghost use Rattle.bz_symq.specs.declared.status.Status.{Status};
 ghost use Rattle.bz_symq.specs.Turns.{ReadsOneFor};
 
 use crate::command::Product;
-use crate::reply::{Reply, product_reply, refusal, refused_as};
+use crate::reply::{Reply, made_reply, refusal, refused_as};
 use bz_base::{Error, Result};
 use bz_breakpad::SymbolFile;
 use bz_canon::canonical;
@@ -78,7 +78,7 @@ fn reply_of(alloc: Global, product: &Product<'_>, file: &SymbolFile) -> Result<R
 {
     match product {
         Product::Converted(_) => reply_of_conversion(alloc, file),
-        Product::Canonical(_) => Ok(product_reply(canonical(alloc, file)?)),
+        Product::Canonical(_) => Ok(made_reply(canonical(alloc, file)?)),
     }
 }
 
@@ -89,7 +89,7 @@ fn reply_of_conversion(alloc: Global, file: &SymbolFile) -> Result<Reply>
     ensures memory { IsOkUnless result Error.OutOfMemory }
 {
     match convert(alloc, file) {
-        Ok(bytes) => Ok(product_reply(bytes)),
+        Ok(bytes) => Ok(made_reply(bytes)),
         Err(error) => unconverted(alloc, error),
     }
 }

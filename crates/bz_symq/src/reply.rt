@@ -53,7 +53,7 @@ pub fn stored_reply(status: Status, text: &'static str) -> Reply
 }
 
 /// The reply that says what was made of a file.
-pub fn product_reply(bytes: Vec<u8>) -> Reply
+pub fn made_reply(bytes: Vec<u8>) -> Reply
     ensures { outcome_of result ≡ record { status = Status.Done; text = bytes.items } }
 {
     Reply {

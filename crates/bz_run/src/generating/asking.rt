@@ -7,17 +7,15 @@ ghost use Rattle.bz_breakpad.specs.Plain.{batch};
 ghost use Rattle.bz_breakpad.specs.Table.{Table};
 ghost use Rattle.bz_run.specs.Generating.{generated_answers};
 ghost use Rattle.bz_symq.specs.Kept.{settings_of};
-ghost use Rattle.bz_run.specs.RequestSteps.{breakpad_file};
-ghost use Rattle.bz_symbolize.specs.Sources.{OneFile, form_of};
 ghost use Rattle.bz_symbolize.specs.State.{opts_of};
 
 use crate::generating::steady_files::SteadyFiles;
+use crate::source::breakpad_source;
 use bz_base::{Input, Result, Steps};
 use bz_gen::{gen_addrs, gen_text};
 use bz_gen_file::laws::generated_texts_are_files;
 use bz_requests::Config;
 use bz_symbolize::Lookups;
-use bz_symbolize::source::{Breakpad, Source};
 use bz_symq::new_symbolizer;
 use std::alloc::Global;
 use std::marker::Brand;
@@ -71,12 +69,4 @@ fn answers_of<L: Ledger>(
         Input::FileOffset(addrs),
         &mut steps,
     )
-}
-
-fn breakpad_source(alloc: Global, path: &str) -> Result<Source<'static>>
-    ensures ok { IfOk result (λ src. form_of src ≡ OneFile (breakpad_file path.now)) }
-    ensures memory { IsOkUnless result Error.OutOfMemory }
-{
-    let path = String::from_str(alloc, path)?;
-    Ok(Source::from(Breakpad::new(path)))
 }

@@ -12,7 +12,7 @@ ghost use Rattle.bz_symbolize.specs.Sources.{FileSource, OneFile, OneProcess, fo
 ghost use Rattle.bz_symq.specs.AnswerText.{answer_text, answer_texts};
 ghost use Rattle.bz_symq.specs.Kept.{kept_of};
 
-use crate::serving::saying::{said_answer, said_answers, said_okay, said_refusal};
+use crate::serving::saying::{said_answer, said_okay, said_refusal};
 use crate::serving::sources::{
     elf_to_cache, elf_to_evict, input_of, process_to_cache, process_to_evict, source_of,
 };
@@ -23,7 +23,7 @@ use bz_symbolize::Symbolizer;
 use bz_symbolize::cache::Cache;
 use bz_symbolize::evict::Evict;
 use bz_symbolize::source::Source;
-use bz_symq::Said;
+use bz_symq::{OwnedAnswers, Said};
 use std::alloc::Global;
 use std::sync::ledger::Ledger;
 
@@ -84,10 +84,10 @@ fn reply_to_addrs<F: Files, L: Ledger>(
     ensures { Replied F.Files (done_by (answer_texts addrs.now) (asking_batch (F.pid files.old) (target_form map_files (target_of target.now)) (usual_kind (target_of target.now)) addrs.now)) result (kept_of symbolizer.old) (kept_of symbolizer.new) files.old files.new }
 {
     let src = source_of(alloc, map_files, target)?;
+    let addrs = Vec::from_slice(alloc, addrs)?;
     match target {
         Target::Process(_) => reply_by_process(alloc, symbolizer, &src, addrs, files, steps),
         Target::Breakpad(_) | Target::Gsym(_) | Target::Elf(_) => {
-            let addrs = Vec::from_slice(alloc, addrs)?;
             reply_by_file(
                 alloc,
                 symbolizer,
@@ -123,15 +123,15 @@ fn reply_by_process<F: Files, L: Ledger>(
     alloc: Global,
     symbolizer: &mut Symbolizer,
     src: &Source<'static>,
-    addrs: &[Addr],
+    addrs: Vec<Addr>,
     files: &mut F,
     steps: &mut Steps<L>,
 ) -> Result<Said>
     ensures { (query : ProcessQuery) → form_of src.now ≡ OneProcess query →
-        Replied F.Files (done_by (answer_texts addrs.now) (asking_batch (F.pid files.old) (OneProcess query) InProcess addrs.now)) result (kept_of symbolizer.old) (kept_of symbolizer.new) files.old files.new }
+        Replied F.Files (done_by (answer_texts addrs.items) (asking_batch (F.pid files.old) (OneProcess query) InProcess addrs.items)) result (kept_of symbolizer.old) (kept_of symbolizer.new) files.old files.new }
 {
-    match symbolizer.symbolize_counted(alloc, files, src, Input::AbsAddr(addrs), steps) {
-        Ok(answers) => said_answers(alloc, addrs, &answers),
+    match symbolizer.symbolize_counted(alloc, files, src, Input::AbsAddr(addrs.as_slice()), steps) {
+        Ok(answers) => Ok(Said::Owned(OwnedAnswers { addrs, answers })),
         Err(error) => said_refusal(alloc, error),
     }
 }

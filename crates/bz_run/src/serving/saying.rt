@@ -1,41 +1,16 @@
 //! What is said of an answer, and of a refusal.
 
-ghost use Rattle.std.specs.Prelude.{◌≡◌, map, string_bytes, IfOk, IsOkUnless};
+ghost use Rattle.std.specs.Prelude.{◌≡◌};
 ghost use Rattle.bz_base.specs.Answer.{reading};
-ghost use Rattle.bz_base.specs.declared.error.Error.{Error};
 ghost use Rattle.bz_run.specs.Serving.{Says, SaysRefusal};
 ghost use Rattle.bz_run.specs.RequestSteps.{okay};
-ghost use Rattle.bz_symq.specs.AnswerText.{answer_text, answer_texts};
+ghost use Rattle.bz_symq.specs.AnswerText.{answer_text};
 ghost use Rattle.bz_symq.specs.Reply.{text_of};
 
 use bz_base::{Addr, Error, Result, Symbolized};
-use bz_symq::{Said, answer_text, push_answer, refusal};
+use bz_symq::{Said, answer_text, refusal};
 use std::alloc::Global;
 use std::borrow::CowStr;
-
-/// The answers at the addresses by their texts, one after the other.
-pub(crate) fn said_answers(
-    alloc: Global,
-    addrs: &[Addr],
-    answers: &[Symbolized<'_>],
-) -> Result<Said>
-    ensures { Says (answer_texts addrs.now (map reading answers.now)) result }
-{
-    let text = texts(alloc, addrs, answers)?;
-    Ok(Said::Text(CowStr::Owned(text)))
-}
-
-fn texts(alloc: Global, addrs: &[Addr], answers: &[Symbolized<'_>]) -> Result<String>
-    ensures ok { IfOk result (λ text. string_bytes text ≡ answer_texts addrs.now (map reading answers.now)) }
-    ensures memory { IsOkUnless result Error.OutOfMemory }
-{
-    let mut text = String::new(alloc);
-    let count = addrs.len().min(answers.len());
-    for index in 0..count {
-        push_answer(&mut text, addrs[index], &answers[index])?;
-    }
-    Ok(text)
-}
 
 /// The answer at an address by its text.
 pub(crate) fn said_answer(alloc: Global, addr: Addr, answer: &Symbolized<'_>) -> Result<Said>

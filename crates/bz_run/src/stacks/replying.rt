@@ -1,25 +1,22 @@
 //! What an input of stacks is answered.
 
-ghost use Rattle.std.specs.Prelude.{◌≡◌, ◌<◌, ◌≤◌, length, vec_len, Ok, IfOk, IsErr, IsOk, IsOkUnless};
-ghost use Rattle.bz_base.specs.declared.error.Error.{Error};
+ghost use Rattle.std.specs.Prelude.{◌≡◌, ◌<◌, ◌≤◌, length, vec_len, Ok, IfOk, IsErr, IsOk};
 ghost use Rattle.bz_cache.specs.Format.{Comes};
 ghost use Rattle.bz_files.specs.Looked.{Faulted, Looked};
 ghost use Rattle.bz_files.specs.World.{Told, in_view};
 ghost use Rattle.bz_stacks.specs.Spelling.{stacks_in};
-ghost use Rattle.bz_symq.specs.Command.{Breakpad as BreakpadAt};
 ghost use Rattle.bz_symq.specs.InputText.{greatest_input};
 ghost use Rattle.bz_symq.specs.Reply.{IsDoneReply, IsInputStatus, Replies};
-ghost use Rattle.bz_symq.specs.Targets.{IsSourceOf};
 ghost use Rattle.bz_symq.specs.Turns.{FailsAtOne, ReadsOneFor};
 ghost use Rattle.bz_run.specs.StackOutcome.{answers_in, by_stacks, folded_by};
 ghost use Rattle.bz_run.specs.StackReply.{IsInputReply, IsSomeText, IsTextReply, RepliesToStacks, TakesTurns};
 
+use crate::source::breakpad_source;
 use bz_base::{Error, Input, Result};
 use bz_files::{Files, TextIn};
 use bz_requests::Config;
 use bz_stacks::{Stack, StackError, fold, read_stacks};
-use bz_symbolize::source::{Breakpad, Source};
-use bz_symq::{Reply, Said, Status, bad_line, new_symbolizer, read_input, refusal, unread};
+use bz_symq::{Reply, bad_line, made_reply, new_symbolizer, read_input, refusal, unread};
 use std::alloc::Global;
 
 /// What a run over an input of stacks ends with and writes, before any of it is written.
@@ -82,10 +79,7 @@ fn reply_of_file<F: Files>(
     ensures files { Looked F.Files files.old files.new (Faulted result) }
 {
     match folded(alloc, path, config, stacks, files) {
-        Ok(text) => Ok(Reply {
-            status: Status::Done,
-            said: Said::Made(text),
-        }),
+        Ok(text) => Ok(made_reply(text)),
         Err(error) => refusal(alloc, error),
     }
 }
@@ -104,7 +98,7 @@ fn folded<F: Files>(
     ensures opens { ReadsOneFor F.Files (IsOk result) files.old files.new }
     ensures files { Looked F.Files files.old files.new (Faulted result) }
 {
-    let src = source(alloc, path)?;
+    let src = breakpad_source(alloc, path)?;
     let mut symbolizer = new_symbolizer(alloc, config);
     fold(
         alloc,
@@ -114,13 +108,4 @@ fn folded<F: Files>(
         Input::FileOffset(()),
         stacks,
     )
-}
-
-// The Breakpad file at the path.
-fn source(alloc: Global, path: &str) -> Result<Source<'static>>
-    ensures ok { IfOk result (λ src. IsSourceOf (BreakpadAt path.now) src) }
-    ensures memory { IsOkUnless result Error.OutOfMemory }
-{
-    let path = String::from_str(alloc, path)?;
-    Ok(Source::from(Breakpad::new(path)))
 }

@@ -5,8 +5,7 @@ use Rattle.bz_run.proofs.generating.generate.Goals as goal
 -- the summary was to be written
 pub returns-in-Ok : goal.returns-in-Ok
 returns-in-Ok g c =
-    generates_text g.W.TextOut c.args.config c.args.seed c.args.functions c.args.addresses _ _ (string_bytes c.in-Ok.text) c.write_said.result c.ended_by.result
-    c.in-Ok.ensures.ok c.ended_by.ensures c.write_said.ensures
+    generates_text g.W.TextOut c.args.config c.args.seed c.args.functions c.args.addresses _ _ (string_bytes c.in-Ok.text) c.finish.result c.in-Ok.ensures.ok c.finish.ensures
 
 -- there was none
 pub returns-in-Err : goal.returns-in-Err

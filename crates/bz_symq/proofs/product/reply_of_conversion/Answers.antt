@@ -3,7 +3,7 @@ use Rattle.bz_symq.proofs.product.reply_of_conversion.Goals as goal
 
 -- the file was converted
 pub returns-in-Ok-clause-reply : goal.returns-in-Ok-clause-reply
-returns-in-Ok-clause-reply c table read = converted_reply table _ c.product_reply.result (c.in-Ok.ensures.ok table read) c.product_reply.ensures
+returns-in-Ok-clause-reply c table read = converted_reply table _ c.made_reply.result (c.in-Ok.ensures.ok table read) c.made_reply.ensures
 
 -- it was refused
 pub returns-in-Err-clause-reply : goal.returns-in-Err-clause-reply

@@ -16,13 +16,13 @@ read lookups = lookups.answers
 pub returns-clause-answers : goal.returns-clause-answers
 returns-clause-answers g c table is_file =
     answered read _ c.look_up.result
-    (comes_by_file _ read c.in_ok-src.src c.look_up.result _ _ _ _ (settings_of c.args.config) _ c.args.text.items c.args.addrs.items table is_file c.in_ok-src.ensures.ok
+    (comes_by_file _ read c.in_ok-src.src c.look_up.result _ _ _ _ (settings_of c.args.config) _ c.args.text.items c.args.addrs.items table is_file c.in_ok-src.ensures.form
     (ap (λ (kept : Kept). kept.files) c.new_symbolizer-symbolizer.ensures) (ap (λ (files : MemWorlds). in_view (Some files.worlds)) c.in_ok-files.ensures.ok) c.look_up.ensures.call)
 
 -- and no look fails
 pub returns-clause-memory : goal.returns-clause-memory
 returns-clause-memory g c table is_file =
     unrefused read (batch table (opts_of (settings_of c.args.config)) c.args.addrs.items) c.look_up.result
-    (comes_by_file _ read c.in_ok-src.src c.look_up.result _ _ _ _ (settings_of c.args.config) _ c.args.text.items c.args.addrs.items table is_file c.in_ok-src.ensures.ok
+    (comes_by_file _ read c.in_ok-src.src c.look_up.result _ _ _ _ (settings_of c.args.config) _ c.args.text.items c.args.addrs.items table is_file c.in_ok-src.ensures.form
     (ap (λ (kept : Kept). kept.files) c.new_symbolizer-symbolizer.ensures) (ap (λ (files : MemWorlds). in_view (Some files.worlds)) c.in_ok-files.ensures.ok) c.look_up.ensures.call)
     (never_faults _ c.look_up.ensures.call.looked.faults)
