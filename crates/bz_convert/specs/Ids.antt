@@ -1,5 +1,5 @@
 -- Faults of the ids of a function's line records and inlined calls, and of the texts that they name.
-use Rattle.std.specs.Prelude.{◌≡◌, ℕ, Bool, true, false, ◌&&◌, ◌||◌, List, Option, Some, option_map, slice_get, unwrap_or, []}
+use Rattle.std.specs.Prelude.{◌≡◌, ℕ, Bool, true, false, ◌&&◌, ◌||◌, List, Option, Some, is_none, option_map, slice_get, unwrap_or, []}
 use Rattle.std.specs.Borrow.{Bor}
 use Rattle.bz_breakpad_lines.specs.Names.{name_for}
 use Rattle.bz_breakpad_lines.specs.Reader.{table_in}
