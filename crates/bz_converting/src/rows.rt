@@ -32,19 +32,19 @@ pub(crate) fn source_of(file: &SymbolFile, id: u32) -> Source<'_>
 fn row_of<'a>(
     numbering: &mut Numbering<'a>,
     file: &'a SymbolFile,
-    row: &(u64, SourceLine),
+    line: &(u64, SourceLine),
 ) -> Result<Row>
     ensures numbering { OnOk result ((table : Table) (texts : List (List ℕ)) (sources : List Source) → table_in file.now ≡ Some table → IsNumbering table texts sources numbering.old →
-        IsNumbering table (texts ++ texts_of_row table (row_seen row.now)) (sources ++ sources_of_row table (row_seen row.now)) numbering.new) }
+        IsNumbering table (texts ++ texts_of_row table (row_seen line.now)) (sources ++ sources_of_row table (row_seen line.now)) numbering.new) }
     ensures row { IfOk result (λ row. (table : Table) (texts : List (List ℕ)) (sources : List Source) → table_in file.now ≡ Some table → IsNumbering table texts sources numbering.old →
-        IsRowFor table (listed_sources numbering.new) (row_seen row.now) row) }
+        IsRowFor table (listed_sources numbering.new) (row_seen line.now) row) }
     ensures memory { IsOkUnless result Error.OutOfMemory }
 {
-    let source = numbering.file_source(file, row.1.file)?;
+    let source = numbering.file_source(file, line.1.file)?;
     Ok(Row {
-        addr: row.0,
+        addr: line.0,
         source,
-        line: row.1.line,
+        line: line.1.line,
     })
 }
 
