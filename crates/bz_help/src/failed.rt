@@ -35,7 +35,7 @@ pub(crate) fn failure<F: Files>(
 ) -> CowStr<'static>
     ensures output { 0 < failed.output → cow_str_bytes result ≡ codes "symq: standard output: writing failed" }
     ensures input { failed.output ≡ 0 → 0 < failed.input → cow_str_bytes result ≡ codes "symq: standard input: reading failed" }
-    ensures files { failed.output ≡ 0 → failed.input ≡ 0 → 0 < failed.files → IsAboutFile (cow_str_bytes result) }
+    ensures about { failed.output ≡ 0 → failed.input ≡ 0 → 0 < failed.files → IsAboutFile (cow_str_bytes result) }
     ensures worlds { F.worlds files.new ≡ F.worlds files.old }
 {
     if failed.output > 0 {
