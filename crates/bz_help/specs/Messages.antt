@@ -6,7 +6,7 @@ use Rattle.bz_breakpad_refusal.specs.declared.refused.Refused.{Refused}
 use Rattle.bz_breakpad_refusal.specs.declared.refused.Refused.TheVariants.{Line, NoEnd, Empty}
 use Rattle.bz_files.specs.World.{World, Present, entry_at}
 use Rattle.bz_files.specs.declared.stamp.Stamp.{Stamp}
-use Rattle.bz_requests.specs.Requests.{Breakpad}
+use Rattle.bz_requests.specs.Requests.{Breakpad, Elf, Gsym}
 use Rattle.bz_symq.specs.declared.status.Status.{Status}
 use Rattle.bz_symq.specs.declared.status.Status.TheVariants as statuses
 use Rattle.bz_words.specs.Command.{Batch, Canonical, Command, Converted, Job, Make, Stacks, command_in}
@@ -14,10 +14,6 @@ use Rattle.bz_words.specs.Command.{Batch, Canonical, Command, Converted, Job, Ma
 -- a line about what lies at a path
 abbrev pub line_about : List ℕ → List ℕ → List ℕ
 line_about path said = codes "symq: " ++ (path ++ (codes ": " ++ said))
-
--- a line that says which file couldn't be read, and why; or that one couldn't be
-abbrev pub IsAboutFile : List ℕ → Type 0
-IsAboutFile line = (line ≡ codes "symq: reading a file failed") ⊎ ((path : List ℕ) × (cause : List ℕ) × (line ≡ line_about path cause))
 
 -- why a file is no Breakpad file
 abbrev pub said_of : Refused → List ℕ
@@ -57,6 +53,36 @@ pub record SaysWhere (words : List (List ℕ)) (world : World) (line : List ℕ)
   pub given : command_in words ≡ Some command
   pub named : breakpad_path command.job ≡ Some path
   pub says : SaysAt path world line
+
+-- the path of the one file that a job reads, whatever it asks of it
+abbrev pub read_path : Job → Option (List ℕ)
+read_path (Batch (Breakpad path) kind) = Some path
+read_path (Batch (Gsym path) kind) = Some path
+read_path (Batch (Elf path) kind) = Some path
+read_path (Make (Canonical path)) = Some path
+read_path (Make (Converted path)) = Some path
+read_path (Stacks path) = Some path
+read_path _ = None
+
+-- why a file can't be read
+abbrev pub IsCause : List ℕ → Type 0
+IsCause cause = (cause ≡ codes "is a folder") ⊎ ((cause ≡ codes "is longer than 1 GiB") ⊎ (cause ≡ codes "reading failed"))
+
+-- the line says why the file at a path can't be read
+abbrev pub IsOnFile : List ℕ → List ℕ → Type 0
+IsOnFile path line = (cause : List ℕ) × IsCause cause × (line ≡ line_about path cause)
+
+-- and the path is that of the one file that the words ask to read
+pub record IsOnNamed (words : List (List ℕ)) (line : List ℕ) : Type 0 where
+  pub command : Command
+  pub path : List ℕ
+  pub given : command_in words ≡ Some command
+  pub named : read_path command.job ≡ Some path
+  pub says : IsOnFile path line
+
+-- a line that says so, or that a file couldn't be read
+abbrev pub IsAboutFile : List (List ℕ) → List ℕ → Type 0
+IsAboutFile words line = (line ≡ codes "symq: reading a file failed") ⊎ IsOnNamed words line
 
 -- what is said is the one line that says so; nothing is said where none does
 abbrev pub Tells : Option (List ℕ) → (List ℕ → Type 0) → Type 0

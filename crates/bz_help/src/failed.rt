@@ -1,14 +1,15 @@
 //! What failed.
 
-ghost use Rattle.std.specs.Prelude.{◌≡◌, ◌<◌, codes, string_bytes, IfOk, IfSome};
+ghost use Rattle.std.specs.Prelude.{◌≡◌, ◌<◌, codes, map, option_map, string_bytes, IfOk, IfSome};
 ghost use Rattle.std.specs.Cow.{cow_str_bytes};
-ghost use Rattle.bz_help.specs.Messages.{IsAboutFile};
+ghost use Rattle.bz_help.specs.Messages.{IsAboutFile, IsCause, IsOnFile, IsOnNamed, read_path};
+ghost use Rattle.bz_words.specs.Command.{job_of};
 
 use crate::refused::line_about;
 use bz_base::Result;
 use bz_files::Files;
 use bz_requests::Target;
-use bz_words::{Command, Job, Product, read_command};
+use bz_words::{Job, Product, read_command};
 use std::alloc::Global;
 use std::borrow::CowStr;
 
@@ -35,7 +36,7 @@ pub(crate) fn failure<F: Files>(
 ) -> CowStr<'static>
     ensures output { 0 < failed.output → cow_str_bytes result ≡ codes "symq: standard output: writing failed" }
     ensures input { failed.output ≡ 0 → 0 < failed.input → cow_str_bytes result ≡ codes "symq: standard input: reading failed" }
-    ensures about { failed.output ≡ 0 → failed.input ≡ 0 → 0 < failed.files → IsAboutFile (cow_str_bytes result) }
+    ensures about { failed.output ≡ 0 → failed.input ≡ 0 → 0 < failed.files → IsAboutFile (map string_bytes words.now) (cow_str_bytes result) }
     ensures worlds { F.worlds files.new ≡ F.worlds files.old }
 {
     if failed.output > 0 {
@@ -56,23 +57,24 @@ pub(crate) fn failure<F: Files>(
 
 /// A line on the one file that the words ask to read.
 fn failed_file<F: Files>(alloc: Global, words: &[String], files: &mut F) -> Result<Option<String>>
-    ensures line { IfOk result (λ found. IfSome found (λ line. IsAboutFile (string_bytes line))) }
+    ensures named { IfOk result (λ found. IfSome found (λ line. IsOnNamed (map string_bytes words.now) (string_bytes line))) }
     ensures worlds { F.worlds files.new ≡ F.worlds files.old }
 {
     let Ok(command) = read_command(alloc, words) else {
         return Ok(None);
     };
-    let Some(path) = only_path(&command) else {
+    let Some(path) = read_path(&command.job) else {
         return Ok(None);
     };
-    let cause = cause_at(alloc, path, files)?;
-    let line = line_about(alloc, path, cause)?;
+    let line = line_on_file(alloc, path, files)?;
     Ok(Some(line))
 }
 
-/// The path of the only file that the command asks to read.
-fn only_path(command: &Command) -> Option<&str> {
-    match &command.job {
+/// The path of the one file that the job reads, whatever it asks of it.
+fn read_path(job: &Job) -> Option<&str>
+    ensures { option_map (λ path. path.now) result ≡ read_path (job_of job.now) }
+{
+    match job {
         Job::Batch(Target::Breakpad(path), _) => Some(path.as_str()),
         Job::Batch(Target::Gsym(path), _) => Some(path.as_str()),
         Job::Batch(Target::Elf(path), _) => Some(path.as_str()),
@@ -83,8 +85,19 @@ fn only_path(command: &Command) -> Option<&str> {
     }
 }
 
+/// A line that says why the file at the path can't be read.
+fn line_on_file<F: Files>(alloc: Global, path: &str, files: &mut F) -> Result<String>
+    ensures says { IfOk result (λ line. IsOnFile path.now (string_bytes line)) }
+    ensures worlds { F.worlds files.new ≡ F.worlds files.old }
+{
+    let cause = cause_at(alloc, path, files)?;
+    let line = line_about(alloc, path, cause)?;
+    Ok(line)
+}
+
 /// Why the file at the path can't be read.
 fn cause_at<F: Files>(alloc: Global, path: &str, files: &mut F) -> Result<&'static str>
+    ensures cause { IfOk result (λ cause. IsCause cause.now) }
     ensures worlds { F.worlds files.new ≡ F.worlds files.old }
 {
     if is_folder(alloc, path, files)? {

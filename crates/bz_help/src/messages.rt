@@ -72,7 +72,7 @@ pub fn message<F: Files>(
     ensures refused { status ≡ Status.Refused → Told (in_view (F.worlds files.old)) (λ world. IfSome result (λ line. SaysWhere (map string_bytes words.now) world (cow_str_bytes line))) }
     ensures output { status ≡ Status.Fault → 0 < failed.output → option_map cow_str_bytes result ≡ Some (codes "symq: standard output: writing failed") }
     ensures input { status ≡ Status.Fault → failed.output ≡ 0 → 0 < failed.input → option_map cow_str_bytes result ≡ Some (codes "symq: standard input: reading failed") }
-    ensures about { status ≡ Status.Fault → failed.output ≡ 0 → failed.input ≡ 0 → 0 < failed.files → IfSome result (λ line. IsAboutFile (cow_str_bytes line)) }
+    ensures about { status ≡ Status.Fault → failed.output ≡ 0 → failed.input ≡ 0 → 0 < failed.files → IfSome result (λ line. IsAboutFile (map string_bytes words.now) (cow_str_bytes line)) }
     ensures memory { status ≡ Status.Memory → option_map cow_str_bytes result ≡ message_of status }
     ensures told { IsTold status → is_some result ≡ true }
     ensures worlds { F.worlds files.new ≡ F.worlds files.old }
