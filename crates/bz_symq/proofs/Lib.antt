@@ -1,4 +1,3 @@
-pub mod AnswerTextLemmas
 mod ConversionLemmas
 pub mod EndLemmas
 pub mod FaultLemmas

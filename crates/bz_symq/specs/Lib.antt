@@ -1,4 +1,3 @@
-pub mod AnswerText
 pub mod Command
 pub mod Counted
 pub mod InputText

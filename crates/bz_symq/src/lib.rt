@@ -1,14 +1,12 @@
 //! The program's parts: its input, one run of it, and the texts that it writes.
 #![tactic(auto)]
 
-mod answer;
 mod asking;
 mod command;
 mod input;
 pub mod laws;
 mod output;
 mod own_process;
-mod piece;
 mod process;
 mod product;
 mod program;
@@ -16,7 +14,6 @@ mod reply;
 mod status;
 mod texts;
 
-pub use answer::{answer_text, push_answer};
 pub use asking::{input_for, new_symbolizer};
 pub use command::{Batch, Command, FileTarget, Product, Target};
 pub use input::{ReadStop, read_input};

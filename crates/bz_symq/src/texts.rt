@@ -6,10 +6,10 @@ ghost use Rattle.bz_base.specs.Answer.{Answer, reading};
 ghost use Rattle.bz_base.specs.declared.error.Error.{Error};
 ghost use Rattle.bz_symbolize.specs.Batch.{Batch};
 ghost use Rattle.bz_symbolize.specs.Together.{IsAmong};
-ghost use Rattle.bz_symq.specs.AnswerText.{answer_text};
+ghost use Rattle.bz_answer_text.specs.AnswerText.{answer_text};
 ghost use Rattle.bz_symq.specs.Texts.{AreTexts, IsTextOf, MakesMore};
 
-use crate::answer::push_answer;
+use bz_answer_text::push_answer;
 use bz_base::{Error, Result, Symbolized};
 use bz_symbolize::{Lookups, TOGETHER};
 use std::alloc::Global;

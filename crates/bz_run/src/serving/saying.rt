@@ -4,11 +4,12 @@ ghost use Rattle.std.specs.Prelude.{◌≡◌};
 ghost use Rattle.bz_base.specs.Answer.{reading};
 ghost use Rattle.bz_run.specs.Serving.{Says, SaysRefusal};
 ghost use Rattle.bz_run.specs.RequestSteps.{okay};
-ghost use Rattle.bz_symq.specs.AnswerText.{answer_text};
+ghost use Rattle.bz_answer_text.specs.AnswerText.{answer_text};
 ghost use Rattle.bz_symq.specs.Reply.{text_of};
 
+use bz_answer_text::answer_text;
 use bz_base::{Addr, Error, Result, Symbolized};
-use bz_symq::{Said, answer_text, refusal};
+use bz_symq::{Said, refusal};
 use std::alloc::Global;
 use std::borrow::CowStr;
 

@@ -1,7 +1,7 @@
 use Rattle.std.proofs.Common.{sym, subst, rules}
 use Rattle.std.proofs.lemmas.Str.{IsUtf8-append}
 use Rattle.std.specs.Str.{IsUtf8}
-use Rattle.bz_symq.proofs.piece.put_str.Goals as goal
+use Rattle.bz_answer_text.proofs.piece.put_str.Goals as goal
 
 pub returns-clause-text : goal.returns-clause-text
 returns-clause-text c = search rules

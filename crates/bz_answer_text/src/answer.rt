@@ -6,7 +6,7 @@ ghost use Rattle.std.specs.Str.{IsUtf8};
 ghost use Rattle.bz_base.specs.Answer.{site_of, call_of, symbol_of, reading};
 ghost use Rattle.bz_base.specs.Answer.Answer.{Unknown};
 ghost use Rattle.bz_base.specs.Path.{begins_with_slash, last_byte, path_text, slash_after};
-ghost use Rattle.bz_symq.specs.AnswerText.{hex, size_text, module_text, line_text, place_text, end_text, line_end, numbers_text, call_text, calls_text, symbol_text, result_text, answer_text};
+ghost use Rattle.bz_answer_text.specs.AnswerText.{hex, size_text, module_text, line_text, place_text, end_text, line_end, numbers_text, call_text, calls_text, symbol_text, result_text, answer_text};
 
 use crate::piece::{push_piece, put_hex_after, put_str};
 use bz_base::{CodeInfo, Error, InlinedFn, Reason, Result, Sym, Symbolized};

@@ -1,7 +1,7 @@
 use Rattle.std.proofs.Common.{◌≡◌, ◌++◌, map, take, string_bytes}
 use Rattle.bz_base.specs.Answer.{call_of}
-use Rattle.bz_symq.specs.AnswerText.{calls_text}
-use Rattle.bz_symq.proofs.answer.push_calls.Given as goal
+use Rattle.bz_answer_text.specs.AnswerText.{calls_text}
+use Rattle.bz_answer_text.proofs.answer.push_calls.Given as goal
 
 -- what is written is the texts of the calls so far
 abbrev pub invariant-loop-call : goal.invariant-loop-call

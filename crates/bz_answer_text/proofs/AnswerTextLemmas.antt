@@ -4,7 +4,7 @@ use Rattle.std.proofs.lemmas.Bool.{cases_lt}
 use Rattle.std.proofs.lemmas.List.{drop_all}
 use Rattle.bz_base.specs.Answer.{Answer, reading}
 use Rattle.bz_base.specs.declared.types.Symbolized.{Symbolized}
-use Rattle.bz_symq.specs.AnswerText.{answer_text, answer_texts}
+use Rattle.bz_answer_text.specs.AnswerText.{answer_text, answer_texts}
 
 -- the text of the first of those left goes to the end of what is written
 pub texts_step : (written new : List ℕ) (addrs more : List ℕ) (answers rest : List Answer) (addr : ℕ) (answer : Answer) →

@@ -1,7 +1,7 @@
 use Rattle.std.proofs.Common.{sym, subst}
 use Rattle.std.specs.Str.{IsUtf8}
 use Rattle.bz_digits.proofs.HexLemmas.{hex_utf8}
-use Rattle.bz_symq.proofs.piece.put_hex_after.Goals as goal
+use Rattle.bz_answer_text.proofs.piece.put_hex_after.Goals as goal
 
 -- digits are text
 pub returns-clause-utf8 : goal.returns-clause-utf8

@@ -2,7 +2,7 @@ use Rattle.std.proofs.Common.{sym, subst, arith}
 use Rattle.std.proofs.lemmas.Fmt.{IsAscii-decimal}
 use Rattle.std.proofs.lemmas.Str.{IsUtf8-append, IsUtf8-from_ascii, IsUtf8-nil}
 use Rattle.std.specs.Str.{IsUtf8}
-use Rattle.bz_symq.proofs.answer.push_line.Goals as goal
+use Rattle.bz_answer_text.proofs.answer.push_line.Goals as goal
 
 -- each of the three is text before text
 pub push_piece-requires : goal.push_piece-requires
