@@ -56,13 +56,6 @@ module _ {A B X : Type 0} (files : Ghosts X) (reading : A → B) (source : Sourc
         most = on_file query source did.called (λ file laws all. all.most);
       }
 
--- what is given as expected, or wants memory, follows
-pub given_or_memory : {A B : Type 0} (reading : A → B) (expected : B) (result : Result A Error) → IfOk result (λ given. reading given ≡ expected) →
-    IsOkUnless result errors.OutOfMemory → Gives reading (Ok expected) result × IfErr result MayRefuse
-given_or_memory reading expected (Ok given) is memory = (gives_all reading expected (Ok given) is memory, tt)
-given_or_memory reading expected (Err errors.OutOfMemory) is memory = (tt, tt)
-given_or_memory reading expected (Err _) is memory = cc memory
-
 -- all that a call promises that goes on by what is held of its source
 module _ {A B X : Type 0} (files : Ghosts X) (reading : A → B) (source : Source) (query : Query B) (held : Result Held Error) (result : Result A Error) (old now : State) (before after : X) where
   pub promised_held : ((opts : FindSymOpts) → AsksSource files (held_singles opts) source opts (each_of query.kind) held old now before after) →

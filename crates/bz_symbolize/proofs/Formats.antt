@@ -106,23 +106,12 @@ on_each query source f = by_laws (form_of source) (by_each (form_of source) (λ 
 pub both : (source : Source) (P Q : FileSource → Type 0) → OnFile source P → OnFile source Q → OnFile source (λ file. P file × Q file)
 both source P Q p q = by_form (form_of source) p q (λ file here there. (here, there))
 
--- what reads as expected comes as expected
-pub comes_given : {A B : Type 0} (reading : A → B) (expected : Result B Error) (result : Result A Error) → Gives reading expected result → Comes reading expected result
-comes_given reading expected (Ok given) is = is
-comes_given reading expected (Err errors.ReadFault) is = tt
-comes_given reading expected (Err errors.OutOfMemory) is = tt
-comes_given reading expected (Err _) is = is
-
 -- a call that leaves all as it is, where nothing else is expected
 leaves_same : {A S : Type 0} (result : Result A Error) (old now : S) → now ≡ old → Leaves result old old now
 leaves_same (Ok given) old now same = same
 leaves_same (Err errors.ReadFault) old now same = same
 leaves_same (Err errors.OutOfMemory) old now same = inl same
 leaves_same (Err _) old now same = same
-
-pub on_ok : {A P : Type 0} (result : Result A Error) → P → OnOk result P
-on_ok (Ok given) holds = holds
-on_ok (Err e) holds = tt
 
 -- what a call on one file, or on handed-in bytes, is as a call by its form of source
 pub told_by_form : {A B : Type 0} (reading : A → B) (opts : FindSymOpts) (form : SourceForm) (query : Query B) (result : Result A Error) (old now : State) (world : World) (before after : ℕ) →
