@@ -9,9 +9,9 @@ use Rattle.bz_breakpad.specs.Reader.{table_in}
 use Rattle.bz_breakpad.specs.Table.{Table}
 use Rattle.bz_breakpad.specs.declared.found.FoundRecord.{FoundRecord}
 use Rattle.bz_breakpad.specs.declared.found.FoundRecord.TheVariants as found
-use Rattle.bz_symbolize.specs.Found.{AreFound, AreFoundIn, IsFoundIn}
-use Rattle.bz_symbolize.specs.declared.held.Held.{Held}
-use Rattle.bz_symbolize.specs.declared.held.Held.TheVariants as helds
+use Rattle.bz_lookups.specs.Found.{AreFound, AreFoundIn, IsFoundIn}
+use Rattle.bz_lookups.specs.declared.held.Held.{Held}
+use Rattle.bz_lookups.specs.declared.held.Held.TheVariants as helds
 
 module _ (bytes addrs : List ℕ) (records : List FoundRecord) (are : AreFound bytes addrs records) (k : ℕ) (within : k < length addrs) where
   -- the record of an index stands for the address there behind others

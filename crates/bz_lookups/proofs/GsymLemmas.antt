@@ -1,19 +1,13 @@
--- What bytes that are handed in answer, and that a call on them leaves all as it is.
-use Rattle.std.proofs.Common.{◌≡◌, ℕ, true, List, Result, Ok, Err, IfOk, IfErr, IsOkUnless, le_refl, inr, refl, sym, ap, subst}
+-- What bytes that are handed in answer.
+use Rattle.std.proofs.Common.{◌≡◌, ℕ, true, List, Err, refl, sym, subst}
 use Rattle.bz_base.specs.Answer.{Gives}
-use Rattle.bz_base.specs.Refusals.{MayRefuse}
 use Rattle.bz_base.specs.declared.error.Error.{Error}
 use Rattle.bz_base.specs.declared.error.Error.TheVariants as errors
 use Rattle.bz_base.specs.declared.types.FindSymOpts.{FindSymOpts}
-use Rattle.bz_files.specs.Looked.{Faulted}
-use Rattle.bz_files.specs.declared.files.Files.{Ghosts}
+use Rattle.bz_calls.specs.FileCall.{Query}
 use Rattle.bz_gsym.specs.Tables.{IsGsym}
 use Rattle.bz_gsym.proofs.FormatLemmas.{in_format, not_in_format}
-use Rattle.bz_symbolize.specs.FileCall.{Query}
-use Rattle.bz_symbolize.specs.Promise.{AsksSource}
-use Rattle.bz_symbolize.specs.Sources.{HandedSource, Handed, form_of, gsym_handed, gsym_single, handed_answer, is_in_table}
-use Rattle.bz_symbolize.specs.State.{State, WellKept}
-use Rattle.bz_symbolize.specs.declared.source.Source.{Source}
+use Rattle.bz_lookups.specs.Formats.{gsym_handed, gsym_single, handed_answer, is_in_table}
 
 module _ {B : Type 0} (bytes : List ℕ) (opts : FindSymOpts) (query : Query B) (taken : is_in_table query.kind ≡ true) where
   -- bytes in the format answer at each address

@@ -1,5 +1,5 @@
 -- From what is held of a source to what a call makes of it, whatever the query.
-use Rattle.std.proofs.Common.{◌≡◌, ℕ, Bool, true, false, cond, List, [], Option, Some, None, Result, Ok, Err, IfErr, IsErrOf, inl, inr, refl, sym, ap, subst}
+use Rattle.std.proofs.Common.{◌≡◌, ℕ, Bool, true, false, cond, List, [], Option, Some, None, Result, Ok, Err, IfOk, IfErr, IsErrOf, IsOkUnless, OnOk, inl, inr, refl, sym, ap, subst}
 use Rattle.std.proofs.lemmas.Bool.{false≢true}
 use Rattle.bz_base.specs.Answer.{Answer, Gives}
 use Rattle.bz_base.specs.Refusals.{MayRefuse}
@@ -12,13 +12,8 @@ use Rattle.bz_files.specs.declared.files.Files.{Ghosts}
 use Rattle.bz_cache.specs.Cache.{Cache}
 use Rattle.bz_cache.specs.Format.{Comes, FailsAs}
 use Rattle.bz_cache.specs.Look.{look}
-use Rattle.bz_symbolize.proofs.Formats.{comes_given, on_file, on_handed, on_ok}
-use Rattle.bz_symbolize.proofs.GsymLemmas.{never_faulted}
-use Rattle.bz_symbolize.specs.FileCall.{Answering, ByVersion, CallsFile, Leaves, Query, by_look, by_test, each_of, file_answer, query_asked, query_given}
-use Rattle.bz_symbolize.specs.Promise.{AsksSource}
-use Rattle.bz_symbolize.specs.Sources.{HandedSource, handed_answer}
-use Rattle.bz_symbolize.specs.State.{State}
-use Rattle.bz_symbolize.specs.declared.source.Source.{Source}
+use Rattle.bz_calls.specs.FileCall.{Answering, ByVersion, CallsFile, Leaves, Query, by_look, by_test, each_of, file_answer, query_asked, query_given}
+use Rattle.bz_lookups.specs.Formats.{HandedSource, handed_answer}
 
 -- what reads as expected wherever it is given, and else is want of memory
 pub gives_all : {A B : Type 0} (reading : A → B) (expected : B) (result : Result A Error) → IfOk result (λ given. reading given ≡ expected) →
@@ -128,6 +123,11 @@ module _ {A B H : Type 0} (reading : A → B) (query : Query B) (singles : H →
       by_taken true = test_made given.test given.answering opts [] given.bytes (given.test given.bytes)
       by_taken false = refl
 
+  -- bytes that are handed in give to the query what they give to the look
+  pub gives_handed : (given : HandedSource) (opts : FindSymOpts) (held : Result H Error) (result : Result A Error) → Follows held result →
+      Gives singles (handed_answer given opts (each_of query.kind)) held → Gives reading (handed_answer given opts query) result
+  gives_handed given opts held result follows is = subst (λ y. Gives reading y result) (sym (handed_made given opts)) (gives_made held result _ follows is)
+
   module _ {X : Type 0} (files : Ghosts X) (before after : X) where
     unfailed : (result : Result A Error) → IfErr result MayRefuse → Looked files before after ⊥ → Looked files before after (Faulted result)
     unfailed result may looked = record {
@@ -140,14 +140,11 @@ module _ {A B H : Type 0} (reading : A → B) (query : Query B) (singles : H →
       };
     }
 
-    looked_made : (held : Result H Error) (result : Result A Error) → Follows held result → Looked files before after (Faulted held) → Looked files before after (Faulted result)
+    pub looked_made : (held : Result H Error) (result : Result A Error) → Follows held result → Looked files before after (Faulted held) → Looked files before after (Faulted result)
     looked_made (Ok h) result follows looked = unfailed result follows.1 looked
     looked_made (Err e) result follows looked = subst (λ (r : Result A Error). Looked files before after (Faulted r)) (sym follows) looked
 
     module _ (test : List ℕ → Option Error) (answering : Answering) (opts : FindSymOpts) (path : List ℕ) (old now : Cache) where
-      abbrev Calls : Result H Error → Type 0
-      Calls held = CallsFile files singles (query_asked test answering opts path (each_of query.kind)) path held old now before after
-
       by_made : (held : Result H Error) (result : Result A Error) → Follows held result →
           ByVersion singles (query_asked test answering opts path (each_of query.kind)) path held old now → ByVersion reading (query_asked test answering opts path query) path result old now
       by_made held result follows by = record {
@@ -161,7 +158,10 @@ module _ {A B H : Type 0} (reading : A → B) (query : Query B) (singles : H →
           Comes singles (file_answer (query_asked test answering opts path (each_of query.kind)) old path there) held → Comes reading (file_answer (query_asked test answering opts path query) old path there) result
       told_answer held result there follows is = subst (λ y. Comes reading y result) (sym (file_made test answering opts path old there)) (comes_made held result _ follows is)
 
-      calls_held : (held : Result H Error) (result : Result A Error) → Follows held result → Calls held → CallsFile files reading (query_asked test answering opts path query) path result old now before after
+      -- a call that goes on by what is held does on the file what the look for it did
+      pub calls_held : (held : Result H Error) (result : Result A Error) → Follows held result →
+          CallsFile files singles (query_asked test answering opts path (each_of query.kind)) path held old now before after →
+          CallsFile files reading (query_asked test answering opts path query) path result old now before after
       calls_held (Ok h) result follows all = record {
         told = λ world seen. let told = all.told world seen in record {
           answer = told_answer (Ok h) result _ follows told.answer;

@@ -14,8 +14,8 @@ use Rattle.bz_base.specs.declared.error.Error.{Error}
 use Rattle.bz_base.specs.declared.types.Reason.TheVariants as reasons
 use Rattle.bz_base.specs.declared.types.Symbolized.{Symbolized}
 use Rattle.bz_base.specs.declared.types.Symbolized.TheVariants as symbolized
-use Rattle.bz_symbolize.specs.Batch.{Batch, answer_at, answers_there, answers_to}
-use Rattle.bz_symbolize.specs.Together.{AnswersMore, AreNext, Grows, IsAmong, IsAnswered}
+use Rattle.bz_lookups.specs.Batch.{Batch, answer_at, answers_there, answers_to}
+use Rattle.bz_lookups.specs.Together.{AnswersMore, AreNext, Grows, IsAmong, IsAnswered}
 
 -- two numbers are the same or not
 same_or_other : (m n : ℕ) → (m ≡ n) ⊎ (m ≢ n)

@@ -5,11 +5,11 @@ use Rattle.bz_base.specs.InputKind.{AddressKind, InFile, InTable}
 use Rattle.bz_base.specs.declared.error.Error.{Error}
 use Rattle.bz_base.specs.declared.types.FindSymOpts.{FindSymOpts}
 use Rattle.bz_breakpad.specs.Reader.{table_in}
-use Rattle.bz_symbolize.specs.Sources.{breakpad_single, elf_single, gsym_single}
-use Rattle.bz_symbolize.specs.declared.held.ElfKind.{ElfKind}
-use Rattle.bz_symbolize.specs.declared.held.ElfKind.TheVariants as kinds
-use Rattle.bz_symbolize.specs.declared.held.Held.{Held}
-use Rattle.bz_symbolize.specs.declared.held.Held.TheVariants as helds
+use Rattle.bz_lookups.specs.Formats.{breakpad_single, elf_single, gsym_single}
+use Rattle.bz_lookups.specs.declared.held.ElfKind.{ElfKind}
+use Rattle.bz_lookups.specs.declared.held.ElfKind.TheVariants as kinds
+use Rattle.bz_lookups.specs.declared.held.Held.{Held}
+use Rattle.bz_lookups.specs.declared.held.Held.TheVariants as helds
 
 -- what answers addresses: bytes in a format; of an ELF file also the path that names it, and the kind of the addresses
 pub data Version : Type 0 where

@@ -1,13 +1,10 @@
 -- How many steps the searches of a batch take.
-use Rattle.std.specs.Prelude.{◌≡◌, ◌⊎◌, ℕ, ◌-◌, ◌≤◌, List, Some, string_bytes}
+use Rattle.std.specs.Prelude.{◌≡◌, ◌⊎◌, ℕ, ◌-◌, ◌≤◌, List, Some}
 use Rattle.bz_cache.specs.Cache.{Cache, kept_at}
 use Rattle.bz_breakpad.specs.Probes.{AreFewSteps}
 use Rattle.bz_breakpad.specs.Reader.{table_in}
 use Rattle.bz_breakpad.specs.Table.{Table}
-use Rattle.bz_symbolize.specs.Batch.{Version, BreakpadVersion}
-use Rattle.bz_symbolize.specs.State.{State}
-use Rattle.bz_symbolize.specs.declared.source.Source.{Source}
-use Rattle.bz_symbolize.specs.declared.source.Source.TheVariants as sources
+use Rattle.bz_lookups.specs.Batch.{Version, BreakpadVersion}
 
 -- those of bytes that are a Breakpad file: as many as are enough among its functions and its PUBLIC records
 pub record BreakpadSteps (bytes : List ℕ) (addrs before after : ℕ) : Type 0 where

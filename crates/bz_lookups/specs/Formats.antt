@@ -1,27 +1,19 @@
 -- What each format answers, and which kinds of address it takes.
-use Rattle.std.specs.Prelude.{ℕ, Bool, true, false, cond, List, [], map, Option, Some, None, Result, Ok, Err, string_bytes}
+use Rattle.std.specs.Prelude.{ℕ, Bool, true, false, cond, List, [], map, Option, Some, None, Result, Ok, Err}
 use Rattle.bz_base.specs.Answer.{Answer, in_batch}
 use Rattle.bz_base.specs.InputKind.{AddressKind, InProcess, InTable, InFile}
 use Rattle.bz_base.specs.declared.error.Error.{Error}
 use Rattle.bz_base.specs.declared.error.Error.TheVariants as errors
 use Rattle.bz_base.specs.declared.types.FindSymOpts.{FindSymOpts}
-use Rattle.bz_cache.specs.Cache.{Cache}
 use Rattle.bz_breakpad.specs.Reader.{table_in}
 use Rattle.bz_breakpad.specs.Plain.{plain}
 use Rattle.bz_breakpad.specs.Table.{Table}
 use Rattle.bz_breakpad.specs.Version.{format_test}
-use Rattle.bz_elf.specs.Format as elf_format
+use Rattle.bz_calls.specs.FileCall.{Answering, Query, as_answer, by_version, query_asked}
 use Rattle.bz_elf.specs.Segments.{segments, translated}
 use Rattle.bz_gsym.specs.Plain as gsym
 use Rattle.bz_gsym.specs.Version as gsym_version
 use Rattle.bz_process.specs.Process.{elf_by_table}
-use Rattle.bz_process.specs.declared.query.ProcessQuery.{ProcessQuery}
-use Rattle.bz_symbolize.specs.FileCall.{Answering, Query, Question, as_answer, by_version, query_asked}
-use Rattle.bz_symbolize.specs.State.{State}
-use Rattle.bz_symbolize.specs.declared.source.Process.{Process}
-use Rattle.bz_symbolize.specs.declared.source.Source.{Source}
-use Rattle.bz_symbolize.specs.declared.source.Source.TheVariants as sources
-use Rattle.bz_symbolize.specs.declared.source.Gsym.TheVariants as gsyms
 
 -- a Breakpad source takes file offsets alone
 abbrev pub is_in_file : AddressKind → Bool

@@ -4,8 +4,8 @@ use Rattle.bz_breakpad.specs.Found.{AreRecordsFor, IsRecordFor}
 use Rattle.bz_breakpad.specs.Reader.{table_in}
 use Rattle.bz_breakpad.specs.Table.{Table}
 use Rattle.bz_breakpad.specs.declared.found.FoundRecord.{FoundRecord}
-use Rattle.bz_symbolize.specs.declared.held.Held.{Held}
-use Rattle.bz_symbolize.specs.declared.held.Held.TheVariants as helds
+use Rattle.bz_lookups.specs.declared.held.Held.{Held}
+use Rattle.bz_lookups.specs.declared.held.Held.TheVariants as helds
 
 -- there is one for each address, which is the record of the file's table that answers for it
 pub record AreFound (bytes addrs : List ℕ) (records : List FoundRecord) : Type 0 where

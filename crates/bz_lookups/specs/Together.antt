@@ -3,7 +3,7 @@ use Rattle.std.specs.Prelude.{◌≡◌, ◌+◌, ◌<◌, ◌≤◌, ℕ, List,
 use Rattle.std.specs.List.{All, Contains}
 use Rattle.bz_base.specs.Answer.{reading}
 use Rattle.bz_base.specs.declared.types.Symbolized.{Symbolized}
-use Rattle.bz_symbolize.specs.Batch.{Batch, answer_at}
+use Rattle.bz_lookups.specs.Batch.{Batch, answer_at}
 
 -- the index is one of so many from the first on, and of the batch
 pub record IsAmong (batch : Batch) (first count index : ℕ) : Type 0 where

@@ -5,9 +5,9 @@ ghost use Rattle.bz_base.specs.Answer.{Gives};
 ghost use Rattle.bz_base.specs.InputKind.{address_kind};
 ghost use Rattle.bz_base.specs.Refusals.{MayRefuse};
 ghost use Rattle.bz_base.specs.declared.types.FindSymOpts.{FindSymOpts};
-ghost use Rattle.bz_symbolize.specs.Batch.{held_singles, version_of};
-ghost use Rattle.bz_symbolize.specs.Counted.{FileSteps, TakesSteps};
-ghost use Rattle.bz_symbolize.specs.FileCall.{Answering, CallsFile, each_of, query_asked, query_given};
+ghost use Rattle.bz_calls.specs.FileCall.{Answering, CallsFile, each_of, query_asked, query_given};
+ghost use Rattle.bz_lookups.specs.Batch.{held_singles, version_of};
+ghost use Rattle.bz_lookups.specs.Counted.{FileSteps, TakesSteps};
 
 use crate::held::Held;
 use bz_base::{Error, Input, Result};
@@ -17,7 +17,7 @@ use std::alloc::Global;
 use std::rc::Rc;
 
 /// A parsed file that answers addresses.
-pub(crate) trait Answers: Version {
+pub trait Answers: Version {
     /// Which kinds of address are taken before a look, which ones are answered, and how.
     ghost answering: { Answering };
 
@@ -41,7 +41,7 @@ pub(crate) trait Answers: Version {
 }
 
 /// The version of the file at the path, held to answer addresses of the input's kind.
-pub(crate) fn hold_file<'d, T: Answers + Drop, F: Files, A>(
+pub fn hold_file<'d, T: Answers + Drop, F: Files, A>(
     cache: &mut FileCache<T>,
     alloc: Global,
     files: &mut F,

@@ -6,11 +6,11 @@ ghost use Rattle.bz_base.specs.InputKind.{address_kind};
 ghost use Rattle.bz_base.specs.Lent.{IsLent};
 ghost use Rattle.bz_base.specs.Refusals.{MayRefuse};
 ghost use Rattle.bz_base.specs.declared.types.FindSymOpts.{FindSymOpts};
+ghost use Rattle.bz_calls.specs.FileCall.{each_of, query_given};
 ghost use Rattle.bz_gsym.specs.Refusal.{IsAnswerRefusal};
-ghost use Rattle.bz_symbolize.specs.Batch.{held_singles, version_of};
-ghost use Rattle.bz_symbolize.specs.Counted.{TakesSteps, no_steps};
-ghost use Rattle.bz_symbolize.specs.FileCall.{each_of, query_given};
-ghost use Rattle.bz_symbolize.specs.Sources.{gsym_answering, gsym_handed, gsym_single, handed_answer};
+ghost use Rattle.bz_lookups.specs.Batch.{held_singles, version_of};
+ghost use Rattle.bz_lookups.specs.Counted.{TakesSteps, no_steps};
+ghost use Rattle.bz_lookups.specs.Formats.{gsym_answering, gsym_handed, gsym_single, handed_answer};
 
 use crate::answering::Answers;
 use crate::held::Held;
@@ -52,7 +52,7 @@ impl Answers for GsymTable {
 }
 
 /// Bytes that are handed in, held to answer addresses of the input's kind.
-pub(crate) fn hold_data<'d, A>(bytes: &'d [u8], input: &Input<A>) -> Result<Held<'d>>
+pub fn hold_data<'d, A>(bytes: &'d [u8], input: &Input<A>) -> Result<Held<'d>>
     ensures held { (opts : FindSymOpts) → Gives (held_singles opts) (handed_answer (gsym_handed bytes.now) opts (each_of (address_kind input.now))) result }
     ensures steps { IfOk result (λ held. TakesSteps (version_of held) (no_steps bytes.now)) }
     ensures refusal { IfErr result MayRefuse }

@@ -7,9 +7,9 @@ ghost use Rattle.bz_base.specs.Lent.{IsLent};
 ghost use Rattle.bz_base.specs.Refusals.{MayRefuse};
 ghost use Rattle.bz_base.specs.declared.error.Error.{Error};
 ghost use Rattle.bz_breakpad.specs.declared.found.FoundRecord.{FoundRecord};
-ghost use Rattle.bz_symbolize.specs.Batch.{entry_by, single_by, version_of};
-ghost use Rattle.bz_symbolize.specs.Counted.{VersionSteps};
-ghost use Rattle.bz_symbolize.specs.Found.{AreFoundIn, IsFoundIn};
+ghost use Rattle.bz_lookups.specs.Batch.{entry_by, single_by, version_of};
+ghost use Rattle.bz_lookups.specs.Counted.{VersionSteps};
+ghost use Rattle.bz_lookups.specs.Found.{AreFoundIn, IsFoundIn};
 
 use crate::{elf, gsym};
 use bz_base::{Addr, FindSymOpts, Result, Steps, Symbolized, in_batch};
@@ -23,7 +23,7 @@ use std::sync::ledger::{Blank, Ledger};
 
 /// A version of a source, held as long as it answers.
 #[derive(Drop)]
-pub(crate) enum Held<'d> {
+pub enum Held<'d> {
     /// A Breakpad file.
     Breakpad(Rc<SymbolFile>),
     /// A GSYM file.
@@ -36,7 +36,7 @@ pub(crate) enum Held<'d> {
 
 /// An ELF file, and what is asked of it.
 #[derive(Drop)]
-pub(crate) struct HeldElf {
+pub struct HeldElf {
     /// The file.
     pub file: Rc<ElfFile>,
     /// The path that names it in the call.
@@ -47,7 +47,7 @@ pub(crate) struct HeldElf {
 
 /// What the addresses that an ELF file is asked for are.
 #[derive(Clone, Copy)]
-pub(crate) enum ElfKind {
+pub enum ElfKind {
     /// Addresses as the symbol table has them.
     Table,
     /// Offsets in the file.

@@ -6,9 +6,9 @@ ghost use Rattle.bz_base.specs.Answer.{Gives, reading};
 ghost use Rattle.bz_base.specs.Lent.{IsLent};
 ghost use Rattle.bz_base.specs.Refusals.{MayRefuse};
 ghost use Rattle.bz_base.specs.declared.error.Error.{Error};
-ghost use Rattle.bz_symbolize.specs.Batch.{answer_at, answers_there, answers_to, batch_by, heeds_order, single_by, version_of};
-ghost use Rattle.bz_symbolize.specs.Counted.{VersionSteps};
-ghost use Rattle.bz_symbolize.specs.Found.{AreFoundIn};
+ghost use Rattle.bz_lookups.specs.Batch.{answer_at, answers_there, answers_to, batch_by, heeds_order, single_by, version_of};
+ghost use Rattle.bz_lookups.specs.Counted.{VersionSteps};
+ghost use Rattle.bz_lookups.specs.Found.{AreFoundIn};
 
 use crate::held::{Held, record_at};
 use bz_base::{Addr, FindSymOpts, Result, Steps, Symbolized, in_batch};
@@ -31,8 +31,8 @@ pub struct Lookups<'d> {
 }
 
 impl<'d> Model for Lookups<'d> {
-    ghost use Rattle.bz_symbolize.specs.Batch.{Batch, batch_by, version_of};
-    ghost use Rattle.bz_symbolize.specs.Found.{AreFoundIn};
+    ghost use Rattle.bz_lookups.specs.Batch.{Batch, batch_by, version_of};
+    ghost use Rattle.bz_lookups.specs.Found.{AreFoundIn};
 
     ghost Value = { Batch };
 
@@ -43,7 +43,7 @@ impl<'d> Model for Lookups<'d> {
 
 impl<'d> Lookups<'d> {
     /// The addresses, searched for in what is held at this call.
-    pub(crate) fn find<L: Ledger>(
+    pub fn find<L: Ledger>(
         alloc: Global,
         held: Held<'d>,
         opts: FindSymOpts,
@@ -64,7 +64,7 @@ impl<'d> Lookups<'d> {
     }
 
     /// The same, not counted.
-    pub(crate) fn find_uncounted(
+    pub fn find_uncounted(
         alloc: Global,
         held: Held<'d>,
         opts: FindSymOpts,
@@ -108,7 +108,7 @@ impl<'d> Lookups<'d> {
     }
 
     /// The answer at the address of an index, as a call on that address alone has it, or its refusal.
-    pub(crate) fn single(&self, alloc: Global, index: usize) -> Result<Symbolized<'_>>
+    pub fn single(&self, alloc: Global, index: usize) -> Result<Symbolized<'_>>
         requires { index < length self.now.addrs }
         ensures answer { Gives reading (single_by self.now.version self.now.opts (slice_index self.now.addrs index)) result }
         ensures lent { IfOk result IsLent }

@@ -3,8 +3,8 @@
 ghost use Rattle.std.specs.Prelude.{◌≡◌, ◌<◌, length, map, All, IfOk, OnOk, IsOkUnless};
 ghost use Rattle.bz_base.specs.Answer.{reading};
 ghost use Rattle.bz_base.specs.declared.error.Error.{Error};
-ghost use Rattle.bz_symbolize.specs.Batch.{answers_to};
-ghost use Rattle.bz_symbolize.specs.Together.{AnswersMore, AreNext, Grows};
+ghost use Rattle.bz_lookups.specs.Batch.{answers_to};
+ghost use Rattle.bz_lookups.specs.Together.{AnswersMore, AreNext, Grows};
 
 use crate::lookups::Lookups;
 use bz_base::{Addr, Reason, Result, Symbolized};
@@ -58,7 +58,7 @@ impl<'d> Lookups<'d> {
     }
 
     /// All answers, with texts of their own.
-    pub(crate) fn owned_answers(&self, alloc: Global) -> Result<Vec<Symbolized<'static>>>
+    pub fn owned_answers(&self, alloc: Global) -> Result<Vec<Symbolized<'static>>>
         ensures answers { IfOk result (λ answers. map reading answers.items ≡ answers_to self.now.addrs self.now) }
         ensures memory { IsOkUnless result Error.OutOfMemory }
     {

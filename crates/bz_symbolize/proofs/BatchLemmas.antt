@@ -1,19 +1,9 @@
 -- What a version answers to a batch, in the words of the source's format.
-use Rattle.std.proofs.Common.{◌≡◌, ◌↔◌, ◌<◌, ◌+◌, ℕ, List, [], ◌∷◌, ◌++◌, length, map, take, option_map, Some, slice_get, slice_index, Result, Ok, Err, IfOk, IsOkUnless, Vec, Global, ap, ap₂, subst, sym, ◌∙◌}
-use Rattle.std.specs.List.{AllByRecursion}
-use Rattle.std.proofs.lemmas.List.{map-append, take_more}
-use Rattle.std.proofs.lemmas.Simd.{map-map}
-use Rattle.std.proofs.lemmas.Option.{slice_get-get_or, slice_get-map}
-use Rattle.bz_base.specs.Answer.{Answer, Gives, reading}
+use Rattle.std.proofs.Common.{◌↔◌, ℕ, List, Ok, Err, ap, sym}
+use Rattle.bz_base.specs.Answer.{Answer}
 use Rattle.bz_base.specs.InputKind.{AddressKind}
 use Rattle.bz_base.specs.declared.error.Error.{Error}
-use Rattle.bz_base.specs.declared.error.Error.TheVariants as errors
 use Rattle.bz_base.specs.declared.types.FindSymOpts.{FindSymOpts}
-use Rattle.bz_base.specs.declared.types.Symbolized.{Symbolized}
-use Rattle.bz_breakpad.specs.Plain.{batch}
-use Rattle.bz_breakpad.specs.Reader.{table_in}
-use Rattle.bz_breakpad.specs.Table.{Table}
-use Rattle.bz_symbolize.specs.Batch.{Batch, BreakpadVersion, Version, answer_at, answers_there, answers_to, batch_by, entry_by, single_by}
 use Rattle.bz_symbolize.specs.FileCall.{batch_of}
 use Rattle.bz_symbolize.specs.Promise.{IsAnswerOf, IsBreakpadAnswer, IsBreakpadBatch, IsElfAnswer, IsElfBatch, IsGsymAnswer, IsGsymBatch}
 use Rattle.bz_symbolize.specs.declared.source.Source.{Source}

@@ -1,5 +1,5 @@
 -- What the format of each source means in the words of its subject.
-use Rattle.std.proofs.Common.{◌≡◌, ℕ, Bool, true, false, List, Option, Some, None, Result, Ok, Err, OnOk, refl, inl, ap}
+use Rattle.std.proofs.Common.{◌≡◌, ℕ, Bool, true, false, List, Option, Some, None, Result, Ok, Err, refl, inl, ap}
 use Rattle.bz_base.specs.declared.error.Error.{Error}
 use Rattle.bz_base.specs.declared.types.FindSymOpts.{FindSymOpts}
 use Rattle.bz_files.specs.World.{World}
@@ -11,16 +11,16 @@ use Rattle.bz_elf.proofs.ProfileLaws as profiles
 use Rattle.bz_gsym.specs.Tables.{IsGsym, is_gsym}
 use Rattle.bz_gsym.specs.Version as gsym
 use Rattle.bz_gsym.proofs.FormatLemmas.{in_format, passed}
+use Rattle.bz_lookups.proofs.HeldLemmas.{comes_given, on_ok}
+use Rattle.bz_lookups.specs.Formats.{HandedSource, breakpad_single, handed_answer}
 use Rattle.bz_symbolize.proofs.PromiseLemmas.{IsFormatOf}
 use Rattle.bz_symbolize.proofs.Tables.{table_found, table_again}
-use Rattle.bz_symbolize.specs.FileCall.{Query}
+use Rattle.bz_symbolize.specs.FileCall.{Query, Leaves}
 use Rattle.bz_base.specs.Answer.{Gives}
 use Rattle.bz_base.specs.declared.error.Error.TheVariants as errors
-use Rattle.bz_cache.specs.Format.{Comes}
-use Rattle.bz_symbolize.specs.FileCall.{Leaves}
 use Rattle.bz_symbolize.specs.Promise.{CallTold, IsBreakpadAnswer}
 use Rattle.bz_process.specs.declared.query.ProcessQuery.{ProcessQuery}
-use Rattle.bz_symbolize.specs.Sources.{FileSource, HandedSource, SourceForm, OneFile, Handed, OneProcess, form_of, OnFileForm, OnFile, OnHandedForm, OnHanded, OnProcessForm, OnProcess, UnlessProcessForm, UnlessProcess, breakpad_single, handed_answer, query_in}
+use Rattle.bz_symbolize.specs.Sources.{FileSource, SourceForm, OneFile, Handed, OneProcess, form_of, OnFileForm, OnFile, OnHandedForm, OnHanded, OnProcessForm, OnProcess, UnlessProcessForm, UnlessProcess, query_in}
 use Rattle.bz_symbolize.specs.State.{State}
 use Rattle.bz_symbolize.specs.declared.source.Source.{Source}
 use Rattle.bz_symbolize.specs.declared.source.Source.TheVariants as sources

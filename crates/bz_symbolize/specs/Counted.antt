@@ -1,10 +1,6 @@
--- How many steps the searches of a batch take.
-use Rattle.std.specs.Prelude.{◌≡◌, ◌⊎◌, ℕ, ◌-◌, ◌≤◌, List, Some, string_bytes}
-use Rattle.bz_cache.specs.Cache.{Cache, kept_at}
-use Rattle.bz_breakpad.specs.Probes.{AreFewSteps}
-use Rattle.bz_breakpad.specs.Reader.{table_in}
-use Rattle.bz_breakpad.specs.Table.{Table}
-use Rattle.bz_symbolize.specs.Batch.{Version, BreakpadVersion}
+-- How many steps the searches of a batch take, by its source.
+use Rattle.std.specs.Prelude.{◌≡◌, ℕ, string_bytes}
+use Rattle.bz_lookups.specs.Counted.{FileSteps, breakpad_steps}
 use Rattle.bz_symbolize.specs.State.{State}
 use Rattle.bz_symbolize.specs.declared.source.Source.{Source}
 use Rattle.bz_symbolize.specs.declared.source.Source.TheVariants as sources

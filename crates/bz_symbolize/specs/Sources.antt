@@ -1,22 +1,14 @@
--- Sources as data: what each format answers, and which cache of a symbolizer keeps the source's file.
-use Rattle.std.specs.Prelude.{ℕ, Bool, true, false, cond, List, [], map, Option, Some, None, Result, Ok, Err, string_bytes}
-use Rattle.bz_base.specs.Answer.{Answer, in_batch}
-use Rattle.bz_base.specs.InputKind.{AddressKind, InProcess, InTable, InFile}
+-- Sources as data: their formats, and which cache of a symbolizer keeps the source's file.
+use Rattle.std.specs.Prelude.{ℕ, List, Option, Some, None, string_bytes}
 use Rattle.bz_base.specs.declared.error.Error.{Error}
-use Rattle.bz_base.specs.declared.error.Error.TheVariants as errors
 use Rattle.bz_base.specs.declared.types.FindSymOpts.{FindSymOpts}
 use Rattle.bz_cache.specs.Cache.{Cache}
-use Rattle.bz_breakpad.specs.Reader.{table_in}
-use Rattle.bz_breakpad.specs.Plain.{plain}
-use Rattle.bz_breakpad.specs.Table.{Table}
 use Rattle.bz_breakpad.specs.Version.{format_test}
 use Rattle.bz_elf.specs.Format as elf_format
-use Rattle.bz_elf.specs.Segments.{segments, translated}
-use Rattle.bz_gsym.specs.Plain as gsym
 use Rattle.bz_gsym.specs.Version as gsym_version
-use Rattle.bz_process.specs.Process.{elf_by_table}
+use Rattle.bz_lookups.specs.Formats.{HandedSource, breakpad_answering, elf_answering, gsym_answering, gsym_handed}
 use Rattle.bz_process.specs.declared.query.ProcessQuery.{ProcessQuery}
-use Rattle.bz_symbolize.specs.FileCall.{Answering, Query, Question, as_answer, by_version, query_asked}
+use Rattle.bz_symbolize.specs.FileCall.{Answering, Query, Question, query_asked}
 use Rattle.bz_symbolize.specs.State.{State}
 use Rattle.bz_symbolize.specs.declared.source.Process.{Process}
 use Rattle.bz_symbolize.specs.declared.source.Source.{Source}

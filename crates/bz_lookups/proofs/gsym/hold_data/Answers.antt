@@ -1,10 +1,10 @@
 use Rattle.std.proofs.Common.{refl}
 use Rattle.std.proofs.lemmas.Result.{err_from_is_err_and}
 use Rattle.bz_base.specs.InputKind.{InTable}
-use Rattle.bz_symbolize.specs.Batch.{held_singles}
-use Rattle.bz_symbolize.specs.FileCall.{each_of}
-use Rattle.bz_symbolize.proofs.GsymLemmas.{gives_refused, handed_given}
-use Rattle.bz_symbolize.proofs.gsym.hold_data.Goals as goal
+use Rattle.bz_calls.specs.FileCall.{each_of}
+use Rattle.bz_lookups.specs.Batch.{held_singles}
+use Rattle.bz_lookups.proofs.GsymLemmas.{gives_refused, handed_given}
+use Rattle.bz_lookups.proofs.gsym.hold_data.Goals as goal
 
 -- the bytes aren't in the format
 pub returns-in_err-context-in-VirtOffset-clause-held : goal.returns-in_err-context-in-VirtOffset-clause-held

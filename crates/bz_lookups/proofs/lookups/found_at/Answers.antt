@@ -1,7 +1,7 @@
 use Rattle.std.proofs.Common.{◌<◌, ◌∙◌, ◌++◌, [], ◌∷◌, ℕ, List, length, map, slice_index, take, ap, sym, rules}
 use Rattle.std.proofs.lemmas.List.{map-append, take_more}
-use Rattle.bz_symbolize.proofs.FoundLemmas.{found_behind}
-use Rattle.bz_symbolize.proofs.lookups.found_at.Goals as goal
+use Rattle.bz_lookups.proofs.FoundLemmas.{found_behind}
+use Rattle.bz_lookups.proofs.lookups.found_at.Goals as goal
 
 -- what is pushed is the address of the next index, and what was found for it
 pub loop-index-preserved : goal.loop-index-preserved

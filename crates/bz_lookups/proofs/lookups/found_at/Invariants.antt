@@ -1,6 +1,6 @@
 use Rattle.std.proofs.Common.{◌≡◌, map, slice_index, take}
-use Rattle.bz_symbolize.specs.Found.{AreFoundIn}
-use Rattle.bz_symbolize.proofs.lookups.found_at.Given as goal
+use Rattle.bz_lookups.specs.Found.{AreFoundIn}
+use Rattle.bz_lookups.proofs.lookups.found_at.Given as goal
 
 -- the addresses so far are those of the first indices, with their records
 abbrev pub invariant-loop-index : goal.invariant-loop-index

@@ -1,7 +1,7 @@
 use Rattle.std.proofs.Common.{◌∙◌, [], ◌∷◌, List, slice_index_or, ap, rules, arith}
 use Rattle.std.proofs.Math.ListN.{get_or-append}
 use Rattle.bz_base.specs.declared.types.Symbolized.{Symbolized}
-use Rattle.bz_symbolize.proofs.together.grow.Goals as goal
+use Rattle.bz_lookups.proofs.together.grow.Goals as goal
 
 -- no place more
 pub loop-place-init : goal.loop-place-init

@@ -1,6 +1,6 @@
 use Rattle.std.proofs.Common.{◌+◌, ◌-◌, ◌≤◌, vec_capacity, vec_len}
-use Rattle.bz_symbolize.specs.Together.{Grows}
-use Rattle.bz_symbolize.proofs.together.grow.Given as goal
+use Rattle.bz_lookups.specs.Together.{Grows}
+use Rattle.bz_lookups.proofs.together.grow.Given as goal
 
 -- so many places so far, and there is room for the others
 abbrev pub invariant-loop-place : goal.invariant-loop-place

@@ -1,5 +1,5 @@
 use Rattle.std.proofs.Common.{◌≡◌, ℕ, map, take}
-use Rattle.bz_symbolize.proofs.together.indices_of.Given as goal
+use Rattle.bz_lookups.proofs.together.indices_of.Given as goal
 
 -- the indices so far are those of the first entries
 abbrev pub invariant-loop-entry : goal.invariant-loop-entry

@@ -1,5 +1,5 @@
-use Rattle.bz_symbolize.proofs.BatchLemmas.{table_batch}
-use Rattle.bz_symbolize.proofs.held.Held.answers_by.Goals as goal
+use Rattle.bz_lookups.proofs.BatchLemmas.{table_batch}
+use Rattle.bz_lookups.proofs.held.Held.answers_by.Goals as goal
 
 -- those of a Breakpad file are the batch of its table
 pub returns-in-Breakpad-clause-answers : goal.returns-in-Breakpad-clause-answers

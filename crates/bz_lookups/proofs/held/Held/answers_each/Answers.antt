@@ -1,9 +1,9 @@
 use Rattle.std.proofs.Common.{ℕ, rules}
 use Rattle.bz_base.specs.Lent.{IsLent}
-use Rattle.bz_symbolize.specs.Batch.{entry_by, version_of}
-use Rattle.bz_symbolize.proofs.BatchLemmas.{all_and_one, one_more}
-use Rattle.bz_symbolize.proofs.FoundLemmas.{found_there}
-use Rattle.bz_symbolize.proofs.held.Held.answers_each.Goals as goal
+use Rattle.bz_lookups.specs.Batch.{entry_by, version_of}
+use Rattle.bz_lookups.proofs.BatchLemmas.{all_and_one, one_more}
+use Rattle.bz_lookups.proofs.FoundLemmas.{found_there}
+use Rattle.bz_lookups.proofs.held.Held.answers_each.Goals as goal
 
 -- the record is the one for the address
 pub answer_by-answer-requires : goal.answer_by-answer-requires

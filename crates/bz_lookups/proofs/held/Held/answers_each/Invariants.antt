@@ -2,8 +2,8 @@ use Rattle.std.proofs.Common.{◌≡◌, map, take}
 use Rattle.std.specs.List.{AllByRecursion}
 use Rattle.bz_base.specs.Answer.{reading}
 use Rattle.bz_base.specs.Lent.{IsLent}
-use Rattle.bz_symbolize.specs.Batch.{entry_by, version_of}
-use Rattle.bz_symbolize.proofs.held.Held.answers_each.Given as goal
+use Rattle.bz_lookups.specs.Batch.{entry_by, version_of}
+use Rattle.bz_lookups.proofs.held.Held.answers_each.Given as goal
 
 -- the answers so far are those at the first addresses
 abbrev pub invariant-loop-index : goal.invariant-loop-index

@@ -1,4 +1,4 @@
-use Rattle.bz_symbolize.proofs.held.Held.find_uncounted.Given as goal
+use Rattle.bz_lookups.proofs.held.Held.find_uncounted.Given as goal
 
 -- the count is kept in the name of the blank that it is made of
 abbrev pub ghosts-find_blank : goal.ghosts-find_blank

@@ -1,8 +1,8 @@
 use Rattle.std.proofs.Common.{◌∙◌, ◌≤◌, length, inl, inr, rules}
 use Rattle.std.proofs.lemmas.Bool.{cases_lt}
-use Rattle.bz_symbolize.proofs.TogetherLemmas.{range_made}
-use Rattle.bz_symbolize.specs.Together.{IsAnswered}
-use Rattle.bz_symbolize.proofs.lookups.Lookups.answer_all.Goals as goal
+use Rattle.bz_lookups.proofs.TogetherLemmas.{range_made}
+use Rattle.bz_lookups.specs.Together.{IsAnswered}
+use Rattle.bz_lookups.proofs.lookups.Lookups.answer_all.Goals as goal
 
 -- some more were put
 pub loop-from-preserved : goal.loop-from-preserved

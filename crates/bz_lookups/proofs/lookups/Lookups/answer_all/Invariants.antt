@@ -1,6 +1,6 @@
 use Rattle.std.proofs.Common.{◌≡◌, ◌-◌, ◌<◌, ℕ, length, slice_index_or}
-use Rattle.bz_symbolize.specs.Together.{IsAnswered}
-use Rattle.bz_symbolize.proofs.lookups.Lookups.answer_all.Given as goal
+use Rattle.bz_lookups.specs.Together.{IsAnswered}
+use Rattle.bz_lookups.proofs.lookups.Lookups.answer_all.Given as goal
 
 -- the answers at the first indices were put
 abbrev pub invariant-loop-from : goal.invariant-loop-from

@@ -1,6 +1,6 @@
 use Rattle.std.proofs.Common.{◌≡◌, length, rules}
-use Rattle.bz_symbolize.proofs.TogetherLemmas.{puts_none, puts_one}
-use Rattle.bz_symbolize.proofs.lookups.Lookups.answer_some.Goals as goal
+use Rattle.bz_lookups.proofs.TogetherLemmas.{puts_none, puts_one}
+use Rattle.bz_lookups.proofs.lookups.Lookups.answer_some.Goals as goal
 
 -- all are lent
 pub loop-answer-init : goal.loop-answer-init

@@ -1,6 +1,6 @@
 use Rattle.std.proofs.Common.{length}
-use Rattle.bz_symbolize.proofs.TogetherLemmas.{Puts}
-use Rattle.bz_symbolize.proofs.lookups.Lookups.answer_some.Given as goal
+use Rattle.bz_lookups.proofs.TogetherLemmas.{Puts}
+use Rattle.bz_lookups.proofs.lookups.Lookups.answer_some.Given as goal
 
 -- the answers at the last indices were put, and those at the others are lent
 abbrev pub invariant-loop-answer : goal.invariant-loop-answer

@@ -1,8 +1,8 @@
 use Rattle.std.proofs.Common.{◌≡◌, map, subst, IfOk}
 use Rattle.bz_base.specs.Answer.{reading}
-use Rattle.bz_symbolize.proofs.BatchLemmas.{there_of_some}
-use Rattle.bz_symbolize.specs.Batch.{Batch, answers_there, version_of}
-use Rattle.bz_symbolize.proofs.lookups.Lookups.answers_of.Goals as goal
+use Rattle.bz_lookups.proofs.BatchLemmas.{there_of_some}
+use Rattle.bz_lookups.specs.Batch.{Batch, answers_there, version_of}
+use Rattle.bz_lookups.proofs.lookups.Lookups.answers_of.Goals as goal
 
 -- the answers are those at the addresses of the indices
 pub returns-clause-answers : goal.returns-clause-answers

@@ -3,9 +3,9 @@ use Rattle.std.specs.List.{Contains}
 use Rattle.std.proofs.lemmas.Bool.{cases_lt}
 use Rattle.std.proofs.lemmas.List.{map-append}
 use Rattle.std.proofs.lemmas.List.Elements.{Contains-append_left, Contains-push}
-use Rattle.bz_symbolize.proofs.BatchLemmas.{all_and_one}
-use Rattle.bz_symbolize.specs.Together.{IsAmong}
-use Rattle.bz_symbolize.proofs.lookups.Lookups.next_entries.Goals as goal
+use Rattle.bz_lookups.proofs.BatchLemmas.{all_and_one}
+use Rattle.bz_lookups.specs.Together.{IsAmong}
+use Rattle.bz_lookups.proofs.lookups.Lookups.next_entries.Goals as goal
 
 abbrev read : ℕ × ℕ → ℕ
 read e = e.1

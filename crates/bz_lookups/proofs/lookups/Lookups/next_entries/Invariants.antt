@@ -1,7 +1,7 @@
 use Rattle.std.proofs.Common.{◌≡◌, ◌+◌, ◌-◌, ◌<◌, ◌≤◌, ℕ, length, map}
 use Rattle.std.specs.List.{AllByRecursion, Contains}
-use Rattle.bz_symbolize.specs.Together.{IsAmong}
-use Rattle.bz_symbolize.proofs.lookups.Lookups.next_entries.Given as goal
+use Rattle.bz_lookups.specs.Together.{IsAmong}
+use Rattle.bz_lookups.proofs.lookups.Lookups.next_entries.Given as goal
 
 -- the entries so far are those up to the index
 abbrev pub invariant-loop-index : goal.invariant-loop-index

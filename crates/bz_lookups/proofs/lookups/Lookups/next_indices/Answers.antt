@@ -1,9 +1,9 @@
 use Rattle.std.proofs.Common.{ℕ, map}
 use Rattle.std.proofs.lemmas.List.Sorted.{IsPermutation-map}
-use Rattle.bz_symbolize.proofs.TogetherLemmas.{next_moved, next_read}
-use Rattle.bz_symbolize.specs.Together.{AreNext}
-use Rattle.bz_symbolize.proofs.lookups.Lookups.next_indices.Goals.{then-heeds_order, else-heeds_order}
-use Rattle.bz_symbolize.proofs.lookups.Lookups.next_indices.Goals as goal
+use Rattle.bz_lookups.proofs.TogetherLemmas.{next_moved, next_read}
+use Rattle.bz_lookups.specs.Together.{AreNext}
+use Rattle.bz_lookups.proofs.lookups.Lookups.next_indices.Goals.{then-heeds_order, else-heeds_order}
+use Rattle.bz_lookups.proofs.lookups.Lookups.next_indices.Goals as goal
 
 abbrev read : ℕ × ℕ → ℕ
 read e = e.1

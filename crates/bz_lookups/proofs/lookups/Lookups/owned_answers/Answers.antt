@@ -1,7 +1,7 @@
 use Rattle.std.proofs.Common.{◌≡◌, ◌+◌, ◌≤◌, length, subst, sym, rules, arith}
-use Rattle.bz_symbolize.proofs.TogetherLemmas.{all_answered, answered_step, next_within}
-use Rattle.bz_symbolize.specs.Together.{AnswersMore, AreNext, Grows}
-use Rattle.bz_symbolize.proofs.lookups.Lookups.owned_answers.Goals as goal
+use Rattle.bz_lookups.proofs.TogetherLemmas.{all_answered, answered_step, next_within}
+use Rattle.bz_lookups.specs.Together.{AnswersMore, AreNext, Grows}
+use Rattle.bz_lookups.proofs.lookups.Lookups.owned_answers.Goals as goal
 
 -- the next ones were put behind those so far
 pub loop-first-preserved : goal.loop-first-preserved

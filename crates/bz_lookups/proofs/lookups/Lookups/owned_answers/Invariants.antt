@@ -1,6 +1,6 @@
 use Rattle.std.proofs.Common.{◌≡◌, ◌-◌, ◌<◌, ◌≤◌, ℕ, length}
-use Rattle.bz_symbolize.specs.Together.{IsAnswered}
-use Rattle.bz_symbolize.proofs.lookups.Lookups.owned_answers.Given as goal
+use Rattle.bz_lookups.specs.Together.{IsAnswered}
+use Rattle.bz_lookups.proofs.lookups.Lookups.owned_answers.Given as goal
 
 -- the answers so far are those of the batch
 abbrev pub invariant-loop-first : goal.invariant-loop-first
