@@ -1,4 +1,4 @@
--- What a version answers to a batch, in the words of the source's format.
+-- What a version answers to a batch.
 use Rattle.std.proofs.Common.{◌≡◌, ◌<◌, ◌+◌, ℕ, List, [], ◌∷◌, ◌++◌, length, map, take, option_map, Some, slice_get, slice_index, Result, Ok, Err, IfOk, IsOkUnless, Vec, Global, ap, ap₂, subst, sym, ◌∙◌}
 use Rattle.std.specs.List.{AllByRecursion}
 use Rattle.std.proofs.lemmas.List.{map-append, take_more}
