@@ -10,6 +10,7 @@ use Rattle.bz_files.specs.World.{World}
 use Rattle.bz_breakpad.specs.Version as breakpad
 use Rattle.bz_elf.specs.Format as elf
 use Rattle.bz_gsym.specs.Version as gsym
+use Rattle.bz_lookups.specs.Formats.{breakpad_answering, elf_answering, gsym_answering}
 use Rattle.bz_process.specs.Asked.{asked_of}
 use Rattle.bz_process.specs.Mapped.{asks_process, asks_process_at}
 use Rattle.bz_process.specs.Process as process
@@ -21,7 +22,7 @@ use Rattle.bz_symbolize.specs.Evicting.{evicting}
 use Rattle.bz_symbolize.specs.FileCall.{Query, batch_of, single_of}
 use Rattle.bz_symbolize.specs.Lookup.{answer_of, opens_of, state_of}
 use Rattle.bz_symbolize.specs.Requests.{ToCache, ToEvict, CacheElf as KeepElf, CacheProcess as KeepProcess, EvictElf as ForgetElf, EvictProcess as ForgetProcess}
-use Rattle.bz_symbolize.specs.Sources.{FileSource, SourceForm, OneFile, OneProcess, breakpad_answering, elf_answering, gsym_answering}
+use Rattle.bz_symbolize.specs.Sources.{FileSource, SourceForm, OneFile, OneProcess}
 use Rattle.bz_symbolize.specs.State.{opts_of}
 use Rattle.bz_requests.specs.Requests.{Request, Batch, CacheElf, CacheProcess, EvictElf, EvictProcess, Single, Target, Breakpad, Elf, Gsym, Process, usual_kind}
 use Rattle.bz_answer_text.specs.AnswerText.{answer_text, answer_texts}

@@ -4,10 +4,10 @@ ghost use Rattle.std.specs.Prelude.{◌≡◌, ◌<◌, length, map, IfOk, IsOkU
 ghost use Rattle.bz_base.specs.Answer.{reading};
 ghost use Rattle.bz_base.specs.InputKind.{address_kind, payload};
 ghost use Rattle.bz_base.specs.declared.error.Error.{Error};
+ghost use Rattle.bz_lookups.specs.Batch.{answers_to};
 ghost use Rattle.bz_process.specs.declared.query.ProcessQuery.{ProcessQuery};
 ghost use Rattle.bz_stacks.specs.Fold.{Folds, addrs_of, seen_by};
 ghost use Rattle.bz_stacks.specs.Text.{folded_text};
-ghost use Rattle.bz_symbolize.specs.Batch.{answers_to};
 ghost use Rattle.bz_symbolize.specs.Sources.{OneProcess, form_of};
 ghost use Rattle.bz_symbolize.specs.State.{WellKept};
 

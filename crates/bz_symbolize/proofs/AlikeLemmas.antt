@@ -9,12 +9,13 @@ use Rattle.bz_base.specs.declared.error.Error.{Error}
 use Rattle.bz_base.specs.declared.error.Error.TheVariants as errors
 use Rattle.bz_base.specs.declared.types.FindSymOpts.{FindSymOpts}
 use Rattle.bz_cache.specs.View.{View, Absent, Hidden, Shown}
+use Rattle.bz_lookups.specs.Formats.{HandedSource}
 use Rattle.bz_symbolize.proofs.Formats.{any_file, on_each}
 use Rattle.bz_symbolize.proofs.PromiseLemmas.{IsFormatOf}
 use Rattle.bz_symbolize.specs.Alike.{batch_in_view, single_in_view, StandsAlone, AreAlike, IsFolded, EntriesStandAlone, OrderMovesAnswers, BatchesFoldRefusals, HandedStandAlone, OrderMovesHanded, HandedFold}
 use Rattle.bz_symbolize.specs.FileCall.{batch_of, by_view, shown_answer, single_of}
 use Rattle.bz_symbolize.specs.Promise.{IsAnswerOf}
-use Rattle.bz_symbolize.specs.Sources.{FileSource, HandedSource, SourceForm, OneFile, Handed, OneProcess, OnFile, OnHanded, OnHandedForm, asked_of, form_of}
+use Rattle.bz_symbolize.specs.Sources.{FileSource, SourceForm, OneFile, Handed, OneProcess, OnFile, OnHanded, OnHandedForm, asked_of, form_of}
 use Rattle.bz_symbolize.specs.declared.source.Source.{Source}
 
 -- an address of some kind

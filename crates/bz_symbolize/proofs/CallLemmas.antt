@@ -1,23 +1,20 @@
 -- From what a call does on its source's file to all that it promises, whatever the source and the query.
-use Rattle.std.proofs.Common.{◌≡◌, Result, Ok, Err, IfOk, IfErr, IsOkUnless, ap}
-use Rattle.bz_base.specs.Answer.{Gives}
-use Rattle.bz_base.specs.Refusals.{MayRefuse}
+use Rattle.std.proofs.Common.{◌≡◌, Result, ap}
 use Rattle.bz_base.specs.declared.error.Error.{Error}
-use Rattle.bz_base.specs.declared.error.Error.TheVariants as errors
 use Rattle.bz_base.specs.declared.types.FindSymOpts.{FindSymOpts}
 use Rattle.bz_files.specs.World.{Told, in_view}
 use Rattle.bz_files.specs.declared.files.Files.{Ghosts}
+use Rattle.bz_lookups.proofs.HeldLemmas.{Follows}
+use Rattle.bz_lookups.specs.Batch.{held_singles}
+use Rattle.bz_lookups.specs.declared.held.Held.{Held}
 use Rattle.bz_symbolize.proofs.Formats.{on_file, on_handed, both, told_by_form, unless_process}
-use Rattle.bz_symbolize.proofs.GsymLemmas.{gives_all}
-use Rattle.bz_symbolize.proofs.HeldLemmas.{Follows, asks_held}
+use Rattle.bz_symbolize.proofs.HeldLemmas.{asks_held}
 use Rattle.bz_symbolize.proofs.LeaveLemmas.{told_from_file, step_from_told, leaves_from_some, unchanged}
 use Rattle.bz_symbolize.proofs.PromiseLemmas.{look_from_told, view_from_told, causes_from_told, complete_from_told, kept_from_some, ready_from_version, refusal_from_some}
-use Rattle.bz_symbolize.specs.Batch.{held_singles}
 use Rattle.bz_symbolize.specs.FileCall.{Query, CallsFile, each_of}
 use Rattle.bz_symbolize.specs.Promise.{AsksSource, CallTold, Symbolizes}
 use Rattle.bz_symbolize.specs.Sources.{FileSource, OnFile, UnlessProcess, asked_of, form_of}
 use Rattle.bz_symbolize.specs.State.{State, opts_of}
-use Rattle.bz_symbolize.specs.declared.held.Held.{Held}
 use Rattle.bz_symbolize.specs.declared.source.Source.{Source}
 
 module _ {A B X : Type 0} (files : Ghosts X) (reading : A → B) (source : Source) (query : Query B) (result : Result A Error) (old now : State) (before after : X) where
@@ -56,17 +53,10 @@ module _ {A B X : Type 0} (files : Ghosts X) (reading : A → B) (source : Sourc
         most = on_file query source did.called (λ file laws all. all.most);
       }
 
--- what is given as expected, or wants memory, follows
-pub given_or_memory : {A B : Type 0} (reading : A → B) (expected : B) (result : Result A Error) → IfOk result (λ given. reading given ≡ expected) →
-    IsOkUnless result errors.OutOfMemory → Gives reading (Ok expected) result × IfErr result MayRefuse
-given_or_memory reading expected (Ok given) is memory = (gives_all reading expected (Ok given) is memory, tt)
-given_or_memory reading expected (Err errors.OutOfMemory) is memory = (tt, tt)
-given_or_memory reading expected (Err _) is memory = cc memory
-
 -- all that a call promises that goes on by what is held of its source
 module _ {A B X : Type 0} (files : Ghosts X) (reading : A → B) (source : Source) (query : Query B) (held : Result Held Error) (result : Result A Error) (old now : State) (before after : X) where
   pub promised_held : ((opts : FindSymOpts) → AsksSource files (held_singles opts) source opts (each_of query.kind) held old now before after) →
       Follows reading query (held_singles (opts_of old.settings)) held result → Symbolizes files reading source query result old now before after
   promised_held did follows =
       let opts = opts_of old.settings in
-      promised files reading source query result old now before after (asks_held reading query (held_singles opts) files before after source opts held result old now follows (did opts))
+      promised files reading source query result old now before after (asks_held files reading query (held_singles opts) before after source opts held result old now follows (did opts))

@@ -1,5 +1,5 @@
 -- What the format of each source means in the words of its subject.
-use Rattle.std.proofs.Common.{◌≡◌, ℕ, Bool, true, false, List, Option, Some, None, Result, Ok, Err, OnOk, refl, inl, ap}
+use Rattle.std.proofs.Common.{◌≡◌, ℕ, Bool, true, false, List, Option, Some, None, Result, Ok, Err, refl, inl, ap}
 use Rattle.bz_base.specs.declared.error.Error.{Error}
 use Rattle.bz_base.specs.declared.types.FindSymOpts.{FindSymOpts}
 use Rattle.bz_files.specs.World.{World}
@@ -11,16 +11,16 @@ use Rattle.bz_elf.proofs.ProfileLaws as profiles
 use Rattle.bz_gsym.specs.Tables.{IsGsym, is_gsym}
 use Rattle.bz_gsym.specs.Version as gsym
 use Rattle.bz_gsym.proofs.FormatLemmas.{in_format, passed}
+use Rattle.bz_lookups.proofs.HeldLemmas.{comes_given, on_ok}
+use Rattle.bz_lookups.specs.Formats.{HandedSource, breakpad_single, handed_answer}
 use Rattle.bz_symbolize.proofs.PromiseLemmas.{IsFormatOf}
 use Rattle.bz_symbolize.proofs.Tables.{table_found, table_again}
-use Rattle.bz_symbolize.specs.FileCall.{Query}
+use Rattle.bz_symbolize.specs.FileCall.{Query, Leaves}
 use Rattle.bz_base.specs.Answer.{Gives}
 use Rattle.bz_base.specs.declared.error.Error.TheVariants as errors
-use Rattle.bz_cache.specs.Format.{Comes}
-use Rattle.bz_symbolize.specs.FileCall.{Leaves}
 use Rattle.bz_symbolize.specs.Promise.{CallTold, IsBreakpadAnswer}
 use Rattle.bz_process.specs.declared.query.ProcessQuery.{ProcessQuery}
-use Rattle.bz_symbolize.specs.Sources.{FileSource, HandedSource, SourceForm, OneFile, Handed, OneProcess, form_of, OnFileForm, OnFile, OnHandedForm, OnHanded, OnProcessForm, OnProcess, UnlessProcessForm, UnlessProcess, breakpad_single, handed_answer, query_in}
+use Rattle.bz_symbolize.specs.Sources.{FileSource, SourceForm, OneFile, Handed, OneProcess, form_of, OnFileForm, OnFile, OnHandedForm, OnHanded, OnProcessForm, OnProcess, UnlessProcessForm, UnlessProcess, query_in}
 use Rattle.bz_symbolize.specs.State.{State}
 use Rattle.bz_symbolize.specs.declared.source.Source.{Source}
 use Rattle.bz_symbolize.specs.declared.source.Source.TheVariants as sources
@@ -106,23 +106,12 @@ on_each query source f = by_laws (form_of source) (by_each (form_of source) (λ 
 pub both : (source : Source) (P Q : FileSource → Type 0) → OnFile source P → OnFile source Q → OnFile source (λ file. P file × Q file)
 both source P Q p q = by_form (form_of source) p q (λ file here there. (here, there))
 
--- what reads as expected comes as expected
-pub comes_given : {A B : Type 0} (reading : A → B) (expected : Result B Error) (result : Result A Error) → Gives reading expected result → Comes reading expected result
-comes_given reading expected (Ok given) is = is
-comes_given reading expected (Err errors.ReadFault) is = tt
-comes_given reading expected (Err errors.OutOfMemory) is = tt
-comes_given reading expected (Err _) is = is
-
 -- a call that leaves all as it is, where nothing else is expected
 leaves_same : {A S : Type 0} (result : Result A Error) (old now : S) → now ≡ old → Leaves result old old now
 leaves_same (Ok given) old now same = same
 leaves_same (Err errors.ReadFault) old now same = same
 leaves_same (Err errors.OutOfMemory) old now same = inl same
 leaves_same (Err _) old now same = same
-
-pub on_ok : {A P : Type 0} (result : Result A Error) → P → OnOk result P
-on_ok (Ok given) holds = holds
-on_ok (Err e) holds = tt
 
 -- what a call on one file, or on handed-in bytes, is as a call by its form of source
 pub told_by_form : {A B : Type 0} (reading : A → B) (opts : FindSymOpts) (form : SourceForm) (query : Query B) (result : Result A Error) (old now : State) (world : World) (before after : ℕ) →

@@ -1,182 +1,48 @@
--- From what is held of a source to what a call makes of it, whatever the query.
-use Rattle.std.proofs.Common.{◌≡◌, ℕ, Bool, true, false, cond, List, [], Option, Some, None, Result, Ok, Err, IfErr, IsErrOf, inl, inr, refl, sym, ap, subst}
-use Rattle.std.proofs.lemmas.Bool.{false≢true}
+-- From what is held of a source to what a call on the source does, whatever the query.
+use Rattle.std.proofs.Common.{◌≡◌, ℕ, Result, IfErr, le_refl, inr, refl}
 use Rattle.bz_base.specs.Answer.{Answer, Gives}
 use Rattle.bz_base.specs.Refusals.{MayRefuse}
 use Rattle.bz_base.specs.declared.error.Error.{Error}
-use Rattle.bz_base.specs.declared.error.Error.TheVariants as errors
 use Rattle.bz_base.specs.declared.types.FindSymOpts.{FindSymOpts}
-use Rattle.bz_files.specs.Looked.{Faulted, Looked}
-use Rattle.bz_files.specs.World.{Entry}
 use Rattle.bz_files.specs.declared.files.Files.{Ghosts}
-use Rattle.bz_cache.specs.Cache.{Cache}
-use Rattle.bz_cache.specs.Format.{Comes, FailsAs}
-use Rattle.bz_cache.specs.Look.{look}
-use Rattle.bz_symbolize.proofs.Formats.{comes_given, on_file, on_handed, on_ok}
-use Rattle.bz_symbolize.proofs.GsymLemmas.{never_faulted}
-use Rattle.bz_symbolize.specs.FileCall.{Answering, ByVersion, CallsFile, Leaves, Query, by_look, by_test, each_of, file_answer, query_asked, query_given}
+use Rattle.bz_lookups.proofs.HeldLemmas.{Follows, calls_held, gives_handed, looked_made, never_faulted}
+use Rattle.bz_lookups.specs.Formats.{HandedSource, handed_answer}
+use Rattle.bz_symbolize.proofs.Formats.{on_file, on_handed}
+use Rattle.bz_symbolize.specs.FileCall.{Query, each_of}
 use Rattle.bz_symbolize.specs.Promise.{AsksSource}
-use Rattle.bz_symbolize.specs.Sources.{HandedSource, handed_answer}
-use Rattle.bz_symbolize.specs.State.{State}
+use Rattle.bz_symbolize.specs.Sources.{Handed, form_of}
+use Rattle.bz_symbolize.specs.State.{State, WellKept}
 use Rattle.bz_symbolize.specs.declared.source.Source.{Source}
 
--- where memory ran out, or a refusal was expected, it isn't a fault
-leaves_given : {A S : Type 0} (result : Result A Error) (old expected now : S) → now ≡ expected → IfErr result MayRefuse → Leaves result old expected now
-leaves_given (Ok given) old expected now is may = is
-leaves_given (Err errors.ReadFault) old expected now is may = absurd may
-leaves_given (Err errors.OutOfMemory) old expected now is may = inr is
-leaves_given (Err _) old expected now is may = is
+-- a call that goes on by what is held does on the source what the look for it did
+module _ {A B H X : Type 0} (files : Ghosts X) (reading : A → B) (query : Query B) (singles : H → ℕ → Result Answer Error) (before after : X) where
+  pub asks_held : (source : Source) (opts : FindSymOpts) (held : Result H Error) (result : Result A Error) (old now : State) → Follows reading query singles held result →
+      AsksSource files singles source opts (each_of query.kind) held old now before after → AsksSource files reading source opts query result old now before after
+  asks_held source opts held result old now follows did = record {
+    called = on_file query source did.called (λ file laws all.
+        calls_held reading query singles files before after file.test file.answering opts file.path (file.cache old) (file.cache now) held result follows all);
+    handed = on_handed source did.handed (λ given is. (gives_handed reading query singles given opts held result follows is.0, is.1, is.2));
+    rest = did.rest;
+    settings = did.settings;
+    kept_well = did.kept_well;
+    caches = did.caches;
+    looked = looked_made reading query singles files before after held result follows did.looked;
+  }
 
--- what a refused call leaves, whatever it would have given
-leaves_refused : (H A S : Type 0) (e : Error) (old expected now : S) → Leaves {A = H} (Err e) old expected now → Leaves {A = A} (Err e) old expected now
-leaves_refused H A S errors.ReadFault old expected now left = left
-leaves_refused H A S errors.OutOfMemory old expected now left = left
-leaves_refused H A S _ old expected now left = left
-
-refused_as : (H A : Type 0) (e other : Error) → IsErrOf {T = H} (Err e) other → IsErrOf {T = A} (Err e) other
-refused_as H A e other is = let same : e ≡ other = cc is in ap Err same
-
-module _ {A B H : Type 0} (reading : A → B) (query : Query B) (singles : H → ℕ → Result Answer Error) where
-  -- a call gives what its query makes of what is held, and has no fault; or it is refused since nothing is held
-  abbrev pub Follows : Result H Error → Result A Error → Type 0
-  Follows (Ok held) result = Gives reading (query.given (singles held)) result × IfErr result MayRefuse
-  Follows (Err e) result = result ≡ Err e
-
-  -- what the query makes of answers at each address, or of a refusal
-  abbrev made : Result (ℕ → Result Answer Error) Error → Result B Error
-  made (Ok answers) = query.given answers
-  made (Err e) = Err e
-
-  fails_made : (e : Error) (x : Result (ℕ → Result Answer Error) Error) → FailsAs x e → FailsAs (made x) e
-  fails_made errors.ReadFault x is = tt
-  fails_made errors.OutOfMemory x is = tt
-  fails_made _ x is = ap made is
-
-  refuses_made : (e : Error) (x : Result (ℕ → Result Answer Error) Error) → Gives singles x (Err e) → Gives reading (made x) (Err e)
-  refuses_made errors.OutOfMemory x is = tt
-  refuses_made _ x is = ap made is
-
-  gives_made : (held : Result H Error) (result : Result A Error) (x : Result (ℕ → Result Answer Error) Error) → Follows held result → Gives singles x held → Gives reading (made x) result
-  gives_made (Ok h) result x follows is = subst (λ y. Gives reading (made y) result) (sym is) follows.0
-  gives_made (Err e) result x follows is = subst (Gives reading (made x)) (sym follows) (refuses_made e x is)
-
-  comes_made : (held : Result H Error) (result : Result A Error) (x : Result (ℕ → Result Answer Error) Error) → Follows held result → Comes singles x held → Comes reading (made x) result
-  comes_made (Ok h) result x follows is = comes_given reading (made x) result (gives_made (Ok h) result x follows is)
-  comes_made (Err e) result x follows is = subst (Comes reading (made x)) (sym follows) (fails_made e x is)
-
-  module _ (test : List ℕ → Option Error) (answering : Answering) (opts : FindSymOpts) (path : List ℕ) where
-    given_made : (bytes : List ℕ) → query_given answering opts path query bytes ≡ made (query_given answering opts path (each_of query.kind) bytes)
-    given_made bytes = by_serves (answering.serves query.kind)
-      where
-        by_serves : (s : Bool) → cond s (query.given (λ addr. answering.single opts path bytes query.kind addr)) (Err errors.Unsupported)
-            ≡ made (cond s (Ok (λ addr. answering.single opts path bytes query.kind addr)) (Err errors.Unsupported))
-        by_serves true = refl
-        by_serves false = refl
-
-    test_made : (bytes : List ℕ) (t : Option Error) → by_test (query_asked test answering opts path query) bytes t ≡ made (by_test (query_asked test answering opts path (each_of query.kind)) bytes t)
-    test_made bytes None = given_made bytes
-    test_made bytes (Some e) = refl
-
-    look_made : (l : Result (List ℕ) Error) → by_look (query_asked test answering opts path query) l ≡ made (by_look (query_asked test answering opts path (each_of query.kind)) l)
-    look_made (Ok bytes) = test_made bytes (test bytes)
-    look_made (Err e) = refl
-
-    file_made : (cache : Cache) (there : Option Entry) → file_answer (query_asked test answering opts path query) cache path there ≡ made (file_answer (query_asked test answering opts path (each_of query.kind)) cache path there)
-    file_made cache there = by_taken (answering.takes query.kind)
-      where
-        by_taken : (t : Bool) → cond t (by_look (query_asked test answering opts path query) (look test cache path there).0) (Err errors.Unsupported)
-            ≡ made (cond t (by_look (query_asked test answering opts path (each_of query.kind)) (look test cache path there).0) (Err errors.Unsupported))
-        by_taken true = look_made (look test cache path there).0
-        by_taken false = refl
-
-  handed_made : (given : HandedSource) (opts : FindSymOpts) → handed_answer given opts query ≡ made (handed_answer given opts (each_of query.kind))
-  handed_made given opts = by_taken (given.answering.takes query.kind)
-    where
-      by_taken : (t : Bool) → cond t (by_test (query_asked given.test given.answering opts [] query) given.bytes (given.test given.bytes)) (Err errors.Unsupported)
-          ≡ made (cond t (by_test (query_asked given.test given.answering opts [] (each_of query.kind)) given.bytes (given.test given.bytes)) (Err errors.Unsupported))
-      by_taken true = test_made given.test given.answering opts [] given.bytes (given.test given.bytes)
-      by_taken false = refl
-
-  module _ {X : Type 0} (files : Ghosts X) (before after : X) where
-    unfailed : (result : Result A Error) → IfErr result MayRefuse → Looked files before after ⊥ → Looked files before after (Faulted result)
-    unfailed result may looked = record {
-      worlds = looked.worlds;
-      pid = looked.pid;
-      faults = record {
-        grows = looked.faults.grows;
-        fault = λ fault. absurd (never_faulted result may fault);
-        steady = elim looked.faults.steady [ inl none ↦ absurd none | inr same ↦ inr same ];
-      };
-    }
-
-    looked_made : (held : Result H Error) (result : Result A Error) → Follows held result → Looked files before after (Faulted held) → Looked files before after (Faulted result)
-    looked_made (Ok h) result follows looked = unfailed result follows.1 looked
-    looked_made (Err e) result follows looked = subst (λ (r : Result A Error). Looked files before after (Faulted r)) (sym follows) looked
-
-    module _ (test : List ℕ → Option Error) (answering : Answering) (opts : FindSymOpts) (path : List ℕ) (old now : Cache) where
-      abbrev Calls : Result H Error → Type 0
-      Calls held = CallsFile files singles (query_asked test answering opts path (each_of query.kind)) path held old now before after
-
-      by_made : (held : Result H Error) (result : Result A Error) → Follows held result →
-          ByVersion singles (query_asked test answering opts path (each_of query.kind)) path held old now → ByVersion reading (query_asked test answering opts path query) path result old now
-      by_made held result follows by = record {
-        bytes = by.bytes;
-        kept = by.kept;
-        looked = by.looked;
-        given = subst (λ y. Gives reading y result) (sym (given_made test answering opts path by.bytes)) (gives_made held result _ follows by.given);
-      }
-
-      told_answer : (held : Result H Error) (result : Result A Error) (there : Option Entry) → Follows held result →
-          Comes singles (file_answer (query_asked test answering opts path (each_of query.kind)) old path there) held → Comes reading (file_answer (query_asked test answering opts path query) old path there) result
-      told_answer held result there follows is = subst (λ y. Comes reading y result) (sym (file_made test answering opts path old there)) (comes_made held result _ follows is)
-
-      calls_held : (held : Result H Error) (result : Result A Error) → Follows held result → Calls held → CallsFile files reading (query_asked test answering opts path query) path result old now before after
-      calls_held (Ok h) result follows all = record {
-        told = λ world seen. let told = all.told world seen in record {
-          answer = told_answer (Ok h) result _ follows told.answer;
-          state = leaves_given result old _ now told.state follows.1;
-          opened = on_ok result told.opened;
-          spared = told.spared;
-        };
-        some = elim all.some [ inl by ↦ inl (by_made (Ok h) result follows by) | inr first ↦ absurd (false≢true first.refused) ];
-        untaken = λ other. let refused = (all.untaken other).0 in cc;
-        stays = all.stays;
-        ready = λ held taken. by_made (Ok h) result follows (all.ready held taken);
-        consistent = all.consistent;
-        reload = all.reload;
-        looked = looked_made (Ok h) result follows all.looked;
-        most = all.most;
-      }
-      calls_held (Err e) result follows all =
-          subst (λ (r : Result A Error). CallsFile files reading (query_asked test answering opts path query) path r old now before after) (sym follows) (record {
-            told = λ world seen. let told = all.told world seen in record {
-              answer = told_answer (Err e) (Err e) _ refl told.answer;
-              state = leaves_refused H A Cache e old _ now told.state;
-              opened = tt;
-              spared = told.spared;
-            };
-            some = elim all.some [
-              | inl by ↦ inl (by_made (Err e) (Err e) refl by)
-              | inr first ↦ inr (record { refused = first.refused; refusal = first.refusal; unchanged = first.unchanged })
-            ];
-            untaken = λ other. let refused = all.untaken other in (refused_as H A e errors.Unsupported refused.0, refused.1, refused.2);
-            stays = all.stays;
-            ready = λ held taken. by_made (Err e) (Err e) refl (all.ready held taken);
-            consistent = all.consistent;
-            reload = all.reload;
-            looked = all.looked;
-            most = all.most;
-          })
-
-    -- a call that goes on by what is held does on the source what the look for it did
-    pub asks_held : (source : Source) (opts : FindSymOpts) (held : Result H Error) (result : Result A Error) (old now : State) → Follows held result →
-        AsksSource files singles source opts (each_of query.kind) held old now before after → AsksSource files reading source opts query result old now before after
-    asks_held source opts held result old now follows did = record {
-      called = on_file query source did.called (λ file laws all. calls_held file.test file.answering opts file.path (file.cache old) (file.cache now) held result follows all);
-      handed = on_handed source did.handed (λ given is. (subst (λ y. Gives reading y result) (sym (handed_made given opts)) (gives_made held result _ follows is.0), is.1, is.2));
-      rest = did.rest;
-      settings = did.settings;
-      kept_well = did.kept_well;
-      caches = did.caches;
-      looked = looked_made held result follows did.looked;
-    }
+-- a call on handed-in bytes that answers as they do leaves all as it is
+module _ {A B X : Type 0} (files : Ghosts X) (reading : A → B) (source : Source) (opts : FindSymOpts) (query : Query B) (result : Result A Error) (old : State) (before : X) where
+  pub asks_handed : (given : HandedSource) → form_of source ≡ Handed given → Gives reading (handed_answer given opts query) result → IfErr result MayRefuse → WellKept old →
+      AsksSource files reading source opts query result old old before before
+  asks_handed given is answer may kept = record {
+    called = rw is tt;
+    handed = rw is (answer, refl, refl);
+    rest = rw is tt;
+    settings = refl;
+    kept_well = kept;
+    caches = kept;
+    looked = record {
+      worlds = refl;
+      pid = refl;
+      faults = record { grows = le_refl _; fault = λ fault. absurd (never_faulted result may fault); steady = inr refl };
+    };
+  }

@@ -11,10 +11,10 @@ use Rattle.bz_cache.proofs.CoherenceLaws.{evicted_coherent, insertion_coherent, 
 use Rattle.bz_breakpad.specs.Version.{format_test}
 use Rattle.bz_elf.specs.Format as elf
 use Rattle.bz_gsym.specs.Version as gsym
+use Rattle.bz_lookups.specs.Formats.{is_in_file, is_in_table}
 use Rattle.bz_symbolize.specs.FileCall.{file_cache}
 use Rattle.bz_proc.specs.PerfMap as perf
 use Rattle.bz_symbolize.specs.History.{Call, Symbolize, Register, LookAtElf, PinElf, ForgetElf, LookAtPerfMap, PinPerfMap, ForgetPerfMap, RegistersTruly, Coheres, MayLeave, MayReach, PerfMapsMayLeave, PerfMapsMayReach, perf_maps_after, state_after}
-use Rattle.bz_symbolize.specs.Sources.{is_in_file, is_in_table}
 use Rattle.bz_symbolize.specs.State.{Settings, State, new_state}
 use Rattle.bz_symbolize.specs.declared.source.Source.TheVariants as sources
 use Rattle.bz_symbolize.specs.declared.source.Gsym.TheVariants as gsyms

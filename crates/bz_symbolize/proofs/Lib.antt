@@ -6,8 +6,6 @@ pub mod CachingLemmas
 pub mod CallLemmas
 pub mod EvictingLemmas
 pub mod Formats
-pub mod FoundLemmas
-pub mod GsymLemmas
 pub mod HeldLemmas
 pub mod HistoryLemmas
 pub mod InViewLemmas
@@ -16,4 +14,3 @@ pub mod NewLemmas
 pub mod PromiseLemmas
 pub mod RegistrationLemmas
 pub mod Tables
-pub mod TogetherLemmas

@@ -17,9 +17,9 @@ use Rattle.bz_breakpad.specs.Version.{format_test, refusal_of}
 use Rattle.bz_elf.specs.Format as elf
 use Rattle.bz_gsym.specs.Tables.{is_gsym}
 use Rattle.bz_gsym.specs.Version as gsym
+use Rattle.bz_lookups.specs.Formats.{breakpad_answering, elf_answering, gsym_answering}
 use Rattle.bz_symbolize.specs.FileCall.{Question, batch_of, query_asked, by_test, by_version, by_look, file_answer}
 use Rattle.bz_symbolize.specs.Lookup.{breakpad_answer, by_table, elf_answer, fresh_answer, gsym_answer}
-use Rattle.bz_symbolize.specs.Sources.{breakpad_answering, elf_answering, gsym_answering}
 
 module _ (question : Question (List Answer)) (reload : Bool) (path : List ℕ) where
   -- bytes that are looked at for the first time answer as their version does

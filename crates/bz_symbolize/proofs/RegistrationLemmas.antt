@@ -17,11 +17,11 @@ use Rattle.bz_cache.proofs.Stamps.{same_stamp, stamp_total, stamps_apart}
 use Rattle.bz_elf.proofs.ProfileLaws as profiles
 use Rattle.bz_elf.specs.Format as elf
 use Rattle.bz_elf.specs.Profile.{IsElf}
+use Rattle.bz_lookups.specs.Formats.{elf_answering}
 use Rattle.bz_symbolize.proofs.NewLemmas.{by_profile}
 use Rattle.bz_symbolize.specs.FileCall.{batch_of, by_look, query_asked, single_of}
 use Rattle.bz_symbolize.specs.History.{Call, Symbolize, Register, LookAtElf, PinElf, ForgetElf, LookAtPerfMap, PinPerfMap, ForgetPerfMap, MayLeave, state_after}
 use Rattle.bz_symbolize.specs.Registration.{AnswersElf, IsAt, MayReachKeeping, StaysRegistered}
-use Rattle.bz_symbolize.specs.Sources.{elf_answering}
 use Rattle.bz_symbolize.specs.State.{State}
 use Rattle.bz_symbolize.specs.declared.source.Source.TheVariants as sources
 use Rattle.bz_symbolize.specs.declared.source.Gsym.TheVariants as gsyms

@@ -6,9 +6,10 @@ use Rattle.bz_base.specs.InputKind.{AddressKind}
 use Rattle.bz_base.specs.declared.error.Error.{Error}
 use Rattle.bz_base.specs.declared.types.FindSymOpts.{FindSymOpts}
 use Rattle.bz_cache.specs.View.{View, Shown}
+use Rattle.bz_lookups.specs.Formats.{HandedSource, handed_answer}
 use Rattle.bz_symbolize.specs.FileCall.{batch_of, shown_answer, single_of}
 use Rattle.bz_symbolize.specs.Promise.{IsAnswerOf}
-use Rattle.bz_symbolize.specs.Sources.{FileSource, HandedSource, asked_of, handed_answer}
+use Rattle.bz_symbolize.specs.Sources.{FileSource, asked_of}
 use Rattle.bz_symbolize.specs.declared.source.Source.{Source}
 
 -- what a batch, and what a single address, is answered by what is in view at the file's path: where kept versions cohere with

@@ -1,10 +1,8 @@
 pub use Rattle.bz_calls.specs.FileCall
 pub mod Alike
-pub mod Batch
 pub mod Caching
 pub mod Counted
 pub mod Evicting
-pub mod Found
 pub mod History
 pub mod Lookup
 pub mod OfProcess
@@ -14,4 +12,3 @@ pub mod Requests
 pub mod SourceRead
 pub mod Sources
 pub mod State
-pub mod Together

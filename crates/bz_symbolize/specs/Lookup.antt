@@ -12,8 +12,9 @@ use Rattle.bz_breakpad.specs.Reader.{table_in}
 use Rattle.bz_breakpad.specs.Plain.{batch}
 use Rattle.bz_elf.specs.Format as elf
 use Rattle.bz_gsym.specs.Tables.{is_gsym}
+use Rattle.bz_lookups.specs.Formats.{elf_batch, gsym_batch, handed_answer, is_in_elf}
 use Rattle.bz_symbolize.specs.FileCall.{Query, file_answer, file_cache, file_opens}
-use Rattle.bz_symbolize.specs.Sources.{SourceForm, OneFile, Handed, OneProcess, asked_of, elf_batch, gsym_batch, handed_answer, is_in_elf}
+use Rattle.bz_symbolize.specs.Sources.{SourceForm, OneFile, Handed, OneProcess, asked_of}
 use Rattle.bz_symbolize.specs.State.{State}
 
 -- what a call answers by a version; a process has none

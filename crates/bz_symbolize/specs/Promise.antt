@@ -18,10 +18,11 @@ use Rattle.bz_breakpad.specs.Plain.{batch, plain}
 use Rattle.bz_breakpad.specs.Table.{Table}
 use Rattle.bz_elf.specs.Profile.{IsElf}
 use Rattle.bz_gsym.specs.Tables.{IsGsym}
+use Rattle.bz_lookups.specs.Formats.{elf_batch, elf_single, gsym_batch, gsym_single, handed_answer, is_in_elf}
 use Rattle.bz_symbolize.specs.FileCall.{CallsFile, Leaves, MayBeRefused, Query, view_answer}
 use Rattle.bz_symbolize.specs.History.{MayLeave, Symbolize}
 use Rattle.bz_symbolize.specs.Lookup.{answer_of, state_of, opens_of}
-use Rattle.bz_symbolize.specs.Sources.{FileSource, SourceForm, OnFile, OnHanded, UnlessProcess, asked_of, elf_batch, elf_single, form_of, gsym_batch, gsym_single, handed_answer, is_in_elf}
+use Rattle.bz_symbolize.specs.Sources.{FileSource, SourceForm, OnFile, OnHanded, UnlessProcess, asked_of, form_of}
 use Rattle.bz_symbolize.specs.State.{State, WellKept, opts_of}
 use Rattle.bz_symbolize.specs.declared.source.Source.{Source}
 use Rattle.bz_symbolize.specs.declared.source.Source.TheVariants as sources

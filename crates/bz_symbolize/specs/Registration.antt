@@ -15,10 +15,10 @@ use Rattle.bz_cache.specs.Insertion.{insertion, MayKeepOut}
 use Rattle.bz_cache.specs.Look.{look}
 use Rattle.bz_cache.specs.View.{fixed}
 use Rattle.bz_elf.specs.Format as elf
+use Rattle.bz_lookups.specs.Formats.{elf_answering, elf_single, is_in_elf}
 use Rattle.bz_symbolize.specs.FileCall.{batch_of, file_answer, query_asked, single_of}
 use Rattle.bz_symbolize.specs.History.{Call, MayLeave, Register, state_after}
 use Rattle.bz_symbolize.specs.Lookup.{elf_answer}
-use Rattle.bz_symbolize.specs.Sources.{elf_answering, elf_single, is_in_elf}
 use Rattle.bz_symbolize.specs.State.{State, WellKept}
 
 -- refused since there is a version already, or memory ran out

@@ -17,13 +17,14 @@ ghost use Rattle.bz_files.specs.World.{World, entry_at};
 ghost use Rattle.bz_elf.specs.Format as elf;
 ghost use Rattle.bz_elf.specs.Profile.{IsElf};
 ghost use Rattle.bz_gsym.specs.Version as gsym;
+ghost use Rattle.bz_lookups.specs.Formats.{breakpad_answering, elf_answering, gsym_answering};
 ghost use Rattle.bz_symbolize.specs.Alike.{BatchesFoldRefusals, EntriesStandAlone, HandedFold, HandedStandAlone, OrderMovesAnswers, OrderMovesHanded};
 ghost use Rattle.bz_symbolize.specs.FileCall.{batch_of, batch_query, file_answer, query_asked};
 ghost use Rattle.bz_symbolize.specs.History.{Call, Coheres, MayReach, PerfMapsMayReach, RegistersTruly};
 ghost use Rattle.bz_symbolize.specs.Lookup.{breakpad_answer, elf_answer, fresh_answer, gsym_answer};
 ghost use Rattle.bz_symbolize.specs.Promise.{IsAnswerOf, IsBreakpadAnswer, IsBreakpadBatch, IsElfAnswer, IsElfBatch, IsGsymAnswer, IsGsymBatch};
 ghost use Rattle.bz_symbolize.specs.Registration.{StaysRegistered};
-ghost use Rattle.bz_symbolize.specs.Sources.{OnFile, OnHanded, breakpad_answering, elf_answering, gsym_answering};
+ghost use Rattle.bz_symbolize.specs.Sources.{OnFile, OnHanded};
 ghost use Rattle.bz_symbolize.specs.State.{Settings, State, new_state};
 ghost use Rattle.bz_symbolize.specs.declared.source.Source.{Source};
 

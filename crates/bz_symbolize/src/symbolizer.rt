@@ -4,8 +4,8 @@ ghost use Rattle.std.specs.Prelude.{◌≡◌, ℕ, List, length, map, IfOk, IsE
 ghost use Rattle.bz_base.specs.Answer.{reading};
 ghost use Rattle.bz_base.specs.InputKind.{address_kind, payload};
 ghost use Rattle.bz_base.specs.declared.error.Error.{Error};
+ghost use Rattle.bz_lookups.specs.Batch.{answers_to};
 ghost use Rattle.bz_process.specs.Processes.{new_processes};
-ghost use Rattle.bz_symbolize.specs.Batch.{answers_to};
 ghost use Rattle.bz_symbolize.specs.Counted.{SourceSteps};
 ghost use Rattle.bz_symbolize.specs.FileCall.{batch_of, batch_query, single_query};
 ghost use Rattle.bz_symbolize.specs.OfProcess.{AddressOfProcess, BatchOfProcess};
@@ -16,12 +16,12 @@ ghost use Rattle.bz_symbolize.specs.State.{default_settings, new_state, new_whol
 
 use crate::builder::Builder;
 use crate::kept_files::KeptFiles;
-use crate::lookups::Lookups;
 use crate::settings::Settings;
 use crate::source::Source;
 use bz_base::{Input, Result, Steps, Symbolized};
 use bz_elf::ElfResolver;
 use bz_files::Files;
+use bz_lookups::Lookups;
 use bz_process::{NoDispatch, ProcessDispatch, Processes};
 use std::alloc::Global;
 use std::marker::Model;

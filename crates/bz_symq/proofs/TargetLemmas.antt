@@ -22,12 +22,14 @@ use Rattle.bz_elf.proofs.FormatLemmas.{fails_first, refused_by_first}
 use Rattle.bz_elf.proofs.ProfileLaws.{profile, taken}
 use Rattle.bz_gsym.specs.Tables.{is_gsym}
 use Rattle.bz_gsym.proofs.FormatLemmas.{passed, passes}
+use Rattle.bz_lookups.specs.Counted.{breakpad_steps}
+use Rattle.bz_lookups.specs.Formats.{elf_batch, gsym_batch, is_in_elf, is_in_file, is_in_table}
 use Rattle.bz_requests.specs.declared.requests.Config.{Config}
-use Rattle.bz_symbolize.specs.Counted.{SourceSteps, breakpad_steps}
+use Rattle.bz_symbolize.specs.Counted.{SourceSteps}
 use Rattle.bz_symbolize.specs.FileCall.{batch_of}
 use Rattle.bz_symbolize.specs.Lookup.{answer_of, opens_of, by_table, breakpad_answer, elf_answer, fresh_answer, gsym_answer}
 use Rattle.bz_symbolize.specs.Promise.{AnswersKept}
-use Rattle.bz_symbolize.specs.Sources.{FileSource, OnFile, UnlessProcess, elf_batch, form_of, gsym_batch, is_in_elf, is_in_file, is_in_table}
+use Rattle.bz_symbolize.specs.Sources.{FileSource, OnFile, UnlessProcess, form_of}
 use Rattle.bz_symbolize.specs.State.{State, WellKept, new_state}
 use Rattle.bz_symbolize.specs.declared.source.Breakpad as breakpads
 use Rattle.bz_symbolize.specs.declared.source.Elf as elves

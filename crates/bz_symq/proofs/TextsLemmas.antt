@@ -8,9 +8,9 @@ use Rattle.std.proofs.lemmas.Grind.{get_or-set_at}
 use Rattle.std.proofs.lemmas.List.{drop-append-le, get_or-set_other, length-map, take-append-le}
 use Rattle.std.proofs.lemmas.Option.{slice_get-get_or, slice_get-map}
 use Rattle.bz_base.specs.Answer.{Answer}
-use Rattle.bz_symbolize.proofs.BatchLemmas.{answer_there}
-use Rattle.bz_symbolize.specs.Batch.{Batch, answer_at, answers_there}
-use Rattle.bz_symbolize.specs.Together.{IsAmong}
+use Rattle.bz_lookups.proofs.BatchLemmas.{answer_there}
+use Rattle.bz_lookups.specs.Batch.{Batch, answer_at, answers_there}
+use Rattle.bz_lookups.specs.Together.{IsAmong}
 use Rattle.bz_answer_text.specs.AnswerText.{answer_text}
 use Rattle.bz_symq.specs.Texts.{IsTextIn, IsTextOf}
 use Rattle.bz_symq.specs.declared.texts.TextPart.{TextPart}

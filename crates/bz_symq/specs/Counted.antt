@@ -5,7 +5,7 @@ use Rattle.bz_base.specs.InputKind.{AddressKind}
 use Rattle.bz_files.specs.World.{Told}
 use Rattle.bz_lines.specs.Addresses.{addresses_in}
 use Rattle.bz_requests.specs.declared.requests.Config.{Config}
-use Rattle.bz_symbolize.specs.Counted.{breakpad_steps, no_steps}
+use Rattle.bz_lookups.specs.Counted.{breakpad_steps, no_steps}
 use Rattle.bz_symq.specs.Command.{Command, Batch, Make, FileTarget, Breakpad, Gsym, Elf, Target, OneFile, OneProcess}
 use Rattle.bz_symq.specs.Targets.{IsBatch, IsVersion}
 

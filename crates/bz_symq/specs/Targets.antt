@@ -12,11 +12,11 @@ use Rattle.bz_breakpad.specs.Grammar.{IsFile}
 use Rattle.bz_elf.specs.Format.{IsFirstFailing, checks}
 use Rattle.bz_elf.specs.Profile.{IsElf}
 use Rattle.bz_gsym.specs.Tables.{IsGsym}
+use Rattle.bz_lookups.specs.Formats.{is_in_elf, is_in_file, is_in_table}
 use Rattle.bz_process.specs.Processes.{is_in_process}
 use Rattle.bz_requests.specs.declared.requests.Config.{Config}
 use Rattle.bz_symbolize.specs.Lookup.{breakpad_answer, elf_answer, fresh_answer, gsym_answer}
 use Rattle.bz_symbolize.specs.Promise.{IsBreakpadBatch, IsElfBatch, IsGsymBatch}
-use Rattle.bz_symbolize.specs.Sources.{is_in_elf, is_in_file, is_in_table}
 use Rattle.bz_symbolize.specs.declared.source.Gsym.TheVariants as gsyms
 use Rattle.bz_symbolize.specs.declared.source.Source.{Source}
 use Rattle.bz_symbolize.specs.declared.source.Source.TheVariants as sources

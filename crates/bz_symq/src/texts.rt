@@ -4,8 +4,8 @@
 ghost use Rattle.std.specs.Prelude.{◌≡◌, ◌<◌, ◌++◌, length, slice_get, slice_index, string_bytes, All, Some, OnOk, IfSome, IsOkUnless};
 ghost use Rattle.bz_base.specs.Answer.{Answer, reading};
 ghost use Rattle.bz_base.specs.declared.error.Error.{Error};
-ghost use Rattle.bz_symbolize.specs.Batch.{Batch};
-ghost use Rattle.bz_symbolize.specs.Together.{IsAmong};
+ghost use Rattle.bz_lookups.specs.Batch.{Batch};
+ghost use Rattle.bz_lookups.specs.Together.{IsAmong};
 ghost use Rattle.bz_answer_text.specs.AnswerText.{answer_text};
 ghost use Rattle.bz_symq.specs.Texts.{AreTexts, IsTextOf, MakesMore};
 

@@ -1,6 +1,6 @@
 use Rattle.std.proofs.Common.{◌∙◌, Ok, Err, refl, sym}
 use Rattle.bz_base.specs.InputKind.{address_kind}
-use Rattle.bz_symbolize.specs.Batch.{answers_to}
+use Rattle.bz_lookups.specs.Batch.{answers_to}
 use Rattle.bz_symbolize.specs.Sources.{form_of}
 use Rattle.bz_stacks.specs.Fold.{addrs_of}
 use Rattle.bz_stacks.proofs.FoldsLemmas.{folds_file}

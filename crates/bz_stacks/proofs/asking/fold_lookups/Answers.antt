@@ -1,7 +1,7 @@
 use Rattle.std.proofs.Common.{◌≡◌, ◌+◌, ℕ, List, map, subst, ap, ◌∙◌}
 use Rattle.std.specs.Prelude.{IfOk}
 use Rattle.bz_base.specs.Answer.{reading}
-use Rattle.bz_symbolize.specs.Batch.{answer_at}
+use Rattle.bz_lookups.specs.Batch.{answer_at}
 use Rattle.bz_stacks.specs.Folding.{Folding}
 use Rattle.bz_stacks.proofs.FoldLemmas.{each_end, each_more}
 use Rattle.bz_stacks.proofs.asking.fold_lookups.Goals as goal

@@ -1,5 +1,5 @@
 use Rattle.std.proofs.Common.{◌≡◌, drop}
-use Rattle.bz_symbolize.specs.Batch.{answer_at}
+use Rattle.bz_lookups.specs.Batch.{answer_at}
 use Rattle.bz_stacks.specs.Folding.{added_all, nothing_folded}
 use Rattle.bz_stacks.proofs.FoldLemmas.{seen_each}
 use Rattle.bz_stacks.proofs.asking.fold_lookups.Given as goal

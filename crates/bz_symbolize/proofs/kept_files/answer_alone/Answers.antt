@@ -1,7 +1,7 @@
 use Rattle.std.proofs.Common.{Err, arith}
 use Rattle.std.proofs.lemmas.Result.{err_from_is_err_and}
-use Rattle.bz_symbolize.proofs.BatchLemmas.{alone_of_batch, gives_owned}
-use Rattle.bz_symbolize.specs.Batch.{version_of}
+use Rattle.bz_lookups.proofs.BatchLemmas.{alone_of_batch, gives_owned}
+use Rattle.bz_lookups.specs.Batch.{version_of}
 use Rattle.bz_symbolize.proofs.kept_files.answer_alone.Goals as goal
 
 -- there is one address

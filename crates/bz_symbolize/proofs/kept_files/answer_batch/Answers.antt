@@ -1,5 +1,5 @@
-use Rattle.bz_symbolize.proofs.BatchLemmas.{all_of_batch}
-use Rattle.bz_symbolize.specs.Batch.{version_of}
+use Rattle.bz_lookups.proofs.BatchLemmas.{all_of_batch}
+use Rattle.bz_lookups.specs.Batch.{version_of}
 use Rattle.bz_symbolize.proofs.kept_files.answer_batch.Goals as goal
 
 -- the answers are those of what is held, at the addresses that were copied

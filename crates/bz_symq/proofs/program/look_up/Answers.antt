@@ -1,8 +1,8 @@
 use Rattle.std.proofs.Common.{◌≡◌, List, ap}
 use Rattle.bz_base.specs.Answer.{Answer}
 use Rattle.bz_base.specs.InputKind.{address_kind}
+use Rattle.bz_lookups.specs.declared.lookups.Lookups.{Lookups}
 use Rattle.bz_symbolize.specs.State.{new_state}
-use Rattle.bz_symbolize.specs.declared.lookups.Lookups.{Lookups}
 use Rattle.bz_symq.specs.Command.{file_target_of}
 use Rattle.bz_symq.specs.Kept.{Kept, settings_of}
 use Rattle.bz_symq.proofs.TargetLemmas.{answer_new, few_from_kept, of_its_file, of_its_source, of_untaken, opened_by_target, some_from_kept, takes_few}

@@ -1,6 +1,6 @@
 use Rattle.std.proofs.Common.{List}
 use Rattle.bz_base.specs.Answer.{Answer}
-use Rattle.bz_symbolize.specs.declared.lookups.Lookups.{Lookups}
+use Rattle.bz_lookups.specs.declared.lookups.Lookups.{Lookups}
 use Rattle.bz_symq.proofs.ReplyLemmas.{replies_refused}
 use Rattle.bz_symq.proofs.program.reply_of_file.Goals as goal
 

@@ -1,5 +1,5 @@
 use Rattle.bz_base.specs.Answer.{reading}
-use Rattle.bz_symbolize.proofs.BatchLemmas.{answer_there}
+use Rattle.bz_lookups.proofs.BatchLemmas.{answer_there}
 use Rattle.bz_symq.proofs.TextsLemmas.{entry_put}
 use Rattle.bz_symq.proofs.texts.push_entry.Goals as goal
 

@@ -3,9 +3,9 @@ use Rattle.bz_base.specs.Answer.{Answer}
 use Rattle.bz_files.specs.MemWorlds.{MemWorlds}
 use Rattle.bz_files.specs.World.{in_view}
 use Rattle.bz_breakpad.specs.Plain.{batch}
+use Rattle.bz_lookups.specs.declared.lookups.Lookups.{Lookups}
 use Rattle.bz_symq.specs.Kept.{Kept, settings_of}
 use Rattle.bz_symbolize.specs.State.{opts_of}
-use Rattle.bz_symbolize.specs.declared.lookups.Lookups.{Lookups}
 use Rattle.bz_run.proofs.GeneratedAskingLemmas.{answered, comes_by_file, never_faults, unrefused}
 use Rattle.bz_run.proofs.generating.asking.answers_of.Goals as goal
 

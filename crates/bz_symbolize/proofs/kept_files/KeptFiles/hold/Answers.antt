@@ -1,14 +1,15 @@
 use Rattle.std.proofs.Common.{◌≡◌, ap, refl, rules}
 use Rattle.bz_base.specs.InputKind.{address_kind}
 use Rattle.bz_base.specs.declared.types.FindSymOpts.TheVariants.{Basic}
-use Rattle.bz_symbolize.specs.Batch.{held_singles}
+use Rattle.bz_lookups.specs.Batch.{held_singles}
+use Rattle.bz_lookups.specs.Formats.{gsym_handed}
 use Rattle.bz_symbolize.specs.FileCall.{each_of}
-use Rattle.bz_symbolize.specs.Sources.{form_of, gsym_handed, process_query}
+use Rattle.bz_symbolize.specs.Sources.{form_of, process_query}
 use Rattle.bz_symbolize.specs.declared.source.Gsym.TheVariants as gsyms
 use Rattle.bz_symbolize.specs.declared.source.Source.TheVariants as sources
 use Rattle.bz_symbolize.proofs.AskingLemmas.{asks_none}
 use Rattle.bz_symbolize.proofs.Formats.{any_process}
-use Rattle.bz_symbolize.proofs.GsymLemmas.{asks_handed}
+use Rattle.bz_symbolize.proofs.HeldLemmas.{asks_handed}
 use Rattle.bz_symbolize.proofs.kept_files.KeptFiles.hold.Goals as goal
 
 -- bytes that are handed in are held, and nothing changes

@@ -2,12 +2,13 @@ use Rattle.std.proofs.Common.{Ok, Err, ap, ◌∙◌, List}
 use Rattle.std.proofs.lemmas.Result.{err_from_is_err_and}
 use Rattle.bz_base.specs.Answer.{Answer}
 use Rattle.bz_base.specs.InputKind.{address_kind, payload}
-use Rattle.bz_symbolize.proofs.BatchLemmas.{any_of_batch, own_of_batch}
-use Rattle.bz_symbolize.proofs.CallLemmas.{given_or_memory, promised_held}
-use Rattle.bz_symbolize.specs.Batch.{answers_to, version_of}
+use Rattle.bz_lookups.proofs.BatchLemmas.{any_of_batch, own_of_batch}
+use Rattle.bz_lookups.proofs.HeldLemmas.{given_or_memory}
+use Rattle.bz_lookups.specs.Batch.{answers_to, version_of}
+use Rattle.bz_lookups.specs.declared.lookups.Lookups.{Lookups}
+use Rattle.bz_symbolize.proofs.CallLemmas.{promised_held}
 use Rattle.bz_symbolize.specs.State.{State, opts_of}
 use Rattle.bz_symbolize.specs.FileCall.{batch_of}
-use Rattle.bz_symbolize.specs.declared.lookups.Lookups.{Lookups}
 use Rattle.bz_symbolize.proofs.kept_files.KeptFiles.look_up.Goals as goal
 
 abbrev read : Lookups → List Answer

@@ -2,7 +2,8 @@ use Rattle.std.proofs.Common.{Ok, Err, ap, ◌∙◌, map, Vec, Global, List}
 use Rattle.std.proofs.lemmas.Result.{err_from_is_err_and}
 use Rattle.bz_base.specs.Answer.{Answer, reading}
 use Rattle.bz_base.specs.declared.types.Symbolized.{Symbolized}
-use Rattle.bz_symbolize.proofs.CallLemmas.{given_or_memory, promised_held}
+use Rattle.bz_lookups.proofs.HeldLemmas.{given_or_memory}
+use Rattle.bz_symbolize.proofs.CallLemmas.{promised_held}
 use Rattle.bz_symbolize.specs.State.{State, opts_of}
 use Rattle.bz_symbolize.specs.FileCall.{batch_query}
 use Rattle.bz_symbolize.proofs.kept_files.KeptFiles.symbolize.Goals as goal

@@ -1,0 +1,5 @@
+pub mod Batch
+pub mod Counted
+pub mod Formats
+pub mod Found
+pub mod Together

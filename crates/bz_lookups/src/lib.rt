@@ -1,0 +1,16 @@
+//! A version of a source that is held, and its answers for a batch of addresses.
+#![tactic(auto)]
+
+mod answering;
+mod breakpad;
+mod elf;
+mod gsym;
+mod held;
+mod lookups;
+mod together;
+
+pub use answering::{Answers, hold_file};
+pub use gsym::hold_data;
+pub use held::{ElfKind, Held, HeldElf};
+pub use lookups::Lookups;
+pub use together::TOGETHER;
