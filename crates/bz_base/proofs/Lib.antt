@@ -4,6 +4,7 @@ pub use Rattle.bz_bytes.proofs.LebSpellingLemmas
 pub use Rattle.bz_bytes.proofs.PieceOfBytesLemmas
 pub use Rattle.bz_search.proofs.ChainLemmas
 pub use Rattle.bz_search.proofs.FilterLemmas
+pub use Rattle.bz_search.proofs.InTableLemmas
 pub use Rattle.bz_search.proofs.NearestLemmas
 pub use Rattle.bz_search.proofs.TableLemmas
 pub use Rattle.bz_search.proofs.ViewLemmas

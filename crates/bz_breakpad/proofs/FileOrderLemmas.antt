@@ -10,7 +10,7 @@ use Rattle.bz_search.proofs.SortingLaws.{table_sorted}
 use Rattle.bz_breakpad_table.specs.Kept.{IsTextAt, PublicsFit, kept_names, kept_public, text_at}
 use Rattle.bz_breakpad_table.specs.declared.types.KeptPublic.{KeptPublic}
 use Rattle.bz_breakpad_table.specs.declared.types.Part.{Part}
-use Rattle.bz_breakpad_table.proofs.SortedLemmas.{all_in_table}
+use Rattle.bz_base.proofs.InTableLemmas.{all_in_table}
 use Rattle.bz_breakpad_lines.specs.Table.{PublicSymbol}
 
 -- PUBLIC records that are kept in order are those of the file in order

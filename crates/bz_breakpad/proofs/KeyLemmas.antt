@@ -14,7 +14,7 @@ use Rattle.bz_breakpad_table.specs.declared.types.FunctionKey.{FunctionKey}
 use Rattle.bz_breakpad_table.specs.declared.types.FunctionTable.{FunctionTable}
 use Rattle.bz_breakpad_table.specs.declared.types.KeptFunction.{KeptFunction}
 use Rattle.bz_breakpad_table.proofs.KeptLemmas.{all_get}
-use Rattle.bz_breakpad_table.proofs.SortedLemmas.{all_in_table, nearest_one}
+use Rattle.bz_base.proofs.InTableLemmas.{all_in_table, nearest_one}
 
 -- what stands at an index where no function does
 abbrev absent : Function

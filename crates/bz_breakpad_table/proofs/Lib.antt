@@ -16,5 +16,4 @@ pub mod QuickStep
 pub mod RunGrowLemmas
 pub mod RunLemmas
 pub mod SortedKeyLemmas
-pub mod SortedLemmas
 pub mod StepLemmas

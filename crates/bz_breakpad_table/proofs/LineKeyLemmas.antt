@@ -20,7 +20,7 @@ use Rattle.bz_breakpad_table.specs.declared.types.LineRecords.TheVariants as rec
 use Rattle.bz_breakpad_table.specs.declared.types.Part.{Part}
 use Rattle.bz_breakpad_table.proofs.KeptLemmas.{all_weaker, last_part}
 use Rattle.bz_breakpad_lines.proofs.AtPlaceLemmas.{read_there}
-use Rattle.bz_breakpad_table.proofs.SortedLemmas.{all_in_table}
+use Rattle.bz_base.proofs.InTableLemmas.{all_in_table}
 
 module _ {X : Type 0} (start size : X → ℕ) where
   -- records of which each starts after the one before it are a table

@@ -14,7 +14,7 @@ use Rattle.bz_breakpad_table.specs.Publics.{AreAddresses, ArePublicKeys, IsFirst
 use Rattle.bz_breakpad_table.specs.declared.publics.PublicKey.{PublicKey}
 use Rattle.bz_breakpad_table.specs.declared.publics.PublicTable.{PublicTable}
 use Rattle.bz_breakpad_table.specs.declared.types.KeptPublic.{KeptPublic}
-use Rattle.bz_breakpad_table.proofs.SortedLemmas.{all_in_table}
+use Rattle.bz_base.proofs.InTableLemmas.{all_in_table}
 
 -- the start is that of the key before
 abbrev pub is_last : Option ℕ → ℕ → Bool

@@ -4,11 +4,11 @@ use Rattle.std.specs.List.{list_all, slice_get}
 use Rattle.std.proofs.lemmas.Bool.{and_parts}
 use Rattle.std.proofs.lemmas.List.{length-map}
 use Rattle.std.proofs.lemmas.Option.{none-some, same_Some}
-use Rattle.bz_base.specs.Nearest.{IsTable, nearest_covering}
+use Rattle.bz_base.specs.Nearest.{nearest_covering}
 use Rattle.bz_base.specs.Starts.{NeverDescends}
 use Rattle.bz_base.specs.declared.types.Reason.TheVariants as reasons
 use Rattle.bz_base.proofs.NearestLemmas.{nearest_covering_is}
-use Rattle.bz_base.proofs.TableLemmas.{record_at, start_at}
+use Rattle.bz_base.proofs.InTableLemmas.{starts_ascend}
 use Rattle.bz_base.proofs.ViewLemmas.{covering_seen}
 use Rattle.bz_elf.specs.Kept.{IsKept}
 use Rattle.bz_elf.specs.Plain.{answer_in, found, plain, resolved}
@@ -17,14 +17,6 @@ use Rattle.bz_elf.specs.Symbols.{Symbol, entries, is_named, symbol_of, symbols}
 use Rattle.bz_elf.specs.declared.types.KeptFile.{KeptFile}
 use Rattle.bz_elf.specs.declared.types.SymbolEntry.{SymbolEntry}
 use Rattle.bz_elf.proofs.FormatLemmas.{passes_names}
-
--- the starts of a table never descend
-module _ {X : Type 0} (start size : X → ℕ) where
-  pub starts_ascend : (records table : List X) → IsTable start size records table → NeverDescends (map start table)
-  starts_ascend records table is i j order within =
-      let last = record_at start size table j within in
-      let first = record_at start size table i (omega arith) in
-      omega (arith, is.starts_ascend i j first.0 last.0 order first.1 last.1, start_at start size table i first.0 first.1, start_at start size table j last.0 last.1)
 
 -- what all of a list pass, each of it passes
 pub passes_at : {X : Type 0} (test : X → Bool) (list : List X) (i : ℕ) (x : X) → list_all test list ≡ true → slice_get list i ≡ Some x → test x ≡ true

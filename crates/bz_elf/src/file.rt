@@ -14,10 +14,10 @@ ghost use Rattle.bz_elf.specs.Segments.{holds, segments, translated};
 ghost use Rattle.bz_elf.specs.Version.{format_refusals};
 
 use crate::parser::{self, name_of, part_of};
-use crate::search::covering;
 use crate::types::{KeptFile, Segment};
 use bz_base::{
     Addr, FindSymOpts, Reason, ResolvedSym, Result, SrcLang, Symbolize, TranslateFileOffset,
+    covering_in,
 };
 use bz_cache::Version;
 use std::alloc::Global;
@@ -68,7 +68,7 @@ impl ElfFile {
         if self.kept.symbols.is_empty() {
             return Err(Reason::MissingSyms);
         }
-        let Some(symbol) = covering(self.kept.symbols.as_slice(), addr) else {
+        let Some(symbol) = covering_in(self.kept.symbols.as_slice(), addr) else {
             return Err(Reason::UnknownAddr);
         };
         let strings = part_of(self.bytes.as_slice(), &self.kept.strings);

@@ -5,7 +5,6 @@ mod file;
 pub mod laws;
 mod parser;
 mod resolver;
-mod search;
 mod types;
 
 pub use file::ElfFile;

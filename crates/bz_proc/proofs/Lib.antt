@@ -10,7 +10,6 @@ pub mod PerfLineLemmas
 pub mod PerfMapLemmas
 pub mod PerfNumberLemmas
 pub mod PerfPartLemmas
-pub mod PerfTableLemmas
 pub mod RunLemmas
 pub mod StatusLaws
 pub mod StatusLemmas

@@ -11,7 +11,7 @@ use Rattle.bz_proc.specs.PerfKept.{IsKept, IsNamed, function_at}
 use Rattle.bz_proc.specs.PerfLine.{PerfFunction}
 use Rattle.bz_proc.specs.PerfMap.{found, functions, plain, resolved}
 use Rattle.bz_proc.specs.declared.perf_map.entry.PerfEntry.{PerfEntry}
-use Rattle.bz_proc.proofs.PerfTableLemmas.{at_place, starts_ascend}
+use Rattle.bz_base.proofs.InTableLemmas.{at_place, starts_ascend}
 
 module _ (bytes : List ℕ) (entries : List PerfEntry) (is : IsKept bytes entries) where
   -- the entries are a table of themselves

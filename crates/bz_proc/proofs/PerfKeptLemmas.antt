@@ -17,7 +17,7 @@ use Rattle.bz_proc.specs.PerfLines.{before_functions, ends_line, line_front, lin
 use Rattle.bz_proc.specs.PerfMap.{functions, functions_told, unless_told}
 use Rattle.bz_proc.specs.declared.perf_map.entry.PerfEntry.{PerfEntry}
 use Rattle.bz_proc.proofs.PerfLineLemmas.{first_told, line_found, name_last, with_line}
-use Rattle.bz_proc.proofs.PerfTableLemmas.{all_append, all_in_table}
+use Rattle.bz_base.proofs.InTableLemmas.{all_append, all_in_table}
 use Rattle.std.specs.Prelude.{not}
 
 -- the functions of the lines before a place are kept, and with those of the lines from there on they are all

@@ -19,16 +19,15 @@ ghost use Rattle.bz_proc.specs.SystemText.{has_file, IsReadRefusal};
 mod entry;
 mod id;
 mod line;
-mod search;
 
 use bz_base::{
-    Addr, FindSymOpts, Pid, Reason, ResolvedSym, Result, SrcLang, Symbolize, sort_table,
+    Addr, FindSymOpts, Pid, Reason, ResolvedSym, Result, SrcLang, Symbolize, covering_in,
+    sort_table,
 };
 use bz_cache::Version;
 use bz_files::Files;
 use entry::{PerfEntry, entries_in, name_at};
 use id::ns_tgid_of;
-use search::covering;
 use std::alloc::Global;
 use std::marker::Model;
 
@@ -98,7 +97,7 @@ impl PerfMap {
         ensures starts { StartsBefore addr (found_of result) }
         ensures lent { IfOk result IsLentResolved }
     {
-        let Some(entry) = covering(self.entries.as_slice(), addr) else {
+        let Some(entry) = covering_in(self.entries.as_slice(), addr) else {
             return Err(Reason::UnknownAddr);
         };
         Ok(ResolvedSym {

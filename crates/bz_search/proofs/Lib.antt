@@ -2,6 +2,7 @@ pub mod AbreastLemmas
 pub mod ChainLemmas
 pub mod FilterLemmas
 pub mod InnerLemmas
+pub mod InTableLemmas
 pub mod InnerTableLemmas
 pub mod NearestLemmas
 pub mod SortLemmas

@@ -5,6 +5,7 @@ mod abreast;
 mod chain;
 pub mod laws;
 mod place;
+mod records;
 mod scan;
 mod search;
 mod starts;
@@ -14,6 +15,7 @@ mod table;
 
 pub use chain::{Nested, around_in, chain_in, inner_in, sort_nested};
 pub use place::Place;
+pub use records::covering_in;
 pub use scan::nearest_by_scan;
 pub use search::{Addr, covers, inside};
 pub use starts::{Probe, Starts, nearest};

@@ -7,8 +7,8 @@ use Rattle.bz_elf.specs.declared.types.SymbolEntry.{SymbolEntry}
 use Rattle.bz_elf.proofs.AnswerLemmas.{known, named, never_descends, unknown}
 use Rattle.bz_elf.proofs.file.ElfFile.symbol.Goals as goal
 
-pub covering-requires : goal.covering-requires
-covering-requires c =
+pub covering_in-requires : goal.covering_in-requires
+covering_in-requires c =
     let kept = c.self.inside.kept in
     rw c.as_slice.ensures.value (never_descends c.self.inside.bytes.items kept c.self.invariant (option_map (λ n. n.now) c.args.module_name) c.args.addr)
 

@@ -4,8 +4,8 @@ use Rattle.bz_proc.specs.declared.perf_map.entry.PerfEntry.{PerfEntry}
 use Rattle.bz_proc.proofs.PerfAnswerLemmas.{known, named, never_descends, own_table, unknown}
 use Rattle.bz_proc.proofs.perf_map.PerfMap.symbol.Goals as goal
 
-pub covering-requires : goal.covering-requires
-covering-requires c = rw c.as_slice.ensures.value (never_descends c.self.inside.bytes.items c.self.inside.entries.items c.self.invariant)
+pub covering_in-requires : goal.covering_in-requires
+covering_in-requires c = rw c.as_slice.ensures.value (never_descends c.self.inside.bytes.items c.self.inside.entries.items c.self.invariant)
 
 pub returns-in_default-clause-answer : goal.returns-in_default-clause-answer
 returns-in_default-clause-answer c =

@@ -1,11 +1,12 @@
--- What holds of all records holds of all in their table.
-use Rattle.std.proofs.Common.{◌≡◌, ℕ, zero, suc, Bool, true, false, cond, List, [], ◌∷◌, ◌++◌, map, Some, refl, ap, subst, ◌∙◌, arith}
+-- What holds of all records holds of all in their table, and of the one that answers.
+use Rattle.std.proofs.Common.{◌≡◌, ℕ, zero, suc, Bool, true, false, cond, List, [], ◌∷◌, ◌++◌, map, Option, Some, None, option_and_then, IfSome, nat_le, refl, ap, subst, ◌∙◌, arith}
 use Rattle.std.specs.List.{AllByRecursion, filter, slice_get}
 use Rattle.std.proofs.lemmas.Bool.{eq-eqb}
 use Rattle.std.proofs.lemmas.Option.{none-some, same_Some}
-use Rattle.bz_base.specs.Nearest.{IsTable, has_span}
-use Rattle.bz_base.specs.Starts.{NeverDescends}
-use Rattle.bz_base.proofs.TableLemmas.{record_at, start_at}
+use Rattle.bz_search.specs.Nearest.{IsTable, candidate, comes_first, first_of, has_span, if_covers, nearest_covering}
+use Rattle.bz_search.specs.Span.{covers}
+use Rattle.bz_search.specs.Starts.{NeverDescends}
+use Rattle.bz_search.proofs.TableLemmas.{record_at, start_at}
 
 module _ {X : Type 0} (P : X → Type 0) where
   -- what holds at each place holds of all
@@ -32,7 +33,7 @@ module _ {X : Type 0} (P : X → Type 0) where
     by true rest = (all.0, rest)
     by false rest = rest
 
-  -- and what holds of those that pass holds of one that passes
+  -- what holds of those that pass holds of one that passes
   one_passing : (test : X → Bool) (xs : List X) (i : ℕ) (x : X) → slice_get xs i ≡ Some x → test x ≡ true → AllByRecursion P (filter test xs) → P x
   one_passing test [] i x there passes all = absurd (none-some x there)
   one_passing test (y ∷ xs) zero x there passes all =
@@ -44,11 +45,33 @@ module _ {X : Type 0} (P : X → Type 0) where
     by true all = all.1
     by false all = all
 
+  -- what holds of all records holds of all in their table
   pub all_in_table : (start size : X → ℕ) (records table : List X) → IsTable start size records table → AllByRecursion P records → AllByRecursion P table
   all_in_table start size records table is all =
       all_places table (λ i x there.
       one_passing (has_span start size (start x) (size x)) table i x there (rw (eq-eqb (start x) (start x) refl, eq-eqb (size x) (size x) refl) refl)
       (rw (is.alike (start x) (size x)) (all_passing (has_span start size (start x) (size x)) records all)))
+
+  either : (b : Bool) (o p : Option X) → IfSome o P → IfSome p P → IfSome (cond b o p) P
+  either true o p one other = one
+  either false o p one other = other
+
+  module _ (start size : X → ℕ) (addr : ℕ) where
+    first_one : (x : X) (o : Option X) → P x → IfSome o P → IfSome (first_of start size addr x o) P
+    first_one x None one others = either (nat_le (start x) addr) (Some x) None one tt
+    first_one x (Some y) one others = either (comes_first start size addr x y) (Some x) (Some y) one others
+
+    candidate_one : (xs : List X) → AllByRecursion P xs → IfSome (candidate start size addr xs) P
+    candidate_one [] all = tt
+    candidate_one (x ∷ xs) all = first_one x (candidate start size addr xs) all.0 (candidate_one xs all.1)
+
+    covering_one : (o : Option X) → IfSome o P → IfSome (option_and_then (if_covers start size addr) o) P
+    covering_one None one = tt
+    covering_one (Some x) one = either (covers (start x) (size x) addr) (Some x) None one tt
+
+    -- what holds of all holds of the one that answers
+    pub nearest_one : (xs : List X) → AllByRecursion P xs → IfSome (nearest_covering start size addr xs) P
+    nearest_one xs all = covering_one (candidate start size addr xs) (candidate_one xs all)
 
 -- the starts of a table never descend
 pub starts_ascend : {X : Type 0} (start size : X → ℕ) (records table : List X) → IsTable start size records table → NeverDescends (map start table)
