@@ -19,7 +19,7 @@ use Rattle.bz_cache.specs.Format.{Comes}
 use Rattle.bz_breakpad.specs.Grammar.{IsFile}
 use Rattle.bz_breakpad.specs.Plain.{batch}
 use Rattle.bz_breakpad.specs.Table.{Table}
-use Rattle.bz_run.specs.RequestSteps.{breakpad_file}
+use Rattle.bz_serve.specs.RequestSteps.{breakpad_file}
 use Rattle.bz_symbolize.specs.FileCall.{batch_of}
 use Rattle.bz_symbolize.specs.Lookup.{answer_of}
 use Rattle.bz_symbolize.specs.Promise.{CallTold, Symbolizes}

@@ -7,7 +7,7 @@ use Rattle.bz_symq.specs.Writing.{Finishes}
 use Rattle.bz_symq.specs.declared.status.Status.{Status}
 use Rattle.bz_symq.specs.declared.status.Status.TheVariants as statuses
 use Rattle.bz_run.specs.Generating.{Generates, generated_summary}
-use Rattle.bz_run.specs.Serving.{served}
+use Rattle.bz_serve.specs.Serving.{served}
 
 module _ {W : Type 0} (writes : output_trait.Ghosts W) (config : Config) (seed functions addresses : ℕ) (before after : W) where
   -- the summary was to be written

@@ -9,14 +9,14 @@ use Rattle.bz_files.specs.declared.text.TextIn as input_trait
 use Rattle.bz_files.specs.declared.text.TextOut as output_trait
 use Rattle.bz_run.proofs.StackEndLemmas as stacks
 use Rattle.bz_run.specs.StackRun.{RunsStacks}
-use Rattle.bz_run.proofs.FrameRunLemmas as frames
-use Rattle.bz_run.proofs.FrameTurnLemmas.{turns_unread}
-use Rattle.bz_run.specs.FrameRun.{RunsFrames}
+use Rattle.bz_serve.proofs.FrameRunLemmas as frames
+use Rattle.bz_serve.proofs.FrameTurnLemmas.{turns_unread}
+use Rattle.bz_serve.specs.FrameRun.{RunsFrames}
 use Rattle.bz_requests.specs.Requests as requests
 use Rattle.bz_requests.specs.declared.requests.Config.{Config}
 use Rattle.bz_run.specs.Generating.{generated_summary}
 use Rattle.bz_symq.proofs.FaultLemmas.{counts_still}
-use Rattle.bz_run.specs.Serving.{served}
+use Rattle.bz_serve.specs.Serving.{served}
 use Rattle.bz_symq.proofs.EndLemmas.{failed_ends, runs_without_reply}
 use Rattle.bz_symq.specs.Command as asked
 use Rattle.bz_symq.specs.Reply.{IsDoneReply}
@@ -29,9 +29,9 @@ use Rattle.bz_symq.specs.declared.status.Status.TheVariants as statuses
 use Rattle.bz_words.specs.Command.{Batch, Command, Frames, Generate, Job, Make, Serve, Stacks, command_in}
 use Rattle.bz_run.specs.Misuse.{Misused, usage}
 use Rattle.bz_run.specs.Run.{Runs, RunsCommand, RunsJob, asked_target}
-use Rattle.bz_run.specs.Sides.{FailsAtOneSide}
-use Rattle.bz_run.proofs.RequestsLemmas.{requests_unread}
-use Rattle.bz_run.proofs.SideLemmas.{fails_at_output}
+use Rattle.bz_serve.specs.Sides.{FailsAtOneSide}
+use Rattle.bz_serve.proofs.RequestsLemmas.{requests_unread}
+use Rattle.bz_serve.proofs.SideLemmas.{fails_at_output}
 
 -- what the status of a run says of its command
 abbrev HasUsage : Option Command → Status → Type 0

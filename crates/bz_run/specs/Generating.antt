@@ -9,7 +9,7 @@ use Rattle.bz_gen.specs.Generated.{addresses_after}
 use Rattle.bz_gen_file.specs.GeneratedTable.{generated_table}
 use Rattle.bz_requests.specs.declared.requests.Config.{Config}
 use Rattle.bz_symq.specs.Kept.{settings_of}
-use Rattle.bz_run.specs.Serving.{served}
+use Rattle.bz_serve.specs.Serving.{served}
 use Rattle.bz_symbolize.specs.State.{opts_of}
 use Rattle.bz_symq.specs.Run.{Ends, IsOrFails}
 use Rattle.bz_symq.specs.declared.status.Status.{Status}

@@ -6,7 +6,7 @@ use Rattle.bz_files.specs.declared.text.TextOut as output_trait
 use Rattle.bz_requests.specs.Requests as requests
 use Rattle.bz_requests.specs.declared.requests.Config.{Config}
 use Rattle.bz_run.specs.StackRun.{RunsStacks}
-use Rattle.bz_run.specs.FrameRun.{RunsFrames}
+use Rattle.bz_serve.specs.FrameRun.{RunsFrames}
 use Rattle.bz_symq.specs.Command as asked
 use Rattle.bz_symq.specs.Kept.{opts_in}
 use Rattle.bz_symq.specs.Run as one_command
@@ -17,8 +17,8 @@ use Rattle.bz_words.specs.Command as words
 use Rattle.bz_words.specs.Command.{Batch, Command, Frames, Generate, Job, Make, Serve, Stacks, command_in}
 use Rattle.bz_run.specs.Generated.{RunsGenerated}
 use Rattle.bz_run.specs.Misuse.{Misused}
-use Rattle.bz_run.specs.Requests.{RunsRequests}
-use Rattle.bz_run.specs.Sides.{FailsAtOneSide}
+use Rattle.bz_serve.specs.Requests.{RunsRequests}
+use Rattle.bz_serve.specs.Sides.{FailsAtOneSide}
 
 -- the target of a request, as one of a batch
 abbrev pub asked_target : requests.Target → asked.Target

@@ -11,12 +11,12 @@ ghost use Rattle.bz_words.specs.Command.{Batch, Make, command_in, job_of, produc
 use crate::frames::answer_frames;
 use crate::generating::generate;
 use crate::misuse::tell_usage;
-use crate::requests::serve_input;
 use crate::stacks::run_stacks;
 use crate::targets::{asked_product, asked_target};
 use bz_base::Input;
 use bz_files::{Files, TextIn, TextOut};
 use bz_requests::{Config, Target};
+use bz_serve::serve_input;
 use bz_symq::Status;
 use bz_words::{BadWords, Job, Product, read_command};
 use std::alloc::Global;

@@ -2,7 +2,7 @@
 
 use bz_base::{Error, FindSymOpts};
 use bz_files::MemFiles;
-use bz_run::{frame_text, frame_texts, read_frames};
+use bz_serve::{frame_text, frame_texts, read_frames};
 use bz_store::{CrashFrame, FrameAnswer, Store};
 use std::alloc::Global;
 use std::test::Fail;

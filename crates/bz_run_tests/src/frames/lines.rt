@@ -1,7 +1,7 @@
 //! Frames of lines.
 
 use bz_lines::BadInput;
-use bz_run::read_frames;
+use bz_serve::read_frames;
 use bz_store::CrashFrame;
 use std::alloc::Global;
 use std::test::Fail;

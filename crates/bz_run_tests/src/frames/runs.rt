@@ -3,7 +3,7 @@
 use crate::frames::answers::{LINES, TEXTS, files};
 use bz_base::{Error, FindSymOpts};
 use bz_files::{MemFiles, MemIn, MemOut};
-use bz_run::run_frames;
+use bz_serve::run_frames;
 use bz_symq::Status;
 use std::alloc::Global;
 use std::test::Fail;

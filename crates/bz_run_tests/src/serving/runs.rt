@@ -3,7 +3,7 @@
 use bz_base::Error;
 use bz_files::{MemFiles, MemOut};
 use bz_requests::{Config, read_requests};
-use bz_run::serve;
+use bz_serve::serve;
 use bz_symq::Status;
 use std::alloc::Global;
 

@@ -1,0 +1,13 @@
+pub mod AskedLemmas
+pub mod DoesLemmas
+pub mod FrameInputLemmas
+pub mod FrameLemmas
+pub mod FrameRunLemmas
+pub mod FrameTextLemmas
+pub mod FrameTurnLemmas
+pub mod RequestBoundLemmas
+pub mod RequestReplyLemmas
+pub mod RequestsLemmas
+pub mod ServeLemmas
+pub mod ServingLoopLemmas
+pub mod SideLemmas

@@ -1,0 +1,10 @@
+use Rattle.std.proofs.Common.{map}
+use Rattle.bz_requests.specs.Requests.{request_of}
+use Rattle.bz_serve.proofs.ServingLoopLemmas.{serves_from_all}
+use Rattle.bz_serve.proofs.serving.serve_blank.Goals as goal
+
+-- the symbolizer is new, and the run ends by what stopped it
+pub returns : goal.returns
+returns g c =
+    serves_from_all g.W.TextOut g.F.Files c.args.config (map request_of c.args.requests.now) c.serve_all-served.result c.status_of.result _ _ _ _
+    (rw c.new_symbolizer-symbolizer.ensures at c.serve_all-served.ensures) c.status_of.ensures

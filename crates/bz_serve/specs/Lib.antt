@@ -1,0 +1,12 @@
+pub mod Asked
+pub mod FrameLines
+pub mod FrameReply
+pub mod FrameRun
+pub mod FrameText
+pub mod FrameTurns
+pub mod RequestBounds
+pub mod RequestRuns
+pub mod RequestSteps
+pub mod Requests
+pub mod Serving
+pub mod Sides

@@ -1,0 +1,144 @@
+//! A run of requests: one symbolizer is asked one request after the other.
+
+ghost use Rattle.std.specs.Prelude.{◌≡◌, ◌<◌, map};
+ghost use Rattle.bz_requests.specs.Requests.{request_of};
+ghost use Rattle.bz_serve.specs.Serving.{EndsAs, Served, Serves, ServesAll, StopsAs, stop_by};
+ghost use Rattle.bz_serve.specs.RequestSteps.{step};
+ghost use Rattle.bz_symq.specs.Kept.{kept_of};
+
+mod replies;
+mod saying;
+mod sources;
+
+use crate::serving::replies::reply_to_request;
+use bz_base::{Error, Steps};
+use bz_files::{Files, IoFault, TextOut};
+use bz_requests::{Config, Request};
+use bz_symbolize::Symbolizer;
+use bz_symq::{Status, new_symbolizer, write_said};
+use std::alloc::Global;
+use std::marker::Brand;
+use std::sync::ledger::{Blank, Ledger};
+
+/// Why a run of requests stopped.
+#[derive(Clone, Copy, Debug, PartialEq, Eq)]
+pub(crate) enum Stop {
+    /// A look at a file failed.
+    Files,
+    /// Writing failed.
+    Output,
+    /// Memory ran out.
+    Memory,
+}
+
+/// Answers the requests by one symbolizer, each in its world of files, and writes the texts of the
+/// answers as they come. A refused request is answered by the name of its refusal, and the run goes on.
+/// It ends by `Done`; by `Fault` where a look at a file or the writing failed; or by `Memory`.
+pub fn serve<W: TextOut, F: Files>(
+    alloc: Global,
+    config: Config,
+    requests: &[Request],
+    output: &mut W,
+    files: &mut F,
+) -> Status
+    ensures { Serves W.TextOut F.Files config (map request_of requests.now) result output.old output.new files.old files.new }
+{
+    serve_blank::<W, F, Brand>(alloc, config, requests, output, files, Blank::new(1))
+}
+
+// The run, with a count of steps that begins with it.
+fn serve_blank<W: TextOut, F: Files, L: Ledger>(
+    alloc: Global,
+    config: Config,
+    requests: &[Request],
+    output: &mut W,
+    files: &mut F,
+    blank: Blank,
+) -> Status
+    requires name { blank.name ≡ L.name }
+    requires parts { blank.parts ≡ L.parts }
+    requires some { 0 < L.parts }
+    ensures { Serves W.TextOut F.Files config (map request_of requests.now) result output.old output.new files.old files.new }
+{
+    let mut steps = Steps::<L>::new(blank);
+    let mut symbolizer = new_symbolizer(alloc, config);
+    let served = serve_all(
+        alloc,
+        &mut symbolizer,
+        config.map_files,
+        requests,
+        output,
+        files,
+        &mut steps,
+    );
+    status_of(served)
+}
+
+// How a run of requests ends.
+fn status_of(served: Result<(), Stop>) -> Status
+    ensures { EndsAs served result }
+{
+    match served {
+        Ok(()) => Status::Done,
+        Err(Stop::Files) => Status::Fault,
+        Err(Stop::Output) => Status::Fault,
+        Err(Stop::Memory) => Status::Memory,
+    }
+}
+
+fn serve_all<W: TextOut, F: Files, L: Ledger>(
+    alloc: Global,
+    symbolizer: &mut Symbolizer,
+    map_files: bool,
+    requests: &[Request],
+    output: &mut W,
+    files: &mut F,
+    steps: &mut Steps<L>,
+) -> Result<(), Stop>
+    ensures { ServesAll W.TextOut F.Files (step map_files) (map request_of requests.now) result (kept_of symbolizer.old) output.old output.new files.old files.new }
+{
+    for request in requests {
+        files.begin();
+        if let Err(stop) = serve_one(alloc, symbolizer, map_files, request, output, files, steps) {
+            return Err(stop);
+        }
+    }
+    Ok(())
+}
+
+// Answers one request in the world in view, and writes its text.
+fn serve_one<W: TextOut, F: Files, L: Ledger>(
+    alloc: Global,
+    symbolizer: &mut Symbolizer,
+    map_files: bool,
+    request: &Request,
+    output: &mut W,
+    files: &mut F,
+    steps: &mut Steps<L>,
+) -> Result<(), Stop>
+    ensures { Served W.TextOut F.Files (step map_files (F.pid files.old) (request_of request.now)) result (kept_of symbolizer.old) (kept_of symbolizer.new) output.old output.new files.old files.new }
+{
+    match reply_to_request(alloc, symbolizer, map_files, request, files, steps) {
+        Ok(said) => stopped(write_said(alloc, output, &said)),
+        Err(error) => Err(stop_by(error)),
+    }
+}
+
+fn stopped(put: Result<(), IoFault>) -> Result<(), Stop>
+    ensures { StopsAs put result }
+{
+    match put {
+        Ok(()) => Ok(()),
+        Err(IoFault::Fault) => Err(Stop::Output),
+        Err(IoFault::OutOfMemory) => Err(Stop::Memory),
+    }
+}
+
+fn stop_by(error: Error) -> Stop
+    ensures { result ≡ stop_by error }
+{
+    match error {
+        Error::ReadFault => Stop::Files,
+        _ => Stop::Memory,
+    }
+}

@@ -1,0 +1,180 @@
+//! What is said to a request in the world in view. A refusal is said, and a failure isn't.
+
+ghost use Rattle.std.specs.Prelude.{◌≡◌};
+ghost use Rattle.bz_base.specs.InputKind.{InProcess, address_kind, payload};
+ghost use Rattle.bz_process.specs.declared.query.ProcessQuery.{ProcessQuery};
+ghost use Rattle.bz_requests.specs.Requests.{request_of, target_of, usual_kind};
+ghost use Rattle.bz_serve.specs.Serving.{Replied};
+ghost use Rattle.bz_serve.specs.RequestSteps.{asking, asking_batch, asking_single, done_by, forgetting, keeping, okay, step, target_form};
+ghost use Rattle.bz_symbolize.specs.FileCall.{batch_of};
+ghost use Rattle.bz_symbolize.specs.Requests.{ToCache, ToEvict, cache_read, evict_read};
+ghost use Rattle.bz_symbolize.specs.Sources.{FileSource, OneFile, OneProcess, form_of};
+ghost use Rattle.bz_answer_text.specs.AnswerText.{answer_text, answer_texts};
+ghost use Rattle.bz_symq.specs.Kept.{kept_of};
+
+use crate::serving::saying::{said_answer, said_okay, said_refusal};
+use crate::serving::sources::{
+    elf_to_cache, elf_to_evict, input_of, process_to_cache, process_to_evict, source_of,
+};
+use bz_base::{Addr, Input, Result, Steps};
+use bz_files::Files;
+use bz_requests::{Request, Target};
+use bz_symbolize::Symbolizer;
+use bz_symbolize::cache::Cache;
+use bz_symbolize::evict::Evict;
+use bz_symbolize::source::Source;
+use bz_symq::{OwnedAnswers, Said};
+use std::alloc::Global;
+use std::sync::ledger::Ledger;
+
+/// What is said to a request in the world in view.
+pub(crate) fn reply_to_request<F: Files, L: Ledger>(
+    alloc: Global,
+    symbolizer: &mut Symbolizer,
+    map_files: bool,
+    request: &Request,
+    files: &mut F,
+    steps: &mut Steps<L>,
+) -> Result<Said>
+    ensures { Replied F.Files (step map_files (F.pid files.old) (request_of request.now)) result (kept_of symbolizer.old) (kept_of symbolizer.new) files.old files.new }
+{
+    match request {
+        Request::Batch(target, addrs) => {
+            reply_to_addrs(
+                alloc,
+                symbolizer,
+                map_files,
+                target,
+                addrs.as_slice(),
+                files,
+                steps,
+            )
+        }
+        Request::Single(target, addr) => {
+            reply_to_addr(alloc, symbolizer, map_files, target, *addr, files)
+        }
+        Request::CacheElf(path) => {
+            let cache = elf_to_cache(alloc, path.as_str())?;
+            reply_to_cache(alloc, symbolizer, &cache, files)
+        }
+        Request::CacheProcess(number) => {
+            let cache = process_to_cache(*number);
+            reply_to_cache(alloc, symbolizer, &cache, files)
+        }
+        Request::EvictElf(path) => {
+            let evict = elf_to_evict(alloc, path.as_str())?;
+            reply_to_evict(symbolizer, &evict, files)
+        }
+        Request::EvictProcess(number) => {
+            let evict = process_to_evict(*number);
+            reply_to_evict(symbolizer, &evict, files)
+        }
+    }
+}
+
+fn reply_to_addrs<F: Files, L: Ledger>(
+    alloc: Global,
+    symbolizer: &mut Symbolizer,
+    map_files: bool,
+    target: &Target,
+    addrs: &[Addr],
+    files: &mut F,
+    steps: &mut Steps<L>,
+) -> Result<Said>
+    ensures { Replied F.Files (done_by (answer_texts addrs.now) (asking_batch (F.pid files.old) (target_form map_files (target_of target.now)) (usual_kind (target_of target.now)) addrs.now)) result (kept_of symbolizer.old) (kept_of symbolizer.new) files.old files.new }
+{
+    let src = source_of(alloc, map_files, target)?;
+    let addrs = Vec::from_slice(alloc, addrs)?;
+    match target {
+        Target::Process(_) => reply_by_process(alloc, symbolizer, &src, addrs, files, steps),
+        Target::Breakpad(_) | Target::Gsym(_) | Target::Elf(_) => {
+            reply_by_file(
+                alloc,
+                symbolizer,
+                &src,
+                input_of(target, addrs),
+                files,
+                steps,
+            )
+        }
+    }
+}
+
+// The answers of a file, which lend their texts from the version that was found.
+fn reply_by_file<F: Files, L: Ledger>(
+    alloc: Global,
+    symbolizer: &mut Symbolizer,
+    src: &Source<'static>,
+    input: Input<Vec<Addr>>,
+    files: &mut F,
+    steps: &mut Steps<L>,
+) -> Result<Said>
+    ensures { (file : FileSource) → form_of src.now ≡ OneFile file →
+        Replied F.Files (done_by (answer_texts (payload input).items) (asking (OneFile file) (batch_of (address_kind input) (payload input).items))) result (kept_of symbolizer.old) (kept_of symbolizer.new) files.old files.new }
+{
+    match symbolizer.look_up(alloc, files, src, input, steps) {
+        Ok(lookups) => Ok(Said::Answers(lookups)),
+        Err(error) => said_refusal(alloc, error),
+    }
+}
+
+// The answers of a process, which are of many files.
+fn reply_by_process<F: Files, L: Ledger>(
+    alloc: Global,
+    symbolizer: &mut Symbolizer,
+    src: &Source<'static>,
+    addrs: Vec<Addr>,
+    files: &mut F,
+    steps: &mut Steps<L>,
+) -> Result<Said>
+    ensures { (query : ProcessQuery) → form_of src.now ≡ OneProcess query →
+        Replied F.Files (done_by (answer_texts addrs.items) (asking_batch (F.pid files.old) (OneProcess query) InProcess addrs.items)) result (kept_of symbolizer.old) (kept_of symbolizer.new) files.old files.new }
+{
+    match symbolizer.symbolize_counted(alloc, files, src, Input::AbsAddr(addrs.as_slice()), steps) {
+        Ok(answers) => Ok(Said::Owned(OwnedAnswers { addrs, answers })),
+        Err(error) => said_refusal(alloc, error),
+    }
+}
+
+fn reply_to_addr<F: Files>(
+    alloc: Global,
+    symbolizer: &mut Symbolizer,
+    map_files: bool,
+    target: &Target,
+    addr: Addr,
+    files: &mut F,
+) -> Result<Said>
+    ensures { Replied F.Files (done_by (answer_text addr) (asking_single (F.pid files.old) (target_form map_files (target_of target.now)) (usual_kind (target_of target.now)) addr)) result (kept_of symbolizer.old) (kept_of symbolizer.new) files.old files.new }
+{
+    let src = source_of(alloc, map_files, target)?;
+    let input = input_of(target, addr);
+    match symbolizer.symbolize_single(alloc, files, &src, input) {
+        Ok(answer) => said_answer(alloc, addr, &answer),
+        Err(error) => said_refusal(alloc, error),
+    }
+}
+
+fn reply_to_cache<F: Files>(
+    alloc: Global,
+    symbolizer: &mut Symbolizer,
+    cache: &Cache,
+    files: &mut F,
+) -> Result<Said>
+    ensures { (asked : ToCache) → cache_read cache.now ≡ asked → Replied F.Files (done_by okay (keeping (F.pid files.old) asked)) result (kept_of symbolizer.old) (kept_of symbolizer.new) files.old files.new }
+{
+    match symbolizer.cache(alloc, files, cache) {
+        Ok(()) => Ok(said_okay()),
+        Err(error) => said_refusal(alloc, error),
+    }
+}
+
+// No file is looked at.
+fn reply_to_evict<F: Files>(symbolizer: &mut Symbolizer, evict: &Evict, files: &F) -> Result<Said>
+    ensures { (asked : ToEvict) → evict_read evict.now ≡ asked → Replied F.Files (done_by okay (forgetting asked)) result (kept_of symbolizer.old) (kept_of symbolizer.new) files.now files.now }
+{
+    let _unlooked = files;
+    match symbolizer.evict(evict) {
+        Ok(()) => Ok(said_okay()),
+        Err(error) => Err(error),
+    }
+}
