@@ -1,4 +1,5 @@
-//! Tests of bz_lines, bz_requests, bz_words, bz_gen and bz_breakpad_refusal, over what they make public.
+//! Tests of bz_lines, bz_requests, bz_words, bz_gen and bz_breakpad_refusal, over what they make
+//! public.
 #![tactic(auto)]
 
 #[cfg(test)]
