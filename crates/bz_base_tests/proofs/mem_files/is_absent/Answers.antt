@@ -1,7 +1,7 @@
 use Rattle.std.proofs.Common.{◌≡◌, ◌<◌, List, [], ◌∷◌, length, Some, refl, arith}
 use Rattle.bz_files.specs.World.{World, in_view}
 use Rattle.bz_files.specs.MemWorlds.{first_world}
-use Rattle.bz_files_tests.proofs.mem_files.is_absent.Goals as goal
+use Rattle.bz_base_tests.proofs.mem_files.is_absent.Goals as goal
 
 -- where there is a world, the first one is in view
 first_in_view : (worlds : List World) → 0 < length worlds → in_view (Some worlds) ≡ Some (first_world worlds)
