@@ -1,4 +1,6 @@
-//! What the tests share: rows that are runs over files, inputs and outputs in memory.
+//! Runs of the program over files in memory, for tests: rows tell what runs are given, and how they are
+//! to end.
+#![tactic(auto)]
 
 use bz_base::Result;
 use bz_files::{MemFiles, MemIn, MemOut};
@@ -7,7 +9,7 @@ use bz_symq::{Command, Product, Status, run_command};
 use std::alloc::Global;
 
 /// An edit of files in memory.
-pub(crate) enum Edit {
+pub enum Edit {
     /// The text is put at the path.
     Text(&'static str, &'static str),
     /// The bytes are put at the path.
@@ -23,7 +25,7 @@ pub(crate) enum Edit {
 use Edit::{Bytes, Deny, Next, Remove, Text};
 
 /// What runs are given, and how each of them is to end.
-pub(crate) struct Row {
+pub struct Row {
     /// The words of each run.
     pub lines: &'static [&'static [&'static str]],
     /// The path that is converted by a command in place of words, if it isn't empty.
@@ -46,16 +48,20 @@ pub(crate) struct Row {
 }
 
 /// A Breakpad file of one function.
-pub(crate) const FIRST: &str = "MODULE Linux x86 ffff0000 bar\nFUNC 1000 30 10 another func\n";
+const FIRST: &str = "MODULE Linux x86 ffff0000 bar\nFUNC 1000 30 10 another func\n";
+
+/// A Breakpad file of calls in calls, whose line record at 1000 names a file that has no FILE record.
+pub const NESTED: &str =
+    "FILE 15 o.c\nFILE 4 m.c\nFILE 8 i2.c\nFUNC 1000 30 10 outer_func()\nINLINE_ORIGIN 1 inner_func_2()\nINLINE_ORIGIN 2 mid_func()\nINLINE_ORIGIN 3 inner_func_1()\nINLINE 0 60 15 2 1000 20\nINLINE 1 12 4 3 1000 10\nINLINE 1 17 4 1 1010 10\n1000 10 42 7\n1010 10 52 8\n1020 10 62 15\n";
 
 /// An address in the function, and the one at its end.
-pub(crate) const ADDRESSES: &str = "1010\n1030\n";
+pub const ADDRESSES: &str = "1010\n1030\n";
 
 /// How the program is called.
-pub(crate) const USAGE: &str = "usage: symq [OPTION] KIND [ARG]...\n";
+pub const USAGE: &str = "usage: symq [OPTION] KIND [ARG]...\n";
 
 /// A run over the first file for no addresses.
-pub(crate) const FIRST_RUN: Row = Row {
+pub const FIRST_RUN: Row = Row {
     lines: &[&["breakpad", "/a.sym"]],
     converted: "",
     edits: &[Text("/a.sym", FIRST), Deny("/denied")],
@@ -71,7 +77,7 @@ pub(crate) const FIRST_RUN: Row = Row {
 };
 
 /// Puts the bytes at the path. Says whether memory was left.
-pub(crate) fn put(alloc: Global, files: &mut MemFiles, path: &str, bytes: &[u8]) -> bool {
+fn put(alloc: Global, files: &mut MemFiles, path: &str, bytes: &[u8]) -> bool {
     match Vec::from_slice(alloc, bytes) {
         Ok(copy) => files.put(alloc, path, copy).is_ok(),
         Err(_) => false,
@@ -161,7 +167,7 @@ fn ends_by(
 }
 
 /// Whether the run of the line over this input ends as the row says, with this written.
-pub(crate) fn ends_on(alloc: Global, line: &[&str], row: &Row, input: &str, written: &str) -> bool {
+pub fn ends_on(alloc: Global, line: &[&str], row: &Row, input: &str, written: &str) -> bool {
     let Ok(words) = words_of(alloc, line) else {
         return false;
     };
@@ -184,7 +190,7 @@ pub(crate) fn ends_on(alloc: Global, line: &[&str], row: &Row, input: &str, writ
 }
 
 /// Whether each run of the row ends as it says.
-pub(crate) fn ends_so(alloc: Global, row: &Row) -> bool {
+pub fn ends_so(alloc: Global, row: &Row) -> bool {
     for line in row.lines {
         if !ends_on(alloc, line, row, row.input, row.written) {
             return false;

@@ -1,8 +1,8 @@
 //! Frames of a crash, by the words `frames ROOT`.
 
-use crate::runs::Edit::Text;
-use crate::runs::{FIRST_RUN, Row, USAGE, ends_so};
 use bz_symq::Status;
+use symq_runs::Edit::Text;
+use symq_runs::{FIRST_RUN, Row, USAGE, ends_so};
 
 /// A Breakpad file of one function.
 const BAR: &str =

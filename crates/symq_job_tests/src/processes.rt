@@ -1,9 +1,9 @@
 //! Processes.
 
-use crate::runs::Edit::{self, Bytes, Deny, Text};
-use crate::runs::{FIRST_RUN, Row, USAGE, ends_so};
 use bz_samples::{ELF_FUNCTION, THREE_MAPPINGS};
 use bz_symq::{Status, own_pid};
+use symq_runs::Edit::{self, Bytes, Deny, Text};
+use symq_runs::{FIRST_RUN, Row, USAGE, ends_so};
 
 /// The mappings of a process that maps an ELF file, and memory.
 const ELF: &str =

@@ -1,9 +1,9 @@
 //! Inputs of requests.
 
-use crate::runs::Edit::{Next, Remove, Text};
-use crate::runs::{FIRST_RUN, Row, ends_so};
 use crate::words::{BARE, SOURCES, WHOLE};
 use bz_symq::Status;
+use symq_runs::Edit::{Next, Remove, Text};
+use symq_runs::{FIRST_RUN, Row, ends_so};
 
 /// A run over requests, none here.
 const SERVED: Row = Row {

@@ -1,9 +1,9 @@
 //! Words of the command line, as far as they show in a run.
 
-use crate::runs::Edit::{self, Bytes, Text};
-use crate::runs::{FIRST_RUN, Row, USAGE, ends_so};
 use bz_samples::ELF_FUNCTION;
 use bz_symq::Status;
+use symq_runs::Edit::{self, Bytes, Text};
+use symq_runs::{FIRST_RUN, Row, USAGE, ends_so};
 
 /// A Breakpad file of one function with lines and an inlined call.
 const SOURCE: &str =

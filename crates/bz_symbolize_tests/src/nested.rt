@@ -1,6 +1,6 @@
 //! A function with calls in calls, whose addresses are answered alone as in a batch.
 
-use crate::runs::put;
+use crate::steps::put;
 use bz_base::{Error, Input, Reason, Symbolized};
 use bz_files::MemFiles;
 use bz_symbolize::Symbolizer;
@@ -8,7 +8,7 @@ use bz_symbolize::source::Source;
 use std::alloc::Global;
 
 /// The line record at 1000 names a file that has no FILE record.
-pub(crate) const NESTED: &str =
+const NESTED: &str =
     "FILE 15 o.c\nFILE 4 m.c\nFILE 8 i2.c\nFUNC 1000 30 10 outer_func()\nINLINE_ORIGIN 1 inner_func_2()\nINLINE_ORIGIN 2 mid_func()\nINLINE_ORIGIN 3 inner_func_1()\nINLINE 0 60 15 2 1000 20\nINLINE 1 12 4 3 1000 10\nINLINE 1 17 4 1 1010 10\n1000 10 42 7\n1010 10 52 8\n1020 10 62 15\n";
 
 const ADDRESSES: &[u64] = &[0x1010, 0x1020, 0x1000];
