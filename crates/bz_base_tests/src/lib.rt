@@ -1,5 +1,5 @@
-//! Tests of bz_base, over what it makes public: that the calls succeed, and answers that were worked
-//! out by hand.
+//! Tests of bz_base, bz_search, bz_files and bz_cache, over what they make public: that the calls
+//! succeed, answers that were worked out by hand, and what real files, readers and writers give.
 #![tactic(auto)]
 
 #[cfg(test)]
@@ -7,11 +7,27 @@ mod answers;
 #[cfg(test)]
 mod cursor;
 #[cfg(test)]
+mod failing;
+#[cfg(test)]
+mod file_cache;
+#[cfg(test)]
+mod insert_map;
+#[cfg(test)]
+mod mem_files;
+#[cfg(test)]
+mod mem_text;
+#[cfg(test)]
 mod nearest;
 #[cfg(test)]
 mod path;
 #[cfg(test)]
 mod pids;
+#[cfg(test)]
+mod real_files;
+#[cfg(test)]
+mod real_text;
+#[cfg(test)]
+mod replaced;
 #[cfg(test)]
 mod resolve;
 #[cfg(test)]

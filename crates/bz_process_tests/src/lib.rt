@@ -1,4 +1,4 @@
-//! Tests of bz_process, over what it makes public.
+//! Tests of bz_proc and bz_process, over what they make public.
 #![tactic(auto)]
 
 #[cfg(test)]
@@ -10,6 +10,16 @@ mod dispatchers;
 #[cfg(test)]
 mod files;
 #[cfg(test)]
+mod maps;
+#[cfg(test)]
+mod owners;
+#[cfg(test)]
+mod perf_maps;
+#[cfg(test)]
+mod reading;
+#[cfg(test)]
 mod refusals;
+#[cfg(test)]
+mod statuses;
 #[cfg(test)]
 mod steps;

@@ -1,8 +1,10 @@
-//! Tests of bz_stacks, over what it makes public.
+//! Tests of bz_stacks and bz_store, over what they make public.
 #![tactic(auto)]
 
 #[cfg(test)]
 mod asking;
+#[cfg(test)]
+mod courses;
 #[cfg(test)]
 mod frames;
 #[cfg(test)]

@@ -22,8 +22,14 @@ mod keeping;
 #[cfg(test)]
 mod lookups;
 #[cfg(test)]
+mod many;
+#[cfg(test)]
+mod nested;
+#[cfg(test)]
 mod process;
 #[cfg(test)]
 mod steps;
 #[cfg(test)]
 mod told;
+#[cfg(test)]
+mod trials;

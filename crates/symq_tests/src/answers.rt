@@ -1,8 +1,7 @@
 //! The answers of Breakpad files.
 
-use crate::nested::NESTED;
-use crate::runs::Edit::Text;
-use crate::runs::{ADDRESSES, FIRST_RUN, Row, ends_so};
+use symq_runs::Edit::Text;
+use symq_runs::{ADDRESSES, FIRST_RUN, NESTED, Row, ends_so};
 
 const ANSWERS: &str =
     "0x1010: another func+0x10 start 0x1000 size 0x30 module bar at -\n0x1030: ? address not found in symbolization source\n";

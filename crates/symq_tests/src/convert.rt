@@ -1,8 +1,8 @@
 //! Converted files.
 
-use crate::runs::Edit::{Deny, Text};
-use crate::runs::{FIRST_RUN, Row, ends_so};
 use bz_symq::Status;
+use symq_runs::Edit::{Deny, Text};
+use symq_runs::{FIRST_RUN, Row, ends_so};
 
 /// A conversion of a Breakpad file of one function with one line, to GSYM bytes.
 const CONVERTED: Row = Row {

@@ -1,4 +1,5 @@
-//! Tests of the program's parts, over what they and the libraries below make public.
+//! Tests of the program over single files and stacks, by runs, and of the texts of answers, over what
+//! they make public.
 #![tactic(auto)]
 
 #[cfg(test)]
@@ -12,28 +13,12 @@ mod elf;
 #[cfg(test)]
 mod endings;
 #[cfg(test)]
-mod frames;
-#[cfg(test)]
 mod gsym;
 #[cfg(test)]
 mod inputs;
 #[cfg(test)]
-mod many;
-#[cfg(test)]
-mod nested;
-#[cfg(test)]
 mod outputs;
-#[cfg(test)]
-mod processes;
-#[cfg(test)]
-mod runs;
-#[cfg(test)]
-mod serve;
 #[cfg(test)]
 mod stacks;
 #[cfg(test)]
 mod texts;
-#[cfg(test)]
-mod trials;
-#[cfg(test)]
-mod words;

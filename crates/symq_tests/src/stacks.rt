@@ -1,9 +1,8 @@
 //! Stacks of a profile, by the words `stacks PATH`.
 
-use crate::nested::NESTED;
-use crate::runs::Edit::Text;
-use crate::runs::{FIRST_RUN, Row, USAGE, ends_so};
 use bz_symq::Status;
+use symq_runs::Edit::Text;
+use symq_runs::{FIRST_RUN, NESTED, Row, USAGE, ends_so};
 
 /// Stacks over inlined calls inside one another, and over a function whose name would end a frame.
 const STACKS: Row = Row {

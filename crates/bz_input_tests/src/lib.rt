@@ -1,0 +1,14 @@
+//! Tests of bz_lines, bz_requests, bz_words, bz_gen and bz_breakpad_refusal, over what they make
+//! public.
+#![tactic(auto)]
+
+#[cfg(test)]
+mod addresses;
+#[cfg(test)]
+mod generated;
+#[cfg(test)]
+mod refused_texts;
+#[cfg(test)]
+mod requests;
+#[cfg(test)]
+mod words;
