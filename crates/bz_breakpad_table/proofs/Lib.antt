@@ -1,5 +1,6 @@
 pub mod CallLemmas
 pub mod DenseLemmas
+pub mod EndLemmas
 pub mod FinishLemmas
 pub mod FunctionLemmas
 pub mod IdLemmas
@@ -10,9 +11,11 @@ pub mod ListingLemmas
 pub mod MidwayLemmas
 pub mod NameEnds
 pub mod NestedLemmas
+pub mod PlaceLaws
 pub mod PlaceLemmas
 pub mod PublicKeyLemmas
 pub mod QuickStep
+pub mod RefusalLaws
 pub mod RunGrowLemmas
 pub mod RunLemmas
 pub mod SortedKeyLemmas

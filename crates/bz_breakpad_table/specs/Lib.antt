@@ -3,8 +3,11 @@ pub mod FunctionKeys
 pub mod Kept
 pub mod LineKeys
 pub mod LineRun
+pub mod Places
 pub mod Publics
 pub mod Refusal
+pub mod Refusals
 pub mod Search
 pub mod Sorted
+pub mod Told
 pub mod Walked

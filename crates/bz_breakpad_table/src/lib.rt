@@ -1,13 +1,17 @@
-//! What is kept of a Breakpad symbol file: the walk over its lines, and the table that it makes.
+//! What is kept of a Breakpad symbol file: the walk over its lines, and the table that it makes; and where
+//! bytes are refused as one.
 #![tactic(auto)]
 
+mod before;
 mod calls;
 mod functions;
+pub mod laws;
 mod line_key;
 mod names;
 mod publics;
 mod read;
 mod reading;
+mod refused;
 mod search;
 mod sorting;
 mod standing;
@@ -17,6 +21,7 @@ mod walk;
 
 pub use names::{Names, name_of, names_of, text_of};
 pub use publics::{PublicTable, sorted_publics};
+pub use refused::{Refused, first_refused};
 pub use table::{FileRead, read_table};
 pub use types::{
     CallRange, FunctionKey, FunctionTable, KeptFunction, KeptPublic, KeptTable, LineRecords, Part,

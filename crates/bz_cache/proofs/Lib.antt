@@ -2,12 +2,14 @@ pub mod CoherenceLaws
 pub mod Counted
 pub mod Counting
 pub mod Evicting
+pub mod FileLemmas
 pub mod FiniteMaps
 pub mod Inserting
 pub mod Looking
 pub mod MapScans
 pub mod MapViews
 pub mod Naming
+pub mod PinLemmas
 pub mod Pinning
 pub mod Refusing
 pub mod Releasing

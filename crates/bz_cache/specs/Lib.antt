@@ -2,11 +2,13 @@ pub mod Cache
 pub mod Coherence
 pub mod Counts
 pub mod Eviction
+pub mod FileCall
 pub mod Format
 pub mod InsertMap
 pub mod InsertMapLoan
 pub mod Insertion
 pub mod Look
+pub mod Pinning
 pub mod Steps
 pub mod Store
 pub mod View

@@ -1,13 +1,18 @@
-//! Which version of a file is in view: a cache of parsed files by their stamps.
+//! Which version of a file is in view: a cache of parsed files by their stamps; and a call on one file in it,
+//! what it answers and what it leaves.
 #![tactic(auto)]
 
 mod builder;
 mod file_cache;
 mod insert_map;
 pub mod laws;
+mod owned;
+mod pinning;
 mod version;
 
 pub use builder::CacheBuilder;
 pub use file_cache::FileCache;
 pub use insert_map::InsertMap;
+pub use owned::owned_answer;
+pub use pinning::pin_file;
 pub use version::Version;

@@ -14,7 +14,7 @@ ghost use Rattle.bz_canon.specs.Parts.{named_line};
 
 use bz_base::{Error, Result};
 use bz_breakpad::{Function, Inlinee, PublicSymbol, SourceLine};
-use bz_digits::Piece;
+use bz_written::Piece;
 
 /// The MODULE record of a name, if there is one.
 pub(crate) fn push_module(text: &mut Vec<u8>, name: Option<&str>) -> Result<()>

@@ -1,1 +1,2 @@
+pub mod GeneratedLemmas
 pub mod TextLemmas

@@ -1,8 +1,8 @@
 -- What is said of a file is so, and nothing else is.
 use Rattle.std.proofs.Common.{◌≡◌, ◌↔◌, ℕ, List, [], Option, Some, None, Result, Ok, Err, IfOk, option_map, sym, ap, subst, ◌∙◌}
 use Rattle.std.proofs.lemmas.Option.{none-some, same_Some}
-use Rattle.bz_breakpad_refusal.specs.Refusals.{IsRefusal}
-use Rattle.bz_breakpad_refusal.specs.declared.refused.Refused.{Refused}
+use Rattle.bz_breakpad_table.specs.Refusals.{IsRefusal}
+use Rattle.bz_breakpad_table.specs.declared.refused.Refused.{Refused}
 use Rattle.bz_files.specs.World.{Denied, Entry, Present, World, entry_at}
 use Rattle.bz_files.specs.declared.stamp.Stamp.{Stamp}
 use Rattle.bz_words.specs.Command.{Command, command_in}

@@ -1,9 +1,9 @@
 -- What standard error says of a run, without the end of its last line.
 use Rattle.std.specs.Prelude.{◌≡◌, ◌↔◌, ◌⊎◌, ℕ, List, ◌++◌, codes, decimal, Option, Some, None, option_and_then}
 use Rattle.bz_base.specs.InputKind.{InFile}
-use Rattle.bz_breakpad_refusal.specs.Refusals.{IsRefusal}
-use Rattle.bz_breakpad_refusal.specs.declared.refused.Refused.{Refused}
-use Rattle.bz_breakpad_refusal.specs.declared.refused.Refused.TheVariants.{Line, NoEnd, Empty}
+use Rattle.bz_breakpad_table.specs.Refusals.{IsRefusal}
+use Rattle.bz_breakpad_table.specs.declared.refused.Refused.{Refused}
+use Rattle.bz_breakpad_table.specs.declared.refused.Refused.TheVariants.{Line, NoEnd, Empty}
 use Rattle.bz_files.specs.World.{World, Present, entry_at}
 use Rattle.bz_files.specs.declared.stamp.Stamp.{Stamp}
 use Rattle.bz_requests.specs.Requests.{Breakpad, Elf, Gsym}

@@ -8,7 +8,7 @@ ghost use Rattle.bz_help.specs.Messages.{SaysAt, SaysOf, SaysWhere, Tells, break
 ghost use Rattle.bz_words.specs.Command.{job_of};
 
 use bz_base::{Error, Input, Result};
-use bz_breakpad_refusal::{Refused, first_refused};
+use bz_breakpad_table::{Refused, first_refused};
 use bz_files::{FileError, Files};
 use bz_requests::Target;
 use bz_words::{BadWords, Job, Product, read_command};

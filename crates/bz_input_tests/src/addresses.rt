@@ -1,6 +1,6 @@
 //! Lines of addresses, and fields.
 
-use bz_lines::{BadInput, address, fields, read_lines};
+use bz_requests::{BadInput, address, fields, read_lines};
 use std::alloc::Global;
 
 /// An input, how many addresses it says, the last of them, and its first line that isn't well formed;

@@ -1,4 +1,4 @@
-//! Tests of bz_lines, bz_requests, bz_words, bz_gen and bz_breakpad_refusal, over what they make
+//! Tests of bz_requests, bz_requests, bz_words, bz_gen and bz_breakpad_table, over what they make
 //! public.
 #![tactic(auto)]
 

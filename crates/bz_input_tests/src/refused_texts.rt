@@ -1,6 +1,6 @@
 //! Texts, and where they are refused.
 
-use bz_breakpad_refusal::{Refused, first_refused};
+use bz_breakpad_table::{Refused, first_refused};
 use std::alloc::Global;
 use std::test::Fail;
 

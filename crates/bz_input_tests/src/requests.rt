@@ -1,8 +1,7 @@
 //! Lines of requests.
 
 use bz_base::Input;
-use bz_lines::BadInput;
-use bz_requests::{Request, Target, read_requests};
+use bz_requests::{BadInput, Request, Target, read_requests};
 use std::alloc::Global;
 
 /// Requests of every kind; lines that end in a carriage return, that are empty, and one that lacks

@@ -4,7 +4,7 @@ use Rattle.bz_base.specs.Answer.{Gives}
 use Rattle.bz_base.specs.declared.error.Error.{Error}
 use Rattle.bz_base.specs.declared.error.Error.TheVariants as errors
 use Rattle.bz_base.specs.declared.types.FindSymOpts.{FindSymOpts}
-use Rattle.bz_calls.specs.FileCall.{Query}
+use Rattle.bz_cache.specs.FileCall.{Query}
 use Rattle.bz_gsym.specs.Tables.{IsGsym}
 use Rattle.bz_gsym.proofs.FormatLemmas.{in_format, not_in_format}
 use Rattle.bz_lookups.specs.Formats.{gsym_handed, gsym_single, handed_answer, is_in_table}

@@ -12,7 +12,7 @@ use Rattle.bz_files.specs.declared.files.Files.{Ghosts}
 use Rattle.bz_cache.specs.Cache.{Cache}
 use Rattle.bz_cache.specs.Format.{Comes, FailsAs}
 use Rattle.bz_cache.specs.Look.{look}
-use Rattle.bz_calls.specs.FileCall.{Answering, ByVersion, CallsFile, Leaves, Query, by_look, by_test, each_of, file_answer, query_asked, query_given}
+use Rattle.bz_cache.specs.FileCall.{Answering, ByVersion, CallsFile, Leaves, Query, by_look, by_test, each_of, file_answer, query_asked, query_given}
 use Rattle.bz_lookups.specs.Formats.{HandedSource, handed_answer}
 
 -- what reads as expected wherever it is given, and else is want of memory

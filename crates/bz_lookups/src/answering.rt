@@ -5,7 +5,7 @@ ghost use Rattle.bz_base.specs.Answer.{Gives};
 ghost use Rattle.bz_base.specs.InputKind.{address_kind};
 ghost use Rattle.bz_base.specs.Refusals.{MayRefuse};
 ghost use Rattle.bz_base.specs.declared.types.FindSymOpts.{FindSymOpts};
-ghost use Rattle.bz_calls.specs.FileCall.{Answering, CallsFile, each_of, query_asked, query_given};
+ghost use Rattle.bz_cache.specs.FileCall.{Answering, CallsFile, each_of, query_asked, query_given};
 ghost use Rattle.bz_lookups.specs.Batch.{held_singles, version_of};
 ghost use Rattle.bz_lookups.specs.Counted.{FileSteps, TakesSteps};
 

@@ -7,7 +7,7 @@ ghost use Rattle.bz_base.specs.Lent.{IsLent};
 ghost use Rattle.bz_base.specs.Refusals.{MayRefuse};
 ghost use Rattle.bz_base.specs.declared.error.Error.{Error};
 ghost use Rattle.bz_base.specs.declared.types.FindSymOpts.{FindSymOpts};
-ghost use Rattle.bz_calls.specs.FileCall.{each_of, query_given};
+ghost use Rattle.bz_cache.specs.FileCall.{each_of, query_given};
 ghost use Rattle.bz_lookups.specs.Batch.{ElfVersion, held_singles, kind_of, version_of};
 ghost use Rattle.bz_lookups.specs.Counted.{TakesSteps, no_steps};
 ghost use Rattle.bz_lookups.specs.Formats.{elf_answering, elf_single, virtual_offset};

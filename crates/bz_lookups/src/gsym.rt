@@ -6,7 +6,7 @@ ghost use Rattle.bz_base.specs.InputKind.{address_kind};
 ghost use Rattle.bz_base.specs.Lent.{IsLent};
 ghost use Rattle.bz_base.specs.Refusals.{MayRefuse};
 ghost use Rattle.bz_base.specs.declared.types.FindSymOpts.{FindSymOpts};
-ghost use Rattle.bz_calls.specs.FileCall.{each_of, query_given};
+ghost use Rattle.bz_cache.specs.FileCall.{each_of, query_given};
 ghost use Rattle.bz_gsym.specs.Refusal.{IsAnswerRefusal};
 ghost use Rattle.bz_lookups.specs.Batch.{held_singles, version_of};
 ghost use Rattle.bz_lookups.specs.Counted.{TakesSteps, no_steps};

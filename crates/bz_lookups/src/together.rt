@@ -8,7 +8,7 @@ ghost use Rattle.bz_lookups.specs.Together.{AnswersMore, AreNext, Grows};
 
 use crate::lookups::Lookups;
 use bz_base::{Addr, Reason, Result, Symbolized};
-use bz_calls::owned_answer;
+use bz_cache::owned_answer;
 use std::alloc::Global;
 
 /// So many answers are made together.

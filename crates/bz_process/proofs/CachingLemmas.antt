@@ -11,7 +11,7 @@ use Rattle.bz_cache.specs.Cache.{Cache, with_pin}
 use Rattle.bz_cache.specs.Format.{FailsAs}
 use Rattle.bz_cache.specs.Look.{look, will_open}
 use Rattle.bz_cache.proofs.Pinning.{consistent_pinned}
-use Rattle.bz_calls.specs.Pinning.{PinsFile, pinned_by, pinning}
+use Rattle.bz_cache.specs.Pinning.{PinsFile, pinned_by, pinning}
 use Rattle.bz_proc.specs.PerfMap as perf
 use Rattle.bz_process.specs.Caches.{ProcessCaches}
 use Rattle.bz_process.specs.Caching.{is_gone, perf_map_pinning, pins_perf_map, unless_gone}

@@ -12,7 +12,7 @@ use Rattle.bz_cache.specs.View.{fixed}
 use Rattle.bz_cache.proofs.FiniteMaps.{insert_cases}
 use Rattle.bz_cache.proofs.Naming.{paths_apart}
 use Rattle.bz_cache.proofs.Stamps.{stamp_eq_self, stamp_total, stamps_apart}
-use Rattle.bz_calls.proofs.FileLemmas.{reload_look}
+use Rattle.bz_cache.proofs.FileLemmas.{reload_look}
 use Rattle.bz_elf.specs.Format as elf
 use Rattle.bz_proc.specs.PerfMap as perf
 use Rattle.bz_process.specs.Caches.{ProcessCaches}

@@ -19,7 +19,7 @@ use Rattle.bz_proc.specs.PerfPath.{perf_map_path}
 use Rattle.bz_proc.specs.PerfId.{ns_tgid_of, status_path}
 use Rattle.bz_proc.specs.SystemText.{has_file}
 use Rattle.bz_base.specs.declared.pid.Pid.{Pid}
-use Rattle.bz_calls.specs.FileCall.{Question, CallsFile, FileTold, FileSome, Leaves, file_opens}
+use Rattle.bz_cache.specs.FileCall.{Question, CallsFile, FileTold, FileSome, Leaves, file_opens}
 use Rattle.bz_process.specs.Process.{Outcome, Step, and_then, followed, gives, unless_absent, or_unknown, of_elf, of_perf_map, count_of, pid_cmp, by_id, by_kept, remember, remembered}
 use Rattle.bz_process.specs.ProcessCall.{Change, LookElf, LookPerfMap, Remember, changed, after_changes, IsTold, Reaches, LeavesUnlessFailed, HasOutcome, StaysKept, TakesStep, softened}
 use Rattle.bz_process.specs.Remembered.{Remembered}

@@ -15,7 +15,7 @@ use Rattle.bz_cache.specs.Look.{by_entry, by_fixed, by_test, is_new, look, named
 use Rattle.bz_cache.specs.View.{fixed}
 use Rattle.bz_cache.proofs.FiniteMaps.{get_inserted}
 use Rattle.bz_cache.proofs.Stamps.{stamp_total, stamps_apart}
-use Rattle.bz_calls.specs.FileCall.{Question, by_look}
+use Rattle.bz_cache.specs.FileCall.{Question, by_look}
 use Rattle.bz_elf.specs.Format as elf
 use Rattle.bz_elf.specs.Version as elf_version
 use Rattle.bz_proc.specs.Maps.{Mapping, Name, File, Component, owner_of}

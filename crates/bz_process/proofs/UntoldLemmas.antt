@@ -7,7 +7,7 @@ use Rattle.bz_base.specs.declared.pid.Pid.{Pid}
 use Rattle.bz_base.specs.declared.types.Symbolized.{Symbolized}
 use Rattle.bz_cache.specs.Cache.{Cache}
 use Rattle.bz_cache.specs.InsertMap.{value_at, with_absent}
-use Rattle.bz_calls.specs.FileCall.{FileSome, Question}
+use Rattle.bz_cache.specs.FileCall.{FileSome, Question}
 use Rattle.bz_proc.specs.Maps.{Mapping}
 use Rattle.bz_proc.specs.PerfId.{IsOfStatus}
 use Rattle.bz_proc.specs.SystemText.{IsReadRefusal}

@@ -13,8 +13,8 @@ use Rattle.bz_cache.specs.View.{Shown, by_fixed_view, bytes_at, fixed, shown, vi
 use Rattle.bz_cache.proofs.Looking.{current_kept, fixed_current}
 use Rattle.bz_cache.proofs.Naming.{some_at}
 use Rattle.bz_cache.proofs.Stamps.{same_stamp}
-use Rattle.bz_calls.specs.FileCall.{by_look, shown_answer}
-use Rattle.bz_calls.proofs.FileLemmas.{look_by_view}
+use Rattle.bz_cache.specs.FileCall.{by_look, shown_answer}
+use Rattle.bz_cache.proofs.FileLemmas.{look_by_view}
 use Rattle.bz_elf.specs.Format as elf
 use Rattle.bz_proc.specs.Maps.{Mapping, Name, File, Component, owner_of}
 use Rattle.bz_proc.specs.PerfId.{status_path}

@@ -10,7 +10,7 @@ use Rattle.bz_files.specs.World.{World, Entry, entry_at}
 use Rattle.bz_cache.specs.Cache.{Cache, with_pin}
 use Rattle.bz_cache.specs.InsertMap.{value_at, with_value, without}
 use Rattle.bz_cache.specs.Look.{will_open}
-use Rattle.bz_calls.specs.Pinning.{pinning}
+use Rattle.bz_cache.specs.Pinning.{pinning}
 use Rattle.bz_proc.specs.Maps.{Mapping}
 use Rattle.bz_proc.specs.MapsFile.{maps_path, maps_told}
 use Rattle.bz_proc.specs.PerfMap as perf

@@ -16,7 +16,7 @@ use Rattle.bz_proc.specs.NameOrder.{name_order}
 use Rattle.bz_proc.specs.declared.maps.PathName.{PathName}
 use Rattle.bz_process.specs.Member.{Member, MayRefuseMember, as_member}
 use Rattle.bz_process.specs.Process.{Said, offset_in}
-use Rattle.bz_calls.specs.FileCall.{as_answer}
+use Rattle.bz_cache.specs.FileCall.{as_answer}
 
 -- the answers of a dispatcher that are kept, by what they are for
 abbrev pub Answers : Type 0 → Type 0

@@ -8,7 +8,7 @@ use Rattle.bz_files.specs.Agreement.{AgreeOn}
 use Rattle.bz_files.specs.World.{World}
 use Rattle.bz_cache.specs.Cache.{Consistent}
 use Rattle.bz_cache.specs.Coherence.{Coherent}
-use Rattle.bz_calls.specs.FileCall.{view_answer}
+use Rattle.bz_cache.specs.FileCall.{view_answer}
 use Rattle.bz_elf.specs.Format as elf
 use Rattle.bz_proc.specs.Maps.{Mapping, Name, File, Component, owner_of}
 use Rattle.bz_proc.specs.PerfMap as perf

@@ -18,7 +18,7 @@ use Rattle.bz_proc.specs.PerfId.{ns_tgid_of, status_path}
 use Rattle.bz_proc.specs.SystemText.{has_file}
 use Rattle.bz_base.specs.contracts.pid.PidOrd.TheImpl as pid_ord
 use Rattle.bz_base.specs.declared.pid.Pid.{Pid}
-use Rattle.bz_calls.specs.FileCall.{Question, file_answer, file_cache, file_opens}
+use Rattle.bz_cache.specs.FileCall.{Question, file_answer, file_cache, file_opens}
 use Rattle.bz_process.specs.Remembered.{Remembered}
 use Rattle.bz_process.specs.Asked.{Asked}
 use Rattle.bz_process.specs.Caches.{ProcessCaches}

@@ -6,7 +6,7 @@ use Rattle.bz_base.specs.declared.error.Error.TheVariants as errors
 use Rattle.bz_base.specs.declared.pid.Pid.{Pid}
 use Rattle.bz_base.specs.declared.types.Reason.TheVariants as reasons
 use Rattle.bz_cache.specs.InsertMap.{value_at, with_absent}
-use Rattle.bz_calls.specs.FileCall.{FileSome, Question}
+use Rattle.bz_cache.specs.FileCall.{FileSome, Question}
 use Rattle.bz_proc.specs.Maps.{Mapping, Name, File, Component, owner_of}
 use Rattle.bz_proc.specs.PerfId.{IsOfStatus}
 use Rattle.bz_proc.specs.SystemText.{IsReadRefusal}

@@ -14,8 +14,7 @@ ghost use Rattle.bz_process.specs.ProcessCall.{UnlessFailed};
 use crate::dispatch::{ProcessDispatch, ProcessMemberInfo};
 use crate::mapped_file::offset_in;
 use bz_base::{Addr, Error, FindSymOpts, Reason, Resolve, Result, Symbolized};
-use bz_cache::InsertMap;
-use bz_calls::owned_answer;
+use bz_cache::{InsertMap, owned_answer};
 use bz_proc::{MapsEntry, PathName};
 use std::alloc::Global;
 

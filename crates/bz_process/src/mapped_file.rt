@@ -4,7 +4,7 @@ ghost use Rattle.std.specs.Prelude.{◌≡◌, ℕ, Ok, None, Some, cond, option
 ghost use Rattle.bz_base.specs.Answer.{reading, resolved_of};
 ghost use Rattle.bz_base.specs.Lent.{IsLent, IsLentResolved};
 ghost use Rattle.bz_base.specs.declared.error.Error.{Error};
-ghost use Rattle.bz_calls.specs.FileCall.{CallsFile};
+ghost use Rattle.bz_cache.specs.FileCall.{CallsFile};
 ghost use Rattle.bz_elf.specs.Segments.{segments, translated};
 ghost use Rattle.bz_proc.specs.Maps.{mapping_of, name_of};
 ghost use Rattle.bz_process.specs.Asked.{asked_of};
@@ -19,8 +19,7 @@ use bz_base::{
     Addr, Error, FindSymOpts, Reason, ResolvedSym, Result, Symbolize, Symbolized,
     TranslateFileOffset,
 };
-use bz_cache::FileCache;
-use bz_calls::owned_answer;
+use bz_cache::{FileCache, owned_answer};
 use bz_elf::ElfFile;
 use bz_files::Files;
 use bz_proc::{EntryPath, MapsEntry, PathName};

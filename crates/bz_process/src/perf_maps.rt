@@ -7,7 +7,7 @@ ghost use Rattle.bz_base.specs.declared.error.Error.{Error};
 ghost use Rattle.bz_cache.specs.Cache.{Cache};
 ghost use Rattle.bz_cache.specs.Format.{Comes};
 ghost use Rattle.bz_cache.specs.InsertMap.{value_at, with_absent};
-ghost use Rattle.bz_calls.specs.FileCall.{CallsFile};
+ghost use Rattle.bz_cache.specs.FileCall.{CallsFile};
 ghost use Rattle.bz_files.specs.Looked.{Faulted, Looked, ReadsOne};
 ghost use Rattle.bz_files.specs.World.{Told, entry_at, in_view};
 ghost use Rattle.bz_proc.specs.PerfId.{IsOfStatus, ns_tgid_of, status_path};
@@ -22,8 +22,7 @@ ghost use Rattle.bz_process.specs.Untold.{IsKnown, LooksAtPerfMap, LooksSoftly, 
 use crate::known::Known;
 use crate::query::ProcessQuery;
 use bz_base::{Addr, Error, FindSymOpts, Pid, Reason, Result, Symbolize, Symbolized};
-use bz_cache::{FileCache, InsertMap};
-use bz_calls::owned_answer;
+use bz_cache::{FileCache, InsertMap, owned_answer};
 use bz_files::Files;
 use bz_proc::PerfMap;
 use std::alloc::Global;

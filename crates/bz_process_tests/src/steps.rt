@@ -2,8 +2,7 @@
 
 use crate::files::{File, put, replace};
 use bz_base::{Addr, Error, FindSymOpts, Input, Pid, Reason, Sym, Symbolized};
-use bz_cache::FileCache;
-use bz_calls::pin_file;
+use bz_cache::{FileCache, pin_file};
 use bz_elf::ElfFile;
 use bz_files::MemFiles;
 use bz_process::{ProcessCaching, ProcessDispatch, ProcessQuery, Processes};

@@ -3,7 +3,7 @@ use Rattle.std.proofs.Common.{◌≡◌, ◌<◌, ◌≤◌, ◌-◌, ◌==◌, 
 use Rattle.std.proofs.lemmas.Bool.{lt-ltb}
 use Rattle.std.proofs.lemmas.Str.{is_utf8-from_IsUtf8, IsUtf8-from_is_utf8}
 use Rattle.std.specs.Str.{IsUtf8, is_utf8}
-use Rattle.bz_lines.proofs.FieldLemmas.{past_place}
+use Rattle.bz_requests.proofs.FieldLemmas.{past_place}
 use Rattle.bz_requests.specs.Requests.{batch_in, other_in, path_in, request_of}
 use Rattle.bz_requests.specs.declared.requests.Request as made
 

@@ -6,12 +6,12 @@ use Rattle.std.proofs.lemmas.Bool.{and_parts, cond_both, ltb-true}
 use Rattle.std.proofs.lemmas.Slice.Eq.{bytes_eq-Decides}
 use Rattle.std.proofs.lemmas.Str.{IsUtf8-from_is_utf8}
 use Rattle.bz_base.proofs.NumberLemmas.{decimal_whole_found, decimal_whole_again}
-use Rattle.bz_lines.specs.Addresses.{IsAddress, address_in, each_address_in}
-use Rattle.bz_lines.specs.Fields.{fields}
-use Rattle.bz_lines.specs.Lines.{Agrees}
-use Rattle.bz_lines.proofs.AddressLemmas.{address_found, address_again, addresses_found, addresses_again}
-use Rattle.bz_lines.proofs.FieldLemmas.{are_fields, fields_are}
-use Rattle.bz_lines.proofs.OptionLemmas.{map_some, then_some}
+use Rattle.bz_requests.specs.Addresses.{IsAddress, address_in, each_address_in}
+use Rattle.bz_requests.specs.Fields.{fields}
+use Rattle.bz_requests.specs.Lines.{Agrees}
+use Rattle.bz_requests.proofs.AddressLemmas.{address_found, address_again, addresses_found, addresses_again}
+use Rattle.bz_requests.proofs.FieldLemmas.{are_fields, fields_are}
+use Rattle.bz_requests.proofs.OptionLemmas.{map_some, then_some}
 use Rattle.bz_requests.specs.Requests.{Target, Breakpad, Gsym, Elf, Process, Request, Batch, Single, CacheElf, CacheProcess, EvictElf, EvictProcess, IsPath, IsTarget, IsRequest, Spell, path_in, pid_in, target_in, batch_in, single_in, cache_in, evict_in, other_in, request_by, request_in}
 use Rattle.bz_requests.proofs.ReadingLemmas.{path_some}
 

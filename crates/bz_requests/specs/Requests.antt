@@ -4,9 +4,9 @@ use Rattle.std.specs.List.{AllZip}
 use Rattle.std.specs.Str.{IsUtf8, is_utf8}
 use Rattle.bz_base.specs.InputKind.{AddressKind, InFile, InProcess, InTable}
 use Rattle.bz_base.specs.Number.{IsDecimal, decimal_at, whole}
-use Rattle.bz_lines.specs.Addresses.{IsAddress, address_in, each_address_in}
-use Rattle.bz_lines.specs.Fields.{AreFields, fields}
-use Rattle.bz_lines.specs.Lines.{AreItems, items_in}
+use Rattle.bz_requests.specs.Addresses.{IsAddress, address_in, each_address_in}
+use Rattle.bz_requests.specs.Fields.{AreFields, fields}
+use Rattle.bz_requests.specs.Lines.{AreItems, items_in}
 use Rattle.bz_requests.specs.declared.requests.Request as made_request
 use Rattle.bz_requests.specs.declared.requests.Request.TheVariants as made_requests
 use Rattle.bz_requests.specs.declared.requests.Target as made_target

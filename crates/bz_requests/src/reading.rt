@@ -3,9 +3,11 @@
 ghost use Rattle.std.specs.Prelude.{◌≡◌, ◌∷◌, ℕ, Ok, Err, Some, None, bytes_eq, map, option_map, string_bytes, IfOk, IsErrOf};
 ghost use Rattle.bz_requests.specs.Requests.{batch_in, cache_in, evict_in, other_in, path_in, pid_in, request_by, request_in, request_of, requests_in, single_in, target_in, target_of};
 
+use crate::addresses::{address, each_address};
+use crate::field::fields;
+use crate::lines::{BadInput, FromLine, read_lines};
 use crate::requests::{Request, Target};
 use bz_base::whole_decimal;
-use bz_lines::{BadInput, FromLine, address, each_address, fields, read_lines};
 use std::alloc::{AllocError, Global};
 
 /// The requests that the lines of the input say: one on each line, or none where it is empty.

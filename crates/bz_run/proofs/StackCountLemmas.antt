@@ -2,7 +2,7 @@
 use Rattle.std.proofs.Common.{◌≡◌, ◌≤◌, ◌<◌, ◌+◌, ℕ, suc, Bool, true, false, cond, nat_eq, List, [], ◌∷◌, length, Option, Some, None, Result, Ok, Err, refl, arith}
 use Rattle.bz_base.specs.Byte.{line_feed}
 use Rattle.bz_base.specs.Line.{all_lines, begins_line}
-use Rattle.bz_lines.specs.Lines.{content_of, read_lines, said_in, with_said}
+use Rattle.bz_requests.specs.Lines.{content_of, read_lines, said_in, with_said}
 use Rattle.bz_stacks.specs.Spelling.{stack_in, stacks_in}
 use Rattle.bz_stacks.specs.Stack.{Taken}
 use Rattle.bz_symq.specs.InputText.{greatest_input}

@@ -5,7 +5,7 @@ use Rattle.bz_base.specs.Answer.{Answer}
 use Rattle.bz_base.specs.InputKind.{InFile}
 use Rattle.bz_base.specs.declared.error.Error.{Error}
 use Rattle.bz_files.specs.World.{World, entry_at}
-use Rattle.bz_lines.proofs.LineGrammarLemmas.{items_again}
+use Rattle.bz_requests.proofs.LineGrammarLemmas.{items_again}
 use Rattle.bz_requests.specs.declared.requests.Config.{Config}
 use Rattle.bz_stacks.specs.Spelling.{IsStack, stack_in, stacks_in}
 use Rattle.bz_stacks.specs.Stack.{Taken}

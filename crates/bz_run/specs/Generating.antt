@@ -6,7 +6,7 @@ use Rattle.bz_files.specs.World.{Told}
 use Rattle.bz_files.specs.declared.text.TextOut as output_trait
 use Rattle.bz_breakpad.specs.Plain.{batch}
 use Rattle.bz_gen.specs.Generated.{addresses_after}
-use Rattle.bz_gen_file.specs.GeneratedTable.{generated_table}
+use Rattle.bz_gen.specs.GeneratedTable.{generated_table}
 use Rattle.bz_requests.specs.declared.requests.Config.{Config}
 use Rattle.bz_symq.specs.Kept.{settings_of}
 use Rattle.bz_serve.specs.Serving.{served}

@@ -6,8 +6,8 @@ use Rattle.bz_base.specs.declared.error.Error.TheVariants as errors
 use Rattle.bz_files.specs.Count.{CountsFaults}
 use Rattle.bz_files.specs.World.{Told}
 use Rattle.bz_files.specs.declared.text.TextIn as input_trait
-use Rattle.bz_lines.proofs.LineGrammarLemmas.{first_bad_again}
-use Rattle.bz_lines.specs.Lines.{HasBadLine}
+use Rattle.bz_requests.proofs.LineGrammarLemmas.{first_bad_again}
+use Rattle.bz_requests.specs.Lines.{HasBadLine}
 use Rattle.bz_requests.proofs.RequestLemmas.{request_agrees}
 use Rattle.bz_requests.specs.Requests.{IsRequest, Request, request_in, requests_in}
 use Rattle.bz_symq.proofs.FaultLemmas.{counts_as, counts_still, no_fault}

@@ -3,7 +3,7 @@ use Rattle.std.proofs.Common.{◌≡◌, ◌⊎◌, ◌↔◌, ◌≤◌, ◌<�
 use Rattle.std.proofs.lemmas.Bool.{false≢true, le-ltb, lt-ltb, ltb-false}
 use Rattle.bz_base.specs.declared.types.FindSymOpts.{FindSymOpts}
 use Rattle.bz_files.specs.World.{World}
-use Rattle.bz_lines.proofs.LineGrammarLemmas.{first_bad_found}
+use Rattle.bz_requests.proofs.LineGrammarLemmas.{first_bad_found}
 use Rattle.bz_store.specs.Frames.{Frame}
 use Rattle.bz_symq.proofs.InputTextLemmas.{asks_from_read, err_from_bad}
 use Rattle.bz_symq.specs.InputText.{IsBadInput, greatest_input}

@@ -2,12 +2,12 @@
 use Rattle.std.proofs.Common.{◌≡◌, ℕ, Bool, true, false, cond, List, [], ◌∷◌, Option, Some, None, option_map, option_and_then, refl, ap, ap₂, subst, ◌∙◌}
 use Rattle.std.specs.Str.{IsUtf8, is_utf8}
 use Rattle.std.proofs.lemmas.Str.{is_utf8-from_IsUtf8, IsUtf8-from_is_utf8}
-use Rattle.bz_lines.specs.Addresses.{IsAddress, address_in}
-use Rattle.bz_lines.specs.Fields.{AreFields, fields}
-use Rattle.bz_lines.specs.Lines.{Agrees}
-use Rattle.bz_lines.proofs.AddressLemmas.{address_found, address_again}
-use Rattle.bz_lines.proofs.FieldLemmas.{are_fields, fields_are}
-use Rattle.bz_lines.proofs.OptionLemmas.{map_some, then_some}
+use Rattle.bz_requests.specs.Addresses.{IsAddress, address_in}
+use Rattle.bz_requests.specs.Fields.{AreFields, fields}
+use Rattle.bz_requests.specs.Lines.{Agrees}
+use Rattle.bz_requests.proofs.AddressLemmas.{address_found, address_again}
+use Rattle.bz_requests.proofs.FieldLemmas.{are_fields, fields_are}
+use Rattle.bz_requests.proofs.OptionLemmas.{map_some, then_some}
 use Rattle.bz_store.specs.Frames.{Frame}
 use Rattle.bz_serve.specs.FrameLines.{IsFrame, frame_at, frame_by, frame_in, text_in}
 

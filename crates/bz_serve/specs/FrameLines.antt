@@ -1,9 +1,9 @@
 -- The frames of a crash as lines spell them: a module's name, the module's id and an offset, with one space between each two.
 use Rattle.std.specs.Prelude.{ℕ, List, [], ◌∷◌, Option, Some, None, Result, option_map, option_and_then, if◌then◌else◌}
 use Rattle.std.specs.Str.{IsUtf8, is_utf8}
-use Rattle.bz_lines.specs.Addresses.{IsAddress, address_in}
-use Rattle.bz_lines.specs.Fields.{AreFields, fields}
-use Rattle.bz_lines.specs.Lines.{AreItems, items_in}
+use Rattle.bz_requests.specs.Addresses.{IsAddress, address_in}
+use Rattle.bz_requests.specs.Fields.{AreFields, fields}
+use Rattle.bz_requests.specs.Lines.{AreItems, items_in}
 use Rattle.bz_store.specs.Frames.{Frame, frame_of}
 use Rattle.bz_serve.specs.declared.frames.reading.FrameLine.{FrameLine}
 

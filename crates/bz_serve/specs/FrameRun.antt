@@ -6,7 +6,7 @@ use Rattle.bz_files.specs.World.{Told, World, in_view}
 use Rattle.bz_files.specs.declared.files.Files as files_trait
 use Rattle.bz_files.specs.declared.text.TextIn as input_trait
 use Rattle.bz_files.specs.declared.text.TextOut as output_trait
-use Rattle.bz_lines.specs.Lines.{IsFirstBad}
+use Rattle.bz_requests.specs.Lines.{IsFirstBad}
 use Rattle.bz_store.specs.Frames.{Frame, FrameReading}
 use Rattle.bz_store.specs.Plain.{answer_in}
 use Rattle.bz_symq.specs.InputText.{AsksFor, IsBadInput, IsReadWhole, MovesAtMost, greatest_input}

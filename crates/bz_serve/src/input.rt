@@ -8,8 +8,7 @@ ghost use Rattle.bz_requests.specs.Requests.{requests_in};
 
 use bz_base::{Error, Result};
 use bz_files::TextIn;
-use bz_lines::BadInput;
-use bz_requests::{Request, read_requests};
+use bz_requests::{BadInput, Request, read_requests};
 use bz_symq::{Reply, bad_line, read_input, unread};
 use std::alloc::Global;
 

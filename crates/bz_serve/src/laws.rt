@@ -2,7 +2,7 @@
 
 ghost use Rattle.std.specs.Prelude.{◌≡◌, ◌≤◌, ◌↔◌, ℕ, Bool, List, None, Some, Ok, Err};
 ghost use Rattle.bz_files.specs.World.{World};
-ghost use Rattle.bz_lines.specs.Lines.{IsFirstBad};
+ghost use Rattle.bz_requests.specs.Lines.{IsFirstBad};
 ghost use Rattle.bz_process.specs.Caches.{ProcessCaches};
 ghost use Rattle.bz_process.specs.Caching.{Caching, caches_process};
 ghost use Rattle.bz_requests.specs.Requests.{Request};

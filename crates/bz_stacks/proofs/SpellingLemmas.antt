@@ -2,12 +2,12 @@
 use Rattle.std.proofs.Common.{Bor, map, ◌≡◌, ℕ, ◌<◌, List, [], ◌∷◌, ◌++◌, length, Option, Some, None, option_map, option_and_then, refl, ap, subst, ◌∙◌, arith}
 use Rattle.std.specs.List.{AllZip}
 use Rattle.bz_base.proofs.NumberLemmas.{decimal_whole_found, decimal_whole_again}
-use Rattle.bz_lines.specs.Addresses.{IsAddress, address_in, each_address_in}
-use Rattle.bz_lines.specs.Fields.{AreFields, fields}
-use Rattle.bz_lines.specs.Lines.{Agrees}
-use Rattle.bz_lines.proofs.AddressLemmas.{address_found, address_again}
-use Rattle.bz_lines.proofs.FieldLemmas.{are_fields, fields_are}
-use Rattle.bz_lines.proofs.OptionLemmas.{map_some, then_some}
+use Rattle.bz_requests.specs.Addresses.{IsAddress, address_in, each_address_in}
+use Rattle.bz_requests.specs.Fields.{AreFields, fields}
+use Rattle.bz_requests.specs.Lines.{Agrees}
+use Rattle.bz_requests.proofs.AddressLemmas.{address_found, address_again}
+use Rattle.bz_requests.proofs.FieldLemmas.{are_fields, fields_are}
+use Rattle.bz_requests.proofs.OptionLemmas.{map_some, then_some}
 use Rattle.bz_stacks.specs.Stack.{Taken}
 use Rattle.bz_stacks.specs.Spelling.{IsCount, IsStack, count_in, counted_in, stack_by, stack_in, taken_by, with_addr}
 

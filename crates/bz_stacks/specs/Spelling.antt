@@ -2,9 +2,9 @@
 use Rattle.std.specs.Prelude.{ℕ, ◌<◌, List, [], ◌∷◌, ◌++◌, length, Option, Some, None, Result, option_map, option_and_then}
 use Rattle.std.specs.List.{AllZip}
 use Rattle.bz_base.specs.Number.{IsDecimal, decimal_at, whole}
-use Rattle.bz_lines.specs.Addresses.{IsAddress, address_in}
-use Rattle.bz_lines.specs.Fields.{AreFields, fields}
-use Rattle.bz_lines.specs.Lines.{AreItems, items_in}
+use Rattle.bz_requests.specs.Addresses.{IsAddress, address_in}
+use Rattle.bz_requests.specs.Fields.{AreFields, fields}
+use Rattle.bz_requests.specs.Lines.{AreItems, items_in}
 use Rattle.bz_stacks.specs.Stack.{Taken}
 
 -- a field is a count: 1 to 10 decimal digits of a number of 32 bits

@@ -4,7 +4,7 @@ ghost use Rattle.std.specs.Prelude.{◌≡◌, ◌↔◌, ℕ, List, Some, Ok, E
 ghost use Rattle.std.specs.List.{list_any};
 ghost use Rattle.std.specs.FinMap as finite;
 ghost use Rattle.bz_stacks.specs.Folding.{Folding, Seen, added_all, has_path, nothing_folded, sum_at, sum_of, sums_of};
-ghost use Rattle.bz_lines.specs.Lines.{IsFirstBad};
+ghost use Rattle.bz_requests.specs.Lines.{IsFirstBad};
 ghost use Rattle.bz_stacks.specs.Spelling.{AreStacks, IsStack, stack_in, stacks_in};
 ghost use Rattle.bz_stacks.specs.Stack.{Taken};
 ghost use Rattle.bz_stacks.specs.Text.{folded_text, text_of};

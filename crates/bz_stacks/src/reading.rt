@@ -1,14 +1,14 @@
 //! The stacks that lines spell.
 
 ghost use Rattle.std.specs.Prelude.{◌≡◌, ℕ, Ok, Err, map, IfOk, IsErrOf};
-ghost use Rattle.bz_lines.specs.Addresses.{each_address_in};
+ghost use Rattle.bz_requests.specs.Addresses.{each_address_in};
 ghost use Rattle.bz_stacks.specs.Spelling.{count_in, stack_by, stack_in, stacks_in, taken_by};
 ghost use Rattle.bz_stacks.specs.Stack.{Taken};
 
 use crate::error::StackError;
 use crate::stack::Stack;
 use bz_base::whole_decimal;
-use bz_lines::{BadInput, FromLine, each_address, fields, read_lines};
+use bz_requests::{BadInput, FromLine, each_address, fields, read_lines};
 use std::alloc::{AllocError, Global};
 
 /// The stacks that the lines of the input say: one on each line, or none where it is empty. A line is

@@ -10,7 +10,7 @@ ghost use Rattle.bz_store.specs.Visits.{by_table};
 use crate::frame::{CrashFrame, FrameAnswer, offsets};
 use bz_base::{FindSymOpts, Result, Steps, Symbolized};
 use bz_breakpad::SymbolFile;
-use bz_calls::owned_answer;
+use bz_cache::owned_answer;
 use std::alloc::Global;
 use std::marker::Brand;
 use std::sync::ledger::{Blank, Ledger};

@@ -8,7 +8,7 @@ use Rattle.bz_files.specs.declared.files.Files.{Ghosts}
 use Rattle.bz_cache.specs.Cache.{Cache, Consistent, with_pin}
 use Rattle.bz_cache.specs.Format.{Comes}
 use Rattle.bz_cache.specs.Look.{look, will_open}
-use Rattle.bz_calls.specs.Pinning.{IsLeft, PinsFile, pinned_by, pinning}
+use Rattle.bz_cache.specs.Pinning.{IsLeft, PinsFile, pinned_by, pinning}
 use Rattle.bz_elf.specs.Format as elf
 use Rattle.bz_proc.specs.PerfMap as perf
 use Rattle.bz_process.proofs.ProcessLemmas.{opened_by}

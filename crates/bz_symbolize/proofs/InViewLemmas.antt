@@ -12,7 +12,7 @@ use Rattle.bz_cache.specs.Format.{Comes}
 use Rattle.bz_cache.specs.InsertMap.{value_at}
 use Rattle.bz_cache.specs.Look.{look, by_test, by_entry, by_fixed}
 use Rattle.bz_cache.specs.View.{by_format, bytes_of_view, fixed, shown}
-use Rattle.bz_calls.specs.Pinning.{pinned_by, pinning}
+use Rattle.bz_cache.specs.Pinning.{pinned_by, pinning}
 use Rattle.bz_proc.specs.Maps.{Mapping}
 use Rattle.bz_proc.specs.MapsFile.{maps_path, maps_told}
 use Rattle.bz_proc.specs.PerfMap as perf

@@ -1,4 +1,4 @@
-pub use Rattle.bz_calls.proofs.FileLemmas
+pub use Rattle.bz_cache.proofs.FileLemmas
 pub mod AlikeLemmas
 pub mod AskingLemmas
 pub mod BatchLemmas

@@ -10,7 +10,7 @@ use Rattle.bz_cache.specs.Coherence.{Coherent}
 use Rattle.bz_cache.specs.Format.{Comes}
 use Rattle.bz_cache.specs.Look.{will_open}
 use Rattle.bz_cache.specs.View.{bytes_of_view, fixed, shown}
-use Rattle.bz_calls.specs.Pinning.{PinsFile, pinning}
+use Rattle.bz_cache.specs.Pinning.{PinsFile, pinning}
 use Rattle.bz_elf.specs.Format as elf
 use Rattle.bz_proc.specs.MapsFile.{maps_path, maps_told}
 use Rattle.bz_proc.specs.PerfMap as perf

@@ -1,4 +1,4 @@
-pub use Rattle.bz_calls.specs.FileCall
+pub use Rattle.bz_cache.specs.FileCall
 pub mod Alike
 pub mod Caching
 pub mod Counted

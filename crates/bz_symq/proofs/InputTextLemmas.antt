@@ -4,11 +4,11 @@ use Rattle.std.proofs.lemmas.Bool.{false≢true}
 use Rattle.std.proofs.lemmas.List.{length-drop, nil_from_length}
 use Rattle.std.proofs.Math.Seq.{drop-append_seam, drop-append-add}
 use Rattle.bz_files.specs.World.{Told}
-use Rattle.bz_lines.specs.Addresses.{AreAddresses, IsAddress, address_in, addresses_in}
-use Rattle.bz_lines.specs.Lines.{Agrees, items_in}
-use Rattle.bz_lines.proofs.AddressLemmas.{address_agrees}
-use Rattle.bz_lines.proofs.LineGrammarLemmas as lines
-use Rattle.bz_lines.proofs.LineGrammarLemmas.{items_found, items_again}
+use Rattle.bz_requests.specs.Addresses.{AreAddresses, IsAddress, address_in, addresses_in}
+use Rattle.bz_requests.specs.Lines.{Agrees, items_in}
+use Rattle.bz_requests.proofs.AddressLemmas.{address_agrees}
+use Rattle.bz_requests.proofs.LineGrammarLemmas as lines
+use Rattle.bz_requests.proofs.LineGrammarLemmas.{items_found, items_again}
 use Rattle.bz_symq.specs.InputText.{AsksFor, IsBadInput, IsFirstBad, Moves, MovesAtMost, greatest_input, left_over, room_after}
 
 -- what lies past a front is what follows it

@@ -11,13 +11,13 @@ use Rattle.bz_files.specs.World.{Told}
 use Rattle.bz_files.specs.declared.text.IoFault.{IoFault}
 use Rattle.bz_files.specs.declared.text.IoFault.TheVariants as faults
 use Rattle.bz_files.specs.declared.text.TextOut as output_trait
-use Rattle.bz_answer_text.specs.AnswerText.{answer_text, answer_texts}
+use Rattle.bz_written.specs.AnswerText.{answer_text, answer_texts}
 use Rattle.bz_symq.specs.Outcome.{Outcome}
 use Rattle.bz_symq.specs.Run.{Ends, IsNoFailure, WritesFront}
 use Rattle.bz_symq.specs.Writing.{Finishes, WritesText}
 use Rattle.bz_symq.specs.declared.status.Status.{Status}
 use Rattle.bz_symq.specs.declared.status.Status.TheVariants as statuses
-use Rattle.bz_answer_text.proofs.AnswerTextLemmas.{texts_step}
+use Rattle.bz_written.proofs.AnswerTextLemmas.{texts_step}
 use Rattle.bz_symq.proofs.FaultLemmas.{counts_still, no_fault}
 
 -- a front of the text is written, the rest is left, and no write failed; of an empty text nothing is written

@@ -4,7 +4,7 @@ use Rattle.bz_files.specs.Count.{counted}
 use Rattle.bz_files.specs.Looked.{ReadsOne}
 use Rattle.bz_files.specs.World.{Told, in_view}
 use Rattle.bz_files.specs.declared.files.Files as files_trait
-use Rattle.bz_lines.specs.Addresses.{addresses_in}
+use Rattle.bz_requests.specs.Addresses.{addresses_in}
 use Rattle.bz_requests.specs.declared.requests.Config.{Config}
 use Rattle.bz_symq.specs.Command.{Asking, Command, Batch, Make, Target, OneFile, OneProcess, seen_by}
 use Rattle.bz_symq.specs.Outcome.{Outcome, too_long}

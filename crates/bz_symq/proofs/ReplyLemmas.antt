@@ -8,7 +8,7 @@ use Rattle.bz_cache.specs.Format.{Comes}
 use Rattle.bz_files.specs.World.{World, Told}
 use Rattle.bz_files.specs.declared.files.Files as files_trait
 use Rattle.bz_files.specs.declared.text.TextIn as input_trait
-use Rattle.bz_lines.specs.Addresses.{addresses_in}
+use Rattle.bz_requests.specs.Addresses.{addresses_in}
 use Rattle.bz_symq.specs.Command.{Asking, Command, Batch, Make, Product}
 use Rattle.bz_symq.specs.InputText.{greatest_input}
 use Rattle.bz_symq.specs.Outcome.{Outcome, by_addresses, by_answer, by_product, run_outcome, too_long}

@@ -4,8 +4,8 @@ use Rattle.std.proofs.lemmas.Bool.{false≢true, le-ltb, lt-ltb, ltb-false, ltb-
 use Rattle.bz_base.specs.Answer.{Answer}
 use Rattle.bz_base.specs.declared.error.Error.{Error}
 use Rattle.bz_files.specs.World.{World}
-use Rattle.bz_lines.proofs.AddressLemmas.{address_agrees}
-use Rattle.bz_lines.specs.Addresses.{IsAddress, address_in, addresses_in}
+use Rattle.bz_requests.proofs.AddressLemmas.{address_agrees}
+use Rattle.bz_requests.specs.Addresses.{IsAddress, address_in, addresses_in}
 use Rattle.bz_symq.specs.Command.{Asking, Command, Batch, Make, Product}
 use Rattle.bz_symq.specs.InputText.{HasBadLine, greatest_input}
 use Rattle.bz_symq.specs.Outcome.{Outcome, run_outcome, by_length, by_addresses, by_answer, by_product}

@@ -1,8 +1,8 @@
 -- The program's input: how long it may be, how it is read, and its first bad line.
 use Rattle.std.specs.Prelude.{◌≡◌, ◌⊎◌, ℕ, ◌+◌, ◌-◌, ◌<◌, ◌≤◌, List, ◌++◌, drop, length, Option, Some}
 use Rattle.bz_files.specs.World.{Told}
-use Rattle.bz_lines.specs.Addresses.{IsAddress}
-use Rattle.bz_lines.specs.Lines as lines
+use Rattle.bz_requests.specs.Addresses.{IsAddress}
+use Rattle.bz_requests.specs.Lines as lines
 
 -- the greatest length of an input, in bytes
 abbrev pub greatest_input : ℕ

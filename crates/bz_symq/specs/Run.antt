@@ -8,8 +8,8 @@ use Rattle.bz_files.specs.World.{World, Told, in_view}
 use Rattle.bz_files.specs.declared.files.Files as files_trait
 use Rattle.bz_files.specs.declared.text.TextIn as input_trait
 use Rattle.bz_files.specs.declared.text.TextOut as output_trait
-use Rattle.bz_lines.specs.Addresses.{AreAddresses, IsAddress}
-use Rattle.bz_answer_text.specs.AnswerText.{answer_texts}
+use Rattle.bz_requests.specs.Addresses.{AreAddresses, IsAddress}
+use Rattle.bz_written.specs.AnswerText.{answer_texts}
 use Rattle.bz_symq.specs.Command.{Asking, Batch, Command, Make, OneFile, OneProcess, Product, Target, seen_by}
 use Rattle.bz_symq.specs.InputText as inputs
 use Rattle.bz_symq.specs.InputText.{greatest_input, MovesAtMost}

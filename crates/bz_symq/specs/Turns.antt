@@ -6,7 +6,7 @@ use Rattle.bz_files.specs.Looked.{Looked, ReadsOne}
 use Rattle.bz_files.specs.World.{Told, in_view}
 use Rattle.bz_files.specs.declared.files.Files as files_trait
 use Rattle.bz_files.specs.declared.text.TextIn as input_trait
-use Rattle.bz_lines.specs.Addresses.{addresses_in}
+use Rattle.bz_requests.specs.Addresses.{addresses_in}
 use Rattle.bz_requests.specs.declared.requests.Config.{Config}
 use Rattle.bz_symq.specs.Command.{Asking, Batch, Command, Make, OneFile, OneProcess, Product, Target}
 use Rattle.bz_symq.specs.InputText.{greatest_input, MovesAtMost}

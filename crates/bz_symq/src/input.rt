@@ -3,11 +3,11 @@
 ghost use Rattle.std.specs.Prelude.{◌≡◌, ◌+◌, ◌<◌, ◌≤◌, ◌++◌, [], ℕ, List, Some, Ok, Err, length, vec_len, IfOk, IsErrOf};
 ghost use Rattle.bz_files.specs.Count.{CountsFaults};
 ghost use Rattle.bz_files.specs.World.{Told};
-ghost use Rattle.bz_lines.specs.Addresses.{addresses_in};
+ghost use Rattle.bz_requests.specs.Addresses.{addresses_in};
 ghost use Rattle.bz_symq.specs.InputText.{greatest_input, left_over, room_after, Moves, MovesAtMost};
 
 use bz_files::{IoFault, TextIn};
-use bz_lines::{BadInput, read_lines};
+use bz_requests::{BadInput, read_lines};
 use std::alloc::Global;
 
 /// The greatest length of an input, in bytes.

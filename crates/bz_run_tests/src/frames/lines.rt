@@ -1,6 +1,6 @@
 //! Frames of lines.
 
-use bz_lines::BadInput;
+use bz_requests::BadInput;
 use bz_serve::read_frames;
 use bz_store::CrashFrame;
 use std::alloc::Global;

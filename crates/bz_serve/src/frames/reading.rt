@@ -4,7 +4,7 @@ ghost use Rattle.std.specs.Prelude.{◌≡◌, ℕ, Ok, Err, map, option_map, st
 ghost use Rattle.bz_store.specs.Frames.{Frame, frame_of};
 ghost use Rattle.bz_serve.specs.FrameLines.{frame_by, frame_in, frames_in, said, text_in};
 
-use bz_lines::{BadInput, FromLine, address, fields, read_lines};
+use bz_requests::{BadInput, FromLine, address, fields, read_lines};
 use bz_store::CrashFrame;
 use std::alloc::{AllocError, Global};
 

@@ -12,7 +12,7 @@ use crate::frames::reading::read_frames;
 use crate::frames::writing::frame_texts;
 use bz_base::{Error, FindSymOpts, Result};
 use bz_files::Files;
-use bz_lines::BadInput;
+use bz_requests::BadInput;
 use bz_store::{CrashFrame, FrameAnswer, Store};
 use bz_symq::{Reply, Said, Status, bad_line};
 use std::alloc::Global;

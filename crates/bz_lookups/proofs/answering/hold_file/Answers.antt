@@ -6,8 +6,8 @@ use Rattle.bz_base.specs.declared.error.Error.{Error}
 use Rattle.bz_files.specs.World.{in_view}
 use Rattle.bz_cache.specs.Cache.{Cache}
 use Rattle.bz_cache.specs.Look.{Lends}
-use Rattle.bz_calls.specs.FileCall.{each_of, query_asked}
-use Rattle.bz_calls.proofs.FileLemmas.{by_lent, calls_unshared, reload_look}
+use Rattle.bz_cache.specs.FileCall.{each_of, query_asked}
+use Rattle.bz_cache.proofs.FileLemmas.{by_lent, calls_unshared, reload_look}
 use Rattle.bz_lookups.specs.Batch.{held_singles}
 use Rattle.bz_lookups.proofs.answering.hold_file.Goals as goal
 

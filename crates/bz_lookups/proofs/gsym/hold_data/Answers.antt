@@ -1,7 +1,7 @@
 use Rattle.std.proofs.Common.{refl}
 use Rattle.std.proofs.lemmas.Result.{err_from_is_err_and}
 use Rattle.bz_base.specs.InputKind.{InTable}
-use Rattle.bz_calls.specs.FileCall.{each_of}
+use Rattle.bz_cache.specs.FileCall.{each_of}
 use Rattle.bz_lookups.specs.Batch.{held_singles}
 use Rattle.bz_lookups.proofs.GsymLemmas.{gives_refused, handed_given}
 use Rattle.bz_lookups.proofs.gsym.hold_data.Goals as goal

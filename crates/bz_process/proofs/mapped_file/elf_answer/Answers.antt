@@ -5,7 +5,7 @@ use Rattle.bz_files.specs.World.{entry_at, in_view}
 use Rattle.bz_cache.specs.Look.{Lends}
 use Rattle.bz_elf.specs.Format as elf
 use Rattle.bz_process.specs.Process.{asks_elf}
-use Rattle.bz_calls.proofs.FileLemmas.{by_lent, told_refused}
+use Rattle.bz_cache.proofs.FileLemmas.{by_lent, told_refused}
 use Rattle.bz_process.proofs.ProcessLemmas.{gives_known}
 use Rattle.bz_process.proofs.mapped_file.elf_answer.Goals as goal
 

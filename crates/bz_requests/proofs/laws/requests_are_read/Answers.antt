@@ -1,4 +1,4 @@
-use Rattle.bz_lines.proofs.LineGrammarLemmas.{items_found, items_again, first_bad_found, first_bad_again}
+use Rattle.bz_requests.proofs.LineGrammarLemmas.{items_found, items_again, first_bad_found, first_bad_again}
 use Rattle.bz_requests.specs.Requests.{IsRequest, request_in}
 use Rattle.bz_requests.proofs.RequestLemmas.{request_agrees, request_found, request_again}
 use Rattle.bz_requests.proofs.laws.requests_are_read.Goals as goal

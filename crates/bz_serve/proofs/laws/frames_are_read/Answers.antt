@@ -1,4 +1,4 @@
-use Rattle.bz_lines.proofs.LineGrammarLemmas.{items_found, items_again, first_bad_found, first_bad_again}
+use Rattle.bz_requests.proofs.LineGrammarLemmas.{items_found, items_again, first_bad_found, first_bad_again}
 use Rattle.bz_serve.specs.FrameLines.{IsFrame, frame_in}
 use Rattle.bz_serve.proofs.FrameLemmas.{frame_agrees, frame_found, frame_again}
 use Rattle.bz_serve.proofs.laws.frames_are_read.Goals as goal

@@ -1,4 +1,4 @@
-use Rattle.bz_lines.proofs.LineGrammarLemmas.{items_found, items_again, first_bad_found, first_bad_again}
+use Rattle.bz_requests.proofs.LineGrammarLemmas.{items_found, items_again, first_bad_found, first_bad_again}
 use Rattle.bz_stacks.specs.Spelling.{IsStack, stack_in}
 use Rattle.bz_stacks.proofs.SpellingLemmas.{stack_agrees, stack_found, stack_again}
 use Rattle.bz_stacks.proofs.laws.stacks_are_read.Goals as goal

@@ -1,5 +1,0 @@
-use Rattle.bz_breakpad_refusal.proofs.EndLemmas.{end_is}
-use Rattle.bz_breakpad_refusal.proofs.refused.has_end.Goals as goal
-
-pub returns : goal.returns
-returns c = end_is c.args.bytes.now c.requires

@@ -1,7 +1,0 @@
--- What the code keeps of the lines that it has passed, as the definitions have it.
-use Rattle.bz_breakpad_lines.specs.Told.{context_told}
-use Rattle.bz_breakpad_refusal.specs.Places as places
-use Rattle.bz_breakpad_refusal.specs.declared.before.Before.{Before}
-
-abbrev pub before_told : Before → places.Before
-before_told b = record { context = context_told b.context; free = b.free; some = b.some }

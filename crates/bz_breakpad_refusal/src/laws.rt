@@ -1,8 +1,0 @@
-//! What holds of this crate's definitions.
-
-ghost use Rattle.bz_breakpad_refusal.specs.Refusals.{AreFound};
-
-/// What is found of the bytes, line by line, is why they are refused, and nothing else is.
-pub fn refusals_are_found()
-    ensures { AreFound }
-{}

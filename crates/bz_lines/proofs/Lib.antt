@@ -1,4 +1,0 @@
-pub mod AddressLemmas
-pub mod FieldLemmas
-pub mod LineGrammarLemmas
-pub mod OptionLemmas

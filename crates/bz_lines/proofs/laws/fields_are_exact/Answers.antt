@@ -1,7 +1,0 @@
-use Rattle.std.proofs.Common.{subst}
-use Rattle.bz_lines.specs.Fields.{AreFields}
-use Rattle.bz_lines.proofs.FieldLemmas.{are_fields, fields_are}
-use Rattle.bz_lines.proofs.laws.fields_are_exact.Goals as goal
-
-pub returns : goal.returns
-returns c = λ text all. ((λ cut. subst (AreFields text) cut (are_fields text)), fields_are text all)

@@ -1,0 +1,2 @@
+pub mod AnswerTextLemmas
+pub mod HexLemmas
