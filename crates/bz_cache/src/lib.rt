@@ -4,15 +4,15 @@
 
 mod builder;
 mod file_cache;
+mod file_pin;
 mod insert_map;
 pub mod laws;
 mod owned;
-mod pinning;
 mod version;
 
 pub use builder::CacheBuilder;
 pub use file_cache::FileCache;
+pub use file_pin::pin_file;
 pub use insert_map::InsertMap;
 pub use owned::owned_answer;
-pub use pinning::pin_file;
 pub use version::Version;

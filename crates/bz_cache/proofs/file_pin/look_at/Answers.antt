@@ -1,7 +1,7 @@
 use Rattle.std.proofs.Common.{◌≡◌, rules}
 use Rattle.std.proofs.lemmas.Bool.{false≢true}
 use Rattle.std.proofs.lemmas.Result.{err_from_is_err_and}
-use Rattle.bz_cache.proofs.pinning.look_at.Goals as goal
+use Rattle.bz_cache.proofs.file_pin.look_at.Goals as goal
 
 -- the look was refused
 pub returns-in_err-_version : goal.returns-in_err-_version

@@ -1,7 +1,7 @@
 use Rattle.std.proofs.Common.{◌≡◌, true, sym, ap, ◌∙◌}
 use Rattle.bz_cache.specs.Cache.{Cache, with_pin}
 use Rattle.bz_cache.proofs.PinLemmas.{pins_err, pins_ok, repinned, unpinned}
-use Rattle.bz_cache.proofs.pinning.pin_file.Goals as goal
+use Rattle.bz_cache.proofs.file_pin.pin_file.Goals as goal
 
 -- the version is pinned
 pub returns-in-Ok : goal.returns-in-Ok
