@@ -1,5 +1,4 @@
-//! Tests of bz_requests, bz_requests, bz_words, bz_gen and bz_breakpad_table, over what they make
-//! public.
+//! Tests of bz_requests, bz_words, bz_gen and bz_breakpad_table, over what they make public.
 #![tactic(auto)]
 
 #[cfg(test)]

@@ -1,5 +1,5 @@
-//! Tests of the program over processes, requests and crash frames, by runs, of its words, and of what
-//! standard error says, over what they make public.
+//! Tests of the program's processes, requests, frames and words, by runs of symq_runs, and of bz_help,
+//! over what they make public.
 #![tactic(auto)]
 
 #[cfg(test)]

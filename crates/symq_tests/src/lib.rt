@@ -1,5 +1,5 @@
-//! Tests of the program over single files and stacks, by runs, and of the texts of answers, over what
-//! they make public.
+//! Tests of the program's answers of files and stacks, by runs of symq_runs, and of bz_written, over
+//! what they make public.
 #![tactic(auto)]
 
 #[cfg(test)]
