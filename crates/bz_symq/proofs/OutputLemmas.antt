@@ -1,6 +1,7 @@
 -- A text that is written piece by piece.
-use Rattle.std.proofs.Common.{◌≡◌, ◌⊎◌, ◌<◌, ℕ, ◌+◌, ◌-◌, false, List, [], ◌∷◌, ◌++◌, length, map, take, drop, slice_get, slice_index, get_or, Option, option_map, Some, Result, Ok, Err, IsErr, IsErrOf, OnOk, OnErr, refl, sym, ap, subst, ◌∙◌, inl, inr, append_assoc, append-nil, length-append, arith, eqb}
+use Rattle.std.proofs.Common.{◌≡◌, ◌⊎◌, ◌<◌, ◌≤◌, ℕ, ◌+◌, ◌-◌, false, List, [], ◌∷◌, ◌++◌, length, map, min, take, drop, slice_get, slice_index, get_or, Option, option_map, Some, Result, Ok, Err, IsErr, IsErrOf, OnOk, OnErr, refl, sym, ap, subst, ◌∙◌, inl, inr, append_assoc, append-nil, length-append, arith, eqb}
 use Rattle.std.proofs.Math.Seq.{take-length}
+use Rattle.std.proofs.lemmas.Bool.{cases_lt}
 use Rattle.std.proofs.lemmas.List.{take-append-drop, length-drop, drop_more, get_or_read}
 use Rattle.std.proofs.lemmas.Option.{slice_get_within, get_or_from_slice_get, slice_get-map, slice_get_read}
 use Rattle.bz_base.specs.Answer.{Answer, reading}
