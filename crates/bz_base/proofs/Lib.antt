@@ -8,10 +8,10 @@ pub use Rattle.bz_search.proofs.InTableLemmas
 pub use Rattle.bz_search.proofs.NearestLemmas
 pub use Rattle.bz_search.proofs.TableLemmas
 pub use Rattle.bz_search.proofs.ViewLemmas
-pub use Rattle.bz_text.proofs.ByteLemmas
-pub use Rattle.bz_text.proofs.LineLemmas
-pub use Rattle.bz_text.proofs.LoadLemmas
-pub use Rattle.bz_text.proofs.NumberLemmas
+pub use Rattle.bz_bytes.proofs.ByteLemmas
+pub use Rattle.bz_bytes.proofs.LineLemmas
+pub use Rattle.bz_bytes.proofs.LoadLemmas
+pub use Rattle.bz_bytes.proofs.NumberLemmas
 pub mod EqualityLemmas
 pub mod HashLemmas
 pub mod LentLemmas

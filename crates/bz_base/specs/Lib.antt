@@ -1,7 +1,7 @@
-pub use Rattle.bz_text.specs.Byte
-pub use Rattle.bz_text.specs.Line
-pub use Rattle.bz_text.specs.Number
-pub use Rattle.bz_text.specs.Path
+pub use Rattle.bz_bytes.specs.Byte
+pub use Rattle.bz_bytes.specs.Line
+pub use Rattle.bz_bytes.specs.Number
+pub use Rattle.bz_bytes.specs.Path
 pub use Rattle.bz_bytes.specs.Cursor
 pub use Rattle.bz_bytes.specs.EndedText
 pub use Rattle.bz_bytes.specs.Leb128

@@ -13,14 +13,14 @@ mod resolve;
 mod types;
 
 pub use batch::in_batch;
-pub use bz_bytes::{Cursor, text_before_zero, u8_at, u16_at, u32_at, u64_at};
+pub use bz_bytes::{
+    ByteTest, Cursor, decimal, first_line, hex, next_line, run_len, split_source, text_before_zero,
+    u8_at, u16_at, u32_at, u64_at, whole_decimal, whole_hex,
+};
 pub use bz_search::{
     Addr, Nested, Place, Probe, Spanned, Starts, Steps, around_in, chain_in, covering_at,
     covering_in, covers, inner_in, inside, nearest, nearest_by_scan, nearest_covering,
     nearest_each, place_found, sort_nested, sort_table, starts_of,
-};
-pub use bz_text::{
-    ByteTest, decimal, first_line, hex, next_line, run_len, split_source, whole_decimal, whole_hex,
 };
 pub use error::{Error, ErrorKind, Result};
 pub use input::Input;

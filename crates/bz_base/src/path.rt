@@ -3,7 +3,7 @@
 ghost use Rattle.std.specs.Prelude.{◌≡◌, true, Some, length, IfOk, IfNone, IsOk, IsOkUnless};
 ghost use Rattle.std.specs.Cow.{cow_str_bytes};
 ghost use Rattle.bz_base.specs.Answer.{site_of};
-ghost use Rattle.bz_text.specs.Path.{begins_with_slash, last_byte, path_text, slash_after};
+ghost use Rattle.bz_bytes.specs.Path.{begins_with_slash, last_byte, path_text, slash_after};
 
 use crate::error::{Error, Result};
 use crate::types::CodeInfo;

@@ -3,7 +3,7 @@
 ghost use Rattle.std.specs.Prelude.{◌≡◌, ◌≤◌, ◌++◌, ◌∷◌, [], Some, IfOk, IfSome, IsOkUnless, map, option_map, option_copied};
 ghost use Rattle.std.specs.Cow.{cow_str_bytes};
 ghost use Rattle.bz_base.specs.Answer.{site_of, call_of, resolved_of, symbol_of, sym_in};
-ghost use Rattle.bz_text.specs.Byte.{zero_byte};
+ghost use Rattle.bz_bytes.specs.Byte.{zero_byte};
 ghost use Rattle.bz_base.specs.Lent.{IsLentResolved, IsLentSymbol, IsLentText};
 ghost use Rattle.bz_base.specs.ReasonText.{text_of};
 ghost use Rattle.bz_base.specs.Resolution.{symbol_at};

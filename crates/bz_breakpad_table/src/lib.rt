@@ -1,5 +1,4 @@
-//! What is kept of a Breakpad symbol file: the walk over its lines, and the table that it makes; and where
-//! bytes are refused as one.
+//! The walk over a Breakpad file's lines, the table that it keeps, and where bytes are refused as such a file.
 #![tactic(auto)]
 
 mod before;

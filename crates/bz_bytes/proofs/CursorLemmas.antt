@@ -6,7 +6,7 @@ use Rattle.std.proofs.lemmas.Bool.{le-leb, lt-leb, eqb-true, or_parts}
 use Rattle.std.proofs.lemmas.List.{take_rest, drop-drop, length-drop, take-append-drop}
 use Rattle.std.proofs.lemmas.Option.{none-some}
 use Rattle.bz_bytes.specs.Cursor.{with_rest, byte_at, slice_at, little, word_at, cstr_at, skip_at}
-use Rattle.bz_text.specs.Byte.{zero_byte, HasNo}
+use Rattle.bz_bytes.specs.Byte.{zero_byte, HasNo}
 
 -- where the bytes suffice, the slice is those in front
 pub slice_enough : (count : ℕ) (bytes : List ℕ) → count ≤ length bytes →

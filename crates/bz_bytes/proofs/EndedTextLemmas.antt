@@ -5,7 +5,7 @@ use Rattle.std.specs.Str.{IsUtf8}
 use Rattle.std.proofs.lemmas.List.{length-append, length-drop, length-take-le, take-append-drop}
 use Rattle.std.proofs.lemmas.Option.{none-some, same_Some}
 use Rattle.std.proofs.Math.Seq.{drop-append_seam}
-use Rattle.bz_text.specs.Byte.{HasNo, zero_byte}
+use Rattle.bz_bytes.specs.Byte.{HasNo, zero_byte}
 use Rattle.bz_bytes.specs.Cursor.{cstr_at, with_first, with_rest}
 use Rattle.bz_bytes.specs.EndedText.{IsString, before_zero, ended_text, is_zero}
 use Rattle.bz_bytes.proofs.CursorLemmas.{cstr_again}

@@ -1,8 +1,17 @@
+pub mod ByteLemmas
 pub mod CursorLemmas
+pub mod DigitLemmas
 pub mod EndedTextLemmas
 pub mod LebByteLemmas
 pub mod LebLemmas
 pub mod LebSpellingLemmas
 pub mod LebValueLemmas
+pub mod LineLemmas
 pub mod LittleLemmas
+pub mod LoadLemmas
+pub mod NumberLemmas
+pub mod PathLemmas
+pub mod PieceLemmas
 pub mod PieceOfBytesLemmas
+pub mod ReadLemmas
+pub mod SplitLemmas

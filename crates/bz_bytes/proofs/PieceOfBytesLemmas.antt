@@ -4,7 +4,7 @@ use Rattle.std.proofs.lemmas.Bool.{le-leb, leb-true, eqb-true, or_from}
 use Rattle.std.proofs.lemmas.List.{length-take-le, take-append-drop, take_at, drop_at, length-append}
 use Rattle.std.proofs.lemmas.Option.{none-some, same_Some}
 use Rattle.std.proofs.Math.Nat.{mul-add, mul_assoc, mul_comm, pow-suc}
-use Rattle.bz_text.specs.Byte.{zero_byte, HasNo}
+use Rattle.bz_bytes.specs.Byte.{zero_byte, HasNo}
 use Rattle.bz_bytes.specs.Cursor.{with_first, slice_at, little, word_at, cstr_at, padding, IsInFront, bytes_sum, IsSlice, IsWord, IsCstr, IsNextAligned}
 use Rattle.bz_bytes.proofs.CursorLemmas.{cstr_again}
 

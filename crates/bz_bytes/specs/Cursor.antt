@@ -1,7 +1,7 @@
 -- Bytes that are read from their front, piece by piece, as little-endian files have them: numbers of a
 -- fixed width with the least byte first, slices, and texts of C.
 use Rattle.std.specs.Prelude.{◌≡◌, ℕ, ◌+◌, ◌-◌, ◌*◌, ◌^◌, ◌%◌, ◌≤◌, ◌==◌, nat_le, List, [], ◌∷◌, ◌++◌, length, take, drop, Option, Some, None, option_map, if◌then◌else◌}
-use Rattle.bz_text.specs.Byte.{zero_byte, HasNo}
+use Rattle.bz_bytes.specs.Byte.{zero_byte, HasNo}
 
 -- all the bytes, and those that are left to be read
 pub record Reading : Type 0 where

@@ -2,7 +2,7 @@
 use Rattle.std.specs.Prelude.{◌≡◌, ℕ, ◌==◌, Bool, if◌then◌else◌, List, ◌∷◌, ◌++◌, length, Option, Some, None}
 use Rattle.std.specs.List.{list_any, before_first}
 use Rattle.std.specs.Str.{IsUtf8}
-use Rattle.bz_text.specs.Byte.{HasNo, zero_byte}
+use Rattle.bz_bytes.specs.Byte.{HasNo, zero_byte}
 
 abbrev pub is_zero : ℕ → Bool
 is_zero byte = byte == zero_byte

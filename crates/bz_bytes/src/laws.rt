@@ -1,10 +1,36 @@
 //! What holds of this crate's definitions.
 
-ghost use Rattle.std.specs.Prelude.{◌≡◌, ◌↔◌, ◌+◌, ℕ, ℤ, List, Some, drop};
+ghost use Rattle.std.specs.Prelude.{◌≡◌, ◌↔◌, ◌+◌, ◌≤◌, ℕ, ℤ, [], List, Option, None, Some, drop};
 ghost use Rattle.std.specs.Str.{IsUtf8};
 ghost use Rattle.bz_bytes.specs.Cursor.{IsCstr, IsInFront, IsNextAligned, IsSlice, IsWord, cstr_at, padding, slice_at, word_at};
 ghost use Rattle.bz_bytes.specs.EndedText.{IsString, ended_text};
 ghost use Rattle.bz_bytes.specs.Leb128.{IsSleb, IsUleb, sleb_at, uleb_at};
+ghost use Rattle.bz_bytes.specs.Line.{AreEnded, AreLines, all_lines, ended_lines};
+ghost use Rattle.bz_bytes.specs.Number.{IsAtFront, IsDecimal, IsHex, decimal_at, hex_at, number_at, whole};
+ghost use Rattle.bz_bytes.specs.Path.{split, IsSplit};
+
+/// The lines that are read of a text are those that make it up side by side: each with its end, and
+/// with an end that the last one may lack.
+pub fn lines_are_exact()
+    ensures ended { (text : List ℕ) (lines : List (List ℕ)) → (ended_lines text ≡ Some lines) ↔ AreEnded text lines }
+    ensures all { (text : List ℕ) (lines : List (List ℕ)) → (all_lines text ≡ lines) ↔ AreLines text lines }
+{}
+
+/// The numbers that are read of a text, from its front or from the whole of it, are those that its
+/// digits spell.
+pub fn numbers_are_exact()
+    ensures front { (base most : ℕ) (text : List ℕ) (value : ℕ) (rest : List ℕ) → (number_at base most text ≡ Some (value, rest)) ↔ IsAtFront base most text value rest }
+    ensures decimal_front { (most greatest : ℕ) (text : List ℕ) (value : ℕ) (rest : List ℕ) → (decimal_at most greatest text ≡ Some (value, rest)) ↔ (IsAtFront 10 most text value rest × (value ≤ greatest)) }
+    ensures whole_hex { (most : ℕ) (text : List ℕ) (value : ℕ) → (whole (hex_at most text) ≡ Some value) ↔ IsHex most text value }
+    ensures whole_decimal { (most greatest : ℕ) (text : List ℕ) (value : ℕ) → (whole (decimal_at most greatest text) ≡ Some value) ↔ IsDecimal most greatest text value }
+{}
+
+/// A path is split into the directory and the file that its pieces say, and only the empty text into
+/// none.
+pub fn paths_are_exact()
+    ensures parts { (text : List ℕ) (directory : Option (List ℕ)) (file : List ℕ) → (split text ≡ Some (directory, file)) ↔ IsSplit text directory file }
+    ensures none { (text : List ℕ) → (split text ≡ None) ↔ (text ≡ []) }
+{}
 
 /// The pieces that are read from the front of bytes are those that lie there: slices, words with the
 /// least byte first, and texts that a zero byte ends. What is passed over to align a place leads to

@@ -1,12 +1,20 @@
-//! The pieces of binary files: slices, numbers and texts, read one after another or at places.
+//! Texts and the pieces of binary files: lines, numbers, paths, and what is read one after another or at places.
 #![tactic(auto)]
 
 mod cursor;
+mod digits;
 pub mod laws;
 mod leb128;
+mod line;
 mod number;
+mod path;
+mod scan;
 mod text;
 
 pub use cursor::Cursor;
+pub use digits::{decimal, hex, whole_decimal, whole_hex};
+pub use line::{first_line, next_line};
 pub use number::{u8_at, u16_at, u32_at, u64_at};
+pub use path::split_source;
+pub use scan::{ByteTest, run_len};
 pub use text::text_before_zero;

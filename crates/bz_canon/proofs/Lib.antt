@@ -1,5 +1,9 @@
+pub mod AnswerTextLemmas
 pub mod CanonLaws
 pub mod CanonicalRunLaws
+pub mod GeneratedLemmas
+pub mod HexLemmas
 pub mod PublicTableLaws
 pub mod ShownLemmas
 pub mod TextLaws
+pub mod TextLemmas

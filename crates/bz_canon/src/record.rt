@@ -12,9 +12,9 @@ ghost use Rattle.bz_breakpad_lines.specs.Walk.Record.{OfFunc};
 ghost use Rattle.bz_breakpad_lines.specs.Written.{record_text, records_text};
 ghost use Rattle.bz_canon.specs.Parts.{named_line};
 
+use crate::piece::Piece;
 use bz_base::{Error, Result};
 use bz_breakpad::{Function, Inlinee, PublicSymbol, SourceLine};
-use bz_written::Piece;
 
 /// The MODULE record of a name, if there is one.
 pub(crate) fn push_module(text: &mut Vec<u8>, name: Option<&str>) -> Result<()>

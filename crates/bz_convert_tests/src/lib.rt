@@ -8,4 +8,6 @@ mod conversions;
 #[cfg(test)]
 mod faults;
 #[cfg(test)]
+mod generated;
+#[cfg(test)]
 mod plans;

@@ -1,10 +1,8 @@
-//! Tests of bz_requests, bz_words, bz_gen and bz_breakpad_table, over what they make public.
+//! Tests of bz_requests, bz_words and bz_breakpad_table, over what they make public.
 #![tactic(auto)]
 
 #[cfg(test)]
 mod addresses;
-#[cfg(test)]
-mod generated;
 #[cfg(test)]
 mod refused_texts;
 #[cfg(test)]

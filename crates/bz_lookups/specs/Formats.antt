@@ -8,7 +8,6 @@ use Rattle.bz_base.specs.declared.types.FindSymOpts.{FindSymOpts}
 use Rattle.bz_breakpad.specs.Reader.{table_in}
 use Rattle.bz_breakpad.specs.Plain.{plain}
 use Rattle.bz_breakpad.specs.Table.{Table}
-use Rattle.bz_breakpad.specs.Version.{format_test}
 use Rattle.bz_cache.specs.FileCall.{Answering, Query, as_answer, by_version, query_asked}
 use Rattle.bz_elf.specs.Segments.{segments, translated}
 use Rattle.bz_gsym.specs.Plain as gsym

@@ -1,4 +1,4 @@
-//! A version of a source that is held, and its answers for a batch of addresses.
+//! A held version of a source, and its answers for a batch of addresses.
 #![tactic(auto)]
 
 mod answering;

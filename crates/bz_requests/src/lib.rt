@@ -1,5 +1,5 @@
 //! Lines of an input, each of which is empty, and skipped, or says one item: an address, or a request to a
-//! symbolizer; and the fields of a line.
+//! symbolizer; the fields of a line; and settings.
 #![tactic(auto)]
 
 mod addresses;

@@ -15,7 +15,7 @@ use Rattle.bz_breakpad.specs.Places.{Placed, by_line, by_seen, call_name, call_s
 use Rattle.bz_breakpad.specs.Plain.{any_between, batch, by_function, by_place, by_public, by_records, function_at, plain, public_at, public_symbol_at}
 use Rattle.bz_breakpad.specs.Table.{Function, Inlinee, PublicSymbol, SourceLine, Table}
 use Rattle.bz_breakpad.proofs.AddressLaws.{known_at}
-use Rattle.bz_gen.specs.Generated.{address_by, addresses_after, next_number}
+use Rattle.bz_canon.specs.Generated.{address_by, addresses_after, next_number}
 use Rattle.bz_run.specs.GeneratedSummary.{Fits, calls_in, inlined, is_known, offset_in, offsets, tally_of}
 
 -- a chain has no more records than there are depths

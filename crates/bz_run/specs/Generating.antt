@@ -5,8 +5,8 @@ use Rattle.bz_files.specs.Count.{CountsFaults}
 use Rattle.bz_files.specs.World.{Told}
 use Rattle.bz_files.specs.declared.text.TextOut as output_trait
 use Rattle.bz_breakpad.specs.Plain.{batch}
-use Rattle.bz_gen.specs.Generated.{addresses_after}
-use Rattle.bz_gen.specs.GeneratedTable.{generated_table}
+use Rattle.bz_canon.specs.Generated.{addresses_after}
+use Rattle.bz_canon.specs.GeneratedTable.{generated_table}
 use Rattle.bz_requests.specs.declared.requests.Config.{Config}
 use Rattle.bz_symq.specs.Kept.{settings_of}
 use Rattle.bz_serve.specs.Serving.{served}

@@ -1,4 +1,4 @@
-//! The search among records that aren't many enough for a list of their starts.
+//! The search among records themselves, without a list of their starts.
 
 ghost use Rattle.std.specs.Prelude.{◌≡◌, ◌<◌, ◌≤◌, List, length, map, option_map, slice_index, IfSome};
 ghost use Rattle.bz_search.specs.Nearest.{IsTable, nearest_covering};

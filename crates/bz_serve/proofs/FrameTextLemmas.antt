@@ -4,7 +4,7 @@ use Rattle.std.proofs.lemmas.List.{drop_all}
 use Rattle.bz_store.specs.Frames.{Frame, frame_of, reading_of}
 use Rattle.bz_store.specs.declared.frame.CrashFrame.{CrashFrame}
 use Rattle.bz_store.specs.declared.frame.FrameAnswer.{FrameAnswer}
-use Rattle.bz_written.proofs.AnswerTextLemmas.{past_either}
+use Rattle.bz_canon.proofs.AnswerTextLemmas.{past_either}
 use Rattle.bz_serve.specs.FrameText.{frame_texts}
 
 no_answers : (frames : List Frame) → frame_texts frames [] ≡ []

@@ -1,7 +1,7 @@
 -- The text of a frame's answer: the frame's module and id, and the answer at its offset.
 use Rattle.std.specs.Prelude.{ℕ, List, [], ◌∷◌, ◌++◌, codes}
 use Rattle.bz_store.specs.Frames.{Key, Frame, FrameReading, Answered, BadName, NoFile, Denied, BadFile}
-use Rattle.bz_written.specs.AnswerText.{answer_text, hex}
+use Rattle.bz_canon.specs.AnswerText.{answer_text, hex}
 
 -- MODULE ID, and a space
 abbrev pub file_text : Key → List ℕ

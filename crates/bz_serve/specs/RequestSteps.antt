@@ -25,7 +25,7 @@ use Rattle.bz_symbolize.specs.Requests.{ToCache, ToEvict, CacheElf as KeepElf, C
 use Rattle.bz_symbolize.specs.Sources.{FileSource, SourceForm, OneFile, OneProcess}
 use Rattle.bz_symbolize.specs.State.{opts_of}
 use Rattle.bz_requests.specs.Requests.{Request, Batch, CacheElf, CacheProcess, EvictElf, EvictProcess, Single, Target, Breakpad, Elf, Gsym, Process, usual_kind}
-use Rattle.bz_written.specs.AnswerText.{answer_text, answer_texts}
+use Rattle.bz_canon.specs.AnswerText.{answer_text, answer_texts}
 use Rattle.bz_symq.specs.Outcome.{refused}
 use Rattle.bz_symq.specs.Kept.{Kept, caches_in, with_caches}
 

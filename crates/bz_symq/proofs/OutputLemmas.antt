@@ -1,7 +1,6 @@
 -- A text that is written piece by piece.
-use Rattle.std.proofs.Common.{◌≡◌, ◌⊎◌, ◌<◌, ◌≤◌, ℕ, ◌+◌, ◌-◌, false, List, [], ◌∷◌, ◌++◌, length, map, min, take, drop, slice_get, slice_index, get_or, Option, option_map, Some, Result, Ok, Err, IsErr, IsErrOf, OnOk, OnErr, refl, sym, ap, subst, ◌∙◌, inl, inr, append_assoc, append-nil, length-append, arith, eqb}
+use Rattle.std.proofs.Common.{◌≡◌, ◌⊎◌, ◌<◌, ℕ, ◌+◌, ◌-◌, false, List, [], ◌∷◌, ◌++◌, length, map, take, drop, slice_get, slice_index, get_or, Option, option_map, Some, Result, Ok, Err, IsErr, IsErrOf, OnOk, OnErr, refl, sym, ap, subst, ◌∙◌, inl, inr, append_assoc, append-nil, length-append, arith, eqb}
 use Rattle.std.proofs.Math.Seq.{take-length}
-use Rattle.std.proofs.lemmas.Bool.{cases_lt}
 use Rattle.std.proofs.lemmas.List.{take-append-drop, length-drop, drop_more, get_or_read}
 use Rattle.std.proofs.lemmas.Option.{slice_get_within, get_or_from_slice_get, slice_get-map, slice_get_read}
 use Rattle.bz_base.specs.Answer.{Answer, reading}
@@ -11,13 +10,13 @@ use Rattle.bz_files.specs.World.{Told}
 use Rattle.bz_files.specs.declared.text.IoFault.{IoFault}
 use Rattle.bz_files.specs.declared.text.IoFault.TheVariants as faults
 use Rattle.bz_files.specs.declared.text.TextOut as output_trait
-use Rattle.bz_written.specs.AnswerText.{answer_text, answer_texts}
+use Rattle.bz_canon.specs.AnswerText.{answer_text, answer_texts}
 use Rattle.bz_symq.specs.Outcome.{Outcome}
 use Rattle.bz_symq.specs.Run.{Ends, IsNoFailure, WritesFront}
 use Rattle.bz_symq.specs.Writing.{Finishes, WritesText}
 use Rattle.bz_symq.specs.declared.status.Status.{Status}
 use Rattle.bz_symq.specs.declared.status.Status.TheVariants as statuses
-use Rattle.bz_written.proofs.AnswerTextLemmas.{texts_step}
+use Rattle.bz_canon.proofs.AnswerTextLemmas.{texts_step}
 use Rattle.bz_symq.proofs.FaultLemmas.{counts_still, no_fault}
 
 -- a front of the text is written, the rest is left, and no write failed; of an empty text nothing is written

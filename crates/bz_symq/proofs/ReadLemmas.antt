@@ -7,13 +7,9 @@ use Rattle.bz_files.specs.declared.files.Files as files_trait
 use Rattle.bz_requests.specs.Addresses.{addresses_in}
 use Rattle.bz_requests.specs.declared.requests.Config.{Config}
 use Rattle.bz_symq.specs.Command.{Asking, Command, Batch, Make, Target, OneFile, OneProcess, seen_by}
-use Rattle.bz_symq.specs.Outcome.{Outcome, too_long}
 use Rattle.bz_symq.specs.Processes.{process_batch}
-use Rattle.bz_symq.specs.Reply.{outcome_of}
 use Rattle.bz_symq.specs.Run.{Asks, UnlessProcess, UnlessTarget}
 use Rattle.bz_symq.specs.Turns.{ReadsFor, ReadsForBatch, ReadsForInput}
-use Rattle.bz_symq.specs.declared.reply.Reply.{Reply}
-use Rattle.bz_symq.specs.declared.status.Status.TheVariants as statuses
 use Rattle.bz_symq.proofs.InputTextLemmas.{addresses_again}
 
 module _ {F : Type 0} (looks : files_trait.Ghosts F) (answered : Type 0) (before after : F) where

@@ -11,7 +11,7 @@ use Rattle.bz_base.specs.Answer.{Answer}
 use Rattle.bz_lookups.proofs.BatchLemmas.{answer_there}
 use Rattle.bz_lookups.specs.Batch.{Batch, answer_at, answers_there}
 use Rattle.bz_lookups.specs.Together.{IsAmong}
-use Rattle.bz_written.specs.AnswerText.{answer_text}
+use Rattle.bz_canon.specs.AnswerText.{answer_text}
 use Rattle.bz_symq.specs.Texts.{IsTextIn, IsTextOf}
 use Rattle.bz_symq.specs.declared.texts.TextPart.{TextPart}
 

@@ -5,7 +5,7 @@ use Rattle.bz_base.specs.ErrorNames.{name_of}
 use Rattle.bz_base.specs.declared.error.Error.{Error}
 use Rattle.bz_files.specs.World.{World}
 use Rattle.bz_requests.specs.Addresses.{addresses_in}
-use Rattle.bz_written.specs.AnswerText.{answer_texts}
+use Rattle.bz_canon.specs.AnswerText.{answer_texts}
 use Rattle.bz_symq.specs.Command.{Asking, Command, Batch, Make}
 use Rattle.bz_symq.specs.InputText.{greatest_input}
 use Rattle.bz_symq.specs.Products.{made_in}

@@ -6,7 +6,7 @@ use Rattle.bz_base.specs.declared.error.Error.{Error}
 use Rattle.bz_base.specs.declared.error.Error.TheVariants as errors
 use Rattle.bz_files.specs.World.{World, Told}
 use Rattle.bz_requests.specs.Addresses.{addresses_in}
-use Rattle.bz_written.specs.AnswerText.{answer_texts}
+use Rattle.bz_canon.specs.AnswerText.{answer_texts}
 use Rattle.bz_symq.specs.Command.{Asking, Command, Product}
 use Rattle.bz_symq.specs.Outcome.{Outcome, refused, run_outcome, too_long}
 use Rattle.bz_symq.specs.Products.{MadeOfSome}

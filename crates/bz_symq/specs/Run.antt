@@ -1,5 +1,5 @@
 -- What a run of the program promises: what it writes and ends with, and what it does to its input, its output and the files.
-use Rattle.std.specs.Prelude.{◌≡◌, ◌≢◌, ◌⊎◌, ◌↔◌, ℕ, ◌+◌, ◌<◌, ◌≤◌, false, List, [], ◌++◌, length, Option, Some, IsSome}
+use Rattle.std.specs.Prelude.{◌≡◌, ◌≢◌, ◌⊎◌, ◌↔◌, ℕ, ◌+◌, ◌≤◌, false, List, [], ◌++◌, length, Option, Some, IsSome}
 use Rattle.bz_base.specs.Answer.{Answer}
 use Rattle.bz_base.specs.declared.error.Error.{Error}
 use Rattle.bz_files.specs.Count.{CountsFaults, counted}
@@ -9,7 +9,7 @@ use Rattle.bz_files.specs.declared.files.Files as files_trait
 use Rattle.bz_files.specs.declared.text.TextIn as input_trait
 use Rattle.bz_files.specs.declared.text.TextOut as output_trait
 use Rattle.bz_requests.specs.Addresses.{AreAddresses, IsAddress}
-use Rattle.bz_written.specs.AnswerText.{answer_texts}
+use Rattle.bz_canon.specs.AnswerText.{answer_texts}
 use Rattle.bz_symq.specs.Command.{Asking, Batch, Command, Make, OneFile, OneProcess, Product, Target, seen_by}
 use Rattle.bz_symq.specs.InputText as inputs
 use Rattle.bz_symq.specs.InputText.{greatest_input, MovesAtMost}

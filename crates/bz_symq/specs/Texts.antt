@@ -2,7 +2,7 @@
 use Rattle.std.specs.Prelude.{◌≡◌, ◌+◌, ◌≤◌, ℕ, List, length, Some, None, slice_get, slice_index, slice_index_or, slice_range, string_bytes}
 use Rattle.bz_base.specs.Answer.{Answer}
 use Rattle.bz_lookups.specs.Batch.{Batch}
-use Rattle.bz_written.specs.AnswerText.{answer_text}
+use Rattle.bz_canon.specs.AnswerText.{answer_text}
 use Rattle.bz_symq.specs.declared.texts.TextPart.{TextPart}
 use Rattle.bz_symq.specs.declared.texts.Texts.{Texts}
 

@@ -3,7 +3,7 @@
 ghost use Rattle.std.specs.Prelude.{◌≡◌, ◌<◌, ◌++◌, [], length, map, slice_get, slice_index, Some, string_bytes, OnOk, IsOkUnless};
 ghost use Rattle.bz_base.specs.Answer.{Answer, reading};
 ghost use Rattle.bz_base.specs.declared.error.Error.{Error};
-ghost use Rattle.bz_written.specs.AnswerText.{answer_text, answer_texts};
+ghost use Rattle.bz_canon.specs.AnswerText.{answer_text, answer_texts};
 ghost use Rattle.bz_symq.specs.Reply.{outcome_of, text_of};
 ghost use Rattle.bz_symq.specs.Run.{IsNoFailure};
 ghost use Rattle.bz_symq.specs.Texts.{AreTexts};
@@ -13,9 +13,9 @@ use crate::reply::{OwnedAnswers, Reply, Said};
 use crate::status::Status;
 use crate::texts::{Texts, push_entry};
 use bz_base::{Error, Result};
+use bz_canon::push_answer;
 use bz_files::{IoFault, TextOut};
 use bz_symbolize::Lookups;
-use bz_written::push_answer;
 use std::alloc::Global;
 
 /// How long the texts of answers grow, in bytes, before they are written.

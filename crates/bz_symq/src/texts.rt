@@ -6,12 +6,12 @@ ghost use Rattle.bz_base.specs.Answer.{Answer, reading};
 ghost use Rattle.bz_base.specs.declared.error.Error.{Error};
 ghost use Rattle.bz_lookups.specs.Batch.{Batch};
 ghost use Rattle.bz_lookups.specs.Together.{IsAmong};
-ghost use Rattle.bz_written.specs.AnswerText.{answer_text};
+ghost use Rattle.bz_canon.specs.AnswerText.{answer_text};
 ghost use Rattle.bz_symq.specs.Texts.{AreTexts, IsTextOf, MakesMore};
 
 use bz_base::{Error, Result, Symbolized};
+use bz_canon::push_answer;
 use bz_symbolize::{Lookups, TOGETHER};
-use bz_written::push_answer;
 use std::alloc::Global;
 
 /// How long the texts grow that are made at a time, in bytes. What is left then isn't made before it

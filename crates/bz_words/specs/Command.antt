@@ -126,15 +126,15 @@ abbrev pub is_given : Option Text → Bool
 is_given None = false
 is_given (Some value) = bytes_eq value (codes "true")
 
-abbrev pub is_off : Text → List Row → Bool
-is_off flag found = is_given (first_of flag found)
+abbrev pub has_flag : Text → List Row → Bool
+has_flag flag found = is_given (first_of flag found)
 
 abbrev pub config_in : List Row → Config
 config_in found = record {
-  reload = not (is_off (codes "no-reload") found);
-  code_info = not (is_off (codes "no-code-info") found);
-  inlined = not (is_off (codes "no-inlined") found);
-  map_files = not (is_off (codes "no-map-files") found);
+  reload = not (has_flag (codes "no-reload") found);
+  code_info = not (has_flag (codes "no-code-info") found);
+  inlined = not (has_flag (codes "no-inlined") found);
+  map_files = not (has_flag (codes "no-map-files") found);
 }
 
 -- what is to be done by matches

@@ -5,7 +5,7 @@ ghost use Rattle.bz_base.specs.InputKind.{address_kind};
 ghost use Rattle.bz_requests.specs.Requests.{target_of};
 ghost use Rattle.clap.specs.Words.{first_of, found_of, kind_of, rows_of};
 ghost use Rattle.clap.specs.declared.error.kind.ErrorKind.TheVariants as kinds;
-ghost use Rattle.bz_words.specs.Command.{IsUsage, batch_in, command_by, command_in, command_of, config_in, generate_in, is_off, is_source, job_by_rows, job_in, job_of, kind_for, kind_named, number_in, numbers_in, on_path_in, path_job, serve_in, some_in, target_in};
+ghost use Rattle.bz_words.specs.Command.{IsUsage, batch_in, command_by, command_in, command_of, config_in, generate_in, has_flag, is_source, job_by_rows, job_in, job_of, kind_for, kind_named, number_in, numbers_in, on_path_in, path_job, serve_in, some_in, target_in};
 ghost use Rattle.bz_words.specs.Definition.{IsTakenByClap, faults, rows};
 ghost use Rattle.bz_words.specs.declared.words.BadWords.TheVariants.{OutOfMemory};
 
@@ -88,16 +88,16 @@ fn config_given(matches: &ArgMatches<'_>) -> Config
     ensures { result ≡ config_in (rows_of (found_of matches.now)) }
 {
     Config {
-        reload: !is_off(matches, "no-reload"),
-        code_info: !is_off(matches, "no-code-info"),
-        inlined: !is_off(matches, "no-inlined"),
-        map_files: !is_off(matches, "no-map-files"),
+        reload: !has_flag(matches, "no-reload"),
+        code_info: !has_flag(matches, "no-code-info"),
+        inlined: !has_flag(matches, "no-inlined"),
+        map_files: !has_flag(matches, "no-map-files"),
     }
 }
 
 // Whether a flag was given.
-fn is_off(matches: &ArgMatches<'_>, flag: &str) -> bool
-    ensures { result ≡ is_off flag.now (rows_of (found_of matches.now)) }
+fn has_flag(matches: &ArgMatches<'_>, flag: &str) -> bool
+    ensures { result ≡ has_flag flag.now (rows_of (found_of matches.now)) }
 {
     match text(matches, flag) {
         Some(value) => value == "true",

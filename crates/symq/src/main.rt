@@ -3,7 +3,7 @@
 #![tactic(auto)]
 
 use bz_files::{FileError, Files, RealFiles, RealIn, RealOut};
-use bz_help::{Failed, message, named_file, stored_message};
+use bz_words::{Failed, message, named_file, stored_message};
 use bz_run::run;
 use bz_symq::{Status, own_pid};
 use std::borrow::CowStr;

@@ -1,5 +1,5 @@
-//! Tests of the program's processes, requests, frames and words, by runs of symq_runs, and of bz_help,
-//! over what they make public.
+//! Tests, by runs of symq_runs, of the program's processes, requests, frames and words, and of what
+//! bz_words tells of a run that did not end well, over what they make public.
 #![tactic(auto)]
 
 #[cfg(test)]

@@ -2,8 +2,8 @@
 
 use bz_base::Error;
 use bz_files::{MemFiles, Stamp};
-use bz_help::{Failed, message, named_file};
 use bz_symq::Status;
+use bz_words::{Failed, message, named_file};
 use std::alloc::Global;
 use std::test::Fail;
 

@@ -1,5 +1,5 @@
-//! Tests of the program's answers of files and stacks, by runs of symq_runs, and of bz_written, over
-//! what they make public.
+//! Tests, by runs of symq_runs, of the program's answers, stacks, products, inputs and endings, and of
+//! the texts of bz_canon, over what they make public.
 #![tactic(auto)]
 
 #[cfg(test)]

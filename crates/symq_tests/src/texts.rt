@@ -1,7 +1,7 @@
 //! The texts of answers made by hand.
 
 use bz_base::{CodeInfo, InlinedFn, Reason, Result, Sym, Symbolized};
-use bz_written::answer_text;
+use bz_canon::answer_text;
 use std::alloc::Global;
 use std::borrow::CowStr;
 

@@ -7,7 +7,7 @@ ghost use Rattle.bz_serve.specs.FrameText.{file_text, frame_text, frame_texts, r
 
 use bz_base::{Error, Result};
 use bz_store::{CrashFrame, FrameAnswer};
-use bz_written::push_answer;
+use bz_canon::push_answer;
 use std::alloc::Global;
 
 /// The texts of answers to frames, one after the other, each with its frame's module and id in front.

@@ -9,7 +9,7 @@ ghost use Rattle.bz_serve.specs.RequestSteps.{asking, asking_batch, asking_singl
 ghost use Rattle.bz_symbolize.specs.FileCall.{batch_of};
 ghost use Rattle.bz_symbolize.specs.Requests.{ToCache, ToEvict, cache_read, evict_read};
 ghost use Rattle.bz_symbolize.specs.Sources.{FileSource, OneFile, OneProcess, form_of};
-ghost use Rattle.bz_written.specs.AnswerText.{answer_text, answer_texts};
+ghost use Rattle.bz_canon.specs.AnswerText.{answer_text, answer_texts};
 ghost use Rattle.bz_symq.specs.Kept.{kept_of};
 
 use crate::serving::saying::{said_answer, said_okay, said_refusal};

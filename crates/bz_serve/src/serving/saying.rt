@@ -4,12 +4,12 @@ ghost use Rattle.std.specs.Prelude.{◌≡◌};
 ghost use Rattle.bz_base.specs.Answer.{reading};
 ghost use Rattle.bz_serve.specs.Serving.{Says, SaysRefusal};
 ghost use Rattle.bz_serve.specs.RequestSteps.{okay};
-ghost use Rattle.bz_written.specs.AnswerText.{answer_text};
+ghost use Rattle.bz_canon.specs.AnswerText.{answer_text};
 ghost use Rattle.bz_symq.specs.Reply.{text_of};
 
 use bz_base::{Addr, Error, Result, Symbolized};
 use bz_symq::{Said, refusal};
-use bz_written::answer_text;
+use bz_canon::answer_text;
 use std::alloc::Global;
 use std::borrow::CowStr;
 

@@ -1,5 +1,5 @@
 use Rattle.std.proofs.Common.{◌≡◌, drop, string_bytes, Err, refl, inl, inr, rules}
-use Rattle.bz_written.proofs.AnswerTextLemmas.{texts_none}
+use Rattle.bz_canon.proofs.AnswerTextLemmas.{texts_none}
 use Rattle.bz_symq.proofs.OutputLemmas.{has_answer, has_piece, writes_last}
 use Rattle.bz_symq.proofs.output.write_answers.Goals.{then-len-ge-PIECE+in_ok-write_piece, else-len-ge-PIECE}
 use Rattle.bz_symq.proofs.output.write_answers.Goals as goal

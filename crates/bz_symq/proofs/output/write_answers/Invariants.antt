@@ -1,5 +1,5 @@
 use Rattle.std.proofs.Common.{◌++◌, drop, string_bytes}
-use Rattle.bz_written.specs.AnswerText.{answer_texts}
+use Rattle.bz_canon.specs.AnswerText.{answer_texts}
 use Rattle.bz_symq.specs.Texts.{AreTexts}
 use Rattle.bz_symq.proofs.OutputLemmas.{HasWritten}
 use Rattle.bz_symq.proofs.output.write_answers.Given as goal

@@ -1,7 +1,7 @@
 use Rattle.std.proofs.Common.{◌≡◌, ◌<◌, ◌⊎◌, ◌≤◌, length, map, string_bytes, Err, refl, inl, inr, rules}
 use Rattle.std.proofs.lemmas.List.{length-map}
 use Rattle.bz_base.specs.Answer.{reading}
-use Rattle.bz_written.proofs.AnswerTextLemmas.{past_either, texts_end}
+use Rattle.bz_canon.proofs.AnswerTextLemmas.{past_either, texts_end}
 use Rattle.bz_symq.proofs.OutputLemmas.{has_answer, has_piece, owned_next, writes_last}
 use Rattle.bz_symq.proofs.output.write_owned.Goals.{then-len-ge-PIECE+in_ok-write_piece, else-len-ge-PIECE}
 use Rattle.bz_symq.proofs.output.write_owned.Goals as goal

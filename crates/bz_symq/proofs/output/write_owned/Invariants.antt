@@ -1,6 +1,6 @@
 use Rattle.std.proofs.Common.{◌++◌, drop, map, string_bytes}
 use Rattle.bz_base.specs.Answer.{reading}
-use Rattle.bz_written.specs.AnswerText.{answer_texts}
+use Rattle.bz_canon.specs.AnswerText.{answer_texts}
 use Rattle.bz_symq.proofs.OutputLemmas.{HasWritten}
 use Rattle.bz_symq.proofs.output.write_owned.Given as goal
 

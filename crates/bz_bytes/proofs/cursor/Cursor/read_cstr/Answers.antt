@@ -1,6 +1,6 @@
 use Rattle.std.proofs.Common.{arith}
-use Rattle.bz_text.specs.Byte.{zero_byte}
-use Rattle.bz_text.proofs.ByteLemmas.{HasNo-take, HasNo-nowhere}
+use Rattle.bz_bytes.specs.Byte.{zero_byte}
+use Rattle.bz_bytes.proofs.ByteLemmas.{HasNo-take, HasNo-nowhere}
 use Rattle.bz_bytes.proofs.CursorLemmas.{cstr_found, cstr_missing}
 use Rattle.bz_bytes.proofs.cursor.Cursor.read_cstr.Goals as goal
 

@@ -1,4 +1,4 @@
-use Rattle.bz_gen.specs.GeneratedTable.{generated_table}
+use Rattle.bz_canon.specs.GeneratedTable.{generated_table}
 use Rattle.bz_run.proofs.generating.asking.generated_answers.Goals as goal
 
 -- the text is a file that says the table

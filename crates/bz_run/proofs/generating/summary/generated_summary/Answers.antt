@@ -1,4 +1,4 @@
-use Rattle.bz_gen.specs.GeneratedTable.{generated_table}
+use Rattle.bz_canon.specs.GeneratedTable.{generated_table}
 use Rattle.bz_symq.specs.Kept.{settings_of}
 use Rattle.bz_symbolize.specs.State.{opts_of}
 use Rattle.bz_run.proofs.GeneratedBoundLemmas.{generated_fits}

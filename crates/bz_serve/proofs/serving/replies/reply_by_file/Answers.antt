@@ -3,7 +3,7 @@ use Rattle.bz_base.specs.Answer.{Answer}
 use Rattle.bz_base.specs.InputKind.{address_kind, payload}
 use Rattle.bz_lookups.specs.declared.lookups.Lookups.{Lookups}
 use Rattle.bz_symbolize.specs.FileCall.{batch_of}
-use Rattle.bz_written.specs.AnswerText.{answer_texts}
+use Rattle.bz_canon.specs.AnswerText.{answer_texts}
 use Rattle.bz_serve.proofs.DoesLemmas.{does_file}
 use Rattle.bz_serve.proofs.RequestReplyLemmas.{replied_given, replied_refused}
 use Rattle.bz_serve.proofs.serving.replies.reply_by_file.Goals as goal

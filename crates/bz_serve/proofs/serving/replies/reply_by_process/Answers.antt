@@ -1,6 +1,6 @@
 use Rattle.std.proofs.Common.{map, refl}
 use Rattle.bz_base.specs.Answer.{reading}
-use Rattle.bz_written.specs.AnswerText.{answer_texts}
+use Rattle.bz_canon.specs.AnswerText.{answer_texts}
 use Rattle.bz_serve.proofs.DoesLemmas.{does_batch}
 use Rattle.bz_serve.proofs.RequestReplyLemmas.{replied_given, replied_refused}
 use Rattle.bz_serve.proofs.serving.replies.reply_by_process.Goals as goal

@@ -1,6 +1,6 @@
 use Rattle.bz_base.specs.Answer.{reading}
 use Rattle.bz_requests.specs.Requests.{target_of}
-use Rattle.bz_written.specs.AnswerText.{answer_text}
+use Rattle.bz_canon.specs.AnswerText.{answer_text}
 use Rattle.bz_serve.proofs.DoesLemmas.{does_target}
 use Rattle.bz_serve.proofs.RequestReplyLemmas.{replied_given, replied_refused}
 use Rattle.bz_serve.proofs.serving.replies.reply_to_addr.Goals as goal

@@ -1,7 +1,7 @@
 use Rattle.std.proofs.Common.{◌≡◌, ◌∙◌, List, ap}
 use Rattle.bz_base.specs.Answer.{Answer}
 use Rattle.bz_base.specs.InputKind.{payload}
-use Rattle.bz_written.specs.AnswerText.{answer_texts}
+use Rattle.bz_canon.specs.AnswerText.{answer_texts}
 use Rattle.bz_symq.specs.Kept.{kept_of}
 use Rattle.bz_serve.specs.Serving.{Replied}
 use Rattle.bz_serve.specs.RequestSteps.{Doing, done_by}

@@ -1,6 +1,6 @@
 use Rattle.std.proofs.Common.{◌≡◌, true, ◌∙◌, rules}
 use Rattle.bz_cache.specs.Cache.{new_cache}
-use Rattle.bz_symbolize.specs.Requests.{CacheElf, CacheProcess, cache_read, process_caching}
+use Rattle.bz_symbolize.specs.Requests.{CacheElf, CacheProcess, cache_read}
 use Rattle.bz_symbolize.proofs.CachingLemmas.{elf_cached, process_cached}
 use Rattle.bz_symbolize.proofs.symbolizer.Symbolizer.cache.Goals as goal
 

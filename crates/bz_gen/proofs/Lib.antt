@@ -1,2 +1,0 @@
-pub mod GeneratedLemmas
-pub mod TextLemmas

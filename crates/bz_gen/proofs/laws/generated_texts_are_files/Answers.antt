@@ -1,5 +1,0 @@
-use Rattle.bz_gen.proofs.GeneratedLemmas.{generated_is_file}
-use Rattle.bz_gen.proofs.laws.generated_texts_are_files.Goals as goal
-
-pub returns : goal.returns
-returns c = generated_is_file

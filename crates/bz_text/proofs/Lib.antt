@@ -1,9 +1,0 @@
-pub mod ByteLemmas
-pub mod DigitLemmas
-pub mod LineLemmas
-pub mod LoadLemmas
-pub mod NumberLemmas
-pub mod PathLemmas
-pub mod PieceLemmas
-pub mod ReadLemmas
-pub mod SplitLemmas

@@ -1,4 +1,0 @@
-pub mod Byte
-pub mod Line
-pub mod Number
-pub mod Path

@@ -1,0 +1,120 @@
+//! What failed.
+
+ghost use Rattle.std.specs.Prelude.{◌≡◌, ◌<◌, codes, map, option_map, string_bytes, IfOk, IfSome};
+ghost use Rattle.std.specs.Cow.{cow_str_bytes};
+ghost use Rattle.bz_words.specs.Messages.{IsAboutFile, IsCause, IsOnFile, IsOnNamed, read_path};
+ghost use Rattle.bz_words.specs.Command.{job_of};
+
+use crate::given::{Job, Product};
+use crate::refused::line_about;
+use crate::words::read_command;
+use bz_base::Result;
+use bz_files::Files;
+use bz_requests::Target;
+use std::alloc::Global;
+use std::borrow::CowStr;
+
+/// The greatest length of a file that is read, in bytes.
+const MOST_BYTES: u64 = 1_073_741_824;
+
+/// How many calls have failed on each side of a run.
+#[derive(Clone, Copy, Debug)]
+pub struct Failed {
+    /// Reads of standard input.
+    pub input: u64,
+    /// Writes to standard output.
+    pub output: u64,
+    /// Looks at files.
+    pub files: u64,
+}
+
+/// Which side failed, and at which path if that is known.
+pub(crate) fn failure<F: Files>(
+    alloc: Global,
+    words: &[String],
+    failed: Failed,
+    files: &mut F,
+) -> CowStr<'static>
+    ensures output { 0 < failed.output → cow_str_bytes result ≡ codes "symq: standard output: writing failed" }
+    ensures input { failed.output ≡ 0 → 0 < failed.input → cow_str_bytes result ≡ codes "symq: standard input: reading failed" }
+    ensures about { failed.output ≡ 0 → failed.input ≡ 0 → 0 < failed.files → IsAboutFile (map string_bytes words.now) (cow_str_bytes result) }
+    ensures worlds { F.worlds files.new ≡ F.worlds files.old }
+{
+    if failed.output > 0 {
+        return CowStr::Borrowed("symq: standard output: writing failed");
+    }
+    if failed.input > 0 {
+        return CowStr::Borrowed("symq: standard input: reading failed");
+    }
+    if failed.files == 0 {
+        return CowStr::Borrowed("symq: reading or writing failed");
+    }
+    match failed_file(alloc, words, files) {
+        Ok(Some(line)) => CowStr::Owned(line),
+        Ok(None) => CowStr::Borrowed("symq: reading a file failed"),
+        Err(_) => CowStr::Borrowed("symq: reading a file failed"),
+    }
+}
+
+/// A line on the one file that the words ask to read.
+fn failed_file<F: Files>(alloc: Global, words: &[String], files: &mut F) -> Result<Option<String>>
+    ensures named { IfOk result (λ found. IfSome found (λ line. IsOnNamed (map string_bytes words.now) (string_bytes line))) }
+    ensures worlds { F.worlds files.new ≡ F.worlds files.old }
+{
+    let Ok(command) = read_command(alloc, words) else {
+        return Ok(None);
+    };
+    let Some(path) = read_path(&command.job) else {
+        return Ok(None);
+    };
+    let line = line_on_file(alloc, path, files)?;
+    Ok(Some(line))
+}
+
+/// The path of the one file that the job reads, whatever it asks of it.
+fn read_path(job: &Job) -> Option<&str>
+    ensures { option_map (λ path. path.now) result ≡ read_path (job_of job.now) }
+{
+    match job {
+        Job::Batch(Target::Breakpad(path), _) => Some(path.as_str()),
+        Job::Batch(Target::Gsym(path), _) => Some(path.as_str()),
+        Job::Batch(Target::Elf(path), _) => Some(path.as_str()),
+        Job::Make(Product::Converted(path)) => Some(path.as_str()),
+        Job::Make(Product::Canonical(path)) => Some(path.as_str()),
+        Job::Stacks(path) => Some(path.as_str()),
+        _ => None,
+    }
+}
+
+/// A line that says why the file at the path can't be read.
+fn line_on_file<F: Files>(alloc: Global, path: &str, files: &mut F) -> Result<String>
+    ensures says { IfOk result (λ line. IsOnFile path.now (string_bytes line)) }
+    ensures worlds { F.worlds files.new ≡ F.worlds files.old }
+{
+    let cause = cause_at(alloc, path, files)?;
+    let line = line_about(alloc, path, cause)?;
+    Ok(line)
+}
+
+/// Why the file at the path can't be read.
+fn cause_at<F: Files>(alloc: Global, path: &str, files: &mut F) -> Result<&'static str>
+    ensures cause { IfOk result (λ cause. IsCause cause.now) }
+    ensures worlds { F.worlds files.new ≡ F.worlds files.old }
+{
+    if is_folder(alloc, path, files)? {
+        return Ok("is a folder");
+    }
+    match files.stat(path) {
+        Ok(stamp) if stamp.size > MOST_BYTES => Ok("is longer than 1 GiB"),
+        _ => Ok("reading failed"),
+    }
+}
+
+/// Whether there is a folder at the path.
+fn is_folder<F: Files>(alloc: Global, path: &str, files: &mut F) -> Result<bool>
+    ensures worlds { F.worlds files.new ≡ F.worlds files.old }
+{
+    // A folder alone has itself in it.
+    let within = format!(in alloc; "{path}/.")?;
+    Ok(files.stat(within.as_str()).is_ok())
+}

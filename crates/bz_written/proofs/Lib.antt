@@ -1,2 +1,0 @@
-pub mod AnswerTextLemmas
-pub mod HexLemmas

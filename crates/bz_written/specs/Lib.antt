@@ -1,2 +1,0 @@
-pub mod AnswerText
-pub mod LowDigits
