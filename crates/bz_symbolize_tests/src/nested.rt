@@ -3,13 +3,10 @@
 use crate::steps::put;
 use bz_base::{Error, Input, Reason, Symbolized};
 use bz_files::MemFiles;
+use bz_samples::BREAKPAD_CALLS;
 use bz_symbolize::Symbolizer;
 use bz_symbolize::source::Source;
 use std::alloc::Global;
-
-/// The line record at 1000 names a file that has no FILE record.
-const NESTED: &str =
-    "FILE 15 o.c\nFILE 4 m.c\nFILE 8 i2.c\nFUNC 1000 30 10 outer_func()\nINLINE_ORIGIN 1 inner_func_2()\nINLINE_ORIGIN 2 mid_func()\nINLINE_ORIGIN 3 inner_func_1()\nINLINE 0 60 15 2 1000 20\nINLINE 1 12 4 3 1000 10\nINLINE 1 17 4 1 1010 10\n1000 10 42 7\n1010 10 52 8\n1020 10 62 15\n";
 
 const ADDRESSES: &[u64] = &[0x1010, 0x1020, 0x1000];
 
@@ -73,6 +70,6 @@ pub(crate) fn answers_nested(
     files: &mut MemFiles,
     src: &Source<'_>,
 ) -> bool {
-    put(alloc, files, "/s.sym", NESTED.as_bytes())
+    put(alloc, files, "/s.sym", BREAKPAD_CALLS.as_bytes())
         && answers_each_alone(alloc, symbolizer, files, src)
 }

@@ -50,10 +50,6 @@ pub struct Row {
 /// A Breakpad file of one function.
 const FIRST: &str = "MODULE Linux x86 ffff0000 bar\nFUNC 1000 30 10 another func\n";
 
-/// A Breakpad file of calls in calls, whose line record at 1000 names a file that has no FILE record.
-pub const NESTED: &str =
-    "FILE 15 o.c\nFILE 4 m.c\nFILE 8 i2.c\nFUNC 1000 30 10 outer_func()\nINLINE_ORIGIN 1 inner_func_2()\nINLINE_ORIGIN 2 mid_func()\nINLINE_ORIGIN 3 inner_func_1()\nINLINE 0 60 15 2 1000 20\nINLINE 1 12 4 3 1000 10\nINLINE 1 17 4 1 1010 10\n1000 10 42 7\n1010 10 52 8\n1020 10 62 15\n";
-
 /// An address in the function, and the one at its end.
 pub const ADDRESSES: &str = "1010\n1030\n";
 

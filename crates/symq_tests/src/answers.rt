@@ -1,7 +1,8 @@
 //! The answers of Breakpad files.
 
+use bz_samples::BREAKPAD_CALLS;
 use symq_runs::Edit::Text;
-use symq_runs::{ADDRESSES, FIRST_RUN, NESTED, Row, ends_so};
+use symq_runs::{ADDRESSES, FIRST_RUN, Row, ends_so};
 
 const ANSWERS: &str =
     "0x1010: another func+0x10 start 0x1000 size 0x30 module bar at -\n0x1030: ? address not found in symbolization source\n";
@@ -38,7 +39,7 @@ const EVERY_KIND: Row = Row {
 /// Calls in calls: they stand below their caller, each with its place; outside of them the line record
 /// has it.
 const CALLS: Row = Row {
-    edits: &[Text("/a.sym", NESTED)],
+    edits: &[Text("/a.sym", BREAKPAD_CALLS)],
     input: "1010\n1020\n1000\n",
     written: "0x1010: outer_func()+0x10 start 0x1000 size 0x30 module - at o.c:60\n  mid_func() at m.c:17\n  inner_func_2() at i2.c:52\n0x1020: outer_func()+0x20 start 0x1000 size 0x30 module - at o.c:62\n0x1000: ? an error occurred but was ignored in batch mode\n",
     ..FIRST_RUN

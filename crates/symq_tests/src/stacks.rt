@@ -1,13 +1,17 @@
 //! Stacks of a profile, by the words `stacks PATH`.
 
+use bz_samples::BREAKPAD_CALLS;
 use bz_symq::Status;
 use symq_runs::Edit::Text;
-use symq_runs::{FIRST_RUN, NESTED, Row, USAGE, ends_so};
+use symq_runs::{FIRST_RUN, Row, USAGE, ends_so};
 
 /// Stacks over inlined calls inside one another, and over a function whose name would end a frame.
 const STACKS: Row = Row {
     lines: &[&["stacks", "/n.sym"]],
-    edits: &[Text("/n.sym", NESTED), Text("/o.sym", "FUNC 1 1 0 a;b\n")],
+    edits: &[
+        Text("/n.sym", BREAKPAD_CALLS),
+        Text("/o.sym", "FUNC 1 1 0 a;b\n"),
+    ],
     own_pid: 1,
     input: "1010 2\n1020 3\n1010 5\n2000 1020 1\n",
     written: "[unknown];outer_func() 1\nouter_func() 3\nouter_func();mid_func();inner_func_2() 7\n",
