@@ -1,10 +1,12 @@
-//! Tests of bz_proc and bz_process, over what they make public.
+//! Tests of bz_proc and bz_process, over what they make public; and of every format over damaged files.
 #![tactic(auto)]
 
 #[cfg(test)]
 mod answers;
 #[cfg(test)]
 mod caching;
+#[cfg(test)]
+mod damaged;
 #[cfg(test)]
 mod dispatchers;
 #[cfg(test)]

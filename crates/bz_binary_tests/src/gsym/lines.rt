@@ -1,6 +1,6 @@
 //! Line tables, and the states that answer for addresses.
 
-use crate::answers::{self, NOWHERE, REFUSED, UNKNOWN, answers};
+use crate::gsym::answers::{self, NOWHERE, REFUSED, UNKNOWN, answers};
 use bz_base::Cursor;
 use bz_base::FindSymOpts::CodeInfo;
 use bz_gsym::{LineTableHeader, LineTableRow, RunResult, laws, run_op};

@@ -2,7 +2,7 @@
 
 ghost use Rattle.std.specs.Prelude.{◌≡◌, Some, option_map, string_bytes, IfOk};
 ghost use Rattle.bz_elf.specs.Plain.{plain};
-ghost use Rattle.bz_elf_tests.specs.Calling.{name_of};
+ghost use Rattle.bz_binary_tests.specs.ElfNames.{name_of};
 
 use bz_base::{Addr, FindSymOpts, Result, Symbolize};
 use bz_elf::ElfResolver;

@@ -1,6 +1,6 @@
 //! Resolvers, and files in a cache.
 
-use crate::answers::{AT_MAIN, tells};
+use crate::gsym::answers::{AT_MAIN, tells};
 use bz_base::{Error, ErrorKind};
 use bz_cache::FileCache;
 use bz_files::MemFiles;

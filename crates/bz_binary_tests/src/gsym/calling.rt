@@ -3,7 +3,7 @@
 ghost use Rattle.std.specs.Prelude.{◌≡◌, Some, option_map, string_bytes, IfOk};
 ghost use Rattle.bz_base.specs.declared.types.FindSymOpts.TheVariants as asked;
 ghost use Rattle.bz_gsym.specs.Plain.{plain};
-ghost use Rattle.bz_gsym_tests.specs.Calling.{name_of};
+ghost use Rattle.bz_binary_tests.specs.GsymNames.{name_of};
 
 use bz_base::{Addr, FindSymOpts, Result, Symbolize};
 use bz_gsym::GsymResolver;

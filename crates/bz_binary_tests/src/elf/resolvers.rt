@@ -1,6 +1,6 @@
 //! Resolvers, and files in a cache.
 
-use crate::files::{F, UNKNOWN, tells};
+use crate::elf::files::{F, UNKNOWN, tells};
 use bz_base::{Error, ErrorKind, TranslateFileOffset};
 use bz_cache::FileCache;
 use bz_elf::{ElfFile, ElfResolver};

@@ -1,6 +1,6 @@
 //! What files with damaged fields are refused for, and what they tell of addresses and offsets.
 
-use crate::made::with_symbols;
+use crate::elf::made::with_symbols;
 use bz_base::{Error, FindSymOpts, Reason, ResolvedSym, Symbolize, TranslateFileOffset};
 use bz_elf::{ElfFile, laws};
 use bz_samples::{ELF_FUNCTION, damaged};

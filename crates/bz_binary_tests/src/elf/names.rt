@@ -1,7 +1,7 @@
 //! Which names are taken: UTF-8 that a zero byte ends, wherever in the strings it begins.
 
-use crate::files::tells;
-use crate::made::with_symbols;
+use crate::elf::files::tells;
+use crate::elf::made::with_symbols;
 use bz_base::Error;
 use bz_elf::{ElfFile, laws};
 use std::alloc::{AllocError, Global};

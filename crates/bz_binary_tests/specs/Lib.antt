@@ -1,0 +1,2 @@
+pub mod ElfNames
+pub mod GsymNames

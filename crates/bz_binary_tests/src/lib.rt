@@ -1,0 +1,7 @@
+//! Tests of bz_elf and bz_gsym, over what they make public.
+#![tactic(auto)]
+
+#[cfg(test)]
+mod elf;
+#[cfg(test)]
+mod gsym;

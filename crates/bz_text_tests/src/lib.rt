@@ -1,0 +1,22 @@
+//! Tests of texts that are read and written: of bz_requests, bz_words and bz_breakpad_table; and of bz_convert,
+//! bz_gsym_layout, bz_converting and bz_canon, over what they make public.
+#![tactic(auto)]
+
+#[cfg(test)]
+mod addresses;
+#[cfg(test)]
+mod canonical_texts;
+#[cfg(test)]
+mod conversions;
+#[cfg(test)]
+mod faults;
+#[cfg(test)]
+mod generated;
+#[cfg(test)]
+mod plans;
+#[cfg(test)]
+mod refused_texts;
+#[cfg(test)]
+mod requests;
+#[cfg(test)]
+mod words;
