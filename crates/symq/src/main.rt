@@ -3,9 +3,9 @@
 #![tactic(auto)]
 
 use bz_files::{FileError, Files, RealFiles, RealIn, RealOut};
-use bz_words::{Failed, message, named_file, stored_message};
 use bz_run::run;
 use bz_symq::{Status, own_pid};
+use bz_words::{Failed, message, named_file, stored_message};
 use std::borrow::CowStr;
 use std::process::ExitCode;
 use std::{env, fs, io};

@@ -6,8 +6,8 @@ ghost use Rattle.bz_store.specs.Frames.{frame_of, reading_of};
 ghost use Rattle.bz_serve.specs.FrameText.{file_text, frame_text, frame_texts, reply_text, unknown_text};
 
 use bz_base::{Error, Result};
-use bz_store::{CrashFrame, FrameAnswer};
 use bz_canon::push_answer;
+use bz_store::{CrashFrame, FrameAnswer};
 use std::alloc::Global;
 
 /// The texts of answers to frames, one after the other, each with its frame's module and id in front.

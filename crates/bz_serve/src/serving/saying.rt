@@ -8,8 +8,8 @@ ghost use Rattle.bz_canon.specs.AnswerText.{answer_text};
 ghost use Rattle.bz_symq.specs.Reply.{text_of};
 
 use bz_base::{Addr, Error, Result, Symbolized};
-use bz_symq::{Said, refusal};
 use bz_canon::answer_text;
+use bz_symq::{Said, refusal};
 use std::alloc::Global;
 use std::borrow::CowStr;
 
