@@ -14,16 +14,18 @@ fn print_in_words(alloc: Global) -> bool {
 
 /// Whether an input keeps its kind under a map, and lends and gives what it holds.
 fn keeps_its_kind(input: Input<u64>) -> bool {
-    input.map(|x: u64| x == 3) == Input::VirtOffset(true)
+    input.map(Some) == Input::VirtOffset(Some(3))
         && *input.as_inner_ref() == 3
         && input.into_inner() == 3
 }
 
 #[test]
 fn reasons_errors_and_inputs_tell_what_they_are(rt: HostRuntime) {
-    assert!(rt; print_in_words(rt.alloc()) && keeps_its_kind(Input::VirtOffset(3)));
     assert!(rt;
-        Reason::MissingComponent.as_bytes() == b"proc maps entry has no component\0".as_slice()
+        print_in_words(rt.alloc())
+            && keeps_its_kind(Input::VirtOffset(3))
+            && Reason::MissingComponent.as_bytes()
+                == b"proc maps entry has no component\0".as_slice()
             && Error::InvalidInput.kind() == ErrorKind::InvalidInput
     );
 }
@@ -77,19 +79,13 @@ fn lends_factorial(known: &Symbolized<'_>) -> bool {
     }
 }
 
+/// Whether an answer lends the symbol, and then gives it.
 fn gives_factorial(known: Symbolized<'_>) -> bool {
+    let lent = lends_factorial(&known);
     match known.into_sym() {
-        Some(symbol) => is_factorial(&symbol),
+        Some(symbol) => is_factorial(&symbol) && lent,
         None => false,
     }
-}
-
-/// Whether an answer that owns its texts is cloned, lends its symbol and then gives it.
-fn owned_is_cloned_and_given(alloc: Global, symbol: Sym<'static>) -> bool {
-    let cloned = is_cloned(alloc, &symbol, false);
-    let known = Symbolized::Sym(symbol);
-    let lent = lends_factorial(&known);
-    gives_factorial(known) && lent && cloned
 }
 
 /// Whether a symbol is cloned, as it was made and with texts of its own, and then given.
@@ -97,7 +93,8 @@ fn is_cloned_and_given(alloc: Global) -> Result<bool> {
     let symbol = symbol(alloc)?;
     let lent = is_cloned(alloc, &symbol, true);
     let owned = symbol.into_owned(alloc)?;
-    Ok(owned_is_cloned_and_given(alloc, owned) && lent)
+    let cloned = is_cloned(alloc, &owned, false);
+    Ok(gives_factorial(Symbolized::Sym(owned)) && lent && cloned)
 }
 
 /// Whether a copy of a call is equal to it.
@@ -134,6 +131,5 @@ fn parts_are_cloned(alloc: Global) -> bool {
 
 #[test]
 fn answers_are_cloned_and_give_their_symbols(rt: HostRuntime) {
-    assert!(rt; is_cloned_and_given(rt.alloc()) == Ok(true));
-    assert!(rt; parts_are_cloned(rt.alloc()));
+    assert!(rt; is_cloned_and_given(rt.alloc()) == Ok(true) && parts_are_cloned(rt.alloc()));
 }

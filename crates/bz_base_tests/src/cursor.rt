@@ -82,11 +82,6 @@ fn signed_are_read() -> bool {
     true
 }
 
-#[test]
-fn reads_numbers_in_front(rt: HostRuntime) {
-    assert!(rt; unsigned_are_read() && signed_are_read());
-}
-
 /// Whether the numbers at the start are read in turn.
 fn reads_numbers(cursor: &mut Cursor<'_>) -> bool {
     cursor.read_u8() == Some(1)
@@ -121,15 +116,17 @@ fn reads_rest(cursor: &mut Cursor<'_>) -> bool {
         && cursor.read_u8().is_none()
 }
 
-/// Whether all of these are read in turn.
-fn reads_in_turn(cursor: &mut Cursor<'_>) -> bool {
-    reads_numbers(cursor) && aligns(cursor) && reads_text(cursor) && reads_rest(cursor)
-}
-
 #[test]
-fn reads_pieces_in_turn(rt: HostRuntime) {
+fn reads_numbers_and_pieces_in_turn(rt: HostRuntime) {
     let mut cursor = Cursor::new(
         b"\x01\x02\x03\x04\x05\x06\x07\x08\x09\x0a\x0b\x0c\x0d\x0e\x0f\x10b\0cd",
     );
-    assert!(rt; reads_in_turn(&mut cursor));
+    assert!(rt;
+        unsigned_are_read()
+            && signed_are_read()
+            && reads_numbers(&mut cursor)
+            && aligns(&mut cursor)
+            && reads_text(&mut cursor)
+            && reads_rest(&mut cursor)
+    );
 }

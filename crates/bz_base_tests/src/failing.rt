@@ -90,28 +90,25 @@ const ANSWERS: [(ErrorKind, FileError, FileError); 4] = [
     (ErrorKind::Other, FileError::Fault, FileError::Fault),
 ];
 
-/// Whether the first look has this answer, and only a fault is counted.
-fn looks_as(files: &mut RealFiles<Failing>, answer: FileError) -> bool {
-    files.stat("/a") == Err(answer) && files.faults() == u64::from(answer == FileError::Fault)
-}
-
-/// Whether the first read has this answer, and only a fault is counted.
-fn reads_as(files: &mut RealFiles<Failing>, alloc: Global, answer: FileError) -> bool {
-    files.read(alloc, "/a").err() == Some(answer)
-        && files.faults() == u64::from(answer == FileError::Fault)
-}
-
-/// Files over such a runtime.
+/// Files over a runtime whose first look fails so.
 fn first_fails(kind: ErrorKind) -> RealFiles<Failing> {
     let kind = Cell::new(kind);
     RealFiles::new(Failing { kind }, 0)
 }
 
-/// Whether a failure has these answers at a look and at a read.
+/// Whether only a fault is counted.
+fn is_counted(files: &RealFiles<Failing>, answer: FileError) -> bool {
+    files.faults() == u64::from(answer == FileError::Fault)
+}
+
+/// Whether a failure has these answers at a look and at a read, each the first one.
 fn fails_as(alloc: Global, kind: ErrorKind, stat: FileError, read: FileError) -> bool {
-    let looked = looks_as(&mut first_fails(kind), stat);
-    let opened = reads_as(&mut first_fails(kind), alloc, read);
-    looked && opened
+    let mut looked = first_fails(kind);
+    let mut opened = first_fails(kind);
+    looked.stat("/a") == Err(stat)
+        && is_counted(&looked, stat)
+        && opened.read(alloc, "/a").err() == Some(read)
+        && is_counted(&opened, read)
 }
 
 #[test]

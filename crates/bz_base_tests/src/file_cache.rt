@@ -6,7 +6,7 @@ ghost use Rattle.bz_base.specs.declared.error.Error.TheVariants.{InvalidInput};
 ghost use Rattle.bz_cache.specs.Format.{refused_by};
 
 use bz_base::{Error, Result};
-use bz_cache::{FileCache, Version};
+use bz_cache::{CacheBuilder, FileCache, Version};
 use bz_files::{Files, MemFiles, Stamp};
 use std::alloc::Global;
 use std::rc::Rc;
@@ -16,12 +16,6 @@ use std::rc::Rc;
 pub(crate) struct Note {
     bytes: Vec<u8>,
     ghost formed: { option_map_or (λ first. first == 86) (slice_get bytes.items 0) false ≡ true },
-}
-
-impl Note {
-    pub(crate) fn text(&self) -> &[u8] {
-        self.bytes.as_slice()
-    }
 }
 
 impl Version for Note {
@@ -43,17 +37,21 @@ impl Version for Note {
     ghost refusals = { λ bytes e. refused_by (option_map_or (λ first. first == 86) (slice_get bytes 0) false) InvalidInput e tt };
 }
 
-/// Puts a text at `/s`. Says whether memory was left.
-fn put(alloc: Global, files: &mut MemFiles, text: &[u8]) -> bool {
-    match text.to_vec(alloc) {
-        Ok(bytes) => files.put(alloc, "/s", bytes).is_ok(),
-        Err(_) => false,
-    }
+/// Puts a text at `/s`. Gives its stamp, if there is memory and a stamp left.
+pub(crate) fn put(alloc: Global, files: &mut MemFiles, text: &[u8]) -> Option<Stamp> {
+    let bytes = text.to_vec(alloc).ok()?;
+    files.put(alloc, "/s", bytes).ok()?
 }
 
-/// Whether the cache answers the text at `/s`.
-fn answers(cache: &mut FileCache<Note>, alloc: Global, files: &mut MemFiles, text: &[u8]) -> bool {
-    match cache.entry(alloc, files, "/s") {
+/// Whether the cache answers the text at the path.
+pub(crate) fn answers<F: Files>(
+    cache: &mut FileCache<Note>,
+    alloc: Global,
+    files: &mut F,
+    path: &str,
+    text: &[u8],
+) -> bool {
+    match cache.entry(alloc, files, path) {
         Ok(note) => note.bytes.as_slice() == text,
         Err(_) => false,
     }
@@ -74,170 +72,190 @@ fn take_in(cache: &mut FileCache<Note>, alloc: Global, files: &mut MemFiles) -> 
     cache.insert_value(alloc, files, "/s", note)
 }
 
-/// Puts the first text at `/s` again, with its stamp. Says whether memory was left.
-fn put_back(alloc: Global, files: &mut MemFiles, stamp: Stamp) -> bool {
-    match b"V1".to_vec(alloc) {
-        Ok(bytes) => files.put_as(alloc, "/s", stamp, bytes).is_ok(),
-        Err(_) => false,
-    }
+/// What is done with the files or the cache, and what has to be so of them.
+enum Act {
+    /// The text is put at `/s`.
+    Puts,
+    /// The file at `/s` is put at `/b` too.
+    Links,
+    /// The file at `/b` is put at `/s` too.
+    LinksBack,
+    /// The look of this number is to fail.
+    WillFail,
+    /// So many looks have failed.
+    Failed,
+    /// So many files were read.
+    WereRead,
+    /// The cache answers the text at the path.
+    Answers,
+    /// It doesn't.
+    Refuses,
+    /// It keeps a version with the stamp of the file at `/s`.
+    Keeps,
+    /// It takes in a note as that of the file at `/s`.
+    TakesIn,
+    /// It refuses that, since no file is there.
+    FindsNone,
+    /// It refuses that, since it has one.
+    HasOne,
+    /// It pins the path, which is then pinned.
+    Pins,
+    /// It doesn't hold the path that it is to pin.
+    PinsNone,
+    /// It takes the pin off the path.
+    Unpins,
+    /// It drops a version with the path.
+    Evicts,
+    /// It drops none.
+    EvictsNone,
+    /// So many versions are kept.
+    Versions,
+    /// So many paths are held.
+    Paths,
 }
 
-/// What happens to a file that a new cache looks at.
-enum Course {
-    ChangesUnseen,
-    Changes,
-    IsPinned,
-    IsTakenIn,
-    ChangesBack,
-    HasTwoPaths,
-}
+/// An act with its path, its text and its number, where it has them.
+type Step = (Act, &'static str, &'static [u8], usize);
 
-/// What may happen.
-static COURSES: [Course; 6] = [
-    Course::ChangesUnseen,
-    Course::Changes,
-    Course::IsPinned,
-    Course::IsTakenIn,
-    Course::ChangesBack,
-    Course::HasTwoPaths,
+/// A changed file is answered by its first version.
+const CHANGES_UNSEEN: [Step; 4] = [
+    (Act::Puts, "", b"V1", 0),
+    (Act::Answers, "/s", b"V1", 0),
+    (Act::Puts, "", b"V2", 0),
+    (Act::Answers, "/s", b"V1", 0),
 ];
 
-/// Whether a changed file is still answered by its first version.
-fn stays(cache: &mut FileCache<Note>, alloc: Global, files: &mut MemFiles) -> bool {
-    put(alloc, files, b"V2") && answers(cache, alloc, files, b"V1")
-}
+/// A file is read where it has changed, refused where a look fails, and read once. A version is looked
+/// at twice, for its stamp and its bytes, and once where it is kept.
+const CHANGES: [Step; 10] = [
+    (Act::WillFail, "", b"", 6),
+    (Act::Puts, "", b"V1", 0),
+    (Act::Answers, "/s", b"V1", 0),
+    (Act::Puts, "", b"V2", 0),
+    (Act::Answers, "/s", b"V2", 0),
+    (Act::Answers, "/s", b"V2", 0),
+    (Act::Refuses, "/s", b"V2", 0),
+    (Act::Failed, "", b"", 1),
+    (Act::Answers, "/s", b"V2", 0),
+    (Act::WereRead, "", b"", 2),
+];
 
-/// Whether a changed file is answered by its first version from the first look on.
-fn stays_from_the_first(cache: &mut FileCache<Note>, alloc: Global, files: &mut MemFiles) -> bool {
-    put(alloc, files, b"V1") && answers(cache, alloc, files, b"V1") && stays(cache, alloc, files)
-}
+/// A path answers by its first version from when it is pinned. It is looked at anew from when it is
+/// unpinned, and then let go with both versions.
+const IS_PINNED: [Step; 12] = [
+    (Act::Puts, "", b"V1", 0),
+    (Act::Answers, "/s", b"V1", 0),
+    (Act::Keeps, "", b"", 0),
+    (Act::Pins, "/s", b"", 0),
+    (Act::Puts, "", b"V2", 0),
+    (Act::Answers, "/s", b"V1", 0),
+    (Act::Unpins, "/s", b"", 0),
+    (Act::Answers, "/s", b"V2", 0),
+    (Act::Versions, "", b"", 2),
+    (Act::Paths, "", b"", 1),
+    (Act::Evicts, "/s", b"", 0),
+    (Act::Versions, "", b"", 0),
+];
 
-/// Whether a file is read where it has changed, and the sixth look is to fail.
-fn reads_anew(cache: &mut FileCache<Note>, alloc: Global, files: &mut MemFiles) -> bool {
-    files.fail_call(alloc, 6).is_ok()
-        && put(alloc, files, b"V1")
-        && answers(cache, alloc, files, b"V1")
-        && put(alloc, files, b"V2")
-        && answers(cache, alloc, files, b"V2")
-}
+/// A note is taken in once where a file is, which isn't read.
+const IS_TAKEN_IN: [Step; 6] = [
+    (Act::FindsNone, "", b"", 0),
+    (Act::Puts, "", b"not a note", 0),
+    (Act::TakesIn, "", b"", 0),
+    (Act::Answers, "/s", b"V1", 0),
+    (Act::WereRead, "", b"", 0),
+    (Act::HasOne, "", b"", 0),
+];
 
-/// Whether it is refused where that look fails, and read once.
-fn is_refused_once(cache: &mut FileCache<Note>, alloc: Global, files: &mut MemFiles) -> bool {
-    // A version is looked at twice, for its stamp and its bytes, and once where it is kept.
-    answers(cache, alloc, files, b"V2")
-        && !answers(cache, alloc, files, b"V2")
-        && files.faults() == 1
-        && answers(cache, alloc, files, b"V2")
-        && files.opens() == 2
-}
+/// A path whose file changes and changes back, and that so names a stamp twice, lets both versions go.
+const CHANGES_BACK: [Step; 10] = [
+    (Act::Puts, "", b"V1", 0),
+    (Act::Links, "", b"", 0),
+    (Act::Answers, "/s", b"V1", 0),
+    (Act::Puts, "", b"V2", 0),
+    (Act::Answers, "/s", b"V2", 0),
+    (Act::LinksBack, "", b"", 0),
+    (Act::Answers, "/s", b"V1", 0),
+    (Act::Versions, "", b"", 2),
+    (Act::Evicts, "/s", b"", 0),
+    (Act::Versions, "", b"", 0),
+];
 
-/// Whether a path answers by its first version from when it is pinned.
-fn stays_pinned(cache: &mut FileCache<Note>, alloc: Global, files: &mut MemFiles) -> bool {
-    put(alloc, files, b"V1")
-        && answers(cache, alloc, files, b"V1")
-        && is_kept(cache, files)
-        && cache.pin("/s").is_some()
-        && cache.is_pinned("/s")
-        && stays(cache, alloc, files)
-}
+/// The one version of a file with two paths stays until both are forgotten.
+const HAS_TWO_PATHS: [Step; 12] = [
+    (Act::Puts, "", b"V1", 0),
+    (Act::Links, "", b"", 0),
+    (Act::Answers, "/s", b"V1", 0),
+    (Act::Answers, "/b", b"V1", 0),
+    (Act::Versions, "", b"", 1),
+    (Act::Paths, "", b"", 2),
+    (Act::EvictsNone, "/s", b"", 0),
+    (Act::Versions, "", b"", 1),
+    (Act::Evicts, "/b", b"", 0),
+    (Act::Versions, "", b"", 0),
+    (Act::EvictsNone, "/b", b"", 0),
+    (Act::PinsNone, "/b", b"", 0),
+];
 
-/// Whether it is looked at anew from when it is unpinned, and then let go with both versions.
-fn goes_unpinned(cache: &mut FileCache<Note>, alloc: Global, files: &mut MemFiles) -> bool {
-    cache.unpin("/s").is_some()
-        && answers(cache, alloc, files, b"V2")
-        && cache.entry_count() == 2
-        && cache.path_count() == 1
-        && cache.evict("/s")
-        && cache.entry_count() == 0
-}
-
-/// Whether a note is taken in once where a file is, which isn't read.
-fn takes_in_once(cache: &mut FileCache<Note>, alloc: Global, files: &mut MemFiles) -> bool {
-    take_in(cache, alloc, files) == Err(Error::NotFound)
-        && put(alloc, files, b"not a note")
-        && take_in(cache, alloc, files) == Ok(())
-        && answers(cache, alloc, files, b"V1")
-        && files.opens() == 0
-        && take_in(cache, alloc, files) == Err(Error::AlreadyExists)
-}
-
-/// Whether a path whose file changes and changes back, and that so names a stamp twice, lets both
-/// versions go.
-fn lets_both_go(cache: &mut FileCache<Note>, alloc: Global, files: &mut MemFiles) -> bool {
-    let written = put(alloc, files, b"V1");
-    let Ok(stamp) = files.stat("/s") else {
-        return false;
-    };
-    written
-        && answers(cache, alloc, files, b"V1")
-        && put(alloc, files, b"V2")
-        && answers(cache, alloc, files, b"V2")
-        && put_back(alloc, files, stamp)
-        && answers(cache, alloc, files, b"V1")
-        && cache.entry_count() == 2
-        && cache.evict("/s")
-        && cache.entry_count() == 0
-}
-
-/// Looks at two paths of one file. Says whether it is found at both.
-fn looks_at_two(cache: &mut FileCache<Note>, alloc: Global, files: &mut MemFiles) -> bool {
-    put(alloc, files, b"V1")
-        && files.link(alloc, "/b", "/s") == Ok(true)
-        && answers(cache, alloc, files, b"V1")
-        && cache.entry(alloc, files, "/b").is_ok()
-}
-
-/// Whether the one version stays until both paths are forgotten.
-fn stays_for_two(cache: &mut FileCache<Note>) -> bool {
-    cache.entry_count() == 1
-        && cache.path_count() == 2
-        && !cache.evict("/s")
-        && cache.entry_count() == 1
-        && cache.evict("/b")
-        && cache.entry_count() == 0
-        && !cache.evict("/b")
-        && cache.pin("/b").is_none()
-}
-
-/// Whether the cache does as it should in a course.
-fn goes_well(
-    cache: &mut FileCache<Note>,
-    alloc: Global,
-    files: &mut MemFiles,
-    course: &Course,
-) -> bool {
-    match course {
-        Course::ChangesUnseen => stays_from_the_first(cache, alloc, files),
-        Course::Changes => reads_anew(cache, alloc, files) && is_refused_once(cache, alloc, files),
-        Course::IsPinned => stays_pinned(cache, alloc, files) && goes_unpinned(cache, alloc, files),
-        Course::IsTakenIn => takes_in_once(cache, alloc, files),
-        Course::ChangesBack => lets_both_go(cache, alloc, files),
-        Course::HasTwoPaths => looks_at_two(cache, alloc, files) && stays_for_two(cache),
+/// Whether a step is done, or is so.
+fn goes(cache: &mut FileCache<Note>, alloc: Global, files: &mut MemFiles, step: &Step) -> bool {
+    let (act, path, text, number) = step;
+    match act {
+        Act::Puts => put(alloc, files, text).is_some(),
+        Act::Links => files.link(alloc, "/b", "/s") == Ok(true),
+        Act::LinksBack => files.link(alloc, "/s", "/b") == Ok(true),
+        Act::WillFail => files.fail_call(alloc, *number as u64).is_ok(),
+        Act::Failed => files.faults() == *number as u64,
+        Act::WereRead => files.opens() == *number as u64,
+        Act::Answers => answers(cache, alloc, files, path, text),
+        Act::Refuses => !answers(cache, alloc, files, path, text),
+        Act::Keeps => is_kept(cache, files),
+        Act::TakesIn => take_in(cache, alloc, files) == Ok(()),
+        Act::FindsNone => take_in(cache, alloc, files) == Err(Error::NotFound),
+        Act::HasOne => take_in(cache, alloc, files) == Err(Error::AlreadyExists),
+        Act::Pins => cache.pin(path).is_some() && cache.is_pinned(path),
+        Act::PinsNone => cache.pin(path).is_none(),
+        Act::Unpins => cache.unpin(path).is_some(),
+        Act::Evicts => cache.evict(path),
+        Act::EvictsNone => !cache.evict(path),
+        Act::Versions => cache.entry_count() == *number,
+        Act::Paths => cache.path_count() == *number,
     }
 }
 
-/// A new cache. Where a file changes unseen, it reloads nothing.
-fn cache(alloc: Global, course: &Course) -> FileCache<Note> {
-    let builder = FileCache::<Note>::builder();
-    match course {
-        Course::ChangesUnseen => builder.enable_auto_reload(false).build(alloc),
-        _ => builder.build(alloc),
+/// Whether each step goes so, with new files and a new cache.
+fn go_well(alloc: Global, builder: CacheBuilder<Note>, steps: &[Step]) -> bool {
+    let mut files = MemFiles::new(alloc, 0);
+    let mut cache = builder.build(alloc);
+    for step in steps {
+        if !goes(&mut cache, alloc, &mut files, step) {
+            return false;
+        }
     }
+    true
 }
 
-/// Whether a new cache does as it should in a course.
-fn goes_well_anew(alloc: Global, course: &Course) -> bool {
-    goes_well(
-        &mut cache(alloc, course),
-        alloc,
-        &mut MemFiles::new(alloc, 0),
-        course,
-    )
+/// What happens to files at which a cache looks anew.
+static COURSES: [&[Step]; 5] = [
+    &CHANGES,
+    &IS_PINNED,
+    &IS_TAKEN_IN,
+    &CHANGES_BACK,
+    &HAS_TWO_PATHS,
+];
+
+/// Whether each course goes well, with a cache of its own.
+fn courses_go_well(alloc: Global) -> bool {
+    for steps in &COURSES {
+        if !go_well(alloc, FileCache::builder(), steps) {
+            return false;
+        }
+    }
+    true
 }
 
 #[test]
 fn versions_are_kept_while_they_are_named(rt: HostRuntime) {
-    for course in &COURSES {
-        assert!(rt; goes_well_anew(rt.alloc(), course));
-    }
+    let unseen = FileCache::builder().enable_auto_reload(false);
+    assert!(rt; go_well(rt.alloc(), unseen, &CHANGES_UNSEEN) && courses_go_well(rt.alloc()));
 }

@@ -8,10 +8,10 @@ use std::time::{Duration, SystemTime};
 use std::{fs, io};
 
 /// The files of this system.
-type Real<'a> = RealFiles<&'a HostRuntime>;
+type Real = RealFiles<HostRuntime>;
 
 /// Whether a look at the file of seven bytes tells its stamp, and the same by another path.
-fn has_stamp(files: &mut Real<'_>) -> bool {
+fn has_stamp(files: &mut Real) -> bool {
     match files.stat("bz_files_real") {
         Ok(stamp) => stamp.size == 7
             && stamp.inode > 0
@@ -22,7 +22,7 @@ fn has_stamp(files: &mut Real<'_>) -> bool {
 }
 
 /// Whether the file of seven bytes comes with the stamp that a look at it tells.
-fn comes_with_its_stamp(files: &mut Real<'_>, alloc: Global) -> bool {
+fn comes_with_its_stamp(files: &mut Real, alloc: Global) -> bool {
     match files.read_stamped(alloc, "bz_files_real") {
         Ok(read) => read.bytes.len() == 7 && files.stat("bz_files_real") == Ok(read.stamp),
         Err(_) => false,
@@ -30,7 +30,7 @@ fn comes_with_its_stamp(files: &mut Real<'_>, alloc: Global) -> bool {
 }
 
 /// Whether the file at the path tells no length.
-fn tells_no_length(files: &mut Real<'_>, path: &str) -> bool {
+fn tells_no_length(files: &mut Real, path: &str) -> bool {
     match files.stat(path) {
         Ok(stamp) => stamp.size == 0,
         Err(_) => false,
@@ -38,7 +38,7 @@ fn tells_no_length(files: &mut Real<'_>, path: &str) -> bool {
 }
 
 /// Whether the file at the path is read, and has this text: all of it, or at its start.
-fn has_text(files: &mut Real<'_>, alloc: Global, path: &str, text: &[u8], whole: bool) -> bool {
+fn has_text(files: &mut Real, alloc: Global, path: &str, text: &[u8], whole: bool) -> bool {
     match files.read(alloc, path) {
         Ok(bytes) => bytes.starts_with(text) && (bytes.len() == text.len() || !whole),
         Err(_) => false,
@@ -46,24 +46,79 @@ fn has_text(files: &mut Real<'_>, alloc: Global, path: &str, text: &[u8], whole:
 }
 
 /// Whether the file at the path isn't read, for this reason.
-fn is_refused(files: &mut Real<'_>, alloc: Global, path: &str, reason: FileError) -> bool {
+fn is_refused(files: &mut Real, alloc: Global, path: &str, reason: FileError) -> bool {
     files.read(alloc, path).err() == Some(reason)
 }
 
-/// Paths at which no file can be. The last is too long.
-const ABSENT: [&str; 5] = [
-    "bz_files_absent",
-    "bz_files_real/inside",
-    "",
-    "bz_files\0real",
-    "xxxxxxxxxxxxxxxxxxxxxxxxxxxxxxxxxxxxxxxxxxxxxxxxxxxxxxxxxxxxxxxxxxxxxxxxxxxxxxxxxxxxxxxxxxxxxxxxxxxxxxxxxxxxxxxxxxxxxxxxxxxxxxxxxxxxxxxxxxxxxxxxxxxxxxxxxxxxxxxxxxxxxxxxxxxxxxxxxxxxxxxxxxxxxxxxxxxxxxxxxxxxxxxxxxxxxxxxxxxxxxxxxxxxxxxxxxxxxxxxxxxxxxxxxxxxxxxxxxxxxxxxxxxxxxxxxxxxxxxxxxxxxxxxxxxxxxxxxxxx",
+/// What comes of a path.
+enum Outcome {
+    /// All of this text, at a read.
+    Text,
+    /// A text that begins so, at a read.
+    Beginning,
+    /// No length, at a look.
+    NoLength,
+    /// No file, at a look and at a read.
+    NoFile,
+    /// A fault, at a look.
+    NoLook,
+    /// A fault, at a read.
+    NoRead,
+}
+
+/// An outcome, with its path and its text, and how many faults and reads are counted after it.
+type Row = (Outcome, &'static str, &'static [u8], u64, u64);
+
+/// Files, and paths at which no file can be, of which the last one is too long.
+const LOOKED_AT: [Row; 8] = [
+    (Outcome::Text, "bz_files_real", b"one two", 0, 2),
+    (Outcome::NoFile, "bz_files_absent", b"", 0, 2),
+    (Outcome::NoFile, "bz_files_real/inside", b"", 0, 2),
+    (Outcome::NoFile, "", b"", 0, 2),
+    (Outcome::NoFile, "bz_files\0real", b"", 0, 2),
+    (
+        Outcome::NoFile,
+        "xxxxxxxxxxxxxxxxxxxxxxxxxxxxxxxxxxxxxxxxxxxxxxxxxxxxxxxxxxxxxxxxxxxxxxxxxxxxxxxxxxxxxxxxxxxxxxxxxxxxxxxxxxxxxxxxxxxxxxxxxxxxxxxxxxxxxxxxxxxxxxxxxxxxxxxxxxxxxxxxxxxxxxxxxxxxxxxxxxxxxxxxxxxxxxxxxxxxxxxxxxxxxxxxxxxxxxxxxxxxxxxxxxxxxxxxxxxxxxxxxxxxxxxxxxxxxxxxxxxxxxxxxxxxxxxxxxxxxxxxxxxxxxxxxxxxxxxxxxxx",
+        b"",
+        0,
+        2,
+    ),
+    (Outcome::NoLength, "/proc/version", b"", 0, 2),
+    (Outcome::Beginning, "/proc/version", b"Linux version ", 0, 3),
 ];
 
-/// Whether no file is at any path at which none can be.
-fn are_absent(files: &mut Real<'_>, alloc: Global) -> bool {
-    for path in &ABSENT {
-        if files.stat(path) != Err(FileError::NotFound)
-            || !is_refused(files, alloc, path, FileError::NotFound)
+/// A folder, a link to itself and a file that is too long.
+const FAILING: [Row; 3] = [
+    (Outcome::NoRead, ".", b"", 1, 0),
+    (Outcome::NoLook, "bz_files_loop", b"", 2, 0),
+    (Outcome::NoRead, "bz_files_long", b"", 3, 0),
+];
+
+/// Whether this comes of the path.
+fn is_answered(
+    files: &mut Real,
+    alloc: Global,
+    outcome: &Outcome,
+    path: &str,
+    text: &[u8],
+) -> bool {
+    match outcome {
+        Outcome::Text => has_text(files, alloc, path, text, true),
+        Outcome::Beginning => has_text(files, alloc, path, text, false),
+        Outcome::NoLength => tells_no_length(files, path),
+        Outcome::NoFile => files.stat(path) == Err(FileError::NotFound)
+            && is_refused(files, alloc, path, FileError::NotFound),
+        Outcome::NoLook => files.stat(path) == Err(FileError::Fault),
+        Outcome::NoRead => is_refused(files, alloc, path, FileError::Fault),
+    }
+}
+
+/// Whether all rows are answered and counted so.
+fn are_answered(files: &mut Real, alloc: Global, rows: &[Row]) -> bool {
+    for (outcome, path, text, faults, opens) in rows {
+        if !is_answered(files, alloc, outcome, path, text)
+            || files.faults() != *faults
+            || files.opens() != *opens
         {
             return false;
         }
@@ -71,45 +126,21 @@ fn are_absent(files: &mut Real<'_>, alloc: Global) -> bool {
     true
 }
 
-/// Whether looks at files, and at paths without one, are answered, and the two that read are counted.
-fn are_looked_at(files: &mut Real<'_>, alloc: Global) -> bool {
+/// Whether the files are looked at, and the stamp of one is told.
+fn are_looked_at(files: &mut Real, alloc: Global) -> bool {
     files.begin();
     has_stamp(files)
-        && has_text(files, alloc, "bz_files_real", b"one two", true)
         && comes_with_its_stamp(files, alloc)
-        && are_absent(files, alloc)
-        && files.opens() == 2
-}
-
-/// Whether a file that tells no length is read too, and all that happened is counted.
-fn reads_without_length(files: &mut Real<'_>, alloc: Global) -> bool {
-    tells_no_length(files, "/proc/version")
-        && has_text(files, alloc, "/proc/version", b"Linux version ", false)
-        && files.faults() == 0
-        && files.opens() == 3
+        && are_answered(files, alloc, &LOOKED_AT)
         && files.own_pid() == 7
 }
 
 /// Whether the stamps of two files are told apart, and the time of the first is told whole.
-fn are_told_apart(files: &mut RealFiles<HostRuntime>) -> Result<bool, FileError> {
+fn are_told_apart(files: &mut RealFiles<&HostRuntime>) -> Result<bool, FileError> {
     let one = files.stat("bz_files_one")?;
     let two = files.stat("bz_files_two")?;
     let timed = one.mtime_sec == 1_234_567_890 && one.mtime_nsec == 987_654_321;
     Ok(timed && one.dev == two.dev && one.dev > 0 && one.inode != two.inode)
-}
-
-/// Whether the file at the path is a fault at a read, after which so many are counted.
-fn is_fault(files: &mut Real<'_>, alloc: Global, path: &str, faults: u64) -> bool {
-    is_refused(files, alloc, path, FileError::Fault) && files.faults() == faults
-}
-
-/// Whether a folder, a link to itself and a file that is too long are faults, and each is counted.
-fn fail_in_turn(files: &mut Real<'_>, alloc: Global) -> bool {
-    is_fault(files, alloc, ".", 1)
-        && files.stat("bz_files_loop") == Err(FileError::Fault)
-        && files.faults() == 2
-        && is_fault(files, alloc, "bz_files_long", 3)
-        && files.opens() == 0
 }
 
 /// The files that are made.
@@ -153,16 +184,11 @@ fn remove(rt: &HostRuntime) -> bool {
     removed
 }
 
-/// Whether the files are looked at and read.
-fn all_are_looked_at(files: &mut Real<'_>, alloc: Global) -> bool {
-    are_looked_at(files, alloc) && reads_without_length(files, alloc)
-}
-
 /// Whether the files are looked at, told apart, and fail.
 fn answer(rt: &HostRuntime) -> bool {
-    all_are_looked_at(&mut RealFiles::new(rt, 7), rt.alloc())
-        && are_told_apart(&mut RealFiles::new(*rt, 0)) == Ok(true)
-        && fail_in_turn(&mut RealFiles::new(rt, 0), rt.alloc())
+    are_looked_at(&mut Real::new(*rt, 7), rt.alloc())
+        && are_told_apart(&mut RealFiles::new(rt, 0)) == Ok(true)
+        && are_answered(&mut Real::new(*rt, 0), rt.alloc(), &FAILING)
 }
 
 #[test]

@@ -76,39 +76,31 @@ impl Write for FailsFirst {
     }
 }
 
-/// A reader and writer of which so many first calls fail in one way.
-fn first_fail(kind: ErrorKind, left: u32) -> FailsFirst {
-    FailsFirst { kind, left }
-}
+/// How the first calls fail, how many of them, and how many faults that is.
+const FAILURES: [(ErrorKind, u32, u64); 3] = [
+    (ErrorKind::BrokenPipe, 1, 1),
+    // Calls that the system interrupts are made again.
+    (ErrorKind::Interrupted, 63, 0),
+    // So many in a row are a fault.
+    (ErrorKind::Interrupted, 64, 1),
+];
 
-/// Whether the next piece comes, and so many were faults.
-fn comes(input: &mut RealIn<FailsFirst>, faults: u64) -> bool {
+/// Whether the first piece is a fault that is counted, if there is one, and the next one comes.
+fn comes_after(kind: ErrorKind, left: u32, faults: u64) -> bool {
     let mut piece = [0u8; 3];
-    input.take(&mut piece) == Ok(1) && piece == *b"a\0\0" && input.faults() == faults
+    let mut input = RealIn::new(FailsFirst { kind, left });
+    (faults == 0 || input.take(&mut piece) == Err(IoFault::Fault))
+        && input.take(&mut piece) == Ok(1)
+        && piece == *b"a\0\0"
+        && input.faults() == faults
 }
 
-/// Whether the next piece is a fault.
-fn comes_not(input: &mut RealIn<FailsFirst>) -> bool {
-    let mut piece = [0u8; 3];
-    input.take(&mut piece) == Err(IoFault::Fault)
-}
-
-/// Whether the first piece is a fault that is counted, and the next one comes.
-fn comes_after_a_fault(kind: ErrorKind, calls: u32) -> bool {
-    let mut input = RealIn::new(first_fail(kind, calls));
-    comes_not(&mut input) && comes(&mut input, 1)
-}
-
-/// Whether the first piece is a fault that is counted, and the next one goes.
-fn goes_after_a_fault(kind: ErrorKind, calls: u32) -> bool {
-    let mut output = RealOut::new(first_fail(kind, calls));
-    output.put(b"abc") == Err(IoFault::Fault) && output.put(b"abc") == Ok(3) && output.faults() == 1
-}
-
-/// Whether a piece goes that the system interrupts so often, and nothing is a fault.
-fn goes_after_interrupts(calls: u32) -> bool {
-    let mut output = RealOut::new(first_fail(ErrorKind::Interrupted, calls));
-    output.put(b"abc") == Ok(3) && output.faults() == 0
+/// Whether the first piece is a fault that is counted, if there is one, and the next one goes.
+fn goes_after(kind: ErrorKind, left: u32, faults: u64) -> bool {
+    let mut output = RealOut::new(FailsFirst { kind, left });
+    (faults == 0 || output.put(b"abc") == Err(IoFault::Fault))
+        && output.put(b"abc") == Ok(3)
+        && output.faults() == faults
 }
 
 /// Whether a writer over an array takes nothing once it is full.
@@ -123,16 +115,8 @@ fn goes_while_there_is_room() -> bool {
 
 #[test]
 fn real_texts_fail(rt: HostRuntime) {
-    assert!(rt; comes_after_a_fault(ErrorKind::BrokenPipe, 1));
-    assert!(rt; goes_after_a_fault(ErrorKind::BrokenPipe, 1));
+    for (kind, left, faults) in &FAILURES {
+        assert!(rt; comes_after(*kind, *left, *faults) && goes_after(*kind, *left, *faults));
+    }
     assert!(rt; goes_while_there_is_room());
-}
-
-#[test]
-fn interrupted_calls_are_made_again(rt: HostRuntime) {
-    assert!(rt; comes(&mut RealIn::new(first_fail(ErrorKind::Interrupted, 63)), 0));
-    assert!(rt; goes_after_interrupts(63));
-    // So many in a row are a fault.
-    assert!(rt; comes_after_a_fault(ErrorKind::Interrupted, 64));
-    assert!(rt; goes_after_a_fault(ErrorKind::Interrupted, 64));
 }

@@ -2,7 +2,7 @@
 
 ghost use Rattle.std.specs.Prelude.{◌≡◌};
 
-use crate::file_cache::Note;
+use crate::file_cache::{Note, answers, put};
 use bz_cache::FileCache;
 use bz_files::{FileError, Files, MemFiles, Stamp, StampedBytes};
 use std::alloc::Global;
@@ -58,12 +58,6 @@ impl Files for ReplacedFiles {
     }
 }
 
-/// Puts a text at `/s`. Gives its stamp, if there is memory and a stamp left.
-fn put(alloc: Global, files: &mut MemFiles, text: &[u8]) -> Option<Stamp> {
-    let bytes = text.to_vec(alloc).ok()?;
-    files.put(alloc, "/s", bytes).ok()?
-}
-
 /// The stamps of a file at `/s` and of the one that replaces it.
 fn replace(alloc: Global, files: &mut MemFiles) -> Option<(Stamp, Stamp)> {
     let looked = put(alloc, files, b"V1")?;
@@ -72,35 +66,23 @@ fn replace(alloc: Global, files: &mut MemFiles) -> Option<(Stamp, Stamp)> {
     Some((looked, opened))
 }
 
-/// Whether the cache answers the second text at `/s`.
-fn answers_the_second(
-    cache: &mut FileCache<Note>,
-    alloc: Global,
-    files: &mut ReplacedFiles,
-) -> bool {
-    match cache.entry(alloc, files, "/s") {
-        Ok(note) => note.text() == b"V2".as_slice(),
-        Err(_) => false,
-    }
-}
-
 /// Whether a replaced file is read once, and kept under its own stamp alone.
-fn is_kept_as_opened(alloc: Global, files: MemFiles, looked: &Stamp, opened: &Stamp) -> bool {
-    let mut files = ReplacedFiles { files };
+fn is_kept_as_opened(alloc: Global) -> bool {
+    let mut files = ReplacedFiles {
+        files: MemFiles::new(alloc, 0),
+    };
+    let Some((looked, opened)) = replace(alloc, &mut files.files) else {
+        return false;
+    };
     let mut cache = FileCache::<Note>::builder().build(alloc);
-    answers_the_second(&mut cache, alloc, &mut files)
-        && cache.is_kept(opened)
-        && !cache.is_kept(looked)
-        && answers_the_second(&mut cache, alloc, &mut files)
+    answers(&mut cache, alloc, &mut files, "/s", b"V2")
+        && cache.is_kept(&opened)
+        && !cache.is_kept(&looked)
+        && answers(&mut cache, alloc, &mut files, "/s", b"V2")
         && files.files.opens() == 1
 }
 
 #[test]
 fn a_replaced_file_is_kept_under_its_own_stamp(rt: HostRuntime) {
-    let mut files = MemFiles::new(rt.alloc(), 0);
-    let kept = match replace(rt.alloc(), &mut files) {
-        Some((looked, opened)) => is_kept_as_opened(rt.alloc(), files, &looked, &opened),
-        None => false,
-    };
-    assert!(rt; kept);
+    assert!(rt; is_kept_as_opened(rt.alloc()));
 }
