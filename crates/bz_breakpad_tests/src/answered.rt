@@ -1,7 +1,7 @@
 //! What is answered at addresses, in a batch and alone.
 
 use crate::fact::{Answer, Call};
-use bz_base::{CodeInfo, Error, FindSymOpts, InlinedFn, Reason, Steps, Sym, Symbolized};
+use bz_base::{CodeInfo, Error, FindSymOpts, InlinedFn, Reason, Steps, Symbolized};
 use bz_breakpad::SymbolFile;
 use std::alloc::Global;
 use std::borrow::CowStr;
@@ -33,7 +33,10 @@ pub(crate) fn is_answered_alone<L: Ledger>(
 ) -> bool {
     match file.answer(alloc, addr, opts, steps) {
         Ok(answer) => is_answer(&answer, expected),
-        Err(error) => error == Error::InvalidInput && is_reason(Reason::IgnoredError, expected),
+        Err(error) => {
+            error == Error::InvalidInput
+                && matches!(expected, Answer::Unknown(Reason::IgnoredError))
+        }
     }
 }
 
@@ -50,22 +53,11 @@ pub(crate) fn are_answers(answers: &[Symbolized<'_>], expected: &[Answer]) -> bo
 }
 
 fn is_answer(answer: &Symbolized<'_>, expected: &Answer) -> bool {
-    match answer {
-        Symbolized::Sym(symbol) => is_symbol(symbol, expected),
-        Symbolized::Unknown(reason) => is_reason(*reason, expected),
-    }
-}
-
-fn is_reason(reason: Reason, expected: &Answer) -> bool {
-    match expected {
-        Answer::Unknown(expected) => reason == *expected,
-        Answer::Symbol(..) | Answer::Places(..) => false,
-    }
-}
-
-fn is_symbol(symbol: &Sym<'_>, expected: &Answer) -> bool {
-    match expected {
-        Answer::Symbol(name, start, offset, size, module, public) => {
+    match (answer, expected) {
+        (
+            Symbolized::Sym(symbol),
+            Answer::Symbol(name, start, offset, size, module, public),
+        ) => {
             symbol.name.as_str() == *name
                 && symbol.addr == *start
                 && symbol.offset == *offset
@@ -73,11 +65,12 @@ fn is_symbol(symbol: &Sym<'_>, expected: &Answer) -> bool {
                 && is_text(&symbol.module, module)
                 && symbol.public == *public
         }
-        Answer::Places(place, calls) => {
+        (Symbolized::Sym(symbol), Answer::Places(place, calls)) => {
             is_call(symbol.name.as_str(), &symbol.code_info, place)
                 && are_calls(&symbol.inlined, calls)
         }
-        Answer::Unknown(_) => false,
+        (Symbolized::Unknown(reason), Answer::Unknown(expected)) => reason == expected,
+        _ => false,
     }
 }
 
@@ -94,18 +87,19 @@ fn are_calls(calls: &[InlinedFn<'_>], expected: &[Call]) -> bool {
     true
 }
 
-fn is_call(name: &str, place: &Option<CodeInfo<'_>>, expected: &Call) -> bool {
-    name == expected.0 && is_place(place, expected)
-}
-
-fn is_place(place: &Option<CodeInfo<'_>>, expected: &Call) -> bool {
-    let (_, dir, file, line) = *expected;
+/// Whether the function of this name has the place. No place has a column.
+pub(crate) fn is_call(name: &str, place: &Option<CodeInfo<'_>>, expected: &Call) -> bool {
+    let (function, dir, file, line) = *expected;
+    if name != function {
+        return false;
+    }
     match place {
         Some(place) => {
             !file.is_empty()
                 && is_text(&place.dir, dir)
                 && place.file.as_str() == file
                 && place.line == Some(line)
+                && place.column == None
         }
         None => file.is_empty(),
     }
@@ -114,7 +108,7 @@ fn is_place(place: &Option<CodeInfo<'_>>, expected: &Call) -> bool {
 /// Whether this is the text, which is empty where there is none.
 fn is_text(text: &Option<CowStr<'_>>, expected: &str) -> bool {
     match text {
-        Some(text) => text.as_str() == expected,
+        Some(text) => !expected.is_empty() && text.as_str() == expected,
         None => expected.is_empty(),
     }
 }

@@ -230,11 +230,6 @@ const ANSWERS: &[Row] = &[
     ),
 ];
 
-#[test]
-fn answers_by_the_nearest_record(rt: HostRuntime) {
-    assert!(rt; hold(rt.alloc(), ANSWERS, Way::Bytes));
-}
-
 /// Functions, PUBLIC records and addresses with neither, together.
 const BATCHES: &[Row] = &[
     (
@@ -276,6 +271,8 @@ const BATCHES: &[Row] = &[
 ];
 
 #[test]
-fn answers_functions_and_public_records_together(rt: HostRuntime) {
-    assert!(rt; hold(rt.alloc(), BATCHES, Way::Bytes));
+fn answers_by_the_nearest_record_alone_and_together(rt: HostRuntime) {
+    assert!(rt;
+        hold(rt.alloc(), ANSWERS, &Way::Bytes) && hold(rt.alloc(), BATCHES, &Way::Bytes)
+    );
 }

@@ -22,12 +22,7 @@ fn name_at<F: Files>(alloc: Global, files: &mut F, path: &str, addr: Addr) -> Re
 }
 
 /// Whether the name at an address of the file that `dump_syms` writes is that.
-fn is_named(alloc: Global, addr: Addr, expected: &str) -> bool {
-    let mut files = MemFiles::new(alloc, 0);
-    has_name(alloc, &mut files, addr, expected) == Ok(true)
-}
-
-fn has_name(alloc: Global, files: &mut MemFiles, addr: Addr, expected: &str) -> Result<bool> {
+fn is_named(alloc: Global, files: &mut MemFiles, addr: Addr, expected: &str) -> Result<bool> {
     put(alloc, files, "/app.sym", USUAL)?;
     match name_at(alloc, files, "/app.sym", addr)? {
         Some(name) => Ok(name.as_str() == expected),
@@ -37,6 +32,9 @@ fn has_name(alloc: Global, files: &mut MemFiles, addr: Addr, expected: &str) -> 
 
 #[test]
 fn names_the_symbol_at_an_address(rt: HostRuntime) {
-    assert!(rt; is_named(rt.alloc(), 0x1174, "main"));
-    assert!(rt; is_named(rt.alloc(), 0x1020, "_start"));
+    let mut files = MemFiles::new(rt.alloc(), 0);
+    assert!(rt;
+        is_named(rt.alloc(), &mut files, 0x1174, "main") == Ok(true)
+            && is_named(rt.alloc(), &mut files, 0x1020, "_start") == Ok(true)
+    );
 }

@@ -9,37 +9,31 @@ pub(crate) type Row = (&'static [u8], &'static [Fact]);
 /// Stands where there is no name.
 pub(crate) const ABSENT: &str = "-";
 
+/// Ids with their names, in order.
+pub(crate) type Names = &'static [(u32, &'static str)];
+
 /// What a file shows.
-#[derive(Drop)]
 pub(crate) enum Fact {
     /// How many records it has.
     Records(u64),
+    /// How many functions it has, how many ids its FILE records have, and how many PUBLIC records it has.
+    Counts(usize, usize, usize),
     /// The name in its MODULE record.
     Module(&'static str),
-    /// How many ids its FILE records have.
-    FileCount(usize),
-    /// The name of the file of an id.
-    File(u32, &'static str),
-    /// The ids of its FILE records with their names, in order.
-    Files(&'static [(u32, &'static str)]),
-    /// The name of the inlined function of an id.
-    Origin(u32, &'static str),
-    /// The ids of its INLINE_ORIGIN records with their names, in order.
-    Origins(&'static [(u32, &'static str)]),
-    /// How many PUBLIC records it has.
-    PublicCount(usize),
+    /// The name of the file of an id, and that of its inlined function.
+    Name(u32, &'static str, &'static str),
+    /// The names of its FILE records, and those of its INLINE_ORIGIN records.
+    Names(Names, Names),
     /// The PUBLIC record of an index.
     Public(usize, PublicSymbol<'static>),
     /// Its PUBLIC records, in the order of their addresses.
     Publics(&'static [PublicSymbol<'static>]),
-    /// How many functions it has.
-    FunctionCount(usize),
+    /// The functions that a walk in their order meets which ends at a name.
+    Walk(&'static str, &'static [SymInfo<'static>]),
     /// The names of its functions, in the order of start and size.
     Functions(&'static [&'static str]),
     /// What the function shows that answers for the address.
     Function(u64, Told),
-    /// The functions that a walk in their order meets which ends at a name.
-    Walk(&'static str, &'static [SymInfo<'static>]),
     /// The answer at an address, as far as is asked.
     Answer(u64, FindSymOpts, Answer),
     /// The records for addresses, and the answers there, as far as is asked.
@@ -47,7 +41,6 @@ pub(crate) enum Fact {
 }
 
 /// What a function shows.
-#[derive(Drop)]
 pub(crate) enum Told {
     /// There is no such function.
     Nothing,
@@ -72,7 +65,6 @@ pub(crate) enum Told {
 pub(crate) type Call = (&'static str, &'static str, &'static str, u32);
 
 /// What is answered at an address.
-#[derive(Drop)]
 pub(crate) enum Answer {
     /// The symbol's name, start, offset, size and module, which is empty where there is none, and
     /// whether it is a PUBLIC record.

@@ -7,6 +7,7 @@ ghost use Rattle.bz_breakpad.specs.Table.{Table};
 
 use crate::answered::are_answers;
 use crate::fact::Answer;
+use crate::named::are_listed;
 use bz_base::{FindSymOpts, Steps, Symbolized};
 use bz_breakpad::{FoundRecord, SymbolFile};
 use std::alloc::Global;
@@ -32,7 +33,7 @@ pub(crate) fn has_batch<L: Ledger>(
     }
 }
 
-/// Whether this is answered in a batch, and the records have the same answers.
+/// Whether this is answered in a batch, and the records have the same answers together and one by one.
 fn has_answers<L: Ledger>(
     alloc: Global,
     file: &SymbolFile,
@@ -48,7 +49,7 @@ fn has_answers<L: Ledger>(
     match file.answer_batch(alloc, addrs, opts, steps) {
         Ok(answers) => {
             are_answers(&answers, expected)
-                && are_answered(alloc, file, addrs, found, opts, &answers)
+                && are_listed(file.answers_by(alloc, addrs, found, opts), &answers)
                 && are_answered_singly(alloc, file, addrs, found, opts, &answers)
         }
         Err(_) => false,
@@ -60,54 +61,17 @@ fn are_records(found: &[FoundRecord], expected: &[FoundRecord]) -> bool {
         return false;
     }
     for index in 0..found.len() {
-        if !is_record(found[index], expected[index]) {
+        let same = match (found[index], expected[index]) {
+            (FoundRecord::Function(found), FoundRecord::Function(expected)) => found == expected,
+            (FoundRecord::Public(found), FoundRecord::Public(expected)) => found == expected,
+            (FoundRecord::Absent, FoundRecord::Absent) => true,
+            _ => false,
+        };
+        if !same {
             return false;
         }
     }
     true
-}
-
-fn is_record(found: FoundRecord, expected: FoundRecord) -> bool {
-    match (found, expected) {
-        (FoundRecord::Function(found), FoundRecord::Function(expected)) => found == expected,
-        (FoundRecord::Public(found), FoundRecord::Public(expected)) => found == expected,
-        (FoundRecord::Absent, FoundRecord::Absent) => true,
-        _ => false,
-    }
-}
-
-/// Whether the records have these answers together.
-fn are_answered(
-    alloc: Global,
-    file: &SymbolFile,
-    addrs: &[u64],
-    found: &[FoundRecord],
-    opts: &FindSymOpts,
-    expected: &[Symbolized<'_>],
-) -> bool
-    requires records { (table : Table) → table_in file.now ≡ Some table → AreRecordsFor table addrs.now found.now }
-    requires count { length found.now ≡ length addrs.now }
-{
-    match file.answers_by(alloc, addrs, found, opts) {
-        Ok(answers) => are_same(&answers, expected),
-        Err(_) => false,
-    }
-}
-
-fn are_same(answers: &[Symbolized<'_>], expected: &[Symbolized<'_>]) -> bool {
-    if answers.len() != expected.len() {
-        return false;
-    }
-    for index in 0..answers.len() {
-        if !is_same(&answers[index], &expected[index]) {
-            return false;
-        }
-    }
-    true
-}
-
-fn is_same(answer: &Symbolized<'_>, expected: &Symbolized<'_>) -> bool {
-    answer == expected
 }
 
 /// Whether the records have these answers one by one.
@@ -148,7 +112,7 @@ fn is_answered_at(
     requires within { index < length addrs.now }
 {
     match file.answer_by(alloc, addrs[index], found[index], opts) {
-        Ok(answer) => is_same(&answer, expected),
+        Ok(answer) => answer == *expected,
         Err(_) => false,
     }
 }

@@ -3,15 +3,13 @@
 ghost use Rattle.std.specs.Prelude.{◌≡◌, ◌<◌};
 
 use crate::answered::{is_answered_alone, is_answered_in_batch};
-use crate::fact::{Fact, Row};
+use crate::fact::{ABSENT, Fact, Row};
 use crate::found::has_batch;
-use crate::named::{
-    are_listed, has_file_ids, has_function_names, has_origin_ids, has_public, is_name,
-};
-use crate::read::{Way, file_of, records_of};
+use crate::named::{are_listed, has_file_ids, has_function_names, has_origin_ids, has_public};
+use crate::read::{Way, records_of};
 use crate::told::is_told;
 use crate::walked::is_walk;
-use bz_base::{Steps, SymType};
+use bz_base::{Result, Steps, SymType};
 use bz_breakpad::SymbolFile;
 use bz_cache::Version;
 use std::alloc::Global;
@@ -19,20 +17,22 @@ use std::marker::Brand;
 use std::sync::ledger::{Blank, Ledger};
 
 /// Whether each row's text is a file that shows the row's facts.
-pub(crate) fn hold(alloc: Global, rows: &[Row], way: Way) -> bool {
+pub(crate) fn hold(alloc: Global, rows: &[Row], way: &Way) -> bool {
     for (text, facts) in rows {
-        if !holds(alloc, text, facts, way) {
+        if holds(alloc, text, facts, way) != Ok(true) {
             return false;
         }
     }
     true
 }
 
-fn holds(alloc: Global, text: &[u8], facts: &[Fact], way: Way) -> bool {
-    match file_of(alloc, text, way) {
-        Ok(file) => shows_all::<Brand>(alloc, Blank::new(1), text, &file, facts),
-        Err(_) => false,
-    }
+fn holds(alloc: Global, text: &[u8], facts: &[Fact], way: &Way) -> Result<bool> {
+    let bytes = Vec::from_slice(alloc, text)?;
+    let file = match way {
+        Way::Bytes => SymbolFile::from_bytes(alloc, bytes)?,
+        Way::Version => <SymbolFile as Version>::parse(alloc, bytes)?,
+    };
+    Ok(shows_all::<Brand>(alloc, Blank::new(1), text, &file, facts))
 }
 
 fn shows_all<L: Ledger>(
@@ -65,22 +65,8 @@ fn shows<L: Ledger>(
     steps: &mut Steps<L>,
 ) -> bool {
     match fact {
-        Fact::Records(count) => records_of(alloc, text) == Ok(*count),
-        Fact::Module(name) => is_name(file.module(), name),
-        Fact::FileCount(count) => file.file_count() == *count,
-        Fact::File(id, name) => is_name(file.file(*id), name),
-        Fact::Files(files) => are_listed(file.files(alloc), files) && has_file_ids(file, files),
-        Fact::Origin(id, name) => is_name(file.origin(*id), name),
-        Fact::Origins(origins) => {
-            are_listed(file.origins(alloc), origins) && has_origin_ids(file, origins)
-        }
-        Fact::PublicCount(count) => file.public_count() == *count,
-        Fact::Public(index, public) => has_public(file, *index, public),
-        Fact::Publics(publics) => are_listed(file.publics(alloc), publics),
-        Fact::FunctionCount(count) => file.function_count() == *count,
         Fact::Functions(names) => has_function_names(file, names, steps),
         Fact::Function(addr, told) => is_told(alloc, file, *addr, told, steps),
-        Fact::Walk(last, infos) => is_walk(file, SymType::Undefined, last, infos, Ok(())),
         Fact::Answer(addr, opts, answer) => {
             is_answered_in_batch(alloc, file, *addr, opts, answer, steps)
                 && is_answered_alone(alloc, file, *addr, opts, answer, steps)
@@ -88,5 +74,33 @@ fn shows<L: Ledger>(
         Fact::Batch(addrs, opts, records, answers) => {
             has_batch(alloc, file, addrs, opts, records, answers, steps)
         }
+        _ => holds_records(alloc, text, file, fact),
+    }
+}
+
+/// Whether the records in the file of the text are this; none of the facts that a search shows.
+fn holds_records(alloc: Global, text: &[u8], file: &SymbolFile, fact: &Fact) -> bool {
+    match fact {
+        Fact::Records(count) => records_of(alloc, text) == Ok(*count),
+        Fact::Counts(functions, files, publics) => {
+            file.function_count() == *functions
+                && file.file_count() == *files
+                && file.public_count() == *publics
+        }
+        Fact::Module(name) => file.module().unwrap_or(ABSENT) == *name,
+        Fact::Name(id, name, origin) => {
+            file.file(*id).unwrap_or(ABSENT) == *name
+                && file.origin(*id).unwrap_or(ABSENT) == *origin
+        }
+        Fact::Names(files, origins) => {
+            are_listed(file.files(alloc), files)
+                && has_file_ids(file, files)
+                && are_listed(file.origins(alloc), origins)
+                && has_origin_ids(file, origins)
+        }
+        Fact::Public(index, public) => has_public(file, *index, public),
+        Fact::Publics(publics) => are_listed(file.publics(alloc), publics),
+        Fact::Walk(last, infos) => is_walk(file, SymType::Undefined, last, infos, Ok(())),
+        _ => false,
     }
 }

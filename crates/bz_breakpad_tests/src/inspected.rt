@@ -1,9 +1,5 @@
-//! What is told of functions by their names and in their order.
+//! Functions of one name and of others, and what is told of them.
 
-use crate::fact::Fact::Walk;
-use crate::fact::Row;
-use crate::holding::hold;
-use crate::read::Way;
 use bz_base::SymType;
 use bz_breakpad::SymInfo;
 
@@ -11,7 +7,7 @@ use bz_breakpad::SymInfo;
 pub(crate) const TWINS: &[u8] =
     b"FUNC 2000 10 0 twin\nFUNC 1000 20 0 twin\nFUNC 1000 10 0 other\nFUNC 1000 10 0 twin\nPUBLIC 900 0 twin\nFUNC 3000 5 0 last\n";
 
-const OTHER: SymInfo<'static> = SymInfo {
+pub(crate) const OTHER: SymInfo<'static> = SymInfo {
     name: "other",
     addr: 0x1000,
     size: Some(0x10),
@@ -47,7 +43,7 @@ pub(crate) const LATE_TWIN: SymInfo<'static> = SymInfo {
     module: None,
 };
 
-const LAST: SymInfo<'static> = SymInfo {
+pub(crate) const LAST: SymInfo<'static> = SymInfo {
     name: "last",
     addr: 0x3000,
     size: Some(5),
@@ -55,17 +51,3 @@ const LAST: SymInfo<'static> = SymInfo {
     file_offset: None,
     module: None,
 };
-
-/// Walks in the order of start, size and place in the file.
-const WALKS: &[Row] = &[(
-    TWINS,
-    &[
-        Walk("twin", &[OTHER, SHORT_TWIN]),
-        Walk("none", &[OTHER, SHORT_TWIN, LONG_TWIN, LATE_TWIN, LAST]),
-    ],
-)];
-
-#[test]
-fn walks_in_order_until_it_is_stopped(rt: HostRuntime) {
-    assert!(rt; hold(rt.alloc(), WALKS, Way::Bytes));
-}

@@ -111,5 +111,5 @@ const LINES: &[Row] = &[
 
 #[test]
 fn lines_of_runs_and_lists(rt: HostRuntime) {
-    assert!(rt; hold(rt.alloc(), LINES, Way::Bytes));
+    assert!(rt; hold(rt.alloc(), LINES, &Way::Bytes));
 }

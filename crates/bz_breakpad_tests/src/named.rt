@@ -1,6 +1,5 @@
 //! The names of a file, and its PUBLIC records.
 
-use crate::fact::ABSENT;
 use bz_base::{Error, Steps};
 use bz_breakpad::{PublicSymbol, SymbolFile};
 use std::sync::ledger::Ledger;
@@ -14,10 +13,6 @@ pub(crate) fn are_listed<T: PartialEq + Drop>(
         Ok(items) => items.as_slice() == expected,
         Err(_) => false,
     }
-}
-
-pub(crate) fn is_name(name: Option<&str>, expected: &str) -> bool {
-    name.unwrap_or(ABSENT) == expected
 }
 
 /// Whether these are the ids of FILE records, in order.

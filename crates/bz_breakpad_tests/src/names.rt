@@ -1,8 +1,6 @@
 //! The names that a file holds.
 
-use crate::fact::Fact::{
-    File, FileCount, Files, Module, Origin, Origins, Public, PublicCount, Publics,
-};
+use crate::fact::Fact::{Counts, Module, Name, Names, Public, Publics};
 use crate::fact::{ABSENT, Row};
 use crate::holding::hold;
 use crate::read::Way;
@@ -26,23 +24,15 @@ const NAMES: &[Row] = &[
     (
         NAMED,
         &[
-            File(0, ABSENT),
-            Origin(0, ABSENT),
-            File(1, "b"),
-            Origin(1, "j"),
-            File(2, ABSENT),
-            Origin(2, "i"),
-            File(3, ABSENT),
-            Origin(3, ""),
-            File(4, "c "),
-            Origin(4, ABSENT),
-            File(7, "é"),
-            Origin(7, ABSENT),
-            File(8, ABSENT),
-            Origin(8, ABSENT),
-            File(4294967295, ""),
-            Origin(4294967295, ABSENT),
-            PublicCount(2),
+            Name(0, ABSENT, ABSENT),
+            Name(1, "b", "j"),
+            Name(2, ABSENT, "i"),
+            Name(3, ABSENT, ""),
+            Name(4, "c ", ABSENT),
+            Name(7, "é", ABSENT),
+            Name(8, ABSENT, ABSENT),
+            Name(4294967295, "", ABSENT),
+            Counts(1, 4, 2),
             Public(
                 0,
                 PublicSymbol {
@@ -65,51 +55,51 @@ const NAMES: &[Row] = &[
     (
         IN_ORDER,
         &[
-            FileCount(3),
-            File(0, "a"),
-            File(1, "b"),
-            File(2, "c"),
-            File(3, ABSENT),
+            Counts(0, 3, 0),
+            Name(0, "a", ABSENT),
+            Name(1, "b", ABSENT),
+            Name(2, "c", ABSENT),
+            Name(3, ABSENT, ABSENT),
         ],
     ),
     (
         OUT_OF_ORDER,
         &[
-            FileCount(3),
-            File(0, "a"),
-            File(1, "b"),
-            File(2, "c"),
-            File(3, ABSENT),
+            Counts(0, 3, 0),
+            Name(0, "a", ABSENT),
+            Name(1, "b", ABSENT),
+            Name(2, "c", ABSENT),
+            Name(3, ABSENT, ABSENT),
         ],
     ),
     (
         WITH_GAP,
         &[
-            FileCount(3),
-            File(0, "a"),
-            File(1, ABSENT),
-            File(2, "c"),
-            File(3, "d"),
+            Counts(0, 3, 0),
+            Name(0, "a", ABSENT),
+            Name(1, ABSENT, ABSENT),
+            Name(2, "c", ABSENT),
+            Name(3, "d", ABSENT),
         ],
     ),
     (
         REPEATED,
         &[
-            FileCount(3),
-            File(0, "b"),
-            File(1, "e"),
-            File(2, "f"),
-            File(3, ABSENT),
+            Counts(0, 3, 0),
+            Name(0, "b", ABSENT),
+            Name(1, "e", ABSENT),
+            Name(2, "f", ABSENT),
+            Name(3, ABSENT, ABSENT),
         ],
     ),
     (
         LAST,
         &[
-            FileCount(2),
-            File(0, "a"),
-            File(1, ABSENT),
-            File(4294967294, ABSENT),
-            File(4294967295, "z"),
+            Counts(0, 2, 0),
+            Name(0, "a", ABSENT),
+            Name(1, ABSENT, ABSENT),
+            Name(4294967294, ABSENT, ABSENT),
+            Name(4294967295, "z", ABSENT),
         ],
     ),
     (b"MODULE a b c \r\n", &[Module("")]),
@@ -120,33 +110,26 @@ const NAMES: &[Row] = &[
     (b"INFO MODULE a b c d\n", &[Module(ABSENT)]),
 ];
 
-#[test]
-fn names_by_ids(rt: HostRuntime) {
-    assert!(rt; hold(rt.alloc(), NAMES, Way::Bytes));
-}
-
 /// Ids one after another, out of order, with gaps and repeated, and none; PUBLIC records in order, and
 /// out of order with some of one address.
 const LISTED: &[Row] = &[
     (
         b"FILE 0 a\nINLINE_ORIGIN 0 f\nFILE 1 b\nFILE 2 c\n",
-        &[Files(&[(0, "a"), (1, "b"), (2, "c")]), Origins(&[(0, "f")])],
+        &[Names(&[(0, "a"), (1, "b"), (2, "c")], &[(0, "f")])],
     ),
     (
         b"INLINE_ORIGIN 3 h\nFILE 0 a\nFILE 4294967295 z\nFILE 1 b\nINLINE_ORIGIN 2 g\n",
         &[
-            Files(&[(0, "a"), (1, "b"), (4294967295, "z")]),
-            Origins(&[(2, "g"), (3, "h")]),
+            Names(&[(0, "a"), (1, "b"), (4294967295, "z")], &[(2, "g"), (3, "h")]),
         ],
     ),
     (
         b"FILE 7 y\nFILE 5 x\nFILE 7 z\nINLINE_ORIGIN 0 f\nINLINE_ORIGIN 9 i\nINLINE_ORIGIN 0 e\nINLINE_ORIGIN 4 g\n",
         &[
-            Files(&[(5, "x"), (7, "z")]),
-            Origins(&[(0, "e"), (4, "g"), (9, "i")]),
+            Names(&[(5, "x"), (7, "z")], &[(0, "e"), (4, "g"), (9, "i")]),
         ],
     ),
-    (b"FUNC 10 8 0 a\n", &[Files(&[]), Origins(&[])]),
+    (b"FUNC 10 8 0 a\n", &[Names(&[], &[])]),
     (
         b"PUBLIC 10 0 a\nPUBLIC 20 4 b\n",
         &[Publics(&[
@@ -191,6 +174,8 @@ const LISTED: &[Row] = &[
 ];
 
 #[test]
-fn lists_in_order(rt: HostRuntime) {
-    assert!(rt; hold(rt.alloc(), LISTED, Way::Bytes));
+fn names_by_ids_and_in_order(rt: HostRuntime) {
+    assert!(rt;
+        hold(rt.alloc(), NAMES, &Way::Bytes) && hold(rt.alloc(), LISTED, &Way::Bytes)
+    );
 }

@@ -187,5 +187,5 @@ const PLACES: &[Row] = &[
 
 #[test]
 fn places_by_lines_and_calls(rt: HostRuntime) {
-    assert!(rt; hold(rt.alloc(), PLACES, Way::Bytes));
+    assert!(rt; hold(rt.alloc(), PLACES, &Way::Bytes));
 }

@@ -1,18 +1,16 @@
 //! What resolvers show.
 
+use crate::answered::is_call;
+use crate::fact::Call;
 use crate::files::put;
 use crate::named::are_listed;
 use crate::walked::is_walk;
-use bz_base::{
-    CodeInfo, Error, FindSymOpts, Reason, ResolvedSym, Result, SrcLang, SymType, Symbolize,
-};
+use bz_base::{Error, FindSymOpts, Reason, ResolvedSym, Result, SrcLang, SymType, Symbolize};
 use bz_breakpad::{BreakpadResolver, FindAddrOpts, Inspect, SymInfo};
 use bz_files::MemFiles;
 use std::alloc::Global;
-use std::borrow::CowStr;
 
 /// What a resolver shows.
-#[derive(Drop)]
 pub(crate) enum Resolved {
     /// How it is printed.
     Printed(&'static str),
@@ -25,46 +23,37 @@ pub(crate) enum Resolved {
 }
 
 /// What is found at an address.
-#[derive(Drop)]
 pub(crate) enum Found {
-    /// The symbol's name, start, size and module, which is empty where there is none, and the line of
-    /// `bar.c`, which is 0 where none is known.
-    Symbol(&'static str, u64, Option<usize>, &'static str, u32),
+    /// The symbol's name and place, start, size and module, which is empty where there is none. It has no
+    /// inlined calls, and its language isn't known.
+    Symbol(Call, u64, Option<usize>, &'static str),
     /// Why there is no symbol.
     Unknown(Reason),
     /// Why the address is refused.
     Refused(Error),
 }
 
+const FUNCTIONS: &FindAddrOpts = &FindAddrOpts {
+    sym_type: SymType::Function,
+};
+
+const VARIABLES: &FindAddrOpts = &FindAddrOpts {
+    sym_type: SymType::Variable,
+};
+
 /// A text, and what its resolver shows.
 pub(crate) type Row = (&'static [u8], Resolved);
 
-/// Whether the resolver of each row's text shows this.
-pub(crate) fn are_resolved(alloc: Global, rows: &[Row]) -> bool {
-    for (text, resolved) in rows {
-        if !is_resolved(alloc, text, resolved) {
-            return false;
-        }
-    }
-    true
-}
-
-fn is_resolved(alloc: Global, text: &[u8], resolved: &Resolved) -> bool {
-    match resolver_of(alloc, text) {
-        Ok(resolver) => shows(alloc, &resolver, resolved),
-        Err(_) => false,
-    }
-}
-
-/// The resolver of a text at `/p`.
-fn resolver_of(alloc: Global, text: &[u8]) -> Result<BreakpadResolver> {
-    let mut files = MemFiles::new(alloc, 0);
-    opened(alloc, &mut files, text)
-}
-
-fn opened(alloc: Global, files: &mut MemFiles, text: &[u8]) -> Result<BreakpadResolver> {
+/// Whether the resolver of the text at `/p` shows this.
+pub(crate) fn is_resolved(
+    alloc: Global,
+    files: &mut MemFiles,
+    text: &[u8],
+    resolved: &Resolved,
+) -> Result<bool> {
     put(alloc, files, "/p", text)?;
-    BreakpadResolver::open(alloc, files, "/p")
+    let resolver = BreakpadResolver::open(alloc, files, "/p")?;
+    Ok(shows(alloc, &resolver, resolved))
 }
 
 fn shows(alloc: Global, resolver: &BreakpadResolver, resolved: &Resolved) -> bool {
@@ -75,13 +64,9 @@ fn shows(alloc: Global, resolver: &BreakpadResolver, resolved: &Resolved) -> boo
             are_listed(
                 resolver.find_addr(alloc, name, &FindAddrOpts::default()),
                 infos,
-            ) && are_listed(named(alloc, resolver, name, SymType::Function), infos)
+            ) && are_listed(resolver.find_addr(alloc, name, FUNCTIONS), infos)
         }
-        Resolved::NoVariables => {
-            let refused = Err(Error::Unsupported);
-            is_walk(resolver, SymType::Variable, "twin", &[], refused)
-                && is_refused(named(alloc, resolver, "twin", SymType::Variable))
-        }
+        Resolved::NoVariables => has_no_variables(alloc, resolver),
     }
 }
 
@@ -108,45 +93,24 @@ fn is_found(
 
 fn is_symbol(symbol: &ResolvedSym<'_>, expected: &Found) -> bool {
     match expected {
-        Found::Symbol(name, start, size, module, line) => {
-            symbol.name == *name
+        Found::Symbol(place, start, size, module) => {
+            is_call(symbol.name, &symbol.code_info, place)
                 && symbol.addr == *start
                 && symbol.size == *size
                 && symbol.lang == SrcLang::Unknown
                 && symbol.inlined.is_empty()
                 && symbol.module.unwrap_or("") == *module
-                && is_place(&symbol.code_info, *line)
         }
         Found::Unknown(_) | Found::Refused(_) => false,
     }
 }
 
-/// Whether the place is this line of `bar.c`, or none is known where the line is 0.
-fn is_place(place: &Option<CodeInfo<'_>>, line: u32) -> bool {
-    match place {
-        Some(place) => {
-            place.dir == None
-                && place.file == CowStr::Borrowed("bar.c")
-                && place.line == Some(line)
-                && place.column == None
-        }
-        None => line == 0,
-    }
-}
-
-/// The symbols of a name and a kind.
-fn named<'a>(
-    alloc: Global,
-    resolver: &'a BreakpadResolver,
-    name: &str,
-    sym_type: SymType,
-) -> Result<Vec<SymInfo<'a>>> {
-    resolver.find_addr(alloc, name, &FindAddrOpts { sym_type })
-}
-
-fn is_refused(infos: Result<Vec<SymInfo<'_>>>) -> bool {
-    match infos {
-        Ok(_) => false,
-        Err(error) => error == Error::Unsupported,
-    }
+/// Whether variables are refused, in a walk and by a name.
+fn has_no_variables(alloc: Global, resolver: &BreakpadResolver) -> bool {
+    let refused = Err(Error::Unsupported);
+    is_walk(resolver, SymType::Variable, "twin", &[], refused)
+        && matches!(
+            resolver.find_addr(alloc, "twin", VARIABLES),
+            Err(Error::Unsupported)
+        )
 }

@@ -4,7 +4,7 @@ use crate::files::{BAR, put};
 use crate::inspected::{LATE_TWIN, LONG_TWIN, SHORT_TWIN, TWINS};
 use crate::resolved::Found::{Refused, Symbol, Unknown};
 use crate::resolved::Resolved::{At, Named, NoVariables, Printed};
-use crate::resolved::{Row, are_resolved};
+use crate::resolved::{Row, is_resolved};
 use bz_base::{Error, ErrorKind, FindSymOpts, Reason, Result};
 use bz_breakpad::BreakpadResolver;
 use bz_files::MemFiles;
@@ -22,7 +22,7 @@ const RESOLVED: &[Row] = &[
         At(
             0x1010,
             FindSymOpts::CodeInfoAndInlined,
-            Symbol("another func", 0x1000, Some(0x30), "bar", 7),
+            Symbol(("another func", "", "bar.c", 7), 0x1000, Some(0x30), "bar"),
         ),
     ),
     (
@@ -30,7 +30,7 @@ const RESOLVED: &[Row] = &[
         At(
             0x1234,
             FindSymOpts::CodeInfoAndInlined,
-            Symbol("some public", 0x1234, None, "bar", 0),
+            Symbol(("some public", "", "", 0), 0x1234, None, "bar"),
         ),
     ),
     (
@@ -38,7 +38,7 @@ const RESOLVED: &[Row] = &[
         At(
             0x1300,
             FindSymOpts::CodeInfoAndInlined,
-            Symbol("some public", 0x1234, None, "bar", 0),
+            Symbol(("some public", "", "", 0), 0x1234, None, "bar"),
         ),
     ),
     (
@@ -46,7 +46,7 @@ const RESOLVED: &[Row] = &[
         At(
             0x17,
             FindSymOpts::CodeInfoAndInlined,
-            Symbol("f", 0x10, Some(8), "", 0),
+            Symbol(("f", "", "", 0), 0x10, Some(8), ""),
         ),
     ),
     (
@@ -70,7 +70,7 @@ const RESOLVED: &[Row] = &[
         At(
             0x1000,
             FindSymOpts::Basic,
-            Symbol("f", 0x1000, Some(0x30), "", 0),
+            Symbol(("f", "", "", 0), 0x1000, Some(0x30), ""),
         ),
     ),
     (TWINS, Named("twin", &[SHORT_TWIN, LONG_TWIN, LATE_TWIN])),
@@ -80,16 +80,11 @@ const RESOLVED: &[Row] = &[
 
 #[test]
 fn resolvers_answer(rt: HostRuntime) {
-    assert!(rt; are_resolved(rt.alloc(), RESOLVED));
+    let mut files = MemFiles::new(rt.alloc(), 0);
+    for (text, resolved) in RESOLVED {
+        assert!(rt; is_resolved(rt.alloc(), &mut files, text, resolved) == Ok(true));
+    }
 }
-
-/// Paths, and how they are refused one after another, with a fault at the last one.
-const REFUSED: &[(&str, ErrorKind)] = &[
-    ("/absent", ErrorKind::NotFound),
-    ("/denied", ErrorKind::PermissionDenied),
-    ("/cut", ErrorKind::InvalidInput),
-    ("/p", ErrorKind::ReadFault),
-];
 
 /// Whether the path is refused so.
 fn refuses(alloc: Global, files: &mut MemFiles, path: &str, kind: ErrorKind) -> bool {
@@ -99,22 +94,17 @@ fn refuses(alloc: Global, files: &mut MemFiles, path: &str, kind: ErrorKind) -> 
     }
 }
 
-fn refuses_each(alloc: Global, files: &mut MemFiles) -> bool {
-    for (path, kind) in REFUSED {
-        if !refuses(alloc, files, path, *kind) {
-            return false;
-        }
-    }
-    true
-}
-
-/// BAR, its front without the end of a line, and a path that is denied; the fourth call fails.
+/// Whether a path without a file, one that is denied, the front of BAR without the end of a line, and BAR
+/// by the fourth call, which fails, are refused by their causes.
 fn refuses_paths(alloc: Global, files: &mut MemFiles) -> Result<bool> {
     put(alloc, files, "/p", BAR)?;
     put(alloc, files, "/cut", b"MODULE Linux x86 ffff0000 bar")?;
     files.deny(alloc, "/denied")?;
     files.fail_call(alloc, 4)?;
-    Ok(refuses_each(alloc, files))
+    Ok(refuses(alloc, files, "/absent", ErrorKind::NotFound)
+        && refuses(alloc, files, "/denied", ErrorKind::PermissionDenied)
+        && refuses(alloc, files, "/cut", ErrorKind::InvalidInput)
+        && refuses(alloc, files, "/p", ErrorKind::ReadFault))
 }
 
 #[test]

@@ -1,63 +1,54 @@
 //! Which texts are Breakpad files, and how many records they have.
 
-use crate::fact::Fact::{FileCount, FunctionCount, PublicCount, Records};
+use crate::fact::Fact::{Counts, Records};
 use crate::fact::Row;
 use crate::files::{BAR, NESTED, USUAL};
 use crate::holding::hold;
 use crate::read::{Way, records_of};
 use bz_base::Error;
-use std::alloc::Global;
 
-const COUNTED: &[Row] = &[
+/// Texts of each kind of record, alone and together.
+const READ: &[Row] = &[
     (
         BAR,
-        &[Records(5), FunctionCount(1), FileCount(1), PublicCount(1)],
+        &[Records(5), Counts(1, 1, 1)],
     ),
     (
         b"MODULE Linux x86 ffff0000 bar\r\nFILE 53 bar.c\r\nPUBLIC 1234 10 some public\r\nFUNC 1000 30 10 another func\r\n1000 30 7 53\r\n",
-        &[Records(5), FunctionCount(1), FileCount(1), PublicCount(1)],
+        &[Records(5), Counts(1, 1, 1)],
     ),
     (
         b"MODULE Linux x86 ffff0000 bar\r\r\nFILE 53 bar.c\r\r\nPUBLIC 1234 10 some public\r\r\nFUNC 1000 30 10 another func\r\r\n1000 30 7 53\r\r\n",
-        &[Records(5), FunctionCount(1), FileCount(1), PublicCount(1)],
+        &[Records(5), Counts(1, 1, 1)],
     ),
     (
         NESTED,
-        &[Records(13), FunctionCount(1), FileCount(3), PublicCount(0)],
+        &[Records(13), Counts(1, 3, 0)],
     ),
     (
         b"FUNC 1000 10 0 f\n\n1000 10 5 1\nFILE 1 a.c\n\n",
-        &[Records(3), FunctionCount(1), FileCount(1), PublicCount(0)],
+        &[Records(3), Counts(1, 1, 0)],
     ),
     (
         b"MODULE a b c \n",
-        &[Records(1), FunctionCount(0), FileCount(0), PublicCount(0)],
+        &[Records(1), Counts(0, 0, 0)],
     ),
     (
         b"FILE 1 a\n \t\n  FILE 1 b\r\n",
-        &[Records(2), FunctionCount(0), FileCount(1), PublicCount(0)],
+        &[Records(2), Counts(0, 1, 0)],
     ),
     (
         USUAL,
-        &[Records(13), FunctionCount(1), FileCount(2), PublicCount(1)],
+        &[Records(13), Counts(1, 2, 1)],
     ),
     (
         b"FUNC 1 2 3 x\nFUNC 1 2 3 x\nPUBLIC 1 2 x\nPUBLIC 1 2 x\nFILE 1 a\nFILE 0000000001 a\nFILE 2 a\n",
-        &[Records(7), FunctionCount(2), FileCount(2), PublicCount(2)],
+        &[Records(7), Counts(2, 2, 2)],
     ),
     (
         b"PUBLIC 10 0 p\n",
-        &[Records(1), FunctionCount(0), FileCount(0), PublicCount(1)],
+        &[Records(1), Counts(0, 0, 1)],
     ),
-];
-
-#[test]
-fn counts_records(rt: HostRuntime) {
-    assert!(rt; hold(rt.alloc(), COUNTED, Way::Bytes));
-    assert!(rt; hold(rt.alloc(), COUNTED, Way::Version));
-}
-
-const READ: &[Row] = &[
     // numbers
     (
         b"FUNC 0000000000000001 00000002 00000003 x\n",
@@ -179,7 +170,9 @@ const READ: &[Row] = &[
 
 #[test]
 fn reads_texts(rt: HostRuntime) {
-    assert!(rt; hold(rt.alloc(), READ, Way::Bytes));
+    assert!(rt;
+        hold(rt.alloc(), READ, &Way::Bytes) && hold(rt.alloc(), READ, &Way::Version)
+    );
 }
 
 /// Texts that are no Breakpad files.
@@ -355,13 +348,9 @@ const REFUSED: &[&[u8]] = &[
     b"FILE 1 a\n\x0cFILE 2 b\n",
 ];
 
-fn is_refused(alloc: Global, text: &[u8]) -> bool {
-    records_of(alloc, text) == Err(Error::InvalidInput)
-}
-
 #[test]
 fn refuses_texts(rt: HostRuntime) {
     for text in REFUSED {
-        assert!(rt; is_refused(rt.alloc(), text));
+        assert!(rt; records_of(rt.alloc(), text) == Err(Error::InvalidInput));
     }
 }

@@ -30,7 +30,10 @@ fn is_told_by(alloc: Global, function: &Function<'_>, told: &Told) -> bool {
                 && function.size() == *size
                 && function.parameter_size() == *parameter_size
         }
-        Told::Line(addr, line) => line_at(function, *addr) == *line,
+        Told::Line(addr, line) => match function.find_line(*addr) {
+            Some(found) => *line == Some(found.line),
+            None => *line == None,
+        },
         Told::LineRecord(addr, line) => function.find_line(*addr) == *line,
         Told::Lines(lines) => has_lines(alloc, function, lines),
         Told::CallAtDepth(depth, addr, call) => {
@@ -40,13 +43,6 @@ fn is_told_by(alloc: Global, function: &Function<'_>, told: &Told) -> bool {
         Told::Calls(calls) => {
             are_listed(function.inlinees(alloc), calls) && are_calls(function, calls)
         }
-    }
-}
-
-fn line_at(function: &Function<'_>, addr: u64) -> Option<u32> {
-    match function.find_line(addr) {
-        Some(line) => Some(line.line),
-        None => None,
     }
 }
 

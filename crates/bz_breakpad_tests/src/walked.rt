@@ -14,16 +14,9 @@ pub(crate) fn is_walk<T: Inspect>(
     let mut met = 0usize;
     let mut in_order = true;
     let walked = table.for_each(&FindAddrOpts { sym_type }, |info| {
-        in_order = in_order && is_info(info, expected.get(met));
+        in_order = in_order && expected.get(met) == Some(info);
         met = met.saturating_add(1);
         info.name != last
     });
     walked == end && in_order && met == expected.len()
-}
-
-fn is_info(info: &SymInfo<'_>, expected: Option<&SymInfo<'_>>) -> bool {
-    match expected {
-        Some(expected) => info == expected,
-        None => false,
-    }
 }
