@@ -70,17 +70,15 @@ fn id_of(entry: Option<&Entry>) -> u8 {
 /// Starts, sizes and depths in the order of a file, of which two are equal.
 const NESTED: [(u64, u64, u32); 5] = [(4, 9, 1), (0, 20, 0), (4, 9, 1), (5, 2, 2), (6, 0, 3)];
 
-/// Whether the records around 6 are found, from the outermost on, and the last one of depth 1 that
-/// begins before it.
+/// Whether a chain has the records around 6, from the outermost on.
+fn is_around(chain: &[&Entry]) -> bool {
+    chain.len() == 3 && chain[0].id == 1 && chain[1].id == 2 && chain[2].id == 3
+}
+
+/// Whether the records around 6 are found, and the last one of depth 1 that begins before it.
 fn has_around(alloc: Global, table: &[Entry]) -> bool {
     match chain_in(alloc, table, 6) {
-        Ok(chain) => {
-            let around = chain.len() == 3
-                && chain[0].id == 1
-                && chain[1].id == 2
-                && chain[2].id == 3;
-            around && id_of(inner_in(table, 1, 6)) == 2
-        }
+        Ok(chain) => is_around(&chain) && id_of(inner_in(table, 1, 6)) == 2,
         Err(_) => false,
     }
 }
@@ -139,20 +137,31 @@ fn search_answers<L: Ledger>(table: &[Entry], starts: &Starts, steps: &mut Steps
     place == Some(4) && id_of(covering_at(table, place, 17)) == 4
 }
 
+/// Whether the address of this number has this place, found with others.
+fn is_placed<L: Ledger>(
+    alloc: Global,
+    starts: &Starts,
+    addrs: &[u64],
+    number: usize,
+    want: Option<usize>,
+    steps: &mut Steps<L>,
+) -> bool
+    requires { number < length addrs.now }
+{
+    match nearest_each(alloc, starts, addrs, steps) {
+        Ok(places) => places[number].get() == want,
+        Err(_) => false,
+    }
+}
+
 /// Addresses that are searched together.
 const TOGETHER: [u64; 9] = [17, 16, 40, 7, 32, 8, 15, 23, 24];
 
 /// Whether many addresses, which are found in one sweep, have the places that one has by a search.
 fn places_agree<L: Ledger>(alloc: Global, starts: &Starts, steps: &mut Steps<L>) -> bool {
-    let Ok(one) = nearest_each(alloc, starts, &TOGETHER[..1], steps) else {
-        return false;
-    };
-    match nearest_each(alloc, starts, &TOGETHER, steps) {
-        Ok(places) => one[0].get() == Some(4)
-            && places[0].get() == Some(4)
-            && places[3].get() == Place::none().get(),
-        Err(_) => false,
-    }
+    is_placed(alloc, starts, &TOGETHER, 0, Some(4), steps)
+        && is_placed(alloc, starts, &TOGETHER[..1], 0, Some(4), steps)
+        && is_placed(alloc, starts, &TOGETHER, 3, Place::none().get(), steps)
 }
 
 /// Whether searches find the record that answers, in a table that is sorted.
@@ -176,24 +185,32 @@ fn finds_record<L: Ledger>(alloc: Global, steps: &mut Steps<L>) -> Result<bool, 
 /// Addresses, and for each the place of its start among the sorted ones, and this start.
 const PLACES: [(u64, usize, u64); 4] = [(10, 0, 10), (15, 1, 10), (20, 2, 20), (99, 3, 20)];
 
+fn has_places<L: Ledger>(starts: &Starts, steps: &mut Steps<L>) -> bool {
+    for (addr, place, start) in &PLACES {
+        if nearest(starts, *addr, steps) != Some((*place, *start)) {
+            return false;
+        }
+    }
+    nearest(starts, 9, steps) == None
+}
+
 /// Whether places are found among starts that are put in order by std.
 fn sorted_have_places<L: Ledger>(mut numbers: Vec<u64>, steps: &mut Steps<L>) -> bool {
     numbers.sort_unstable();
     let starts = Starts::from_sorted(numbers);
-    for (addr, place, start) in &PLACES {
-        if nearest(&starts, *addr, steps) != Some((*place, *start)) {
-            return false;
-        }
-    }
-    nearest(&starts, 9, steps) == None
+    has_places(&starts, steps)
+}
+
+/// Whether no place is found among no starts.
+fn none_has_places<L: Ledger>(none: &Starts, steps: &mut Steps<L>) -> bool {
+    none.len() == 0 && nearest(none, 9, steps) == None
 }
 
 /// Whether places are found among starts that were not in order, and none among none.
 fn finds_places<L: Ledger>(alloc: Global, steps: &mut Steps<L>) -> Result<bool, AllocError> {
+    let none = none_has_places(&Starts::from_sorted(Vec::new(alloc)), steps);
     let numbers = vec![in alloc; 20, 10, 20, 10]?;
-    let sorted = sorted_have_places(numbers, steps);
-    let none = Starts::from_sorted(Vec::new(alloc));
-    Ok(sorted && none.len() == 0 && nearest(&none, 9, steps) == None)
+    Ok(sorted_have_places(numbers, steps) && none)
 }
 
 /// Whether records and places are found, in counted steps.

@@ -30,18 +30,41 @@ const PATHS: [(&str, &str, &str); 4] = [
     ("", "b", "b"),
 ];
 
+/// Whether a directory is this one, where an empty text stands for none.
+fn is_directory(directory: Option<&str>, want: &str) -> bool {
+    match directory {
+        Some(directory) => !directory.is_empty() && directory == want,
+        None => want.is_empty(),
+    }
+}
+
 /// Whether a text has this directory and file, where an empty text stands for none.
 fn splits_into(text: &str, directory: &str, file: &str) -> bool {
     match split_source(text) {
-        Some((Some(front), last)) => {
-            !front.is_empty() && front == directory && !last.is_empty() && last == file
-        }
-        Some((None, last)) => directory.is_empty() && !last.is_empty() && last == file,
+        Some((front, last)) => is_directory(front, directory) && !last.is_empty() && last == file,
         None => directory.is_empty() && file.is_empty(),
     }
 }
 
-/// Whether the path of a file in a directory, or of a file without one, is this.
+/// Whether all texts are split so.
+fn are_split() -> bool {
+    for (text, directory, file) in &SPLITS {
+        if !splits_into(text, directory, file) {
+            return false;
+        }
+    }
+    true
+}
+
+/// Whether this is the path of the place's file.
+fn has_path(alloc: Global, place: &CodeInfo<'_>, want: &str) -> bool {
+    match place.to_path(alloc) {
+        Ok(path) => path.as_str() == want,
+        Err(_) => false,
+    }
+}
+
+/// Whether this is the path of a file in a directory, or of a file without one.
 fn joins_to(alloc: Global, dir: Option<CowStr<'_>>, file: &str, want: &str) -> bool {
     let place = CodeInfo {
         dir,
@@ -49,19 +72,11 @@ fn joins_to(alloc: Global, dir: Option<CowStr<'_>>, file: &str, want: &str) -> b
         line: None,
         column: None,
     };
-    match place.to_path(alloc) {
-        Ok(path) => path.as_str() == want,
-        Err(_) => false,
-    }
+    has_path(alloc, &place, want)
 }
 
-/// Whether all texts are split so, and all directories and files joined so.
-fn are_split_and_joined(alloc: Global) -> bool {
-    for (text, directory, file) in &SPLITS {
-        if !splits_into(text, directory, file) {
-            return false;
-        }
-    }
+/// Whether all directories and files are joined so.
+fn are_joined(alloc: Global) -> bool {
     for (directory, file, want) in &PATHS {
         if !joins_to(alloc, Some(CowStr::Borrowed(directory)), file, want) {
             return false;
@@ -72,5 +87,5 @@ fn are_split_and_joined(alloc: Global) -> bool {
 
 #[test]
 fn splits_and_joins_paths(rt: HostRuntime) {
-    assert!(rt; are_split_and_joined(rt.alloc()));
+    assert!(rt; are_split() && are_joined(rt.alloc()));
 }
