@@ -2,14 +2,15 @@
 
 ghost use Rattle.std.specs.Prelude.{◌≡◌, ◌<◌};
 
-use crate::lookups::{answers_by_its_version, looks_up};
-use crate::told::{Told, are_refused, are_told, is_refused, is_told};
+use crate::lookups::looks_up;
+use crate::many::{self, Batch};
+use crate::nested::answers_each_alone;
+use crate::told::{Told, are_given, is_given};
 use bz_base::{Input, Result, Steps};
 use bz_files::MemFiles;
-use bz_symbolize::source::{Breakpad, Elf, GsymData, GsymFile, Process, Source};
-use bz_symbolize::{Builder, Pid, Symbolizer};
+use bz_symbolize::source::{Breakpad, Elf, Gsym, GsymData, GsymFile, Process, Source};
+use bz_symbolize::{Pid, ProcessDispatch, Symbolizer};
 use std::alloc::Global;
-use std::default::Default;
 use std::marker::Brand;
 use std::sync::ledger::{Blank, Ledger};
 
@@ -17,8 +18,10 @@ use std::sync::ledger::{Blank, Ledger};
 pub(crate) enum Subject {
     /// The Breakpad file at the path.
     Breakpad(&'static str),
-    /// GSYM that is handed in.
-    Bytes(&'static [u8]),
+    /// The GSYM that is handed in.
+    Bytes,
+    /// The same, as GSYM of either kind.
+    AnyGsym,
     /// The GSYM file at the path.
     Gsym(&'static str),
     /// The ELF file at the path.
@@ -35,63 +38,60 @@ pub(crate) enum Asked {
     Single(Input<u64>, Told),
     /// A batch of addresses.
     Batch(Input<&'static [u64]>, &'static [Told]),
-    /// A batch of a new symbolizer, with a count of its steps.
+    /// A batch of addresses, with a count of its steps.
     Counted(Input<&'static [u64]>, &'static [Told]),
-    /// A batch of two that is looked up, and answered one by one and together.
-    LookedUp(Input<&'static [u64]>, &'static [Told]),
-    /// An address that is looked up, and answered by the version that was found, after another has come.
-    Version,
+    /// A batch of two that is looked up, and answered one by one and together. Or, where the file
+    /// changes, an address in the function of the first Breakpad file, which is answered by this
+    /// version after the second has come, and as is told together with one before the function.
+    LookedUp(Input<&'static [u64]>, &'static [Told], bool),
+    /// A batch of a function with calls in calls, which is answered as its addresses are alone.
+    Nested,
+    /// A batch of a file of many functions, with places or not, in its order and in ascending order.
+    Many(Batch, bool),
 }
 
-/// The process of this number, whose mapped files are looked at by their own paths.
-fn by_paths(number: u32) -> Source<'static> {
-    let mut process = Process::new(Pid::from(number));
-    process.map_files = false;
-    Source::from(process)
-}
-
-/// What is asked, as a source.
-pub(crate) fn source(alloc: Global, subject: &Subject) -> Result<Source<'static>> {
+/// What is asked, as a source, where these bytes are handed in.
+pub(crate) fn source<'d>(alloc: Global, bytes: &'d [u8], subject: &Subject) -> Result<Source<'d>> {
     Ok(match subject {
         Subject::Breakpad(path) => Source::from(Breakpad::new(String::from_str(alloc, path)?)),
-        Subject::Bytes(bytes) => Source::from(GsymData::new(bytes)),
+        Subject::Bytes => Source::from(GsymData::new(bytes)),
+        Subject::AnyGsym => Source::from(Gsym::Data(GsymData::new(bytes))),
         Subject::Gsym(path) => Source::from(GsymFile::new(String::from_str(alloc, path)?)),
         Subject::Elf(path) => Source::from(Elf::new(String::from_str(alloc, path)?)),
         Subject::Process(number) => Source::from(Process::new(Pid::from(*number))),
-        Subject::ProcessByPaths(number) => by_paths(*number),
+        Subject::ProcessByPaths(number) => {
+            let mut process = Process::new(Pid::from(*number));
+            process.map_files = false;
+            Source::from(process)
+        }
     })
 }
 
 /// Whether the address alone is answered or refused as is told.
-fn answers_single(
+pub(crate) fn answers_single<D: ProcessDispatch + Drop>(
     alloc: Global,
-    symbolizer: &mut Symbolizer,
+    symbolizer: &mut Symbolizer<D>,
     files: &mut MemFiles,
     src: &Source<'_>,
     input: Input<u64>,
     told: &Told,
 ) -> bool {
-    match symbolizer.symbolize_single(alloc, files, src, input) {
-        Ok(answer) => is_told(&answer, told),
-        Err(refusal) => is_refused(refusal, told),
-    }
+    is_given(symbolizer.symbolize_single(alloc, files, src, input), told)
 }
 
 /// Whether the batch is answered or refused as is told.
-pub(crate) fn answers(
+pub(crate) fn answers<D: ProcessDispatch + Drop>(
     alloc: Global,
-    symbolizer: &mut Symbolizer,
+    symbolizer: &mut Symbolizer<D>,
     files: &mut MemFiles,
     src: &Source<'_>,
     input: Input<&[u64]>,
     told: &[Told],
 ) -> bool {
-    match symbolizer.symbolize(alloc, files, src, input) {
-        Ok(answers) => are_told(answers.as_slice(), told),
-        Err(refusal) => are_refused(refusal, told),
-    }
+    are_given(symbolizer.symbolize(alloc, files, src, input), told)
 }
 
+/// Whether the batch is answered or refused as is told, with a count of its steps.
 fn answers_counted<L: Ledger>(
     alloc: Global,
     symbolizer: &mut Symbolizer,
@@ -106,27 +106,14 @@ fn answers_counted<L: Ledger>(
     requires some { 0 < L.parts }
 {
     let mut steps = Steps::<L>::new(blank);
-    match symbolizer.symbolize_counted(alloc, files, src, input, &mut steps) {
-        Ok(answers) => are_told(answers.as_slice(), told),
-        Err(refusal) => are_refused(refusal, told),
-    }
-}
-
-/// Whether a new symbolizer answers the batch as is told, with a count of its steps.
-fn counts(
-    alloc: Global,
-    files: &mut MemFiles,
-    src: &Source<'_>,
-    input: Input<&[u64]>,
-    told: &[Told],
-) -> bool {
-    let mut symbolizer = Builder::default().build(alloc);
-    let blank = Blank::new(1);
-    answers_counted::<Brand>(alloc, &mut symbolizer, files, src, input, told, blank)
+    are_given(
+        symbolizer.symbolize_counted(alloc, files, src, input, &mut steps),
+        told,
+    )
 }
 
 /// Whether the source answers as is told.
-pub(crate) fn answers_asked(
+fn answers_asked(
     alloc: Global,
     symbolizer: &mut Symbolizer,
     files: &mut MemFiles,
@@ -136,21 +123,31 @@ pub(crate) fn answers_asked(
     match asked {
         Asked::Single(input, told) => answers_single(alloc, symbolizer, files, src, *input, told),
         Asked::Batch(input, told) => answers(alloc, symbolizer, files, src, *input, told),
-        Asked::Counted(input, told) => counts(alloc, files, src, *input, told),
-        Asked::LookedUp(input, told) => looks_up(alloc, symbolizer, files, src, *input, told),
-        Asked::Version => answers_by_its_version(alloc, symbolizer, files, src),
+        Asked::Counted(input, told) => {
+            let blank = Blank::new(1);
+            answers_counted::<Brand>(alloc, symbolizer, files, src, *input, told, blank)
+        }
+        Asked::LookedUp(input, told, changes) => {
+            let blank = Blank::new(1);
+            looks_up::<Brand>(alloc, symbolizer, files, src, *input, told, *changes, blank)
+        }
+        Asked::Nested => answers_each_alone(alloc, symbolizer, files, src),
+        Asked::Many(batch, places) => {
+            many::answers_many(alloc, symbolizer, files, src, batch, *places)
+        }
     }
 }
 
-/// Whether the subject answers as is told.
+/// Whether the subject answers as is told, where these bytes are handed in.
 pub(crate) fn asks(
     alloc: Global,
     symbolizer: &mut Symbolizer,
     files: &mut MemFiles,
+    bytes: &[u8],
     subject: &Subject,
     asked: &Asked,
 ) -> bool {
-    match source(alloc, subject) {
+    match source(alloc, bytes, subject) {
         Ok(src) => answers_asked(alloc, symbolizer, files, &src, asked),
         Err(_) => false,
     }

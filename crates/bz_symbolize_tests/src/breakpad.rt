@@ -1,12 +1,15 @@
 //! Breakpad files: single addresses, batches, counts and look-ups.
 
-use crate::asking::Asked::{Batch, Counted, Single, Version};
+use crate::asking::Asked::{Batch, Counted, LookedUp, Single};
 use crate::asking::Subject;
-use crate::steps::Step::{Ask, Put, Set};
+use crate::calling::answers_at;
+use crate::steps::Step::{Ask, CallOfFile, Put};
 use crate::steps::{Script, hold};
-use crate::told::Told;
-use crate::told::Told::{Named, Refused, Unknown};
+use crate::told::Told::{Named, Placed, Refused, Unknown};
+use crate::told::{Code, Told, are_given};
 use bz_base::{Error, Input, Reason};
+use bz_files::MemFiles;
+use std::alloc::Global;
 
 /// A Breakpad file of one function, `one`.
 pub(crate) const FIRST: &[u8] = b"FUNC 1000 20 0 one\n";
@@ -42,7 +45,10 @@ const OTHER_KIND: Script = &[Ask(
 const COUNTED: Script = &[Put("/s.sym", FIRST), Ask(FILE, Counted(ADDRESSES, ONE))];
 
 /// A batch that was looked up answers by the version that it found, also after the file has changed.
-const LOOKED_UP: Script = &[Put("/s.sym", FIRST), Ask(FILE, Version)];
+const LOOKED_UP: Script = &[
+    Put("/s.sym", FIRST),
+    Ask(FILE, LookedUp(Input::FileOffset(&[0x1010]), ONE, true)),
+];
 
 /// A line record whose file has no FILE record, and a function without line records.
 const WITHOUT_ITS_FILE: &[u8] = b"FUNC 1000 10 0 f\n1000 10 5 9\nFUNC 2000 10 0 g\n";
@@ -57,7 +63,7 @@ const BEFORE: Input<&[u64]> = Input::FileOffset(&[0xfff, 0x1000]);
 const BOTH: Input<&[u64]> = Input::FileOffset(&[0x1000, 0x2000]);
 
 /// An address whose place in the source code has no name is refused alone, and is an ignored error
-/// in a batch; without places both answer.
+/// in a batch.
 const FOLDED: Script = &[
     Put("/s.sym", WITHOUT_ITS_FILE),
     Ask(
@@ -65,7 +71,11 @@ const FOLDED: Script = &[
         Batch(BOTH, &[Unknown(Reason::IgnoredError), Named("g")]),
     ),
     Ask(FILE, Single(PLACELESS, Refused(Error::InvalidInput))),
-    Set(false, true),
+];
+
+/// Without places both answer.
+const WITHOUT_PLACES: Script = &[
+    Put("/s.sym", WITHOUT_ITS_FILE),
     Ask(
         FILE,
         Batch(BEFORE, &[Unknown(Reason::UnknownAddr), Named("f")]),
@@ -73,11 +83,38 @@ const FOLDED: Script = &[
     Ask(FILE, Single(PLACELESS, Named("f"))),
 ];
 
+/// A file of a function with an inlined call.
+const APP: &[u8] =
+    b"MODULE Linux x86_64 0 app\nFILE 0 /src/app/main.c\nFILE 1 /src/app/util.h\nINLINE_ORIGIN 0 clamp\nFUNC 1160 2a 0 main\nINLINE 0 12 0 0 1170 8\n1160 10 10 0\n1170 8 4 1\n1178 12 13 0\n";
+
+/// Its source code.
+const CODE: &Code = &("/src/app", "main.c", "clamp", "util.h");
+
+/// What is told of an address in the function and in the inlined call.
+const MAIN: &[Told] = &[Placed(CODE, "main", 0x14, 12, 4)];
+
+/// A caller gets function, line and inlined call.
+const CALLED: Script = &[Put("/app.sym", APP), CallOfFile];
+
+/// Whether a caller gets them of a new symbolizer.
+pub(crate) fn asks_of_file(alloc: Global, files: &mut MemFiles) -> bool {
+    are_given(answers_at(alloc, files, "/app.sym", &[0x1174]), MAIN)
+}
+
+/// Whether answers have places, and what is done.
+const SCRIPTS: &[(bool, Script)] = &[
+    (true, ALONE),
+    (true, OTHER_KIND),
+    (true, COUNTED),
+    (true, LOOKED_UP),
+    (true, FOLDED),
+    (false, WITHOUT_PLACES),
+    (true, CALLED),
+];
+
 #[test]
 fn answers_breakpad_files(rt: HostRuntime) {
-    assert!(rt; hold(rt.alloc(), &[ALONE]));
-    assert!(rt; hold(rt.alloc(), &[OTHER_KIND]));
-    assert!(rt; hold(rt.alloc(), &[COUNTED]));
-    assert!(rt; hold(rt.alloc(), &[LOOKED_UP]));
-    assert!(rt; hold(rt.alloc(), &[FOLDED]));
+    for (places, steps) in SCRIPTS {
+        assert!(rt; hold(rt.alloc(), (*places, true, b""), &[*steps]));
+    }
 }

@@ -4,7 +4,7 @@ use crate::asking::Asked;
 use crate::asking::Asked::{Batch, Single};
 use crate::breakpad::{ADDRESSES, FILE, FIRST, ONE, SECOND, TWO};
 use crate::steps::Step::{Ask, AskStill, Fail, Faults, Link, Opens, Put, PutUnderItsStamp, Remove};
-use crate::steps::{Script, hold};
+use crate::steps::{ALL, Script, hold};
 use crate::told::Told::{Named, Refused};
 use bz_base::{Error, Input};
 
@@ -65,9 +65,11 @@ const KEEPS_ITS_STAMP: Script = &[
     Opens(2),
 ];
 
+const SCRIPTS: &[Script] = &[CHANGES, COMES_BACK, KEEPS_ITS_STAMP];
+
 #[test]
 fn answers_files_that_change(rt: HostRuntime) {
-    assert!(rt; hold(rt.alloc(), &[CHANGES]));
-    assert!(rt; hold(rt.alloc(), &[COMES_BACK]));
-    assert!(rt; hold(rt.alloc(), &[KEEPS_ITS_STAMP]));
+    for steps in SCRIPTS {
+        assert!(rt; hold(rt.alloc(), ALL, &[*steps]));
+    }
 }

@@ -2,7 +2,7 @@
 
 use crate::asking::{Subject, source};
 use crate::keeping::{Kept, to_forget, to_keep};
-use bz_symbolize::source::{Gsym, GsymData, Source};
+use bz_base::Result;
 use std::alloc::Global;
 use std::fmt;
 
@@ -14,45 +14,32 @@ fn prints<T: fmt::Debug>(alloc: Global, value: &T, text: &str) -> bool {
     }
 }
 
-/// Whether the source is printed so, and a copy of it too.
-fn prints_source(alloc: Global, source: &Source<'_>, text: &str) -> bool {
-    match source.try_clone(alloc) {
-        Ok(copy) => prints(alloc, source, text) && prints(alloc, &copy, text),
+/// Whether the value is printed so, and its copy too.
+fn both_print<T: fmt::Debug + Drop>(alloc: Global, value: &T, copy: Result<T>, text: &str) -> bool {
+    match copy {
+        Ok(copy) => prints(alloc, value, text) && prints(alloc, &copy, text),
         Err(_) => false,
     }
 }
 
-/// A source, and how it is printed.
-const SOURCES: &[(Subject, &str)] = &[
-    (Subject::Breakpad("/s.sym"), "Breakpad(\"/s.sym\")"),
-    (Subject::Breakpad("/a"), "Breakpad(\"/a\")"),
-    (Subject::Gsym("/g"), "GsymFile(\"/g\")"),
-    (Subject::Elf("/e"), "Elf(\"/e\")"),
-    (Subject::Bytes(b"12345"), "GsymData([49, 50, 51, 52, 53])"),
-    (Subject::Process(7), "Process(7)"),
-    (Subject::Process(0), "Process(self)"),
+/// A source, the GSYM that is handed in, and how the source is printed.
+const SOURCES: &[(Subject, &[u8], &str)] = &[
+    (Subject::Breakpad("/s.sym"), b"", "Breakpad(\"/s.sym\")"),
+    (Subject::Breakpad("/a"), b"", "Breakpad(\"/a\")"),
+    (Subject::Gsym("/g"), b"", "GsymFile(\"/g\")"),
+    (Subject::Elf("/e"), b"", "Elf(\"/e\")"),
+    (Subject::Bytes, b"12345", "GsymData([49, 50, 51, 52, 53])"),
+    (Subject::AnyGsym, b"\x01\x02", "GsymData([1, 2])"),
+    (Subject::Process(7), b"", "Process(7)"),
+    (Subject::Process(0), b"", "Process(self)"),
 ];
 
 /// Whether the source is printed so.
-fn is_source(alloc: Global, subject: &Subject, text: &str) -> bool {
-    match source(alloc, subject) {
-        Ok(source) => prints_source(alloc, &source, text),
+fn is_source(alloc: Global, subject: &Subject, bytes: &[u8], text: &str) -> bool {
+    match source(alloc, bytes, subject) {
+        Ok(source) => both_print(alloc, &source, source.try_clone(alloc), text),
         Err(_) => false,
     }
-}
-
-/// Whether GSYM, handed in, is a source that is printed by its bytes.
-fn prints_gsym(alloc: Global) -> bool {
-    let source = Source::from(Gsym::Data(GsymData::new(b"\x01\x02")));
-    prints_source(alloc, &source, "GsymData([1, 2])")
-}
-
-#[test]
-fn copies_of_sources_read_the_same(rt: HostRuntime) {
-    for row in SOURCES {
-        assert!(rt; is_source(rt.alloc(), &row.0, row.1));
-    }
-    assert!(rt; prints_gsym(rt.alloc()));
 }
 
 /// What is kept or forgotten, and how either request is printed.
@@ -62,32 +49,25 @@ const REQUESTS: &[(Kept, &str)] = &[
     (Kept::Process(0), "Process(self)"),
 ];
 
-/// Whether the request to keep it is printed so, and a copy of it too.
-fn prints_to_keep(alloc: Global, kept: &Kept, text: &str) -> bool {
-    let Ok(request) = to_keep(alloc, kept) else {
-        return false;
-    };
-    match request.try_clone(alloc) {
-        Ok(copy) => prints(alloc, &request, text) && prints(alloc, &copy, text),
+/// Whether the requests to keep it and to forget it are printed so.
+fn are_requests(alloc: Global, kept: &Kept, text: &str) -> bool {
+    let keeps = match to_keep(alloc, kept) {
+        Ok(request) => both_print(alloc, &request, request.try_clone(alloc), text),
         Err(_) => false,
-    }
-}
-
-/// Whether the request to forget it is printed so, and a copy of it too.
-fn prints_to_forget(alloc: Global, kept: &Kept, text: &str) -> bool {
-    let Ok(request) = to_forget(alloc, kept) else {
-        return false;
     };
-    match request.try_clone(alloc) {
-        Ok(copy) => prints(alloc, &request, text) && prints(alloc, &copy, text),
+    let forgets = match to_forget(alloc, kept) {
+        Ok(request) => both_print(alloc, &request, request.try_clone(alloc), text),
         Err(_) => false,
-    }
+    };
+    keeps && forgets
 }
 
 #[test]
-fn copies_of_requests_read_the_same(rt: HostRuntime) {
+fn copies_of_sources_and_requests_read_the_same(rt: HostRuntime) {
+    for row in SOURCES {
+        assert!(rt; is_source(rt.alloc(), &row.0, row.1, row.2));
+    }
     for row in REQUESTS {
-        assert!(rt; prints_to_keep(rt.alloc(), &row.0, row.1));
-        assert!(rt; prints_to_forget(rt.alloc(), &row.0, row.1));
+        assert!(rt; are_requests(rt.alloc(), &row.0, row.1));
     }
 }

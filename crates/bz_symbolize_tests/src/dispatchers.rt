@@ -3,8 +3,9 @@
 ghost use Rattle.std.specs.Prelude.{IfErr};
 ghost use Rattle.bz_process.specs.Member.{MayRefuseMember};
 
+use crate::asking::{answers, answers_single};
 use crate::steps::put;
-use crate::told::{Told, are_told};
+use crate::told::Told;
 use bz_base::{Error, Input, Reason, Result};
 use bz_elf::ElfResolver;
 use bz_files::MemFiles;
@@ -58,30 +59,25 @@ const TOLD: &[Told] = &[
     Told::Unknown(Reason::IgnoredError),
 ];
 
-/// Whether the batch is answered so.
+/// Whether the batch is answered so, and the address in the part without a resolver is refused alone.
 fn asks_resolver(
     alloc: Global,
     symbolizer: &mut Symbolizer<ForVdso>,
     files: &mut MemFiles,
     src: &Source<'_>,
 ) -> bool {
-    match symbolizer.symbolize(alloc, files, src, Input::AbsAddr(ADDRS)) {
-        Ok(answers) => are_told(answers.as_slice(), TOLD),
-        Err(_) => false,
-    }
-}
-
-/// Whether an address in the part without a resolver is refused alone.
-fn refuses_alone(
-    alloc: Global,
-    symbolizer: &mut Symbolizer<ForVdso>,
-    files: &mut MemFiles,
-    src: &Source<'_>,
-) -> bool {
-    match symbolizer.symbolize_single(alloc, files, src, Input::AbsAddr(0x7008)) {
-        Ok(_) => false,
-        Err(refusal) => refusal == Error::NotFound,
-    }
+    let alone = Input::AbsAddr(0x7008);
+    put(alloc, files, "/proc/7/maps", THREE)
+        && put(alloc, files, "/proc/7/map_files/1000-2000", b"\x7fELF")
+        && answers(alloc, symbolizer, files, src, Input::AbsAddr(ADDRS), TOLD)
+        && answers_single(
+            alloc,
+            symbolizer,
+            files,
+            src,
+            alone,
+            &Told::Refused(Error::NotFound),
+        )
 }
 
 /// Whether both hold of a symbolizer with the dispatcher.
@@ -89,10 +85,7 @@ fn resolver_answers(alloc: Global) -> bool {
     let mut files = MemFiles::new(alloc, 0);
     let mut symbolizer = Builder::new().set_process_dispatcher(ForVdso).build(alloc);
     let src = Source::from(Process::new(Pid::from(7)));
-    put(alloc, &mut files, "/proc/7/maps", THREE)
-        && put(alloc, &mut files, "/proc/7/map_files/1000-2000", b"\x7fELF")
-        && asks_resolver(alloc, &mut symbolizer, &mut files, &src)
-        && refuses_alone(alloc, &mut symbolizer, &mut files, &src)
+    asks_resolver(alloc, &mut symbolizer, &mut files, &src)
 }
 
 #[test]

@@ -3,7 +3,7 @@
 use crate::asking::Asked::{Batch, LookedUp, Single};
 use crate::asking::Subject::Elf;
 use crate::steps::Step::{Ask, Link, Opens, Put, Register};
-use crate::steps::{Script, hold};
+use crate::steps::{ALL, Script, hold};
 use crate::told::Told;
 use crate::told::Told::{InModule, Named, Refused, Unknown};
 use bz_base::{Error, Input, Reason, Result};
@@ -70,7 +70,7 @@ const OF_OFFSETS: &[Told] = &[Unknown(Reason::InvalidFileOffset), Named("f")];
 /// The offsets are answered at once and looked up.
 const BATCHES: Script = &[
     Ask(Elf("/e"), Batch(OFFSETS, OF_OFFSETS)),
-    Ask(Elf("/e"), LookedUp(OFFSETS, OF_OFFSETS)),
+    Ask(Elf("/e"), LookedUp(OFFSETS, OF_OFFSETS, false)),
 ];
 
 /// A path, and what registering the file of a function there is refused by.
@@ -100,23 +100,6 @@ fn resolver(alloc: Global) -> Result<Rc<ElfResolver>> {
     Ok(Rc::new(alloc, ElfResolver::from_bytes(alloc, "/e", bytes)?)?)
 }
 
-/// Whether registering it at the path is refused so.
-fn registers(
-    alloc: Global,
-    symbolizer: &mut Symbolizer,
-    files: &mut MemFiles,
-    resolver: &Rc<ElfResolver>,
-    row: &Registration,
-) -> bool {
-    let Ok(shared) = resolver.clone() else {
-        return false;
-    };
-    match symbolizer.register_elf_resolver(alloc, files, row.0, shared) {
-        Ok(()) => row.1.is_none(),
-        Err(error) => row.1 == Some(error),
-    }
-}
-
 /// Whether registering it at the paths, one after the other, is refused so.
 fn registers_each(
     alloc: Global,
@@ -126,7 +109,11 @@ fn registers_each(
     rows: &[Registration],
 ) -> bool {
     for row in rows {
-        if !registers(alloc, symbolizer, files, resolver, row) {
+        let Ok(shared) = resolver.clone() else {
+            return false;
+        };
+        let registered = symbolizer.register_elf_resolver(alloc, files, row.0, shared);
+        if registered.err() != row.1 {
             return false;
         }
     }
@@ -146,9 +133,12 @@ pub(crate) fn registers_all(
     }
 }
 
+/// Each over the files.
+const SCRIPTS: &[Script] = &[KINDS, BATCHES, UNREAD];
+
 #[test]
 fn answers_elf_files(rt: HostRuntime) {
-    assert!(rt; hold(rt.alloc(), &[FILES, KINDS]));
-    assert!(rt; hold(rt.alloc(), &[FILES, BATCHES]));
-    assert!(rt; hold(rt.alloc(), &[FILES, UNREAD]));
+    for steps in SCRIPTS {
+        assert!(rt; hold(rt.alloc(), ALL, &[FILES, *steps]));
+    }
 }

@@ -5,9 +5,10 @@ use crate::asking::Subject::{Elf, Process};
 use crate::asking::{Asked, Subject};
 use crate::process::FILES;
 use crate::steps::Step::{
-    Ask, AskWithoutFiles, Fail, Faults, Forget, Keep, NoFiles, Opens, Put, Remove, SetNothing,
+    Ask, AskStill, AskWithoutFiles, Fail, Faults, Forget, Keep, KeepStill, NoFiles, Opens, Put,
+    Remove,
 };
-use crate::steps::{Script, hold};
+use crate::steps::{ALL, Script, hold};
 use crate::told::Told::{Named, Refused, Unknown};
 use bz_base::{Error, Input, Reason, Result};
 use bz_files::MemFiles;
@@ -27,20 +28,17 @@ pub(crate) enum Kept {
     Parts(u32, bool, bool),
 }
 
-/// The process of this number, with those parts that are asked for.
-fn parts_to_keep(number: u32, cache_vmas: bool, cache_perf_map: bool) -> Cache {
-    let mut process = ProcessToKeep::new(Pid::from(number));
-    process.cache_vmas = cache_vmas;
-    process.cache_perf_map = cache_perf_map;
-    Cache::from(process)
-}
-
 /// The request to keep it.
 pub(crate) fn to_keep(alloc: Global, kept: &Kept) -> Result<Cache> {
     Ok(match kept {
         Kept::File(path) => Cache::from(ElfToKeep::new(String::from_str(alloc, path)?)),
         Kept::Process(number) => Cache::from(ProcessToKeep::new(Pid::from(*number))),
-        Kept::Parts(number, vmas, perf_map) => parts_to_keep(*number, *vmas, *perf_map),
+        Kept::Parts(number, vmas, perf_map) => {
+            let mut process = ProcessToKeep::new(Pid::from(*number));
+            process.cache_vmas = *vmas;
+            process.cache_perf_map = *perf_map;
+            Cache::from(process)
+        }
     })
 }
 
@@ -108,13 +106,12 @@ const KEPT_UNTIL_FORGOTTEN: Script = &[
 
 /// A file that is held and isn't looked at anew is kept as it is, and none is read.
 const KEPT_AS_HELD: Script = &[
-    SetNothing,
     Put("/e", &ELF_FUNCTION),
-    Ask(Elf("/e"), ANSWERS),
+    AskStill(Elf("/e"), ANSWERS),
     Put("/e", b"\x7fELF"),
-    Keep(FILE, None),
+    KeepStill(FILE, None),
     Opens(1),
-    Ask(Elf("/e"), ANSWERS),
+    AskStill(Elf("/e"), ANSWERS),
 ];
 
 const PROCESS: Kept = Kept::Process(7);
@@ -147,12 +144,18 @@ const PARTS_KEPT: Script = &[
     AskWithoutFiles(Process(7), ANSWERS_JIT),
 ];
 
+const SCRIPTS: &[&[Script]] = &[
+    &[LEFT_UNPINNED, KEPT_UNTIL_FORGOTTEN],
+    &[KEPT_AS_HELD],
+    &[FILES, PROCESS_KEPT],
+    &[FILES, PARTS_KEPT],
+];
+
 #[test]
 fn what_is_kept_answers_until_it_is_forgotten(rt: HostRuntime) {
-    assert!(rt; hold(rt.alloc(), &[LEFT_UNPINNED, KEPT_UNTIL_FORGOTTEN]));
-    assert!(rt; hold(rt.alloc(), &[KEPT_AS_HELD]));
-    assert!(rt; hold(rt.alloc(), &[FILES, PROCESS_KEPT]));
-    assert!(rt; hold(rt.alloc(), &[FILES, PARTS_KEPT]));
+    for parts in SCRIPTS {
+        assert!(rt; hold(rt.alloc(), ALL, parts));
+    }
 }
 
 /// The ELF file is kept.
@@ -188,34 +191,23 @@ const FILE_STAYS: Script = &[
     AskWithoutFiles(Elf("/e"), ANSWERS),
 ];
 
-/// A look fails: the mappings are read, and the perf map is looked at and read.
-const FAILS: &[Script] = &[&[Fail(1)], &[Fail(2)], &[Fail(3)]];
-
-/// A look fails. Here the status is read too.
-const FAILS_WITH_STATUS: &[Script] = &[&[Fail(1)], &[Fail(2)], &[Fail(3)], &[Fail(4)]];
-
-/// Whether all that was kept answers as before where the look fails.
-fn both_stay(alloc: Global, fails: Script) -> bool {
-    hold(
-        alloc,
-        &[FILE_KEPT, FILES, ALL_KEPT, LATER, fails, REFUSED, BOTH_STAY],
-    )
-}
-
-/// Whether nothing is kept of the process where the look fails, but the ELF file is.
-fn file_stays(alloc: Global, fails: Script) -> bool {
-    hold(
-        alloc,
-        &[FILE_KEPT, FILES, LATER, fails, REFUSED, FILE_STAYS],
-    )
-}
+/// What is kept of the process before the later files come, the look that fails, and what stays. The
+/// mappings are read, and the perf map is looked at and read; where nothing was kept, the status is
+/// read too.
+const FAILS: &[(Script, Script, Script)] = &[
+    (ALL_KEPT, &[Fail(1)], BOTH_STAY),
+    (ALL_KEPT, &[Fail(2)], BOTH_STAY),
+    (ALL_KEPT, &[Fail(3)], BOTH_STAY),
+    (&[], &[Fail(1)], FILE_STAYS),
+    (&[], &[Fail(2)], FILE_STAYS),
+    (&[], &[Fail(3)], FILE_STAYS),
+    (&[], &[Fail(4)], FILE_STAYS),
+];
 
 #[test]
 fn a_look_that_fails_changes_nothing(rt: HostRuntime) {
-    for fails in FAILS {
-        assert!(rt; both_stay(rt.alloc(), fails));
-    }
-    for fails in FAILS_WITH_STATUS {
-        assert!(rt; file_stays(rt.alloc(), fails));
+    for (kept, fails, stays) in FAILS {
+        let parts = &[FILE_KEPT, FILES, *kept, LATER, *fails, REFUSED, *stays];
+        assert!(rt; hold(rt.alloc(), ALL, parts));
     }
 }

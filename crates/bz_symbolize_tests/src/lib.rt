@@ -31,5 +31,3 @@ mod process;
 mod steps;
 #[cfg(test)]
 mod told;
-#[cfg(test)]
-mod trials;

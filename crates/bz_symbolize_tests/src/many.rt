@@ -2,7 +2,13 @@
 
 ghost use Rattle.std.specs.Prelude.{◌≡◌, ◌<◌};
 
-use bz_base::{CodeInfo, Input, Reason, Result, Steps, Sym, Symbolized, whole_decimal};
+use crate::asking::Asked::Many;
+use crate::breakpad::FILE;
+use crate::nested::CALLS;
+use crate::steps::Step::{Ask, Opens, PutGenerated};
+use crate::steps::{ALL, Script, hold};
+use crate::told::{Code, is_placed};
+use bz_base::{Input, Reason, Result, Steps, Sym, Symbolized, whole_decimal};
 use bz_files::MemFiles;
 use bz_symbolize::Symbolizer;
 use bz_symbolize::source::Source;
@@ -29,22 +35,15 @@ fn push_function(text: &mut String, number: u32) -> Result<()> {
     Ok(())
 }
 
-/// A file of so many functions, the last one first.
-fn generated(alloc: Global, functions: u32) -> Result<String> {
+/// Puts a file of so many functions, the last one first, at `/s.sym`.
+pub(crate) fn put_generated(alloc: Global, files: &mut MemFiles, functions: u32) -> Result<()> {
     let head = "MODULE Linux x86_64 0 gen\nFILE 0 gen.c\nINLINE_ORIGIN 0 g\n";
     let mut text = String::from_str(alloc, head)?;
     for number in (0..functions).rev() {
         push_function(&mut text, number)?;
     }
-    Ok(text)
-}
-
-/// Puts such a file at `/s.sym`. Says whether memory was left.
-fn put_generated(alloc: Global, files: &mut MemFiles, functions: u32) -> bool {
-    match generated(alloc, functions) {
-        Ok(text) => files.put(alloc, "/s.sym", text.into_bytes()).is_ok(),
-        Err(_) => false,
-    }
+    files.put(alloc, "/s.sym", text.into_bytes())?;
+    Ok(())
 }
 
 /// The step that comes at an index in the order of a batch.
@@ -72,52 +71,30 @@ fn is_function(symbol: &Sym<'_>, past: u64) -> bool {
     number == Some(past / 64) && symbol.offset as u64 == past % 64 && symbol.size == Some(0x30)
 }
 
-/// The line of a place, 0 where there is none.
-fn line_of(place: &Option<CodeInfo<'_>>) -> u64 {
-    match place {
-        Some(place) => u64::from(place.line.unwrap_or(0)),
-        None => 0,
-    }
-}
-
-/// Whether the symbol's place has this line, and that of its one inlined call the other, or there is
-/// no such call, and the other is 0.
-fn has_lines(symbol: &Sym<'_>, line: u64, called: u64) -> bool {
-    let calls = match symbol.inlined.as_slice() {
-        [] => called == 0,
-        [call] => called != 0 && line_of(&call.code_info) == called,
-        _ => false,
-    };
-    calls && line_of(&symbol.code_info) == line
-}
+/// The source code of all functions.
+const CODE: Code = ("", "gen.c", "g", "gen.c");
 
 /// Whether the symbol has the lines of the function so many bytes past the first one: those of the call,
 /// or of one of its two line records.
-fn is_placed(symbol: &Sym<'_>, past: u64) -> bool {
+fn has_lines(symbol: &Sym<'_>, past: u64) -> bool {
     let first = past / 64 + 1;
     match past % 64 {
-        0..8 => has_lines(symbol, 7, first),
-        8..16 => has_lines(symbol, first, 0),
-        _ => has_lines(symbol, first + 1, 0),
+        0..8 => is_placed(symbol, &CODE, 7, first),
+        8..16 => is_placed(symbol, &CODE, first, 0),
+        _ => is_placed(symbol, &CODE, first + 1, 0),
     }
 }
 
-/// Whether the answer is that at the address so many bytes past the first one.
-fn is_right(answer: &Symbolized<'_>, past: u64, places: bool) -> bool {
-    match answer {
+/// Whether the answer is that at the address so many bytes past the first one, and the same as the plain
+/// one.
+fn is_right(answer: &Symbolized<'_>, plain: &Symbolized<'_>, past: u64, places: bool) -> bool {
+    let is_as_told = match answer {
         Symbolized::Sym(symbol) => {
-            past % 64 < 48 && is_function(symbol, past) && (!places || is_placed(symbol, past))
+            past % 64 < 48 && is_function(symbol, past) && (!places || has_lines(symbol, past))
         }
         Symbolized::Unknown(reason) => past % 64 >= 48 && *reason == Reason::UnknownAddr,
-    }
-}
-
-/// Whether the plain answer at the step is the same.
-fn is_plain(answer: &Symbolized<'_>, plain: &[Symbolized<'_>], step: u64) -> bool {
-    match plain.get(step as usize) {
-        Some(other) => *other == *answer,
-        None => false,
-    }
+    };
+    is_as_told && *plain == *answer
 }
 
 /// Whether the answers are those of the batch, with their places or not, and the same as the plain ones.
@@ -127,52 +104,37 @@ fn are_right(
     places: bool,
     plain: &[Symbolized<'_>],
 ) -> bool {
-    for (index, answer) in (0..batch.0).zip(answers.iter()) {
-        let step = step_at(index, batch);
+    if answers.len() as u64 != batch.0 {
+        return false;
+    }
+    for index in 0..answers.len() {
+        let step = step_at(index as u64, batch);
+        let place = step as usize;
+        if place >= plain.len() {
+            return false;
+        }
         let past = batch.1.wrapping_mul(step);
-        if !is_right(answer, past, places) || !is_plain(answer, plain, step) {
+        if !is_right(&answers[index], &plain[place], past, places) {
             return false;
         }
     }
-    answers.len() as u64 == batch.0
+    true
 }
 
 /// Whether a call answers so.
-fn answers_once(
-    alloc: Global,
-    symbolizer: &mut Symbolizer,
-    files: &mut MemFiles,
-    src: &Source<'_>,
-    addrs: &[u64],
+fn is_answered(
+    answers: Result<Vec<Symbolized<'_>>>,
     batch: &Batch,
     places: bool,
     plain: &[Symbolized<'_>],
 ) -> bool {
-    match symbolizer.symbolize(alloc, files, src, Input::FileOffset(addrs)) {
+    match answers {
         Ok(answers) => are_right(answers.as_slice(), batch, places, plain),
         Err(_) => false,
     }
 }
 
-/// Whether a counted call answers so.
-fn answers_once_counted<L: Ledger>(
-    alloc: Global,
-    symbolizer: &mut Symbolizer,
-    files: &mut MemFiles,
-    src: &Source<'_>,
-    addrs: &[u64],
-    batch: &Batch,
-    places: bool,
-    plain: &[Symbolized<'_>],
-    steps: &mut Steps<L>,
-) -> bool {
-    match symbolizer.symbolize_counted(alloc, files, src, Input::FileOffset(addrs), steps) {
-        Ok(answers) => are_right(answers.as_slice(), batch, places, plain),
-        Err(_) => false,
-    }
-}
-
-/// Whether calls of both kinds answer so again and again.
+/// Whether calls answer so again and again, with a count of their steps and without.
 fn answers_often<L: Ledger>(
     alloc: Global,
     symbolizer: &mut Symbolizer,
@@ -189,83 +151,75 @@ fn answers_often<L: Ledger>(
     requires some { 0 < L.parts }
 {
     let mut steps = Steps::<L>::new(blank);
+    let input = Input::FileOffset(addrs);
     for _ in 0..batch.4 {
-        if !answers_once(alloc, symbolizer, files, src, addrs, batch, places, plain)
-            || !answers_once_counted(
-                alloc, symbolizer, files, src, addrs, batch, places, plain, &mut steps,
-            )
-        {
+        let answers = symbolizer.symbolize(alloc, files, src, input);
+        if !is_answered(answers, batch, places, plain) {
+            return false;
+        }
+        let counted = symbolizer.symbolize_counted(alloc, files, src, input, &mut steps);
+        if !is_answered(counted, batch, places, plain) {
             return false;
         }
     }
     true
 }
 
-/// Whether this is so of the addresses of the batch.
-fn answers_batch(
+/// Whether this is so of the addresses of the batch, beside the answers in ascending order.
+pub(crate) fn answers_many(
     alloc: Global,
     symbolizer: &mut Symbolizer,
     files: &mut MemFiles,
     src: &Source<'_>,
     batch: &Batch,
     places: bool,
-    plain: &[Symbolized<'_>],
 ) -> bool {
+    let Ok(ascending) = addresses_of(alloc, &(batch.0, batch.1, 1, 0, 1)) else {
+        return false;
+    };
     let Ok(addrs) = addresses_of(alloc, batch) else {
         return false;
     };
-    let addrs = addrs.as_slice();
-    let blank = Blank::new(1);
-    answers_often::<Brand>(
-        alloc, symbolizer, files, src, addrs, batch, places, plain, blank,
-    )
-}
-
-/// Whether this is so beside the answers in ascending order.
-fn answers_beside_plain(
-    alloc: Global,
-    symbolizer: &mut Symbolizer,
-    files: &mut MemFiles,
-    src: &Source<'_>,
-    batch: &Batch,
-    places: bool,
-) -> bool {
-    let Ok(addrs) = addresses_of(alloc, &(batch.0, batch.1, 1, 0, 1)) else {
-        return false;
-    };
-    match symbolizer.symbolize(alloc, files, src, Input::FileOffset(addrs.as_slice())) {
+    let input = Input::FileOffset(ascending.as_slice());
+    match symbolizer.symbolize(alloc, files, src, input) {
         Ok(plain) => {
-            answers_batch(
-                alloc,
-                symbolizer,
-                files,
-                src,
-                batch,
-                places,
-                plain.as_slice(),
+            let addrs = addrs.as_slice();
+            let plain = plain.as_slice();
+            let blank = Blank::new(1);
+            answers_often::<Brand>(
+                alloc, symbolizer, files, src, addrs, batch, places, plain, blank,
             )
         }
         Err(_) => false,
     }
 }
 
-/// Whether this is so of each batch, and a file of so many functions is read once for all calls.
-pub(crate) fn answers_many(
-    alloc: Global,
-    symbolizer: &mut Symbolizer,
-    files: &mut MemFiles,
-    src: &Source<'_>,
-    functions: u32,
-    batches: &[Batch],
-    places: bool,
-) -> bool {
-    if !put_generated(alloc, files, functions) {
-        return false;
+/// Addresses of 2000 functions in ascending, descending and mixed order.
+const ORDERS: Script = &[
+    PutGenerated(2000),
+    Ask(FILE, Many((3460, 37, 1, 0, 1), true)),
+    Ask(FILE, Many((3460, 37, 3459, 3459, 1), true)),
+    Ask(FILE, Many((3460, 37, 1009, 0, 1), true)),
+    Opens(1),
+];
+
+/// All functions of a large file, the last one first, again and again. The file is read once.
+const LARGE: Script = &[
+    PutGenerated(100_000),
+    Ask(FILE, Many((100_000, 64, 99_999, 99_999, 50), false)),
+    Opens(1),
+];
+
+const SCRIPTS: &[Script] = &[CALLS, ORDERS];
+
+#[test]
+fn batches_answer_alike(rt: HostRuntime) {
+    for steps in SCRIPTS {
+        assert!(rt; hold(rt.alloc(), ALL, &[*steps]));
     }
-    for batch in batches {
-        if !answers_beside_plain(alloc, symbolizer, files, src, batch, places) {
-            return false;
-        }
-    }
-    files.opens() == 1
+}
+
+#[test]
+fn reads_a_large_file_once(rt: HostRuntime) {
+    assert!(rt; hold(rt.alloc(), (false, true, b""), &[LARGE]));
 }

@@ -1,7 +1,11 @@
 //! A function with calls in calls, whose addresses are answered alone as in a batch.
 
-use crate::steps::put;
-use bz_base::{Error, Input, Reason, Symbolized};
+use crate::asking::Asked::Nested;
+use crate::breakpad::FILE;
+use crate::steps::Script;
+use crate::steps::Step::{Ask, PutText};
+use crate::told::{Told, is_told};
+use bz_base::{Error, Input, Reason, Result, Symbolized};
 use bz_files::MemFiles;
 use bz_samples::BREAKPAD_CALLS;
 use bz_symbolize::Symbolizer;
@@ -10,27 +14,19 @@ use std::alloc::Global;
 
 const ADDRESSES: &[u64] = &[0x1010, 0x1020, 0x1000];
 
-/// Whether the answer is an ignored error.
-fn is_ignored(answer: &Symbolized<'_>) -> bool {
-    match answer {
-        Symbolized::Sym(_) => false,
-        Symbolized::Unknown(reason) => *reason == Reason::IgnoredError,
-    }
-}
+/// The file of the function is asked.
+pub(crate) const CALLS: Script = &[PutText("/s.sym", BREAKPAD_CALLS), Ask(FILE, Nested)];
 
-/// Whether an answer of a batch is that of its address alone, and where that one is refused, which is
+/// Whether the answer of a batch is that of its address alone, and where that one is refused, which is
 /// at 0x1000, an ignored error.
-fn answers_alone(
-    alloc: Global,
-    symbolizer: &mut Symbolizer,
-    files: &mut MemFiles,
-    src: &Source<'_>,
-    addr: u64,
-    answer: &Symbolized<'_>,
-) -> bool {
-    match symbolizer.symbolize_single(alloc, files, src, Input::FileOffset(addr)) {
+fn is_alone(answer: &Symbolized<'_>, addr: u64, alone: Result<Symbolized<'_>>) -> bool {
+    match alone {
         Ok(single) => addr != 0x1000 && *answer == single,
-        Err(refusal) => addr == 0x1000 && refusal == Error::InvalidInput && is_ignored(answer),
+        Err(refusal) => {
+            addr == 0x1000
+                && refusal == Error::InvalidInput
+                && is_told(answer, &Told::Unknown(Reason::IgnoredError))
+        }
     }
 }
 
@@ -42,16 +38,21 @@ fn are_answered_alone(
     src: &Source<'_>,
     batch: &[Symbolized<'_>],
 ) -> bool {
-    for (addr, answer) in ADDRESSES.iter().zip(batch.iter()) {
-        if !answers_alone(alloc, symbolizer, files, src, *addr, answer) {
+    if batch.len() != ADDRESSES.len() {
+        return false;
+    }
+    for index in 0..batch.len() {
+        let addr = ADDRESSES[index];
+        let alone = symbolizer.symbolize_single(alloc, files, src, Input::FileOffset(addr));
+        if !is_alone(&batch[index], addr, alone) {
             return false;
         }
     }
-    batch.len() == ADDRESSES.len()
+    true
 }
 
 /// Whether this is so of the batch of all addresses.
-fn answers_each_alone(
+pub(crate) fn answers_each_alone(
     alloc: Global,
     symbolizer: &mut Symbolizer,
     files: &mut MemFiles,
@@ -61,15 +62,4 @@ fn answers_each_alone(
         Ok(batch) => are_answered_alone(alloc, symbolizer, files, src, batch.as_slice()),
         Err(_) => false,
     }
-}
-
-/// Whether this is so of the file.
-pub(crate) fn answers_nested(
-    alloc: Global,
-    symbolizer: &mut Symbolizer,
-    files: &mut MemFiles,
-    src: &Source<'_>,
-) -> bool {
-    put(alloc, files, "/s.sym", BREAKPAD_CALLS.as_bytes())
-        && answers_each_alone(alloc, symbolizer, files, src)
 }

@@ -3,10 +3,10 @@
 use crate::asking::Asked::{Batch, Counted, LookedUp, Single};
 use crate::asking::Subject::{Elf, Process, ProcessByPaths};
 use crate::calling::answers_in;
-use crate::steps::Step::{Ask, Call, Opens, Put};
-use crate::steps::{Script, hold};
+use crate::steps::Step::{Ask, CallOfProcess, Opens, Put};
+use crate::steps::{ALL, Script, hold};
 use crate::told::Told::{Named, Refused, Unknown};
-use crate::told::{Told, are_told};
+use crate::told::{Told, are_given};
 use bz_base::{Error, Input, Reason};
 use bz_files::MemFiles;
 use bz_samples::{ELF_FUNCTION, PERF_FUNCTION, THREE_MAPPINGS};
@@ -53,14 +53,11 @@ const ANSWERED: Script = &[
 ];
 
 /// A caller gets the same answers.
-const CALLED: Script = &[Call];
+const CALLED: Script = &[CallOfProcess];
 
 /// Whether a caller gets them of a new symbolizer.
-pub(crate) fn asks_caller(alloc: Global, files: &mut MemFiles) -> bool {
-    match answers_in(alloc, files, Pid::from(7), ADDRS) {
-        Ok(answers) => are_told(answers.as_slice(), TOLD),
-        Err(_) => false,
-    }
+pub(crate) fn asks_of_process(alloc: Global, files: &mut MemFiles) -> bool {
+    are_given(answers_in(alloc, files, Pid::from(7), ADDRS), TOLD)
 }
 
 /// They are the same with a count of the steps.
@@ -70,7 +67,7 @@ const COUNTED: Script = &[Ask(Process(7), Counted(Input::AbsAddr(ADDRS), TOLD))]
 const NOT_LOOKED_UP: Script = &[
     Ask(
         Process(7),
-        LookedUp(Input::AbsAddr(ADDRS), &[Refused(Error::Unsupported)]),
+        LookedUp(Input::AbsAddr(ADDRS), &[Refused(Error::Unsupported)], false),
     ),
     Opens(0),
 ];
@@ -96,11 +93,17 @@ const SHARED: Script = &[
     Ask(Process(7), Single(MAPPED, Refused(Error::NotFound))),
 ];
 
+const SCRIPTS: &[&[Script]] = &[
+    &[FILES, ANSWERED],
+    &[FILES, CALLED],
+    &[FILES, COUNTED],
+    &[FILES, NOT_LOOKED_UP],
+    &[SHARED],
+];
+
 #[test]
 fn answers_processes(rt: HostRuntime) {
-    assert!(rt; hold(rt.alloc(), &[FILES, ANSWERED]));
-    assert!(rt; hold(rt.alloc(), &[FILES, CALLED]));
-    assert!(rt; hold(rt.alloc(), &[FILES, COUNTED]));
-    assert!(rt; hold(rt.alloc(), &[FILES, NOT_LOOKED_UP]));
-    assert!(rt; hold(rt.alloc(), &[SHARED]));
+    for parts in SCRIPTS {
+        assert!(rt; hold(rt.alloc(), ALL, parts));
+    }
 }

@@ -1,21 +1,35 @@
 //! What the tests do, step by step, over new files in memory and new symbolizers.
 
 use crate::asking::{Asked, Subject, asks};
+use crate::breakpad::asks_of_file;
 use crate::elf::{Registration, registers_all};
 use crate::keeping::{Kept, forgets, keeps};
-use crate::process::asks_caller;
+use crate::many::put_generated;
+use crate::process::asks_of_process;
 use bz_base::Error;
-use bz_files::{Files, MemFiles, Stamp};
+use bz_files::{Files, MemFiles};
 use bz_symbolize::{Builder, Symbolizer};
 use std::alloc::Global;
+use std::default::Default;
 
-/// What is done, or asked. A symbolizer is asked, and also another one, which starts with every feature
-/// off and doesn't look at files anew.
+/// What a script starts with: whether the symbolizer's answers have places, whether they have inlined
+/// calls, and the GSYM that is handed in.
+pub(crate) type Start<'d> = (bool, bool, &'d [u8]);
+
+/// All features are on, and no GSYM is handed in.
+pub(crate) const ALL: Start<'static> = (true, true, b"");
+
+/// What is done, or asked. A symbolizer is asked, and also another one, which has every feature off and
+/// doesn't look at files anew.
 pub(crate) enum Step {
     /// The bytes are put at the path.
     Put(&'static str, &'static [u8]),
+    /// The text is put at the path.
+    PutText(&'static str, &'static str),
     /// The bytes are put at the path under the stamp that it has.
     PutUnderItsStamp(&'static str, &'static [u8]),
+    /// A file of so many functions is put at `/s.sym`.
+    PutGenerated(u32),
     /// The path gets what is at the other one, under the same stamp.
     Link(&'static str, &'static str),
     /// What is at the path is taken away.
@@ -28,10 +42,6 @@ pub(crate) enum Step {
     Faults(u64),
     /// So many files have been read.
     Opens(u64),
-    /// The symbolizer is a new one, whose answers have places or not, and inlined calls or not.
-    Set(bool, bool),
-    /// The symbolizer is a new one with every feature off.
-    SetNothing,
     /// The symbolizer answers as is told.
     Ask(Subject, Asked),
     /// The other symbolizer does.
@@ -39,10 +49,14 @@ pub(crate) enum Step {
     /// The symbolizer does, though no file is there.
     AskWithoutFiles(Subject, Asked),
     /// A caller with a symbolizer of its own gets what is told of process 7.
-    Call,
-    /// It is asked to keep this, and refuses so, if it does.
+    CallOfProcess,
+    /// A caller with a symbolizer of its own gets what is told of the file at `/app.sym`.
+    CallOfFile,
+    /// The symbolizer is asked to keep this, and refuses so, if it does.
     Keep(Kept, Option<Error>),
-    /// It is asked to forget this.
+    /// The other symbolizer is.
+    KeepStill(Kept, Option<Error>),
+    /// The symbolizer is asked to forget this.
     Forget(Kept),
     /// A resolver is registered so, one registration after the other.
     Register(&'static [Registration]),
@@ -59,18 +73,13 @@ pub(crate) fn put(alloc: Global, files: &mut MemFiles, path: &str, bytes: &[u8])
     }
 }
 
-/// Puts the bytes at the path under this stamp. Says whether memory was left.
-fn put_under(alloc: Global, files: &mut MemFiles, path: &str, stamp: Stamp, bytes: &[u8]) -> bool {
+/// Puts the bytes at the path under the stamp that it has. Says whether it has one, and memory was left.
+fn put_under_its_stamp(alloc: Global, files: &mut MemFiles, path: &str, bytes: &[u8]) -> bool {
+    let Ok(stamp) = files.stat(path) else {
+        return false;
+    };
     match Vec::from_slice(alloc, bytes) {
         Ok(copy) => files.put_as(alloc, path, stamp, copy).is_ok(),
-        Err(_) => false,
-    }
-}
-
-/// Puts the bytes at the path under the stamp that it has. Says whether it has one.
-fn put_under_its_stamp(alloc: Global, files: &mut MemFiles, path: &str, bytes: &[u8]) -> bool {
-    match files.stat(path) {
-        Ok(stamp) => put_under(alloc, files, path, stamp, bytes),
         Err(_) => false,
     }
 }
@@ -88,28 +97,19 @@ fn without_features(alloc: Global) -> Symbolizer {
 
 /// A symbolizer whose answers have places or not, and inlined calls or not.
 fn with_features(alloc: Global, places: bool, calls: bool) -> Symbolizer {
-    Builder::new()
+    Builder::default()
         .enable_code_info(places)
         .enable_inlined_fns(calls)
         .build(alloc)
-}
-
-/// Whether the symbolizer answers as is told where no file is there.
-fn asks_without_files(
-    alloc: Global,
-    symbolizer: &mut Symbolizer,
-    subject: &Subject,
-    asked: &Asked,
-) -> bool {
-    let mut none = MemFiles::new(alloc, 0);
-    asks(alloc, symbolizer, &mut none, subject, asked)
 }
 
 /// Takes the step, which is about files alone. Says whether all is as it says.
 fn holds_of_files(alloc: Global, files: &mut MemFiles, step: &Step) -> bool {
     match step {
         Step::Put(path, bytes) => put(alloc, files, path, bytes),
+        Step::PutText(path, text) => put(alloc, files, path, text.as_bytes()),
         Step::PutUnderItsStamp(path, bytes) => put_under_its_stamp(alloc, files, path, bytes),
+        Step::PutGenerated(functions) => put_generated(alloc, files, *functions).is_ok(),
         Step::Link(path, old) => files.link(alloc, path, old).is_ok(),
         Step::Remove(path) => files.remove(path),
         Step::NoFiles => {
@@ -119,7 +119,8 @@ fn holds_of_files(alloc: Global, files: &mut MemFiles, step: &Step) -> bool {
         Step::Fail(call) => files.fail_call(alloc, *call).is_ok(),
         Step::Faults(count) => files.faults() == *count,
         Step::Opens(count) => files.opens() == *count,
-        Step::Call => asks_caller(alloc, files),
+        Step::CallOfProcess => asks_of_process(alloc, files),
+        Step::CallOfFile => asks_of_file(alloc, files),
         _ => false,
     }
 }
@@ -130,43 +131,22 @@ fn holds_of(
     symbolizer: &mut Symbolizer,
     still: &mut Symbolizer,
     files: &mut MemFiles,
+    none: &mut MemFiles,
+    bytes: &[u8],
     step: &Step,
 ) -> bool {
     match step {
-        Step::Set(places, calls) => {
-            *symbolizer = with_features(alloc, *places, *calls);
-            true
-        }
-        Step::SetNothing => {
-            *symbolizer = without_features(alloc);
-            true
-        }
-        Step::Ask(subject, asked) => asks(alloc, symbolizer, files, subject, asked),
-        Step::AskStill(subject, asked) => asks(alloc, still, files, subject, asked),
+        Step::Ask(subject, asked) => asks(alloc, symbolizer, files, bytes, subject, asked),
+        Step::AskStill(subject, asked) => asks(alloc, still, files, bytes, subject, asked),
         Step::AskWithoutFiles(subject, asked) => {
-            asks_without_files(alloc, symbolizer, subject, asked)
+            asks(alloc, symbolizer, none, bytes, subject, asked)
         }
         Step::Keep(kept, refused) => keeps(alloc, symbolizer, files, kept, *refused),
+        Step::KeepStill(kept, refused) => keeps(alloc, still, files, kept, *refused),
         Step::Forget(kept) => forgets(alloc, symbolizer, kept),
         Step::Register(rows) => registers_all(alloc, symbolizer, files, rows),
         _ => holds_of_files(alloc, files, step),
     }
-}
-
-/// Takes the steps. Says whether all is as they say.
-fn hold_of(
-    alloc: Global,
-    symbolizer: &mut Symbolizer,
-    still: &mut Symbolizer,
-    files: &mut MemFiles,
-    steps: &[Step],
-) -> bool {
-    for step in steps {
-        if !holds_of(alloc, symbolizer, still, files, step) {
-            return false;
-        }
-    }
-    true
 }
 
 /// Takes the steps, part after part. Says whether all is as they say.
@@ -175,20 +155,34 @@ fn all_hold_of(
     symbolizer: &mut Symbolizer,
     still: &mut Symbolizer,
     files: &mut MemFiles,
+    none: &mut MemFiles,
+    bytes: &[u8],
     parts: &[Script],
 ) -> bool {
     for steps in parts {
-        if !hold_of(alloc, symbolizer, still, files, steps) {
-            return false;
+        for step in *steps {
+            if !holds_of(alloc, symbolizer, still, files, none, bytes, step) {
+                return false;
+            }
         }
     }
     true
 }
 
 /// Whether all is as the steps say, part after part, over new files and new symbolizers.
-pub(crate) fn hold(alloc: Global, parts: &[Script]) -> bool {
+pub(crate) fn hold(alloc: Global, start: Start<'_>, parts: &[Script]) -> bool {
+    let (places, calls, bytes) = start;
     let mut files = MemFiles::new(alloc, 0);
-    let mut symbolizer = Symbolizer::new(alloc);
+    let mut none = MemFiles::new(alloc, 0);
+    let mut symbolizer = with_features(alloc, places, calls);
     let mut still = without_features(alloc);
-    all_hold_of(alloc, &mut symbolizer, &mut still, &mut files, parts)
+    all_hold_of(
+        alloc,
+        &mut symbolizer,
+        &mut still,
+        &mut files,
+        &mut none,
+        bytes,
+        parts,
+    )
 }

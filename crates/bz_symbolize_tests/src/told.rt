@@ -1,7 +1,10 @@
 //! What is told of addresses, and whether answers and refusals are that.
 
-use bz_base::{CodeInfo, Error, InlinedFn, Reason, Sym, Symbolized};
-use std::borrow::CowStr;
+use bz_base::{CodeInfo, Error, Reason, Result, Sym, Symbolized};
+
+/// The source code of a file of symbols: the directory of its files, the file of its functions, and
+/// the one function that is inlined in them, and its file.
+pub(crate) type Code = (&'static str, &'static str, &'static str, &'static str);
 
 /// What is told of an address.
 pub(crate) enum Told {
@@ -9,80 +12,59 @@ pub(crate) enum Told {
     Named(&'static str),
     /// The symbol `f`, 8 bytes past its start, with this path as its module.
     InModule(&'static str),
-    /// A symbol with this name, this offset in it, and these lines: of its place, which is in `src/a.c`,
-    /// and of its one inlined call, of `sub`. Where a line is 0 there is no place, or no call.
-    Placed(&'static str, usize, u32, u32),
+    /// A symbol of this code with this name, this offset in it, and these lines: of its place, and of
+    /// its one inlined call. Where a line is 0 there is no place, or no call.
+    Placed(&'static Code, &'static str, usize, u64, u64),
     /// No symbol, for this reason.
     Unknown(Reason),
     /// The call is refused so.
     Refused(Error),
 }
 
-/// Whether the directory is `src`.
-fn is_src(dir: &Option<CowStr<'_>>) -> bool {
-    match dir {
-        Some(dir) => dir.as_str() == "src",
-        None => false,
-    }
+/// Whether the place is that line of the file in the directory, or there is neither.
+fn is_place(place: &Option<CodeInfo<'_>>, dir: &str, file: &str, line: u64) -> bool {
+    let Some(place) = place else {
+        return line == 0;
+    };
+    let is_in = match &place.dir {
+        Some(given) => given.as_str() == dir,
+        None => dir.is_empty(),
+    };
+    is_in && place.file.as_str() == file && line != 0 && u64::from(place.line.unwrap_or(0)) == line
 }
 
-/// Whether the place is that line of `src/a.c`, or there is neither.
-fn is_place(place: &Option<CodeInfo<'_>>, line: u32) -> bool {
-    match place {
-        Some(place) => {
-            line != 0
-                && place.line == Some(line)
-                && place.file.as_str() == "a.c"
-                && is_src(&place.dir)
+/// Whether the symbol's place is at that line of the code, or there is neither, and its one inlined call
+/// is at the other line, or there is neither.
+pub(crate) fn is_placed(symbol: &Sym<'_>, code: &Code, line: u64, called: u64) -> bool {
+    let (dir, file, inlined, its_file) = *code;
+    let calls = match symbol.inlined.as_slice() {
+        [] => called == 0,
+        [call] => {
+            call.name.as_str() == inlined
+                && called != 0
+                && is_place(&call.code_info, dir, its_file, called)
         }
-        None => line == 0,
-    }
-}
-
-/// Whether the inlined call is of `sub` at that line.
-fn is_call(call: &InlinedFn<'_>, line: u32) -> bool {
-    call.name.as_str() == "sub" && line != 0 && is_place(&call.code_info, line)
-}
-
-/// Whether the inlined calls are one of `sub` at that line, or there is neither.
-fn are_calls(calls: &[InlinedFn<'_>], line: u32) -> bool {
-    match calls {
-        [] => line == 0,
-        [call] => is_call(call, line),
         _ => false,
-    }
-}
-
-/// Whether the symbol is `f`, 8 bytes past its start, in this module.
-fn is_in_module(symbol: &Sym<'_>, path: &str) -> bool {
-    match &symbol.module {
-        Some(module) => {
-            symbol.name.as_str() == "f" && symbol.offset == 8 && module.as_str() == path
-        }
-        None => false,
-    }
+    };
+    calls && is_place(&symbol.code_info, dir, file, line)
 }
 
 /// Whether the symbol is what is told.
 fn is_symbol(symbol: &Sym<'_>, told: &Told) -> bool {
     match told {
         Told::Named(name) => symbol.name.as_str() == *name,
-        Told::InModule(path) => is_in_module(symbol, path),
-        Told::Placed(name, offset, line, call) => {
+        Told::InModule(path) => match &symbol.module {
+            Some(module) => {
+                symbol.name.as_str() == "f" && symbol.offset == 8 && module.as_str() == *path
+            }
+            None => false,
+        },
+        Told::Placed(code, name, offset, line, called) => {
             symbol.name.as_str() == *name
                 && symbol.offset == *offset
-                && is_place(&symbol.code_info, *line)
-                && are_calls(symbol.inlined.as_slice(), *call)
+                && is_placed(symbol, code, *line, *called)
         }
         Told::Unknown(_) | Told::Refused(_) => false,
-    }
-}
-
-/// Whether the reason why there is no symbol is what is told.
-fn is_reason(reason: Reason, told: &Told) -> bool {
-    match told {
-        Told::Unknown(expected) => reason == *expected,
-        _ => false,
     }
 }
 
@@ -90,12 +72,15 @@ fn is_reason(reason: Reason, told: &Told) -> bool {
 pub(crate) fn is_told(answer: &Symbolized<'_>, told: &Told) -> bool {
     match answer {
         Symbolized::Sym(symbol) => is_symbol(symbol, told),
-        Symbolized::Unknown(reason) => is_reason(*reason, told),
+        Symbolized::Unknown(reason) => match told {
+            Told::Unknown(expected) => *reason == *expected,
+            _ => false,
+        },
     }
 }
 
 /// Whether the answers are what is told, one by one.
-pub(crate) fn are_told(answers: &[Symbolized<'_>], told: &[Told]) -> bool {
+fn are_told(answers: &[Symbolized<'_>], told: &[Told]) -> bool {
     if answers.len() != told.len() {
         return false;
     }
@@ -115,10 +100,18 @@ pub(crate) fn is_refused(refusal: Error, told: &Told) -> bool {
     }
 }
 
-/// Whether the refusal of a batch is all that is told.
-pub(crate) fn are_refused(refusal: Error, told: &[Told]) -> bool {
-    match told {
-        [told] => is_refused(refusal, told),
-        _ => false,
+/// Whether the address is answered or refused as is told.
+pub(crate) fn is_given(answer: Result<Symbolized<'_>>, told: &Told) -> bool {
+    match answer {
+        Ok(answer) => is_told(&answer, told),
+        Err(refusal) => is_refused(refusal, told),
+    }
+}
+
+/// Whether the batch is answered as is told, one by one, or its refusal is all that is told.
+pub(crate) fn are_given(answers: Result<Vec<Symbolized<'_>>>, told: &[Told]) -> bool {
+    match answers {
+        Ok(answers) => are_told(answers.as_slice(), told),
+        Err(refusal) => told.len() == 1 && is_refused(refusal, &told[0]),
     }
 }

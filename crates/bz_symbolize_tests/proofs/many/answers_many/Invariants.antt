@@ -1,4 +1,4 @@
-use Rattle.bz_symbolize_tests.proofs.many.answers_batch.Given as goal
+use Rattle.bz_symbolize_tests.proofs.many.answers_many.Given as goal
 
 -- the count is kept in the name of the blank that it is made of
 abbrev pub ghosts-answers_often : goal.ghosts-answers_often
