@@ -54,10 +54,7 @@ pub(crate) fn are_answers(answers: &[Symbolized<'_>], expected: &[Answer]) -> bo
 
 fn is_answer(answer: &Symbolized<'_>, expected: &Answer) -> bool {
     match (answer, expected) {
-        (
-            Symbolized::Sym(symbol),
-            Answer::Symbol(name, start, offset, size, module, public),
-        ) => {
+        (Symbolized::Sym(symbol), Answer::Symbol(name, start, offset, size, module, public)) => {
             symbol.name.as_str() == *name
                 && symbol.addr == *start
                 && symbol.offset == *offset

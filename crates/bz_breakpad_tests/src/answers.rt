@@ -35,8 +35,8 @@ const BEYOND: &[u8] = b"PUBLIC 10 0 p\nFUNC ffffffffffffffff 10 0 f\n";
 
 const TOP: u64 = 0xffffffffffffffff;
 
-/// Answers by the nearest function, by PUBLIC records, and nowhere else.
-const ANSWERS: &[Row] = &[
+/// Answers by the nearest function, and nowhere else.
+const BY_FUNCTIONS: &[Row] = &[
     (
         BAR,
         &[
@@ -93,6 +93,27 @@ const ANSWERS: &[Row] = &[
         ],
     ),
     (
+        PAST,
+        &[Answer(
+            0xfffffffffffffff0,
+            FindSymOpts::Basic,
+            Unknown(Reason::UnknownAddr),
+        )],
+    ),
+    (
+        b"INFO x\n",
+        &[Answer(0x10, FindSymOpts::Basic, Unknown(Reason::MissingSyms))],
+    ),
+];
+
+#[test]
+fn answers_by_the_nearest_function(rt: HostRuntime) {
+    assert!(rt; hold(rt.alloc(), BY_FUNCTIONS, &Way::Bytes));
+}
+
+/// Answers by PUBLIC records, after which no function starts.
+const BY_PUBLICS: &[Row] = &[
+    (
         PUBLICS,
         &[
             Answer(
@@ -126,6 +147,37 @@ const ANSWERS: &[Row] = &[
         ],
     ),
     (
+        ONE,
+        &[
+            Answer(
+                0x10,
+                FindSymOpts::Basic,
+                Symbol("p", 0x10, 0, None, "", true),
+            ),
+            Answer(0xf, FindSymOpts::Basic, Unknown(Reason::UnknownAddr)),
+        ],
+    ),
+    (
+        ZERO,
+        &[
+            Answer(0, FindSymOpts::Basic, Symbol("z", 0, 0, None, "", true)),
+            Answer(
+                TOP,
+                FindSymOpts::Basic,
+                Symbol("z", 0, 0xffffffffffffffff, None, "", true),
+            ),
+        ],
+    ),
+];
+
+#[test]
+fn answers_by_public_records(rt: HostRuntime) {
+    assert!(rt; hold(rt.alloc(), BY_PUBLICS, &Way::Bytes));
+}
+
+/// Answers where a PUBLIC record is at a function's start, within it, behind it or before it.
+const BY_BOTH: &[Row] = &[
+    (
         SAME,
         &[
             Answer(
@@ -157,6 +209,17 @@ const ANSWERS: &[Row] = &[
         ],
     ),
     (
+        BEHIND,
+        &[
+            Answer(
+                0x20,
+                FindSymOpts::Basic,
+                Symbol("p", 0x20, 0, None, "", true),
+            ),
+            Answer(0x18, FindSymOpts::Basic, Unknown(Reason::UnknownAddr)),
+        ],
+    ),
+    (
         EMPTY,
         &[
             Answer(
@@ -173,39 +236,6 @@ const ANSWERS: &[Row] = &[
         ],
     ),
     (
-        ONE,
-        &[
-            Answer(
-                0x10,
-                FindSymOpts::Basic,
-                Symbol("p", 0x10, 0, None, "", true),
-            ),
-            Answer(0xf, FindSymOpts::Basic, Unknown(Reason::UnknownAddr)),
-        ],
-    ),
-    (
-        ZERO,
-        &[
-            Answer(0, FindSymOpts::Basic, Symbol("z", 0, 0, None, "", true)),
-            Answer(
-                TOP,
-                FindSymOpts::Basic,
-                Symbol("z", 0, 0xffffffffffffffff, None, "", true),
-            ),
-        ],
-    ),
-    (
-        BEHIND,
-        &[
-            Answer(
-                0x20,
-                FindSymOpts::Basic,
-                Symbol("p", 0x20, 0, None, "", true),
-            ),
-            Answer(0x18, FindSymOpts::Basic, Unknown(Reason::UnknownAddr)),
-        ],
-    ),
-    (
         BEYOND,
         &[
             Answer(
@@ -216,19 +246,12 @@ const ANSWERS: &[Row] = &[
             Answer(TOP, FindSymOpts::Basic, Unknown(Reason::UnknownAddr)),
         ],
     ),
-    (
-        b"INFO x\n",
-        &[Answer(0x10, FindSymOpts::Basic, Unknown(Reason::MissingSyms))],
-    ),
-    (
-        PAST,
-        &[Answer(
-            0xfffffffffffffff0,
-            FindSymOpts::Basic,
-            Unknown(Reason::UnknownAddr),
-        )],
-    ),
 ];
+
+#[test]
+fn answers_by_public_records_beside_functions(rt: HostRuntime) {
+    assert!(rt; hold(rt.alloc(), BY_BOTH, &Way::Bytes));
+}
 
 /// Functions, PUBLIC records and addresses with neither, together.
 const BATCHES: &[Row] = &[
@@ -271,8 +294,6 @@ const BATCHES: &[Row] = &[
 ];
 
 #[test]
-fn answers_by_the_nearest_record_alone_and_together(rt: HostRuntime) {
-    assert!(rt;
-        hold(rt.alloc(), ANSWERS, &Way::Bytes) && hold(rt.alloc(), BATCHES, &Way::Bytes)
-    );
+fn answers_functions_and_public_records_together(rt: HostRuntime) {
+    assert!(rt; hold(rt.alloc(), BATCHES, &Way::Bytes));
 }

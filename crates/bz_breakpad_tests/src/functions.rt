@@ -1,11 +1,10 @@
 //! What a file's functions tell, what is found in one, and their orders.
 
-use crate::fact::Fact::{Function, Functions, Walk};
+use crate::fact::Fact::{Function, Functions};
 use crate::fact::Row;
 use crate::fact::Told::{CallAtDepth, Calls, CallsAround, LineRecord, Lines, Nothing, Parts};
 use crate::files::{BAR, NESTED};
 use crate::holding::hold;
-use crate::inspected::{LAST, LATE_TWIN, LONG_TWIN, OTHER, SHORT_TWIN, TWINS};
 use crate::read::Way;
 use bz_breakpad::{Inlinee, SourceLine};
 
@@ -58,6 +57,11 @@ const FOUND: &[Row] = &[
         ],
     ),
 ];
+
+#[test]
+fn finds_functions_lines_and_calls(rt: HostRuntime) {
+    assert!(rt; hold(rt.alloc(), FOUND, &Way::Bytes));
+}
 
 /// The ranges of calls of three depths, of which two are alike in depth and start.
 const INLINEES: &[Inlinee] = &[
@@ -134,19 +138,9 @@ const IN_ORDER: &[Row] = &[
         b"FUNC 1000 100 0 f\nINLINE 1 21 5 2 1010 10 1008 8\nINLINE 0 20 4 1 1000 40\nINLINE 2 22 5 3 1010 4\nINLINE 1 23 6 4 1008 2\n",
         &[Function(0x1000, Calls(INLINEES))],
     ),
-    // walks in the order of start, size and place in the file, until they are stopped
-    (
-        TWINS,
-        &[
-            Walk("twin", &[OTHER, SHORT_TWIN]),
-            Walk("none", &[OTHER, SHORT_TWIN, LONG_TWIN, LATE_TWIN, LAST]),
-        ],
-    ),
 ];
 
 #[test]
-fn finds_functions_lines_and_calls_and_has_them_in_order(rt: HostRuntime) {
-    assert!(rt;
-        hold(rt.alloc(), FOUND, &Way::Bytes) && hold(rt.alloc(), IN_ORDER, &Way::Bytes)
-    );
+fn functions_lines_and_calls_in_order(rt: HostRuntime) {
+    assert!(rt; hold(rt.alloc(), IN_ORDER, &Way::Bytes));
 }

@@ -1,5 +1,9 @@
-//! Functions of one name and of others, and what is told of them.
+//! What is told of functions by their names and in their order.
 
+use crate::fact::Fact::Walk;
+use crate::fact::Row;
+use crate::holding::hold;
+use crate::read::Way;
 use bz_base::SymType;
 use bz_breakpad::SymInfo;
 
@@ -7,7 +11,7 @@ use bz_breakpad::SymInfo;
 pub(crate) const TWINS: &[u8] =
     b"FUNC 2000 10 0 twin\nFUNC 1000 20 0 twin\nFUNC 1000 10 0 other\nFUNC 1000 10 0 twin\nPUBLIC 900 0 twin\nFUNC 3000 5 0 last\n";
 
-pub(crate) const OTHER: SymInfo<'static> = SymInfo {
+const OTHER: SymInfo<'static> = SymInfo {
     name: "other",
     addr: 0x1000,
     size: Some(0x10),
@@ -43,7 +47,7 @@ pub(crate) const LATE_TWIN: SymInfo<'static> = SymInfo {
     module: None,
 };
 
-pub(crate) const LAST: SymInfo<'static> = SymInfo {
+const LAST: SymInfo<'static> = SymInfo {
     name: "last",
     addr: 0x3000,
     size: Some(5),
@@ -51,3 +55,17 @@ pub(crate) const LAST: SymInfo<'static> = SymInfo {
     file_offset: None,
     module: None,
 };
+
+/// Walks in the order of start, size and place in the file.
+const WALKS: &[Row] = &[(
+    TWINS,
+    &[
+        Walk("twin", &[OTHER, SHORT_TWIN]),
+        Walk("none", &[OTHER, SHORT_TWIN, LONG_TWIN, LATE_TWIN, LAST]),
+    ],
+)];
+
+#[test]
+fn walks_in_order_until_it_is_stopped(rt: HostRuntime) {
+    assert!(rt; hold(rt.alloc(), WALKS, &Way::Bytes));
+}

@@ -30,6 +30,8 @@ mod places;
 #[cfg(test)]
 mod read;
 #[cfg(test)]
+mod refused;
+#[cfg(test)]
 mod resolved;
 #[cfg(test)]
 mod resolvers;

@@ -19,39 +19,61 @@ const REPEATED: &[u8] = b"FILE 0 a\nFILE 0 b\nFILE 2 c\nFILE 1 d\nFILE 1 e\nFILE
 
 const LAST: &[u8] = b"FILE 0 a\nFILE 4294967295 y\nFILE 4294967295 z\n";
 
-/// Names by ids, of PUBLIC records and of modules.
-const NAMES: &[Row] = &[
-    (
-        NAMED,
-        &[
-            Name(0, ABSENT, ABSENT),
-            Name(1, "b", "j"),
-            Name(2, ABSENT, "i"),
-            Name(3, ABSENT, ""),
-            Name(4, "c ", ABSENT),
-            Name(7, "é", ABSENT),
-            Name(8, ABSENT, ABSENT),
-            Name(4294967295, "", ABSENT),
-            Counts(1, 4, 2),
-            Public(
-                0,
-                PublicSymbol {
-                    addr: 0x1234,
-                    parameter_size: 0x10,
-                    name: "some public",
-                },
-            ),
-            Public(
-                1,
-                PublicSymbol {
-                    addr: 0xff,
-                    parameter_size: 0xffffffff,
-                    name: "",
-                },
-            ),
-            Module("d e"),
-        ],
-    ),
+/// Names by ids, of PUBLIC records and of a module.
+const NAMES: &[Row] = &[(
+    NAMED,
+    &[
+        Name(0, ABSENT, ABSENT),
+        Name(1, "b", "j"),
+        Name(2, ABSENT, "i"),
+        Name(3, ABSENT, ""),
+        Name(4, "c ", ABSENT),
+        Name(7, "é", ABSENT),
+        Name(8, ABSENT, ABSENT),
+        Name(4294967295, "", ABSENT),
+        Counts(1, 4, 2),
+        Public(
+            0,
+            PublicSymbol {
+                addr: 0x1234,
+                parameter_size: 0x10,
+                name: "some public",
+            },
+        ),
+        Public(
+            1,
+            PublicSymbol {
+                addr: 0xff,
+                parameter_size: 0xffffffff,
+                name: "",
+            },
+        ),
+        Module("d e"),
+    ],
+)];
+
+#[test]
+fn names_by_ids(rt: HostRuntime) {
+    assert!(rt; hold(rt.alloc(), NAMES, &Way::Bytes));
+}
+
+/// Names of modules.
+const MODULES: &[Row] = &[
+    (b"MODULE a b c \r\n", &[Module("")]),
+    (b"MODULE  a \tb\t c \t d \r\r\n", &[Module("d ")]),
+    (b"MODULE a\tb c d e\n", &[Module("e")]),
+    (b"MODULE a b c \xc3\xa9\n\nFILE 1 a\n", &[Module("é")]),
+    (b"FILE 1 a\n", &[Module(ABSENT)]),
+    (b"INFO MODULE a b c d\n", &[Module(ABSENT)]),
+];
+
+#[test]
+fn names_modules(rt: HostRuntime) {
+    assert!(rt; hold(rt.alloc(), MODULES, &Way::Bytes));
+}
+
+/// Names by ids in order, out of order and with a gap.
+const ONCE: &[Row] = &[
     (
         IN_ORDER,
         &[
@@ -82,6 +104,15 @@ const NAMES: &[Row] = &[
             Name(3, "d", ABSENT),
         ],
     ),
+];
+
+#[test]
+fn names_by_ids_of_one_record(rt: HostRuntime) {
+    assert!(rt; hold(rt.alloc(), ONCE, &Way::Bytes));
+}
+
+/// Names by ids of several records, and by the last id.
+const AGAIN: &[Row] = &[
     (
         REPEATED,
         &[
@@ -102,34 +133,40 @@ const NAMES: &[Row] = &[
             Name(4294967295, "z", ABSENT),
         ],
     ),
-    (b"MODULE a b c \r\n", &[Module("")]),
-    (b"MODULE  a \tb\t c \t d \r\r\n", &[Module("d ")]),
-    (b"MODULE a\tb c d e\n", &[Module("e")]),
-    (b"MODULE a b c \xc3\xa9\n\nFILE 1 a\n", &[Module("é")]),
-    (b"FILE 1 a\n", &[Module(ABSENT)]),
-    (b"INFO MODULE a b c d\n", &[Module(ABSENT)]),
 ];
 
-/// Ids one after another, out of order, with gaps and repeated, and none; PUBLIC records in order, and
-/// out of order with some of one address.
-const LISTED: &[Row] = &[
+#[test]
+fn names_by_the_last_record_of_an_id(rt: HostRuntime) {
+    assert!(rt; hold(rt.alloc(), AGAIN, &Way::Bytes));
+}
+
+/// Ids one after another, out of order, with gaps and repeated, and none.
+const IDS: &[Row] = &[
     (
         b"FILE 0 a\nINLINE_ORIGIN 0 f\nFILE 1 b\nFILE 2 c\n",
         &[Names(&[(0, "a"), (1, "b"), (2, "c")], &[(0, "f")])],
     ),
     (
         b"INLINE_ORIGIN 3 h\nFILE 0 a\nFILE 4294967295 z\nFILE 1 b\nINLINE_ORIGIN 2 g\n",
-        &[
-            Names(&[(0, "a"), (1, "b"), (4294967295, "z")], &[(2, "g"), (3, "h")]),
-        ],
+        &[Names(
+            &[(0, "a"), (1, "b"), (4294967295, "z")],
+            &[(2, "g"), (3, "h")],
+        )],
     ),
     (
         b"FILE 7 y\nFILE 5 x\nFILE 7 z\nINLINE_ORIGIN 0 f\nINLINE_ORIGIN 9 i\nINLINE_ORIGIN 0 e\nINLINE_ORIGIN 4 g\n",
-        &[
-            Names(&[(5, "x"), (7, "z")], &[(0, "e"), (4, "g"), (9, "i")]),
-        ],
+        &[Names(&[(5, "x"), (7, "z")], &[(0, "e"), (4, "g"), (9, "i")])],
     ),
     (b"FUNC 10 8 0 a\n", &[Names(&[], &[])]),
+];
+
+#[test]
+fn lists_names_by_their_ids(rt: HostRuntime) {
+    assert!(rt; hold(rt.alloc(), IDS, &Way::Bytes));
+}
+
+/// PUBLIC records in order, out of order with some of one address, and none.
+const PUBLICS: &[Row] = &[
     (
         b"PUBLIC 10 0 a\nPUBLIC 20 4 b\n",
         &[Publics(&[
@@ -174,8 +211,6 @@ const LISTED: &[Row] = &[
 ];
 
 #[test]
-fn names_by_ids_and_in_order(rt: HostRuntime) {
-    assert!(rt;
-        hold(rt.alloc(), NAMES, &Way::Bytes) && hold(rt.alloc(), LISTED, &Way::Bytes)
-    );
+fn lists_public_records_by_their_addresses(rt: HostRuntime) {
+    assert!(rt; hold(rt.alloc(), PUBLICS, &Way::Bytes));
 }

@@ -22,7 +22,7 @@ const GAP_OF_DEPTH: &[u8] =
 
 const BEYOND: &[u8] = b"FUNC 1 2 3 x\nffffffffffffffff 2 0 0\n";
 
-const PLACES: &[Row] = &[
+const CALLS: &[Row] = &[
     (
         BAR,
         &[
@@ -97,6 +97,15 @@ const PLACES: &[Row] = &[
             ),
         ],
     ),
+];
+
+#[test]
+fn places_by_lines_and_calls(rt: HostRuntime) {
+    assert!(rt; hold(rt.alloc(), CALLS, &Way::Bytes));
+}
+
+/// Places that are refused where they are asked for, and there alone.
+const UNKNOWN: &[Row] = &[
     (
         UNKNOWN_FILE,
         &[
@@ -132,6 +141,15 @@ const PLACES: &[Row] = &[
             ),
         ],
     ),
+];
+
+#[test]
+fn unknown_places_are_refused(rt: HostRuntime) {
+    assert!(rt; hold(rt.alloc(), UNKNOWN, &Way::Bytes));
+}
+
+/// Lines out of order, a depth without a call, and a line that ends past 64 bits.
+const FROM_LISTS: &[Row] = &[
     (
         DISORDERED,
         &[
@@ -186,6 +204,6 @@ const PLACES: &[Row] = &[
 ];
 
 #[test]
-fn places_by_lines_and_calls(rt: HostRuntime) {
-    assert!(rt; hold(rt.alloc(), PLACES, &Way::Bytes));
+fn places_by_records_out_of_order(rt: HostRuntime) {
+    assert!(rt; hold(rt.alloc(), FROM_LISTS, &Way::Bytes));
 }

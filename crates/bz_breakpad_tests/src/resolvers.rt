@@ -101,10 +101,12 @@ fn refuses_paths(alloc: Global, files: &mut MemFiles) -> Result<bool> {
     put(alloc, files, "/cut", b"MODULE Linux x86 ffff0000 bar")?;
     files.deny(alloc, "/denied")?;
     files.fail_call(alloc, 4)?;
-    Ok(refuses(alloc, files, "/absent", ErrorKind::NotFound)
-        && refuses(alloc, files, "/denied", ErrorKind::PermissionDenied)
-        && refuses(alloc, files, "/cut", ErrorKind::InvalidInput)
-        && refuses(alloc, files, "/p", ErrorKind::ReadFault))
+    Ok(
+        refuses(alloc, files, "/absent", ErrorKind::NotFound)
+            && refuses(alloc, files, "/denied", ErrorKind::PermissionDenied)
+            && refuses(alloc, files, "/cut", ErrorKind::InvalidInput)
+            && refuses(alloc, files, "/p", ErrorKind::ReadFault),
+    )
 }
 
 #[test]
