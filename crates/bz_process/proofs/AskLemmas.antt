@@ -1,7 +1,7 @@
 -- Addresses of a process that are asked one after another, and what is said for them.
-use Rattle.std.proofs.Common.{◌≡◌, ◌⊎◌, ℕ, ◌+◌, ◌≤◌, ◌<◌, true, List, [], ◌∷◌, ◌++◌, map, append-nil, length, take, drop, get_or, suc, Option, Some, None, Result, Ok, Err, IfErr, IsErrOf, Vec, Global, inl, inr, refl, sym, ap, ap₂, subst, ◌∙◌, arith}
+use Rattle.std.proofs.Common.{◌≡◌, ◌⊎◌, ℕ, ◌+◌, ◌≤◌, ◌<◌, true, List, [], ◌∷◌, ◌++◌, map, append-nil, append_assoc, length, take, drop, get_or, suc, Option, Some, None, Result, Ok, Err, IfErr, IsErrOf, Vec, Global, inl, inr, refl, sym, ap, ap₂, subst, ◌∙◌, arith}
 use Rattle.std.specs.BTreeMap.{is_at}
-use Rattle.std.specs.List.{AllByRecursion, Contains}
+use Rattle.std.specs.List.{Contains}
 use Rattle.std.proofs.lemmas.List.{map-append, take-append-drop}
 use Rattle.std.proofs.lemmas.List.Elements.{Contains-append_left, Contains-append_right}
 use Rattle.std.proofs.Math.Seq.{drop-cons}
@@ -16,7 +16,7 @@ use Rattle.bz_base.specs.declared.types.Reason.TheVariants as reasons
 use Rattle.bz_base.specs.declared.types.Symbolized.{Symbolized}
 use Rattle.bz_base.specs.declared.types.Symbolized.TheVariants as symbolized
 use Rattle.bz_files.specs.Looked.{Faulted, Looked}
-use Rattle.bz_files.specs.World.{World, in_view}
+use Rattle.bz_files.specs.World.{World, Told, in_view}
 use Rattle.bz_files.specs.declared.files.Files.{Ghosts}
 use Rattle.bz_cache.specs.Format.{Comes}
 use Rattle.bz_elf.specs.Format as elf
@@ -24,14 +24,14 @@ use Rattle.bz_proc.specs.Maps.{Mapping, Name, name_of, owner_of}
 use Rattle.bz_proc.specs.NameOrder.{name_order}
 use Rattle.bz_proc.specs.PerfMap as perf
 use Rattle.bz_proc.specs.declared.maps.PathName.{PathName}
-use Rattle.bz_process.specs.Dispatch.{Adds, Answers, IsSaid, Keeps, SaysKept, Test, kept_for}
+use Rattle.bz_process.specs.Dispatch.{Adds, Answers, IsSaid, Keeps, Test, kept_for}
 use Rattle.bz_process.specs.Member.{as_member}
-use Rattle.bz_process.specs.Process.{Batched, Outcome, Said, at_address, at_addresses, batched, by_asked, by_mapping, by_owner, by_said, offset_in, unsaid}
-use Rattle.bz_process.specs.ProcessAsk.{AddsAmong, AddsIn, AsksAll, AsksFront, AsksOne, IsAdded, IsSaidAt, IsSaidBy, IsSaidIn}
+use Rattle.bz_process.specs.Process.{Batched, Outcome, Said, at_address, at_addresses, batched, by_asked, by_mapping, by_owner, by_said, unsaid}
+use Rattle.bz_process.specs.ProcessAsk.{AddsAmong, AddsIn, AsksAll, AsksFront, AsksOne, IsAdded, IsSaidAt, IsSaidBy, IsSaidIn, SaidInTurn, next_of}
 use Rattle.bz_process.specs.ProcessCall.{Reaches, TakesStep, UnlessFailed}
 use Rattle.bz_process.specs.Asked.{Asked}
 use Rattle.bz_process.specs.Caches.{ProcessCaches}
-use Rattle.bz_process.specs.Untold.{SomeAtAddress, SomeAtAddresses, SomeByAsked, SomeByMapping, SomeByOwner, SomeBySaid, as_read}
+use Rattle.bz_process.specs.Untold.{SaysNoFault, SomeAtAddress, SomeAtAddresses, SomeByAsked, SomeByMapping, SomeByOwner, SomeBySaid, Unfailing, as_read}
 use Rattle.bz_process.proofs.UntoldLemmas.{gives_self, some_last}
 use Rattle.bz_process.proofs.ProcessLemmas.{looked_both, reaches_both, reaches_same, stays, stays_both, still, unlooked, wants_memory}
 
@@ -61,6 +61,15 @@ unfailing (Err errors.ReadFault) entry P none p = cc (none tt)
 unfailing (Err errors.OutOfMemory) entry P none p = cc (none tt)
 unfailing (Err _) entry P none p = p
 
+no_failure : (result : Result Symbolized Error) (entry : Symbolized) → IfErr result (λ e. IsFailure e → IsErrOf {T = Symbolized} (Ok entry) e) → Unfailing (as_read reading result)
+no_failure (Ok x) entry none = tt
+no_failure (Err e) entry none = λ failure. cc (none failure)
+
+-- what is no failed read isn't said as one
+pub says_no_fault : (e : Error) → (Faulted {A = Symbolized} (Err e) → ⊥) → SaysNoFault (Some (Err e))
+says_no_fault errors.ReadFault none = none refl
+says_no_fault _ none = tt
+
 -- what comes of it is what it gives
 gives_comes : (result : Result Symbolized Error) (entry : Symbolized) (expected : Result Answer Error) → IfErr result (λ e. IsFailure e → IsErrOf {T = Symbolized} (Ok entry) e) → Comes reading expected result → Gives reading expected result
 gives_comes (Ok x) entry expected none is = is
@@ -74,12 +83,12 @@ unfaulted (Err errors.ReadFault) entry none fault = cc (none tt)
 unfaulted (Err _) entry none fault = cc fault
 
 -- only a failure comes whatever is expected
-comes_failed : {A B : Type 0} (read : A → B) (expected : Result B Error) (e : Error) → IsFailure e → Comes read expected (Err e)
+pub comes_failed : {A B : Type 0} (read : A → B) (expected : Result B Error) (e : Error) → IsFailure e → Comes read expected (Err e)
 comes_failed read expected errors.ReadFault is = tt
 comes_failed read expected errors.OutOfMemory is = tt
 comes_failed read expected _ is = absurd is
 
-left_failed : (A : Type 0) (e : Error) (P : Type 0) → IsFailure e → UnlessFailed {A = A} (Err e) P
+pub left_failed : (A : Type 0) (e : Error) (P : Type 0) → IsFailure e → UnlessFailed {A = A} (Err e) P
 left_failed A errors.ReadFault P is = tt
 left_failed A errors.OutOfMemory P is = tt
 left_failed A _ P is = absurd is
@@ -203,25 +212,37 @@ module _ {X : Type 0} (files : Ghosts X) (asked : Asked) where
           looked = looked_both files asked.own before middle after one.looked (looked_ok files result entry middle after unfailed two.looked);
         }
 
-    -- the batch failed at an address, or after it
-    pub step_fails : (front : List (ℕ × Said)) (addr : ℕ) (said : Said) (rest : List ℕ) (answers : Vec Symbolized Global) (result : Result Symbolized Error) (e : Error) (old mid now : ProcessCaches) (before middle after : X) →
+    -- and what is left then is expected
+    pub left_more : (front : List (ℕ × Said)) (item : ℕ × Said) (answers : Vec Symbolized Global) (result : Result Symbolized Error) (entry : Symbolized) (old mid now : ProcessCaches) (before middle after : X) →
         TakesStep files asked.own read (at_addresses asked mappings front) (Ok answers) old mid before middle →
-        TakesStep files asked.own reading (at_address asked mappings (addr, said)) result mid now middle after →
+        TakesStep files asked.own reading (at_address asked mappings item) result mid now middle after →
+        IfErr result (λ e. IsFailure e → IsErrOf {T = Symbolized} (Ok entry) e) → Told (in_view (files.worlds before)) (λ world. now ≡ (B (front ++ item ∷ []) world old).left)
+    left_more front item answers result entry old mid now before middle after one two unfailed = λ world seen.
+        let same : in_view (files.worlds middle) ≡ in_view (files.worlds before) = ap in_view one.looked.worlds in
+        let kept_is : mid ≡ (B front world old).left = (one.told world seen).left in
+        let left_is : now ≡ (O item world mid).left = unfailing result entry _ unfailed (two.told world (same ∙ seen)).left in
+        left_is ∙ ap (λ (k : ProcessCaches). (O item world k).left) kept_is ∙ sym (left_last front item world old)
+
+    -- the batch failed at an address, or after it
+    pub step_fails : (front : List (ℕ × Said)) (item : ℕ × Said) (all : List (ℕ × Said)) (answers : Vec Symbolized Global) (result : Result Symbolized Error) (e : Error) (old mid now : ProcessCaches) (before middle after : X) →
+        ((world : World) → (B front world old).opens + (O item world (B front world old).left).opens ≤ (B all world old).opens) →
+        TakesStep files asked.own read (at_addresses asked mappings front) (Ok answers) old mid before middle →
+        TakesStep files asked.own reading (at_address asked mappings item) result mid now middle after →
         IsFailure e → Looked files before after (Faulted {A = Vec Symbolized Global} (Err e)) →
-        TakesStep files asked.own read (at_addresses asked mappings (front ++ map unsaid (addr ∷ rest))) (Err e) old now before after
-    step_fails front addr said rest answers result e old mid now before middle after one two failure looked =
+        TakesStep files asked.own read (at_addresses asked mappings all) (Err e) old now before after
+    step_fails front item all answers result e old mid now before middle after few one two failure looked =
         let same : in_view (files.worlds middle) ≡ in_view (files.worlds before) = ap in_view one.looked.worlds in
         record {
           told = λ world seen.
               let first = one.told world seen in
               let second = two.told world (same ∙ seen) in
               let kept_is : mid ≡ (B front world old).left = first.left in
-              let opened : files.opens after ≤ files.opens middle + (O (addr, said) world (B front world old).left).opens =
-              subst (λ (k : ProcessCaches). files.opens after ≤ files.opens middle + (O (addr, said) world k).opens) kept_is second.opened in
+              let opened : files.opens after ≤ files.opens middle + (O item world (B front world old).left).opens =
+              subst (λ (k : ProcessCaches). files.opens after ≤ files.opens middle + (O item world k).opens) kept_is second.opened in
               record {
                 answer = comes_failed read _ e failure;
                 left = left_failed (Vec Symbolized Global) e _ failure;
-                opened = omega (arith, first.opened, opened, opens_unsaid addr said world (B front world old).left, opens_split front (unsaid addr) (map unsaid rest) world old);
+                opened = omega (arith, first.opened, opened, few world);
               };
           reached = reaches_both asked.own _ old mid now one.reached (subst (λ (v : Option World). Reaches asked.own v mid now) same two.reached);
           elf = stays_both elf.format_test old.elf mid.elf now.elf one.elf two.elf;
@@ -229,13 +250,17 @@ module _ {X : Type 0} (files : Ghosts X) (asked : Asked) where
           looked = looked;
         }
 
-module _ {R : Type 0} (test : Test R) (translates : Translates R) (finds : Finds R) (opts : FindSymOpts) where
-  -- what is said stays so as answers are added before and after
-  kept_by : (offset : Option ℕ) (now later : Option (Option R)) (said : Said) → ((answer : Option R) → now ≡ Some answer → later ≡ Some answer) →
-      SaysKept test translates finds opts offset now said → SaysKept test translates finds opts offset later said
-  kept_by offset None later said keeps is = absurd is
-  kept_by offset (Some answer) later said keeps is = rw (keeps answer refl) is
+    -- the first addresses and the next one are read for
+    pub few_at : (front : List (ℕ × Said)) (addr : ℕ) (said : Said) (old : ProcessCaches) (world : World) →
+        (B front world old).opens + (O (addr, said) world (B front world old).left).opens ≤ (B (front ++ map unsaid (addr ∷ [])) world old).opens
+    few_at front addr said old world = omega (arith, opens_unsaid addr said world (B front world old).left, opens_split front (unsaid addr) [] world old)
 
+    pub few_after : (front : List (ℕ × Said)) (item : ℕ × Said) (rest : List ℕ) (old : ProcessCaches) (world : World) →
+        (B front world old).opens + (O item world (B front world old).left).opens ≤ (B ((front ++ item ∷ []) ++ map unsaid rest) world old).opens
+    few_after front item rest old world = rw (append_assoc front (item ∷ []) (map unsaid rest)) (opens_split front item (map unsaid rest) world old)
+
+module _ {R : Type 0} (test : Test R) (translates : Translates R) (finds : Finds R) (opts : FindSymOpts) where
+  -- what is said is said too where fewer answers were kept before
   not_kept : (old mid : Answers R) (name : PathName) → Keeps old mid → kept_for mid name ≡ None → kept_for old name ≡ None
   not_kept old mid name keeps none = by_found (kept_for old name) refl
     where
@@ -243,36 +268,37 @@ module _ {R : Type 0} (test : Test R) (translates : Translates R) (finds : Finds
       by_found None is = is
       by_found (Some answer) is = let there : None ≡ Some answer = sym none ∙ keeps name answer is in cc there
 
-  said_longer : (mapping : Mapping) (name : PathName) (addr : ℕ) (old mid now later : Answers R) (said : Said) → Keeps old mid → Keeps now later →
-      IsSaid test translates finds opts mapping name addr mid now said → IsSaid test translates finds opts mapping name addr old later said
-  said_longer mapping name addr old mid now later said before after (inl refused) =
-      inl (record { refusal = refused.refusal; asked = not_kept old mid name before refused.asked; allowed = refused.allowed; is = refused.is })
-  said_longer mapping name addr old mid now later said before after (inr kept) = inr (kept_by (offset_in mapping addr) (kept_for now name) (kept_for later name) said (after name) kept)
+  said_since : (mapping : Mapping) (name : PathName) (addr : ℕ) (old mid now : Answers R) (said : Said) → Keeps old mid →
+      IsSaid test translates finds opts mapping name addr mid now said → IsSaid test translates finds opts mapping name addr old now said
+  said_since mapping name addr old mid now said before (inl refused) =
+      inl (record { refusal = refused.refusal; asked = not_kept old mid name before refused.asked; allowed = refused.allowed; refuses = refused.refuses; unfailing = refused.unfailing; is = refused.is })
+  said_since mapping name addr old mid now said before (inr kept) = inr kept
 
-  said_in_longer : (mapping : Mapping) (name : Option Name) (addr : ℕ) (old mid now later : Answers R) (said : Said) → Keeps old mid → Keeps now later →
-      IsSaidIn test translates finds opts mapping name addr mid now said → IsSaidIn test translates finds opts mapping name addr old later said
-  said_in_longer mapping None addr old mid now later said before after is = is
-  said_in_longer mapping (Some name) addr old mid now later said before after is = (is.0, is.1, said_longer mapping is.0 addr old mid now later said before after is.2)
+  said_in_since : (mapping : Mapping) (name : Option Name) (addr : ℕ) (old mid now : Answers R) (said : Said) → Keeps old mid →
+      IsSaidIn test translates finds opts mapping name addr mid now said → IsSaidIn test translates finds opts mapping name addr old now said
+  said_in_since mapping None addr old mid now said before is = is
+  said_in_since mapping (Some name) addr old mid now said before is = (is.0, is.1, said_since mapping is.0 addr old mid now said before is.2)
 
-  said_by_longer : (owner : Option Mapping) (addr : ℕ) (old mid now later : Answers R) (said : Said) → Keeps old mid → Keeps now later →
-      IsSaidBy test translates finds opts owner addr mid now said → IsSaidBy test translates finds opts owner addr old later said
-  said_by_longer None addr old mid now later said before after is = is
-  said_by_longer (Some mapping) addr old mid now later said before after is = said_in_longer mapping mapping.name addr old mid now later said before after is
+  said_by_since : (owner : Option Mapping) (addr : ℕ) (old mid now : Answers R) (said : Said) → Keeps old mid →
+      IsSaidBy test translates finds opts owner addr mid now said → IsSaidBy test translates finds opts owner addr old now said
+  said_by_since None addr old mid now said before is = is
+  said_by_since (Some mapping) addr old mid now said before is = said_in_since mapping mapping.name addr old mid now said before is
 
   module _ (mappings : List Mapping) where
-    abbrev At : Answers R → Answers R → ℕ × Said → Type 0
-    At old now item = IsSaidAt test translates finds opts mappings item.0 old now item.1
-
-    all_longer : (old now later : Answers R) (front : List (ℕ × Said)) → Keeps now later → AllByRecursion (At old now) front → AllByRecursion (At old later) front
-    all_longer old now later [] keeps all = tt
-    all_longer old now later (item ∷ front) keeps all = (said_by_longer (owner_of mappings item.0) item.0 old old now later item.1 (λ n a k. k) keeps all.0, all_longer old now later front keeps all.1)
-
-    all_last : (P : ℕ × Said → Type 0) (front : List (ℕ × Said)) (item : ℕ × Said) → AllByRecursion P front → P item → AllByRecursion P (front ++ item ∷ [])
-    all_last P [] item all one = (one, tt)
-    all_last P (first ∷ front) item all one = (all.0, all_last P front item all.1 one)
-
     keeps_both : (old mid now : Answers R) → Keeps old mid → Keeps mid now → Keeps old now
     keeps_both old mid now one two name answer kept = two name answer (one name answer kept)
+
+    -- what was said in turn was, as later answers are kept
+    turn_longer : (front : List (ℕ × Said)) (old mid now : Answers R) → SaidInTurn test translates finds opts mappings front old mid → Keeps mid now → SaidInTurn test translates finds opts mappings front old now
+    turn_longer [] old mid now turn keeps = keeps_both old mid now turn keeps
+    turn_longer (item ∷ front) old mid now turn keeps = (turn.0, turn.1, turn.2, turn_longer front turn.0 mid now turn.3 keeps)
+
+    -- and something is said for one more address
+    turn_last : (front : List (ℕ × Said)) (item : ℕ × Said) (old mid now : Answers R) → SaidInTurn test translates finds opts mappings front old mid → Keeps mid now →
+        IsSaidAt test translates finds opts mappings item.0 mid now item.1 → SaidInTurn test translates finds opts mappings (front ++ item ∷ []) old now
+    turn_last [] item old mid now turn keeps said =
+        (now, keeps_both old mid now turn keeps, said_by_since (owner_of mappings item.0) item.0 old mid now item.1 turn said, λ name answer kept. kept)
+    turn_last (first ∷ front) item old mid now turn keeps said = (turn.0, turn.1, turn.2, turn_last front item turn.0 mid now turn.3 keeps said)
 
     added_among : (addrs more : List ℕ) (other : PathName) (answer : Option R) → ((addr : ℕ) → Contains addrs addr → Contains more addr) → IsAdded test mappings addrs other answer → IsAdded test mappings more other answer
     added_among addrs more other answer within is =
@@ -301,14 +327,14 @@ module _ {R X : Type 0} (files : Ghosts X) (test : Test R) (translates : Transla
       AsksOne files asked.own reading (IsSaid test translates finds opts mapping name addr answers answers_now) (SomeBySaid asked (as_read reading result) old now mapping addr (name_of name)) (by_said asked mapping addr (name_of name)) result old now before after →
       AsksOne files asked.own reading (IsSaidIn test translates finds opts mapping named addr answers answers_now) (λ said. SomeByMapping asked (as_read reading result) old now mapping addr said named) (λ said. by_mapping asked mapping addr said named) result old now before after
   in_named mapping name named addr result old now answers answers_now before after is one =
-      rw is (record { said = one.said; allowed = unless_map result _ _ (λ allowed. (name, refl, allowed)) one.allowed; some = one.some; step = one.step })
+      rw is (record { said = one.said; allowed = unless_map result _ _ (λ allowed. (name, refl, allowed)) one.allowed; faultless = one.faultless; some = one.some; step = one.step })
 
   -- an address of a mapping that is of nothing
   pub in_unnamed : (mapping : Mapping) (named : Option Name) (addr : ℕ) (result : Result Symbolized Error) (old now : ProcessCaches) (answers : Answers R) (before after : X) → named ≡ None →
       TakesStep files asked.own reading (by_asked asked.perf_map asked addr) result old now before after →
       SomeByAsked asked (as_read reading result) old now asked.perf_map addr →
       AsksOne files asked.own reading (IsSaidIn test translates finds opts mapping named addr answers answers) (λ said. SomeByMapping asked (as_read reading result) old now mapping addr said named) (λ said. by_mapping asked mapping addr said named) result old now before after
-  in_unnamed mapping named addr result old now answers before after is step some = rw is (record { said = None; allowed = unless result _ refl; some = some; step = step })
+  in_unnamed mapping named addr result old now answers before after is step some = rw is (record { said = None; allowed = unless result _ refl; faultless = tt; some = some; step = step })
 
   pub adds_named : (mapping : Mapping) (name : PathName) (answers answers_now : Answers R) → mapping.name ≡ Some (name_of name) → Adds test mapping name answers answers_now → AddsIn test mapping answers answers_now
   adds_named mapping name answers answers_now named adds other answer kept = by_added (adds other answer kept)
@@ -325,6 +351,7 @@ module _ {R X : Type 0} (files : Ghosts X) (test : Test R) (translates : Transla
     unmapped addr kept answers at none = record {
       said = None;
       allowed = subst (λ (o : Option Mapping). IsSaidBy test translates finds opts o addr answers answers None) (sym none) refl;
+      faultless = tt;
       some = subst (λ (o : Option Mapping). SomeByOwner asked (Ok (Unknown reasons.Unmapped)) kept kept addr None o) (sym none) (refl, refl);
       step = rw none (still files asked.own reading (Unknown reasons.Unmapped) _ kept at refl);
     }
@@ -349,7 +376,7 @@ module _ {R X : Type 0} (files : Ghosts X) (test : Test R) (translates : Transla
 
     pub front_none : (given : Vec Symbolized Global) (kept : ProcessCaches) (answers : Answers R) (at : X) → given.items ≡ [] → Front [] given kept kept answers answers at at
     front_none given kept answers at is =
-        record { front = []; addrs_are = refl; allowed = tt; some = (ap (map reading) is, refl); step = step_none files asked mappings given kept at is; keeps = λ n a kept. kept; adds = λ n a kept. inl kept }
+        record { front = []; addrs_are = refl; allowed = λ n a kept. kept; some = (ap (map reading) is, refl); step = step_none files asked mappings given kept at is; keeps = λ n a kept. kept; adds = λ n a kept. inl kept }
 
     pub front_more : (addrs : List ℕ) (addr : ℕ) (given more : Vec Symbolized Global) (result : Result Symbolized Error) (entry : Symbolized) (old mid now : ProcessCaches) (answers answers_mid answers_now : Answers R) (before middle after : X) →
         Front addrs given old mid answers answers_mid before middle → One addr result mid now answers_mid answers_now middle after →
@@ -360,56 +387,103 @@ module _ {R X : Type 0} (files : Ghosts X) (test : Test R) (translates : Transla
     front_more addrs addr given more result entry old mid now answers answers_mid answers_now before middle after front one keeps adds is unfailed pushed = record {
       front = front.front ++ (addr, one.said) ∷ [];
       addrs_are = map-append (λ (item : ℕ × Said). item.0) front.front ((addr, one.said) ∷ []) ∙ ap (λ (xs : List ℕ). xs ++ addr ∷ []) front.addrs_are;
-      allowed = all_last test translates finds opts mappings _ front.front (addr, one.said)
-          (all_longer test translates finds opts mappings answers answers_mid answers_now front.front keeps front.allowed)
-          (said_by_longer test translates finds opts (owner_of mappings addr) addr answers answers_mid answers_now answers_now one.said front.keeps (λ n a k. k) (unfailing result entry _ unfailed one.allowed));
+      allowed = turn_last test translates finds opts mappings front.front (addr, one.said) answers answers_mid answers_now front.allowed keeps (unfailing result entry _ unfailed one.allowed);
       some =
           let entry_is : reading entry ≡ in_batch (as_read reading result) = is (as_read reading result) (gives_self reading result) in
           let answers_are : read more ≡ read given ++ in_batch (as_read reading result) ∷ [] =
           ap (map reading) pushed ∙ map-append reading given.items (entry ∷ []) ∙ ap (λ (a : Answer). read given ++ a ∷ []) entry_is in
           subst (λ (all : List Answer). SomeAtAddresses asked mappings (front.front ++ (addr, one.said) ∷ []) all old now) (sym answers_are)
-          (some_last asked mappings front.front (addr, one.said) (read given) (as_read reading result) old mid now front.some one.some);
+          (some_last asked mappings front.front (addr, one.said) (read given) (as_read reading result) old mid now front.some one.some (no_failure result entry unfailed));
       step = step_more files asked mappings front.front (addr, one.said) given more result entry old mid now before middle after front.step one.step is unfailed pushed;
       keeps = keeps_both test translates finds opts mappings answers answers_mid answers_now front.keeps keeps;
       adds = adds_both test translates finds opts mappings addrs (addr ∷ []) (addrs ++ addr ∷ []) answers answers_mid answers_now
           (Contains-append_left addrs (addr ∷ [])) (Contains-append_right addrs (addr ∷ [])) front.adds adds;
     }
 
+    -- all were asked
     pub all_done : (addrs : List ℕ) (given : Vec Symbolized Global) (old now : ProcessCaches) (answers answers_now : Answers R) (before after : X) →
         Front addrs given old now answers answers_now before after → All addrs (Ok given) old now answers answers_now before after
-    all_done addrs given old now answers answers_now before after front = record {
-      front = front.front;
-      rest = [];
-      addrs_are = append-nil _ ∙ front.addrs_are;
-      all = refl;
-      allowed = front.allowed;
-      some = front.some;
-      step = rw append-nil front.step;
-    }
+    all_done addrs given old now answers answers_now before after front =
+        let all : map (λ (item : ℕ × Said). item.0) front.front ++ [] ≡ addrs = append-nil _ ∙ front.addrs_are in
+        record {
+          front = front.front;
+          rest = [];
+          addrs_are = all;
+          all = refl;
+          allowed = front.allowed;
+          some = front.some;
+          adds = subst (λ (xs : List ℕ). AddsAmong test mappings xs answers answers_now) (sym all) front.adds;
+          step = rw append-nil front.step;
+        }
 
+    -- the next address failed
     pub all_fail : (addrs : List ℕ) (addr : ℕ) (rest whole : List ℕ) (given : Vec Symbolized Global) (result : Result Symbolized Error) (e : Error) (old mid now : ProcessCaches) (answers answers_mid answers_now : Answers R) (before middle after : X) →
         addrs ++ (addr ∷ rest) ≡ whole →
-        Front addrs given old mid answers answers_mid before middle → One addr result mid now answers_mid answers_now middle after → Keeps answers_mid answers_now →
-        IsFailure e → Looked files before after (Faulted {A = Vec Symbolized Global} (Err e)) → All whole (Err e) old now answers answers_now before after
-    all_fail addrs addr rest whole given result e old mid now answers answers_mid answers_now before middle after whole_is front one keeps failure looked = record {
+        Front addrs given old mid answers answers_mid before middle → One addr result mid now answers_mid answers_now middle after →
+        Keeps answers_mid answers_now → AddsAmong test mappings (addr ∷ []) answers_mid answers_now →
+        result ≡ Err e → IsFailure e → Looked files before after (Faulted {A = Vec Symbolized Global} (Err e)) → All whole (Err e) old now answers answers_now before after
+    all_fail addrs addr rest whole given result e old mid now answers answers_mid answers_now before middle after whole_is front one keeps adds is failure looked = record {
       front = front.front;
       rest = addr ∷ rest;
       addrs_are = ap (λ (xs : List ℕ). xs ++ (addr ∷ rest)) front.addrs_are ∙ whole_is;
       all = tt;
-      allowed = all_longer test translates finds opts mappings answers answers_mid answers_now front.front keeps front.allowed;
-      some = tt;
-      step = step_fails files asked mappings front.front addr one.said rest given result e old mid now before middle after front.step one.step failure looked;
+      allowed = turn_longer test translates finds opts mappings front.front answers answers_mid answers_now front.allowed keeps;
+      some = record {
+        failure = failure;
+        answers = read given;
+        middle = mid;
+        some = front.some;
+        told = λ world seen. (front.step.told world seen).left;
+        ends = inr (one.said, one.faultless, subst (λ (r : Result Symbolized Error). SomeAtAddress asked (as_read reading r) mid now mappings (addr, one.said)) is one.some);
+      };
+      adds = subst (λ (xs : List ℕ). AddsAmong test mappings (xs ++ addr ∷ []) answers answers_now) (sym front.addrs_are)
+          (adds_both test translates finds opts mappings addrs (addr ∷ []) (addrs ++ addr ∷ []) answers answers_mid answers_now
+          (Contains-append_left addrs (addr ∷ [])) (Contains-append_right addrs (addr ∷ [])) front.adds adds);
+      step = step_fails files asked mappings front.front (addr, one.said) (front.front ++ map unsaid (addr ∷ [])) given result e old mid now before middle after
+          (few_at files asked mappings front.front addr one.said old) front.step one.step failure looked;
     }
 
-    -- and what the answers are that were added then
-    pub adds_fail : (addrs : List ℕ) (addr : ℕ) (rest whole : List ℕ) (answers answers_mid answers_now : Answers R) → addrs ++ (addr ∷ rest) ≡ whole →
-        AddsAmong test mappings addrs answers answers_mid → AddsAmong test mappings (addr ∷ []) answers_mid answers_now → AddsAmong test mappings whole answers answers_now
-    adds_fail addrs addr rest whole answers answers_mid answers_now whole_is one two =
-        subst (λ (xs : List ℕ). AddsAmong test mappings xs answers answers_now) whole_is
-        (adds_both test translates finds opts mappings addrs (addr ∷ []) (addrs ++ (addr ∷ rest)) answers answers_mid answers_now
-        (Contains-append_left addrs (addr ∷ rest)) (λ x there. Contains-append_right addrs (addr ∷ rest) x (Contains-append_left (addr ∷ []) rest x there)) one two)
+    -- memory ran out for the answer of the next address
+    pub all_stop : (addrs : List ℕ) (addr : ℕ) (rest whole : List ℕ) (given : Vec Symbolized Global) (result : Result Symbolized Error) (entry : Symbolized) (old mid now : ProcessCaches) (answers answers_mid answers_now : Answers R) (before middle after : X) →
+        addrs ++ (addr ∷ rest) ≡ whole →
+        Front addrs given old mid answers answers_mid before middle → One addr result mid now answers_mid answers_now middle after →
+        Keeps answers_mid answers_now → AddsAmong test mappings (addr ∷ []) answers_mid answers_now →
+        IfErr result (λ e. IsFailure e → IsErrOf {T = Symbolized} (Ok entry) e) →
+        Looked files before after (Faulted {A = Vec Symbolized Global} (Err errors.OutOfMemory)) → All whole (Err errors.OutOfMemory) old now answers answers_now before after
+    all_stop addrs addr rest whole given result entry old mid now answers answers_mid answers_now before middle after whole_is front one keeps adds unfailed looked =
+        let fronts : map (λ (item : ℕ × Said). item.0) (front.front ++ (addr, one.said) ∷ []) ≡ addrs ++ addr ∷ [] =
+        map-append (λ (item : ℕ × Said). item.0) front.front ((addr, one.said) ∷ []) ∙ ap (λ (xs : List ℕ). xs ++ addr ∷ []) front.addrs_are in
+        record {
+          front = front.front ++ (addr, one.said) ∷ [];
+          rest = rest;
+          addrs_are = ap (λ (xs : List ℕ). xs ++ rest) fronts ∙ append_assoc addrs (addr ∷ []) rest ∙ whole_is;
+          all = tt;
+          allowed = turn_last test translates finds opts mappings front.front (addr, one.said) answers answers_mid answers_now front.allowed keeps (unfailing result entry _ unfailed one.allowed);
+          some = record {
+            failure = tt;
+            answers = read given ++ in_batch (as_read reading result) ∷ [];
+            middle = now;
+            some = some_last asked mappings front.front (addr, one.said) (read given) (as_read reading result) old mid now front.some one.some (no_failure result entry unfailed);
+            told = left_more files asked mappings front.front (addr, one.said) given result entry old mid now before middle after front.step one.step unfailed;
+            ends = inl (record { memory = refl; unchanged = refl });
+          };
+          adds = subst (λ (xs : List ℕ). AddsAmong test mappings (xs ++ next_of rest) answers answers_now) (sym fronts)
+              (adds_both test translates finds opts mappings addrs (addr ∷ []) ((addrs ++ addr ∷ []) ++ next_of rest) answers answers_mid answers_now
+              (λ x there. Contains-append_left (addrs ++ addr ∷ []) (next_of rest) x (Contains-append_left addrs (addr ∷ []) x there))
+              (λ x there. Contains-append_left (addrs ++ addr ∷ []) (next_of rest) x (Contains-append_right addrs (addr ∷ []) x there)) front.adds adds);
+          step = step_fails files asked mappings front.front (addr, one.said) ((front.front ++ (addr, one.said) ∷ []) ++ map unsaid (next_of rest)) given result errors.OutOfMemory old mid now before middle after
+              (few_after files asked mappings front.front (addr, one.said) (next_of rest) old) front.step one.step tt looked;
+        }
 
     -- memory ran out before any address was asked
     pub none_asked : (addrs : List ℕ) (kept : ProcessCaches) (answers : Answers R) (at : X) → All addrs (Err errors.OutOfMemory) kept kept answers answers at at
-    none_asked addrs kept answers at =
-        record { front = []; rest = addrs; addrs_are = refl; all = tt; allowed = tt; some = tt; step = wants_memory files asked.own read (at_addresses asked mappings (map unsaid addrs)) kept at }
+    none_asked addrs kept answers at = record {
+      front = [];
+      rest = addrs;
+      addrs_are = refl;
+      all = tt;
+      allowed = λ n a k. k;
+      some = record { failure = tt; answers = []; middle = kept; some = (refl, refl); told = λ world seen. refl; ends = inl (record { memory = refl; unchanged = refl }) };
+      adds = λ n a k. inl k;
+      step = wants_memory files asked.own read (at_addresses asked mappings (map unsaid (next_of addrs))) kept at;
+    }

@@ -25,6 +25,7 @@ use Rattle.bz_process.specs.Processes.{KeptProcesses, SymbolizesAddress, Symboli
 use Rattle.bz_process.specs.Reads.{HasPath, HavePaths, ignored, is_ignored, left_to_read, perf_path, reads_again, reads_once}
 use Rattle.bz_process.specs.Remembered.{Remembered}
 use Rattle.bz_process.proofs.EntryLemmas.{mappings_left}
+use Rattle.bz_process.proofs.NobodyLemmas.{step_of_all}
 use Rattle.bz_process.proofs.ProcessLemmas.{reaches_same}
 use Rattle.bz_process.proofs.ReadsLemmas.{address_reads, batch_reads, count_le}
 
@@ -124,7 +125,8 @@ module _ {A D R X : Type 0} (files : Ghosts X) (test : Test R) (translates : Tra
           let items : List (ℕ × Said) = asks.front ++ map_of unsaid asks.rest in
           let same : map_of addr_of items ≡ addrs = item_addrs asks.front asks.rest ∙ asks.addrs_are in
           let mapped = some_mappings asked.pid (kept_mappings old asked.pid) world (caches_of elf old) in
-          let outcome = asks.step.told world seen in
+          let step = step_of_all files reading asked (kept_mappings old asked.pid) asks.front asks.rest result (caches_of elf old) (caches_of elf_now now) before after asks.all asks.step in
+          let outcome = step.told world seen in
           let refused = told_refused asked world paths (caches_of elf old) addrs items same mapped.answer mapped.left mapped.opens in
           omega (
             arith,

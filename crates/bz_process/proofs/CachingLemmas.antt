@@ -1,23 +1,32 @@
 -- How the steps of caching a process follow one another, each taken whole or not at all.
-use Rattle.std.proofs.Common.{◌≡◌, ◌⊎◌, ℕ, ◌+◌, ◌≤◌, true, false, List, [], ◌∷◌, ◌++◌, map, Option, Some, Result, Ok, Err, OnOk, OnErr, inl, inr, refl, sym, ap, subst, ◌∙◌, arith}
+use Rattle.std.proofs.Common.{◌≡◌, ◌⊎◌, ℕ, ◌+◌, ◌≤◌, true, false, List, [], ◌∷◌, ◌++◌, map, Option, Some, None, IsSome, Result, Ok, Err, OnOk, OnErr, IfErr, inl, inr, refl, sym, ap, subst, ◌∙◌, arith}
 use Rattle.std.specs.List.{AllByRecursion}
 use Rattle.std.proofs.lemmas.Bool.{false≢true}
 use Rattle.bz_base.specs.declared.error.Error.{Error}
 use Rattle.bz_base.specs.declared.error.Error.TheVariants as errors
+use Rattle.bz_base.specs.declared.pid.Pid.{Pid}
 use Rattle.bz_files.specs.Looked.{Looked}
-use Rattle.bz_files.specs.World.{World, Entry, in_view, entry_at}
+use Rattle.bz_files.specs.World.{World, Entry, Told, in_view, entry_at}
 use Rattle.bz_files.specs.declared.files.Files.{Ghosts}
+use Rattle.bz_files.specs.declared.stamp.Stamp.{Stamp}
 use Rattle.bz_cache.specs.Cache.{Cache, with_pin}
-use Rattle.bz_cache.specs.Format.{FailsAs}
-use Rattle.bz_cache.specs.Look.{look, will_open}
+use Rattle.bz_cache.specs.Format.{Comes, FailsAs, MayFail}
+use Rattle.bz_cache.specs.InsertMap.{value_at, with_absent}
+use Rattle.bz_cache.specs.Look.{by_fixed, look, will_open}
+use Rattle.bz_cache.specs.View.{fixed}
 use Rattle.bz_cache.proofs.Pinning.{consistent_pinned}
-use Rattle.bz_cache.specs.Pinning.{PinsFile, pinned_by, pinning}
+use Rattle.bz_cache.specs.Pinning.{IsLeft, PinsFile, pinned_by, pinning}
 use Rattle.bz_proc.specs.PerfMap as perf
+use Rattle.bz_proc.specs.PerfLine.{PerfFunction}
+use Rattle.bz_proc.specs.PerfLines.{perf_functions_in}
+use Rattle.bz_proc.specs.SystemText.{IsReadRefusal}
 use Rattle.bz_process.specs.Caches.{ProcessCaches}
 use Rattle.bz_process.specs.Caching.{is_gone, perf_map_pinning, pins_perf_map, unless_gone}
-use Rattle.bz_process.specs.CachingCall.{CachingChange, Called, PinPerfMap, CachingReaches, HasWhole, IsCachedTold, TakesWhole, after_caching, cached_so}
-use Rattle.bz_process.specs.Process.{Outcome, Step, and_then, followed, gives}
+use Rattle.bz_process.specs.CachingCall.{CachingChange, Called, PinPerfMap, CachingReaches, HasWhole, IsCachedTold, PinsKnown, TakesWhole, after_caching, cached_so}
+use Rattle.bz_process.specs.Process.{Outcome, Step, and_then, followed, gives, pid_cmp}
 use Rattle.bz_process.specs.ProcessCall.{Change, LookPerfMap, IsTold, Reaches, TakesStep, after_changes, changed}
+use Rattle.bz_process.specs.Remembered.{Remembered}
+use Rattle.bz_process.specs.Untold.{IsKnown, MayLackId}
 use Rattle.bz_process.proofs.ProcessLemmas.{looked_both, opened_by, refused, stays, stays_both, unlooked}
 
 -- changes one after another
@@ -231,3 +240,69 @@ module _ {X : Type 0} (files : Ghosts X) (own : ℕ) where
       perf_maps = stays perf.format_test kept.perf_maps;
       looked = did.looked;
     })
+
+-- reading perf maps is refused as reading is
+told_refused : (told : Option (List PerfFunction)) (e : Error) → perf.unless_told told ≡ Some e → IsReadRefusal e
+told_refused None e is = let same : errors.InvalidData ≡ e = cc is in subst IsReadRefusal same tt
+told_refused (Some functions) e is = absurd (cc is)
+
+fails_reading : (e : Error) → MayFail perf.format_test e → IsReadRefusal e
+fails_reading errors.NotFound may = tt
+fails_reading errors.PermissionDenied may = tt
+fails_reading errors.ReadFault may = tt
+fails_reading errors.OutOfMemory may = tt
+fails_reading e may = told_refused (perf_functions_in may.0) e may.1
+
+pub reads_refused : (result : Result (Unit {0}) Error) → IfErr result (MayFail perf.format_test) → IfErr result IsReadRefusal
+reads_refused (Ok tt) may = tt
+reads_refused (Err e) may = fails_reading e may
+
+-- and so is remembering a process
+pub lacks_read : (kept : Option Remembered) (e : Error) → MayLackId kept e → IsReadRefusal e
+lacks_read kept errors.OutOfMemory may = tt
+lacks_read (Some known) _ may = absurd may
+lacks_read None _ may = may
+
+module _ {X : Type 0} (files : Ghosts X) (path : List ℕ) (cache mid : Cache) (before after : X) where
+  abbrev Pins_file : Result (Unit {0}) Error → Type 0
+  Pins_file pinned = PinsFile files perf.format_test path pinned cache mid before after
+
+  abbrev Is_left : Option World → Cache → Type 0
+  Is_left view now = IsLeft (perf_map_pinning cache path) path view now
+
+  -- where nothing is there, a path that isn't fixed is refused as absent
+  absent : (current : Option Stamp) → (IsSome current → ⊥) → (pinned_by cache path (by_fixed perf.format_test (with_pin false cache path) path None current)).0 ≡ Err errors.NotFound
+  absent None none = refl
+  absent (Some stamp) none = absurd (none refl)
+
+  as_held : (view : Option World) → Told view (λ world. Comes (λ (done : Unit {0}). done) (pinning perf.format_test cache path (entry_at world path)).0 (Err errors.NotFound)) →
+      (IsSome (fixed (with_pin false cache path) path) → ⊥) → Is_left view (with_pin true cache path)
+  as_held None told free = record { there = None; told = λ world seen. absurd (cc seen); leaves = gone_pinned cache path (pinning perf.format_test cache path None) (absent (fixed (with_pin false cache path) path) free) }
+  as_held (Some here) told free = record {
+    there = entry_at here path;
+    told = λ world seen. let same : here ≡ world = cc seen in ap (λ (w : World). entry_at w path) same;
+    leaves = gone_pinned cache path (pinning perf.format_test cache path (entry_at here path)) (told here refl);
+  }
+
+  -- whatever is told, a perf map that is absent is pinned as it is held
+  pub left_gone : (pinned : Result (Unit {0}) Error) → is_gone pinned ≡ true → Pins_file pinned → Is_left (in_view (files.worlds before)) (with_pin true mid path)
+  left_gone (Ok tt) is did = absurd (false≢true is)
+  left_gone (Err errors.NotFound) is did = rw did.err (as_held (in_view (files.worlds before)) did.answer (λ held. false≢true ((did.sure held).0)))
+  left_gone (Err _) is did = absurd (false≢true is)
+
+  -- any other at the version of a look
+  pub left_stays : (pinned : Result (Unit {0}) Error) → Pins_file pinned → OnOk pinned (Is_left (in_view (files.worlds before)) mid)
+  left_stays (Ok tt) did = record { there = did.left.there; told = did.left.told; leaves = ap (unless_gone cache path) did.left.leaves }
+  left_stays (Err e) did = tt
+
+-- the perf map is pinned by what is remembered
+pub pins_known : (pid : Pid) (own : ℕ) (view seen : Option World) (known : Remembered) (old mid : ProcessCaches) (now : Cache) → IsKnown pid own (value_at pid_cmp old.ids pid) known →
+    mid ≡ record old { ids = with_absent pid_cmp old.ids pid known } → seen ≡ view → IsLeft (perf_map_pinning mid.perf_maps known.perf_map) known.perf_map seen now →
+    PinsKnown pid own view old (record mid { perf_maps = now })
+pins_known pid own view seen known old mid now is_known mid_is same left = record {
+  known = known;
+  is_known = is_known;
+  pinned = subst (λ (v : Option World). IsLeft (perf_map_pinning old.perf_maps known.perf_map) known.perf_map v now) same
+      (subst (λ (k : ProcessCaches). IsLeft (perf_map_pinning k.perf_maps known.perf_map) known.perf_map seen now) mid_is left);
+  rest = ap (λ (k : ProcessCaches). record k { perf_maps = now }) mid_is;
+}

@@ -1,5 +1,5 @@
 -- All that caching and forgetting processes promise, from what their parts do; and what is kept stays well kept.
-use Rattle.std.proofs.Common.{◌≡◌, ℕ, true, List, Option, Some, None, Result, Ok, Err, OnOk, OnErr, ap, ◌∙◌}
+use Rattle.std.proofs.Common.{◌≡◌, ℕ, true, false, List, Option, Some, None, Result, Ok, Err, OnOk, OnErr, IfErr, IsOk, ap, ◌∙◌}
 use Rattle.bz_base.specs.declared.error.Error.{Error}
 use Rattle.bz_base.specs.declared.pid.Pid.{Pid}
 use Rattle.bz_files.specs.World.{Told, in_view}
@@ -10,9 +10,10 @@ use Rattle.bz_cache.proofs.Evicting.{consistent_evicted}
 use Rattle.bz_proc.specs.Maps.{Mapping}
 use Rattle.bz_proc.specs.MapsFile.{AreOfText}
 use Rattle.bz_proc.specs.PerfMap as perf
+use Rattle.bz_proc.specs.SystemText.{IsReadRefusal}
 use Rattle.bz_process.specs.Caches.{ProcessCaches}
 use Rattle.bz_process.specs.Caching.{Caching, KeptMappings, caches_process, mappings_after, with_mappings}
-use Rattle.bz_process.specs.CachingCall.{CachesProcess, MayKeep, TakesWhole}
+use Rattle.bz_process.specs.CachingCall.{CachesProcess, MayKeep, MayPin, TakesWhole}
 use Rattle.bz_process.specs.Dispatch.{Answers, Test}
 use Rattle.bz_process.specs.Forgetting.{without_path, without_perf_map, without_process}
 use Rattle.bz_process.specs.Process.{pid_cmp}
@@ -63,12 +64,17 @@ module _ {D R X : Type 0} (files : Ghosts X) (asked : Caching) (result : Result 
       ∙ ap (λ (x : Answers R). record old { answers = x }) answers
 
   pub caching_promised : Step → Told (in_view (files.worlds before)) (λ world. OnOk result (now.mappings ≡ mappings_after asked world old.mappings)) → OnOk result (MayKeep asked old.mappings now.mappings) →
-      OnErr result (now.mappings ≡ old.mappings) → now.dispatcher ≡ old.dispatcher → now.answers ≡ old.answers → Consistent perf.format_test old.perf_maps → CachesProcess files asked result old now before after
-  caching_promised step mappings some err dispatcher answers found = record {
+      ((elf : Cache) → OnOk result (MayPin asked.perf_map asked.pid asked.own (in_view (files.worlds before)) (caches_of elf old) (caches_of elf now))) →
+      OnErr result (now.mappings ≡ old.mappings) → IfErr result IsReadRefusal → (asked.vmas ≡ false → asked.perf_map ≡ false → IsOk result) →
+      now.dispatcher ≡ old.dispatcher → now.answers ≡ old.answers → Consistent perf.format_test old.perf_maps → CachesProcess files asked result old now before after
+  caching_promised step mappings some pinned err refusal sure dispatcher answers found = record {
     step = step;
     mappings = mappings;
     some = some;
+    pinned = pinned;
     err = unchanged result (new_cache true) (step (new_cache true)).err err dispatcher answers;
+    refusal = refusal;
+    sure = sure;
     dispatcher = dispatcher;
     answers = answers;
     found = found;

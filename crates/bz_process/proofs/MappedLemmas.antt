@@ -8,7 +8,7 @@ use Rattle.bz_base.specs.declared.resolve.TranslateFileOffset.{Ghosts as Transla
 use Rattle.bz_base.specs.declared.types.FindSymOpts.{FindSymOpts}
 use Rattle.bz_base.specs.declared.types.Symbolized.{Symbolized}
 use Rattle.bz_files.specs.Looked.{Faulted, Looked, ReadsOne}
-use Rattle.bz_files.specs.World.{Entry, Told, in_view, entry_at}
+use Rattle.bz_files.specs.World.{Entry, World, Told, in_view, entry_at}
 use Rattle.bz_files.specs.declared.files.Files.{Ghosts}
 use Rattle.bz_cache.specs.Format.{Comes, FailsAs}
 use Rattle.bz_elf.specs.Format as elf
@@ -19,11 +19,11 @@ use Rattle.bz_base.specs.declared.pid.Pid.{Pid}
 use Rattle.bz_process.specs.Dispatch.{Answers, Keeps, Test}
 use Rattle.bz_process.specs.Mapped.{AreFrom, AreUsed, AsksProcess, AsksProcessAt, LacksMappings, checked, if_some, mappings_of, of_text, some_mappings}
 use Rattle.bz_process.specs.Process.{at_address, at_addresses, gives, unsaid}
-use Rattle.bz_process.specs.ProcessAsk.{AddsAmong, AsksAll, AsksOne, IsSaidAt}
+use Rattle.bz_process.specs.ProcessAsk.{AddsAmong, AsksAll, AsksOne, IsSaidAt, next_of}
 use Rattle.bz_process.specs.ProcessCall.{TakesStep, UnlessFailed}
 use Rattle.bz_process.specs.Asked.{Asked}
 use Rattle.bz_process.specs.Caches.{ProcessCaches}
-use Rattle.bz_process.specs.Untold.{SomeAtAddress, as_read}
+use Rattle.bz_process.specs.Untold.{SomeAtAddress, SomeBatch, as_read}
 use Rattle.bz_process.proofs.AskLemmas.{read, unless}
 use Rattle.bz_process.proofs.ProcessLemmas.{in_order, opened_by, reaches_same, refused, stays, still, unlooked, wants_memory}
 
@@ -128,11 +128,11 @@ module _ {R X : Type 0} (files : Ghosts X) (test : Test R) (translates : Transla
   pub asks_mapped : (mappings : List Mapping) (result : Result (Vec Symbolized Global) Error) (old now : ProcessCaches) (answers answers_now : Answers R) (before middle after : X) →
       TakesStep files asked.own (λ (k : List Mapping). k) (some_mappings asked.pid known) (Ok mappings) old old before middle → AreUsed asked.pid known mappings →
       AsksAll files read test translates finds opts asked mappings addrs result old now answers answers_now middle after →
-      Keeps answers answers_now → AddsAmong test mappings addrs answers answers_now → Asks result old now answers answers_now before after
-  asks_mapped mappings result old now answers answers_now before middle after one used all keeps adds = record {
+      Keeps answers answers_now → Asks result old now answers answers_now before after
+  asks_mapped mappings result old now answers answers_now before middle after one used all keeps = record {
     mappings = mappings;
     mapped = λ world seen. on_ok result _ (one.told world seen).answer;
-    used = inl (used, all.some);
+    used = inl (used, subst (λ (view : Option World). SomeBatch view read asked mappings all.front all.rest result old now) (ap in_view one.looked.worlds) all.some);
     tied = λ world seen. inl (one.told world seen).answer;
     front = all.front;
     rest = all.rest;
@@ -140,8 +140,8 @@ module _ {R X : Type 0} (files : Ghosts X) (test : Test R) (translates : Transla
     all = all.all;
     allowed = all.allowed;
     keeps = keeps;
-    adds = adds;
-    step = in_order files asked.own (λ (k : List Mapping). k) read (some_mappings asked.pid known) (λ maps. at_addresses asked maps (all.front ++ map unsaid all.rest)) mappings result old old now before middle after one all.step;
+    adds = all.adds;
+    step = in_order files asked.own (λ (k : List Mapping). k) read (some_mappings asked.pid known) (λ maps. at_addresses asked maps (all.front ++ map unsaid (next_of all.rest))) mappings result old old now before middle after one all.step;
   }
 
   -- the mappings are refused
@@ -151,15 +151,15 @@ module _ {R X : Type 0} (files : Ghosts X) (test : Test R) (translates : Transla
     mappings = [];
     mapped = λ world seen. tt;
     used = inr (record { refused = refl; refusal = lacks; unchanged = refl; unsaid = refl });
-    tied = λ world seen. inr refl;
+    tied = λ world seen. inr (refl, refl);
     front = [];
     rest = addrs;
     addrs_are = refl;
     all = tt;
-    allowed = tt;
+    allowed = λ n a kept. kept;
     keeps = λ n a kept. kept;
     adds = λ n a kept. inl kept;
-    step = refused files asked.own (λ (k : List Mapping). k) read (some_mappings asked.pid known) (λ maps. at_addresses asked maps (map unsaid addrs)) e old old before after one;
+    step = refused files asked.own (λ (k : List Mapping). k) read (some_mappings asked.pid known) (λ maps. at_addresses asked maps (map unsaid (next_of addrs))) e old old before after one;
   }
 
 module _ {R X : Type 0} (files : Ghosts X) (test : Test R) (translates : Translates R) (finds : Finds R) (opts : FindSymOpts) (asked : Asked) (known : Option (List Mapping)) (addr : ℕ) where
@@ -178,6 +178,7 @@ module _ {R X : Type 0} (files : Ghosts X) (test : Test R) (translates : Transla
     tied = λ world seen. inl (one.told world seen).answer;
     said = asks.said;
     allowed = asks.allowed;
+    faultless = asks.faultless;
     keeps = keeps;
     adds = adds;
     step = in_order files asked.own (λ (k : List Mapping). k) reading (some_mappings asked.pid known) (λ maps. at_address asked maps (addr, asks.said)) mappings result old old now before middle after one asks.step;
@@ -195,9 +196,10 @@ module _ {R X : Type 0} (files : Ghosts X) (test : Test R) (translates : Transla
     mappings = [];
     mapped = λ world seen. unread _ e (one.told world seen).answer;
     used = inr (record { refused = refl; refusal = lacks; unchanged = refl; unsaid = refl });
-    tied = λ world seen. inr refl;
+    tied = λ world seen. inr (refl, refl);
     said = None;
     allowed = unless {A = Symbolized} (Err e) _ refl;
+    faultless = tt;
     keeps = λ n a kept. kept;
     adds = λ n a kept. inl kept;
     step = refused files asked.own (λ (k : List Mapping). k) reading (some_mappings asked.pid known) (λ maps. at_address asked maps (addr, None)) e old old before after one;

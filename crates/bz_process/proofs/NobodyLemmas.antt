@@ -1,6 +1,5 @@
 -- A dispatcher that never gives a resolver: nothing is said for any address, so the steps are those of the definitions alone.
-use Rattle.std.proofs.Common.{◌≡◌, ◌⊎◌, ◌≤◌, ℕ, arith, List, [], ◌∷◌, ◌++◌, map, Option, Some, None, Result, Ok, Err, inl, inr, refl, sym, ap, ap₂, subst, ◌∙◌}
-use Rattle.std.specs.List.{AllByRecursion}
+use Rattle.std.proofs.Common.{◌≡◌, ◌⊎◌, ◌≤◌, ℕ, arith, List, [], ◌∷◌, ◌++◌, map, Option, Some, None, Result, Ok, Err, OnOk, inl, inr, refl, sym, ap, ap₂, subst, ◌∙◌}
 use Rattle.std.proofs.lemmas.List.{map-append}
 use Rattle.bz_base.specs.Answer.{Answer, reading}
 use Rattle.bz_base.specs.Refusals.{IsFailure}
@@ -12,16 +11,18 @@ use Rattle.bz_base.specs.declared.types.FindSymOpts.{FindSymOpts}
 use Rattle.bz_base.specs.declared.types.Symbolized.{Symbolized}
 use Rattle.bz_files.specs.World.{World}
 use Rattle.bz_files.specs.declared.files.Files.{Ghosts}
+use Rattle.bz_cache.specs.Format.{FailsAs}
 use Rattle.bz_proc.specs.Maps.{Mapping, Name, name_of, owner_of}
 use Rattle.bz_proc.specs.declared.maps.PathName.{PathName}
-use Rattle.bz_process.specs.Dispatch.{Answers, IsSaid, SaysKept, Test, kept_for}
+use Rattle.bz_process.specs.Dispatch.{Answers, IsSaid, Keeps, SaysKept, Test, kept_for}
 use Rattle.bz_process.specs.Mapped.{AsksProcess, AsksProcessAt, asks_process, asks_process_at, some_mappings}
 use Rattle.bz_process.specs.Member.{Member, as_member}
-use Rattle.bz_process.specs.Process.{Said, at_address, by_mapping, by_owner, by_said, followed, offset_in, unsaid}
-use Rattle.bz_process.specs.ProcessAsk.{AddsAmong, AreAllowed, GivesNone, IsAdded, IsSaidAt, IsSaidBy, IsSaidIn}
-use Rattle.bz_process.specs.ProcessCall.{TakesStep, UnlessFailed}
+use Rattle.bz_process.specs.Process.{Said, at_address, at_addresses, batched, by_mapping, by_owner, by_said, followed, offset_in, unsaid}
+use Rattle.bz_process.specs.ProcessAsk.{AddsAmong, AreAllowed, GivesNone, IsAdded, IsSaidAt, IsSaidBy, IsSaidIn, SaidInTurn, come_to, next_of}
+use Rattle.bz_process.specs.ProcessCall.{HasOutcome, TakesStep, UnlessFailed}
 use Rattle.bz_process.specs.Asked.{Asked}
 use Rattle.bz_process.specs.Caches.{ProcessCaches}
+use Rattle.bz_process.proofs.AskLemmas.{comes_failed, left_failed}
 
 -- kept answers stay allowed, as each that is added is
 pub allowed_after : {R : Type 0} (test : Test R) (mappings : List Mapping) (addrs : List ℕ) (old now : Answers R) → AreAllowed test old → AddsAmong test mappings addrs old now → AreAllowed test now
@@ -30,6 +31,44 @@ allowed_after {R} test mappings addrs old now allowed adds name answer kept = by
     by_added : (kept_for old name ≡ Some answer) ⊎ IsAdded test mappings addrs name answer → (member : Member) × test member (Ok answer)
     by_added (inl was) = allowed name answer was
     by_added (inr added) = (as_member added.mapping (name_of added.name), added.allowed)
+
+-- for fewer addresses no more files are read
+few_next : (asked : Asked) (mappings : List Mapping) (front : List (ℕ × Said)) (rest : List ℕ) (world : World) (kept : ProcessCaches) →
+    (batched asked mappings (front ++ map unsaid (next_of rest)) world kept).opens ≤ (batched asked mappings (front ++ map unsaid rest) world kept).opens
+few_next asked mappings [] [] world kept = omega arith
+few_next asked mappings [] (addr ∷ rest) world kept = omega arith
+few_next asked mappings (item ∷ front) rest world kept = omega (arith, few_next asked mappings front rest world (at_address asked mappings item world kept).left)
+
+-- where an answer is expected, only a failure comes in its place
+failed_of : {B : Type 0} (given : B) (e : Error) → FailsAs (Ok given) e → IsFailure e
+failed_of given errors.ReadFault fails = tt
+failed_of given errors.OutOfMemory fails = tt
+failed_of given _ fails = cc fails
+
+-- a batch that failed may be one of more addresses
+more_failed : {A : Type 0} (reading : A → List Answer) (asked : Asked) (front : List (ℕ × Said)) (rest : List ℕ) (e : Error) (told : Result (List Mapping) Error) (left : ProcessCaches) (opens : ℕ) (now : ProcessCaches) (world : World) (before after : ℕ) →
+    HasOutcome reading (followed told left opens (λ mappings l. at_addresses asked mappings (front ++ map unsaid (next_of rest)) world l)) (Err e) now before after →
+    HasOutcome reading (followed told left opens (λ mappings l. at_addresses asked mappings (front ++ map unsaid rest) world l)) (Err e) now before after
+more_failed {A} reading asked front rest e (Err refusal) left opens now world before after has = record { answer = has.answer; left = has.left; opened = has.opened }
+more_failed {A} reading asked front rest e (Ok mappings) left opens now world before after has =
+    let failure : IsFailure e = failed_of _ e has.answer in
+    record { answer = comes_failed reading _ e failure; left = left_failed A e _ failure; opened = omega (arith, has.opened, few_next asked mappings front rest world left) }
+
+-- a batch that came to some addresses is one of all
+pub step_of_all : {A X : Type 0} (files : Ghosts X) (reading : A → List Answer) (asked : Asked) (known : Option (List Mapping)) (front : List (ℕ × Said)) (rest : List ℕ) (result : Result A Error) (old now : ProcessCaches) (before after : X) →
+    OnOk result (rest ≡ []) → TakesStep files asked.own reading (asks_process asked known (front ++ map unsaid (next_of rest))) result old now before after →
+    TakesStep files asked.own reading (asks_process asked known (front ++ map unsaid rest)) result old now before after
+step_of_all files reading asked known front rest (Ok given) old now before after all step =
+    subst (λ (xs : List ℕ). TakesStep files asked.own reading (asks_process asked known (front ++ map unsaid xs)) (Ok given) old now before after) (ap next_of all ∙ sym all) step
+step_of_all files reading asked known front rest (Err e) old now before after all step = record {
+  told = λ world seen.
+      let mapped = some_mappings asked.pid known world old in
+      more_failed reading asked front rest e mapped.answer mapped.left mapped.opens now world _ _ (step.told world seen);
+  reached = step.reached;
+  elf = step.elf;
+  perf_maps = step.perf_maps;
+  looked = step.looked;
+}
 
 module _ {R : Type 0} (test : Test R) (translates : Translates R) (finds : Finds R) (opts : FindSymOpts) (none : GivesNone test) where
   none_kept : (offset : Option ℕ) (kept : Option (Option R)) (said : Said) → ((answer : Option R) → kept ≡ Some answer → (member : Member) × test member (Ok answer)) →
@@ -51,24 +90,31 @@ module _ {R : Type 0} (test : Test R) (translates : Translates R) (finds : Finds
   none_by None addr old now said allowed is = is
   none_by (Some mapping) addr old now said allowed is = none_in mapping mapping.name addr old now said allowed is
 
+  -- what is kept when an address is come to stays
+  stays_kept : (mappings : List Mapping) (old now : Answers R) (front : List (ℕ × Said)) → SaidInTurn test translates finds opts mappings front old now → Keeps old now
+  stays_kept mappings old now [] turn = turn
+  stays_kept mappings old now (item ∷ front) turn = λ name answer kept. stays_kept mappings turn.0 now front turn.3 name answer (turn.1 name answer kept)
+
   unsaid_all : (mappings : List Mapping) (old now : Answers R) (front : List (ℕ × Said)) → AreAllowed test now →
-      AllByRecursion (λ item. IsSaidAt test translates finds opts mappings item.0 old now item.1) front → front ≡ map unsaid (map (λ item. item.0) front)
-  unsaid_all mappings old now [] allowed all = refl
-  unsaid_all mappings old now (item ∷ front) allowed all =
+      SaidInTurn test translates finds opts mappings front old now → front ≡ map unsaid (map (λ item. item.0) front)
+  unsaid_all mappings old now [] allowed turn = refl
+  unsaid_all mappings old now (item ∷ front) allowed turn =
+      let allowed_then : AreAllowed test turn.0 = λ name answer kept. allowed name answer (stays_kept mappings turn.0 now front turn.3 name answer kept) in
       ap₂ (λ (first : ℕ × Said) (rest : List (ℕ × Said)). first ∷ rest)
-      (ap (λ (said : Said). (item.0, said)) (none_by (owner_of mappings item.0) item.0 old now item.1 allowed all.0)) (unsaid_all mappings old now front allowed all.1)
+      (ap (λ (said : Said). (item.0, said)) (none_by (owner_of mappings item.0) item.0 old turn.0 item.1 allowed_then turn.2)) (unsaid_all mappings turn.0 now front allowed turn.3)
 
   -- so a process is asked as the definitions say, with nobody in charge
   pub nobody_said : {A X : Type 0} (files : Ghosts X) (reading : A → List Answer) (asked : Asked) (known : Option (List Mapping)) (addrs : List ℕ) (result : Result A Error) (old now : ProcessCaches) (answers answers_now : Answers R) (before after : X) →
       AreAllowed test answers → AsksProcess files reading test translates finds opts asked known addrs result old now answers answers_now before after →
       TakesStep files asked.own reading (asks_process asked known (map unsaid addrs)) result old now before after
   nobody_said files reading asked known addrs result old now answers answers_now before after allowed asks =
-      let still : AreAllowed test answers_now = allowed_after test asks.mappings addrs answers answers_now allowed asks.adds in
+      let still : AreAllowed test answers_now = allowed_after test asks.mappings (come_to asks.front asks.rest) answers answers_now allowed asks.adds in
       let items : asks.front ++ map unsaid asks.rest ≡ map unsaid addrs =
       ap (λ (xs : List (ℕ × Said)). xs ++ map unsaid asks.rest) (unsaid_all asks.mappings answers answers_now asks.front still asks.allowed)
       ∙ sym (map-append unsaid (map (λ (item : ℕ × Said). item.0) asks.front) asks.rest)
       ∙ ap (map unsaid) asks.addrs_are in
-      subst (λ (xs : List (ℕ × Said)). TakesStep files asked.own reading (asks_process asked known xs) result old now before after) items asks.step
+      subst (λ (xs : List (ℕ × Said)). TakesStep files asked.own reading (asks_process asked known xs) result old now before after) items
+      (step_of_all files reading asked known asks.front asks.rest result old now before after asks.all asks.step)
 
 -- where nothing is said, no fewer files are read
 module _ (asked : Asked) (addr : ℕ) (said : Said) (world : World) (kept : ProcessCaches) where

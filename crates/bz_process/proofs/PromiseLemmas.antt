@@ -12,6 +12,7 @@ use Rattle.bz_cache.specs.Cache.{Cache}
 use Rattle.bz_process.specs.Asked.{Asked}
 use Rattle.bz_process.specs.Dispatch.{Test}
 use Rattle.bz_process.specs.Mapped.{AsksProcess, AsksProcessAt}
+use Rattle.bz_process.specs.ProcessAsk.{come_to}
 use Rattle.bz_process.specs.Processes.{AreWellKept, KeptProcesses, SymbolizesAddress, SymbolizesProcess, caches_of, is_in_process, kept_mappings}
 use Rattle.bz_process.proofs.AskLemmas.{read}
 use Rattle.bz_process.proofs.NobodyLemmas.{allowed_after, nobody_said, nobody_said_at}
@@ -36,7 +37,7 @@ module _ {D R X : Type 0} (files : Ghosts X) (test : Test R) (translates : Trans
     pub stays_well : AreWellKept test old → Asks → AreWellKept test now
     stays_well well asks = record {
       perf_maps = asks.step.perf_maps.consistent well.perf_maps;
-      answers = allowed_after test asks.mappings addrs old.answers now.answers well.answers asks.adds;
+      answers = allowed_after test asks.mappings (come_to asks.front asks.rest) old.answers now.answers well.answers asks.adds;
     }
 
   -- the same of an address alone

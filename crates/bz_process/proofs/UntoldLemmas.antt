@@ -16,7 +16,7 @@ use Rattle.bz_process.specs.Caches.{ProcessCaches}
 use Rattle.bz_process.specs.Process.{Said, asks_perf_map, or_unknown, pid_cmp}
 use Rattle.bz_process.specs.ProcessCall.{softened}
 use Rattle.bz_process.specs.Remembered.{Remembered}
-use Rattle.bz_process.specs.Untold.{IsKnown, LooksAtPerfMap, MayLackId, SomeAtAddress, SomeAtAddresses, as_read}
+use Rattle.bz_process.specs.Untold.{IsKnown, LooksAtPerfMap, MayLackId, SomeAtAddress, SomeAtAddresses, Unfailing, as_read}
 
 module _ {A B : Type 0} (read : A → B) where
   -- a result gives what it is as plain data
@@ -88,8 +88,8 @@ status_lacks (Err e) refusal = lacks e refusal
 
 -- one more address
 pub some_last : (asked : Asked) (mappings : List Mapping) (front : List (ℕ × Said)) (item : ℕ × Said) (answers : List Answer) (given : Result Answer Error) (old mid now : ProcessCaches) →
-    SomeAtAddresses asked mappings front answers old mid → SomeAtAddress asked given mid now mappings item → SomeAtAddresses asked mappings (front ++ item ∷ []) (answers ++ in_batch given ∷ []) old now
-some_last asked mappings [] item answers given old mid now is one =
-    (given, now, [], ap (λ (xs : List Answer). xs ++ in_batch given ∷ []) is.0, subst (λ (k : ProcessCaches). SomeAtAddress asked given k now mappings item) is.1 one, (refl, refl))
-some_last asked mappings (first ∷ front) item answers given old mid now is one =
-    (is.0, is.1, is.2 ++ in_batch given ∷ [], ap (λ (xs : List Answer). xs ++ in_batch given ∷ []) is.3, is.4, some_last asked mappings front item is.2 given is.1 mid now is.5 one)
+    SomeAtAddresses asked mappings front answers old mid → SomeAtAddress asked given mid now mappings item → Unfailing given → SomeAtAddresses asked mappings (front ++ item ∷ []) (answers ++ in_batch given ∷ []) old now
+some_last asked mappings [] item answers given old mid now is one unfailing =
+    (given, now, [], ap (λ (xs : List Answer). xs ++ in_batch given ∷ []) is.0, (subst (λ (k : ProcessCaches). SomeAtAddress asked given k now mappings item) is.1 one, unfailing), (refl, refl))
+some_last asked mappings (first ∷ front) item answers given old mid now is one unfailing =
+    (is.0, is.1, is.2 ++ in_batch given ∷ [], ap (λ (xs : List Answer). xs ++ in_batch given ∷ []) is.3, is.4, some_last asked mappings front item is.2 given is.1 mid now is.5 one unfailing)

@@ -1,20 +1,26 @@
 -- What caching a process does: all of what it is asked for, or nothing.
-use Rattle.std.specs.Prelude.{◌≡◌, ℕ, ◌+◌, ◌≤◌, Bool, true, cond, List, [], ◌∷◌, Option, Result, OnOk, OnErr}
+use Rattle.std.specs.Prelude.{◌≡◌, ℕ, ◌+◌, ◌≤◌, Bool, true, false, cond, List, [], ◌∷◌, Option, Result, OnOk, OnErr, IfErr, IsOk}
 use Rattle.std.specs.List.{AllByRecursion}
 use Rattle.bz_base.specs.declared.error.Error.{Error}
+use Rattle.bz_base.specs.declared.pid.Pid.{Pid}
 use Rattle.bz_files.specs.Looked.{Faulted, Looked}
 use Rattle.bz_files.specs.World.{World, Told, in_view}
 use Rattle.bz_files.specs.declared.files.Files.{Ghosts}
 use Rattle.bz_cache.specs.Cache.{Cache, Consistent, with_pin}
 use Rattle.bz_cache.specs.Format.{Comes}
+use Rattle.bz_cache.specs.InsertMap.{value_at, with_absent}
+use Rattle.bz_cache.specs.Pinning.{IsLeft}
 use Rattle.bz_proc.specs.Maps.{Mapping}
 use Rattle.bz_proc.specs.MapsFile.{AreOfText}
 use Rattle.bz_proc.specs.PerfMap as perf
+use Rattle.bz_proc.specs.SystemText.{IsReadRefusal}
 use Rattle.bz_process.specs.Caches.{ProcessCaches}
-use Rattle.bz_process.specs.Caching.{Caching, KeptMappings, caches_process, mappings_after, with_mappings}
-use Rattle.bz_process.specs.Process.{Outcome, Step}
+use Rattle.bz_process.specs.Caching.{Caching, KeptMappings, caches_process, mappings_after, perf_map_pinning, with_mappings}
+use Rattle.bz_process.specs.Process.{Outcome, Step, pid_cmp}
 use Rattle.bz_process.specs.ProcessCall.{Change, IsTold, StaysKept, changed}
 use Rattle.bz_process.specs.Processes.{KeptProcesses, caches_of}
+use Rattle.bz_process.specs.Remembered.{Remembered}
+use Rattle.bz_process.specs.Untold.{IsKnown}
 
 -- what caching may change: what a call may that answers, and whether the path of a perf map is pinned, if it is held
 pub data CachingChange : Type 0 where
@@ -63,6 +69,19 @@ pub record MayKeep (asked : Caching) (old now : KeptMappings) : Type 0 where
   pub some : asked.vmas ≡ true → AreOfText asked.pid mappings
   pub kept : now ≡ cond asked.vmas (with_mappings asked.pid old mappings) old
 
+-- the process is known, and is remembered; its perf map is pinned at the version of a look, or as it is held; nothing else has
+-- changed
+pub record PinsKnown (pid : Pid) (own : ℕ) (in_view : Option World) (old now : ProcessCaches) : Type 0 where
+  pub known : Remembered
+  pub is_known : IsKnown pid own (value_at pid_cmp old.ids pid) known
+  pub pinned : IsLeft (perf_map_pinning old.perf_maps known.perf_map) known.perf_map in_view now.perf_maps
+  pub rest : now ≡ record old { perf_maps = now.perf_maps; ids = with_absent pid_cmp old.ids pid known }
+
+-- where the perf map is asked for, that is so; else nothing has changed
+abbrev pub MayPin : Bool → Pid → ℕ → Option World → ProcessCaches → ProcessCaches → Type 0
+MayPin false pid own in_view old now = now ≡ old
+MayPin true pid own in_view old now = PinsKnown pid own in_view old now
+
 -- all that caching a process promises
 pub record CachesProcess {D R X : Type 0} (files : Ghosts X) (asked : Caching) (result : Result (Unit {0}) Error) (old now : KeptProcesses D R) (before after : X) : Type 0 where
   -- beside any ELF files: where it is told what lies at each path, it is answered or refused by that, and an answer leaves these
@@ -71,8 +90,13 @@ pub record CachesProcess {D R X : Type 0} (files : Ghosts X) (asked : Caching) (
   -- an answer leaves these mappings
   pub mappings : Told (in_view (files.worlds before)) (λ world. OnOk result (now.mappings ≡ mappings_after asked world old.mappings))
   pub some : OnOk result (MayKeep asked old.mappings now.mappings)
+  -- and, whatever is told, these perf maps and ids
+  pub pinned : (elf : Cache) → OnOk result (MayPin asked.perf_map asked.pid asked.own (in_view (files.worlds before)) (caches_of elf old) (caches_of elf now))
   -- a refusal, whichever it is, changes nothing
   pub err : OnErr result (now ≡ old)
+  pub refusal : IfErr result IsReadRefusal
+  -- a request that asks for nothing is answered
+  pub sure : asked.vmas ≡ false → asked.perf_map ≡ false → IsOk result
   -- nothing else changes
   pub dispatcher : now.dispatcher ≡ old.dispatcher
   pub answers : now.answers ≡ old.answers

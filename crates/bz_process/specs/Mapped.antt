@@ -1,6 +1,5 @@
 -- The mappings that a process is answered by: the kept ones, else those of the text that lies there.
-use Rattle.std.specs.Prelude.{◌≡◌, ◌⊎◌, ℕ, List, [], ◌∷◌, ◌++◌, map, Option, Some, None, Result, Ok, Err, IfErr, IfOk, IsErr, OnOk}
-use Rattle.std.specs.List.{AllByRecursion}
+use Rattle.std.specs.Prelude.{◌≡◌, ◌⊎◌, ℕ, List, [], ◌∷◌, ◌++◌, map, Option, Some, None, Result, Ok, Err, IfErr, IsErr, OnOk}
 use Rattle.bz_base.specs.Answer.{Answer}
 use Rattle.bz_base.specs.declared.error.Error.{Error}
 use Rattle.bz_base.specs.declared.error.Error.TheVariants as errors
@@ -15,11 +14,11 @@ use Rattle.bz_proc.specs.SystemText.{IsReadRefusal, has_file}
 use Rattle.bz_base.specs.declared.pid.Pid.{Pid}
 use Rattle.bz_process.specs.Dispatch.{Answers, Keeps, Test}
 use Rattle.bz_process.specs.Process.{Said, Step, and_then, at_address, at_addresses, count_of, gives, unsaid}
-use Rattle.bz_process.specs.ProcessAsk.{AddsAmong, IsSaidAt}
+use Rattle.bz_process.specs.ProcessAsk.{AddsAmong, IsSaidAt, SaidInTurn, come_to, next_of}
 use Rattle.bz_process.specs.ProcessCall.{TakesStep, UnlessFailed}
 use Rattle.bz_process.specs.Asked.{Asked}
 use Rattle.bz_process.specs.Caches.{ProcessCaches}
-use Rattle.bz_process.specs.Untold.{SomeAtAddress, SomeAtAddresses, as_read}
+use Rattle.bz_process.specs.Untold.{SaysNoFault, SomeAtAddress, SomeBatch, as_read}
 
 -- what a text at a path tells
 abbrev pub of_text : {B : Type 0} → (Option Entry → Result B Error) → List ℕ → Step B
@@ -82,20 +81,20 @@ pub record AsksProcess {A R X : Type 0} (files : Ghosts X) (reading : A → List
     (asked : Asked) (kept : Option (List Mapping)) (addrs : List ℕ) (result : Result A Error) (old now : ProcessCaches) (answers answers_now : Answers R) (before after : X) : Type 0 where
   pub mappings : List Mapping
   pub mapped : Told (in_view (files.worlds before)) (λ world. OnOk result ((some_mappings asked.pid kept world old).answer ≡ Ok mappings))
-  -- also after a refusal or a failure, unless no answer was added
-  pub tied : Told (in_view (files.worlds before)) (λ world. ((some_mappings asked.pid kept world old).answer ≡ Ok mappings) ⊎ (answers_now ≡ answers))
+  -- also after a refusal or a failure, unless nothing has changed
+  pub tied : Told (in_view (files.worlds before)) (λ world. ((some_mappings asked.pid kept world old).answer ≡ Ok mappings) ⊎ ((now ≡ old) × (answers_now ≡ answers)))
   pub front : List (ℕ × Said)
   pub rest : List ℕ
   pub addrs_are : map (λ item. item.0) front ++ rest ≡ addrs
   pub all : OnOk result (rest ≡ [])
-  pub allowed : AllByRecursion (λ item. IsSaidAt test translates finds opts mappings item.0 answers answers_now item.1) front
+  pub allowed : SaidInTurn test translates finds opts mappings front answers answers_now
   -- whatever is told, the mappings are the kept ones, or else those of some text, and each answer is by some version that a look
-  -- gave, or refused as a look is
-  pub used : UsesMappings (IfOk result (λ given. SomeAtAddresses asked mappings front (reading given) old now)) asked.pid kept mappings result old now answers answers_now
-  -- kept answers stay, and others are added for owners of these addresses alone
+  -- gave, or refused as a look is; a failure ends the batch, and no address after it is asked
+  pub used : UsesMappings (SomeBatch (in_view (files.worlds before)) reading asked mappings front rest result old now) asked.pid kept mappings result old now answers answers_now
+  -- kept answers stay, and others are added for owners of the addresses alone that were come to
   pub keeps : Keeps answers answers_now
-  pub adds : AddsAmong test mappings addrs answers answers_now
-  pub step : TakesStep files asked.own reading (asks_process asked kept (front ++ map unsaid rest)) result old now before after
+  pub adds : AddsAmong test mappings (come_to front rest) answers answers_now
+  pub step : TakesStep files asked.own reading (asks_process asked kept (front ++ map unsaid (next_of rest))) result old now before after
 
 -- all that is asked of a process for an address alone
 abbrev pub asks_process_at : Asked → Option (List Mapping) → ℕ × Said → Step Answer
@@ -106,10 +105,11 @@ pub record AsksProcessAt {A R X : Type 0} (files : Ghosts X) (reading : A → An
     (asked : Asked) (kept : Option (List Mapping)) (addr : ℕ) (result : Result A Error) (old now : ProcessCaches) (answers answers_now : Answers R) (before after : X) : Type 0 where
   pub mappings : List Mapping
   pub mapped : Told (in_view (files.worlds before)) (λ world. UnlessFailed result ((told : List Mapping) → (some_mappings asked.pid kept world old).answer ≡ Ok told → told ≡ mappings))
-  -- also after a refusal or a failure, unless no answer was added
-  pub tied : Told (in_view (files.worlds before)) (λ world. ((some_mappings asked.pid kept world old).answer ≡ Ok mappings) ⊎ (answers_now ≡ answers))
+  -- also after a refusal or a failure, unless nothing has changed
+  pub tied : Told (in_view (files.worlds before)) (λ world. ((some_mappings asked.pid kept world old).answer ≡ Ok mappings) ⊎ ((now ≡ old) × (answers_now ≡ answers)))
   pub said : Said
   pub allowed : UnlessFailed result (IsSaidAt test translates finds opts mappings addr answers answers_now said)
+  pub faultless : SaysNoFault said
   -- whatever is told, the mappings are the kept ones, or else those of some text, and the answer is by some version that a look
   -- gave, or refused as a look is
   pub used : UsesMappings (SomeAtAddress asked (as_read reading result) old now mappings (addr, said)) asked.pid kept mappings result old now answers answers_now

@@ -14,7 +14,7 @@ pub record Member : Type 0 where
 abbrev pub member_of : ProcessMemberInfo → Member
 member_of info = record { start = info.range.start; past = info.range.«end»; name = name_of info.member_entry.now }
 
--- a mapping of this as a member
+-- a mapping with this name, as a member
 abbrev pub as_member : Mapping → Name → Member
 as_member mapping name = record { start = mapping.start; past = mapping.past; name = name }
 

@@ -125,7 +125,7 @@ abbrev pub by_asked : Bool → Asked → ℕ → Step Answer
 by_asked true asked addr = by_perf_map asked.pid asked.own addr
 by_asked false asked addr = gives (Unknown reasons.UnknownAddr)
 
--- an address of a mapping of this, where no resolver is in charge
+-- an address of a mapping with this name, where no resolver is in charge
 abbrev pub by_name : Asked → Mapping → ℕ → Name → Step Answer
 by_name asked mapping addr (Component text) = gives (Unknown reasons.Unsupported)
 by_name asked mapping addr (File maps_file symbolic_path) = of_elf (asks_elf symbolic_path (offset_in mapping addr)) (cond asked.map_files maps_file symbolic_path)

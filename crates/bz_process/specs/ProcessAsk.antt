@@ -1,23 +1,24 @@
 -- What a call asks of a process with a dispatcher: what was said for each address, and what the steps are then.
-use Rattle.std.specs.Prelude.{◌≡◌, ◌⊎◌, ℕ, true, List, [], ◌++◌, map, Option, Some, None, Result, Ok, IfOk, OnOk, Contains}
+use Rattle.std.specs.Prelude.{◌≡◌, ◌⊎◌, ℕ, true, List, [], ◌∷◌, ◌++◌, map, Option, Some, None, Result, Ok, OnOk, Contains}
 use Rattle.std.specs.BTreeMap.{is_at}
-use Rattle.std.specs.List.{AllByRecursion}
-use Rattle.bz_base.specs.Answer.{Answer}
+use Rattle.bz_base.specs.Answer.{Answer, reading}
 use Rattle.bz_base.specs.declared.error.Error.{Error}
 use Rattle.bz_base.specs.declared.resolve.Symbolize.{Ghosts as Finds}
 use Rattle.bz_base.specs.declared.resolve.TranslateFileOffset.{Ghosts as Translates}
 use Rattle.bz_base.specs.declared.types.FindSymOpts.{FindSymOpts}
+use Rattle.bz_base.specs.declared.types.Symbolized.{Symbolized}
+use Rattle.bz_files.specs.World.{in_view}
 use Rattle.bz_files.specs.declared.files.Files.{Ghosts}
 use Rattle.bz_proc.specs.Maps.{Mapping, Name, name_of, owner_of}
 use Rattle.bz_proc.specs.NameOrder.{name_order}
 use Rattle.bz_proc.specs.declared.maps.PathName.{PathName}
 use Rattle.bz_process.specs.Dispatch.{Answers, IsSaid, Keeps, Test, kept_for}
 use Rattle.bz_process.specs.Member.{Member, as_member}
-use Rattle.bz_process.specs.Process.{Said, Step, at_addresses, unsaid}
+use Rattle.bz_process.specs.Process.{Said, Step, at_address, at_addresses, by_mapping, by_said, unsaid}
 use Rattle.bz_process.specs.ProcessCall.{TakesStep, UnlessFailed}
 use Rattle.bz_process.specs.Asked.{Asked}
 use Rattle.bz_process.specs.Caches.{ProcessCaches}
-use Rattle.bz_process.specs.Untold.{SomeAtAddresses}
+use Rattle.bz_process.specs.Untold.{SaysNoFault, SomeAtAddress, SomeAtAddresses, SomeBatch, SomeByMapping, SomeBySaid, as_read}
 
 -- something allowed was said, and the step is the one that is expected then; after a failure nothing needs to have been said.
 -- Where nothing is told, what was given and is left is what may be shown then
@@ -25,6 +26,7 @@ pub record AsksOne {A B X : Type 0} (files : Ghosts X) (own : ℕ) (reading : A 
     (old now : ProcessCaches) (before after : X) : Type 0 where
   pub said : Said
   pub allowed : UnlessFailed result (IsAllowed said)
+  pub faultless : SaysNoFault said
   pub some : Shows said
   pub step : TakesStep files own reading (expected said) result old now before after
 
@@ -41,6 +43,27 @@ module _ {R : Type 0} (test : Test R) (translates : Translates R) (finds : Finds
 
   abbrev pub IsSaidAt : List Mapping → ℕ → Answers R → Answers R → Said → Type 0
   IsSaidAt mappings addr old now said = IsSaidBy (owner_of mappings addr) addr old now said
+
+  -- an address was asked, by the mappings of its process
+  abbrev pub AsksAddress : {X : Type 0} → Ghosts X → Asked → List Mapping → ℕ → Result Symbolized Error → ProcessCaches → ProcessCaches → Answers R → Answers R → X → X → Type 0
+  AsksAddress files asked mappings addr result old now answers answers_now before after =
+      AsksOne files asked.own reading (IsSaidAt mappings addr answers answers_now) (λ said. SomeAtAddress asked (as_read reading result) old now mappings (addr, said)) (λ said. at_address asked mappings (addr, said)) result old now before after
+
+  -- an address of this mapping
+  abbrev pub AsksMapping : {X : Type 0} → Ghosts X → Asked → Mapping → ℕ → Result Symbolized Error → ProcessCaches → ProcessCaches → Answers R → Answers R → X → X → Type 0
+  AsksMapping files asked mapping addr result old now answers answers_now before after =
+      AsksOne files asked.own reading (IsSaidIn mapping mapping.name addr answers answers_now) (λ said. SomeByMapping asked (as_read reading result) old now mapping addr said mapping.name) (λ said. by_mapping asked mapping addr said mapping.name) result old now before after
+
+  -- an address of this mapping, which has this name
+  abbrev pub AsksMember : {X : Type 0} → Ghosts X → Asked → Mapping → PathName → ℕ → Result Symbolized Error → ProcessCaches → ProcessCaches → Answers R → Answers R → X → X → Type 0
+  AsksMember files asked mapping name addr result old now answers answers_now before after =
+      AsksOne files asked.own reading (IsSaid test translates finds opts mapping name addr answers answers_now) (SomeBySaid asked (as_read reading result) old now mapping addr (name_of name)) (by_said asked mapping addr (name_of name)) result old now before after
+
+  -- something allowed is said for addresses one after another, for each by the answers that are kept when it is come to; kept answers
+  -- stay
+  abbrev pub SaidInTurn : List Mapping → List (ℕ × Said) → Answers R → Answers R → Type 0
+  SaidInTurn mappings [] old now = Keeps old now
+  SaidInTurn mappings (item ∷ items) old now = (left : Answers R) × Keeps old left × IsSaidAt mappings item.0 old left item.1 × SaidInTurn mappings items left now
 
 -- an answer for this was added by the test of a dispatcher: some address has it
 pub record IsAdded {R : Type 0} (test : Test R) (mappings : List Mapping) (addrs : List ℕ) (other : PathName) (answer : Option R) : Type 0 where
@@ -63,25 +86,35 @@ abbrev pub AddsAmong : {R : Type 0} → Test R → List Mapping → List ℕ →
 AddsAmong {R} test mappings addrs old now = (other : PathName) (answer : Option R) → kept_for now other ≡ Some answer →
     (kept_for old other ≡ Some answer) ⊎ IsAdded test mappings addrs other answer
 
+-- the next of the addresses that are left, if there is one
+abbrev pub next_of : List ℕ → List ℕ
+next_of [] = []
+next_of (addr ∷ later) = addr ∷ []
+
+-- the addresses that a batch came to: those that it answered, and the next one
+abbrev pub come_to : List (ℕ × Said) → List ℕ → List ℕ
+come_to front rest = map (λ item. item.0) front ++ next_of rest
+
 -- addresses were asked one after another: of a front of them something allowed was said, of all where the call is answered; and the
--- step is the batch's, where no resolver is in charge of the others
+-- step is that of the addresses that were come to, where no resolver is in charge of the next one
 pub record AsksAll {A R X : Type 0} (files : Ghosts X) (reading : A → List Answer) (test : Test R) (translates : Translates R) (finds : Finds R) (opts : FindSymOpts)
     (asked : Asked) (mappings : List Mapping) (addrs : List ℕ) (result : Result A Error) (old now : ProcessCaches) (answers answers_now : Answers R) (before after : X) : Type 0 where
   pub front : List (ℕ × Said)
   pub rest : List ℕ
   pub addrs_are : map (λ item. item.0) front ++ rest ≡ addrs
   pub all : OnOk result (rest ≡ [])
-  pub allowed : AllByRecursion (λ item. IsSaidAt test translates finds opts mappings item.0 answers answers_now item.1) front
-  -- whatever is told, each answer is by some version that a look gave, or refused as a look is
-  pub some : IfOk result (λ given. SomeAtAddresses asked mappings front (reading given) old now)
-  pub step : TakesStep files asked.own reading (at_addresses asked mappings (front ++ map unsaid rest)) result old now before after
+  pub allowed : SaidInTurn test translates finds opts mappings front answers answers_now
+  -- whatever is told, each answer is by some version that a look gave, or refused as a look is; and a failure ends the batch
+  pub some : SomeBatch (in_view (files.worlds before)) reading asked mappings front rest result old now
+  pub adds : AddsAmong test mappings (come_to front rest) answers answers_now
+  pub step : TakesStep files asked.own reading (at_addresses asked mappings (front ++ map unsaid (next_of rest))) result old now before after
 
 -- these addresses were asked and answered, and something allowed was said for each
 pub record AsksFront {A R X : Type 0} (files : Ghosts X) (reading : A → List Answer) (test : Test R) (translates : Translates R) (finds : Finds R) (opts : FindSymOpts)
     (asked : Asked) (mappings : List Mapping) (addrs : List ℕ) (given : A) (old now : ProcessCaches) (answers answers_now : Answers R) (before after : X) : Type 0 where
   pub front : List (ℕ × Said)
   pub addrs_are : map (λ item. item.0) front ≡ addrs
-  pub allowed : AllByRecursion (λ item. IsSaidAt test translates finds opts mappings item.0 answers answers_now item.1) front
+  pub allowed : SaidInTurn test translates finds opts mappings front answers answers_now
   pub some : SomeAtAddresses asked mappings front (reading given) old now
   pub step : TakesStep files asked.own reading (at_addresses asked mappings front) (Ok given) old now before after
   pub keeps : Keeps answers answers_now

@@ -75,7 +75,7 @@ pub record SymbolizesProcess {A D R X : Type 0} (files : Ghosts X) (reading : A 
   pub untaken : is_in_process kind ≡ false → IsErrOf result errors.Unsupported × (elf_now ≡ elf) × (now ≡ old) × (after ≡ before)
   -- the addresses are asked one after another, by the mappings that are kept or else by those that lie there
   pub asks : is_in_process kind ≡ true → AsksProcess files reading test translates finds opts asked (kept_mappings old asked.pid) addrs result (caches_of elf old) (caches_of elf_now now) old.answers now.answers before after
-  -- with a dispatcher that gives no resolver, answer and state are those of the definitions
+  -- with a dispatcher that gives no resolver and refuses nothing, answer and state are those of the definitions
   pub exact : GivesNone test → is_in_process kind ≡ true →
       TakesStep files asked.own reading (asks_process asked (kept_mappings old asked.pid) (map unsaid addrs)) result (caches_of elf old) (caches_of elf_now now) before after
   -- nothing else changes
@@ -89,7 +89,7 @@ pub record SymbolizesAddress {A D R X : Type 0} (files : Ghosts X) (reading : A 
   pub untaken : is_in_process kind ≡ false → IsErrOf result errors.Unsupported × (elf_now ≡ elf) × (now ≡ old) × (after ≡ before)
   -- the address is asked, by the mappings that are kept or else by those that lie there
   pub asks : is_in_process kind ≡ true → AsksProcessAt files reading test translates finds opts asked (kept_mappings old asked.pid) addr result (caches_of elf old) (caches_of elf_now now) old.answers now.answers before after
-  -- with a dispatcher that gives no resolver, answer and state are those of the definitions
+  -- with a dispatcher that gives no resolver and refuses nothing, answer and state are those of the definitions
   pub exact : GivesNone test → is_in_process kind ≡ true →
       TakesStep files asked.own reading (asks_process_at asked (kept_mappings old asked.pid) (unsaid addr)) result (caches_of elf old) (caches_of elf_now now) before after
   -- nothing else changes

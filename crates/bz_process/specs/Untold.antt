@@ -1,10 +1,12 @@
 -- What addresses of a process are answered where files tell nothing: by some version that a look gave, or refused as a look is.
 use Rattle.std.specs.Prelude.{◌≡◌, ◌⊎◌, ℕ, Bool, true, false, cond, List, [], ◌∷◌, Option, Some, None, Result, Ok, Err, IfErr, IsErr}
 use Rattle.bz_base.specs.Answer.{Answer, Unknown, in_batch}
+use Rattle.bz_base.specs.Refusals.{IsFailure}
 use Rattle.bz_base.specs.declared.error.Error.{Error}
 use Rattle.bz_base.specs.declared.error.Error.TheVariants as errors
 use Rattle.bz_base.specs.declared.pid.Pid.{Pid}
 use Rattle.bz_base.specs.declared.types.Reason.TheVariants as reasons
+use Rattle.bz_files.specs.World.{World, Told}
 use Rattle.bz_cache.specs.InsertMap.{value_at, with_absent}
 use Rattle.bz_cache.specs.FileCall.{FileSome, Question}
 use Rattle.bz_proc.specs.Maps.{Mapping, Name, File, Component, owner_of}
@@ -12,7 +14,7 @@ use Rattle.bz_proc.specs.PerfId.{IsOfStatus}
 use Rattle.bz_proc.specs.SystemText.{IsReadRefusal}
 use Rattle.bz_process.specs.Asked.{Asked}
 use Rattle.bz_process.specs.Caches.{ProcessCaches}
-use Rattle.bz_process.specs.Process.{Said, asks_elf, asks_perf_map, offset_in, or_unknown, pid_cmp, remembered}
+use Rattle.bz_process.specs.Process.{Said, asks_elf, asks_perf_map, batched, offset_in, or_unknown, pid_cmp, remembered}
 use Rattle.bz_process.specs.Remembered.{Remembered}
 
 -- a result as plain data
@@ -89,9 +91,45 @@ module _ (asked : Asked) (given : Result Answer Error) (old now : ProcessCaches)
   abbrev pub SomeAtAddress : List Mapping → ℕ × Said → Type 0
   SomeAtAddress mappings item = SomeByOwner item.0 item.1 (owner_of mappings item.0)
 
--- addresses one after another, each by what those before it left: their answers, where a refused address is an ignored error
+-- what was given is no failure
+abbrev pub Unfailing : Result Answer Error → Type 0
+Unfailing (Ok answer) = Unit {0}
+Unfailing (Err e) = IsFailure e → ⊥
+
+-- addresses one after another, each by what those before it left: their answers, where a refused address is an ignored error; none
+-- has failed
 abbrev pub SomeAtAddresses : Asked → List Mapping → List (ℕ × Said) → List Answer → ProcessCaches → ProcessCaches → Type 0
 SomeAtAddresses asked mappings [] answers old now = (answers ≡ []) × (now ≡ old)
 SomeAtAddresses asked mappings (item ∷ items) answers old now =
     (given : Result Answer Error) × (left : ProcessCaches) × (later : List Answer) × (answers ≡ in_batch given ∷ later)
-    × SomeAtAddress asked given old left mappings item × SomeAtAddresses asked mappings items later left now
+    × (SomeAtAddress asked given old left mappings item × Unfailing given) × SomeAtAddresses asked mappings items later left now
+
+-- memory ran out, and nothing has changed
+pub record LacksMemory (e : Error) (old now : ProcessCaches) : Type 0 where
+  pub memory : e ≡ errors.OutOfMemory
+  pub unchanged : now ≡ old
+
+-- no resolver reads a file, so none says that one failed
+abbrev pub SaysNoFault : Said → Type 0
+SaysNoFault (Some (Err errors.ReadFault)) = ⊥
+SaysNoFault said = Unit {0}
+
+-- the first of these addresses failed, and none after it was asked
+abbrev pub FailsAtNext : Asked → List Mapping → List ℕ → Error → ProcessCaches → ProcessCaches → Type 0
+FailsAtNext asked mappings [] e old now = ⊥
+FailsAtNext asked mappings (addr ∷ later) e old now = (said : Said) × SaysNoFault said × SomeAtAddress asked (Err e) old now mappings (addr, said)
+
+-- a batch failed: these addresses were answered one after another, and then memory ran out, or the next one failed
+pub record FailsInTurn (in_view : Option World) (asked : Asked) (mappings : List Mapping) (front : List (ℕ × Said)) (rest : List ℕ) (e : Error) (old now : ProcessCaches) : Type 0 where
+  pub failure : IsFailure e
+  pub answers : List Answer
+  pub middle : ProcessCaches
+  pub some : SomeAtAddresses asked mappings front answers old middle
+  -- where the world is told, these addresses left what is expected
+  pub told : Told in_view (λ world. middle ≡ (batched asked mappings front world old).left)
+  pub ends : LacksMemory e middle now ⊎ FailsAtNext asked mappings rest e middle now
+
+-- a batch as a whole: its answers are those of its addresses, or it failed
+abbrev pub SomeBatch : {A : Type 0} → Option World → (A → List Answer) → Asked → List Mapping → List (ℕ × Said) → List ℕ → Result A Error → ProcessCaches → ProcessCaches → Type 0
+SomeBatch in_view reading asked mappings front rest (Ok given) old now = SomeAtAddresses asked mappings front (reading given) old now
+SomeBatch in_view reading asked mappings front rest (Err e) old now = FailsInTurn in_view asked mappings front rest e old now

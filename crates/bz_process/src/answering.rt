@@ -2,13 +2,11 @@
 
 ghost use Rattle.std.specs.Prelude.{◌≡◌, ◌∷◌, [], ℕ, map};
 ghost use Rattle.bz_base.specs.Answer.{reading};
-ghost use Rattle.bz_proc.specs.Maps.{mapping_of, name_of};
+ghost use Rattle.bz_proc.specs.Maps.{mapping_of};
 ghost use Rattle.bz_process.specs.Asked.{asked_of};
 ghost use Rattle.bz_process.specs.Caches.{caches};
-ghost use Rattle.bz_process.specs.Dispatch.{Adds, IsSaid, Keeps};
-ghost use Rattle.bz_process.specs.Process.{at_address, by_mapping, by_said};
-ghost use Rattle.bz_process.specs.ProcessAsk.{AddsAmong, AddsIn, AsksAll, AsksOne, IsSaidAt, IsSaidIn};
-ghost use Rattle.bz_process.specs.Untold.{SomeAtAddress, SomeByMapping, SomeBySaid, as_read};
+ghost use Rattle.bz_process.specs.Dispatch.{Adds, Keeps};
+ghost use Rattle.bz_process.specs.ProcessAsk.{AddsAmong, AddsIn, AsksAddress, AsksAll, AsksMapping, AsksMember};
 ghost use Rattle.bz_process.specs.declared.perf_maps.PerfMaps.{PerfMaps};
 
 use crate::dispatch::ProcessDispatch;
@@ -24,7 +22,7 @@ use bz_proc::{Mappings, MapsEntry, PathName};
 use std::alloc::Global;
 
 /// The answers to addresses by the mappings of their process, in their order; an address that is refused
-/// is an ignored error.
+/// is an ignored error. Where one fails, none after it is asked.
 pub(crate) fn answers_at<D: ProcessDispatch + Drop, F: Files>(
     elf: &mut FileCache<ElfFile>,
     perf_maps: &mut PerfMaps,
@@ -38,7 +36,6 @@ pub(crate) fn answers_at<D: ProcessDispatch + Drop, F: Files>(
 ) -> Result<Vec<Symbolized<'static>>>
     ensures asks { AsksAll F.Files (λ answers. map reading answers.items) (D.may_dispatch dispatching.old.dispatch) D.Resolver.TranslateFileOffset D.Resolver.Symbolize opts.now (asked_of (F.pid files.old) query.now) mappings.now addrs.now result (caches elf.old perf_maps.old) (caches elf.new perf_maps.new) dispatching.old.answers dispatching.new.answers files.old files.new }
     ensures keeps { Keeps dispatching.old.answers dispatching.new.answers }
-    ensures adds { AddsAmong (D.may_dispatch dispatching.old.dispatch) mappings.now addrs.now dispatching.old.answers dispatching.new.answers }
     ensures dispatch { dispatching.new.dispatch ≡ dispatching.old.dispatch }
 {
     let mut answers = Vec::with_capacity(alloc, addrs.len())?;
@@ -72,7 +69,7 @@ pub(crate) fn answer_at<D: ProcessDispatch + Drop, F: Files>(
     mappings: &Mappings,
     addr: Addr,
 ) -> Result<Symbolized<'static>>
-    ensures asks { AsksOne F.Files (F.pid files.old) reading (IsSaidAt (D.may_dispatch dispatching.old.dispatch) D.Resolver.TranslateFileOffset D.Resolver.Symbolize opts.now mappings.now addr dispatching.old.answers dispatching.new.answers) (λ said. SomeAtAddress (asked_of (F.pid files.old) query.now) (as_read reading result) (caches elf.old perf_maps.old) (caches elf.new perf_maps.new) mappings.now (addr, said)) (λ said. at_address (asked_of (F.pid files.old) query.now) mappings.now (addr, said)) result (caches elf.old perf_maps.old) (caches elf.new perf_maps.new) files.old files.new }
+    ensures asks { AsksAddress (D.may_dispatch dispatching.old.dispatch) D.Resolver.TranslateFileOffset D.Resolver.Symbolize opts.now F.Files (asked_of (F.pid files.old) query.now) mappings.now addr result (caches elf.old perf_maps.old) (caches elf.new perf_maps.new) dispatching.old.answers dispatching.new.answers files.old files.new }
     ensures keeps { Keeps dispatching.old.answers dispatching.new.answers }
     ensures adds { AddsAmong (D.may_dispatch dispatching.old.dispatch) mappings.now (addr ∷ []) dispatching.old.answers dispatching.new.answers }
     ensures dispatch { dispatching.new.dispatch ≡ dispatching.old.dispatch }
@@ -105,7 +102,7 @@ fn in_mapping<D: ProcessDispatch + Drop, F: Files>(
     entry: &MapsEntry,
     addr: Addr,
 ) -> Result<Symbolized<'static>>
-    ensures asks { AsksOne F.Files (F.pid files.old) reading (IsSaidIn (D.may_dispatch dispatching.old.dispatch) D.Resolver.TranslateFileOffset D.Resolver.Symbolize opts.now (mapping_of entry.now) (mapping_of entry.now).name addr dispatching.old.answers dispatching.new.answers) (λ said. SomeByMapping (asked_of (F.pid files.old) query.now) (as_read reading result) (caches elf.old perf_maps.old) (caches elf.new perf_maps.new) (mapping_of entry.now) addr said (mapping_of entry.now).name) (λ said. by_mapping (asked_of (F.pid files.old) query.now) (mapping_of entry.now) addr said (mapping_of entry.now).name) result (caches elf.old perf_maps.old) (caches elf.new perf_maps.new) files.old files.new }
+    ensures asks { AsksMapping (D.may_dispatch dispatching.old.dispatch) D.Resolver.TranslateFileOffset D.Resolver.Symbolize opts.now F.Files (asked_of (F.pid files.old) query.now) (mapping_of entry.now) addr result (caches elf.old perf_maps.old) (caches elf.new perf_maps.new) dispatching.old.answers dispatching.new.answers files.old files.new }
     ensures keeps { Keeps dispatching.old.answers dispatching.new.answers }
     ensures adds { AddsIn (D.may_dispatch dispatching.old.dispatch) (mapping_of entry.now) dispatching.old.answers dispatching.new.answers }
     ensures dispatch { dispatching.new.dispatch ≡ dispatching.old.dispatch }
@@ -126,7 +123,7 @@ fn in_mapping<D: ProcessDispatch + Drop, F: Files>(
     }
 }
 
-// The answer to an address of a mapping of this.
+// The answer to an address of a mapping with this name.
 fn in_member<D: ProcessDispatch + Drop, F: Files>(
     elf: &mut FileCache<ElfFile>,
     dispatching: &mut Dispatching<D>,
@@ -138,7 +135,7 @@ fn in_member<D: ProcessDispatch + Drop, F: Files>(
     name: &PathName,
     addr: Addr,
 ) -> Result<Symbolized<'static>>
-    ensures asks { (own : ℕ) (kept : PerfMaps) → AsksOne F.Files own reading (IsSaid (D.may_dispatch dispatching.old.dispatch) D.Resolver.TranslateFileOffset D.Resolver.Symbolize opts.now (mapping_of entry.now) name.now addr dispatching.old.answers dispatching.new.answers) (SomeBySaid (asked_of own query.now) (as_read reading result) (caches elf.old kept) (caches elf.new kept) (mapping_of entry.now) addr (name_of name.now)) (by_said (asked_of own query.now) (mapping_of entry.now) addr (name_of name.now)) result (caches elf.old kept) (caches elf.new kept) files.old files.new }
+    ensures asks { (own : ℕ) (kept : PerfMaps) → AsksMember (D.may_dispatch dispatching.old.dispatch) D.Resolver.TranslateFileOffset D.Resolver.Symbolize opts.now F.Files (asked_of own query.now) (mapping_of entry.now) name.now addr result (caches elf.old kept) (caches elf.new kept) dispatching.old.answers dispatching.new.answers files.old files.new }
     ensures keeps { Keeps dispatching.old.answers dispatching.new.answers }
     ensures adds { Adds (D.may_dispatch dispatching.old.dispatch) (mapping_of entry.now) name.now dispatching.old.answers dispatching.new.answers }
     ensures dispatch { dispatching.new.dispatch ≡ dispatching.old.dispatch }

@@ -1,16 +1,18 @@
 //! Keeping what answers for a process ahead of its addresses.
 
-ghost use Rattle.std.specs.Prelude.{◌≡◌, ℕ, cond, List, IfOk, IsOkUnless, OnErr, OnOk, is_some, true};
+ghost use Rattle.std.specs.Prelude.{◌≡◌, ℕ, cond, List, IfErr, IfOk, IsOk, IsOkUnless, OnErr, OnOk, is_some, true, false};
 ghost use Rattle.bz_base.specs.declared.error.Error.{Error};
 ghost use Rattle.bz_base.specs.declared.pid.Pid.{Pid};
 ghost use Rattle.bz_cache.specs.Cache.{Cache};
 ghost use Rattle.bz_cache.specs.InsertMap.{value_at, without};
+ghost use Rattle.bz_cache.specs.Pinning.{IsLeft};
 ghost use Rattle.bz_files.specs.World.{Told, entry_at, in_view};
 ghost use Rattle.bz_proc.specs.Maps.{Mapping};
 ghost use Rattle.bz_proc.specs.MapsFile.{AreOfText, maps_path, maps_told};
+ghost use Rattle.bz_proc.specs.SystemText.{IsReadRefusal};
 ghost use Rattle.bz_process.specs.Caches.{caches};
-ghost use Rattle.bz_process.specs.Caching.{after_mappings, caches_perf_map, caches_process, caching_of, is_gone, mappings_after, pins_perf_map, with_former, with_mappings, with_told};
-ghost use Rattle.bz_process.specs.CachingCall.{MayKeep, TakesWhole};
+ghost use Rattle.bz_process.specs.Caching.{after_mappings, caches_perf_map, caches_process, caching_of, is_gone, mappings_after, perf_map_pinning, pins_perf_map, with_former, with_mappings, with_told};
+ghost use Rattle.bz_process.specs.CachingCall.{MayKeep, MayPin, PinsKnown, TakesWhole};
 ghost use Rattle.bz_process.specs.Process.{and_then, pid_cmp, remember};
 ghost use Rattle.bz_process.specs.Remembered.{Remembered};
 
@@ -45,7 +47,10 @@ pub(crate) fn cache_process<F: Files>(
     ensures step { (elf : Cache) → TakesWhole F.Files (F.pid files.old) (λ (done : Unit {0}). done) (caches_process (caching_of (F.pid files.old) request.now)) result (caches elf perf_maps.old) (caches elf perf_maps.new) files.old files.new }
     ensures mappings { Told (in_view (F.worlds files.old)) (λ world. OnOk result (mappings.new ≡ mappings_after (caching_of (F.pid files.old) request.now) world mappings.old)) }
     ensures some { OnOk result (MayKeep (caching_of (F.pid files.old) request.now) mappings.old mappings.new) }
+    ensures pinned { (elf : Cache) → OnOk result (MayPin request.now.cache_perf_map request.now.pid (F.pid files.old) (in_view (F.worlds files.old)) (caches elf perf_maps.old) (caches elf perf_maps.new)) }
     ensures err { OnErr result (mappings.new ≡ mappings.old) }
+    ensures refusal { IfErr result IsReadRefusal }
+    ensures sure { request.now.cache_vmas ≡ false → request.now.cache_perf_map ≡ false → IsOk result }
 {
     if request.cache_vmas {
         cache_mapped(perf_maps, mappings, alloc, files, request)
@@ -65,7 +70,9 @@ fn cache_mapped<F: Files>(
     ensures step { (elf : Cache) → TakesWhole F.Files (F.pid files.old) (λ (done : Unit {0}). done) (after_mappings true request.now.pid (caches_perf_map request.now.cache_perf_map request.now.pid (F.pid files.old))) result (caches elf perf_maps.old) (caches elf perf_maps.new) files.old files.new }
     ensures mappings { Told (in_view (F.worlds files.old)) (λ world. OnOk result (mappings.new ≡ with_told request.now.pid mappings.old (maps_told request.now.pid (entry_at world (maps_path request.now.pid))))) }
     ensures some { OnOk result ((told : List Mapping) × AreOfText request.now.pid told × (mappings.new ≡ with_mappings request.now.pid mappings.old told)) }
+    ensures pinned { (elf : Cache) → OnOk result (MayPin request.now.cache_perf_map request.now.pid (F.pid files.old) (in_view (F.worlds files.old)) (caches elf perf_maps.old) (caches elf perf_maps.new)) }
     ensures err { OnErr result (mappings.new ≡ mappings.old) }
+    ensures refusal { IfErr result IsReadRefusal }
 {
     let mapped = read_mapped(alloc, files, request.pid)?;
     // The place for the mappings is made first: once the perf map is pinned, nothing may fail any more.
@@ -122,7 +129,10 @@ impl PerfMaps {
         files: &mut F,
         request: &ProcessCaching,
     ) -> Result<()>
-        ensures { (elf : Cache) → TakesWhole F.Files (F.pid files.old) (λ (done : Unit {0}). done) (caches_perf_map request.now.cache_perf_map request.now.pid (F.pid files.old)) result (caches elf self.old) (caches elf self.new) files.old files.new }
+        ensures step { (elf : Cache) → TakesWhole F.Files (F.pid files.old) (λ (done : Unit {0}). done) (caches_perf_map request.now.cache_perf_map request.now.pid (F.pid files.old)) result (caches elf self.old) (caches elf self.new) files.old files.new }
+        ensures pinned { (elf : Cache) → OnOk result (MayPin request.now.cache_perf_map request.now.pid (F.pid files.old) (in_view (F.worlds files.old)) (caches elf self.old) (caches elf self.new)) }
+        ensures refusal { IfErr result IsReadRefusal }
+        ensures sure { request.now.cache_perf_map ≡ false → IsOk result }
     {
         if request.cache_perf_map {
             self.pin(alloc, files, request.pid)
@@ -133,7 +143,9 @@ impl PerfMaps {
 
     // Remembers a process and pins its perf map.
     fn pin<F: Files>(&mut self, alloc: Global, files: &mut F, pid: Pid) -> Result<()>
-        ensures { (elf : Cache) → TakesWhole F.Files (F.pid files.old) (λ (done : Unit {0}). done) (and_then (remember pid (F.pid files.old)) (λ known. pins_perf_map known.perf_map)) result (caches elf self.old) (caches elf self.new) files.old files.new }
+        ensures step { (elf : Cache) → TakesWhole F.Files (F.pid files.old) (λ (done : Unit {0}). done) (and_then (remember pid (F.pid files.old)) (λ known. pins_perf_map known.perf_map)) result (caches elf self.old) (caches elf self.new) files.old files.new }
+        ensures pinned { (elf : Cache) → OnOk result (PinsKnown pid (F.pid files.old) (in_view (F.worlds files.old)) (caches elf self.old) (caches elf self.new)) }
+        ensures refusal { IfErr result IsReadRefusal }
     {
         let remembered = self.remembers(&pid);
         let known = self.known(alloc, files, pid)?;
@@ -172,7 +184,9 @@ fn pin_perf_map<F: Files>(
     files: &mut F,
     path: &str,
 ) -> Result<()>
-    ensures { (own : ℕ) (elf : Cache) (ids : List (Pid × Remembered)) → TakesWhole F.Files own (λ (done : Unit {0}). done) (pins_perf_map path.now) result (record { elf = elf; perf_maps = cache.old; ids = ids }) (record { elf = elf; perf_maps = cache.new; ids = ids }) files.old files.new }
+    ensures step { (own : ℕ) (elf : Cache) (ids : List (Pid × Remembered)) → TakesWhole F.Files own (λ (done : Unit {0}). done) (pins_perf_map path.now) result (record { elf = elf; perf_maps = cache.old; ids = ids }) (record { elf = elf; perf_maps = cache.new; ids = ids }) files.old files.new }
+    ensures left { OnOk result (IsLeft (perf_map_pinning cache.old path.now) path.now (in_view (F.worlds files.old)) cache.new) }
+    ensures refusal { IfErr result IsReadRefusal }
 {
     let pinned = pin_file(cache, alloc, files, path);
     if is_gone(&pinned) {

@@ -39,7 +39,7 @@ pub trait ProcessDispatch {
         ensures refusal { IfErr result MayRefuseMember };
 }
 
-/// Gives no resolver.
+/// Gives no resolver, and refuses nothing.
 #[derive(Drop)]
 pub struct NoDispatch;
 
@@ -48,7 +48,11 @@ impl ProcessDispatch for NoDispatch {
 
     ghost may_dispatch = { λ _ member answer. answer ≡ Ok None };
 
-    fn dispatch(&self, alloc: Global, info: ProcessMemberInfo<'_>) -> Result<Option<ElfResolver>> {
+    fn dispatch(&self, alloc: Global, info: ProcessMemberInfo<'_>) -> Result<Option<ElfResolver>>
+        ensures answer { MayGive (λ given. given) (λ answer. answer ≡ Ok None) result }
+        ensures refusal { IfErr result MayRefuseMember }
+        ensures exact { result ≡ Ok None }
+    {
         let _alloc = alloc;
         let _info = info;
         Ok(None)

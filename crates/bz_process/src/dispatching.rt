@@ -28,7 +28,7 @@ pub(crate) struct Dispatching<D: ProcessDispatch + Drop> {
 }
 
 impl<D: ProcessDispatch + Drop> Dispatching<D> {
-    /// What the resolver says that is in charge of a mapping of this; none where none is.
+    /// What the resolver says that is in charge of a mapping with this name; none where none is.
     pub(crate) fn say(
         &mut self,
         alloc: Global,
@@ -53,7 +53,7 @@ impl<D: ProcessDispatch + Drop> Dispatching<D> {
         }
     }
 
-    // Asks the dispatcher for a mapping of this, where none of its answers is kept.
+    // Asks the dispatcher for a mapping with this name, where none of its answers is kept.
     fn ask(&mut self, alloc: Global, entry: &MapsEntry, name: &PathName) -> Result<()>
         ensures asked { Asks (D.may_dispatch self.old.dispatch) (mapping_of entry.now) name.now result self.old.answers self.new.answers }
         ensures dispatch { self.new.dispatch ≡ self.old.dispatch }

@@ -53,11 +53,11 @@ pub fn paths_are_as_looked()
     ensures { (own : ℕ) (world : World) (old now : ProcessCaches) → Reaches own (Some world) old now → AreLookedOver own world old now }
 {}
 
-/// With a dispatcher that gives no resolver, where versions cohere with the world in view, every entry of
-/// a batch is answered by what is in view when the call begins, at its address alone, where a refusal is an
-/// ignored error; and so is an address that is asked alone. So entries stand alone, addresses in another
-/// order have their answers in that order, and an entry is the answer of the single call or folds its
-/// refusal.
+/// With a dispatcher that gives no resolver and refuses nothing, where versions cohere with the world in
+/// view, every entry of a batch is answered by what is in view when the call begins, at its address alone,
+/// where a refusal is an ignored error; and so is an address that is asked alone. So entries stand alone,
+/// addresses in another order have their answers in that order, and an entry is the answer of the single
+/// call or folds its refusal.
 pub fn entries_are_in_view<D: ProcessDispatch + Drop, F: Files, A>()
     ensures batch { (reading : A → List Answer) (opts : FindSymOpts) (asked : Asked) (kind : AddressKind) (addrs : List ℕ) (result : Result A Error) (elf elf_now : Cache) (old now : KeptProcesses D D.Resolver) (before after : F) (world : World) →
         SymbolizesProcess F.Files reading (D.may_dispatch old.dispatcher) D.Resolver.TranslateFileOffset D.Resolver.Symbolize opts asked kind addrs result elf elf_now old now before after → GivesNone (D.may_dispatch old.dispatcher) → in_view (F.worlds before) ≡ Some world → CoheresIn world (caches_of elf old) →

@@ -1,6 +1,6 @@
 //! Files that processes have mapped.
 
-ghost use Rattle.std.specs.Prelude.{◌≡◌, ℕ, Ok, None, Some, cond, option_and_then, string_bytes, IfOk, IsOkUnless};
+ghost use Rattle.std.specs.Prelude.{◌≡◌, ℕ, Ok, None, Some, cond, option_and_then, string_bytes, IfOk, IsOk, IsOkUnless};
 ghost use Rattle.bz_base.specs.Answer.{reading, resolved_of};
 ghost use Rattle.bz_base.specs.Lent.{IsLent, IsLentResolved};
 ghost use Rattle.bz_base.specs.declared.error.Error.{Error};
@@ -25,7 +25,7 @@ use bz_files::Files;
 use bz_proc::{EntryPath, MapsEntry, PathName};
 use std::alloc::Global;
 
-/// The answer to an address of a mapping of this, where no resolver is in charge.
+/// The answer to an address of a mapping with this name, where no resolver is in charge.
 pub(crate) fn named<F: Files>(
     elf: &mut FileCache<ElfFile>,
     alloc: Global,
@@ -121,7 +121,7 @@ pub fn elf_answer_at<'a>(
 ) -> Result<Symbolized<'a>>
     ensures answer { IfOk result (λ answer. reading answer ≡ elf_by_table module_path.now file.now (Some addr)) }
     ensures lent { IfOk result IsLent }
-    ensures memory { IsOkUnless result Error.OutOfMemory }
+    ensures sure { IsOk result }
 {
     match file.find_sym(alloc, addr, &FindSymOpts::Basic)? {
         Ok(symbol) => Ok(Symbolized::Sym(in_module(symbol, module_path).into_sym(addr))),

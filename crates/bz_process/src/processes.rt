@@ -68,7 +68,8 @@ impl<D: ProcessDispatch + Drop> Processes<D> {
     /// The answers to addresses of a process, in their order; an address that is refused is an ignored
     /// error. Unsupported: the addresses aren't absolute. NotFound, PermissionDenied, InvalidData: no
     /// mappings are kept, and their text is absent, may not be read or isn't one of mappings.
-    /// UnexpectedEof: there are no mappings. ReadFault: a file failed. OutOfMemory: memory ran out.
+    /// UnexpectedEof: there are no mappings. ReadFault: a file failed. OutOfMemory: memory ran out. Where an
+    /// address fails, none after it is asked.
     pub fn symbolize<F: Files>(
         &mut self,
         elf: &mut FileCache<ElfFile>,

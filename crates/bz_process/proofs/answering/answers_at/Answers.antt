@@ -1,14 +1,12 @@
-use Rattle.std.proofs.Common.{◌≡◌, ◌<◌, take, length, get_or, drop, suc, List, ℕ, refl, ap, arith, subst, ◌∙◌, rules, Err, Vec, Global}
+use Rattle.std.proofs.Common.{◌≡◌, ◌<◌, take, length, get_or, drop, suc, ℕ, refl, ap, arith, ◌∙◌, rules, Err, Vec, Global}
 use Rattle.std.proofs.lemmas.List.{take_more}
 use Rattle.std.proofs.Math.Seq.{take-length}
 use Rattle.std.proofs.lemmas.Result.{err_from_is_err_and}
-use Rattle.bz_base.specs.declared.error.Error.TheVariants as errors
 use Rattle.bz_base.specs.declared.types.Symbolized.{Symbolized}
 use Rattle.bz_files.specs.Looked.{Faulted, Looked}
 use Rattle.bz_process.specs.Asked.{asked_of}
 use Rattle.bz_process.specs.Caches.{caches}
-use Rattle.bz_process.specs.ProcessAsk.{AddsAmong}
-use Rattle.bz_process.proofs.AskLemmas.{adds_fail, all_fail, front_more, front_none, looked_ok, none_asked, split_at_next}
+use Rattle.bz_process.proofs.AskLemmas.{all_done, all_fail, all_stop, front_more, front_none, looked_ok, none_asked, split_at_next}
 use Rattle.bz_process.proofs.ProcessLemmas.{looked_both, unfailed, unfaulted}
 use Rattle.bz_process.proofs.answering.answers_at.Goals as goal
 
@@ -59,17 +57,7 @@ returns-in_err-entry-clause-asks g c =
     (all_fail g.F.Files (g.D.ProcessDispatch.may_dispatch c.args.dispatching.now.dispatch) g.D.Resolver.TranslateFileOffset g.D.Resolver.Symbolize c.args.opts.now (asked_of (g.F.Files.pid c.args.files.now) c.args.query.now)
     c.args.mappings.now (take i addrs) (get_or addrs i 0) (drop (suc i) addrs) addrs c.loop-addr.answers c.answer_at-answer.result e (caches c.args.elf.now c.args.perf_maps.now) (caches c.loop-addr.elf c.loop-addr.perf_maps) (caches c.answer_at-answer.new.elf c.answer_at-answer.new.perf_maps)
     c.args.dispatching.now.answers c.loop-addr.dispatching.answers c.answer_at-answer.new.dispatching.answers c.args.files.now c.loop-addr.files c.answer_at-answer.new.files
-    (split_at_next addrs i there) front one.asks one.keeps c.in_err-entry.ensures.failure (looked_both g.F.Files (g.F.Files.pid c.args.files.now) _ _ _ front.step.looked looked))
-
-pub returns-in_err-entry-clause-adds : goal.returns-in_err-entry-clause-adds
-returns-in_err-entry-clause-adds g c =
-    let addrs = c.args.addrs.now in
-    let i = c.loop-addr.addr-index in
-    let there : i < length addrs = search rules in
-    let one = rw (c.loop-addr.invariant.dispatch, c.loop-addr.invariant.front.step.looked.pid) at c.answer_at-answer.ensures in
-    adds_fail g.F.Files (g.D.ProcessDispatch.may_dispatch c.args.dispatching.now.dispatch) g.D.Resolver.TranslateFileOffset g.D.Resolver.Symbolize c.args.opts.now (asked_of (g.F.Files.pid c.args.files.now) c.args.query.now)
-    c.args.mappings.now (take i addrs) (get_or addrs i 0) (drop (suc i) addrs) addrs c.args.dispatching.now.answers c.loop-addr.dispatching.answers c.answer_at-answer.new.dispatching.answers
-    (split_at_next addrs i there) c.loop-addr.invariant.front.adds one.adds
+    (split_at_next addrs i there) front one.asks one.keeps one.adds c.in_err-entry.ensures.refusal c.in_err-entry.ensures.failure (looked_both g.F.Files (g.F.Files.pid c.args.files.now) _ _ _ front.step.looked looked))
 
 -- memory ran out for an answer
 pub returns-in_err-push-clause-asks : goal.returns-in_err-push-clause-asks
@@ -82,28 +70,20 @@ returns-in_err-push-clause-asks g c =
     let same = err_from_is_err_and c.from_residual-in_err-push.result c.from_residual-in_err-push.ensures.1 in
     let looked = looked_ok g.F.Files c.answer_at-answer.result c.in_ok-entry.entry _ _ c.in_ok-entry.ensures.failed one.asks.step.looked in
     rw (same.1, same.2)
-    (all_fail g.F.Files (g.D.ProcessDispatch.may_dispatch c.args.dispatching.now.dispatch) g.D.Resolver.TranslateFileOffset g.D.Resolver.Symbolize c.args.opts.now (asked_of (g.F.Files.pid c.args.files.now) c.args.query.now)
-    c.args.mappings.now (take i addrs) (get_or addrs i 0) (drop (suc i) addrs) addrs c.loop-addr.answers c.answer_at-answer.result errors.OutOfMemory (caches c.args.elf.now c.args.perf_maps.now) (caches c.loop-addr.elf c.loop-addr.perf_maps) (caches c.answer_at-answer.new.elf c.answer_at-answer.new.perf_maps)
+    (all_stop g.F.Files (g.D.ProcessDispatch.may_dispatch c.args.dispatching.now.dispatch) g.D.Resolver.TranslateFileOffset g.D.Resolver.Symbolize c.args.opts.now (asked_of (g.F.Files.pid c.args.files.now) c.args.query.now)
+    c.args.mappings.now (take i addrs) (get_or addrs i 0) (drop (suc i) addrs) addrs c.loop-addr.answers c.answer_at-answer.result c.in_ok-entry.entry (caches c.args.elf.now c.args.perf_maps.now) (caches c.loop-addr.elf c.loop-addr.perf_maps) (caches c.answer_at-answer.new.elf c.answer_at-answer.new.perf_maps)
     c.args.dispatching.now.answers c.loop-addr.dispatching.answers c.answer_at-answer.new.dispatching.answers c.args.files.now c.loop-addr.files c.answer_at-answer.new.files
-    (split_at_next addrs i there) front one.asks one.keeps tt
+    (split_at_next addrs i there) front one.asks one.keeps one.adds c.in_ok-entry.ensures.failed
     (unfailed g.F.Files c.args.query.now.pid (g.F.Files.pid c.args.files.now) _ _ (looked_both g.F.Files (g.F.Files.pid c.args.files.now) _ _ _ front.step.looked looked) (unfaulted (Vec Symbolized Global))))
 
 pub returns-in_err-push-clause-keeps : goal.returns-in_err-push-clause-keeps
 returns-in_err-push-clause-keeps g c name answer kept = c.answer_at-answer.ensures.keeps name answer (c.loop-addr.invariant.front.keeps name answer kept)
 
-pub returns-in_err-push-clause-adds : goal.returns-in_err-push-clause-adds
-returns-in_err-push-clause-adds g c =
-    let addrs = c.args.addrs.now in
-    let i = c.loop-addr.addr-index in
-    let there : i < length addrs = search rules in
-    let one = rw (c.loop-addr.invariant.dispatch, c.loop-addr.invariant.front.step.looked.pid) at c.answer_at-answer.ensures in
-    adds_fail g.F.Files (g.D.ProcessDispatch.may_dispatch c.args.dispatching.now.dispatch) g.D.Resolver.TranslateFileOffset g.D.Resolver.Symbolize c.args.opts.now (asked_of (g.F.Files.pid c.args.files.now) c.args.query.now)
-    c.args.mappings.now (take i addrs) (get_or addrs i 0) (drop (suc i) addrs) addrs c.args.dispatching.now.answers c.loop-addr.dispatching.answers c.answer_at-answer.new.dispatching.answers
-    (split_at_next addrs i there) c.loop-addr.invariant.front.adds one.adds
-
 -- every address was asked
-pub returns-clause-adds : goal.returns-clause-adds
-returns-clause-adds g c =
+pub returns-clause-asks : goal.returns-clause-asks
+returns-clause-asks g c =
     let last : c.loop-addr.addr-index ≡ length c.args.addrs.now = omega arith in
     let all : take c.loop-addr.addr-index c.args.addrs.now ≡ c.args.addrs.now = ap (λ (n : ℕ). take n c.args.addrs.now) last ∙ take-length c.args.addrs.now in
-    subst (λ (xs : List ℕ). AddsAmong (g.D.ProcessDispatch.may_dispatch c.args.dispatching.now.dispatch) c.args.mappings.now xs c.args.dispatching.now.answers c.loop-addr.dispatching.answers) all c.loop-addr.invariant.front.adds
+    all_done g.F.Files (g.D.ProcessDispatch.may_dispatch c.args.dispatching.now.dispatch) g.D.Resolver.TranslateFileOffset g.D.Resolver.Symbolize c.args.opts.now (asked_of (g.F.Files.pid c.args.files.now) c.args.query.now)
+    c.args.mappings.now c.args.addrs.now c.loop-addr.answers (caches c.args.elf.now c.args.perf_maps.now) (caches c.loop-addr.elf c.loop-addr.perf_maps)
+    c.args.dispatching.now.answers c.loop-addr.dispatching.answers c.args.files.now c.loop-addr.files (rw all at c.loop-addr.invariant.front)

@@ -37,7 +37,7 @@ returns-in-Ok-clause-step g c elf =
     let own = g.F.Files.pid c.args.files.now in
     let kept = caches elf c.args.perf_maps.now in
     let step = c.in_ok-mapped.ensures.step own kept in
-    let cached = rw step.looked.pid at (c.in-Ok.ensures elf) in
+    let cached = rw step.looked.pid at (c.in-Ok.ensures.step elf) in
     whole_next g.F.Files own (λ (k : List Mapping). k) (of_text (maps_told c.args.request.now.pid) (maps_path c.args.request.now.pid)) (λ mappings. caches_perf_map c.args.request.now.cache_perf_map c.args.request.now.pid own)
     c.in_ok-mapped.mapped (Ok tt) kept kept (caches elf c.cache.new.self) (caches elf c.cache.new.self) c.args.files.now c.read_mapped.new.files c.cache.new.files step cached refl tt
 
@@ -50,13 +50,18 @@ returns-in-Ok-clause-mappings g c world seen =
 pub returns-in-Ok-clause-some : goal.returns-in-Ok-clause-some
 returns-in-Ok-clause-some g c = (c.in_ok-mapped.mapped, c.in_ok-mapped.ensures.some, c.in_ok-former.ensures.ok)
 
+pub returns-in-Ok-clause-pinned : goal.returns-in-Ok-clause-pinned
+returns-in-Ok-clause-pinned g c elf =
+    let looked = (c.in_ok-mapped.ensures.step (g.F.Files.pid c.args.files.now) (caches elf c.args.perf_maps.now)).looked in
+    rw (looked.pid, looked.worlds) at (c.in-Ok.ensures.pinned elf)
+
 -- the perf map is refused, and all is put back
 pub returns-in-Err-clause-step : goal.returns-in-Err-clause-step
 returns-in-Err-clause-step g c elf =
     let own = g.F.Files.pid c.args.files.now in
     let kept = caches elf c.args.perf_maps.now in
     let step = c.in_ok-mapped.ensures.step own kept in
-    let cached = rw step.looked.pid at (c.in-Err.ensures elf) in
+    let cached = rw step.looked.pid at (c.in-Err.ensures.step elf) in
     whole_next g.F.Files own (λ (k : List Mapping). k) (of_text (maps_told c.args.request.now.pid) (maps_path c.args.request.now.pid)) (λ mappings. caches_perf_map c.args.request.now.cache_perf_map c.args.request.now.pid own)
     c.in_ok-mapped.mapped (Err c.in-Err.error) kept kept (caches elf c.cache.new.self) (caches elf c.cache.new.self) c.args.files.now c.read_mapped.new.files c.cache.new.files step cached tt cached.err
 

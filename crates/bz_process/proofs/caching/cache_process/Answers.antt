@@ -15,9 +15,12 @@ pub returns-then-request-clause-some : goal.returns-then-request-clause-some
 returns-then-request-clause-some g c =
     may_keep (caching_of (g.F.Files.pid c.args.files.now) c.args.request.now) c.cache_mapped.result c.args.mappings.now c.cache_mapped.new.mappings c.if-request.true c.cache_mapped.ensures.some
 
+pub returns-then-request-clause-pinned : goal.returns-then-request-clause-pinned
+returns-then-request-clause-pinned g c elf = c.cache_mapped.ensures.pinned elf
+
 -- they aren't
 pub returns-else-request-clause-step : goal.returns-else-request-clause-step
-returns-else-request-clause-step g c elf = rw c.if-request.false (c.cache.ensures elf)
+returns-else-request-clause-step g c elf = rw c.if-request.false (c.cache.ensures.step elf)
 
 pub returns-else-request-clause-mappings : goal.returns-else-request-clause-mappings
 returns-else-request-clause-mappings g c world seen = on_ok c.cache.result _ (rw c.if-request.false refl)
@@ -28,3 +31,6 @@ returns-else-request-clause-some g c =
 
 pub returns-else-request-clause-err : goal.returns-else-request-clause-err
 returns-else-request-clause-err g c = on_err c.cache.result _ refl
+
+pub returns-else-request-clause-pinned : goal.returns-else-request-clause-pinned
+returns-else-request-clause-pinned g c elf = c.cache.ensures.pinned elf

@@ -1,15 +1,26 @@
 use Rattle.std.proofs.Common.{sym, ◌∙◌}
-use Rattle.bz_process.proofs.CachingLemmas.{pins_gone, pins_stays}
+use Rattle.bz_process.proofs.CachingLemmas.{left_gone, left_stays, pins_gone, pins_stays, reads_refused}
 use Rattle.bz_process.proofs.caching.pin_perf_map.Goals as goal
 
 -- an absent perf map is pinned as it is held
-pub returns-then-is_gone : goal.returns-then-is_gone
-returns-then-is_gone g c own elf ids =
+pub returns-then-is_gone-clause-step : goal.returns-then-is_gone-clause-step
+returns-then-is_gone-clause-step g c own elf ids =
     rw c.pin-held.ensures.state (pins_gone g.F.Files own c.args.path.now (record { elf = elf; perf_maps = c.args.cache.now; ids = ids }) c.pin_file-pinned.new.cache c.args.files.now c.pin_file-pinned.new.files c.pin_file-pinned.result
     (sym c.is_gone.ensures ∙ c.if-is_gone.true) c.pin_file-pinned.ensures)
 
+pub returns-then-is_gone-clause-left : goal.returns-then-is_gone-clause-left
+returns-then-is_gone-clause-left g c =
+    rw c.pin-held.ensures.state (left_gone g.F.Files c.args.path.now c.args.cache.now c.pin_file-pinned.new.cache c.args.files.now c.pin_file-pinned.new.files c.pin_file-pinned.result
+    (sym c.is_gone.ensures ∙ c.if-is_gone.true) c.pin_file-pinned.ensures)
+
 -- any other is pinned at the version of a look, or refused
-pub returns : goal.returns
-returns g c own elf ids =
+pub returns-clause-step : goal.returns-clause-step
+returns-clause-step g c own elf ids =
     pins_stays g.F.Files own c.args.path.now (record { elf = elf; perf_maps = c.args.cache.now; ids = ids }) c.pin_file-pinned.new.cache c.args.files.now c.pin_file-pinned.new.files c.pin_file-pinned.result
     (sym c.is_gone.ensures ∙ c.if-is_gone.false) c.pin_file-pinned.ensures
+
+pub returns-clause-left : goal.returns-clause-left
+returns-clause-left g c = left_stays g.F.Files c.args.path.now c.args.cache.now c.pin_file-pinned.new.cache c.args.files.now c.pin_file-pinned.new.files c.pin_file-pinned.result c.pin_file-pinned.ensures
+
+pub returns-clause-refusal : goal.returns-clause-refusal
+returns-clause-refusal g c = reads_refused c.pin_file-pinned.result c.pin_file-pinned.ensures.refusal

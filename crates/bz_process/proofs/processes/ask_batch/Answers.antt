@@ -21,4 +21,4 @@ returns-clause-asks g c =
     let one = rw (c.mappings.ensures, step.looked.pid) at c.answers_at.ensures in
     asks_mapped g.F.Files (g.D.ProcessDispatch.may_dispatch c.args.dispatching.now.dispatch) g.D.Resolver.TranslateFileOffset g.D.Resolver.Symbolize c.args.opts.now (asked_of own c.args.query.now)
     (value_at pid_cmp c.args.mappings.now c.args.query.now.pid) c.args.addrs.now c.in_ok-mapped.mapped c.answers_at.result (caches c.args.elf.now c.args.perf_maps.now) (caches c.answers_at.new.elf c.answers_at.new.perf_maps)
-    c.args.dispatching.now.answers c.answers_at.new.dispatching.answers c.args.files.now c.some_mappings.new.files c.answers_at.new.files step c.in_ok-mapped.ensures.some one.asks one.keeps one.adds
+    c.args.dispatching.now.answers c.answers_at.new.dispatching.answers c.args.files.now c.some_mappings.new.files c.answers_at.new.files step c.in_ok-mapped.ensures.some one.asks one.keeps
