@@ -4,6 +4,7 @@ use Rattle.bz_base.specs.Answer.{Answer, in_batch}
 use Rattle.bz_base.specs.InputKind.{AddressKind, InFile, InTable}
 use Rattle.bz_base.specs.declared.error.Error.{Error}
 use Rattle.bz_base.specs.declared.types.FindSymOpts.{FindSymOpts}
+use Rattle.bz_base.specs.declared.types.FindSymOpts.TheVariants as asked
 use Rattle.bz_breakpad.specs.Reader.{table_in}
 use Rattle.bz_lookups.specs.Formats.{breakpad_single, elf_single, gsym_single}
 use Rattle.bz_lookups.specs.declared.held.ElfKind.{ElfKind}
@@ -22,6 +23,12 @@ abbrev pub single_by : Version → FindSymOpts → ℕ → Result Answer Error
 single_by (BreakpadVersion bytes) opts addr = breakpad_single opts (table_in bytes) addr
 single_by (GsymVersion bytes) opts addr = gsym_single opts bytes addr
 single_by (ElfVersion path bytes kind) opts addr = Ok (elf_single path bytes kind addr)
+
+-- so asked, an answer of the version may want memory: one that tells inlined calls; of an ELF file none
+abbrev pub MayWantMemory : Version → FindSymOpts → Type 0
+MayWantMemory (BreakpadVersion bytes) opts = opts ≡ asked.CodeInfoAndInlined
+MayWantMemory (GsymVersion bytes) opts = opts ≡ asked.CodeInfoAndInlined
+MayWantMemory (ElfVersion path bytes kind) opts = ⊥
 
 -- the entry of a batch at an address, by a version; a refused address is an ignored error
 abbrev pub entry_by : Version → FindSymOpts → ℕ → Answer

@@ -1,6 +1,6 @@
 //! An ELF file as one that answers.
 
-ghost use Rattle.std.specs.Prelude.{◌≡◌, Ok, Some, string_bytes, IfOk, IfErr, IsOkUnless};
+ghost use Rattle.std.specs.Prelude.{◌≡◌, Ok, Some, string_bytes, IfOk, IfErr, IsOk, IsOkUnless};
 ghost use Rattle.bz_base.specs.Answer.{Gives, reading};
 ghost use Rattle.bz_base.specs.InputKind.{address_kind};
 ghost use Rattle.bz_base.specs.Lent.{IsLent};
@@ -62,7 +62,7 @@ fn held_as<'d>(alloc: Global, file: Rc<ElfFile>, path: &str, kind: ElfKind) -> R
 pub(crate) fn symbol_at<'a>(alloc: Global, elf: &'a HeldElf, addr: Addr) -> Result<Symbolized<'a>>
     ensures answer { IfOk result (λ answer. reading answer ≡ elf_single (string_bytes elf.now.path) elf.now.file.value (kind_of elf.now.kind) addr) }
     ensures lent { IfOk result IsLent }
-    ensures memory { IsOkUnless result Error.OutOfMemory }
+    ensures sure { IsOk result }
 {
     let file = elf.file.as_ref();
     let Some(addr) = virtual_offset(file, elf.kind, addr)? else {

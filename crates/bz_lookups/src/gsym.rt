@@ -1,10 +1,11 @@
 //! GSYM as what answers, in a file or handed in.
 
-ghost use Rattle.std.specs.Prelude.{IfOk, IfErr};
+ghost use Rattle.std.specs.Prelude.{IfOk, IfErr, IsErrOf};
 ghost use Rattle.bz_base.specs.Answer.{Gives, reading};
 ghost use Rattle.bz_base.specs.InputKind.{address_kind};
 ghost use Rattle.bz_base.specs.Lent.{IsLent};
 ghost use Rattle.bz_base.specs.Refusals.{MayRefuse};
+ghost use Rattle.bz_base.specs.declared.error.Error.{Error};
 ghost use Rattle.bz_base.specs.declared.types.FindSymOpts.{FindSymOpts};
 ghost use Rattle.bz_cache.specs.FileCall.{each_of, query_given};
 ghost use Rattle.bz_gsym.specs.Refusal.{IsAnswerRefusal};
@@ -56,6 +57,7 @@ pub fn hold_data<'d, A>(bytes: &'d [u8], input: &Input<A>) -> Result<Held<'d>>
     ensures held { (opts : FindSymOpts) → Gives (held_singles opts) (handed_answer (gsym_handed bytes.now) opts (each_of (address_kind input.now))) result }
     ensures steps { IfOk result (λ held. TakesSteps (version_of held) (no_steps bytes.now)) }
     ensures refusal { IfErr result MayRefuse }
+    ensures no_memory { IsErrOf result Error.OutOfMemory → ⊥ }
 {
     match input {
         Input::VirtOffset(_) => {

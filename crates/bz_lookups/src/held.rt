@@ -4,10 +4,10 @@ ghost use Rattle.std.specs.Prelude.{◌≡◌, ◌<◌, length, map, slice_index
 ghost use Rattle.std.specs.List.{AllByRecursion};
 ghost use Rattle.bz_base.specs.Answer.{Gives, reading};
 ghost use Rattle.bz_base.specs.Lent.{IsLent};
-ghost use Rattle.bz_base.specs.Refusals.{MayRefuse};
+ghost use Rattle.bz_base.specs.Refusals.{MayRefuse, WantsMemory};
 ghost use Rattle.bz_base.specs.declared.error.Error.{Error};
 ghost use Rattle.bz_breakpad.specs.declared.found.FoundRecord.{FoundRecord};
-ghost use Rattle.bz_lookups.specs.Batch.{entry_by, single_by, version_of};
+ghost use Rattle.bz_lookups.specs.Batch.{MayWantMemory, entry_by, single_by, version_of};
 ghost use Rattle.bz_lookups.specs.Counted.{VersionSteps};
 ghost use Rattle.bz_lookups.specs.Found.{AreFoundIn, IsFoundIn};
 
@@ -73,7 +73,7 @@ impl<'d> Held<'d> {
         }
     }
 
-    /// The same records, found with a count that nobody reads.
+    /// The same records, not counted.
     pub(crate) fn find_uncounted(&self, alloc: Global, addrs: &[u64]) -> Result<Vec<FoundRecord>>
         ensures found { IfOk result (λ records. AreFoundIn self.now addrs.now records.items) }
         ensures memory { IsOkUnless result Error.OutOfMemory }
@@ -81,7 +81,7 @@ impl<'d> Held<'d> {
         self.find_blank::<Brand>(alloc, addrs, Blank::new(1))
     }
 
-    // The one place where a count is made for a call that counts nothing.
+    // The same, with a count that nobody reads, which is made of the blank.
     fn find_blank<L: Ledger>(
         &self,
         alloc: Global,
@@ -111,6 +111,7 @@ impl<'d> Held<'d> {
         ensures answer { Gives reading (single_by (version_of self.now) opts.now addr) result }
         ensures lent { IfOk result IsLent }
         ensures refusal { IfErr result MayRefuse }
+        ensures memory { IfErr result (WantsMemory (MayWantMemory (version_of self.now) opts.now)) }
     {
         match self {
             Held::Breakpad(file) => file.as_ref().answer_by(alloc, addr, found, opts),

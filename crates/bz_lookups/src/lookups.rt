@@ -4,9 +4,9 @@ ghost use Rattle.std.specs.Prelude.{◌≡◌, ◌<◌, All, length, map, slice_
 ghost use Rattle.std.specs.List.{AllByRecursion};
 ghost use Rattle.bz_base.specs.Answer.{Gives, reading};
 ghost use Rattle.bz_base.specs.Lent.{IsLent};
-ghost use Rattle.bz_base.specs.Refusals.{MayRefuse};
+ghost use Rattle.bz_base.specs.Refusals.{MayRefuse, WantsMemory};
 ghost use Rattle.bz_base.specs.declared.error.Error.{Error};
-ghost use Rattle.bz_lookups.specs.Batch.{answer_at, answers_there, answers_to, batch_by, heeds_order, single_by, version_of};
+ghost use Rattle.bz_lookups.specs.Batch.{MayWantMemory, answer_at, answers_there, answers_to, batch_by, heeds_order, single_by, version_of};
 ghost use Rattle.bz_lookups.specs.Counted.{VersionSteps};
 ghost use Rattle.bz_lookups.specs.Found.{AreFoundIn};
 
@@ -113,6 +113,7 @@ impl<'d> Lookups<'d> {
         ensures answer { Gives reading (single_by self.now.version self.now.opts (slice_index self.now.addrs index)) result }
         ensures lent { IfOk result IsLent }
         ensures refusal { IfErr result MayRefuse }
+        ensures memory { IfErr result (WantsMemory (MayWantMemory self.now.version self.now.opts)) }
     {
         let found = record_at(&self.records, index);
         self.held
@@ -125,6 +126,7 @@ impl<'d> Lookups<'d> {
         ensures answer { IfOk result (λ answer. reading answer ≡ answer_at self.now (slice_index self.now.addrs index)) }
         ensures lent { IfOk result IsLent }
         ensures memory { IsOkUnless result Error.OutOfMemory }
+        ensures wants { IfErr result (WantsMemory (MayWantMemory self.now.version self.now.opts)) }
     {
         in_batch(self.single(alloc, index))
     }
