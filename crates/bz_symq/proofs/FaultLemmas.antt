@@ -25,6 +25,10 @@ fault_at : (side other : Side) (ended : Status) → failed_at side ended ≡ Som
 fault_at side other statuses.Fault is = (refl, cc)
 fault_at side other _ is = cc
 
+-- and where it can only be this one, it is no other
+pub nowhere_else : (side other : Side) (ended : Status) → (side ≡ other → ⊥) → failed_at side ended ≡ Some other → ⊥
+nowhere_else side other ended apart at = apart (fault_at side other ended at).1
+
 -- what counts faults where one thing holds counts them where the same holds in other words
 pub counts_as : {A B : Type 0} (before after : ℕ) → (A → B) → (B → A) → CountsFaults before after A → CountsFaults before after B
 counts_as {A} {B} before after to from counts = record { grows = counts.grows; fault = λ is. counts.fault (from is); steady = by_steady counts.steady }
@@ -55,7 +59,7 @@ pub counts_here : (side : Side) (ended : Status) (before after : ℕ) → Counts
 counts_here side ended before after counts = counts_as before after (λ is. ap (failed_at side) is) (λ at. (fault_at side side ended at).0) counts
 
 pub counts_there : (side other : Side) (ended : Status) (before after : ℕ) → (side ≡ other → ⊥) → after ≡ before → CountsFaults before after (failed_at side ended ≡ Some other)
-counts_there side other ended before after apart same = counts_still before after _ (λ at. apart (fault_at side other ended at).1) same
+counts_there side other ended before after apart same = counts_still before after _ (nowhere_else side other ended apart) same
 
 module _ {R W F : Type 0} (reads : input_trait.Ghosts R) (writes : output_trait.Ghosts W) (looks : files_trait.Ghosts F) (ended : Status)
     (input_before input_after : R) (output_before output_after : W) (files_before files_after : F) where
@@ -68,6 +72,7 @@ module _ {R W F : Type 0} (reads : input_trait.Ghosts R) (writes : output_trait.
     input_faults = counts_here AtInput ended _ _ counts;
     output_faults = counts_there AtInput AtOutput ended _ _ (λ same. cc) (ap writes.faults unwritten);
     files = record { worlds = ap looks.worlds unlooked; pid = ap looks.pid unlooked; faults = counts_there AtInput AtFiles ended _ _ (λ same. cc) (ap looks.faults unlooked) };
+    unreached = λ _. (unlooked, unwritten);
     untouched = λ _. unwritten;
   }
   fails_before (inr (steady, looked)) unwritten = record {
@@ -76,6 +81,7 @@ module _ {R W F : Type 0} (reads : input_trait.Ghosts R) (writes : output_trait.
     input_faults = counts_there AtFiles AtInput ended _ _ (λ same. cc) steady;
     output_faults = counts_there AtFiles AtOutput ended _ _ (λ same. cc) (ap writes.faults unwritten);
     files = record { worlds = looked.worlds; pid = looked.pid; faults = counts_here AtFiles ended _ _ looked.faults };
+    unreached = λ at. absurd (nowhere_else AtFiles AtInput ended (λ same. cc) at);
     untouched = λ _. unwritten;
   }
 
@@ -89,7 +95,8 @@ module _ {R W F : Type 0} (reads : input_trait.Ghosts R) (writes : output_trait.
     input_faults = counts_there AtOutput AtInput ended _ _ (λ same. cc) (read counts);
     output_faults = counts_here AtOutput ended _ _ wrote;
     files = looked counts;
-    untouched = λ at. absurd (apart (fault_at AtOutput AtFiles ended at).1);
+    unreached = λ at. absurd (nowhere_else AtOutput AtInput ended (λ same. cc) at);
+    untouched = λ at. absurd (nowhere_else AtOutput AtFiles ended apart at);
   }
     where
       apart : AtOutput ≡ AtFiles → ⊥

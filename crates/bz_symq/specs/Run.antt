@@ -151,6 +151,8 @@ pub record Fails {R W F : Type 0} (reads : input_trait.Ghosts R) (writes : outpu
   pub output_faults : CountsFaults (writes.faults output_before) (writes.faults output_after) (failed ≡ Some AtOutput)
   -- no other world of files comes into view
   pub files : Looked looks files_before files_after (failed ≡ Some AtFiles)
+  -- where the input failed, no file was looked at and nothing was written
+  pub unreached : failed ≡ Some AtInput → (files_after ≡ files_before) × (output_after ≡ output_before)
   -- files are looked at only while the output is as it was, so they fail only then
   pub untouched : failed ≡ Some AtFiles → output_after ≡ output_before
 

@@ -1,4 +1,4 @@
-//! The input: lines, each empty or an address.
+//! The input of a run, and the addresses that its lines say.
 
 ghost use Rattle.std.specs.Prelude.{◌≡◌, ◌+◌, ◌<◌, ◌≤◌, ◌++◌, [], ℕ, List, Some, Ok, Err, length, vec_len, IfOk, IsErrOf};
 ghost use Rattle.bz_files.specs.Count.{CountsFaults};
@@ -69,7 +69,9 @@ fn read_piece<R: TextIn>(input: &mut R, all: &mut Vec<u8>) -> std::result::Resul
     }
 }
 
-/// The addresses that the lines of the input say: one on each line, or none where it is empty.
+/// The addresses that the lines of an input's text say, in their order: one on each line, or none where
+/// it is empty. A line says one by `0x` or nothing, and 1 to 16 hexadecimal digits. Else the refusal is
+/// the number of the first line that says none and isn't empty, from 1; or memory ran out.
 pub fn read_addrs(alloc: Global, text: &[u8]) -> std::result::Result<Vec<u64>, BadInput>
     ensures ok { IfOk result (λ addrs. addresses_in text.now ≡ Ok addrs.items) }
     ensures line { (n : ℕ) → IsErrOf result (BadInput.Line n) → addresses_in text.now ≡ Err n }

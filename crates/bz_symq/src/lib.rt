@@ -16,7 +16,7 @@ mod texts;
 
 pub use asking::{input_for, new_symbolizer};
 pub use command::{Batch, Command, FileTarget, Product, Target};
-pub use input::{ReadStop, read_input};
+pub use input::{ReadStop, read_addrs, read_input};
 pub use output::{finish, write_said};
 pub use own_process::own_pid;
 pub use program::{failed, run_command, run_counted, unread};
