@@ -1,11 +1,12 @@
 -- The frames in front that are answered together.
-use Rattle.std.proofs.Common.{◌≡◌, ℕ, suc, ◌+◌, ◌<◌, ◌≤◌, true, false, cond, List, [], ◌∷◌, ◌++◌, length, map, take, Some, None, Ok, Err, refl, sym, ap, ap₂, subst, ◌∙◌, is_some, slice_get, slice_index_or, arith}
+use Rattle.std.proofs.Common.{◌≡◌, ℕ, suc, ◌+◌, ◌<◌, ◌≤◌, true, false, cond, List, [], ◌∷◌, ◌++◌, length, map, take, Some, None, Ok, Err, refl, sym, ap, ap₂, subst, ◌∙◌, inl, inr, is_some, slice_get, slice_index_or, arith}
 use Rattle.std.proofs.lemmas.List.{length-append, length-map, length-take-le}
 use Rattle.std.specs.List.{AllByRecursion, prefix_len}
 use Rattle.bz_base.specs.declared.error.Error.{Error}
 use Rattle.bz_base.specs.declared.error.Error.TheVariants as errors
 use Rattle.bz_base.specs.declared.types.FindSymOpts.{FindSymOpts}
 use Rattle.bz_breakpad.specs.Reader.{table_in}
+use Rattle.bz_files.specs.Looked.{ReadsOne}
 use Rattle.bz_files.specs.World.{World}
 use Rattle.bz_files.specs.declared.files.Files.{Ghosts}
 use Rattle.bz_files.proofs.LookedLemmas.{looked_unfailed}
@@ -41,10 +42,20 @@ told_each : (world : World) (root : List ℕ) (key : Key) (found : Found) (frame
 told_each world root key found [] are told = refl
 told_each world root key found (f ∷ fs) are told = ap₂ (λ (one : Found) (l : List (Frame × Found)). (f, one) ∷ l) (told ∙ ap (found_at world root) (sym are.0)) (told_each world root key found fs are.1 told)
 
+-- there are frames where one is in front
+some_front : (f : Frame) (frames : List Frame) → take 1 frames ≡ f ∷ [] → 0 < length frames
+some_front f [] front = cc
+some_front f (g ∷ frames) front = omega arith
+
+-- a file that is read is no more than there are frames, if there are some
+few_read : {X : Type 0} (files : Ghosts X) (frames : List Frame) (old new : X) → 0 < length frames → ReadsOne files old new → files.opens new ≤ files.opens old + length frames
+few_read files frames old new some (inl same) = omega (arith, some, same)
+few_read files frames old new some (inr counts) = omega (arith, some, counts)
+
 module _ {X : Type 0} (files : Ghosts X) (opts : FindSymOpts) (frames : List Frame) (key : Key) (earlier : List FrameReading) (before after : Shelf) (old new : X) where
   -- a refusal before any answer
-  pub visits_unsought : (e : Error) → Seeks files key (Err e) before after old new → (answers : List FrameReading) → Visits {A = Unit {0}} files opts frames (Err e) earlier answers before after old new
-  visits_unsought e sought answers = record {
+  pub visits_unsought : (e : Error) → 0 < length frames → Seeks files key (Err e) before after old new → (answers : List FrameReading) → Visits {A = Unit {0}} files opts frames (Err e) earlier answers before after old new
+  visits_unsought e some sought answers = record {
     visits = [];
     told = λ world told. refl;
     count = 0;
@@ -52,6 +63,7 @@ module _ {X : Type 0} (files : Ghosts X) (opts : FindSymOpts) (frames : List Fra
     ok = tt;
     more = tt;
     err = sought.err;
+    most = few_read files frames old new some sought.most;
     place = sought.place;
     looked = sought.looked;
     refusal = sought.refusal;
@@ -80,6 +92,7 @@ module _ {X : Type 0} (files : Ghosts X) (opts : FindSymOpts) (frames : List Fra
         ok = ap (λ l. state after l (files.opens new)) are ∙ visited_one;
         more = ap length are ∙ length-append earlier (reading_of answer ∷ []);
         err = tt;
+        most = few_read files frames old new (some_front f frames front) sought.most;
         place = sought.place;
         looked = sought.looked;
         refusal = tt;
@@ -94,6 +107,7 @@ module _ {X : Type 0} (files : Ghosts X) (opts : FindSymOpts) (frames : List Fra
         ok = tt;
         more = tt;
         err = ap (λ (s : State). s.kept) visited_one;
+        most = few_read files frames old new (some_front f frames front) sought.most;
         place = sought.place;
         looked = looked_unfailed files old new _ (unfaulted {A = Unit {0}} (Err errors.OutOfMemory) refl) sought.looked;
         refusal = tt;
@@ -124,6 +138,7 @@ module _ {X : Type 0} (files : Ghosts X) (opts : FindSymOpts) (frames : List Fra
         more = ap length answers_are ∙ length-append earlier (map (λ f. by_table opts f.offset (table_in now)) (f ∷ fs))
             ∙ ap (λ n. length earlier + n) (length-map (f ∷ fs) (λ (f : Frame). by_table opts f.offset (table_in now)) ∙ sym long);
         err = tt;
+        most = few_read files frames old new (some_front f frames front) sought.most;
         place = sought.place;
         looked = sought.looked;
         refusal = tt;
@@ -138,6 +153,7 @@ module _ {X : Type 0} (files : Ghosts X) (opts : FindSymOpts) (frames : List Fra
         ok = tt;
         more = tt;
         err = ap (λ (s : State). s.kept) (visited_run [] tt);
+        most = few_read files frames old new (some_front f frames front) sought.most;
         place = sought.place;
         looked = looked_unfailed files old new _ (unfaulted {A = Unit {0}} (Err errors.OutOfMemory) refl) sought.looked;
         refusal = tt;

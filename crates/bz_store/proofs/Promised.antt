@@ -1,5 +1,5 @@
 -- What frames answered one by one promise of their answers and of the keys that are kept.
-use Rattle.std.proofs.Common.{◌≡◌, List, [], take, Some, Result, Ok, Err, sym, ap, ap₂, subst, ◌∙◌}
+use Rattle.std.proofs.Common.{◌≡◌, ◌≤◌, ◌+◌, List, [], length, take, Some, Result, Ok, Err, sym, ap, ap₂, subst, ◌∙◌}
 use Rattle.std.specs.Prelude.{IfErr}
 use Rattle.bz_base.specs.Refusals.{IsFailure}
 use Rattle.bz_base.specs.declared.error.Error.{Error}
@@ -18,9 +18,9 @@ module _ {X A : Type 0} (files : Ghosts X) (readings : A → List FrameReading) 
   abbrev start : State
   start = state before [] (files.opens old)
 
-  pub promised : (r : Result A Error) → OneByOne files readings opts frames r before after old new → after ≡ with_files before after.files → Looked files old new (Faulted r) → IfErr r IsFailure →
+  pub promised : (r : Result A Error) → OneByOne files readings opts frames r before after old new → files.opens new ≤ files.opens old + length frames → after ≡ with_files before after.files → Looked files old new (Faulted r) → IfErr r IsFailure →
       AnswersFrames files readings opts frames r before after old new
-  promised (Ok a) each place looked refusal =
+  promised (Ok a) each most place looked refusal =
       let end = each.ok.1 in
       let seen : (world : World) → in_view (files.worlds old) ≡ Some world → each.visits ≡ found_each world before.root frames = λ world told. each.told world told ∙ ap (found_each world before.root) each.ok.0 in
       record {
@@ -31,12 +31,13 @@ module _ {X A : Type 0} (files : Ghosts X) (readings : A → List FrameReading) 
         err = λ world told agrees. tt;
         opens = λ world told. ap (λ s. s.opens) end ∙ opens_told before.cap opts each.visits before.files (files.opens old)
             ∙ ap₂ (λ vs rs. opens_after_all before.cap vs rs (keys before.files) (files.opens old)) (seen world told) (sym (ap (λ s. s.answers) end));
+        most = most;
         each = each;
         place = place;
         looked = looked;
         refusal = refusal;
       }
-  promised (Err e) each place looked refusal =
+  promised (Err e) each most place looked refusal =
       let n = each.err.0 in
       let seen : (world : World) → in_view (files.worlds old) ≡ Some world → each.visits ≡ found_each world before.root (take n frames) = λ world told. each.told world told ∙ ap (found_each world before.root) each.err.1 in
       record {
@@ -50,6 +51,7 @@ module _ {X A : Type 0} (files : Ghosts X) (readings : A → List FrameReading) 
               (ap (λ vs. (visited before.cap opts vs start).answers) (seen world told) ∙ (answers_on world before.root before.cap opts (take n frames) start agrees).1),
         );
         opens = λ world told. tt;
+        most = most;
         each = each;
         place = place;
         looked = looked;

@@ -1,10 +1,11 @@
 -- Frames one after the other.
-use Rattle.std.proofs.Common.{◌≡◌, ℕ, ◌+◌, ◌-◌, ◌≤◌, List, [], ◌∷◌, ◌++◌, length, map, take, drop, Some, Result, Ok, Err, refl, sym, ap, ap₂, ◌∙◌, arith}
-use Rattle.std.proofs.lemmas.List.{map-append, length-map, drop-map, drop-take, take-append-drop, take-take, take_all, take_rest}
+use Rattle.std.proofs.Common.{◌≡◌, ℕ, ◌+◌, ◌-◌, ◌≤◌, Bool, true, false, List, [], ◌∷◌, ◌++◌, length, map, take, drop, Some, Result, Ok, Err, refl, sym, ap, ap₂, subst, ◌∙◌, arith}
+use Rattle.std.proofs.lemmas.List.{map-append, length-append, length-map, drop-map, drop-take, take-append-drop, take-take, take_all, take_rest}
 use Rattle.std.specs.Prelude.{OnErr, OnOk}
 use Rattle.bz_base.specs.declared.error.Error.{Error}
 use Rattle.bz_base.specs.declared.error.Error.TheVariants as errors
 use Rattle.bz_base.specs.declared.types.FindSymOpts.{FindSymOpts}
+use Rattle.bz_cache.specs.Look.{opens_after}
 use Rattle.bz_files.specs.Looked.{Faulted}
 use Rattle.bz_files.specs.World.{World, in_view}
 use Rattle.bz_files.specs.declared.files.Files.{Ghosts}
@@ -14,7 +15,7 @@ use Rattle.bz_store.specs.Frames.{Frame, FrameReading, frame_of, reading_of}
 use Rattle.bz_store.specs.declared.frame.CrashFrame.{CrashFrame}
 use Rattle.bz_store.specs.declared.frame.FrameAnswer.{FrameAnswer}
 use Rattle.bz_store.specs.Shelf.{Shelf}
-use Rattle.bz_store.specs.Visits.{Found, State, found_at, visit, visited}
+use Rattle.bz_store.specs.Visits.{Found, State, found_at, is_opened, visit, visited}
 use Rattle.bz_store.proofs.Promised.{promised}
 use Rattle.bz_store.proofs.Seeking.{same_looked, unfaulted}
 
@@ -25,6 +26,18 @@ take_both i n xs = ap₂ (λ a b. a ++ b) (sym (take-take i (i + n) xs (omega ar
 visited_both : (cap : ℕ) (opts : FindSymOpts) (vs ws : List (Frame × Found)) (s : State) → visited cap opts (vs ++ ws) s ≡ visited cap opts ws (visited cap opts vs s)
 visited_both cap opts [] ws s = refl
 visited_both cap opts (v ∷ vs) ws s = visited_both cap opts vs ws (visit cap opts v s)
+
+-- a frame reads one file at most
+opened_most : (opened : Bool) (n : ℕ) → opens_after opened n ≤ n + 1
+opened_most false n = omega arith
+opened_most true n = omega arith
+
+-- and frames no more than they are
+visited_most : (cap : ℕ) (opts : FindSymOpts) (vs : List (Frame × Found)) (s : State) → (visited cap opts vs s).opens ≤ s.opens + length vs
+visited_most cap opts [] s = omega arith
+visited_most cap opts (v ∷ vs) s =
+    let one : (visit cap opts v s).opens ≤ s.opens + 1 = opened_most (is_opened s.kept v.0.file v.1) s.opens in
+    omega (arith, one, visited_most cap opts vs (visit cap opts v s))
 
 found_both : (world : World) (root : List ℕ) (vs ws : List (Frame × Found)) → found_each world root (map (λ v. v.0) vs) ++ found_each world root (map (λ v. v.0) ws) ≡ found_each world root (map (λ v. v.0) (vs ++ ws))
 found_both world root [] ws = refl
@@ -57,6 +70,7 @@ module _ {X : Type 0} (files : Ghosts X) (opts : FindSymOpts) (frames : List Fra
     ok = ap (λ l. state before l (files.opens old)) none;
     more = ap length none;
     err = tt;
+    most = omega arith;
     place = refl;
     looked = same_looked files old ⊥ (λ never. never);
     refusal = tt;
@@ -89,6 +103,13 @@ module _ {X : Type 0} (files : Ghosts X) (opts : FindSymOpts) (frames : List Fra
         ∙ ap₂ (λ a b. a ++ b) so_far.first (here.first ∙ ap (λ n. take here.count (drop n frames)) count_is)
         ∙ take_both so_far.count here.count frames
 
+    most_then : files.opens new ≤ files.opens old + length frames
+    most_then =
+        let first : files.opens midway ≤ files.opens old + length so_far.visits = subst (λ n. n ≤ files.opens old + length so_far.visits) (ap (λ (s : State). s.opens) (sym so_far.ok)) (visited_most before.cap opts so_far.visits (state before [] (files.opens old))) in
+        let front : length so_far.visits ≡ length (take (length answers) frames) = sym (length-map so_far.visits (λ (v : Frame × Found). v.0)) ∙ ap length so_far.first ∙ ap (λ n. length (take n frames)) (sym count_is) in
+        let both : length (take (length answers) frames) + length (drop (length answers) frames) ≡ length frames = sym (length-append (take (length answers) frames) (drop (length answers) frames)) ∙ ap length (take-append-drop (length answers) frames) in
+        omega (arith, first, front, both, here.most)
+
     -- more frames
     pub visits_then : Visits files opts frames r [] answers' before after old new
     visits_then = record {
@@ -99,6 +120,7 @@ module _ {X : Type 0} (files : Ghosts X) (opts : FindSymOpts) (frames : List Fra
       ok = on_ok (λ is. is ∙ state_then) r here.ok;
       more = on_ok (λ is. omega (arith, is, so_far.more)) r here.more;
       err = on_err (λ is. is ∙ ap (λ (s : State). s.kept) state_then) r here.err;
+      most = most_then;
       place = here.place ∙ ap (λ s. with_files s after.files) so_far.place;
       looked = looked_then files old midway (Faulted r) new so_far.looked here.looked;
       refusal = here.refusal;
@@ -115,7 +137,7 @@ module _ {X : Type 0} (files : Ghosts X) (opts : FindSymOpts) (frames : List Fra
           told = run.told;
           ok = (run.first ∙ take_all run.count frames enough, ap (λ l. state after l (files.opens new)) are ∙ run.ok);
           err = tt;
-        }) run.place run.looked tt
+        }) run.most run.place run.looked tt
 
     -- a refusal
     pub answers_failed : (answers : List FrameReading) (e : Error) → Visits {A = Unit {0}} files opts frames (Err e) [] answers before after old new → AnswersFrames files readings opts frames (Err e) before after old new
@@ -124,7 +146,7 @@ module _ {X : Type 0} (files : Ghosts X) (opts : FindSymOpts) (frames : List Fra
       told = run.told;
       ok = tt;
       err = (run.count, run.first, run.err);
-    }) run.place run.looked run.refusal
+    }) run.most run.place run.looked run.refusal
 
   pub answers_unmade : {A : Type 0} (readings : A → List FrameReading) (before : Shelf) (old : X) → AnswersFrames files readings opts frames (Err errors.OutOfMemory) before before old old
   answers_unmade {A} readings before old = promised files readings opts frames before before old old (Err errors.OutOfMemory) (record {
@@ -132,4 +154,4 @@ module _ {X : Type 0} (files : Ghosts X) (opts : FindSymOpts) (frames : List Fra
     told = λ world told. refl;
     ok = tt;
     err = (0, refl, refl);
-  }) refl (same_looked files old _ (unfaulted {A = A} (Err errors.OutOfMemory) refl)) tt
+  }) (omega arith) refl (same_looked files old _ (unfaulted {A = A} (Err errors.OutOfMemory) refl)) tt

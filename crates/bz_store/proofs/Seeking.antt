@@ -1,5 +1,5 @@
 -- How a file that was sought answers frames.
-use Rattle.std.proofs.Common.{◌≡◌, ℕ, ◌<◌, true, false, cond, not, ◌&&◌, List, [], ◌∷◌, ◌++◌, map, Option, Some, None, Result, Ok, Err, refl, sym, ap, ◌∙◌, is_some, slice_get, inr, arith}
+use Rattle.std.proofs.Common.{◌≡◌, ◌⊎◌, ℕ, ◌<◌, Bool, true, false, cond, not, ◌&&◌, List, [], ◌∷◌, ◌++◌, map, Option, Some, None, Result, Ok, Err, refl, sym, ap, ◌∙◌, is_some, slice_get, inl, inr, arith}
 use Rattle.std.proofs.lemmas.List.{append-nil, append_assoc}
 use Rattle.std.specs.List.{AllByRecursion}
 use Rattle.std.specs.Map.{lookup}
@@ -13,11 +13,12 @@ use Rattle.bz_breakpad.specs.Plain.{batch}
 use Rattle.bz_breakpad.specs.Reader.{table_in}
 use Rattle.bz_breakpad.specs.Table.{Table}
 use Rattle.bz_cache.specs.Look.{opens_after}
-use Rattle.bz_files.specs.Looked.{Faulted, Looked}
+use Rattle.bz_files.specs.Count.{counted}
+use Rattle.bz_files.specs.Looked.{Faulted, Looked, ReadsOne}
 use Rattle.bz_files.specs.World.{Told, World, in_view}
 use Rattle.bz_files.specs.declared.files.Files.{Ghosts}
 use Rattle.bz_store.specs.Calls.{Seeks, with_files}
-use Rattle.bz_store.specs.Frames.{Frame, FrameReading, Key, Answered, is_good, key_eq, reading_of}
+use Rattle.bz_store.specs.Frames.{Frame, FrameReading, Key, Known, is_good, key_eq, reading_of}
 use Rattle.bz_store.specs.Shelf.{Kept, Shelf, brought, keep}
 use Rattle.bz_store.specs.Visits.{Found, Absent, Holds, by_source, by_table, found_at, is_opened, is_read, kept_after, source, stays, visit, visited}
 use Rattle.bz_store.specs.declared.frame.FrameAnswer.{FrameAnswer}
@@ -46,6 +47,11 @@ some_same a b same = cc
 
 pub same_looked : {X : Type 0} (files : Ghosts X) (x : X) (failed : Type 0) → (failed → ⊥) → Looked files x x failed
 same_looked files x failed never = record { worlds = refl; pid = refl; faults = record { grows = omega arith; fault = λ fails. absurd (never fails); steady = inr refl } }
+
+-- a count after one file was read or not is one more at most
+opened_one : (opened : Bool) (before after : ℕ) → after ≡ opens_after opened before → (after ≡ before) ⊎ (after ≡ counted before)
+opened_one false before after is = inl is
+opened_one true before after is = inr is
 
 pub placed : (before after : Shelf) (kept : Kept) → after ≡ with_files before kept → after ≡ with_files before after.files
 placed before after kept is = is ∙ ap (with_files before) (sym (ap (λ s. s.files) is))
@@ -138,12 +144,13 @@ told_there view root key = λ world is. ap (λ v. told_in v root key) is
 
 module _ {X : Type 0} (files : Ghosts X) (key : Key) (before after : Shelf) (old new : X) where
   -- a refused look or read leaves the store as it was
-  pub seeks_failed : (e : Error) → after ≡ before → Looked files old new (e ≡ errors.ReadFault) → IsFailure e → Seeks files key (Err e) before after old new
-  seeks_failed e same looked refused = record {
+  pub seeks_failed : (e : Error) → after ≡ before → ReadsOne files old new → Looked files old new (e ≡ errors.ReadFault) → IsFailure e → Seeks files key (Err e) before after old new
+  seeks_failed e same most looked refused = record {
     found = told_in (in_view (files.worlds old)) before.root key;
     told = told_there (in_view (files.worlds old)) before.root key;
     sought = tt;
     opens = tt;
+    most = most;
     place = same ∙ ap (with_files before) (sym (ap (λ s. s.files) same));
     err = ap (λ s. s.files) same;
     looked = looked;
@@ -160,6 +167,7 @@ module _ {X : Type 0} (files : Ghosts X) (key : Key) (before after : Shelf) (old
         told = told_there (in_view (files.worlds old)) before.root key;
         sought = (refl, ap (λ from. kept_after before.cap key from before.files) none, λ opts offset. ap (by_source opts offset) none);
         opens = sym (ap (λ b. opens_after b (files.opens old)) (opened_bad before.files key found bad));
+        most = inl refl;
         place = refl;
         err = tt;
         looked = same_looked files old ⊥ (λ never. never);
@@ -177,6 +185,7 @@ module _ {X : Type 0} (files : Ghosts X) (key : Key) (before after : Shelf) (old
         told = told_there (in_view (files.worlds old)) before.root key;
         sought = (one.0, room, source_by before.files key found (Some one.0) good one.1, ap (λ s. s.files) moved ∙ ap (λ o. brought before.cap key o before.files) one.1);
         opens = sym (ap (λ b. opens_after b (files.opens old)) (opened_by before.files key found (Some one.0) good one.1));
+        most = inl refl;
         place = placed before after _ moved;
         err = tt;
         looked = same_looked files old ⊥ (λ never. never);
@@ -198,6 +207,7 @@ module _ {X : Type 0} (files : Ghosts X) (key : Key) (before after : Shelf) (old
           told = told;
           sought = (ap (λ s. s.files) same, ap (λ from. kept_after before.cap key from before.files) from ∙ unkept, λ opts offset. ap (by_source opts offset) from ∙ reads opts offset);
           opens = opens_now;
+          most = opened_one (is_read found) _ _ opened;
           place = same ∙ ap (with_files before) (sym (ap (λ s. s.files) same));
           err = tt;
           looked = looked;
@@ -214,6 +224,7 @@ module _ {X : Type 0} (files : Ghosts X) (key : Key) (before after : Shelf) (old
           told = told;
           sought = (bytes, room, from, ap (λ s. s.files) moved ∙ ap (λ o. stays o (keep before.cap key bytes before.files) before.files) (there (table_in bytes) formed).1);
           opens = opens_now;
+          most = opened_one (is_read found) _ _ opened;
           place = placed before after _ moved;
           err = tt;
           looked = looked;
@@ -221,7 +232,7 @@ module _ {X : Type 0} (files : Ghosts X) (key : Key) (before after : Shelf) (old
         }
 
 -- the answers of a batch, as those of frames
-pub answered_batch : (opts : FindSymOpts) (table : Table) (offsets : List ℕ) → map Answered (batch table opts offsets) ≡ map (λ offset. by_table opts offset (Some table)) offsets
+pub answered_batch : (opts : FindSymOpts) (table : Table) (offsets : List ℕ) → map Known (batch table opts offsets) ≡ map (λ offset. by_table opts offset (Some table)) offsets
 answered_batch opts table [] = refl
 answered_batch opts table (offset ∷ offsets) = ap (λ l. by_table opts offset (Some table) ∷ l) (answered_batch opts table offsets)
 

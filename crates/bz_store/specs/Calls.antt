@@ -1,10 +1,10 @@
 -- What the calls of a store answer, and what they leave of it and of the files.
-use Rattle.std.specs.Prelude.{◌≡◌, ◌<◌, ◌+◌, ℕ, List, [], Option, Some, None, length, map, take, Result, IfOk, IfErr, OnOk, OnErr}
+use Rattle.std.specs.Prelude.{◌≡◌, ◌<◌, ◌≤◌, ◌+◌, ℕ, List, [], Option, Some, None, length, map, take, Result, IfOk, IfErr, OnOk, OnErr}
 use Rattle.bz_base.specs.Refusals.{IsFailure}
 use Rattle.bz_base.specs.declared.error.Error.{Error}
 use Rattle.bz_base.specs.declared.types.FindSymOpts.{FindSymOpts}
 use Rattle.bz_cache.specs.Look.{opens_after}
-use Rattle.bz_files.specs.Looked.{Faulted, Looked}
+use Rattle.bz_files.specs.Looked.{Faulted, Looked, ReadsOne}
 use Rattle.bz_files.specs.World.{Told, World, in_view}
 use Rattle.bz_files.specs.declared.files.Files.{Ghosts}
 use Rattle.bz_store.specs.Frames.{Key, Frame, FrameReading, reading_of}
@@ -31,19 +31,21 @@ Sought cap key from (Some answer) before after = (after ≡ before) × (kept_aft
 Sought cap key from None before after = (bytes : List ℕ) × (0 < cap) × (from ≡ Some (Holds bytes)) × (after ≡ keep cap key bytes before)
 
 -- the file of a key was put in front, or there is none to put there, by what was found at its path, which is what the world in
--- view has, where that is told; a refusal leaves the store
+-- view has, where that is told; a refusal leaves the store; one file at most is read
 pub record Seeks {X : Type 0} (files : Ghosts X) (key : Key) (result : Result (Option FrameAnswer) Error) (before after : Shelf) (old new : X) : Type 0 where
   pub found : Found
   pub told : Told (in_view (files.worlds old)) (λ world. found ≡ found_at world before.root key)
   pub sought : IfOk result (λ missing. Sought before.cap key (source before.files key found) missing before.files after.files)
   pub opens : OnOk result (files.opens new ≡ opens_after (is_opened before.files key found) (files.opens old))
+  pub most : ReadsOne files old new
   pub place : after ≡ with_files before after.files
   pub err : OnErr result (after.files ≡ before.files)
   pub looked : Looked files old new (Faulted result)
   pub refusal : IfErr result IsFailure
 
 -- the first frames were answered behind earlier answers, each by what was found for it, which is what the world in view has,
--- where that is told; after a refusal the store keeps what it keeps after some of the frames
+-- where that is told; after a refusal the store keeps what it keeps after some of the frames; no more files are read than there
+-- are frames
 pub record Visits {X A : Type 0} (files : Ghosts X) (opts : FindSymOpts) (frames : List Frame) (result : Result A Error) (earlier answers : List FrameReading) (before after : Shelf) (old new : X) : Type 0 where
   pub visits : List (Frame × Found)
   pub told : Told (in_view (files.worlds old)) (λ world. visits ≡ found_each world before.root (map (λ v. v.0) visits))
@@ -52,6 +54,7 @@ pub record Visits {X A : Type 0} (files : Ghosts X) (opts : FindSymOpts) (frames
   pub ok : OnOk result (state after answers (files.opens new) ≡ visited before.cap opts visits (state before earlier (files.opens old)))
   pub more : OnOk result (length answers ≡ length earlier + count)
   pub err : OnErr result (after.files ≡ (visited before.cap opts visits (state before earlier (files.opens old))).kept)
+  pub most : files.opens new ≤ files.opens old + length frames
   pub place : after ≡ with_files before after.files
   pub looked : Looked files old new (Faulted result)
   pub refusal : IfErr result IsFailure
@@ -77,6 +80,8 @@ pub record AnswersFrames {X A : Type 0} (files : Ghosts X) (readings : A → Lis
       OnErr result ((count : ℕ) × (keys after.files ≡ keys_after before.cap (answered (take count frames) (map (answer_in world before.root opts) (take count frames))) (keys before.files))))
   -- a file is read for each frame whose name is good, whose key isn't kept at that point, and whose path is present
   pub opens : Told (in_view (files.worlds old)) (λ world. IfOk result (λ a. files.opens new ≡ opens_after_all before.cap (found_each world before.root frames) (readings a) (keys before.files) (files.opens old)))
+  -- no more files are read than there are frames, whatever is answered
+  pub most : files.opens new ≤ files.opens old + length frames
   -- the same of any files
   pub each : OneByOne files readings opts frames result before after old new
   -- root and capacity stay

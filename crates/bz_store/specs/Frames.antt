@@ -49,14 +49,14 @@ symbol_path root key = root ++ slash ∷ key.0 ++ slash ∷ key.1 ++ slash ∷ k
 
 -- what is answered for a frame, as plain data
 pub data FrameReading : Type 0 where
-  Answered : Answer → FrameReading
+  Known : Answer → FrameReading
   BadName : FrameReading
   NoFile : FrameReading
   Denied : FrameReading
   BadFile : FrameReading
 
 abbrev pub reading_of : FrameAnswer → FrameReading
-reading_of (answers.Answered answer) = Answered (reading answer)
+reading_of (answers.Known answer) = Known (reading answer)
 reading_of answers.BadName = BadName
 reading_of answers.NoFile = NoFile
 reading_of answers.Denied = Denied

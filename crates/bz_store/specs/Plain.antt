@@ -4,7 +4,7 @@ use Rattle.std.specs.List.{AllByRecursion, list_any}
 use Rattle.bz_base.specs.declared.types.FindSymOpts.{FindSymOpts}
 use Rattle.bz_cache.specs.Look.{opens_after}
 use Rattle.bz_files.specs.World.{World}
-use Rattle.bz_store.specs.Frames.{Key, Frame, FrameReading, Answered, BadName, is_good, key_eq}
+use Rattle.bz_store.specs.Frames.{Key, Frame, FrameReading, Known, BadName, is_good, key_eq}
 use Rattle.bz_store.specs.Shelf.{Kept}
 use Rattle.bz_store.specs.Visits.{Found, Holds, by_found, found_at, is_read}
 
@@ -33,7 +33,7 @@ keep_key cap key keys = take cap (key ∷ without key keys)
 
 -- the key of a frame that its file answered is kept
 abbrev pub keep_answered : ℕ → Key → FrameReading → List Key → List Key
-keep_answered cap key (Answered answer) keys = keep_key cap key keys
+keep_answered cap key (Known answer) keys = keep_key cap key keys
 keep_answered cap key _ keys = keys
 
 -- the keys that are kept after frames with these answers, in their order

@@ -10,7 +10,7 @@ use Rattle.bz_breakpad.specs.Table.{Table}
 use Rattle.bz_cache.specs.Look.{opens_after}
 use Rattle.bz_files.specs.World as worlds
 use Rattle.bz_files.specs.World.{World, Entry, entry_at}
-use Rattle.bz_store.specs.Frames.{Key, Frame, FrameReading, Answered, BadName, NoFile, Denied, BadFile, is_good, key_eq, symbol_path}
+use Rattle.bz_store.specs.Frames.{Key, Frame, FrameReading, Known, BadName, NoFile, Denied, BadFile, is_good, key_eq, symbol_path}
 use Rattle.bz_store.specs.Shelf.{Kept, keep}
 
 -- what may be found at the path of a file: nothing, a file that may not be read, or bytes
@@ -31,7 +31,7 @@ found_at world root key = found_by (entry_at world (symbol_path root key))
 -- the answer of bytes at an offset: that of their table, as an entry of a batch
 abbrev pub by_table : FindSymOpts → ℕ → Option Table → FrameReading
 by_table opts offset None = BadFile
-by_table opts offset (Some table) = Answered (in_batch (plain table opts offset))
+by_table opts offset (Some table) = Known (in_batch (plain table opts offset))
 
 -- the answer at an offset of a file, by what is found of it
 abbrev pub by_found : FindSymOpts → ℕ → Found → FrameReading

@@ -3,7 +3,7 @@
 ghost use Rattle.std.specs.Prelude.{◌≡◌, IfOk, IfErr};
 ghost use Rattle.bz_base.specs.Refusals.{IsFailure};
 ghost use Rattle.bz_cache.specs.Look.{opens_after};
-ghost use Rattle.bz_files.specs.Looked.{Faulted, Looked};
+ghost use Rattle.bz_files.specs.Looked.{Faulted, Looked, ReadsOne};
 ghost use Rattle.bz_files.specs.World.{Told, in_view};
 ghost use Rattle.bz_store.specs.Finding.{found_of};
 ghost use Rattle.bz_store.specs.Frames.{key_of};
@@ -35,6 +35,7 @@ pub fn find_file<F: Files>(
 ) -> Result<FoundFile>
     ensures found { Told (in_view (F.worlds files.old)) (λ world. IfOk result (λ found. found_of found ≡ found_at world root.now (key_of key.now))) }
     ensures opens { IfOk result (λ found. F.opens files.new ≡ opens_after (is_read (found_of found)) (F.opens files.old)) }
+    ensures most { ReadsOne F.Files files.old files.new }
     ensures files { Looked F.Files files.old files.new (Faulted result) }
     ensures refusal { IfErr result IsFailure }
 {

@@ -61,8 +61,8 @@ impl CrashFrame {
 /// What is answered for a frame.
 #[derive(Drop)]
 pub enum FrameAnswer {
-    /// The answer of the module's symbol file at the offset.
-    Answered(Symbolized<'static>),
+    /// The answer of the module's symbol file at the offset, also an unknown one.
+    Known(Symbolized<'static>),
     /// The module's name, or its id, isn't one that a folder can have.
     BadName,
     /// There is no symbol file of the module.

@@ -4,7 +4,7 @@ ghost use Rattle.std.specs.Prelude.{◌≡◌, ◌<◌, ◌++◌, map, OnOk, IsO
 ghost use Rattle.bz_base.specs.Answer.{reading};
 ghost use Rattle.bz_base.specs.declared.error.Error.{Error};
 ghost use Rattle.bz_breakpad.specs.Reader.{table_in};
-ghost use Rattle.bz_store.specs.Frames.{Answered, frame_of, reading_of};
+ghost use Rattle.bz_store.specs.Frames.{Known, frame_of, reading_of};
 ghost use Rattle.bz_store.specs.Visits.{by_table};
 
 use crate::frame::{CrashFrame, FrameAnswer, offsets};
@@ -56,12 +56,12 @@ fn push_owned(
     batch: Vec<Symbolized<'_>>,
     answers: &mut Vec<FrameAnswer>,
 ) -> Result<()>
-    ensures ok { OnOk result (map reading_of answers.new.items ≡ map reading_of answers.old.items ++ map Answered (map reading batch.entry.items)) }
+    ensures ok { OnOk result (map reading_of answers.new.items ≡ map reading_of answers.old.items ++ map Known (map reading batch.entry.items)) }
     ensures memory { IsOkUnless result Error.OutOfMemory }
 {
     for answer in batch {
         let answer = owned_answer(alloc, answer)?;
-        answers.push(FrameAnswer::Answered(answer))?;
+        answers.push(FrameAnswer::Known(answer))?;
     }
     Ok(())
 }

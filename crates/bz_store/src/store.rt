@@ -64,6 +64,7 @@ impl Store {
     /// push it out. A bad name, and a file that is absent, denied or no Breakpad file, are answers and
     /// no refusals; such a file isn't kept. ReadFault: a file couldn't be read, and the count of faults rose.
     /// OutOfMemory: memory ran out. What is kept after a refusal is what is kept after some of the frames.
+    /// No more files are read than there are frames, whatever is answered.
     pub fn answer<F: Files>(
         &mut self,
         alloc: Global,

@@ -1,5 +1,5 @@
-use Rattle.std.proofs.Common.{[], ◌∷◌, ◌++◌, Ok, refl, slice_index_or, map, take, ap, subst, ◌∙◌}
-use Rattle.std.proofs.lemmas.List.{map-append, take-map}
+use Rattle.std.proofs.Common.{[], ◌∷◌, ◌++◌, Ok, refl, slice_index_or, map, take, ap, subst, ◌∙◌, arith}
+use Rattle.std.proofs.lemmas.List.{length-map, map-append, take-map}
 use Rattle.std.proofs.lemmas.Result.{err_from_is_err_and}
 use Rattle.bz_breakpad.specs.Reader.{table_in}
 use Rattle.bz_store.specs.Calls.{Seeks}
@@ -13,7 +13,7 @@ returns-in_err-answer-clause-visits g c =
     let first = slice_index_or c.args.frames.now 0 c.index-frames-0.result in
     let same = err_from_is_err_and c.from_residual.result c.from_residual.ensures.1 in
     rw (same.1, same.2) (visits_unsought g.F.Files c.args.opts.now (map frame_of c.args.frames.now) (key_of first.key) (map reading_of c.args.answers.now.items) c.args.self.now c.seek.new.self c.args.files.now c.seek.new.files
-    c.in_err-answer.field-0.0 c.in_err-answer.ensures (map reading_of c.args.answers.now.items))
+    c.in_err-answer.field-0.0 (omega (arith, c.requires, length-map c.args.frames.now frame_of)) c.in_err-answer.ensures (map reading_of c.args.answers.now.items))
 
 pub returns-in_ok-push-in-Some-clause-visits : goal.returns-in_ok-push-in-Some-clause-visits
 returns-in_ok-push-in-Some-clause-visits g c =
