@@ -42,6 +42,7 @@ module _ {R W F : Type 0} (reads : input_trait.Ghosts R) (writes : output_trait.
     named = λ is text left old written. named_from text old (rw is at (finished.ends old written)) (given.named text left (by_reply statuses.Input input_no_failure is));
     complete = λ text left frames asks. by_frames text left frames asks given.status;
     opens = λ done text left world told. given.opens text left world told (by_reply statuses.Done done_no_failure done);
+    most = given.most;
     unlooked = given.unlooked;
     read = λ _. given.read;
     bounded = given.bounded;
@@ -101,6 +102,7 @@ module _ {R W F : Type 0} (reads : input_trait.Ghosts R) (writes : output_trait.
     named = λ is. absurd (never ended statuses.Input input_no_failure failed is);
     complete = λ text left frames asks. inr failed;
     opens = λ done. absurd (never ended statuses.Done done_no_failure failed done);
+    most = given.most;
     unlooked = given.unlooked;
     read = λ no_failure. absurd (never ended ended no_failure failed refl);
     bounded = given.bounded;

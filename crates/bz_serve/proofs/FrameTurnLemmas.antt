@@ -1,5 +1,5 @@
 -- What a reply to an input of frames comes to, from what was read of the input.
-use Rattle.std.proofs.Common.{◌≡◌, ◌↔◌, ◌+◌, ◌≤◌, ◌<◌, ℕ, List, length, Result, Some, Ok, Err, IfOk, IsErrOf, refl, sym, ap, subst, ◌∙◌, inl, inr}
+use Rattle.std.proofs.Common.{◌≡◌, ◌↔◌, ◌+◌, ◌≤◌, ◌<◌, ℕ, List, length, Result, Some, Ok, Err, IfOk, IsErrOf, refl, sym, ap, subst, ◌∙◌, inl, inr, arith}
 use Rattle.bz_base.specs.declared.error.Error.{Error}
 use Rattle.bz_base.specs.declared.error.Error.TheVariants as errors
 use Rattle.bz_base.specs.declared.types.FindSymOpts.{FindSymOpts}
@@ -8,6 +8,8 @@ use Rattle.bz_files.specs.Looked.{Faulted}
 use Rattle.bz_files.specs.World.{Told}
 use Rattle.bz_files.specs.declared.files.Files as files_trait
 use Rattle.bz_files.specs.declared.text.TextIn as input_trait
+use Rattle.bz_requests.proofs.LineGrammarLemmas.{items_again}
+use Rattle.bz_store.specs.Frames.{Frame}
 use Rattle.bz_symq.proofs.EndLemmas.{input_no_failure}
 use Rattle.bz_symq.proofs.FaultLemmas.{counts_as, counts_still, no_fault}
 use Rattle.bz_symq.proofs.InputTextLemmas.{err_from_bad}
@@ -23,7 +25,7 @@ use Rattle.bz_symq.specs.declared.status.Status.TheVariants as statuses
 use Rattle.bz_serve.proofs.FrameLemmas.{frame_agrees}
 use Rattle.bz_serve.proofs.FrameInputLemmas.{bad_read, either_status, outcome_long, outcome_short, reply_read, status_read}
 use Rattle.bz_serve.specs.FrameLines.{IsFrame, frame_in, frames_in}
-use Rattle.bz_serve.specs.FrameReply.{IsFramesReply, RepliesFrames, opens_by}
+use Rattle.bz_serve.specs.FrameReply.{IsFramesReply, RepliesFrames, frame_count, opens_by}
 use Rattle.bz_serve.specs.FrameRun.{NamesBad, frames_outcome}
 use Rattle.bz_serve.specs.FrameTurns.{IsRunReply, RepliesToInput}
 
@@ -51,6 +53,9 @@ module _ {R F : Type 0} (reads : input_trait.Ghosts R) (looks : files_trait.Ghos
     input = λ all left. when_given result (λ given is. subst (λ lines. (given.status ≡ statuses.Input) ↔ IsBadInput IsFrame lines) (whole all left) (status_read text short (frames_in text) refl given.status is)) replied.status;
     opens = λ all left world told. when_given result
         (λ given is done. subst (λ lines. looks.opens files_after ≡ opens_by world root opts (frames_in lines) (looks.opens files_before)) (whole all left) is) (replied.opens world told);
+    most = λ all left frames asks.
+        subst (λ (asked : Result (List Frame) ℕ). looks.opens files_after ≤ looks.opens files_before + frame_count asked)
+        (ap frames_in (whole all left) ∙ items_again frame_in IsFrame frame_agrees all frames asks.items_are) replied.most;
     unlooked = λ all left bad. replied.unlooked (err_from_bad frame_in IsFrame frame_agrees text short (subst (IsBadInput IsFrame) (sym (whole all left)) bad));
     order = inr read;
     read = when_given result (λ given is. read) replied.status;
@@ -70,6 +75,7 @@ module _ {R F : Type 0} (reads : input_trait.Ghosts R) (looks : files_trait.Ghos
     named = λ text left input. inl (long text left, ap (λ (o : Outcome). o.text) is);
     input = λ text left. (λ _. inl (long text left), λ _. status);
     opens = λ text left world told done. let both : statuses.Input ≡ statuses.Done = sym status ∙ done in cc;
+    most = λ text left frames asks. omega arith;
     unlooked = λ text left bad. refl;
     order = inl refl;
     read = read;
@@ -91,6 +97,7 @@ module _ {R F : Type 0} (reads : input_trait.Ghosts R) (looks : files_trait.Ghos
     named = λ text left. tt;
     input = λ text left. tt;
     opens = λ text left world told. tt;
+    most = λ text left frames asks. omega arith;
     unlooked = λ text left bad. refl;
     order = inl refl;
     read = tt;

@@ -61,6 +61,7 @@ module _ {R W F : Type 0} (reads : input_trait.Ghosts R) (writes : output_trait.
     read = λ _. given.read;
     bounded = given.bounded;
     order = inr given.read;
+    silent = λ text left world later told. subst (λ asked. (outcome_by config (world ∷ later) (looks.pid files_before) asked).text ≡ [] → output_after ≡ output_before) (given.asked text left) (serves.silent world later told);
     opens = λ text left world later told.
         subst (λ asked. looks.opens files_after ≤ looks.opens files_before + reads_by config (world ∷ later) (looks.pid files_before) asked) (given.asked text left) (serves.reads world later told);
     turned = λ done text left. subst (λ asked. IfOk asked (λ requests. looks.worlds files_after ≡ option_map (worlds_after requests) (looks.worlds files_before))) (given.asked text left) (serves.turned done);
@@ -92,6 +93,7 @@ module _ {R W F : Type 0} (reads : input_trait.Ghosts R) (writes : output_trait.
     read = λ _. given.read;
     bounded = given.bounded;
     order = inr given.read;
+    silent = λ text left world later told. subst (λ asked. (outcome_by config (world ∷ later) (looks.pid files) asked).text ≡ [] → output_after ≡ output_before) (given.asked text left) finished.silent;
     opens = λ text left world later told.
         subst (λ asked. looks.opens files ≤ looks.opens files + reads_by config (world ∷ later) (looks.pid files) asked) (given.asked text left) (omega arith);
     turned = λ done. absurd (other_status statuses.Input statuses.Done ended (λ same. cc) done_no_failure status done);
@@ -120,6 +122,7 @@ module _ {R W F : Type 0} (reads : input_trait.Ghosts R) (writes : output_trait.
     read = λ no_failure. absurd (never ended ended no_failure failed refl);
     bounded = given.bounded;
     order = inl (refl, refl);
+    silent = λ text left world later told nothing. refl;
     opens = λ text left world later told. omega arith;
     turned = λ done. absurd (never ended statuses.Done done_no_failure failed done);
     fails = fails_at_input reads writes looks ended _ _ _ _ _ _ (counts_as _ _ same_fault.0 same_fault.1 given.counts) refl refl;

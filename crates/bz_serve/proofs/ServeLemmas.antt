@@ -26,6 +26,7 @@ module _ {W F : Type 0} (writes : output_trait.Ghosts W) (looks : files_trait.Gh
   served_said say (Ok given) result replied wrote is = rw is (record {
     whole = λ world told was written. wrote.whole was written ∙ ap (λ text. Some (was ++ text)) (replied.said world told);
     front = λ world told was written. tt;
+    silent = λ world told nothing. wrote.silent (replied.said world told ∙ nothing);
     state = replied.state;
     reads = replied.reads;
     output_faults = counts_as _ _ (λ failed. cc) (λ never. absurd never) wrote.counts;
@@ -34,6 +35,7 @@ module _ {W F : Type 0} (writes : output_trait.Ghosts W) (looks : files_trait.Gh
   served_said say (Err faults.Fault) result replied wrote is = rw is (record {
     whole = λ world told was written. tt;
     front = λ world told was written. subst (λ text. WritesFront text was (writes.written output_after)) (replied.said world told) (wrote.front was written);
+    silent = λ world told nothing. wrote.silent (replied.said world told ∙ nothing);
     state = λ world told. tt;
     reads = replied.reads;
     output_faults = counts_as _ _ (λ failed. refl) (λ failed. refl) wrote.counts;
@@ -42,6 +44,7 @@ module _ {W F : Type 0} (writes : output_trait.Ghosts W) (looks : files_trait.Gh
   served_said say (Err faults.OutOfMemory) result replied wrote is = rw is (record {
     whole = λ world told was written. tt;
     front = λ world told was written. subst (λ text. WritesFront text was (writes.written output_after)) (replied.said world told) (wrote.front was written);
+    silent = λ world told nothing. wrote.silent (replied.said world told ∙ nothing);
     state = λ world told. tt;
     reads = replied.reads;
     output_faults = counts_as _ _ (λ failed. cc) (λ failed. cc) wrote.counts;
@@ -60,6 +63,7 @@ module _ {W F : Type 0} (writes : output_trait.Ghosts W) (looks : files_trait.Gh
       by_failure (inl is) = rw is (record {
         whole = λ world told was written. tt;
         front = λ world told was written. front_of_none _ was written;
+        silent = λ world told nothing. refl;
         state = λ world told. tt;
         reads = replied.reads;
         output_faults = counts_still _ _ _ (λ other. cc) refl;
@@ -68,6 +72,7 @@ module _ {W F : Type 0} (writes : output_trait.Ghosts W) (looks : files_trait.Gh
       by_failure (inr is) = rw is (record {
         whole = λ world told was written. tt;
         front = λ world told was written. front_of_none _ was written;
+        silent = λ world told nothing. refl;
         state = λ world told. tt;
         reads = replied.reads;
         output_faults = counts_still _ _ _ (λ other. cc) refl;

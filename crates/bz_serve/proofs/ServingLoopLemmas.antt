@@ -32,28 +32,41 @@ turned_more request left None = refl
 turned_more request left (Some worlds) = refl
 
 -- a front of the text was written, and the rest is what is left
-abbrev pub Wrote : List ℕ → List ℕ → Option (List ℕ) → Option (List ℕ) → Type 0
-Wrote text rest first now = Told first (λ was. (front : List ℕ) × (text ≡ front ++ rest) × (now ≡ Some (was ++ front)))
+pub record Wrote (text rest : List ℕ) (first now : Option (List ℕ)) : Type 0 where
+  pub front : List ℕ
+  pub whole : text ≡ front ++ rest
+  pub written : Told first (λ was. now ≡ Some (was ++ front))
 
 -- one more text joins the front
 wrote_more : (text one rest : List ℕ) (first written after : Option (List ℕ)) → Wrote text (one ++ rest) first written →
     ((was : List ℕ) → written ≡ Some was → after ≡ Some (was ++ one)) → Wrote text rest first after
-wrote_more text one rest first written after so_far adds was told =
-    let part = so_far was told in
-    (part.0 ++ one, part.1 ∙ sym (append_assoc part.0 one rest), adds (was ++ part.0) part.2 ∙ ap Some (append_assoc was part.0 one))
+wrote_more text one rest first written after so_far adds = record {
+  front = so_far.front ++ one;
+  whole = so_far.whole ∙ sym (append_assoc so_far.front one rest);
+  written = λ was told. adds (was ++ so_far.front) (so_far.written was told) ∙ ap Some (append_assoc was so_far.front one);
+}
 
 -- or a front of it
 wrote_front : (text one rest : List ℕ) (first written after : Option (List ℕ)) → Wrote text (one ++ rest) first written →
     ((was : List ℕ) → written ≡ Some was → WritesFront one was after) → Told first (λ was. WritesFront text was after)
 wrote_front text one rest first written after so_far adds was told =
-    let part = so_far was told in
-    let more = adds (was ++ part.0) part.2 in
+    let more = adds (was ++ so_far.front) (so_far.written was told) in
     let inner : one ++ rest ≡ more.0 ++ (more.1 ++ rest) = ap (λ p. p ++ rest) more.2 ∙ append_assoc more.0 more.1 rest in (
-      part.0 ++ more.0,
+      so_far.front ++ more.0,
       more.1 ++ rest,
-      part.1 ∙ (ap (λ all. part.0 ++ all) inner ∙ sym (append_assoc part.0 more.0 (more.1 ++ rest))),
-      more.3 ∙ ap Some (append_assoc was part.0 more.0),
+      so_far.whole ∙ (ap (λ all. so_far.front ++ all) inner ∙ sym (append_assoc so_far.front more.0 (more.1 ++ rest))),
+      more.3 ∙ ap Some (append_assoc was so_far.front more.0),
     )
+
+-- an empty text has empty parts
+nothing_in : (front rest : List ℕ) → [] ≡ front ++ rest → (front ≡ []) × (rest ≡ [])
+nothing_in [] [] none = (refl, refl)
+nothing_in [] (b ∷ bs) none = cc
+nothing_in (b ∷ bs) rest none = cc
+
+-- so nothing is left to be said where the whole text is empty
+wrote_nothing : (text one rest : List ℕ) (first written : Option (List ℕ)) → Wrote text (one ++ rest) first written → text ≡ [] → one ≡ []
+wrote_nothing text one rest first written so_far nothing = (nothing_in one rest (sym (nothing_in so_far.front (one ++ rest) (sym nothing ∙ so_far.whole)).1)).0
 
 fewer : (opens opened one rest others reads : ℕ) → opens + (one + rest) ≤ reads → opened ≤ opens + one → rest ≡ others → opened + others ≤ reads
 fewer opens opened one rest others reads few counts same = omega (arith, few, counts, same)
@@ -107,6 +120,10 @@ module _ {A : Type 0} (step : A → Kept → World → Step) where
     pub so_far_front : (after : Option (List ℕ)) → ((was : List ℕ) → written ≡ Some was → WritesFront (step request state seen).text was after) → Told first (λ was. WritesFront text was after)
     so_far_front after wrote = wrote_front text (step request state seen).text _ first written after so_far.wrote wrote
 
+    -- where the whole text is empty, its own is
+    pub so_far_nothing : text ≡ [] → (step request state seen).text ≡ []
+    so_far_nothing nothing = wrote_nothing text (step request state seen).text _ first written so_far.wrote nothing
+
     pub so_far_few : (opened : ℕ) → opened ≤ opens + (step request state seen).reads → opened ≤ reads
     so_far_few opened counts = fewest opens opened (step request state seen).reads _ reads so_far.few counts
 
@@ -116,6 +133,7 @@ module _ {A W F : Type 0} (writes : output_trait.Ghosts W) (looks : files_trait.
     pub so_far : ToldWorlds (looks.worlds files_first) (λ worlds.
         SoFar (step (looks.pid files_first)) (texts_from (step (looks.pid files_first)) start (turns requests worlds)) (looks.opens files_first + reads_from (step (looks.pid files_first)) start (turns requests worlds))
         state left (writes.written output_first) (writes.written output) (looks.opens files) (looks.worlds files))
+    pub silent : ToldWorlds (looks.worlds files_first) (λ worlds. texts_from (step (looks.pid files_first)) start (turns requests worlds) ≡ [] → output ≡ output_first)
     pub turned : option_map (worlds_after left) (looks.worlds files) ≡ option_map (worlds_after requests) (looks.worlds files_first)
     pub output_steady : writes.faults output ≡ writes.faults output_first
     pub files_steady : looks.faults files ≡ looks.faults files_first
@@ -128,9 +146,10 @@ module _ {A W F : Type 0} (writes : output_trait.Ghosts W) (looks : files_trait.
       world = world;
       later = later;
       told_is = told;
-      wrote = λ was written. ([], refl, written ∙ ap Some (sym (append-nil was)));
+      wrote = record { front = []; whole = refl; written = λ was written. written ∙ ap Some (sym (append-nil was)) };
       few = omega arith;
     };
+    silent = λ world later told nothing. refl;
     turned = refl;
     output_steady = refl;
     files_steady = refl;
@@ -153,6 +172,10 @@ module _ {A W F : Type 0} (writes : output_trait.Ghosts W) (looks : files_trait.
               let more = so_far_more _ _ _ state request left _ _ _ _ (looks.worlds begun) before begins now (writes.written output_now) (looks.opens files_now) (one.whole _ seen_is) (one.state _ seen_is)
               (rw (← same_opens) (one.reads _ seen_is)) in
               rw one.looked.worlds more;
+          silent = λ world later told nothing.
+              let before = so_far.so_far world later told in
+              let seen_is = in_view_is _ _ _ state request left _ _ _ _ (looks.worlds begun) before begins in
+              one.silent _ seen_is (so_far_nothing _ _ _ state request left _ _ _ _ (looks.worlds begun) before begins nothing) ∙ so_far.silent world later told nothing;
           turned = ap (option_map (worlds_after left)) (one.looked.worlds ∙ begins) ∙ turned_more request left (looks.worlds files) ∙ so_far.turned;
           output_steady = no_fault _ _ _ (λ never. never) one.output_faults ∙ so_far.output_steady;
           files_steady = no_fault _ _ _ (λ never. never) one.looked.faults ∙ same_faults ∙ so_far.files_steady;
@@ -170,6 +193,10 @@ module _ {A W F : Type 0} (writes : output_trait.Ghosts W) (looks : files_trait.
               let before = so_far.so_far world later told in
               let seen_is = in_view_is _ _ _ state request left _ _ _ _ (looks.worlds begun) before begins in
               so_far_front _ _ _ state request left _ _ _ _ (looks.worlds begun) before begins (writes.written output_now) (one.front _ seen_is);
+          silent = λ world later told nothing.
+              let before = so_far.so_far world later told in
+              let seen_is = in_view_is _ _ _ state request left _ _ _ _ (looks.worlds begun) before begins in
+              one.silent _ seen_is (so_far_nothing _ _ _ state request left _ _ _ _ (looks.worlds begun) before begins nothing) ∙ so_far.silent world later told nothing;
           reads = λ world later told.
               let before = so_far.so_far world later told in
               let seen_is = in_view_is _ _ _ state request left _ _ _ _ (looks.worlds begun) before begins in
@@ -185,9 +212,10 @@ module _ {A W F : Type 0} (writes : output_trait.Ghosts W) (looks : files_trait.
       ServedSoFar requests [] start state output_first output files_first files → ServesAll writes looks step requests (Ok given) start output_first output files_first files
   served_all requests start state output_first output files_first files all = record {
     whole = λ world later told was written.
-        let part = (all.so_far world later told).wrote was written in
-        part.2 ∙ ap (λ text. Some (was ++ text)) (sym (part.1 ∙ append-nil part.0));
+        let wrote = (all.so_far world later told).wrote in
+        wrote.written was written ∙ ap (λ text. Some (was ++ text)) (sym (wrote.whole ∙ append-nil wrote.front));
     front = λ world later told was written. tt;
+    silent = all.silent;
     reads = λ world later told. let few = (all.so_far world later told).few in omega (arith, few);
     turned = turned_none (looks.worlds files) ∙ all.turned;
     output_faults = counts_still _ _ _ (λ never. never) all.output_steady;
@@ -202,6 +230,7 @@ module _ {W F : Type 0} (writes : output_trait.Ghosts W) (looks : files_trait.Gh
       Serves writes looks config requests ended output_before output_after files_before files_after
   serves_from_all config requests (Ok given) ended output_before output_after files_before files_after all is = rw is (record {
     ends = λ world later told was written. (refl, all.whole world later told was written);
+    silent = all.silent;
     status = inl refl;
     reads = all.reads;
     turned = λ _. all.turned;
@@ -210,6 +239,7 @@ module _ {W F : Type 0} (writes : output_trait.Ghosts W) (looks : files_trait.Gh
   })
   serves_from_all config requests (Err stops.Files) ended output_before output_after files_before files_after all is = rw is (record {
     ends = λ world later told was written. all.front world later told was written;
+    silent = all.silent;
     status = inr (inl refl);
     reads = all.reads;
     turned = λ other. cc;
@@ -218,6 +248,7 @@ module _ {W F : Type 0} (writes : output_trait.Ghosts W) (looks : files_trait.Gh
   })
   serves_from_all config requests (Err stops.Output) ended output_before output_after files_before files_after all is = rw is (record {
     ends = λ world later told was written. all.front world later told was written;
+    silent = all.silent;
     status = inr (inl refl);
     reads = all.reads;
     turned = λ other. cc;
@@ -226,6 +257,7 @@ module _ {W F : Type 0} (writes : output_trait.Ghosts W) (looks : files_trait.Gh
   })
   serves_from_all config requests (Err stops.Memory) ended output_before output_after files_before files_after all is = rw is (record {
     ends = λ world later told was written. all.front world later told was written;
+    silent = all.silent;
     status = inr (inr refl);
     reads = all.reads;
     turned = λ other. cc;

@@ -1,5 +1,5 @@
 -- What an input of frames is answered.
-use Rattle.std.specs.Prelude.{◌≡◌, ℕ, List, [], map, Result, Ok, Err, IsErr, IfOk, IfErr}
+use Rattle.std.specs.Prelude.{◌≡◌, ◌≤◌, ◌+◌, ℕ, List, [], length, map, Result, Ok, Err, IsErr, IfOk, IfErr}
 use Rattle.bz_base.specs.Refusals.{IsFailure}
 use Rattle.bz_base.specs.declared.error.Error.{Error}
 use Rattle.bz_base.specs.declared.types.FindSymOpts.{FindSymOpts}
@@ -37,6 +37,11 @@ abbrev pub opens_by : World → List ℕ → FindSymOpts → Result (List Frame)
 opens_by world root opts (Ok frames) n = opens_after_all capacity (found_each world root frames) (map (answer_in world root opts) frames) [] n
 opens_by world root opts (Err bad) n = n
 
+-- how many frames an input has; a bad one has none
+abbrev pub frame_count : Result (List Frame) ℕ → ℕ
+frame_count (Ok frames) = length frames
+frame_count (Err bad) = 0
+
 -- the status of a reply: frames are answered and never refused, and a bad line is named
 abbrev pub IsFrameStatus : Result (List Frame) ℕ → Status → Type 0
 IsFrameStatus (Ok frames) status = status ≡ statuses.Done
@@ -61,6 +66,8 @@ pub record RepliesFrames {X : Type 0} (files : Ghosts X) (root : List ℕ) (opts
   -- by the world in view, where that is told
   pub reply : Told (in_view (files.worlds old)) (λ world. Replies (by_frames world root opts asked) result)
   pub opens : Told (in_view (files.worlds old)) (λ world. IfOk result (λ reply. files.opens new ≡ opens_by world root opts asked (files.opens old)))
+  -- no more files are read than there are frames, whatever is answered
+  pub most : files.opens new ≤ files.opens old + frame_count asked
   -- frames or bad line alone decide on the status, and only a failure comes in place of a reply
   pub status : IfOk result (λ reply. IsFrameStatus asked reply.status)
   pub no_failure : IfOk result (λ reply. IsNoFailure reply.status)

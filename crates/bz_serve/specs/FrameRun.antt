@@ -71,6 +71,8 @@ pub record RunsFrames {R W F : Type 0} (reads : input_trait.Ghosts R) (writes : 
   -- status 0 means that a file was read for each frame whose name is good, whose key wasn't kept, and whose path is present
   pub opens : ended ≡ statuses.Done → Told (reads.left input_before) (λ text. Told (in_view (looks.worlds files_before)) (λ world.
       looks.opens files_after ≡ opens_by world root opts (frames_in text) (looks.opens files_before)))
+  -- no more files are read than the input has frames, however the run ends
+  pub most : Told (reads.left input_before) (λ text. (frames : List Frame) → AsksFor IsFrame text frames → looks.opens files_after ≤ looks.opens files_before + length frames)
   -- over a bad input no file is looked at
   pub unlooked : Told (reads.left input_before) (λ text. IsBadInput IsFrame text → files_after ≡ files_before)
   -- a run that doesn't fail has read the input, and no run reads on past the byte that makes it too long

@@ -1,6 +1,6 @@
 -- The text of a frame's answer: the frame's module and id, and the answer at its offset.
 use Rattle.std.specs.Prelude.{ℕ, List, [], ◌∷◌, ◌++◌, codes}
-use Rattle.bz_store.specs.Frames.{Key, Frame, FrameReading, Answered, BadName, NoFile, Denied, BadFile}
+use Rattle.bz_store.specs.Frames.{Key, Frame, FrameReading, Known, BadName, NoFile, Denied, BadFile}
 use Rattle.bz_canon.specs.AnswerText.{answer_text, hex}
 
 -- MODULE ID, and a space
@@ -13,7 +13,7 @@ unknown_text offset reason = hex offset ++ (codes ": ? " ++ (reason ++ codes "\n
 
 -- the answer at an offset, or why there is none
 abbrev pub reply_text : ℕ → FrameReading → List ℕ
-reply_text offset (Answered answer) = answer_text offset answer
+reply_text offset (Known answer) = answer_text offset answer
 reply_text offset BadName = unknown_text offset (codes "bad name")
 reply_text offset NoFile = unknown_text offset (codes "no symbol file")
 reply_text offset Denied = unknown_text offset (codes "access denied")

@@ -1,5 +1,5 @@
 -- What a reply to an input of frames comes to of input and files, and in which turn.
-use Rattle.std.specs.Prelude.{◌≡◌, ◌⊎◌, ◌↔◌, ◌+◌, ℕ, List, Result, IfOk}
+use Rattle.std.specs.Prelude.{◌≡◌, ◌⊎◌, ◌↔◌, ◌+◌, ◌≤◌, ℕ, List, length, Result, IfOk}
 use Rattle.bz_base.specs.declared.error.Error.{Error}
 use Rattle.bz_base.specs.declared.types.FindSymOpts.{FindSymOpts}
 use Rattle.bz_files.specs.Looked.{Faulted}
@@ -44,6 +44,8 @@ pub record RepliesToInput {R F : Type 0} (reads : input_trait.Ghosts R) (looks :
   -- where the run is done, so many files were read
   pub opens : Told (reads.left input_before) (λ text. Told (in_view (looks.worlds files_before)) (λ world. IfOk result (λ given.
       given.status ≡ statuses.Done → looks.opens files_after ≡ opens_by world root opts (frames_in text) (looks.opens files_before))))
+  -- no more files are read than the input has frames, whatever is answered
+  pub most : Told (reads.left input_before) (λ text. (frames : List Frame) → AsksFor IsFrame text frames → looks.opens files_after ≤ looks.opens files_before + length frames)
   -- over a bad input no file is looked at, and until the input is read none
   pub unlooked : Told (reads.left input_before) (λ text. IsBadInput IsFrame text → files_after ≡ files_before)
   pub order : (files_after ≡ files_before) ⊎ IsReadWhole (reads.left input_before) (reads.left input_after)

@@ -1,5 +1,5 @@
 -- What a run over an input of requests promises.
-use Rattle.std.specs.Prelude.{◌≡◌, ◌⊎◌, ◌+◌, ◌≤◌, ℕ, List, Option, Some, option_map, Result, IfOk}
+use Rattle.std.specs.Prelude.{◌≡◌, ◌⊎◌, ◌+◌, ◌≤◌, ℕ, List, [], Option, Some, option_map, Result, IfOk}
 use Rattle.bz_base.specs.declared.error.Error.{Error}
 use Rattle.bz_files.specs.Count.{CountsFaults}
 use Rattle.bz_files.specs.Looked.{Faulted}
@@ -54,6 +54,9 @@ pub record RunsRequests {R W F : Type 0} (reads : input_trait.Ghosts R) (writes 
   pub bounded : MovesAtMost (greatest_input + 1) (reads.left input_before) (reads.left input_after)
   -- until the input is read, no file is looked at and nothing is written
   pub order : ((files_after ≡ files_before) × (output_after ≡ output_before)) ⊎ IsReadWhole (reads.left input_before) (reads.left input_after)
+  -- where there is nothing to write, the output is left alone
+  pub silent : Told (reads.left input_before) (λ text. ToldWorlds (looks.worlds files_before) (λ worlds.
+      (outcome_by config worlds (looks.pid files_before) (asked_in text)).text ≡ [] → output_after ≡ output_before))
   -- no more files are read than the requests may read, each in its state and its world
   pub opens : Told (reads.left input_before) (λ text. ToldWorlds (looks.worlds files_before) (λ worlds.
       looks.opens files_after ≤ looks.opens files_before + reads_by config worlds (looks.pid files_before) (asked_in text)))

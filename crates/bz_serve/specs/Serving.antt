@@ -1,5 +1,5 @@
 -- What a run of requests promises, and each of its parts.
-use Rattle.std.specs.Prelude.{◌≡◌, ◌⊎◌, ◌≤◌, ◌+◌, ℕ, List, ◌∷◌, ◌++◌, Option, Some, option_map, Result, Ok, Err, IfOk, IfErr, OnOk, OnErr}
+use Rattle.std.specs.Prelude.{◌≡◌, ◌⊎◌, ◌≤◌, ◌+◌, ℕ, List, [], ◌∷◌, ◌++◌, Option, Some, option_map, Result, Ok, Err, IfOk, IfErr, OnOk, OnErr}
 use Rattle.bz_base.specs.declared.error.Error.{Error}
 use Rattle.bz_base.specs.declared.error.Error.TheVariants as errors
 use Rattle.bz_files.specs.Count.{CountsFaults}
@@ -72,26 +72,28 @@ pub record Replied {F : Type 0} (looks : files_trait.Ghosts F) (step : Kept → 
   pub failure : IfErr result (λ e. (e ≡ errors.ReadFault) ⊎ (e ≡ errors.OutOfMemory))
   pub looked : Looked looks before after (Faulted result)
 
--- a request was answered in the world in view, and its text was written, or a front of it
+-- a request was answered in the world in view, and its text was written, or a front of it; of an empty text nothing was
 pub record Served {W F : Type 0} (writes : output_trait.Ghosts W) (looks : files_trait.Ghosts F) (step : Kept → World → Step) (result : Result (Unit {0}) Stop)
     (old now : Kept) (output_before output_after : W) (files_before files_after : F) : Type 0 where
   pub whole : Told (in_view (looks.worlds files_before)) (λ world. Told (writes.written output_before) (λ was.
       OnOk result (writes.written output_after ≡ Some (was ++ (step old world).text))))
   pub front : Told (in_view (looks.worlds files_before)) (λ world. Told (writes.written output_before) (λ was.
       OnErr result (WritesFront (step old world).text was (writes.written output_after))))
+  pub silent : Told (in_view (looks.worlds files_before)) (λ world. (step old world).text ≡ [] → output_after ≡ output_before)
   pub state : Told (in_view (looks.worlds files_before)) (λ world. OnOk result (now ≡ (step old world).state))
   pub reads : Told (in_view (looks.worlds files_before)) (λ world. looks.opens files_after ≤ looks.opens files_before + (step old world).reads)
   pub output_faults : CountsFaults (writes.faults output_before) (writes.faults output_after) (StopsBy stops.Output result)
   pub looked : Looked looks files_before files_after (StopsBy stops.Files result)
 
--- requests were answered, each in its world, and the texts were written, or a front of them; what each comes to may depend on the
--- id of the own process
+-- requests were answered, each in its world, and the texts were written, or a front of them, and nothing where they are empty; what
+-- each comes to may depend on the id of the own process
 pub record ServesAll {A W F : Type 0} (writes : output_trait.Ghosts W) (looks : files_trait.Ghosts F) (step : ℕ → A → Kept → World → Step) (requests : List A) (result : Result (Unit {0}) Stop)
     (old : Kept) (output_before output_after : W) (files_before files_after : F) : Type 0 where
   pub whole : ToldWorlds (looks.worlds files_before) (λ worlds. Told (writes.written output_before) (λ was.
       OnOk result (writes.written output_after ≡ Some (was ++ texts_from (step (looks.pid files_before)) old (turns requests worlds)))))
   pub front : ToldWorlds (looks.worlds files_before) (λ worlds. Told (writes.written output_before) (λ was.
       OnErr result (WritesFront (texts_from (step (looks.pid files_before)) old (turns requests worlds)) was (writes.written output_after))))
+  pub silent : ToldWorlds (looks.worlds files_before) (λ worlds. texts_from (step (looks.pid files_before)) old (turns requests worlds) ≡ [] → output_after ≡ output_before)
   pub reads : ToldWorlds (looks.worlds files_before) (λ worlds. looks.opens files_after ≤ looks.opens files_before + reads_from (step (looks.pid files_before)) old (turns requests worlds))
   pub turned : OnOk result (looks.worlds files_after ≡ option_map (worlds_after requests) (looks.worlds files_before))
   pub output_faults : CountsFaults (writes.faults output_before) (writes.faults output_after) (StopsBy stops.Output result)
@@ -115,6 +117,8 @@ pub record Serves {W F : Type 0} (writes : output_trait.Ghosts W) (looks : files
   -- status 0 means that the run is what was written, and status 4 or 5 that a front of it is
   pub ends : ToldWorlds (looks.worlds files_before) (λ worlds. Told (writes.written output_before) (λ was.
       Ends (served (run_text config requests worlds (looks.pid files_before))) was ended (writes.written output_after)))
+  -- where there is nothing to write, the output is left alone
+  pub silent : ToldWorlds (looks.worlds files_before) (λ worlds. run_text config requests worlds (looks.pid files_before) ≡ [] → output_after ≡ output_before)
   -- no other status comes
   pub status : IsOrFails statuses.Done ended
   -- no more files are read than the requests may read, each in its state and its world

@@ -17,3 +17,5 @@ pub record FailsAtOneSide {R W F : Type 0} (reads : input_trait.Ghosts R) (write
   pub input_faults : CountsFaults (reads.faults input_before) (reads.faults input_after) (failed ≡ Some AtInput)
   pub output_faults : CountsFaults (writes.faults output_before) (writes.faults output_after) (failed ≡ Some AtOutput)
   pub files_faults : CountsFaults (looks.faults files_before) (looks.faults files_after) (failed ≡ Some AtFiles)
+  -- where the input failed, no file was looked at and nothing was written
+  pub unreached : failed ≡ Some AtInput → (files_after ≡ files_before) × (output_after ≡ output_before)

@@ -48,7 +48,7 @@ fn push_reply(text: &mut String, offset: u64, answer: &FrameAnswer) -> Result<()
     ensures memory { IsOkUnless result Error.OutOfMemory }
 {
     match answer {
-        FrameAnswer::Answered(answer) => push_answer(text, offset, answer),
+        FrameAnswer::Known(answer) => push_answer(text, offset, answer),
         FrameAnswer::BadName => push_unknown(text, offset, "bad name"),
         FrameAnswer::NoFile => push_unknown(text, offset, "no symbol file"),
         FrameAnswer::Denied => push_unknown(text, offset, "access denied"),
