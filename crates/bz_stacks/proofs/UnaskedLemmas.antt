@@ -40,12 +40,12 @@ module _ {D R X : Type 0} (files : Ghosts X) (test : Test R) (translates : Trans
     asks = λ taken. record {
       mappings = [];
       mapped = λ world seen. tt;
-      tied = λ world seen. inr refl;
+      tied = λ world seen. inr (refl, refl);
       front = [];
       rest = addrs;
       addrs_are = refl;
       all = tt;
-      allowed = tt;
+      allowed = λ name answer is. is;
       used = inr (record { refused = refl; refusal = tt; unchanged = refl; unsaid = refl });
       keeps = λ name answer is. is;
       adds = λ other answer is. inl is;
