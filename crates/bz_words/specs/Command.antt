@@ -19,8 +19,9 @@ pub data Product : Type 0 where
   Converted : Text → Product
   Canonical : Text → Product
 
--- what is to be done: one batch of addresses of a kind; the requests of the input; the generated job, by seed, functions and
--- addresses; a product; the stacks of the input, over the Breakpad file at a path; the frames of the input, over the store at one
+-- what is to be done: one batch, with the kind of address of its input; the requests of the input; the generated job, by seed,
+-- functions and addresses; a product; the stacks of the input, over the Breakpad file at a path; the frames of the input, over the
+-- store at one
 pub data Job : Type 0 where
   Batch : Target → AddressKind → Job
   Serve : Job
@@ -61,7 +62,7 @@ target_in kind text =
     else (if bytes_eq kind (codes "elf") then Some (Elf text)
     else (if bytes_eq kind (codes "process") then option_map (λ pid. Process pid) (number_in 4294967295 text) else None)))
 
--- `abs`, `virt` or `file`
+-- the kind of address `abs`, `virt` or `file`
 abbrev pub kind_named : Text → Option AddressKind
 kind_named text =
     if bytes_eq text (codes "abs") then Some InProcess
@@ -107,7 +108,7 @@ abbrev pub on_path_in : Text → Option Text → List Text → Option Job
 on_path_in kind None (path ∷ []) = path_job kind path
 on_path_in kind _ _ = None
 
--- a kind that asks one source for the addresses of the input
+-- a kind of command that asks one source for the addresses of the input
 abbrev pub is_source : Text → Bool
 is_source kind = bytes_eq kind (codes "breakpad") || bytes_eq kind (codes "gsym") || bytes_eq kind (codes "elf") || bytes_eq kind (codes "process")
 

@@ -7,7 +7,7 @@ ghost use Rattle.bz_words.specs.Definition.{argument_rule, flag_rule, input_rule
 use clap::{Arg, ArgAction, Command};
 use std::alloc::{AllocError, Global};
 
-/// Four flags, one option with a value, and the words: a kind, and any number of arguments.
+/// Four flags, one option with a value, and the words: a kind of command, and any number of arguments.
 pub(crate) fn program<'a>(alloc: Global) -> Result<Command<'a>, AllocError>
     ensures { IfOk result (λ command. app_of command ≡ program) }
 {

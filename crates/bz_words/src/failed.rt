@@ -38,6 +38,8 @@ pub(crate) fn failure<F: Files>(
     ensures output { 0 < failed.output → cow_str_bytes result ≡ codes "symq: standard output: writing failed" }
     ensures input { failed.output ≡ 0 → 0 < failed.input → cow_str_bytes result ≡ codes "symq: standard input: reading failed" }
     ensures about { failed.output ≡ 0 → failed.input ≡ 0 → 0 < failed.files → IsAboutFile (map string_bytes words.now) (cow_str_bytes result) }
+    ensures unknown { failed.output ≡ 0 → failed.input ≡ 0 → failed.files ≡ 0 → cow_str_bytes result ≡ codes "symq: reading or writing failed" }
+    ensures unopened { F.opens files.new ≡ F.opens files.old }
     ensures worlds { F.worlds files.new ≡ F.worlds files.old }
 {
     if failed.output > 0 {
@@ -59,6 +61,7 @@ pub(crate) fn failure<F: Files>(
 /// A line on the one file that the words ask to read.
 fn failed_file<F: Files>(alloc: Global, words: &[String], files: &mut F) -> Result<Option<String>>
     ensures named { IfOk result (λ found. IfSome found (λ line. IsOnNamed (map string_bytes words.now) (string_bytes line))) }
+    ensures unopened { F.opens files.new ≡ F.opens files.old }
     ensures worlds { F.worlds files.new ≡ F.worlds files.old }
 {
     let Ok(command) = read_command(alloc, words) else {
@@ -89,6 +92,7 @@ fn read_path(job: &Job) -> Option<&str>
 /// A line that says why the file at the path can't be read.
 fn line_on_file<F: Files>(alloc: Global, path: &str, files: &mut F) -> Result<String>
     ensures says { IfOk result (λ line. IsOnFile path.now (string_bytes line)) }
+    ensures unopened { F.opens files.new ≡ F.opens files.old }
     ensures worlds { F.worlds files.new ≡ F.worlds files.old }
 {
     let cause = cause_at(alloc, path, files)?;
@@ -99,6 +103,7 @@ fn line_on_file<F: Files>(alloc: Global, path: &str, files: &mut F) -> Result<St
 /// Why the file at the path can't be read.
 fn cause_at<F: Files>(alloc: Global, path: &str, files: &mut F) -> Result<&'static str>
     ensures cause { IfOk result (λ cause. IsCause cause.now) }
+    ensures unopened { F.opens files.new ≡ F.opens files.old }
     ensures worlds { F.worlds files.new ≡ F.worlds files.old }
 {
     if is_folder(alloc, path, files)? {
@@ -112,6 +117,7 @@ fn cause_at<F: Files>(alloc: Global, path: &str, files: &mut F) -> Result<&'stat
 
 /// Whether there is a folder at the path.
 fn is_folder<F: Files>(alloc: Global, path: &str, files: &mut F) -> Result<bool>
+    ensures unopened { F.opens files.new ≡ F.opens files.old }
     ensures worlds { F.worlds files.new ≡ F.worlds files.old }
 {
     // A folder alone has itself in it.

@@ -1,9 +1,8 @@
 //! What is wrong with words.
 
-ghost use Rattle.std.specs.Prelude.{◌≡◌, ◌≢◌, None, [], map, string_bytes, IfOk, IfSome, IfNone};
+ghost use Rattle.std.specs.Prelude.{◌≡◌, ◌≢◌, [], map, string_bytes, IfOk, IfSome, IfNone};
 ghost use Rattle.clap.specs.Words.{kind_of};
 ghost use Rattle.clap.specs.declared.error.kind.ErrorKind.TheVariants as kinds;
-ghost use Rattle.bz_words.specs.Command.{command_in};
 ghost use Rattle.bz_words.specs.Definition.{faults};
 
 use crate::definition::program;
@@ -14,7 +13,7 @@ use std::alloc::{AllocError, Global};
 /// What `clap` says of words that it refuses: lines, the last of them without its end. There is none
 /// where it takes them, whether or not they give a command.
 pub fn complaint(alloc: Global, words: &[String]) -> Result<Option<String>, AllocError>
-    ensures some { IfOk result (λ said. IfSome said (λ _. command_in (map string_bytes words.now) ≡ None)) }
+    ensures some { IfOk result (λ said. IfSome said (λ _. faults (map string_bytes words.now) ≢ [])) }
     ensures none { IfOk result (λ said. IfNone said (faults (map string_bytes words.now) ≡ [])) }
 {
     let program = program(alloc)?;

@@ -15,7 +15,7 @@ pub struct Command {
 /// What is to be done.
 #[derive(Drop)]
 pub enum Job {
-    /// One batch of the addresses on the input, which are relative to what the kind says.
+    /// One batch of the addresses on the input: what it asks, and which kind of address they are.
     Batch(Target, Input<()>),
     /// The requests on the input.
     Serve,

@@ -1,7 +1,8 @@
 //! The message of a run.
 
-ghost use Rattle.std.specs.Prelude.{◌≡◌, ◌<◌, Some, None, codes, is_some, true, map, option_map, string_bytes, IfSome};
+ghost use Rattle.std.specs.Prelude.{◌≡◌, ◌≢◌, ◌<◌, Some, None, codes, is_some, true, map, option_map, string_bytes, IfSome};
 ghost use Rattle.std.specs.Cow.{cow_str_bytes};
+ghost use Rattle.bz_files.specs.Looked.{ReadsOne};
 ghost use Rattle.bz_files.specs.World.{Told, in_view};
 ghost use Rattle.bz_symq.specs.Outcome.{message_of};
 ghost use Rattle.bz_words.specs.Messages.{IsAboutFile, IsSilent, IsTold, SaysWhere};
@@ -18,7 +19,7 @@ use std::borrow::CowStr;
 const NO_COMMAND: &str =
     "symq: not a command line: one of breakpad PATH, gsym PATH, elf PATH, process PID, canon PATH, convert PATH, stacks PATH, frames ROOT, serve, gen SEED FUNCTIONS ADDRESSES; --input abs, virt or file goes with the first four";
 
-/// Kinds, each with what is said where its arguments are wrong.
+/// The kinds of command, each with what is said where its arguments are wrong.
 static USES: [(&str, &str); 10] = [
     (
         "breakpad",
@@ -60,7 +61,8 @@ static USES: [(&str, &str); 10] = [
 /// It says nothing of a run that is done or whose input is bad, of which standard output says it all. Of a
 /// refused run it says where the Breakpad file is refused that the words name, if that is read once more
 /// and is refused. Of a faulty command line it says what is wrong with it, in one line; of a failed run,
-/// which side failed, by the counts, and at which path if that is known; and that memory ran out.
+/// which side failed, by the counts, and at which path if that is known; and that memory ran out. It reads
+/// one file at most, and only of a refused run.
 pub fn message<F: Files>(
     alloc: Global,
     words: &[String],
@@ -73,8 +75,11 @@ pub fn message<F: Files>(
     ensures output { status ≡ Status.Fault → 0 < failed.output → option_map cow_str_bytes result ≡ Some (codes "symq: standard output: writing failed") }
     ensures input { status ≡ Status.Fault → failed.output ≡ 0 → 0 < failed.input → option_map cow_str_bytes result ≡ Some (codes "symq: standard input: reading failed") }
     ensures about { status ≡ Status.Fault → failed.output ≡ 0 → failed.input ≡ 0 → 0 < failed.files → IfSome result (λ line. IsAboutFile (map string_bytes words.now) (cow_str_bytes line)) }
+    ensures unknown { status ≡ Status.Fault → failed.output ≡ 0 → failed.input ≡ 0 → failed.files ≡ 0 → option_map cow_str_bytes result ≡ message_of status }
     ensures memory { status ≡ Status.Memory → option_map cow_str_bytes result ≡ message_of status }
     ensures told { IsTold status → is_some result ≡ true }
+    ensures most { ReadsOne F.Files files.old files.new }
+    ensures unopened { status ≢ Status.Refused → F.opens files.new ≡ F.opens files.old }
     ensures worlds { F.worlds files.new ≡ F.worlds files.old }
 {
     match status {
@@ -100,6 +105,7 @@ pub fn stored_message(status: Status) -> Option<CowStr<'static>>
 // Where the Breakpad file is refused that the words name.
 fn refusal<F: Files>(alloc: Global, words: &[String], files: &mut F) -> Option<CowStr<'static>>
     ensures says { Told (in_view (F.worlds files.old)) (λ world. IfSome result (λ line. SaysWhere (map string_bytes words.now) world (cow_str_bytes line))) }
+    ensures most { ReadsOne F.Files files.old files.new }
     ensures worlds { F.worlds files.new ≡ F.worlds files.old }
 {
     match refused_file(alloc, words, files) {
@@ -118,8 +124,8 @@ fn usage(alloc: Global, words: &[String]) -> CowStr<'static> {
     }
 }
 
-// What the kind takes that the first word without a dash names. Else, or where the words have an option
-// with a value, which kinds there are, and which of them the option goes with.
+// What the kind of command takes that the first word without a dash names. Else, or where the words have
+// an option with a value, which kinds there are, and which of them the option goes with.
 fn kind_use(words: &[String]) -> &'static str {
     if has_value(words) {
         return NO_COMMAND;
@@ -143,7 +149,7 @@ fn has_value(words: &[String]) -> bool {
     false
 }
 
-// What the kind of a name takes, or else which kinds there are.
+// What the kind of command of a name takes, or else which kinds there are.
 fn use_of(name: &str) -> &'static str {
     for (kind, said) in &USES {
         if *kind == name {

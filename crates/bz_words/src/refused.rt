@@ -1,8 +1,9 @@
 //! Where a file is refused.
 
-ghost use Rattle.std.specs.Prelude.{◌≡◌, map, option_map, string_bytes, IfOk, IfErr, IsOkUnless};
+ghost use Rattle.std.specs.Prelude.{◌≡◌, None, map, option_map, string_bytes, IfOk, IfErr, IsOkUnless};
 ghost use Rattle.bz_base.specs.Refusals.{IsFailure};
 ghost use Rattle.bz_base.specs.declared.error.Error.{Error};
+ghost use Rattle.bz_files.specs.Looked.{Faulted, Looked, ReadsOne};
 ghost use Rattle.bz_files.specs.World.{Told, in_view};
 ghost use Rattle.bz_words.specs.Messages.{SaysAt, SaysOf, SaysWhere, Tells, breakpad_path, file_named, line_about, said_of};
 ghost use Rattle.bz_words.specs.Command.{job_of};
@@ -23,8 +24,10 @@ pub fn refused_file<F: Files>(
     files: &mut F,
 ) -> Result<Option<String>>
     ensures tells { Told (in_view (F.worlds files.old)) (λ world. IfOk result (λ said. Tells (option_map string_bytes said) (SaysWhere (map string_bytes words.now) world))) }
+    ensures spared { file_named (map string_bytes words.now) ≡ None → F.opens files.new ≡ F.opens files.old }
+    ensures most { ReadsOne F.Files files.old files.new }
+    ensures files { Looked F.Files files.old files.new (Faulted result) }
     ensures failure { IfErr result IsFailure }
-    ensures worlds { F.worlds files.new ≡ F.worlds files.old }
 {
     match read_command(alloc, words) {
         Ok(command) => match breakpad_path(&command.job) {
@@ -78,8 +81,9 @@ fn breakpad_path(job: &Job) -> Option<&str>
 /// A line that says where the file at the path is refused as a Breakpad file.
 fn refused_at<F: Files>(alloc: Global, path: &str, files: &mut F) -> Result<Option<String>>
     ensures tells { Told (in_view (F.worlds files.old)) (λ world. IfOk result (λ said. Tells (option_map string_bytes said) (SaysAt path.now world))) }
+    ensures most { ReadsOne F.Files files.old files.new }
+    ensures files { Looked F.Files files.old files.new (Faulted result) }
     ensures failure { IfErr result IsFailure }
-    ensures worlds { F.worlds files.new ≡ F.worlds files.old }
 {
     match files.read(alloc, path) {
         Ok(bytes) => refused_of(alloc, path, bytes.as_slice()),
@@ -93,7 +97,7 @@ fn refused_at<F: Files>(alloc: Global, path: &str, files: &mut F) -> Result<Opti
 /// A line that says where the bytes of the file at the path are refused.
 fn refused_of(alloc: Global, path: &str, bytes: &[u8]) -> Result<Option<String>>
     ensures tells { IfOk result (λ said. Tells (option_map string_bytes said) (SaysOf path.now bytes.now)) }
-    ensures failure { IfErr result IsFailure }
+    ensures memory { IsOkUnless result Error.OutOfMemory }
 {
     match first_refused(alloc, bytes)? {
         Some(why) => {

@@ -1,4 +1,4 @@
-//! The command that words give: kinds, arguments and flags are read here.
+//! The command that words give: its kind, arguments and flags are read here.
 
 ghost use Rattle.std.specs.Prelude.{◌≡◌, ◌≢◌, ◌≤◌, true, Ok, Some, None, [], map, not, option_map, codes, string_bytes, unwrap_or, IfOk, IfSome};
 ghost use Rattle.bz_base.specs.InputKind.{address_kind};
@@ -124,7 +124,7 @@ fn job_of_matches(alloc: Global, matches: &ArgMatches<'_>) -> Result<Option<Job>
     }
 }
 
-// What is to be done, by the kind, the kind of address and the arguments.
+// What is to be done, by the kind of command, the kind of address and the arguments.
 fn job_given(
     alloc: Global,
     kind: Option<&str>,

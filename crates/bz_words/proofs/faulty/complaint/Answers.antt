@@ -1,18 +1,15 @@
 use Rattle.std.proofs.Common.{map, string_bytes}
 use Rattle.clap.specs.Words.{app_of}
-use Rattle.bz_words.specs.Command.{command_read}
-use Rattle.bz_words.specs.Definition.{faults}
-use Rattle.bz_words.proofs.ProgramLemmas.{no_faults, fault_kind, has_fault, faulty}
+use Rattle.bz_words.proofs.ProgramLemmas.{no_faults, fault_kind, has_fault}
 use Rattle.bz_words.proofs.faulty.complaint.Goals as goal
 
 -- `clap` takes words without a fault
 pub returns-in-Ok-clause-none : goal.returns-in-Ok-clause-none
 returns-in-Ok-clause-none c = no_faults (app_of c.in_ok-program.program) c.in_ok-program.ensures (map string_bytes c.args.words.now) c.in-Ok.ensures.kinds
 
--- and words with one give no command
+-- and it complains of a fault alone
 pub returns-clause-some : goal.returns-clause-some
 returns-clause-some c =
-    let words = map string_bytes c.args.words.now in
-    faulty (faults words) (command_read words)
-    (has_fault _ c.in-Err.error (fault_kind (app_of c.in_ok-program.program) c.in_ok-program.ensures words c.in-Err.error c.in-Err.ensures.kinds)
-    c.in_ok-said-in-Err.ensures)
+    has_fault _ c.in-Err.error
+    (fault_kind (app_of c.in_ok-program.program) c.in_ok-program.ensures (map string_bytes c.args.words.now) c.in-Err.error c.in-Err.ensures.kinds)
+    c.in_ok-said-in-Err.ensures
