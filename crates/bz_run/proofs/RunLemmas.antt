@@ -76,6 +76,7 @@ module _ {R W F : Type 0} (reads : input_trait.Ghosts R) (writes : output_trait.
     input_faults = fails.input_faults;
     output_faults = fails.output_faults;
     files_faults = fails.files.faults;
+    unreached = fails.unreached;
   }
 
   job_fails : (config : Config) (job : Job) → Job_runs config job → At_one_side

@@ -35,7 +35,7 @@ IsTextReply config stacks reply = reply.status ≡ statuses.Done → IsSomeText 
 abbrev pub IsInputReply : Config → List ℕ → Reply → Type 0
 IsInputReply config input reply = reply.status ≡ statuses.Done → (stacks : List Taken) × (stacks_in input ≡ Ok stacks) × IsSomeText config stacks (text_of reply.said)
 
--- an input that isn't too long
+-- and the input isn't too long
 abbrev pub IsRunReply : Config → List ℕ → Reply → Type 0
 IsRunReply config input reply = reply.status ≡ statuses.Done → (stacks : List Taken) × AsksFor IsStack input stacks × IsSomeText config stacks (text_of reply.said)
 
