@@ -2,7 +2,7 @@
 //! and makes products of symbol files.
 #![tactic(auto)]
 
-use bz_files::{FileError, Files, RealFiles, RealIn, RealOut};
+use bz_files::{RealFiles, RealIn, RealOut};
 use bz_run::run;
 use bz_symq::{Status, own_pid};
 use bz_words::{Failed, message, named_file, stored_message};
@@ -30,11 +30,7 @@ fn run_real(rt: &HostRuntime) -> (Status, Option<CowStr<'static>>) {
     let Ok(files_rt) = rt.clone() else {
         return out_of_memory();
     };
-    let pid = match own_pid_for(rt, words.as_slice()) {
-        Ok(pid) => pid,
-        Err(status) => return (status, stored_message(status)),
-    };
-    let mut files = RealFiles::new(files_rt, pid);
+    let mut files = RealFiles::new(files_rt, own_pid_for(rt, words.as_slice()));
     let mut input = RealIn::new(rt.reader());
     let mut output = RealOut::new(io::writer(rt));
     let status = run(
@@ -82,12 +78,15 @@ fn out_of_memory() -> (Status, Option<CowStr<'static>>) {
     (Status::Memory, stored_message(Status::Memory))
 }
 
-// The id of the own process, if the words may ask for it, or how a run ends that can't know it.
-fn own_pid_for(rt: &HostRuntime, words: &[String]) -> Result<u32, Status> {
-    if names_processes(words) {
-        read_own_pid(rt)
-    } else {
-        Ok(0)
+// The id of the own process, if the words may ask for it: the digits that begin `/proc/self/stat`. 0
+// where they don't, or where it can't be read.
+fn own_pid_for(rt: &HostRuntime, words: &[String]) -> u32 {
+    if !names_processes(words) {
+        return 0;
+    }
+    match fs::read(rt, "/proc/self/stat") {
+        Ok(stat) => own_pid(stat.as_slice()),
+        Err(_) => 0,
     }
 }
 
@@ -99,22 +98,6 @@ fn names_processes(words: &[String]) -> bool {
         }
     }
     false
-}
-
-// The id of the own process, as the system tells it; 0 where it tells none.
-fn read_own_pid(rt: &HostRuntime) -> Result<u32, Status> {
-    let Ok(files_rt) = rt.clone() else {
-        return Err(Status::Memory);
-    };
-    // A fault in here isn't counted among those of the run, which ends by it.
-    let mut files = RealFiles::new(files_rt, 0);
-    match files.read(rt.alloc(), "/proc/self/stat") {
-        Ok(stat) => Ok(own_pid(stat.as_slice())),
-        Err(FileError::NotFound) => Ok(0),
-        Err(FileError::Denied) => Ok(0),
-        Err(FileError::Fault) => Err(Status::Fault),
-        Err(FileError::OutOfMemory) => Err(Status::Memory),
-    }
 }
 
 // The words of the command line, without the program's name.
