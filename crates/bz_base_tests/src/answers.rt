@@ -68,33 +68,39 @@ fn is_cloned(alloc: Global, symbol: &Sym<'_>, lent: bool) -> bool {
     }
 }
 
-fn is_factorial(symbol: &Sym<'_>) -> bool {
-    symbol.name.as_str() == "factorial" && symbol.inlined.len() == 1
-}
-
-fn lends_factorial(known: &Symbolized<'_>) -> bool {
-    match known.as_sym() {
-        Some(symbol) => is_factorial(symbol),
+fn lends(answer: &Symbolized<'_>, expected: &Sym<'_>) -> bool {
+    match answer.as_sym() {
+        Some(symbol) => symbol == expected,
         None => false,
     }
 }
 
 /// Whether an answer lends the symbol, and then gives it.
-fn gives_factorial(known: Symbolized<'_>) -> bool {
-    let lent = lends_factorial(&known);
-    match known.into_sym() {
-        Some(symbol) => is_factorial(&symbol) && lent,
+fn gives(answer: Symbolized<'_>, expected: &Sym<'_>) -> bool {
+    let lent = lends(&answer, expected);
+    match answer.into_sym() {
+        Some(symbol) => symbol == *expected && lent,
         None => false,
     }
 }
 
-/// Whether a symbol is cloned, as it was made and with texts of its own, and then given.
+/// Whether an answer with a symbol is cloned, and gives one that is equal in every field.
+fn is_answered(alloc: Global, answer: Symbolized<'_>, expected: &Sym<'_>) -> bool {
+    let cloned = answer_is_cloned(alloc, &answer);
+    gives(answer, expected) && cloned
+}
+
+/// Whether a symbol with texts of its own is cloned, and answers as the one that lent them.
+fn is_kept(alloc: Global, own: Sym<'_>, lent: &Sym<'_>) -> bool {
+    let cloned = is_cloned(alloc, &own, false);
+    is_answered(alloc, Symbolized::Sym(own), lent) && cloned
+}
+
+/// Whether a symbol is cloned, as it was made and with texts of its own, and no field changes.
 fn is_cloned_and_given(alloc: Global) -> Result<bool> {
-    let symbol = symbol(alloc)?;
-    let lent = is_cloned(alloc, &symbol, true);
-    let owned = symbol.into_owned(alloc)?;
-    let cloned = is_cloned(alloc, &owned, false);
-    Ok(gives_factorial(Symbolized::Sym(owned)) && lent && cloned)
+    let lent = symbol(alloc)?;
+    let own = symbol(alloc)?.into_owned(alloc)?;
+    Ok(is_cloned(alloc, &lent, true) && is_kept(alloc, own, &lent))
 }
 
 /// Whether a copy of a call is equal to it.
@@ -121,6 +127,22 @@ fn answer_is_cloned(alloc: Global, answer: &Symbolized<'_>) -> bool {
     }
 }
 
+/// Whether the call with texts of its own is equal to it.
+fn call_is_owned(alloc: Global) -> bool {
+    match CALL.into_owned(alloc) {
+        Ok(own) => own == CALL && matches!(own.name, CowStr::Owned(_)),
+        Err(_) => false,
+    }
+}
+
+/// Whether the place with texts of its own is equal to it.
+fn place_is_owned(alloc: Global) -> bool {
+    match PLACE.into_owned(alloc) {
+        Ok(own) => own == PLACE && matches!(own.file, CowStr::Owned(_)),
+        Err(_) => false,
+    }
+}
+
 /// Whether a call and a place are cloned, and an answer that is none.
 fn parts_are_cloned(alloc: Global) -> bool {
     let call = call_is_cloned(alloc, &CALL);
@@ -132,4 +154,9 @@ fn parts_are_cloned(alloc: Global) -> bool {
 #[test]
 fn answers_are_cloned_and_give_their_symbols(rt: HostRuntime) {
     assert!(rt; is_cloned_and_given(rt.alloc()) == Ok(true) && parts_are_cloned(rt.alloc()));
+}
+
+#[test]
+fn calls_and_places_are_owned(rt: HostRuntime) {
+    assert!(rt; call_is_owned(rt.alloc()) && place_is_owned(rt.alloc()));
 }

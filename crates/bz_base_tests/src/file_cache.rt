@@ -57,6 +57,17 @@ pub(crate) fn answers<F: Files>(
     }
 }
 
+/// Puts a text at `/s` under the stamp of the file at `/b`. Says whether there is one, and memory was left.
+fn put_under_its_stamp(alloc: Global, files: &mut MemFiles, text: &[u8]) -> bool {
+    let Ok(stamp) = files.stat("/b") else {
+        return false;
+    };
+    match text.to_vec(alloc) {
+        Ok(bytes) => files.put_as(alloc, "/s", stamp, bytes).is_ok(),
+        Err(_) => false,
+    }
+}
+
 /// Whether a version with the stamp of the file at `/s` is kept.
 fn is_kept(cache: &FileCache<Note>, files: &mut MemFiles) -> bool {
     match files.stat("/s") {
@@ -78,8 +89,8 @@ enum Act {
     Puts,
     /// The file at `/s` is put at `/b` too.
     Links,
-    /// The file at `/b` is put at `/s` too.
-    LinksBack,
+    /// The text is put at `/s` under the stamp of the file at `/b`.
+    PutsUnderItsStamp,
     /// The look of this number is to fail.
     WillFail,
     /// So many looks have failed.
@@ -174,11 +185,21 @@ const CHANGES_BACK: [Step; 10] = [
     (Act::Answers, "/s", b"V1", 0),
     (Act::Puts, "", b"V2", 0),
     (Act::Answers, "/s", b"V2", 0),
-    (Act::LinksBack, "", b"", 0),
+    (Act::PutsUnderItsStamp, "", b"V1", 0),
     (Act::Answers, "/s", b"V1", 0),
     (Act::Versions, "", b"", 2),
     (Act::Evicts, "/s", b"", 0),
     (Act::Versions, "", b"", 0),
+];
+
+/// Other bytes under the stamp of the version that is kept aren't seen.
+const KEEPS_ITS_STAMP: [Step; 6] = [
+    (Act::Puts, "", b"V1", 0),
+    (Act::Links, "", b"", 0),
+    (Act::Answers, "/s", b"V1", 0),
+    (Act::PutsUnderItsStamp, "", b"V2", 0),
+    (Act::Answers, "/s", b"V1", 0),
+    (Act::Versions, "", b"", 1),
 ];
 
 /// The one version of a file with two paths stays until both are forgotten.
@@ -203,7 +224,7 @@ fn goes(cache: &mut FileCache<Note>, alloc: Global, files: &mut MemFiles, step: 
     match act {
         Act::Puts => put(alloc, files, text).is_some(),
         Act::Links => files.link(alloc, "/b", "/s") == Ok(true),
-        Act::LinksBack => files.link(alloc, "/s", "/b") == Ok(true),
+        Act::PutsUnderItsStamp => put_under_its_stamp(alloc, files, text),
         Act::WillFail => files.fail_call(alloc, *number as u64).is_ok(),
         Act::Failed => files.faults() == *number as u64,
         Act::WereRead => files.opens() == *number as u64,
@@ -236,11 +257,12 @@ fn go_well(alloc: Global, builder: CacheBuilder<Note>, steps: &[Step]) -> bool {
 }
 
 /// What happens to files at which a cache looks anew.
-static COURSES: [&[Step]; 5] = [
+static COURSES: [&[Step]; 6] = [
     &CHANGES,
     &IS_PINNED,
     &IS_TAKEN_IN,
     &CHANGES_BACK,
+    &KEEPS_ITS_STAMP,
     &HAS_TWO_PATHS,
 ];
 

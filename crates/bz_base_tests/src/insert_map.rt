@@ -19,13 +19,16 @@ fn tried(
     Ok(*map.get_or_try_insert(alloc, key, move || answer)?)
 }
 
-/// Whether keys that are absent get values, and one is let go, and the other one taken out.
+/// Whether keys that are absent get values, and one is taken out, and the other one let go.
 fn gives_values(map: &mut InsertMap<u32, u32>, alloc: Global) -> bool {
     let gave = given(map, alloc, 42, 2) == Ok(2)
-        && tried(map, alloc, 31, Ok(1)) == Ok(1)
-        && map.get(&42) == Some(&2);
-    map.retain(|key, _value| *key != 31);
-    gave && map.len() == 1 && map.remove(&42) == Some(2)
+        && tried(map, alloc, 43, Ok(1)) == Ok(1)
+        && map.get(&43) == Some(&1)
+        && map.remove(&42) == Some(2)
+        && map.get(&42).is_none()
+        && map.len() == 1;
+    map.retain(|key, _value| *key != 43);
+    gave && map.len() == 0
 }
 
 /// Whether a key whose value is refused stays absent.

@@ -3,13 +3,13 @@
 use crate::fact::Answer::{Symbol, Unknown};
 use crate::fact::Fact::{Answer, Batch};
 use crate::fact::Row;
-use crate::files::BAR;
+use crate::files::{BAR, OVERLAPPING};
 use crate::holding::hold;
 use crate::read::Way;
 use bz_base::{FindSymOpts, Reason};
 use bz_breakpad::FoundRecord;
 
-const GAP: &[u8] = b"FUNC 1010 10 0 inner\nFUNC 1000 100 0 outer\n";
+const GAP: &[u8] = b"FUNC 1000 100 0 outer\nFUNC 1010 10 0 inner\n";
 
 const EQUAL: &[u8] = b"FUNC 9 0 0 none\nFUNC 1 3 3 y\nFUNC 1 2 3 x\n";
 
@@ -67,6 +67,15 @@ const BY_FUNCTIONS: &[Row] = &[
         ],
     ),
     (
+        OVERLAPPING,
+        &[
+            Answer(1, FindSymOpts::Basic, Symbol("x", 1, 0, Some(2), "", false)),
+            Answer(2, FindSymOpts::Basic, Symbol("y", 1, 1, Some(3), "", false)),
+            Answer(3, FindSymOpts::Basic, Symbol("y", 1, 2, Some(3), "", false)),
+            Answer(4, FindSymOpts::Basic, Unknown(Reason::UnknownAddr)),
+        ],
+    ),
+    (
         EQUAL,
         &[
             Answer(1, FindSymOpts::Basic, Symbol("x", 1, 0, Some(2), "", false)),
@@ -84,6 +93,11 @@ const BY_FUNCTIONS: &[Row] = &[
     (
         LAST,
         &[
+            Answer(
+                0xfffffffffffffff0,
+                FindSymOpts::Basic,
+                Symbol("z", 0xfffffffffffffff0, 0, Some(15), "", false),
+            ),
             Answer(
                 0xfffffffffffffffe,
                 FindSymOpts::Basic,

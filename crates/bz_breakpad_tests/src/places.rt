@@ -1,6 +1,6 @@
 //! Where addresses lie in the source code.
 
-use crate::fact::Answer::{Places, Unknown};
+use crate::fact::Answer::{Places, Symbol, Unknown};
 use crate::fact::Fact::Answer;
 use crate::fact::Row;
 use crate::files::{BAR, NESTED, USUAL};
@@ -94,6 +94,21 @@ const CALLS: &[Row] = &[
                 0x1020,
                 FindSymOpts::CodeInfoAndInlined,
                 Places(("_start", "", "", 0), &[]),
+            ),
+            Answer(
+                0x1174,
+                FindSymOpts::CodeInfoAndInlined,
+                Symbol("main", 0x1160, 0x14, Some(0x2a), "app", false),
+            ),
+            Answer(
+                0x1188,
+                FindSymOpts::CodeInfoAndInlined,
+                Symbol("main", 0x1160, 0x28, Some(0x2a), "app", false),
+            ),
+            Answer(
+                0x1020,
+                FindSymOpts::CodeInfoAndInlined,
+                Symbol("_start", 0x1020, 0, None, "app", true),
             ),
         ],
     ),

@@ -18,8 +18,8 @@ pub(crate) enum Resolved {
     At(u64, FindSymOpts, Found),
     /// The functions of a name, in order.
     Named(&'static str, &'static [SymInfo<'static>]),
-    /// It tells no variables.
-    NoVariables,
+    /// It tells no variables, in a walk or by a name.
+    NoVariables(&'static str),
 }
 
 /// What is found at an address.
@@ -66,7 +66,7 @@ fn shows(alloc: Global, resolver: &BreakpadResolver, resolved: &Resolved) -> boo
                 infos,
             ) && are_listed(resolver.find_addr(alloc, name, FUNCTIONS), infos)
         }
-        Resolved::NoVariables => has_no_variables(alloc, resolver),
+        Resolved::NoVariables(name) => has_no_variables(alloc, resolver, name),
     }
 }
 
@@ -105,12 +105,12 @@ fn is_symbol(symbol: &ResolvedSym<'_>, expected: &Found) -> bool {
     }
 }
 
-/// Whether variables are refused, in a walk and by a name.
-fn has_no_variables(alloc: Global, resolver: &BreakpadResolver) -> bool {
+/// Whether variables are refused, in a walk and by the name.
+fn has_no_variables(alloc: Global, resolver: &BreakpadResolver, name: &str) -> bool {
     let refused = Err(Error::Unsupported);
-    is_walk(resolver, SymType::Variable, "twin", &[], refused)
+    is_walk(resolver, SymType::Variable, name, &[], refused)
         && matches!(
-            resolver.find_addr(alloc, "twin", VARIABLES),
+            resolver.find_addr(alloc, name, VARIABLES),
             Err(Error::Unsupported)
         )
 }

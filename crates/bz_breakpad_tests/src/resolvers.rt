@@ -1,17 +1,27 @@
 //! Resolvers: what opening one answers, and the symbols that one finds.
 
-use crate::files::{BAR, put};
+use crate::files::{BAR, OVERLAPPING, put};
 use crate::inspected::{LATE_TWIN, LONG_TWIN, SHORT_TWIN, TWINS};
 use crate::resolved::Found::{Refused, Symbol, Unknown};
 use crate::resolved::Resolved::{At, Named, NoVariables, Printed};
 use crate::resolved::{Row, is_resolved};
-use bz_base::{Error, ErrorKind, FindSymOpts, Reason, Result};
-use bz_breakpad::BreakpadResolver;
+use bz_base::{Error, ErrorKind, FindSymOpts, Reason, Result, SymType};
+use bz_breakpad::{BreakpadResolver, SymInfo};
 use bz_files::MemFiles;
 use std::alloc::Global;
 
 /// A function whose line record has a file that no FILE record names.
 const UNKNOWN_FILE: &[u8] = b"FUNC 1000 30 10 f\n1000 30 7 9\n";
+
+/// The shorter one of two functions of one start.
+const X: SymInfo<'static> = SymInfo {
+    name: "x",
+    addr: 1,
+    size: Some(2),
+    sym_type: SymType::Function,
+    file_offset: None,
+    module: None,
+};
 
 /// Symbols, addresses without one, a place that is refused where it is asked for, and there alone; and
 /// functions of a name.
@@ -75,7 +85,10 @@ const RESOLVED: &[Row] = &[
     ),
     (TWINS, Named("twin", &[SHORT_TWIN, LONG_TWIN, LATE_TWIN])),
     (TWINS, Named("twi", &[])),
-    (TWINS, NoVariables),
+    (OVERLAPPING, Named("x", &[X])),
+    (OVERLAPPING, Named("q", &[])),
+    (OVERLAPPING, NoVariables("x")),
+    (TWINS, NoVariables("twin")),
 ];
 
 #[test]

@@ -1,25 +1,27 @@
 //! What a dispatcher's resolver answers in place of what is mapped.
 
-ghost use Rattle.std.specs.Prelude.{IfErr};
+ghost use Rattle.std.specs.Prelude.{◌≡◌, Some, Ok, IfErr};
+ghost use Rattle.bz_base.specs.Resolution.{MayGive};
 ghost use Rattle.bz_process.specs.Member.{MayRefuseMember};
+ghost use Rattle.bz_process_tests.specs.Dispatchers.{given_for_vdso, vdso_resolver};
 
 use crate::files::FIRST;
 use crate::steps::{Step, Told, holds};
-use bz_base::{Input, Reason, Result};
+use bz_base::{Error, Input, Reason, Result};
 use bz_elf::ElfResolver;
 use bz_proc::PathName;
 use bz_process::{ProcessDispatch, ProcessMemberInfo};
 use bz_samples::ELF_FUNCTION;
 use std::alloc::Global;
 
-/// Gives a resolver for the part of the system that is called `[vdso]`.
+/// Gives a resolver for the part of the system that is called `[vdso]`, and none for anything else.
 #[derive(Drop)]
 struct ForVdso;
 
 impl ProcessDispatch for ForVdso {
     type Resolver = ElfResolver;
 
-    ghost may_dispatch = { λ _ member answer. Unit {0} };
+    ghost may_dispatch = { λ _ member answer. answer ≡ given_for_vdso member.name };
 
     fn dispatch(&self, alloc: Global, info: ProcessMemberInfo<'_>) -> Result<Option<ElfResolver>> {
         match info.member_entry {
@@ -33,15 +35,20 @@ impl ProcessDispatch for ForVdso {
     }
 }
 
+/// The resolver of an ELF file, which want of memory alone can refuse.
 fn vdso(alloc: Global) -> Result<Option<ElfResolver>>
+    ensures answer { MayGive (λ given. given) (λ answer. answer ≡ Ok (Some vdso_resolver)) result }
     ensures refusal { IfErr result MayRefuseMember }
 {
     let bytes = Vec::from_slice(alloc, &ELF_FUNCTION)?;
-    let resolver = ElfResolver::from_bytes(alloc, "/vdso.so", bytes)?;
-    Ok(Some(resolver))
+    match ElfResolver::from_bytes(alloc, "/vdso.so", bytes) {
+        Ok(resolver) => Ok(Some(resolver)),
+        Err(_) => Err(Error::OutOfMemory),
+    }
 }
 
-/// The resolver answers for the part of the system, and for a mapped file no one does.
+/// The resolver answers for the part of the system, and for a mapped file no one does; and where the
+/// mappings may not be read, the batch is refused.
 const RESOLVED: &[Step] = &[
     Step::Files(FIRST),
     Step::Batch(
@@ -50,6 +57,11 @@ const RESOLVED: &[Step] = &[
             Told::Symbol("f", 0x400080, "/vdso.so"),
             Told::Unknown(Reason::IgnoredError),
         ],
+    ),
+    Step::Deny("/proc/7/maps"),
+    Step::Batch(
+        Input::AbsAddr(&[0x5088]),
+        &[Told::Refused(Error::PermissionDenied)],
     ),
 ];
 

@@ -4,7 +4,7 @@ use bz_base::Error::{NotFound, Unsupported};
 use bz_base::Input::{AbsAddr, FileOffset, VirtOffset};
 use bz_base::{Input, Result};
 use bz_files::MemFiles;
-use bz_samples::GSYM_CALLS;
+use bz_samples::{BREAKPAD_CALLS, GSYM_CALLS};
 use bz_stacks::{Stack, fold, read_stacks};
 use bz_symbolize::source::{Breakpad, GsymData, Process, Source};
 use bz_symbolize::{Pid, Symbolizer};
@@ -20,8 +20,8 @@ enum Asked {
     Process,
 }
 
-/// A path, and the bytes of the file that is put there.
-type Put = (&'static str, &'static [u8]);
+/// A path, and the text of the file that is put there.
+type Put = (&'static str, &'static str);
 
 /// Files that are put; the kind of the addresses and the lines of stacks that are folded then; a text, and
 /// whether it is theirs, or how they are refused; and how many files are read by then.
@@ -35,32 +35,29 @@ type Step = (
 );
 
 /// Inlined calls inside one another.
-const NESTED: &[Put] = &[(
-    "/s.sym",
-    b"FILE 15 o.c\nFILE 4 m.c\nFILE 8 i2.c\nFUNC 1000 30 10 outer_func()\nINLINE_ORIGIN 1 inner_func_2()\nINLINE_ORIGIN 2 mid_func()\nINLINE_ORIGIN 3 inner_func_1()\nINLINE 0 60 15 2 1000 20\nINLINE 1 12 4 3 1000 10\nINLINE 1 17 4 1 1010 10\n1000 10 42 7\n1010 10 52 8\n1020 10 62 15\n",
-)];
+const NESTED: &[Put] = &[("/s.sym", BREAKPAD_CALLS)];
 
 /// A name with a `;`.
-const SEMICOLON: &[Put] = &[("/s.sym", b"FUNC 1 1 0 a;b\n")];
+const SEMICOLON: &[Put] = &[("/s.sym", "FUNC 1 1 0 a;b\n")];
 
 /// An inlined call whose origin is missing.
 const NO_ORIGIN: &[Put] = &[(
     "/s.sym",
-    b"FILE 0 a.c\nFUNC 10 8 0 f\nINLINE 0 1 0 3 10 4\n10 8 1 0\n",
+    "FILE 0 a.c\nFUNC 10 8 0 f\nINLINE 0 1 0 3 10 4\n10 8 1 0\n",
 )];
 
-const PLAIN: &[Put] = &[("/s.sym", b"FUNC 1 1 0 a\n")];
+const PLAIN: &[Put] = &[("/s.sym", "FUNC 1 1 0 a\n")];
 
-const ONE: &[Put] = &[("/s.sym", b"FUNC 1000 20 0 one\n")];
+const ONE: &[Put] = &[("/s.sym", "FUNC 1000 20 0 one\n")];
 
 /// The mappings of process 7, its status and its perf map.
 const PROCESS: &[Put] = &[
     (
         "/proc/7/maps",
-        b"3000-4000 rw-p 00000000 00:00 0\n5000-6000 r-xp 00000000 00:00 0 [vdso]\n",
+        "3000-4000 rw-p 00000000 00:00 0\n5000-6000 r-xp 00000000 00:00 0 [vdso]\n",
     ),
-    ("/proc/7/status", b"Name:\tx\n"),
-    ("/proc/7/root/tmp/perf-7.map", b"3000 10 jit\n3010 10 a;b\n"),
+    ("/proc/7/status", "Name:\tx\n"),
+    ("/proc/7/root/tmp/perf-7.map", "3000 10 jit\n3010 10 a;b\n"),
 ];
 
 /// A source, and what is asked of it one after the other.
@@ -176,8 +173,8 @@ fn source(alloc: Global, asked: &Asked) -> Result<Source<'static>> {
 
 /// Puts the files. Says whether memory was left.
 fn put_all(alloc: Global, files: &mut MemFiles, all: &[Put]) -> bool {
-    for (path, bytes) in all {
-        let Ok(copy) = Vec::from_slice(alloc, bytes) else {
+    for (path, text) in all {
+        let Ok(copy) = Vec::from_slice(alloc, text.as_bytes()) else {
             return false;
         };
         if files.put(alloc, path, copy).is_err() {

@@ -170,12 +170,8 @@ fn is_the_function(sym: &Sym<'_>) -> bool {
 /// unknown address, `n` a bad name, `a` no file, `d` denied, `x` a bad file.
 fn letter(answer: &FrameAnswer) -> u8 {
     match answer {
-        FrameAnswer::Answered(Symbolized::Sym(sym)) => if is_the_function(sym) {
-            b'f'
-        } else {
-            b's'
-        },
-        FrameAnswer::Answered(Symbolized::Unknown(_)) => b'u',
+        FrameAnswer::Known(Symbolized::Sym(sym)) => if is_the_function(sym) { b'f' } else { b's' },
+        FrameAnswer::Known(Symbolized::Unknown(_)) => b'u',
         FrameAnswer::BadName => b'n',
         FrameAnswer::NoFile => b'a',
         FrameAnswer::Denied => b'd',

@@ -2,7 +2,7 @@
 
 ghost use Rattle.std.specs.Prelude.{◌≡◌, ◌<◌};
 
-use crate::lookups::looks_up;
+use crate::lookups::{Then, looks_up};
 use crate::many::{self, Batch};
 use crate::nested::answers_each_alone;
 use crate::told::{Told, are_given, is_given};
@@ -40,10 +40,8 @@ pub(crate) enum Asked {
     Batch(Input<&'static [u64]>, &'static [Told]),
     /// A batch of addresses, with a count of its steps.
     Counted(Input<&'static [u64]>, &'static [Told]),
-    /// A batch of two that is looked up, and answered one by one and together. Or, where the file
-    /// changes, an address in the function of the first Breakpad file, which is answered by this
-    /// version after the second has come, and as is told together with one before the function.
-    LookedUp(Input<&'static [u64]>, &'static [Told], bool),
+    /// A batch that is looked up, and what comes then.
+    LookedUp(Input<&'static [u64]>, &'static [Told], Then),
     /// A batch of a function with calls in calls, which is answered as its addresses are alone.
     Nested,
     /// A batch of a file of many functions, with places or not, in its order and in ascending order.
@@ -127,9 +125,9 @@ fn answers_asked(
             let blank = Blank::new(1);
             answers_counted::<Brand>(alloc, symbolizer, files, src, *input, told, blank)
         }
-        Asked::LookedUp(input, told, changes) => {
+        Asked::LookedUp(input, told, then) => {
             let blank = Blank::new(1);
-            looks_up::<Brand>(alloc, symbolizer, files, src, *input, told, *changes, blank)
+            looks_up::<Brand>(alloc, symbolizer, files, src, *input, told, then, blank)
         }
         Asked::Nested => answers_each_alone(alloc, symbolizer, files, src),
         Asked::Many(batch, places) => {

@@ -3,8 +3,9 @@
 use crate::asking::Asked::{Batch, Counted, LookedUp, Single};
 use crate::asking::Subject;
 use crate::calling::answers_at;
+use crate::lookups::Then;
 use crate::steps::Step::{Ask, CallOfFile, Put};
-use crate::steps::{Script, hold};
+use crate::steps::{ALL, PLACES_OFF, Script, Start, hold};
 use crate::told::Told::{Named, Placed, Refused, Unknown};
 use crate::told::{Code, Told, are_given};
 use bz_base::{Error, Input, Reason};
@@ -47,17 +48,23 @@ const COUNTED: Script = &[Put("/s.sym", FIRST), Ask(FILE, Counted(ADDRESSES, ONE
 /// A batch that was looked up answers by the version that it found, also after the file has changed.
 const LOOKED_UP: Script = &[
     Put("/s.sym", FIRST),
-    Ask(FILE, LookedUp(Input::FileOffset(&[0x1010]), ONE, true)),
+    Ask(
+        FILE,
+        LookedUp(Input::FileOffset(&[0x1010]), ONE, Then::Changes),
+    ),
 ];
 
-/// A line record whose file has no FILE record, and a function without line records.
-const WITHOUT_ITS_FILE: &[u8] = b"FUNC 1000 10 0 f\n1000 10 5 9\nFUNC 2000 10 0 g\n";
+/// A function with a line record whose file has no FILE record.
+const WITHOUT_ITS_FILE: &[u8] = b"FUNC 1000 10 0 f\n1000 10 5 9\n";
 
 /// The address of that line.
 const PLACELESS: Input<u64> = Input::FileOffset(0x1000);
 
-/// An address before the function whose line names no file, and that of the line.
-const BEFORE: Input<&[u64]> = Input::FileOffset(&[0xfff, 0x1000]);
+/// A batch of it.
+const ONE_PLACELESS: Input<&[u64]> = Input::FileOffset(&[0x1000]);
+
+/// The same function, and one without line records.
+const BESIDE_ANOTHER: &[u8] = b"FUNC 1000 10 0 f\n1000 10 5 9\nFUNC 2000 10 0 g\n";
 
 /// The address of the line, and one in the other function.
 const BOTH: Input<&[u64]> = Input::FileOffset(&[0x1000, 0x2000]);
@@ -66,20 +73,19 @@ const BOTH: Input<&[u64]> = Input::FileOffset(&[0x1000, 0x2000]);
 /// in a batch.
 const FOLDED: Script = &[
     Put("/s.sym", WITHOUT_ITS_FILE),
+    Ask(FILE, Batch(ONE_PLACELESS, &[Unknown(Reason::IgnoredError)])),
+    Ask(FILE, Single(PLACELESS, Refused(Error::InvalidInput))),
+    Put("/s.sym", BESIDE_ANOTHER),
     Ask(
         FILE,
         Batch(BOTH, &[Unknown(Reason::IgnoredError), Named("g")]),
     ),
-    Ask(FILE, Single(PLACELESS, Refused(Error::InvalidInput))),
 ];
 
 /// Without places both answer.
 const WITHOUT_PLACES: Script = &[
     Put("/s.sym", WITHOUT_ITS_FILE),
-    Ask(
-        FILE,
-        Batch(BEFORE, &[Unknown(Reason::UnknownAddr), Named("f")]),
-    ),
+    Ask(FILE, Batch(ONE_PLACELESS, &[Named("f")])),
     Ask(FILE, Single(PLACELESS, Named("f"))),
 ];
 
@@ -88,7 +94,13 @@ const APP: &[u8] =
     b"MODULE Linux x86_64 0 app\nFILE 0 /src/app/main.c\nFILE 1 /src/app/util.h\nINLINE_ORIGIN 0 clamp\nFUNC 1160 2a 0 main\nINLINE 0 12 0 0 1170 8\n1160 10 10 0\n1170 8 4 1\n1178 12 13 0\n";
 
 /// Its source code.
-const CODE: &Code = &("/src/app", "main.c", "clamp", "util.h");
+const CODE: &Code = &Code {
+    module: "app",
+    dir: "/src/app",
+    file: "main.c",
+    inlined: "clamp",
+    inlined_file: "util.h",
+};
 
 /// What is told of an address in the function and in the inlined call.
 const MAIN: &[Told] = &[Placed(CODE, "main", 0x14, 12, 4)];
@@ -101,20 +113,20 @@ pub(crate) fn asks_of_file(alloc: Global, files: &mut MemFiles) -> bool {
     are_given(answers_at(alloc, files, "/app.sym", &[0x1174]), MAIN)
 }
 
-/// Whether answers have places, and what is done.
-const SCRIPTS: &[(bool, Script)] = &[
-    (true, ALONE),
-    (true, OTHER_KIND),
-    (true, COUNTED),
-    (true, LOOKED_UP),
-    (true, FOLDED),
-    (false, WITHOUT_PLACES),
-    (true, CALLED),
+/// What is started with, and what is done.
+const SCRIPTS: &[(Start<'static>, Script)] = &[
+    (ALL, ALONE),
+    (ALL, OTHER_KIND),
+    (ALL, COUNTED),
+    (ALL, LOOKED_UP),
+    (ALL, FOLDED),
+    (PLACES_OFF, WITHOUT_PLACES),
+    (ALL, CALLED),
 ];
 
 #[test]
 fn answers_breakpad_files(rt: HostRuntime) {
-    for (places, steps) in SCRIPTS {
-        assert!(rt; hold(rt.alloc(), (*places, true, b""), &[*steps]));
+    for (start, steps) in SCRIPTS {
+        assert!(rt; hold(rt.alloc(), start, &[*steps]));
     }
 }

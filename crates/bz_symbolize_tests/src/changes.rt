@@ -70,6 +70,6 @@ const SCRIPTS: &[Script] = &[CHANGES, COMES_BACK, KEEPS_ITS_STAMP];
 #[test]
 fn answers_files_that_change(rt: HostRuntime) {
     for steps in SCRIPTS {
-        assert!(rt; hold(rt.alloc(), ALL, &[*steps]));
+        assert!(rt; hold(rt.alloc(), &ALL, &[*steps]));
     }
 }

@@ -1,7 +1,9 @@
-//! A symbolizer with a dispatcher.
+//! Symbolizers with a dispatcher.
 
-ghost use Rattle.std.specs.Prelude.{IfErr};
+ghost use Rattle.std.specs.Prelude.{◌≡◌, Some, Ok, IfErr};
+ghost use Rattle.bz_base.specs.Resolution.{MayGive};
 ghost use Rattle.bz_process.specs.Member.{MayRefuseMember};
+ghost use Rattle.bz_symbolize_tests.specs.Dispatchers.{given_for_vdso, given_or_refused, vdso_resolver};
 
 use crate::asking::{answers, answers_single};
 use crate::steps::put;
@@ -9,21 +11,42 @@ use crate::told::Told;
 use bz_base::{Error, Input, Reason, Result};
 use bz_elf::ElfResolver;
 use bz_files::MemFiles;
-use bz_samples::ELF_FUNCTION;
+use bz_samples::{ELF_FUNCTION, THREE_MAPPINGS};
 use bz_symbolize::source::{Process, Source};
 use bz_symbolize::{
     Builder, Pid, ProcessDispatch, ProcessMemberInfo, ProcessMemberType, Symbolizer,
 };
 use std::alloc::Global;
 
-/// Gives a resolver for the part of the system that is called `[vdso]`, and refuses every other one.
+/// Gives a resolver for the part of the system that is called `[vdso]`, and none for anything else.
 #[derive(Drop)]
 struct ForVdso;
 
 impl ProcessDispatch for ForVdso {
     type Resolver = ElfResolver;
 
-    ghost may_dispatch = { λ _ member answer. Unit {0} };
+    ghost may_dispatch = { λ _ member answer. answer ≡ given_for_vdso member.name };
+
+    fn dispatch(&self, alloc: Global, info: ProcessMemberInfo<'_>) -> Result<Option<ElfResolver>> {
+        match info.member_entry {
+            ProcessMemberType::Component(part) => if part.as_str() == "[vdso]" {
+                vdso(alloc)
+            } else {
+                Ok(None)
+            },
+            ProcessMemberType::Path(_) => Ok(None),
+        }
+    }
+}
+
+/// Gives the same resolver, and refuses every other part of the system.
+#[derive(Drop)]
+struct ForVdsoAlone;
+
+impl ProcessDispatch for ForVdsoAlone {
+    type Resolver = ElfResolver;
+
+    ghost may_dispatch = { λ _ member answer. answer ≡ given_or_refused member.name };
 
     fn dispatch(&self, alloc: Global, info: ProcessMemberInfo<'_>) -> Result<Option<ElfResolver>> {
         match info.member_entry {
@@ -37,12 +60,56 @@ impl ProcessDispatch for ForVdso {
     }
 }
 
+/// The resolver of an ELF file, which want of memory alone can refuse.
 fn vdso(alloc: Global) -> Result<Option<ElfResolver>>
+    ensures answer { MayGive (λ given. given) (λ answer. answer ≡ Ok (Some vdso_resolver)) result }
     ensures refusal { IfErr result MayRefuseMember }
 {
     let bytes = Vec::from_slice(alloc, &ELF_FUNCTION)?;
-    let resolver = ElfResolver::from_bytes(alloc, "/vdso.so", bytes)?;
-    Ok(Some(resolver))
+    match ElfResolver::from_bytes(alloc, "/vdso.so", bytes) {
+        Ok(resolver) => Ok(Some(resolver)),
+        Err(_) => Err(Error::OutOfMemory),
+    }
+}
+
+/// Puts the mappings of process 7, and an ill-formed ELF file that it maps. Says whether memory was left.
+fn put_process(alloc: Global, files: &mut MemFiles, mappings: &[u8]) -> bool {
+    put(alloc, files, "/proc/7/maps", mappings)
+        && put(alloc, files, "/proc/7/map_files/1000-2000", b"\x7fELF")
+}
+
+/// In the part with a resolver, and in the file, which isn't an ELF file.
+const IN_EACH: Input<&[u64]> = Input::AbsAddr(&[0x5088, 0x1004]);
+
+/// What is told of them.
+const RESOLVED: &[Told] = &[
+    Told::InModule("/vdso.so"),
+    Told::Unknown(Reason::IgnoredError),
+];
+
+/// What is told of them where the mappings may not be read.
+const DENIED: &[Told] = &[Told::Refused(Error::PermissionDenied)];
+
+/// Whether the resolver answers for the part of the system, and for a mapped file no one does; and where
+/// the mappings may not be read, the batch is refused.
+fn asks_resolver(
+    alloc: Global,
+    symbolizer: &mut Symbolizer<ForVdso>,
+    files: &mut MemFiles,
+    src: &Source<'_>,
+) -> bool {
+    put_process(alloc, files, THREE_MAPPINGS)
+        && answers(alloc, symbolizer, files, src, IN_EACH, RESOLVED)
+        && files.deny(alloc, "/proc/7/maps").is_ok()
+        && answers(alloc, symbolizer, files, src, IN_EACH, DENIED)
+}
+
+/// Whether all holds of a symbolizer with the dispatcher.
+fn resolver_answers(alloc: Global) -> bool {
+    let mut files = MemFiles::new(alloc, 0);
+    let mut symbolizer = Builder::new().set_process_dispatcher(ForVdso).build(alloc);
+    let src = Source::from(Process::new(Pid::from(7)));
+    asks_resolver(alloc, &mut symbolizer, &mut files, &src)
 }
 
 /// The mappings of a process that maps a file and two parts of the system.
@@ -60,15 +127,14 @@ const TOLD: &[Told] = &[
 ];
 
 /// Whether the batch is answered so, and the address in the part without a resolver is refused alone.
-fn asks_resolver(
+fn asks_refusing(
     alloc: Global,
-    symbolizer: &mut Symbolizer<ForVdso>,
+    symbolizer: &mut Symbolizer<ForVdsoAlone>,
     files: &mut MemFiles,
     src: &Source<'_>,
 ) -> bool {
     let alone = Input::AbsAddr(0x7008);
-    put(alloc, files, "/proc/7/maps", THREE)
-        && put(alloc, files, "/proc/7/map_files/1000-2000", b"\x7fELF")
+    put_process(alloc, files, THREE)
         && answers(alloc, symbolizer, files, src, Input::AbsAddr(ADDRS), TOLD)
         && answers_single(
             alloc,
@@ -80,15 +146,17 @@ fn asks_resolver(
         )
 }
 
-/// Whether both hold of a symbolizer with the dispatcher.
-fn resolver_answers(alloc: Global) -> bool {
+/// Whether both hold of a symbolizer with the refusing dispatcher.
+fn refusing_answers(alloc: Global) -> bool {
     let mut files = MemFiles::new(alloc, 0);
-    let mut symbolizer = Builder::new().set_process_dispatcher(ForVdso).build(alloc);
+    let mut symbolizer = Builder::new()
+        .set_process_dispatcher(ForVdsoAlone)
+        .build(alloc);
     let src = Source::from(Process::new(Pid::from(7)));
-    asks_resolver(alloc, &mut symbolizer, &mut files, &src)
+    asks_refusing(alloc, &mut symbolizer, &mut files, &src)
 }
 
 #[test]
 fn a_resolver_answers_for_a_part_of_the_system(rt: HostRuntime) {
-    assert!(rt; resolver_answers(rt.alloc()));
+    assert!(rt; resolver_answers(rt.alloc()) && refusing_answers(rt.alloc()));
 }

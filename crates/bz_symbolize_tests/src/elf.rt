@@ -2,6 +2,7 @@
 
 use crate::asking::Asked::{Batch, LookedUp, Single};
 use crate::asking::Subject::Elf;
+use crate::lookups::Then;
 use crate::steps::Step::{Ask, Link, Opens, Put, Register};
 use crate::steps::{ALL, Script, hold};
 use crate::told::Told;
@@ -70,7 +71,7 @@ const OF_OFFSETS: &[Told] = &[Unknown(Reason::InvalidFileOffset), Named("f")];
 /// The offsets are answered at once and looked up.
 const BATCHES: Script = &[
     Ask(Elf("/e"), Batch(OFFSETS, OF_OFFSETS)),
-    Ask(Elf("/e"), LookedUp(OFFSETS, OF_OFFSETS, false)),
+    Ask(Elf("/e"), LookedUp(OFFSETS, OF_OFFSETS, Then::Answers)),
 ];
 
 /// A path, and what registering the file of a function there is refused by.
@@ -139,6 +140,6 @@ const SCRIPTS: &[Script] = &[KINDS, BATCHES, UNREAD];
 #[test]
 fn answers_elf_files(rt: HostRuntime) {
     for steps in SCRIPTS {
-        assert!(rt; hold(rt.alloc(), ALL, &[FILES, *steps]));
+        assert!(rt; hold(rt.alloc(), &ALL, &[FILES, *steps]));
     }
 }

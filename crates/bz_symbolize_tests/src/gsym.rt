@@ -2,12 +2,13 @@
 
 use crate::asking::Asked::{Batch, LookedUp, Single};
 use crate::asking::Subject::{Bytes, Gsym};
+use crate::lookups::Then;
 use crate::steps::Step::{Ask, Opens, Put};
-use crate::steps::{Script, hold};
+use crate::steps::{ALL, Script, Start, hold};
 use crate::told::Told::{Named, Placed, Refused, Unknown};
 use crate::told::{Code, Told};
 use bz_base::{Error, Input, Reason};
-use bz_samples::{GSYM_CALLS, damaged};
+use bz_samples::{GSYM_CALLS, GSYM_LINES, damaged};
 use std::alloc::Global;
 
 /// An address past the end of `main`, and one in it: not in the order in which they are found.
@@ -19,7 +20,7 @@ const MAIN: &[Told] = &[Unknown(Reason::UnknownAddr), Named("main")];
 /// Bytes that are handed in answer the addresses, at once and looked up.
 const HANDED_IN: Script = &[
     Ask(Bytes, Batch(ADDRESSES, MAIN)),
-    Ask(Bytes, LookedUp(ADDRESSES, MAIN, false)),
+    Ask(Bytes, LookedUp(ADDRESSES, MAIN, Then::Answers)),
 ];
 
 /// A file answers a batch and a single address, is read once, and refuses another kind of address.
@@ -38,9 +39,15 @@ const IN_FILE: Script = &[
 ];
 
 /// The source code of either function.
-const CODE: &Code = &("src", "a.c", "sub", "a.c");
+const CODE: &Code = &Code {
+    module: "",
+    dir: "src",
+    file: "a.c",
+    inlined: "sub",
+    inlined_file: "a.c",
+};
 
-/// Places and inlined calls are told.
+/// Places are told, also of addresses far behind a function of size 0.
 const PLACES: Script = &[
     Ask(
         Bytes,
@@ -49,14 +56,6 @@ const PLACES: Script = &[
     Ask(
         Bytes,
         Single(Input::VirtOffset(0x1000), Placed(CODE, "main", 0, 5, 0)),
-    ),
-    Ask(
-        Bytes,
-        Single(Input::VirtOffset(0x1005), Placed(CODE, "main", 5, 9, 5)),
-    ),
-    Ask(
-        Bytes,
-        Single(Input::VirtOffset(0x1009), Placed(CODE, "main", 9, 7, 0)),
     ),
     Ask(
         Bytes,
@@ -77,6 +76,18 @@ const PLACES: Script = &[
     Ask(
         Bytes,
         Single(Input::VirtOffset(0x9999), Placed(CODE, "sub", 35161, 0, 0)),
+    ),
+];
+
+/// Inlined calls are told, and an address behind them has none.
+const INLINED: Script = &[
+    Ask(
+        Bytes,
+        Single(Input::VirtOffset(0x1005), Placed(CODE, "main", 5, 9, 5)),
+    ),
+    Ask(
+        Bytes,
+        Single(Input::VirtOffset(0x1009), Placed(CODE, "main", 9, 7, 0)),
     ),
 ];
 
@@ -105,7 +116,53 @@ const WITHOUT_BOTH: Script = &[
 ];
 
 /// Bytes short of a head are refused as what isn't GSYM.
-const CUT: Script = &[Ask(Bytes, Batch(ADDRESSES, &[Refused(Error::InvalidData)]))];
+const REFUSED: Script = &[Ask(Bytes, Batch(ADDRESSES, &[Refused(Error::InvalidData)]))];
+
+/// A converted Breakpad file of one function with one line.
+const CONVERTED_BYTES: &[u8] =
+    b"MYSG\x01\0\x08\0\0\0\0\0\0\0\0\0\x01\0\0\0\x50\0\0\0\x15\0\0\0\0\0\0\0\0\0\0\0\0\0\0\0\0\0\0\0\0\0\0\0\0\x10\0\0\0\0\0\0\x68\0\0\0\x02\0\0\0\0\0\0\0\0\0\0\0\x0e\0\0\0\x0f\0\0\0\0another func\0\0bar.c\0\0\0\0\x30\0\0\0\x01\0\0\0\x01\0\0\0\x0a\0\0\0\0\0\0\x01\x01\x03\x07\x02\0\0\0\0\0\0\0\0\0\0";
+
+/// Its source code.
+const CONVERTED_CODE: &Code = &Code {
+    module: "",
+    dir: "",
+    file: "bar.c",
+    inlined: "",
+    inlined_file: "",
+};
+
+/// An address in the function has its line, and no module; one past its end is unknown.
+const CONVERTED: Script = &[Ask(
+    Bytes,
+    Batch(
+        Input::VirtOffset(&[0x1010, 0x1030]),
+        &[
+            Placed(CONVERTED_CODE, "another func", 16, 7, 0),
+            Unknown(Reason::UnknownAddr),
+        ],
+    ),
+)];
+
+/// Addresses of three bytes are none that a head tells, so that no address is known.
+const NO_ADDRESSES: Script = &[Ask(
+    Bytes,
+    Batch(
+        Input::VirtOffset(&[0, 0xfff, 0x1000, 0x1040, 18446744073709551615]),
+        &[
+            Unknown(Reason::UnknownAddr),
+            Unknown(Reason::UnknownAddr),
+            Unknown(Reason::UnknownAddr),
+            Unknown(Reason::UnknownAddr),
+            Unknown(Reason::UnknownAddr),
+        ],
+    ),
+)];
+
+/// A function whose first line comes behind its start has no place there.
+const NO_PLACE: Script = &[Ask(
+    Bytes,
+    Single(Input::VirtOffset(0x1000), Placed(CODE, "main", 0, 0, 0)),
+)];
 
 /// An address in an inlined call that names a file that isn't there is an ignored error in a batch, in
 /// which the one behind the call answers, and is refused alone.
@@ -123,29 +180,94 @@ const FOLDED: Script = &[
     ),
 ];
 
-/// Whether the bytes answer so where the inlined call names a file that isn't there.
-fn folds_without_its_file(alloc: Global) -> bool {
-    match damaged(alloc, &GSYM_CALLS, 166, &[2]) {
-        Ok(bytes) => hold(alloc, (true, true, bytes.as_slice()), &[FOLDED]),
+/// A file, a place in it, other bytes from there on, and what is done then.
+type Damage = (&'static [u8], usize, &'static [u8], Script);
+
+const DAMAGED: &[Damage] = &[
+    // Addresses of three bytes, and such as descend.
+    (&GSYM_LINES, 6, b"\x03", NO_ADDRESSES),
+    (&GSYM_LINES, 48, b"\x50\0\0\0", REFUSED),
+    // The first line begins a byte later, and an inlined call is in another file.
+    (&GSYM_LINES, 123, b"\x17", NO_PLACE),
+    (&GSYM_CALLS, 166, b"\x02", FOLDED),
+];
+
+/// Whether all is as told over the damaged file.
+fn damage_holds(alloc: Global, damage: &Damage) -> bool {
+    match damaged(alloc, damage.0, damage.1, damage.2) {
+        Ok(bytes) => {
+            let start = Start {
+                places: true,
+                calls: true,
+                bytes: bytes.as_slice(),
+            };
+            hold(alloc, &start, &[damage.3])
+        }
         Err(_) => false,
     }
 }
 
-/// Whether answers have places, and inlined calls, and what is done.
-const SCRIPTS: &[(bool, bool, Script)] = &[
-    (true, true, HANDED_IN),
-    (true, true, IN_FILE),
-    (true, true, PLACES),
-    (true, false, WITHOUT_CALLS),
-    (false, true, WITHOUT_PLACES),
-    (false, false, WITHOUT_BOTH),
+/// All features are on, and the file without inlined calls is handed in.
+const OVER_LINES: Start<'static> = Start {
+    bytes: &GSYM_LINES,
+    ..ALL
+};
+
+/// The file with inlined calls is.
+const OVER_CALLS: Start<'static> = Start {
+    bytes: &GSYM_CALLS,
+    ..ALL
+};
+
+/// No inlined calls are told of it.
+const CALLS_OFF: Start<'static> = Start {
+    calls: false,
+    ..OVER_CALLS
+};
+
+/// No places are.
+const PLACES_OFF: Start<'static> = Start {
+    places: false,
+    ..OVER_CALLS
+};
+
+/// Neither are.
+const BOTH_OFF: Start<'static> = Start {
+    places: false,
+    ..CALLS_OFF
+};
+
+/// The converted file is handed in.
+const OVER_CONVERTED: Start<'static> = Start {
+    bytes: CONVERTED_BYTES,
+    ..ALL
+};
+
+/// What is started with, and what is done.
+const SCRIPTS: &[(Start<'static>, Script)] = &[
+    (OVER_CALLS, HANDED_IN),
+    (OVER_CALLS, IN_FILE),
+    (OVER_LINES, PLACES),
+    (OVER_CALLS, PLACES),
+    (OVER_CALLS, INLINED),
+    (CALLS_OFF, WITHOUT_CALLS),
+    (PLACES_OFF, WITHOUT_PLACES),
+    (BOTH_OFF, WITHOUT_BOTH),
+    (OVER_CONVERTED, CONVERTED),
 ];
 
 #[test]
 fn answers_gsym(rt: HostRuntime) {
-    for (places, calls, steps) in SCRIPTS {
-        assert!(rt; hold(rt.alloc(), (*places, *calls, &GSYM_CALLS), &[*steps]));
+    for (start, steps) in SCRIPTS {
+        assert!(rt; hold(rt.alloc(), start, &[*steps]));
     }
-    assert!(rt; hold(rt.alloc(), (true, true, &GSYM_CALLS[..47]), &[CUT]));
-    assert!(rt; folds_without_its_file(rt.alloc()));
+    for damage in DAMAGED {
+        assert!(rt; damage_holds(rt.alloc(), damage));
+    }
+    let cut = Start {
+        places: true,
+        calls: true,
+        bytes: &GSYM_LINES[..47],
+    };
+    assert!(rt; hold(rt.alloc(), &cut, &[REFUSED]));
 }

@@ -154,7 +154,7 @@ const SCRIPTS: &[&[Script]] = &[
 #[test]
 fn what_is_kept_answers_until_it_is_forgotten(rt: HostRuntime) {
     for parts in SCRIPTS {
-        assert!(rt; hold(rt.alloc(), ALL, parts));
+        assert!(rt; hold(rt.alloc(), &ALL, parts));
     }
 }
 
@@ -208,6 +208,6 @@ const FAILS: &[(Script, Script, Script)] = &[
 fn a_look_that_fails_changes_nothing(rt: HostRuntime) {
     for (kept, fails, stays) in FAILS {
         let parts = &[FILE_KEPT, FILES, *kept, LATER, *fails, REFUSED, *stays];
-        assert!(rt; hold(rt.alloc(), ALL, parts));
+        assert!(rt; hold(rt.alloc(), &ALL, parts));
     }
 }

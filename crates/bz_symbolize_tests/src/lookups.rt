@@ -13,6 +13,15 @@ use bz_symbolize::{Lookups, Symbolizer};
 use std::alloc::Global;
 use std::sync::ledger::{Blank, Ledger};
 
+/// What comes when a batch has been looked up.
+pub(crate) enum Then {
+    /// Its two addresses are answered one by one and together.
+    Answers,
+    /// The file changes. The address, which is in the function of the first Breakpad file, is answered by
+    /// this version after the second has come, and as is told together with one before the function.
+    Changes,
+}
+
 /// A copy of the addresses.
 fn copied(alloc: Global, input: Input<&[u64]>) -> Result<Input<Vec<u64>>> {
     Ok(match input {
@@ -32,20 +41,16 @@ fn are_looked_up(alloc: Global, lookups: &Lookups<'_>, told: &[Told]) -> bool {
         && are_given(lookups.answers_of(alloc, &[0, 1]), told)
 }
 
-/// Whether this is so, or, where the file changes, the address 0x1010, looked up in the first file, is
-/// answered by `one` after the second file has come, and as is told together with another one.
-fn stay_looked_up(
+/// Whether the address 0x1010, looked up in the first file, is answered by `one` after the second file has
+/// come, and as is told together with another one.
+fn stays_looked_up(
     alloc: Global,
     symbolizer: &mut Symbolizer,
     files: &mut MemFiles,
     src: &Source<'_>,
     lookups: &Lookups<'_>,
     told: &[Told],
-    changes: bool,
 ) -> bool {
-    if !changes {
-        return are_looked_up(alloc, lookups, told);
-    }
     if lookups.len() != 1 || lookups.addr(0) != 0x1010 {
         return false;
     }
@@ -57,7 +62,7 @@ fn stay_looked_up(
 }
 
 /// Whether the addresses are looked up, and answered or refused as is told, with a count that nobody
-/// reads. What was looked up answers by its version after the file has changed, if it changes.
+/// reads.
 pub(crate) fn looks_up<L: Ledger>(
     alloc: Global,
     symbolizer: &mut Symbolizer,
@@ -65,7 +70,7 @@ pub(crate) fn looks_up<L: Ledger>(
     src: &Source<'_>,
     input: Input<&[u64]>,
     told: &[Told],
-    changes: bool,
+    then: &Then,
     blank: Blank,
 ) -> bool
     requires name { blank.name ≡ L.name }
@@ -77,7 +82,10 @@ pub(crate) fn looks_up<L: Ledger>(
     };
     let mut steps = Steps::<L>::new(blank);
     match symbolizer.look_up(alloc, files, src, addrs, &mut steps) {
-        Ok(lookups) => { stay_looked_up(alloc, symbolizer, files, src, &lookups, told, changes) }
+        Ok(lookups) => match then {
+            Then::Answers => are_looked_up(alloc, &lookups, told),
+            Then::Changes => stays_looked_up(alloc, symbolizer, files, src, &lookups, told),
+        },
         Err(refusal) => told.len() == 1 && is_refused(refusal, &told[0]),
     }
 }

@@ -6,19 +6,19 @@ use crate::asking::Asked::Many;
 use crate::breakpad::FILE;
 use crate::nested::CALLS;
 use crate::steps::Step::{Ask, Opens, PutGenerated};
-use crate::steps::{ALL, Script, hold};
+use crate::steps::{ALL, PLACES_OFF, Script, hold};
 use crate::told::{Code, is_placed};
 use bz_base::{Input, Reason, Result, Steps, Sym, Symbolized, whole_decimal};
 use bz_files::MemFiles;
-use bz_symbolize::Symbolizer;
 use bz_symbolize::source::Source;
+use bz_symbolize::{Lookups, Symbolizer};
 use std::alloc::Global;
 use std::marker::Brand;
 use std::sync::ledger::{Blank, Ledger};
 
 /// How many addresses are asked for, and by how many bytes they step through the file; their order, as
 /// a factor that has nothing in common with how many there are, and a first step; and how often they
-/// are asked for in each of two ways.
+/// are asked for in each of two ways, beside being looked up once.
 pub(crate) type Batch = (u64, u64, u64, u64, u32);
 
 /// Pushes a function. The first eight of its 48 bytes are of a call that was inlined, and the first
@@ -72,16 +72,22 @@ fn is_function(symbol: &Sym<'_>, past: u64) -> bool {
 }
 
 /// The source code of all functions.
-const CODE: Code = ("", "gen.c", "g", "gen.c");
+const CODE: &Code = &Code {
+    module: "gen",
+    dir: "",
+    file: "gen.c",
+    inlined: "g",
+    inlined_file: "gen.c",
+};
 
 /// Whether the symbol has the lines of the function so many bytes past the first one: those of the call,
 /// or of one of its two line records.
 fn has_lines(symbol: &Sym<'_>, past: u64) -> bool {
     let first = past / 64 + 1;
     match past % 64 {
-        0..8 => is_placed(symbol, &CODE, 7, first),
-        8..16 => is_placed(symbol, &CODE, first, 0),
-        _ => is_placed(symbol, &CODE, first + 1, 0),
+        0..8 => is_placed(symbol, CODE, 7, first),
+        8..16 => is_placed(symbol, CODE, first, 0),
+        _ => is_placed(symbol, CODE, first + 1, 0),
     }
 }
 
@@ -97,6 +103,19 @@ fn is_right(answer: &Symbolized<'_>, plain: &Symbolized<'_>, past: u64, places: 
     is_as_told && *plain == *answer
 }
 
+/// Whether the answer at an index of the batch is right.
+fn is_right_at(
+    answer: &Symbolized<'_>,
+    index: usize,
+    batch: &Batch,
+    places: bool,
+    plain: &[Symbolized<'_>],
+) -> bool {
+    let step = step_at(index as u64, batch);
+    let place = step as usize;
+    place < plain.len() && is_right(answer, &plain[place], batch.1.wrapping_mul(step), places)
+}
+
 /// Whether the answers are those of the batch, with their places or not, and the same as the plain ones.
 fn are_right(
     answers: &[Symbolized<'_>],
@@ -108,13 +127,7 @@ fn are_right(
         return false;
     }
     for index in 0..answers.len() {
-        let step = step_at(index as u64, batch);
-        let place = step as usize;
-        if place >= plain.len() {
-            return false;
-        }
-        let past = batch.1.wrapping_mul(step);
-        if !is_right(&answers[index], &plain[place], past, places) {
+        if !is_right_at(&answers[index], index, batch, places, plain) {
             return false;
         }
     }
@@ -134,7 +147,63 @@ fn is_answered(
     }
 }
 
-/// Whether calls answer so again and again, with a count of their steps and without.
+/// Whether this is so of an answer alone.
+fn is_answered_at(
+    answer: Result<Symbolized<'_>>,
+    index: usize,
+    batch: &Batch,
+    places: bool,
+    plain: &[Symbolized<'_>],
+) -> bool {
+    match answer {
+        Ok(answer) => is_right_at(&answer, index, batch, places, plain),
+        Err(_) => false,
+    }
+}
+
+/// Whether what was looked up answers so, one by one.
+fn are_looked_up(
+    alloc: Global,
+    lookups: &Lookups<'_>,
+    batch: &Batch,
+    places: bool,
+    plain: &[Symbolized<'_>],
+) -> bool {
+    if lookups.len() as u64 != batch.0 {
+        return false;
+    }
+    for index in 0..lookups.len() {
+        let answer = lookups.answer(alloc, index);
+        if !is_answered_at(answer, index, batch, places, plain) {
+            return false;
+        }
+    }
+    true
+}
+
+/// Whether the addresses are looked up, and answer so.
+fn looks_up<L: Ledger>(
+    alloc: Global,
+    symbolizer: &mut Symbolizer,
+    files: &mut MemFiles,
+    src: &Source<'_>,
+    addrs: &[u64],
+    batch: &Batch,
+    places: bool,
+    plain: &[Symbolized<'_>],
+    steps: &mut Steps<L>,
+) -> bool {
+    let Ok(copy) = Vec::from_slice(alloc, addrs) else {
+        return false;
+    };
+    match symbolizer.look_up(alloc, files, src, Input::FileOffset(copy), steps) {
+        Ok(lookups) => are_looked_up(alloc, &lookups, batch, places, plain),
+        Err(_) => false,
+    }
+}
+
+/// Whether calls answer so again and again, with a count of their steps and without, and once where they
+/// look up.
 fn answers_often<L: Ledger>(
     alloc: Global,
     symbolizer: &mut Symbolizer,
@@ -162,7 +231,9 @@ fn answers_often<L: Ledger>(
             return false;
         }
     }
-    true
+    looks_up(
+        alloc, symbolizer, files, src, addrs, batch, places, plain, &mut steps,
+    )
 }
 
 /// Whether this is so of the addresses of the batch, beside the answers in ascending order.
@@ -215,11 +286,11 @@ const SCRIPTS: &[Script] = &[CALLS, ORDERS];
 #[test]
 fn batches_answer_alike(rt: HostRuntime) {
     for steps in SCRIPTS {
-        assert!(rt; hold(rt.alloc(), ALL, &[*steps]));
+        assert!(rt; hold(rt.alloc(), &ALL, &[*steps]));
     }
 }
 
 #[test]
 fn reads_a_large_file_once(rt: HostRuntime) {
-    assert!(rt; hold(rt.alloc(), (false, true, b""), &[LARGE]));
+    assert!(rt; hold(rt.alloc(), &PLACES_OFF, &[LARGE]));
 }

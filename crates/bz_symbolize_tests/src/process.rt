@@ -3,6 +3,7 @@
 use crate::asking::Asked::{Batch, Counted, LookedUp, Single};
 use crate::asking::Subject::{Elf, Process, ProcessByPaths};
 use crate::calling::answers_in;
+use crate::lookups::Then;
 use crate::steps::Step::{Ask, CallOfProcess, Opens, Put};
 use crate::steps::{ALL, Script, hold};
 use crate::told::Told::{Named, Refused, Unknown};
@@ -67,7 +68,11 @@ const COUNTED: Script = &[Ask(Process(7), Counted(Input::AbsAddr(ADDRS), TOLD))]
 const NOT_LOOKED_UP: Script = &[
     Ask(
         Process(7),
-        LookedUp(Input::AbsAddr(ADDRS), &[Refused(Error::Unsupported)], false),
+        LookedUp(
+            Input::AbsAddr(ADDRS),
+            &[Refused(Error::Unsupported)],
+            Then::Answers,
+        ),
     ),
     Opens(0),
 ];
@@ -104,6 +109,6 @@ const SCRIPTS: &[&[Script]] = &[
 #[test]
 fn answers_processes(rt: HostRuntime) {
     for parts in SCRIPTS {
-        assert!(rt; hold(rt.alloc(), ALL, parts));
+        assert!(rt; hold(rt.alloc(), &ALL, parts));
     }
 }

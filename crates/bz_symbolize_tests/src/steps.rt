@@ -12,12 +12,29 @@ use bz_symbolize::{Builder, Symbolizer};
 use std::alloc::Global;
 use std::default::Default;
 
-/// What a script starts with: whether the symbolizer's answers have places, whether they have inlined
-/// calls, and the GSYM that is handed in.
-pub(crate) type Start<'d> = (bool, bool, &'d [u8]);
+/// What a script starts with.
+#[derive(Drop)]
+pub(crate) struct Start<'d> {
+    /// Whether the symbolizer's answers have places.
+    pub(crate) places: bool,
+    /// Whether they have inlined calls.
+    pub(crate) calls: bool,
+    /// The GSYM that is handed in.
+    pub(crate) bytes: &'d [u8],
+}
 
 /// All features are on, and no GSYM is handed in.
-pub(crate) const ALL: Start<'static> = (true, true, b"");
+pub(crate) const ALL: Start<'static> = Start {
+    places: true,
+    calls: true,
+    bytes: b"",
+};
+
+/// The same, but answers have no places.
+pub(crate) const PLACES_OFF: Start<'static> = Start {
+    places: false,
+    ..ALL
+};
 
 /// What is done, or asked. A symbolizer is asked, and also another one, which has every feature off and
 /// doesn't look at files anew.
@@ -170,11 +187,10 @@ fn all_hold_of(
 }
 
 /// Whether all is as the steps say, part after part, over new files and new symbolizers.
-pub(crate) fn hold(alloc: Global, start: Start<'_>, parts: &[Script]) -> bool {
-    let (places, calls, bytes) = start;
+pub(crate) fn hold(alloc: Global, start: &Start<'_>, parts: &[Script]) -> bool {
     let mut files = MemFiles::new(alloc, 0);
     let mut none = MemFiles::new(alloc, 0);
-    let mut symbolizer = with_features(alloc, places, calls);
+    let mut symbolizer = with_features(alloc, start.places, start.calls);
     let mut still = without_features(alloc);
     all_hold_of(
         alloc,
@@ -182,7 +198,7 @@ pub(crate) fn hold(alloc: Global, start: Start<'_>, parts: &[Script]) -> bool {
         &mut still,
         &mut files,
         &mut none,
-        bytes,
+        start.bytes,
         parts,
     )
 }

@@ -1,10 +1,21 @@
 //! What is told of addresses, and whether answers and refusals are that.
 
 use bz_base::{CodeInfo, Error, Reason, Result, Sym, Symbolized};
+use std::borrow::CowStr;
 
-/// The source code of a file of symbols: the directory of its files, the file of its functions, and
-/// the one function that is inlined in them, and its file.
-pub(crate) type Code = (&'static str, &'static str, &'static str, &'static str);
+/// The source code of a file of symbols.
+pub(crate) struct Code {
+    /// The module of its symbols, or an empty text where they have none.
+    pub(crate) module: &'static str,
+    /// The directory of its files, or an empty text.
+    pub(crate) dir: &'static str,
+    /// The file of its functions.
+    pub(crate) file: &'static str,
+    /// The one function that is inlined in them.
+    pub(crate) inlined: &'static str,
+    /// The file of that function.
+    pub(crate) inlined_file: &'static str,
+}
 
 /// What is told of an address.
 pub(crate) enum Told {
@@ -21,6 +32,14 @@ pub(crate) enum Told {
     Refused(Error),
 }
 
+/// Whether this is the module, or there is none and none is told.
+fn is_module(given: &Option<CowStr<'_>>, name: &str) -> bool {
+    match given {
+        Some(given) => !name.is_empty() && given.as_str() == name,
+        None => name.is_empty(),
+    }
+}
+
 /// Whether the place is that line of the file in the directory, or there is neither.
 fn is_place(place: &Option<CodeInfo<'_>>, dir: &str, file: &str, line: u64) -> bool {
     let Some(place) = place else {
@@ -33,20 +52,21 @@ fn is_place(place: &Option<CodeInfo<'_>>, dir: &str, file: &str, line: u64) -> b
     is_in && place.file.as_str() == file && line != 0 && u64::from(place.line.unwrap_or(0)) == line
 }
 
-/// Whether the symbol's place is at that line of the code, or there is neither, and its one inlined call
-/// is at the other line, or there is neither.
+/// Whether the symbol is of the code's module, its place is at that line of the code, or there is neither,
+/// and its one inlined call is at the other line, or there is neither.
 pub(crate) fn is_placed(symbol: &Sym<'_>, code: &Code, line: u64, called: u64) -> bool {
-    let (dir, file, inlined, its_file) = *code;
     let calls = match symbol.inlined.as_slice() {
         [] => called == 0,
         [call] => {
-            call.name.as_str() == inlined
+            call.name.as_str() == code.inlined
                 && called != 0
-                && is_place(&call.code_info, dir, its_file, called)
+                && is_place(&call.code_info, code.dir, code.inlined_file, called)
         }
         _ => false,
     };
-    calls && is_place(&symbol.code_info, dir, file, line)
+    calls
+        && is_module(&symbol.module, code.module)
+        && is_place(&symbol.code_info, code.dir, code.file, line)
 }
 
 /// Whether the symbol is what is told.

@@ -1,6 +1,7 @@
 //! Lines of addresses, and fields.
 
-use bz_requests::{BadInput, address, fields, read_lines};
+use bz_requests::{BadInput, address, fields};
+use bz_symq::read_addrs;
 use std::alloc::Global;
 
 /// An input, how many addresses it says, the last of them, and its first line that isn't well formed;
@@ -40,7 +41,7 @@ static FIELDS: [(&[u8], usize, &[u8]); 6] = [
 
 /// Whether the input says so many addresses, with this one at its end, or is refused at this line.
 fn says(alloc: Global, text: &[u8], count: usize, last: u64, line: u64) -> bool {
-    match read_lines::<u64>(alloc, text) {
+    match read_addrs(alloc, text) {
         Ok(addrs) => {
             line == 0 && addrs.len() == count && addrs.last().copied().unwrap_or(0) == last
         }

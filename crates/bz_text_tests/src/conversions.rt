@@ -8,8 +8,9 @@ use bz_gsym::GsymTable;
 use std::alloc::Global;
 use std::test::Fail;
 
-/// A function of 48 bytes with one line.
-const ONE_LINE: &[u8] = b"FILE 53 bar.c\nFUNC 1000 30 10 another func\n1000 30 7 53\n";
+/// A function of 48 bytes with one line, and a public symbol, which is left out.
+const ONE_LINE: &[u8] =
+    b"MODULE Linux x86 ffff0000 bar\nFILE 53 bar.c\nPUBLIC 1234 10 some public\nFUNC 1000 30 10 another func\n1000 30 7 53\n";
 
 /// Its GSYM file, byte by byte as the format has it.
 const ONE_LINE_BYTES: &[u8] =

@@ -1,4 +1,4 @@
-//! Tests of texts that are read and written: of bz_requests, bz_words and bz_breakpad_table; and of bz_convert,
+//! Tests of texts that are read and written: of bz_requests, bz_symq, bz_words and bz_breakpad_table; and of bz_convert,
 //! bz_gsym_layout, bz_converting and bz_canon, over what they make public.
 #![tactic(auto)]
 

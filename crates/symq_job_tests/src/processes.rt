@@ -19,7 +19,8 @@ const BAD_ELF: &str = "\x7fELF";
 const PERF_MAP: &str =
     "3000 10 jit\n7fbf1fc21441 b py::MutableSequence:<frozen _collections_abc>\n7fbf1fc2144c b py::<module>:<frozen posixpath>\n7fbf1fc215ee b py::_getuserbase.<locals>.joinuser:<frozen sitej7fbf1fc215f9 b py::expanduser:<frozen posixpath>\n";
 
-/// Three processes with three mappings, the own one among them, and one that may not be looked at.
+/// Two processes with three mappings, the own one by its id and as `self`, and one whose mappings may
+/// not be read.
 const PROCESSES: &[Edit] = &[
     Bytes("/proc/7/maps", THREE_MAPPINGS),
     Text("/proc/7/status", NAME),

@@ -45,12 +45,25 @@ const CALLS: Row = Row {
     ..FIRST_RUN
 };
 
+/// The file of a C program, as Breakpad writes it: a place in a call that was inlined, and a function
+/// of which a PUBLIC record alone tells.
+const PROGRAM: Row = Row {
+    edits: &[Text(
+        "/a.sym",
+        "MODULE Linux x86_64 D3096ED481217FD4C16B29CD9BC208BA0 app\nINFO CODE_ID D46E09D32181D47FC16B29CD9BC208BA\nFILE 0 /src/app/main.c\nFILE 1 /src/app/util.h\nINLINE_ORIGIN 0 clamp\nFUNC 1160 2a 0 main\nINLINE 0 12 0 0 1170 8\n1160 10 10 0\n1170 8 4 1\n1178 12 13 0\nPUBLIC 1020 0 _start\nSTACK CFI INIT 1160 2a .cfa: $rsp 8 + .ra: .cfa -8 + ^\nSTACK CFI 1161 .cfa: $rsp 16 +\n",
+    )],
+    input: "1174\n1020\n",
+    written: "0x1174: main+0x14 start 0x1160 size 0x2a module app at /src/app/main.c:12\n  clamp at /src/app/util.h:4\n0x1020: _start+0x0 start 0x1020 size - module app at - public\n",
+    ..FIRST_RUN
+};
+
 const ROWS: &[Row] = &[
     Row {
         input: ADDRESSES,
         written: ANSWERS,
         ..FIRST_RUN
     },
+    PROGRAM,
     PLACED,
     Row {
         edits: &[Text("/a.sym", ONE_RETURN)],

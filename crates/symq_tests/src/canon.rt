@@ -55,7 +55,7 @@ const NAMELESS: Row = Row {
     ..CANON
 };
 
-/// Records of every kind.
+/// A module, a file, a PUBLIC record, and a function with a line, by their records.
 const RECORDS: Row = Row {
     edits: &[Text(
         "/a.sym",

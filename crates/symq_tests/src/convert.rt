@@ -19,6 +19,17 @@ const CONVERTED: Row = Row {
     ..FIRST_RUN
 };
 
+/// The same by words, of a file with a PUBLIC record, which is left out.
+const BY_WORDS: Row = Row {
+    lines: &[&["convert", "/a.sym"]],
+    converted: "",
+    edits: &[Text(
+        "/a.sym",
+        "MODULE Linux x86 ffff0000 bar\nFILE 53 bar.c\nPUBLIC 1234 10 some public\nFUNC 1000 30 10 another func\n1000 30 7 53\n",
+    )],
+    ..CONVERTED
+};
+
 /// One that a fault ends.
 const FAULT: Row = Row {
     status: Status::Fault,
@@ -41,6 +52,7 @@ const ZERO_BYTE: Row = Row {
 
 const ROWS: &[Row] = &[
     CONVERTED,
+    BY_WORDS,
     Row {
         faults: (2, 0, 2),
         ..CONVERTED

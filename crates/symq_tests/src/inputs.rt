@@ -68,6 +68,11 @@ const LONGEST: &[Row] = &[
         written: "input: too long\n",
         ..BAD
     },
+    Row {
+        blanks: 16_777_217,
+        written: "input: too long\n",
+        ..BAD
+    },
 ];
 
 #[test]

@@ -56,6 +56,9 @@ const LINES: &[Row] = &[
     (0, b"", 0x1020, Basic, UNKNOWN, NOWHERE, "", NOWHERE),
     (0, b"", 0x1040, Basic, SUB, NOWHERE, "", NOWHERE),
     (0, b"", 0x9999, Basic, SUB, NOWHERE, "", NOWHERE),
+    // Addresses of 3 bytes are unknown.
+    (6, b"\x03", 0x1000, Basic, UNKNOWN, NOWHERE, "", NOWHERE),
+    (6, b"\x03", 0x1040, CodeInfo, UNKNOWN, NOWHERE, "", NOWHERE),
     // A symbol that doesn't reach the address isn't refused for its name.
     (108, b"\x12", 0x1020, Basic, UNKNOWN, NOWHERE, "", NOWHERE),
     // The data place lies 7 bytes before the end.

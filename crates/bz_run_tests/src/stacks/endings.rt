@@ -140,7 +140,7 @@ fn ends_by_a_call_that_fails(rt: HostRuntime) -> Result<(), Fail> {
     Ok(())
 }
 
-/// Whether a run over an input that is a byte too long says so, and looks at no file.
+/// Whether a run over an input that is a byte too long says so, though the file is absent.
 fn is_too_long(alloc: Global) -> Result<bool, Error> {
     let mut files = MemFiles::new(alloc, 0);
     let mut input = MemIn::new(vec![in alloc; b'\n'; 16_777_217]?);
