@@ -1,5 +1,6 @@
 #!/usr/bin/env bash
-# Finds each item of SURFACE.md's first table as a public name in its crate. Prints those that are missing.
+# Finds each item of SURFACE.md's first table by its name in its crate's source, or in what that passes on.
+# Prints those that are missing.
 cd "$(dirname "$0")/.." || exit 1
 missing=0
 while IFS='|' read -r _ crate items _; do
