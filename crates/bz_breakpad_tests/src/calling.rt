@@ -1,7 +1,7 @@
 //! A caller: the name of the symbol at an address of a Breakpad file.
 
 ghost use Rattle.std.specs.Prelude.{option_map, string_bytes, IfOk};
-ghost use Rattle.bz_breakpad_tests.specs.Calling.{IsNamed};
+ghost use Rattle.bz_breakpad_tests.specs.Calling.{HasName, IsNamed};
 ghost use Rattle.bz_files.specs.World.{in_view};
 
 use crate::files::{USUAL, put};
@@ -15,6 +15,13 @@ fn name_at<F: Files>(alloc: Global, files: &mut F, path: &str, addr: Addr) -> Re
     ensures { IfOk result (λ name. IsNamed (in_view (F.worlds files.old)) path.now addr (option_map string_bytes name)) }
 {
     let resolver = BreakpadResolver::open(alloc, files, path)?;
+    name_in(alloc, &resolver, addr)
+}
+
+/// The name of the symbol at an address of a resolver's file, as its plain answer has it.
+fn name_in(alloc: Global, resolver: &BreakpadResolver, addr: Addr) -> Result<Option<String>>
+    ensures { IfOk result (λ name. HasName resolver.now.bytes addr (option_map string_bytes name)) }
+{
     match resolver.find_sym(alloc, addr, &FindSymOpts::Basic)? {
         Ok(found) => Ok(Some(String::from_str(alloc, found.name)?)),
         Err(_) => Ok(None),

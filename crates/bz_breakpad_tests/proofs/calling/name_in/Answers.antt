@@ -1,11 +1,9 @@
 use Rattle.std.proofs.Common.{◌≡◌, Ok, Err, string_bytes}
 use Rattle.bz_base.specs.Resolution.{found_of}
-use Rattle.bz_breakpad_tests.proofs.calling.name_at.Goals as goal
+use Rattle.bz_breakpad_tests.proofs.calling.name_in.Goals as goal
 
-pub returns-in-Ok : goal.returns-in-Ok
-returns-in-Ok g c = record {
-  bytes = c.in_ok-resolver.resolver.bytes;
-  there = c.in_ok-resolver.ensures.answer;
+pub returns-in_ok-from_str-in-Ok : goal.returns-in_ok-from_str-in-Ok
+returns-in_ok-from_str-in-Ok c = record {
   answer = Ok (found_of c.in_ok-found.field-0);
   plain = c.in_ok-found.ensures.answer;
   named =
@@ -14,10 +12,8 @@ returns-in-Ok g c = record {
       search (found, copied);
 }
 
-pub returns : goal.returns
-returns g c = record {
-  bytes = c.in_ok-resolver.resolver.bytes;
-  there = c.in_ok-resolver.ensures.answer;
+pub returns-in-Err : goal.returns-in-Err
+returns-in-Err c = record {
   answer = Ok (found_of c.in_ok-found.field-0);
   plain = c.in_ok-found.ensures.answer;
   named = let unknown : c.in_ok-found.field-0 ≡ Err c.in-Err.field-0 = c.in-Err.is in search unknown;
