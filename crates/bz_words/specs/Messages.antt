@@ -1,15 +1,18 @@
 -- What standard error says of a run, without the end of its last line.
-use Rattle.std.specs.Prelude.{◌≡◌, ◌↔◌, ◌⊎◌, ℕ, List, ◌++◌, codes, decimal, Option, Some, None, option_and_then}
+use Rattle.std.specs.Prelude.{◌≡◌, ◌≢◌, ◌<◌, ◌↔◌, ◌⊎◌, ℕ, List, ◌++◌, codes, decimal, Option, Some, None, option_and_then}
 use Rattle.bz_base.specs.InputKind.{InFile}
 use Rattle.bz_breakpad_table.specs.Refusals.{IsRefusal}
 use Rattle.bz_breakpad_table.specs.declared.refused.Refused.{Refused}
 use Rattle.bz_breakpad_table.specs.declared.refused.Refused.TheVariants.{Line, NoEnd, Empty}
+use Rattle.bz_files.specs.Looked.{ReadsOne}
 use Rattle.bz_files.specs.World.{World, Present, entry_at}
+use Rattle.bz_files.specs.declared.files.Files as files_trait
 use Rattle.bz_files.specs.declared.stamp.Stamp.{Stamp}
 use Rattle.bz_requests.specs.Requests.{Breakpad, Elf, Gsym}
 use Rattle.bz_symq.specs.declared.status.Status.{Status}
 use Rattle.bz_symq.specs.declared.status.Status.TheVariants as statuses
 use Rattle.bz_words.specs.Command.{Batch, Canonical, Command, Converted, Job, Make, Stacks, command_in}
+use Rattle.bz_words.specs.declared.failed.Failed.{Failed}
 
 -- a line about what lies at a path
 abbrev pub line_about : List ℕ → List ℕ → List ℕ
@@ -83,6 +86,26 @@ pub record IsOnNamed (words : List (List ℕ)) (line : List ℕ) : Type 0 where
 -- a line that says so, or that a file couldn't be read
 abbrev pub IsAboutFile : List (List ℕ) → List ℕ → Type 0
 IsAboutFile words line = (line ≡ codes "symq: reading a file failed") ⊎ IsOnNamed words line
+
+-- the line on a failed run: which side failed, by the counts, and at which path if that is known
+pub record IsAboutFailed (words : List (List ℕ)) (failed : Failed) (line : List ℕ) : Type 0 where
+  -- where writes failed, standard output
+  pub output : 0 < failed.output → line ≡ codes "symq: standard output: writing failed"
+  -- else, where reads of standard input failed, that
+  pub input : failed.output ≡ 0 → 0 < failed.input → line ≡ codes "symq: standard input: reading failed"
+  -- else, where looks at files failed, the file
+  pub files : failed.output ≡ 0 → failed.input ≡ 0 → 0 < failed.files → IsAboutFile words line
+  -- else no side
+  pub unknown : failed.output ≡ 0 → failed.input ≡ 0 → failed.files ≡ 0 → line ≡ codes "symq: reading or writing failed"
+
+-- what a message takes of the files, before it and after it
+pub record ReadsForMessage {F : Type 0} (looks : files_trait.Ghosts F) (status : Status) (before after : F) : Type 0 where
+  -- one file is read at most
+  pub most : ReadsOne looks before after
+  -- and only of a refused run
+  pub unopened : status ≢ statuses.Refused → looks.opens after ≡ looks.opens before
+  -- the world is as it was
+  pub worlds : looks.worlds after ≡ looks.worlds before
 
 -- what is said is the one line that says so; nothing is said where none does
 abbrev pub Tells : Option (List ℕ) → (List ℕ → Type 0) → Type 0

@@ -1,8 +1,8 @@
 //! What failed.
 
-ghost use Rattle.std.specs.Prelude.{◌≡◌, ◌<◌, codes, map, option_map, string_bytes, IfOk, IfSome};
+ghost use Rattle.std.specs.Prelude.{◌≡◌, map, option_map, string_bytes, IfOk, IfSome};
 ghost use Rattle.std.specs.Cow.{cow_str_bytes};
-ghost use Rattle.bz_words.specs.Messages.{IsAboutFile, IsCause, IsOnFile, IsOnNamed, read_path};
+ghost use Rattle.bz_words.specs.Messages.{IsAboutFailed, IsCause, IsOnFile, IsOnNamed, read_path};
 ghost use Rattle.bz_words.specs.Command.{job_of};
 
 use crate::given::{Job, Product};
@@ -35,10 +35,7 @@ pub(crate) fn failure<F: Files>(
     failed: Failed,
     files: &mut F,
 ) -> CowStr<'static>
-    ensures output { 0 < failed.output → cow_str_bytes result ≡ codes "symq: standard output: writing failed" }
-    ensures input { failed.output ≡ 0 → 0 < failed.input → cow_str_bytes result ≡ codes "symq: standard input: reading failed" }
-    ensures about { failed.output ≡ 0 → failed.input ≡ 0 → 0 < failed.files → IsAboutFile (map string_bytes words.now) (cow_str_bytes result) }
-    ensures unknown { failed.output ≡ 0 → failed.input ≡ 0 → failed.files ≡ 0 → cow_str_bytes result ≡ codes "symq: reading or writing failed" }
+    ensures about { IsAboutFailed (map string_bytes words.now) failed (cow_str_bytes result) }
     ensures unopened { F.opens files.new ≡ F.opens files.old }
     ensures worlds { F.worlds files.new ≡ F.worlds files.old }
 {

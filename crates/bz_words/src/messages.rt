@@ -1,11 +1,11 @@
 //! The message of a run.
 
-ghost use Rattle.std.specs.Prelude.{◌≡◌, ◌≢◌, ◌<◌, Some, None, codes, is_some, true, map, option_map, string_bytes, IfSome};
+ghost use Rattle.std.specs.Prelude.{◌≡◌, None, is_some, true, map, option_map, string_bytes, IfSome};
 ghost use Rattle.std.specs.Cow.{cow_str_bytes};
 ghost use Rattle.bz_files.specs.Looked.{ReadsOne};
 ghost use Rattle.bz_files.specs.World.{Told, in_view};
 ghost use Rattle.bz_symq.specs.Outcome.{message_of};
-ghost use Rattle.bz_words.specs.Messages.{IsAboutFile, IsSilent, IsTold, SaysWhere};
+ghost use Rattle.bz_words.specs.Messages.{IsAboutFailed, IsSilent, IsTold, ReadsForMessage, SaysWhere};
 
 use crate::failed::{Failed, failure};
 use crate::faulty::complaint;
@@ -72,15 +72,10 @@ pub fn message<F: Files>(
 ) -> Option<CowStr<'static>>
     ensures silent { IsSilent status → result ≡ None }
     ensures refused { status ≡ Status.Refused → Told (in_view (F.worlds files.old)) (λ world. IfSome result (λ line. SaysWhere (map string_bytes words.now) world (cow_str_bytes line))) }
-    ensures output { status ≡ Status.Fault → 0 < failed.output → option_map cow_str_bytes result ≡ Some (codes "symq: standard output: writing failed") }
-    ensures input { status ≡ Status.Fault → failed.output ≡ 0 → 0 < failed.input → option_map cow_str_bytes result ≡ Some (codes "symq: standard input: reading failed") }
-    ensures about { status ≡ Status.Fault → failed.output ≡ 0 → failed.input ≡ 0 → 0 < failed.files → IfSome result (λ line. IsAboutFile (map string_bytes words.now) (cow_str_bytes line)) }
-    ensures unknown { status ≡ Status.Fault → failed.output ≡ 0 → failed.input ≡ 0 → failed.files ≡ 0 → option_map cow_str_bytes result ≡ message_of status }
+    ensures about { status ≡ Status.Fault → IfSome result (λ line. IsAboutFailed (map string_bytes words.now) failed (cow_str_bytes line)) }
     ensures memory { status ≡ Status.Memory → option_map cow_str_bytes result ≡ message_of status }
     ensures told { IsTold status → is_some result ≡ true }
-    ensures most { ReadsOne F.Files files.old files.new }
-    ensures unopened { status ≢ Status.Refused → F.opens files.new ≡ F.opens files.old }
-    ensures worlds { F.worlds files.new ≡ F.worlds files.old }
+    ensures files { ReadsForMessage F.Files status files.old files.new }
 {
     match status {
         Status::Done => None,
