@@ -6,7 +6,7 @@ ghost use Rattle.bz_search.specs.declared.abreast.Search.{Search};
 ghost use Rattle.bz_search.specs.Starts.{IsAt, AreFoundSoFar, HaveShortPlaces};
 
 use crate::place::Place;
-use crate::search::Addr;
+use crate::span::Addr;
 use crate::starts::Starts;
 use crate::steps::Steps;
 use crate::sweep::{Gap, most_probes, placed};

@@ -4,7 +4,7 @@ ghost use Rattle.std.specs.Prelude.{◌≡◌, ℕ, List, map, option_map, OnOk,
 ghost use Rattle.bz_search.specs.Chain.{inner, around, chain};
 ghost use Rattle.bz_search.specs.Nearest.{IsTable};
 
-use crate::search::{Addr, inside};
+use crate::span::{Addr, inside};
 use crate::table::Spanned;
 use std::alloc::{AllocError, Global};
 

@@ -4,7 +4,7 @@ ghost use Rattle.std.specs.Prelude.{◌≡◌, ◌<◌, ◌≤◌, List, length,
 ghost use Rattle.bz_search.specs.Nearest.{IsTable, nearest_covering};
 ghost use Rattle.bz_search.specs.Starts.{IsFound, NeverDescends};
 
-use crate::search::Addr;
+use crate::span::Addr;
 use crate::starts::{Probe, nearest};
 use crate::steps::Steps;
 use crate::table::{Spanned, covering_at, place_found};

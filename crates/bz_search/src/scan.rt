@@ -3,7 +3,7 @@
 ghost use Rattle.std.specs.Prelude.{◌≡◌, option_map};
 ghost use Rattle.bz_search.specs.Nearest.{candidate, comes_first, first_of, nearest_covering};
 
-use crate::search::Addr;
+use crate::span::Addr;
 use crate::table::{Spanned, if_covers};
 
 /// The nearest record, if it covers the address, of records in the order of their file.

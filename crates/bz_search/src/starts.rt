@@ -3,7 +3,7 @@
 ghost use Rattle.std.specs.Prelude.{◌≡◌, ℕ, ◌+◌, ◌-◌, ◌*◌, ◌^◌, ◌<◌, ◌≤◌, List, length, slice_index};
 ghost use Rattle.bz_search.specs.Starts.{NeverDescends, IsFound, AreFew};
 
-use crate::search::Addr;
+use crate::span::Addr;
 use crate::steps::Steps;
 use std::marker::Model;
 use std::sync::ledger::Ledger;

@@ -7,7 +7,7 @@ ghost use Rattle.bz_search.specs.Sweep.{IsGap, IsEntry};
 
 use crate::abreast::search_group;
 use crate::place::Place;
-use crate::search::Addr;
+use crate::span::Addr;
 use crate::starts::Starts;
 use crate::steps::Steps;
 use std::alloc::{AllocError, Global};

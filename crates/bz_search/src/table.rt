@@ -4,7 +4,7 @@ ghost use Rattle.std.specs.Prelude.{◌≡◌, ℕ, ◌-◌, ◌≤◌, List, le
 ghost use Rattle.bz_search.specs.Nearest.{IsTable, if_covers, nearest_covering};
 ghost use Rattle.bz_search.specs.Starts.{NeverDescends, IsFound, IsAt, AreFew};
 
-use crate::search::{Addr, covers};
+use crate::span::{Addr, covers};
 use crate::starts::{Starts, nearest};
 use crate::steps::Steps;
 use std::alloc::{AllocError, Global};
