@@ -19,8 +19,8 @@ pub use bz_bytes::{
 };
 pub use bz_search::{
     Addr, Nested, Place, Probe, Spanned, Starts, Steps, around_in, chain_in, covering_at,
-    covering_in, covers, inner_in, inside, nearest, nearest_by_scan, nearest_covering,
-    nearest_each, place_found, sort_nested, sort_table, starts_of,
+    covering_in, covers, inner_in, inside, nearest, nearest_each, place_found, sort_nested,
+    sort_table, starts_of,
 };
 pub use error::{Error, ErrorKind, Result};
 pub use input::Input;

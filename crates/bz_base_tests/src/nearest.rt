@@ -4,9 +4,8 @@ ghost use Rattle.std.specs.Prelude.{◌≡◌, ◌<◌, length, map};
 ghost use Rattle.bz_search.specs.Starts.{NeverDescends};
 
 use bz_base::{
-    Nested, Place, Spanned, Starts, Steps, chain_in, covering_at, covers, inner_in, nearest,
-    nearest_by_scan, nearest_covering, nearest_each, place_found, sort_nested, sort_table,
-    starts_of,
+    Nested, Place, Spanned, Starts, Steps, chain_in, covering_at, covering_in, covers, inner_in,
+    nearest, nearest_each, place_found, sort_nested, sort_table, starts_of,
 };
 use std::alloc::{AllocError, Global};
 use std::marker::Brand;
@@ -113,28 +112,37 @@ const ANSWERS: [(u64, u8); 9] = [
     (24, 99),
 ];
 
-/// Whether a look at each record finds the one that answers, in the order of the file.
-fn scan_answers(list: &[Entry]) -> bool {
+/// Whether a search among the records of a sorted table finds the one that answers.
+fn records_answer(table: &[Entry]) -> bool
+    requires { NeverDescends (map (λ e. e.start) table.now) }
+{
     for (addr, want) in &ANSWERS {
-        if id_of(nearest_by_scan(list, *addr)) != *want {
+        if id_of(covering_in(table, *addr)) != *want {
             return false;
         }
     }
     true
 }
 
-/// Whether a search finds the record that answers, in a table that is sorted, and one finds it at its
-/// place.
+/// The number of the record that answers, which a search among the starts of a table finds.
+fn id_by_starts<L: Ledger>(table: &[Entry], starts: &Starts, addr: u64, steps: &mut Steps<L>) -> u8
+    requires { starts.now ≡ map (λ e. e.start) table.now }
+{
+    let place = place_found(nearest(starts, addr, steps));
+    id_of(covering_at(table, place, addr))
+}
+
+/// Whether a search among the starts finds the record that answers, in a table that is sorted, and
+/// one finds it at its place.
 fn search_answers<L: Ledger>(table: &[Entry], starts: &Starts, steps: &mut Steps<L>) -> bool
     requires { starts.now ≡ map (λ e. e.start) table.now }
 {
     for (addr, want) in &ANSWERS {
-        if id_of(nearest_covering(table, starts, *addr, steps)) != *want {
+        if id_by_starts(table, starts, *addr, steps) != *want {
             return false;
         }
     }
-    let place = place_found(nearest(starts, 17, steps));
-    place == Some(4) && id_of(covering_at(table, place, 17)) == 4
+    place_found(nearest(starts, 17, steps)) == Some(4)
 }
 
 /// Whether the address of this number has this place, found with others.
@@ -169,17 +177,18 @@ fn finds_sorted<L: Ledger>(alloc: Global, table: &[Entry], steps: &mut Steps<L>)
     requires { NeverDescends (map (λ e. e.start) table.now) }
 {
     match starts_of(alloc, table) {
-        Ok(starts) => search_answers(table, &starts, steps) && places_agree(alloc, &starts, steps),
+        Ok(starts) => records_answer(table)
+            && search_answers(table, &starts, steps)
+            && places_agree(alloc, &starts, steps),
         Err(_) => false,
     }
 }
 
-/// Whether the record that answers is found by a look at each, and by searches once they are sorted.
+/// Whether the record that answers is found by searches once the records are sorted.
 fn finds_record<L: Ledger>(alloc: Global, steps: &mut Steps<L>) -> Result<bool, AllocError> {
     let mut table = entries(alloc, &SPANS)?;
-    let scanned = scan_answers(&table);
     sort_table(&mut table)?;
-    Ok(scanned && finds_sorted(alloc, &table, steps))
+    Ok(finds_sorted(alloc, &table, steps))
 }
 
 /// Addresses, and for each the place of its start among the sorted ones, and this start.

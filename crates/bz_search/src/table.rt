@@ -1,14 +1,12 @@
-//! Tables of records by start and size, and the search for the record that answers for an address.
+//! Tables of records by start and size, and the record at a place of one, if it covers an address.
 
-ghost use Rattle.std.specs.Prelude.{◌≡◌, ℕ, ◌-◌, ◌≤◌, List, length, map, option_map, OnOk, OnErr, IfOk, IfSome};
+ghost use Rattle.std.specs.Prelude.{◌≡◌, ℕ, ◌≤◌, List, length, map, option_map, OnOk, OnErr, IfOk, IfSome};
 ghost use Rattle.bz_search.specs.Nearest.{IsTable, if_covers, nearest_covering};
-ghost use Rattle.bz_search.specs.Starts.{NeverDescends, IsFound, IsAt, AreFew};
+ghost use Rattle.bz_search.specs.Starts.{NeverDescends, IsFound, IsAt};
 
 use crate::span::{Addr, covers};
-use crate::starts::{Starts, nearest};
-use crate::steps::Steps;
+use crate::starts::Starts;
 use std::alloc::{AllocError, Global};
-use std::sync::ledger::Ledger;
 
 /// A record with a start and a size in bytes.
 pub trait Spanned {
@@ -50,22 +48,6 @@ pub fn starts_of<T: Spanned>(alloc: Global, table: &[T]) -> Result<Starts, Alloc
     Ok(Starts::from_sorted(starts))
 }
 
-/// The record that answers for the address, of a table and its starts.
-pub fn nearest_covering<'t, T: Spanned, L: Ledger>(
-    table: &'t [T],
-    starts: &Starts,
-    addr: Addr,
-    steps: &mut Steps<L>,
-) -> Option<&'t T>
-    requires { starts.now ≡ map T.start table.now }
-    ensures covering { (records : List T) → IsTable T.start T.size records table.now →
-        option_map (λ r. r.now) result ≡ nearest_covering T.start T.size addr records }
-    ensures more { steps.old ≤ steps.new }
-    ensures few { AreFew (steps.new - steps.old) (length table.now) }
-{
-    covering_at(table, place_found(nearest(starts, addr, steps)), addr)
-}
-
 /// The place alone of what a search found.
 pub fn place_found(found: Option<(usize, Addr)>) -> Option<usize>
     ensures value { result ≡ option_map (λ place. place.0) found }
@@ -89,7 +71,7 @@ pub fn covering_at<T: Spanned>(table: &[T], place: Option<usize>, addr: Addr) ->
 }
 
 /// The record, if it covers the address.
-pub(crate) fn if_covers<T: Spanned>(entry: &T, addr: Addr) -> Option<&T>
+fn if_covers<T: Spanned>(entry: &T, addr: Addr) -> Option<&T>
     ensures same { IfSome result (λ r. r.now ≡ entry.now) }
     ensures value { option_map (λ r. r.now) result ≡ if_covers T.start T.size addr entry.now }
 {
