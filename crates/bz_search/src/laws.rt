@@ -12,7 +12,7 @@ pub fn covers_is_exact()
     ensures { (start size addr : ℕ) → (covers start size addr ≡ true) ↔ Covers start size addr }
 {}
 
-/// Over records of any kind with a start and a size, the scan gives the record that is to be tried,
+/// Over records of any kind with a start and a size, `candidate` gives the record that is to be tried,
 /// and with the test the nearest one if it covers the address; and what is nearest is what it gives.
 pub fn nearest_is_exact<T>()
     ensures tried { (start size : T → ℕ) (records : List T) (addr place : ℕ) (x : T) → IsCandidate start size records addr place x → candidate start size addr records ≡ Some x }

@@ -8,19 +8,21 @@ use crate::span::{Addr, covers};
 use crate::starts::Starts;
 use std::alloc::{AllocError, Global};
 
-/// A record with a start and a size in bytes.
+/// A record with a start and a size. Where records may cover addresses, the size is a number of bytes:
+/// `covering_at`, `covering_in`, `around_in` and `chain_in` read it so. `sort_table` takes it as the
+/// second key alone, which may count anything. Nothing else here reads it.
 pub trait Spanned {
     /// The first address, as the source has it.
     ghost start: { Self → ℕ };
 
-    /// The number of bytes.
+    /// The number of bytes, or a second key of records that are only sorted.
     ghost size: { Self → ℕ };
 
     /// The first address, as the source has it.
     fn start(&self) -> u64
         ensures { result ≡ start self.now };
 
-    /// The number of bytes.
+    /// The number of bytes, or a second key of records that are only sorted.
     fn size(&self) -> u64
         ensures { result ≡ size self.now };
 }
