@@ -5,7 +5,7 @@ use Rattle.std.specs.Prelude.{slice_index}
 use Rattle.std.proofs.lemmas.Bool.{false≢true, cases_lt}
 use Rattle.std.proofs.lemmas.List.{take-append-drop, drop_all}
 use Rattle.bz_base.specs.Byte.{begins_with, is_blank, line_feed}
-use Rattle.bz_base.specs.Number.{number_at}
+use Rattle.bz_base.specs.Number.{digits_at}
 use Rattle.bz_breakpad_lines.specs.Byte.{is_hex}
 use Rattle.bz_breakpad_lines.specs.Choice.{body_at}
 use Rattle.bz_breakpad_lines.specs.Form.{Value}
@@ -26,7 +26,7 @@ use Rattle.bz_breakpad_lines.specs.Calls.{call_in}
 
 -- no line record is read of nothing
 no_line_in : line_in [] ≡ None
-unfolding body_at piece_at number_at
+unfolding body_at piece_at digits_at
 no_line_in = refl
 
 -- past the end of the bytes none is read

@@ -7,7 +7,7 @@ use Rattle.std.proofs.lemmas.List.{drop-drop, length-take-le}
 use Rattle.std.proofs.lemmas.List.Sums.{prefix_len-le-length}
 use Rattle.std.specs.Char.{is_digit}
 use Rattle.bz_base.specs.Byte.{begins_with, is_blank, space}
-use Rattle.bz_base.specs.Number.{digits_len, number_at}
+use Rattle.bz_base.specs.Number.{digits_len, digits_at}
 use Rattle.bz_base.proofs.NumberLemmas.{digits_below, front_digits}
 use Rattle.bz_breakpad_lines.specs.Form.{Form, Piece, Tell, Value, greatest, told}
 use Rattle.bz_breakpad_lines.specs.Form.Form.{◌·◌}
@@ -27,7 +27,7 @@ module _ (text : List ℕ) (from end : ℕ) where
   past some = drop-drop (end - from) from text ∙ ap (λ k. drop k text) (omega (arith, some))
 
   pub hex_read : (most wide : ℕ) → AreDigits 16 most text from end → most ≤ wide → piece_at (Hex wide) (drop from text) ≡ Some (number_between 16 text from end, drop end text)
-  unfolding piece_at number_at
+  unfolding piece_at digits_at
   hex_read most wide are fits =
       let len : digits_len 16 (drop from text) ≡ end - from = omega (arith, are.3) in
       rw (len, lt-ltb 0 (end - from) (omega (arith, are.0)), le-leb (end - from) wide (omega (arith, are.1, fits)), past are.0) refl
@@ -44,7 +44,7 @@ module _ (text : List ℕ) (from end : ℕ) where
       rw len at fits
 
   pub dec_read : AreDigits 10 8 text from end → piece_at Dec (drop from text) ≡ Some (number_between 10 text from end, drop end text)
-  unfolding piece_at number_at
+  unfolding piece_at digits_at
   dec_read are =
       let len : digits_len 10 (drop from text) ≡ end - from = omega (arith, are.3) in
       let fits = small are in

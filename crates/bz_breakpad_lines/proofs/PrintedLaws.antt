@@ -17,7 +17,7 @@ use Rattle.bz_breakpad_lines.specs.Walk.Context.{Outside, InFunc}
 use Rattle.bz_breakpad_lines.specs.Walk.Record.{Top, OfFunc, OfCfi}
 use Rattle.bz_breakpad_lines.specs.Written.{RecordFits, record_text}
 use Rattle.bz_base.specs.Line.{ended}
-use Rattle.bz_base.specs.Number.{number_at}
+use Rattle.bz_base.specs.Number.{digits_at}
 use Rattle.bz_breakpad_lines.proofs.ChoiceLaws.{one_again}
 use Rattle.bz_breakpad_lines.proofs.WrittenLaws.{IsWritten, Stand, StandsIn, are_written, lines_accepted, written_accepted}
 
@@ -25,7 +25,7 @@ use Rattle.bz_breakpad_lines.proofs.WrittenLaws.{IsWritten, Stand, StandsIn, are
 
 -- no record under a FUNC record begins as a FUNC record does
 no_inner : (text : List ℕ) → one_at INNER (70 ∷ 85 ∷ 78 ∷ 67 ∷ text) ≡ None
-unfolding piece_at run_at number_at
+unfolding piece_at run_at digits_at
 no_inner text = refl
 
 func_in : (f : Function) → StandsIn InFunc (func_record f)

@@ -7,7 +7,7 @@ use Rattle.std.proofs.lemmas.Bool.{or_from, or_parts, ne_eqb, false_from_ne_true
 use Rattle.std.proofs.lemmas.List.{length-map, map-append}
 use Rattle.std.proofs.lemmas.List.Folds.{list_any-append}
 use Rattle.bz_base.specs.Byte.{tab, line_feed, carriage_return, is_blank, space, HasNo, begins_with}
-use Rattle.bz_base.specs.Number.{IsNumber, number_at}
+use Rattle.bz_base.specs.Number.{IsNumber, digits_at}
 use Rattle.bz_base.proofs.ByteLemmas.{HasNo-digits}
 use Rattle.bz_breakpad_lines.specs.Byte.{ends_line, is_nothing, is_plain, is_white}
 use Rattle.bz_breakpad_lines.specs.Choice.{body_at}
@@ -243,7 +243,7 @@ tagged : (tag line : List ℕ) (f : Form) (value : Value f) (is : Spells (Tag ta
 tagged tag line f value is = is.whole ∙ ap (λ t. t ++ is.back) is.front_is
 
 no_code : (more : List ℕ) → form_at LINE (codes "INLINE " ++ more) ≡ None
-unfolding piece_at number_at
+unfolding piece_at digits_at
 no_code more = refl
 
 -- an INLINE record
@@ -263,7 +263,7 @@ quick_cfi text rest is =
 -- with the tag of a FUNC record it is no other one, in no context
 no_other : (c : Context) (more : List ℕ) (value : Value FUNC) → form_at FUNC (codes "FUNC" ++ more) ≡ Some value →
     body_record c (codes "FUNC" ++ more) ≡ Some (Top (inr (inr (inr (inr (inr (inl value)))))))
-unfolding piece_at number_at run_at
+unfolding piece_at digits_at run_at
 no_other Outside more value is = rw is refl
 no_other InFunc more value is = rw is refl
 no_other InCfi more value is = rw is refl

@@ -6,7 +6,7 @@ use Rattle.std.proofs.lemmas.List.{take-append-drop}
 use Rattle.std.proofs.lemmas.Option.{same_Some, none-some}
 use Rattle.std.proofs.Math.Seq.{drop-append_seam}
 use Rattle.bz_base.specs.Byte.{begins_with}
-use Rattle.bz_base.specs.Number.{number_at}
+use Rattle.bz_base.specs.Number.{digits_at}
 use Rattle.bz_breakpad_lines.specs.Byte.{is_white, is_nothing}
 use Rattle.bz_breakpad_lines.specs.Form.{AllPass}
 use Rattle.bz_breakpad_lines.specs.Reads.{◌>>=◌, form_at, piece_at, run_at}
@@ -102,7 +102,7 @@ record_again c line r is = rw (body_again line is.0 is.1) (body_read c is.0 r is
 
 -- no record is empty
 record_nothing : (c : Context) → record_at c [] ≡ None
-unfolding record_at body_at piece_at run_at number_at
+unfolding record_at body_at piece_at run_at digits_at
 record_nothing Outside = refl
 record_nothing InFunc = refl
 record_nothing InCfi = refl

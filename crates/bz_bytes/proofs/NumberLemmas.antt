@@ -11,7 +11,7 @@ use Rattle.std.proofs.lemmas.Option.{cond_some, none-some, same_Some}
 use Rattle.std.proofs.Math.Nat.{pow-le-pow_right}
 use Rattle.std.proofs.Math.Seq.{take-append_seam, drop-append_seam}
 use Rattle.bz_bytes.specs.Byte.{begins_with}
-use Rattle.bz_bytes.specs.Number.{IsNumber, IsDecimal, IsAtFront, digits_len, number_at, not_above, decimal_at, whole}
+use Rattle.bz_bytes.specs.Number.{IsNumber, IsDecimal, IsAtFront, digits_len, digits_at, not_above, decimal_at, whole}
 
 module _ (base : ℕ) where
   -- the digits in front are digits
@@ -48,9 +48,9 @@ module _ (base : ℕ) where
 
   module _ (most : ℕ) where
     -- a number that is read stands at the front
-    pub number_found : (text : List ℕ) (value : ℕ) (rest : List ℕ) → number_at base most text ≡ Some (value, rest) →
+    pub number_found : (text : List ℕ) (value : ℕ) (rest : List ℕ) → digits_at base most text ≡ Some (value, rest) →
         IsAtFront base most text value rest
-    unfolding number_at
+    unfolding digits_at
     number_found text value rest read =
         let n = digits_len base text in
         let parts = cond_some (nat_lt 0 n && nat_le n most) (digits_value base (take n text), drop n text) (value, rest) read in
@@ -72,8 +72,8 @@ module _ (base : ℕ) where
     -- digits with no digit after them are read
     pub number_again : (digits rest : List ℕ) (value : ℕ) → IsNumber base most digits value →
         begins_with (λ b. is_digit b base) rest ≡ false →
-        number_at base most (digits ++ rest) ≡ Some (value, rest)
-    unfolding number_at
+        digits_at base most (digits ++ rest) ≡ Some (value, rest)
+    unfolding digits_at
     number_again digits rest value is ends =
         rw (
           digits_len-front digits rest is.digits ends,
@@ -85,8 +85,8 @@ module _ (base : ℕ) where
 
     -- a number at the front is read
     pub front_again : (text : List ℕ) (value : ℕ) (rest : List ℕ) → IsAtFront base most text value rest →
-        number_at base most text ≡ Some (value, rest)
-    front_again text value rest is = ap (number_at base most) is.split ∙ number_again is.front rest value is.number is.ends
+        digits_at base most text ≡ Some (value, rest)
+    front_again text value rest is = ap (digits_at base most) is.split ∙ number_again is.front rest value is.number is.ends
 
     -- a number with nothing after it is the whole text
     front_whole : (text : List ℕ) (value : ℕ) → IsAtFront base most text value [] → IsNumber base most text value
@@ -103,12 +103,12 @@ whole_found (Some (v, [])) value is = ap (λ n. Some (n, [])) (same_Some v value
 whole_found (Some (v, b ∷ rest)) value is = absurd (none-some value is)
 
 -- a number that is the whole text is read, and no other text is
-pub number_whole_found : (base most : ℕ) (text : List ℕ) (value : ℕ) → whole (number_at base most text) ≡ Some value →
+pub number_whole_found : (base most : ℕ) (text : List ℕ) (value : ℕ) → whole (digits_at base most text) ≡ Some value →
     IsNumber base most text value
 number_whole_found base most text value read = front_whole base most text value (number_found base most text value [] (whole_found _ value read))
 
 pub number_whole_again : (base most : ℕ) (text : List ℕ) (value : ℕ) → IsNumber base most text value →
-    whole (number_at base most text) ≡ Some value
+    whole (digits_at base most text) ≡ Some value
 number_whole_again base most text value is = ap whole (front_again base most text value [] (whole_front base most text value is))
 
 -- a decimal number that is read was read, and isn't above the greatest
@@ -126,7 +126,7 @@ pub decimal_found : (most greatest : ℕ) (text : List ℕ) (value : ℕ) (rest 
     decimal_at most greatest text ≡ Some (value, rest) →
     IsAtFront 10 most text value rest × (value ≤ greatest)
 decimal_found most greatest text value rest read =
-    let parts = decimal_parts greatest (number_at 10 most text) (value, rest) read in
+    let parts = decimal_parts greatest (digits_at 10 most text) (value, rest) read in
     (number_found 10 most text value rest parts.0, parts.1)
 
 -- a decimal number at the front that isn't above the greatest is read

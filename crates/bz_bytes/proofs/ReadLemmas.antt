@@ -5,7 +5,7 @@ use Rattle.std.specs.Str.Parse.{AllDigits, digits_value}
 use Rattle.std.proofs.lemmas.Bool.{lt-ltb, le-ltb, le-leb, lt-leb}
 use Rattle.std.proofs.lemmas.Int.Digits.{digits_more, digits_value_more}
 use Rattle.std.proofs.lemmas.List.{length-take, take_rest}
-use Rattle.bz_bytes.specs.Number.{digits_len, number_at}
+use Rattle.bz_bytes.specs.Number.{digits_len, digits_at}
 use Rattle.bz_bytes.proofs.NumberLemmas.{digits_below}
 
 module _ (base : ℕ) where
@@ -30,13 +30,13 @@ module _ (base : ℕ) where
   module _ (most : ℕ) (text : List ℕ) where
     -- one to so many digits are read
     some_read : (n : ℕ) → digits_len base text ≡ n → 0 < n → n ≤ most →
-        number_at base most text ≡ Some (digits_value base (take n text), drop n text)
-    unfolding number_at
+        digits_at base most text ≡ Some (digits_value base (take n text), drop n text)
+    unfolding digits_at
     some_read n len some few = rw (len, lt-ltb 0 n some, le-leb n most few) refl
 
     -- too many digits aren't
-    long_read : most < digits_len base text → number_at base most text ≡ None
-    unfolding number_at
+    long_read : most < digits_len base text → digits_at base most text ≡ None
+    unfolding digits_at
     long_read long = rw (lt-ltb 0 (digits_len base text) (omega arith), lt-leb (digits_len base text) most long) refl
 
     -- the first n digits, whose value is v, spell no more than the power of the most that there may be
@@ -47,7 +47,7 @@ module _ (base : ℕ) where
 
     -- all of the text is read
     pub whole_read : (n v : ℕ) → n ≡ length text → AllDigits base (take n text) → v ≡ digits_value base (take n text) → 0 < n → n ≤ most →
-        Some (v, take (length text - n) (drop n text)) ≡ number_at base most text
+        Some (v, take (length text - n) (drop n text)) ≡ digits_at base most text
     whole_read n v whole digits valued some few =
         let len = len_is text n (omega arith) digits (λ within. absurd (omega arith)) in
         rw (valued, take_rest text n) (sym (some_read n len some few))
@@ -59,7 +59,7 @@ module _ (base : ℕ) where
       at_n = ap (λ k. digit_value (get_or text k 0)) counted ∙ sym is
 
       -- it is a digit too many
-      pub too_many : n ≡ most → d < base → None ≡ number_at base most text
+      pub too_many : n ≡ most → d < base → None ≡ digits_at base most text
       too_many full more =
           let long = len_more text n (omega arith) digits (rw at_n more) in
           sym (long_read (omega arith))
@@ -78,7 +78,7 @@ module _ (base : ℕ) where
           omega (arith, below, fits)
 
       -- it is no digit, so that the number ends before it
-      pub stop_read : base ≤ d → 0 < n → n ≤ most → Some (v, take (length text - n) (drop n text)) ≡ number_at base most text
+      pub stop_read : base ≤ d → 0 < n → n ≤ most → Some (v, take (length text - n) (drop n text)) ≡ digits_at base most text
       stop_read stop some few =
           let len = len_is text n (omega arith) digits (λ _. rw at_n stop) in
           rw (valued, take_rest text n) (sym (some_read n len some few))

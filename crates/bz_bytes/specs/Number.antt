@@ -33,15 +33,15 @@ abbrev pub digits_len : ℕ → List ℕ → ℕ
 digits_len base text = prefix_len (λ b. is_digit b base) text
 
 -- the number of the digits in front, at most so many, and the text after them
-unfoldable pub number_at : ℕ → ℕ → List ℕ → Option (ℕ × List ℕ)
-number_at base most text =
+unfoldable pub digits_at : ℕ → ℕ → List ℕ → Option (ℕ × List ℕ)
+digits_at base most text =
     if nat_lt 0 (digits_len base text) && nat_le (digits_len base text) most
     then Some (digits_value base (take (digits_len base text) text), drop (digits_len base text) text)
     else None
 
 -- the hexadecimal number in front
 abbrev pub hex_at : ℕ → List ℕ → Option (ℕ × List ℕ)
-hex_at most text = number_at 16 most text
+hex_at most text = digits_at 16 most text
 
 -- what was read, if its number isn't above the greatest
 abbrev pub not_above : ℕ → ℕ × List ℕ → Option (ℕ × List ℕ)
@@ -49,7 +49,7 @@ not_above greatest read = if nat_le read.0 greatest then Some read else None
 
 -- the decimal number in front
 abbrev pub decimal_at : ℕ → ℕ → List ℕ → Option (ℕ × List ℕ)
-decimal_at most greatest text = option_and_then (not_above greatest) (number_at 10 most text)
+decimal_at most greatest text = option_and_then (not_above greatest) (digits_at 10 most text)
 
 -- what was read, if nothing stands after it
 abbrev pub alone : ℕ → List ℕ → Option ℕ

@@ -2,7 +2,7 @@
 
 ghost use Rattle.std.specs.Prelude.{◌≡◌, ◌<◌, ◌≤◌, ◌^◌, length, option_map, IfSome};
 ghost use Rattle.std.specs.Char.{digit_value};
-ghost use Rattle.bz_bytes.specs.Number.{alone, decimal_at, hex_at, number_at, whole};
+ghost use Rattle.bz_bytes.specs.Number.{alone, decimal_at, hex_at, digits_at, whole};
 
 /// The number of the one to `most` hexadecimal digits at the front, in either case, and the text
 /// after them.
@@ -11,7 +11,7 @@ pub fn hex(text: &[u8], most: usize) -> Option<(u64, &[u8])>
     ensures reads { option_map (λ read. (read.0, read.1.now)) result ≡ hex_at most text.now }
     ensures small { IfSome result (λ read. read.0 < 16 ^ most) }
 {
-    number_at(text, 16, most)
+    digits_at(text, 16, most)
 }
 
 /// The number of the one to `most` decimal digits at the front, which is at most `greatest`, and
@@ -21,7 +21,7 @@ pub fn decimal(text: &[u8], most: usize, greatest: u64) -> Option<(u64, &[u8])>
     ensures reads { option_map (λ read. (read.0, read.1.now)) result ≡ decimal_at most greatest text.now }
     ensures small { IfSome result (λ read. read.0 ≤ greatest) }
 {
-    let (value, rest) = number_at(text, 10, most)?;
+    let (value, rest) = digits_at(text, 10, most)?;
     if value > greatest {
         return None;
     }
@@ -62,11 +62,11 @@ fn alone(value: u64, rest: &[u8]) -> Option<u64>
 
 /// The number of the one to `most` digits of the base at the front, and the text after them.
 #[inline(always)]
-#[tactic(auto, unfolding(crate::specs::Number::number_at))]
-fn number_at(text: &[u8], base: u64, most: usize) -> Option<(u64, &[u8])>
+#[tactic(auto, unfolding(crate::specs::Number::digits_at))]
+fn digits_at(text: &[u8], base: u64, most: usize) -> Option<(u64, &[u8])>
     requires some { 0 < base }
     requires fits { base ^ most ≤ 2 ^ 64 }
-    ensures reads { option_map (λ read. (read.0, read.1.now)) result ≡ number_at base most text.now }
+    ensures reads { option_map (λ read. (read.0, read.1.now)) result ≡ digits_at base most text.now }
     ensures small { IfSome result (λ read. read.0 < base ^ most) }
 {
     let mut value = 0;

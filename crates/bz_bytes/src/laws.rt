@@ -6,7 +6,7 @@ ghost use Rattle.bz_bytes.specs.Cursor.{IsCstr, IsInFront, IsNextAligned, IsSlic
 ghost use Rattle.bz_bytes.specs.EndedText.{IsString, ended_text};
 ghost use Rattle.bz_bytes.specs.Leb128.{IsSleb, IsUleb, sleb_at, uleb_at};
 ghost use Rattle.bz_bytes.specs.Line.{AreEnded, AreLines, all_lines, ended_lines};
-ghost use Rattle.bz_bytes.specs.Number.{IsAtFront, IsDecimal, IsHex, decimal_at, hex_at, number_at, whole};
+ghost use Rattle.bz_bytes.specs.Number.{IsAtFront, IsDecimal, IsHex, decimal_at, hex_at, digits_at, whole};
 ghost use Rattle.bz_bytes.specs.Path.{split, IsSplit};
 
 /// The lines that are read of a text are those that make it up side by side: each with its end, and
@@ -19,7 +19,7 @@ pub fn lines_are_exact()
 /// The numbers that are read of a text, from its front or from the whole of it, are those that its
 /// digits spell.
 pub fn numbers_are_exact()
-    ensures front { (base most : ℕ) (text : List ℕ) (value : ℕ) (rest : List ℕ) → (number_at base most text ≡ Some (value, rest)) ↔ IsAtFront base most text value rest }
+    ensures front { (base most : ℕ) (text : List ℕ) (value : ℕ) (rest : List ℕ) → (digits_at base most text ≡ Some (value, rest)) ↔ IsAtFront base most text value rest }
     ensures decimal_front { (most greatest : ℕ) (text : List ℕ) (value : ℕ) (rest : List ℕ) → (decimal_at most greatest text ≡ Some (value, rest)) ↔ (IsAtFront 10 most text value rest × (value ≤ greatest)) }
     ensures whole_hex { (most : ℕ) (text : List ℕ) (value : ℕ) → (whole (hex_at most text) ≡ Some value) ↔ IsHex most text value }
     ensures whole_decimal { (most greatest : ℕ) (text : List ℕ) (value : ℕ) → (whole (decimal_at most greatest text) ≡ Some value) ↔ IsDecimal most greatest text value }

@@ -1,7 +1,7 @@
 use Rattle.std.proofs.Common.{arith, ◌∙◌}
 use Rattle.bz_bytes.proofs.ReadLemmas.{front_small, whole_read, too_many, more_digits, more_value, more_fits, stop_read}
-use Rattle.bz_bytes.proofs.digits.number_at.Goals as goal
-use Rattle.bz_bytes.proofs.digits.number_at.Goals.{else-loop-byte-test, then-loop-byte-test+then-digit-base}
+use Rattle.bz_bytes.proofs.digits.digits_at.Goals as goal
+use Rattle.bz_bytes.proofs.digits.digits_at.Goals.{else-loop-byte-test, then-loop-byte-test+then-digit-base}
 
 pub returns-then-len-most-clause-reads : goal.returns-then-len-most-clause-reads
 returns-then-len-most-clause-reads c =

@@ -1,6 +1,6 @@
 use Rattle.std.proofs.Common.{◌≡◌, ◌≤◌, take}
 use Rattle.std.specs.Str.Parse.{AllDigits, digits_value}
-use Rattle.bz_bytes.proofs.digits.number_at.Given as goal
+use Rattle.bz_bytes.proofs.digits.digits_at.Given as goal
 
 -- the value is that of the digits so far
 abbrev pub invariant-loop-byte : goal.invariant-loop-byte
