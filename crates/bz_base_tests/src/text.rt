@@ -1,6 +1,6 @@
 //! Lines and numbers, of small texts.
 
-use bz_base::{decimal, first_line, hex, next_line, whole_decimal, whole_hex};
+use bz_base::{first_line, next_line, read_decimal, read_hex, whole_decimal, whole_hex};
 
 /// Whether lines are cut off where they end, and none where nothing ends one.
 fn cuts_lines() -> bool {
@@ -12,8 +12,8 @@ fn cuts_lines() -> bool {
 
 /// Whether numbers are read from the front of a text.
 fn reads_numbers() -> bool {
-    hex(b"fF 10", 8) == Some((255, b" 10".as_slice()))
-        && decimal(b"7:", 10, 4294967295) == Some((7, b":".as_slice()))
+    read_hex(b"fF 10", 8) == Some((255, b" 10".as_slice()))
+        && read_decimal(b"7:", 10, 4294967295) == Some((7, b":".as_slice()))
 }
 
 /// Whether a text that is one number gives it, up to the greatest.

@@ -9,7 +9,7 @@ ghost use Rattle.bz_breakpad_lines.specs.Form.Form.{SepText};
 ghost use Rattle.bz_breakpad_lines.specs.Form.Piece.{Tag, Opt, Sep, MSep, Gap, Word, Hex, Dec};
 ghost use Rattle.bz_breakpad_lines.specs.Reads.{piece_at, name_at, end_at, reads};
 
-use bz_base::decimal;
+use bz_base::read_decimal;
 use memchr::memchr;
 
 /// The text after the tag, if the text begins with it.
@@ -125,7 +125,7 @@ pub fn hex(text: &[u8], most: usize) -> Option<(u64, &[u8])>
     ensures reads { option_map (λ read. (read.0, read.1.now)) result ≡ piece_at (Hex most) text.now }
     ensures small { IfSome result (λ read. read.0 < 16 ^ most) }
 {
-    bz_base::hex(text, most)
+    bz_base::read_hex(text, most)
 }
 
 /// The number of the decimal digits at the front, and the text after them.
@@ -134,7 +134,7 @@ pub fn hex(text: &[u8], most: usize) -> Option<(u64, &[u8])>
 pub fn dec(text: &[u8]) -> Option<(u32, &[u8])>
     ensures { option_map (λ read. (read.0, read.1.now)) result ≡ piece_at Dec text.now }
 {
-    let (value, rest) = decimal(text, 10, 4294967295)?;
+    let (value, rest) = read_decimal(text, 10, 4294967295)?;
     Some((value as u32, rest))
 }
 

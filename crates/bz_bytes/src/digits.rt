@@ -2,11 +2,11 @@
 
 ghost use Rattle.std.specs.Prelude.{◌≡◌, ◌<◌, ◌≤◌, ◌^◌, length, option_map, IfSome};
 ghost use Rattle.std.specs.Char.{digit_value};
-ghost use Rattle.bz_bytes.specs.Number.{alone, decimal_at, hex_at, digits_at, whole};
+ghost use Rattle.bz_bytes.specs.Number.{alone, decimal_at, digits_at, hex_at, whole};
 
 /// The number of the one to `most` hexadecimal digits at the front, in either case, and the text
 /// after them.
-pub fn hex(text: &[u8], most: usize) -> Option<(u64, &[u8])>
+pub fn read_hex(text: &[u8], most: usize) -> Option<(u64, &[u8])>
     requires { most ≤ 16 }
     ensures reads { option_map (λ read. (read.0, read.1.now)) result ≡ hex_at most text.now }
     ensures small { IfSome result (λ read. read.0 < 16 ^ most) }
@@ -16,7 +16,7 @@ pub fn hex(text: &[u8], most: usize) -> Option<(u64, &[u8])>
 
 /// The number of the one to `most` decimal digits at the front, which is at most `greatest`, and
 /// the text after them.
-pub fn decimal(text: &[u8], most: usize, greatest: u64) -> Option<(u64, &[u8])>
+pub fn read_decimal(text: &[u8], most: usize, greatest: u64) -> Option<(u64, &[u8])>
     requires { most ≤ 19 }
     ensures reads { option_map (λ read. (read.0, read.1.now)) result ≡ decimal_at most greatest text.now }
     ensures small { IfSome result (λ read. read.0 ≤ greatest) }
@@ -34,7 +34,7 @@ pub fn whole_hex(text: &[u8], most: usize) -> Option<u64>
     ensures reads { result ≡ whole (hex_at most text.now) }
     ensures small { IfSome result (λ value. value < 16 ^ most) }
 {
-    let (value, rest) = hex(text, most)?;
+    let (value, rest) = read_hex(text, most)?;
     alone(value, rest)
 }
 
@@ -45,7 +45,7 @@ pub fn whole_decimal(text: &[u8], most: usize, greatest: u64) -> Option<u64>
     ensures reads { result ≡ whole (decimal_at most greatest text.now) }
     ensures small { IfSome result (λ value. value ≤ greatest) }
 {
-    let (value, rest) = decimal(text, most, greatest)?;
+    let (value, rest) = read_decimal(text, most, greatest)?;
     alone(value, rest)
 }
 

@@ -6,7 +6,7 @@ ghost use Rattle.bz_bytes.specs.Cursor.{IsCstr, IsInFront, IsNextAligned, IsSlic
 ghost use Rattle.bz_bytes.specs.EndedText.{IsString, ended_text};
 ghost use Rattle.bz_bytes.specs.Leb128.{IsSleb, IsUleb, sleb_at, uleb_at};
 ghost use Rattle.bz_bytes.specs.Line.{AreEnded, AreLines, all_lines, ended_lines};
-ghost use Rattle.bz_bytes.specs.Number.{IsAtFront, IsDecimal, IsHex, decimal_at, hex_at, digits_at, whole};
+ghost use Rattle.bz_bytes.specs.Number.{IsAtFront, IsDecimal, IsHex, decimal_at, digits_at, hex_at, whole};
 ghost use Rattle.bz_bytes.specs.Path.{split, IsSplit};
 
 /// The lines that are read of a text are those that make it up side by side: each with its end, and

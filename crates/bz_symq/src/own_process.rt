@@ -3,7 +3,7 @@
 ghost use Rattle.std.specs.Prelude.{◌≡◌};
 ghost use Rattle.bz_symq.specs.OwnPid.{own_pid_in};
 
-use bz_base::decimal;
+use bz_base::read_decimal;
 
 /// The greatest id of a process.
 const GREATEST_ID: u64 = 4_294_967_295;
@@ -13,7 +13,7 @@ const GREATEST_ID: u64 = 4_294_967_295;
 pub fn own_pid(stat: &[u8]) -> u32
     ensures { result ≡ own_pid_in stat.now }
 {
-    match decimal(stat, 10, GREATEST_ID) {
+    match read_decimal(stat, 10, GREATEST_ID) {
         Some((id, _)) => id as u32,
         None => 0,
     }

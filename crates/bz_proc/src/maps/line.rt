@@ -5,7 +5,7 @@ ghost use Rattle.std.specs.List.{prefix_len};
 ghost use Rattle.bz_proc.specs.MappingLine.{after_dash, after_run, end_text, four, is_decimal, is_solid, is_space, last_at, line_in, offset_at, one_to_twenty, some, span_at};
 ghost use Rattle.bz_proc.specs.Maps.{line_of};
 
-use bz_base::{Addr, hex};
+use bz_base::{Addr, read_hex};
 
 /// What a line of mappings tells.
 #[derive(Drop)]
@@ -42,8 +42,8 @@ pub fn mapping_line(line: &[u8]) -> Option<MappingLine<'_>>
 fn span(line: &[u8]) -> Option<(Addr, Addr, &[u8])>
     ensures { option_map (λ read. ((read.0, read.1), read.2.now)) result ≡ span_at line.now }
 {
-    let (start, rest) = hex(line, 16)?;
-    let (end, rest) = hex(after_dash(rest)?, 16)?;
+    let (start, rest) = read_hex(line, 16)?;
+    let (end, rest) = read_hex(after_dash(rest)?, 16)?;
     Some((start, end, rest))
 }
 
@@ -52,7 +52,7 @@ fn offset(text: &[u8]) -> Option<(u64, &[u8])>
     ensures { option_map (λ read. (read.0, read.1.now)) result ≡ offset_at text.now }
 {
     let rest = after_permissions(after_spaces(text)?)?;
-    hex(after_spaces(rest)?, 16)
+    read_hex(after_spaces(rest)?, 16)
 }
 
 /// The text that stands last, behind device and inode.
