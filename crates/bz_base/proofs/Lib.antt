@@ -1,5 +1,5 @@
 pub use Rattle.bz_bytes.proofs.CursorLemmas
-pub use Rattle.bz_bytes.proofs.EndedTextLemmas
+pub use Rattle.bz_bytes.proofs.ZeroEndedLemmas
 pub use Rattle.bz_bytes.proofs.LebSpellingLemmas
 pub use Rattle.bz_bytes.proofs.PieceOfBytesLemmas
 pub use Rattle.bz_search.proofs.ChainLemmas

@@ -3,7 +3,7 @@ pub use Rattle.bz_bytes.specs.Line
 pub use Rattle.bz_bytes.specs.Number
 pub use Rattle.bz_bytes.specs.Path
 pub use Rattle.bz_bytes.specs.Cursor
-pub use Rattle.bz_bytes.specs.EndedText
+pub use Rattle.bz_bytes.specs.ZeroEnded
 pub use Rattle.bz_bytes.specs.Leb128
 pub use Rattle.bz_bytes.specs.Little
 pub use Rattle.bz_search.specs.Abreast

@@ -1,7 +1,6 @@
 pub mod ByteLemmas
 pub mod CursorLemmas
 pub mod DigitLemmas
-pub mod EndedTextLemmas
 pub mod LebByteLemmas
 pub mod LebLemmas
 pub mod LebSpellingLemmas
@@ -15,3 +14,4 @@ pub mod PieceLemmas
 pub mod PieceOfBytesLemmas
 pub mod ReadLemmas
 pub mod SplitLemmas
+pub mod ZeroEndedLemmas

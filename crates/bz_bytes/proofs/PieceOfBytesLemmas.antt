@@ -110,12 +110,12 @@ cstr_front bytes text rest read =
     record {
       text = text ++ zero_byte ∷ [];
       whole = parts.whole ∙ sym (append_assoc text (zero_byte ∷ []) rest);
-      is = record { ended = refl; no_zero = parts.no_zero };
+      is = record { ends = refl; no_zero = parts.no_zero };
     }
 
 pub cstr_spelled : (bytes text rest : List ℕ) → IsInFront (IsCstr text) bytes rest → cstr_at bytes ≡ Some (text, rest)
 cstr_spelled bytes text rest front =
-    ap cstr_at (front.whole ∙ ap (λ t. t ++ rest) front.is.ended ∙ append_assoc text (zero_byte ∷ []) rest)
+    ap cstr_at (front.whole ∙ ap (λ t. t ++ rest) front.is.ends ∙ append_assoc text (zero_byte ∷ []) rest)
     ∙ cstr_again text rest front.is.no_zero
 
 -- Places divisible by 4.

@@ -81,7 +81,7 @@ pub record IsWord (size value : ℕ) (text : List ℕ) : Type 0 where
 
 -- a text without a zero byte, and a zero byte that ends it
 pub record IsCstr (value text : List ℕ) : Type 0 where
-  pub ended : text ≡ value ++ zero_byte ∷ []
+  pub ends : text ≡ value ++ zero_byte ∷ []
   pub no_zero : HasNo zero_byte value
 
 -- the first place divisible by 4 that isn't before the other

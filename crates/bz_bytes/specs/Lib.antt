@@ -1,8 +1,8 @@
 pub mod Byte
 pub mod Cursor
-pub mod EndedText
 pub mod Leb128
 pub mod Line
 pub mod Little
 pub mod Number
 pub mod Path
+pub mod ZeroEnded

@@ -3,11 +3,11 @@
 ghost use Rattle.std.specs.Prelude.{◌≡◌, ◌↔◌, ◌+◌, ◌≤◌, ℕ, ℤ, [], List, Option, None, Some, drop};
 ghost use Rattle.std.specs.Str.{IsUtf8};
 ghost use Rattle.bz_bytes.specs.Cursor.{IsCstr, IsInFront, IsNextAligned, IsSlice, IsWord, cstr_at, padding, slice_at, word_at};
-ghost use Rattle.bz_bytes.specs.EndedText.{IsString, ended_text};
 ghost use Rattle.bz_bytes.specs.Leb128.{IsSleb, IsUleb, sleb_at, uleb_at};
 ghost use Rattle.bz_bytes.specs.Line.{AreEnded, AreLines, all_lines, ended_lines};
 ghost use Rattle.bz_bytes.specs.Number.{IsAtFront, IsDecimal, IsHex, decimal_at, digits_at, hex_at, whole};
 ghost use Rattle.bz_bytes.specs.Path.{split, IsSplit};
+ghost use Rattle.bz_bytes.specs.ZeroEnded.{IsString, zero_ended};
 
 /// The lines that are read of a text are those that make it up side by side: each with its end, and
 /// with an end that the last one may lack.
@@ -50,6 +50,6 @@ pub fn lebs_are_exact()
 
 /// A text that is UTF-8 stands at a place of bytes exactly where it is what a zero byte ends in front
 /// of those from the place on.
-pub fn ended_texts_are_exact()
-    ensures { (bytes : List ℕ) (place : ℕ) (text : List ℕ) → ((ended_text (drop place bytes) ≡ Some text) × IsUtf8 text) ↔ IsString bytes place text }
+pub fn zero_ended_texts_are_exact()
+    ensures { (bytes : List ℕ) (place : ℕ) (text : List ℕ) → ((zero_ended (drop place bytes) ≡ Some text) × IsUtf8 text) ↔ IsString bytes place text }
 {}

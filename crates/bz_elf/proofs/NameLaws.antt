@@ -4,8 +4,8 @@ use Rattle.std.specs.List.{list_any}
 use Rattle.std.specs.Str.{is_utf8}
 use Rattle.std.proofs.lemmas.Bool.{and_parts}
 use Rattle.std.proofs.lemmas.Str.{IsUtf8-from_is_utf8}
-use Rattle.bz_base.specs.EndedText.{IsString, before_zero, is_zero}
-use Rattle.bz_base.proofs.EndedTextLemmas as texts
+use Rattle.bz_base.specs.ZeroEnded.{IsString, before_zero, is_zero}
+use Rattle.bz_base.proofs.ZeroEndedLemmas as texts
 use Rattle.bz_elf.specs.Symbols.{is_name}
 use Rattle.bz_elf.proofs.TextLemmas.{name_there}
 
@@ -20,4 +20,4 @@ module _ (strings : List ℕ) (place : ℕ) where
   found name is =
       let rest = drop place strings in
       let read = sym (texts.in_front strings place name is) in
-      (name_there rest name read is.utf8, sym (texts.is_ended rest name read).1)
+      (name_there rest name read is.utf8, sym (texts.is_zero_ended rest name read).1)

@@ -8,7 +8,7 @@ use Rattle.std.proofs.lemmas.List.Elements.{All-from_get_or}
 use Rattle.std.proofs.lemmas.List.Folds.{list_any_at, list_any_none}
 use Rattle.std.proofs.lemmas.List.Sums.{fails_before_first, passes_at_first}
 use Rattle.std.proofs.lemmas.Str.{IsCharBoundary-before_ascii, IsCharBoundary-start, IsUtf8-append, IsUtf8-drop, IsUtf8-from_ascii, IsUtf8-from_is_utf8, IsUtf8-take, is_utf8-from_IsUtf8}
-use Rattle.bz_base.specs.EndedText.{before_zero, is_zero}
+use Rattle.bz_base.specs.ZeroEnded.{before_zero, is_zero}
 use Rattle.bz_elf.specs.Names.{IsText, is_name_at}
 use Rattle.bz_elf.specs.Symbols.{is_name}
 use Rattle.bz_elf.proofs.TextLemmas.{name_within}

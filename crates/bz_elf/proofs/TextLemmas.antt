@@ -5,13 +5,13 @@ use Rattle.std.specs.Str.{IsUtf8, is_utf8}
 use Rattle.std.proofs.lemmas.Bool.{and_from, and_parts, cases_lt}
 use Rattle.std.proofs.Math.ListN.{drop_of_length-le}
 use Rattle.std.proofs.lemmas.Str.{IsUtf8-from_is_utf8, is_utf8-from_IsUtf8}
-use Rattle.bz_base.specs.EndedText.{before_zero, ended_text, is_zero}
-use Rattle.bz_base.proofs.EndedTextLemmas.{is_ended}
+use Rattle.bz_base.specs.ZeroEnded.{before_zero, zero_ended, is_zero}
+use Rattle.bz_base.proofs.ZeroEndedLemmas.{is_zero_ended}
 use Rattle.bz_elf.specs.Symbols.{is_name}
 
-module _ (bytes text : List ℕ) (read : Some text ≡ ended_text bytes) where
+module _ (bytes text : List ℕ) (read : Some text ≡ zero_ended bytes) where
   ends : (list_any is_zero bytes ≡ true) × (text ≡ before_zero bytes)
-  ends = is_ended bytes text read
+  ends = is_zero_ended bytes text read
 
   -- it is a name where it is UTF-8
   pub name_there : IsUtf8 text → is_name bytes ≡ true

@@ -1,6 +1,6 @@
 -- Which bytes are ELF files of the profile, as a relation.
 use Rattle.std.specs.Prelude.{◌≡◌, ◌≢◌, ◌⊎◌, ℕ, ◌+◌, ◌*◌, ◌%◌, ◌≤◌, List, length, Some, slice_get}
-use Rattle.bz_base.specs.EndedText.{IsString}
+use Rattle.bz_base.specs.ZeroEnded.{IsString}
 use Rattle.bz_base.specs.Little.{number_at}
 use Rattle.bz_elf.specs.Checks.{count_elsewhere}
 use Rattle.bz_elf.specs.Head.{elf_magic, class_64, least_first, identity_len, head_len, program_place, program_size, program_count, section_place, section_size, section_count}

@@ -2,7 +2,7 @@
 use Rattle.std.specs.Prelude.{ℕ, ◌+◌, ◌/◌, ◌%◌, ◌==◌, ◌&&◌, ◌||◌, not, Bool, List, [], drop, map, Option, Some, None, if◌then◌else◌}
 use Rattle.std.specs.List.{list_any, filter_map}
 use Rattle.std.specs.Str.{is_utf8}
-use Rattle.bz_base.specs.EndedText.{before_zero, is_zero}
+use Rattle.bz_base.specs.ZeroEnded.{before_zero, is_zero}
 use Rattle.bz_base.specs.Little.{number_at}
 use Rattle.bz_elf.specs.Parts.{places}
 use Rattle.bz_elf.specs.Sections.{symbol_table, strings}

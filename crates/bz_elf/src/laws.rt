@@ -2,7 +2,7 @@
 
 ghost use Rattle.std.specs.Prelude.{◌≡◌, ◌≤◌, ◌↔◌, ℕ, List, Option, None, Some, Ok, true, drop};
 ghost use Rattle.bz_base.specs.Answer.{Resolved};
-ghost use Rattle.bz_base.specs.EndedText.{IsString, before_zero};
+ghost use Rattle.bz_base.specs.ZeroEnded.{IsString, before_zero};
 ghost use Rattle.bz_elf.specs.Plain.{plain};
 ghost use Rattle.bz_base.specs.declared.error.Error.{Error};
 ghost use Rattle.bz_elf.specs.Format.{IsFirstFailing, checks, format_test};

@@ -5,7 +5,7 @@ use Rattle.std.specs.Option.{SomeIff, option_and_then}
 use Rattle.std.specs.Str.{IsUtf8, is_utf8}
 use Rattle.std.proofs.lemmas.Bool.{le-leb, lt-leb, false_from_ne_true}
 use Rattle.std.proofs.lemmas.Str.{IsUtf8-from_is_utf8, is_utf8-from_IsUtf8}
-use Rattle.bz_base.specs.EndedText.{ended_text}
+use Rattle.bz_base.specs.ZeroEnded.{zero_ended}
 use Rattle.bz_base.specs.Little.{number_at}
 use Rattle.bz_base.specs.Span.{last_address}
 use Rattle.bz_gsym.specs.Header.{header_of}
@@ -76,7 +76,7 @@ module _ (bytes : List ℕ) (header : Header) (head : header ≡ header_of bytes
       ∙ sym (ap (option_and_then (λ s. fitting ((header_of bytes).base_address + s))) (start_there allowed within ∙ ap (λ (s : ℕ). Some s) (sym is)))
 
 -- a text before a zero byte is a string where it is UTF-8
-module _ (table : List ℕ) (place : ℕ) (text : List ℕ) (before : Some text ≡ ended_text (drop place table)) where
+module _ (table : List ℕ) (place : ℕ) (text : List ℕ) (before : Some text ≡ zero_ended (drop place table)) where
   pub string_there : IsUtf8 text → Some text ≡ string_at table place
   string_there good = sym (ap (option_and_then checked) (sym before) ∙ rw (is_utf8-from_IsUtf8 text good) refl)
 

@@ -4,7 +4,7 @@ use Rattle.std.specs.List.{list_any, position_or_len, prefix_len, slice_index}
 use Rattle.std.specs.Option.{option_and_then}
 use Rattle.std.specs.Str.{IsAscii, IsUtf8}
 use Rattle.std.proofs.lemmas.Str.{IsUtf8-from_ascii, is_utf8-from_IsUtf8}
-use Rattle.bz_base.specs.EndedText.{ended_text, is_zero}
+use Rattle.bz_base.specs.ZeroEnded.{zero_ended, is_zero}
 use Rattle.bz_gsym.specs.Strings.{checked, is_plain}
 
 -- a byte of a text in ASCII isn't zero, and is ASCII
@@ -40,7 +40,7 @@ module _ (n : ℕ) (bytes : List ℕ) (plain : n ≤ prefix_len is_plain bytes) 
   pub plain_utf8 : IsUtf8 (take n bytes)
   plain_utf8 = IsUtf8-from_ascii (take n bytes) (all_ascii n bytes plain)
 
-  pub plain_string : n < length bytes → get_or bytes n 0 ≡ 0 → Some (take n bytes) ≡ option_and_then checked (ended_text bytes)
+  pub plain_string : n < length bytes → get_or bytes n 0 ≡ 0 → Some (take n bytes) ≡ option_and_then checked (zero_ended bytes)
   plain_string within ends =
       let there = ends_there n bytes plain within ends in
       rw (there.0, there.1) (rw (is_utf8-from_IsUtf8 (take n bytes) plain_utf8) refl)

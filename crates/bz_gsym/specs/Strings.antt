@@ -3,7 +3,7 @@ use Rattle.std.specs.Prelude.{ℕ, ◌&&◌, nat_lt, Bool, if◌then◌else◌, 
 use Rattle.std.specs.Char.{is_ascii}
 use Rattle.std.specs.Str.{is_utf8}
 use Rattle.bz_base.specs.Byte.{zero_byte}
-use Rattle.bz_base.specs.EndedText.{ended_text}
+use Rattle.bz_base.specs.ZeroEnded.{zero_ended}
 
 -- a byte of a text in ASCII
 abbrev pub is_plain : ℕ → Bool
@@ -15,4 +15,4 @@ checked text = if is_utf8 text then Some text else None
 
 -- the string at a place of a string table
 abbrev pub string_at : List ℕ → ℕ → Option (List ℕ)
-string_at table place = option_and_then checked (ended_text (drop place table))
+string_at table place = option_and_then checked (zero_ended (drop place table))

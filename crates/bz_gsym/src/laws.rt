@@ -5,7 +5,7 @@ ghost use Rattle.bz_base.specs.Answer.{Resolved};
 ghost use Rattle.bz_base.specs.declared.types.FindSymOpts.{FindSymOpts};
 ghost use Rattle.bz_gsym.specs.Plain.{plain};
 ghost use Rattle.bz_base.specs.Answer.{Call, Site};
-ghost use Rattle.bz_base.specs.EndedText.{IsString};
+ghost use Rattle.bz_base.specs.ZeroEnded.{IsString};
 ghost use Rattle.bz_gsym.specs.Plain.{nearest_symbol};
 ghost use Rattle.bz_gsym.specs.Entries.{AreEntries, Entry, entries_in};
 ghost use Rattle.bz_gsym.specs.Joining.{IsSeen, seen_from};

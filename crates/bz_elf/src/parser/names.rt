@@ -5,7 +5,7 @@ ghost use Rattle.std.specs.List.{list_all};
 ghost use Rattle.std.specs.List.Sorted.{IsNonDecreasing};
 ghost use Rattle.std.specs.Str.{IsCharBoundary, IsUtf8};
 ghost use Rattle.bz_base.specs.declared.error.Error.{Error};
-ghost use Rattle.bz_base.specs.EndedText.{before_zero, ended_text};
+ghost use Rattle.bz_base.specs.ZeroEnded.{before_zero, zero_ended};
 ghost use Rattle.bz_elf.specs.Names.{IsText, is_name_at};
 ghost use Rattle.bz_elf.specs.Symbols.{is_name, is_named};
 

@@ -1,6 +1,6 @@
 use Rattle.std.proofs.Common.{ap, ◌∙◌}
 use Rattle.bz_bytes.specs.Cursor.{cstr_at}
-use Rattle.bz_bytes.proofs.EndedTextLemmas.{text_read}
+use Rattle.bz_bytes.proofs.ZeroEndedLemmas.{text_read}
 use Rattle.bz_bytes.proofs.text.text_before_zero.Goals as goal
 
 pub returns : goal.returns

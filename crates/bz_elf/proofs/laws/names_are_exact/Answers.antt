@@ -1,5 +1,5 @@
 use Rattle.std.proofs.Common.{List, ℕ, subst}
-use Rattle.bz_base.specs.EndedText.{IsString}
+use Rattle.bz_base.specs.ZeroEnded.{IsString}
 use Rattle.bz_elf.proofs.NameLaws.{found, stands}
 use Rattle.bz_elf.proofs.laws.names_are_exact.Goals as goal
 

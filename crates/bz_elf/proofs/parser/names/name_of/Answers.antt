@@ -1,6 +1,6 @@
 use Rattle.std.proofs.Common.{ap, ◌∙◌}
 use Rattle.std.proofs.lemmas.List.{take_rest}
-use Rattle.bz_base.specs.EndedText.{before_zero}
+use Rattle.bz_base.specs.ZeroEnded.{before_zero}
 use Rattle.bz_elf.specs.Symbols.{is_name}
 use Rattle.bz_elf.proofs.TextLemmas.{name_within}
 use Rattle.bz_elf.proofs.parser.names.name_of.Goals as goal

@@ -12,8 +12,8 @@ abbrev pub before_zero : List ℕ → List ℕ
 before_zero bytes = before_first is_zero bytes
 
 -- those bytes, if there is a zero byte
-abbrev pub ended_text : List ℕ → Option (List ℕ)
-ended_text bytes = if list_any is_zero bytes then Some (before_zero bytes) else None
+abbrev pub zero_ended : List ℕ → Option (List ℕ)
+zero_ended bytes = if list_any is_zero bytes then Some (before_zero bytes) else None
 
 -- the text stands at the place: the bytes are what lies before it, the text, which is UTF-8, a zero byte, and what lies behind
 pub record IsString (bytes : List ℕ) (place : ℕ) (text : List ℕ) : Type 0 where
