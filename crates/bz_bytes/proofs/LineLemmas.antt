@@ -3,9 +3,9 @@ use Rattle.std.proofs.Common.{◌≡◌, ℕ, suc, ◌<◌, true, false, List, [
 use Rattle.std.specs.List.{slice_index, flat_map, list_any, AllByRecursion}
 use Rattle.std.proofs.lemmas.Bool.{or_parts, or_from, eqb-true}
 use Rattle.std.proofs.lemmas.Option.{none-some, same_Some}
-use Rattle.std.proofs.lemmas.List.{take-append-drop, take_rest}
+use Rattle.std.proofs.lemmas.List.{drop_all, take-append-drop, take_rest}
 use Rattle.bz_bytes.specs.Byte.{line_feed, HasNo}
-use Rattle.bz_bytes.specs.Line.{ended, AreEnded, unended, AreLines, begins_ended, before_ended, ended_lines, begins_line, all_lines}
+use Rattle.bz_bytes.specs.Line.{ended, AreEnded, unended, AreLines, begins_ended, before_ended, ended_lines, begins_line, all_lines, after_first_line_feed}
 
 -- the text is what stands before a line feed, the line feed, and what stands after it
 split_at_line_feed : (text : List ℕ) (k : ℕ) → k < length text → nat_eq (slice_index text k) line_feed ≡ true →
@@ -183,3 +183,33 @@ front_again (line ∷ front) rest none rest_none =
 pub all_again : (text : List ℕ) (lines : List (List ℕ)) → AreLines text lines → all_lines text ≡ lines
 all_again text lines are =
     ap all_lines are.whole ∙ front_again are.front are.rest are.no_line_feed are.rest_has_none ∙ sym are.lines_are
+
+-- What stands behind the first line feed.
+
+-- one byte more in front of it
+one_more : (n b : ℕ) (text : List ℕ) → drop (1 + n + 1) (b ∷ text) ≡ drop (n + 1) text
+one_more n b text = let more : 1 + n + 1 ≡ suc (n + 1) = omega arith in ap (λ k. drop k (b ∷ text)) more
+
+-- the rest of a text stands behind the line feed of its first line
+pub after_next : (line rest : List ℕ) → HasNo line_feed line → after_first_line_feed (line ++ line_feed ∷ rest) ≡ rest
+after_next [] rest none = refl
+after_next (b ∷ line) rest none =
+    let parts = or_parts (nat_eq b line_feed) _ none in
+    rw parts.0 (one_more _ b (line ++ line_feed ∷ rest) ∙ after_next line rest parts.1)
+
+-- the same, of a line with its end
+pub after_ended : (text line rest : List ℕ) → text ≡ ended line ++ rest → HasNo line_feed line → rest ≡ after_first_line_feed text
+after_ended text line rest whole none =
+    sym (after_next line rest none) ∙ ap after_first_line_feed (sym (append_assoc line (line_feed ∷ []) rest)) ∙ ap after_first_line_feed (sym whole)
+
+-- nothing stands behind the first line feed where there is none
+pub after_none : (text : List ℕ) → HasNo line_feed text → after_first_line_feed text ≡ []
+after_none [] none = refl
+after_none (b ∷ text) none =
+    let parts = or_parts (nat_eq b line_feed) _ none in
+    rw parts.0 (one_more _ b text ∙ after_none text parts.1)
+
+-- nor behind the whole of such a text
+pub after_whole : (text : List ℕ) → HasNo line_feed text → take (length text - length text) (drop (length text) text) ≡ after_first_line_feed text
+after_whole text none =
+    take_rest text (length text) ∙ drop_all (length text) text (omega arith) ∙ sym (after_none text none)

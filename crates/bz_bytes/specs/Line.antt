@@ -1,6 +1,6 @@
 -- The lines of a text: it is cut at its line feeds. Each line has its end, or the last one may lack it.
 use Rattle.std.specs.Prelude.{◌≡◌, ℕ, ◌==◌, List, [], ◌∷◌, ◌++◌, flat_map, Option, Some, None, if◌then◌else◌}
-use Rattle.std.specs.List.{AllByRecursion}
+use Rattle.std.specs.List.{AllByRecursion, after_first}
 use Rattle.bz_bytes.specs.Byte.{line_feed, HasNo}
 
 -- a line with its end
@@ -50,3 +50,7 @@ begins_line b (line ∷ lines) = (b ∷ line) ∷ lines
 abbrev pub all_lines : List ℕ → List (List ℕ)
 all_lines [] = []
 all_lines (b ∷ text) = if b == line_feed then [] ∷ all_lines text else begins_line b (all_lines text)
+
+-- what stands behind the first line feed; nothing where there is none
+abbrev pub after_first_line_feed : List ℕ → List ℕ
+after_first_line_feed text = after_first (λ b. b == line_feed) text
