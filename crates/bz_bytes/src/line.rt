@@ -27,7 +27,7 @@ pub fn next_line(text: &[u8]) -> Option<(&[u8], &[u8])>
 pub fn first_line(text: &[u8]) -> Option<(&[u8], &[u8])>
     ensures all { IfSome result (λ cut. all_lines text.now ≡ cut.0.now ∷ all_lines cut.1.now) }
     ensures no_line_feed { IfSome result (λ cut. HasNo line_feed cut.0.now) }
-    ensures rest { IfSome result (λ cut. cut.1.now ≡ after_first_line_feed text.now) }
+    ensures reads { IfSome result (λ cut. cut.1.now ≡ after_first_line_feed text.now) }
     ensures shorter { IfSome result (λ cut. length cut.1.now < length text.now) }
     ensures none { IfNone result (text.now ≡ []) }
 {
