@@ -1,64 +1,69 @@
--- The forms of a Breakpad file's lines.
+-- The forms of a Breakpad file's lines, after Breakpad's document of its symbol file format, docs/symbol_files.md.
+-- Above each form stands the section of the document that it is from, and then what a line of the form tells.
+-- The document divides fields by one space. Here one or more spaces and tabs do, and numbers may have either case.
 use Rattle.std.specs.Prelude.{ℕ, List, [], ◌∷◌, codes}
 use Rattle.bz_breakpad_lines.specs.Form.{Form}
 use Rattle.bz_breakpad_lines.specs.Form.Piece.{Tag, Opt, Sep, MSep, Gap, Word, Hex, Dec}
 use Rattle.bz_breakpad_lines.specs.Form.Form.{End, Name, SepText, Many, ◌·◌}
 use Rattle.bz_breakpad_lines.specs.Reads.{IsReadExactly}
 
--- the mark of a function or symbol that stands in several places
+-- the mark "m" of FUNC and PUBLIC records, whose function or symbol stands in several places
 abbrev pub letter_m : ℕ
 letter_m = 109
 
--- name
+-- "MODULE records": name. Operating system, architecture and id are words that aren't kept.
 abbrev pub MODULE : Form
 MODULE = Tag (codes "MODULE") · Sep · Word · MSep · Word · MSep · Word · MSep · Name
 
--- version or compiler
+-- a line that Breakpad's dumpers write beside the MODULE record; nothing of it is kept
 abbrev pub INFO : Form
 INFO = Tag (codes "INFO") · SepText
 
--- id, path
+-- "FILE records": id, path
 abbrev pub FILE : Form
 FILE = Tag (codes "FILE") · Sep · Dec · Sep · Name
 
--- id, name
+-- "INLINE_ORIGIN records": id, name
 abbrev pub INLINE_ORIGIN : Form
 INLINE_ORIGIN = Tag (codes "INLINE_ORIGIN") · Sep · Dec · Sep · Name
 
--- address, size of the parameters, name
+-- "PUBLIC records": address, size of the parameters, name
 abbrev pub PUBLIC : Form
 PUBLIC = Tag (codes "PUBLIC") · Sep · Opt letter_m · Hex 16 · Sep · Hex 8 · Sep · Name
 
--- address, size, size of the parameters, name
+-- "FUNC records": address, size, size of the parameters, name
 abbrev pub FUNC : Form
 FUNC = Tag (codes "FUNC") · Sep · Opt letter_m · Hex 16 · Sep · Hex 8 · Sep · Hex 8 · Sep · Name
 
+-- "STACK WIN records": nothing of it is kept
 abbrev pub STACK_WIN : Form
 STACK_WIN = Tag (codes "STACK WIN") · SepText
 
+-- "STACK CFI records", the first of a group: nothing of it is kept
 abbrev pub STACK_CFI_INIT : Form
 STACK_CFI_INIT = Tag (codes "STACK CFI INIT") · SepText
 
+-- "STACK CFI records", one that follows in the group: nothing of it is kept
 abbrev pub STACK_CFI : Form
 STACK_CFI = Tag (codes "STACK CFI") · SepText
 
--- address, size, line, id of the file
+-- "Line records": address, size, line, id of the file
 abbrev pub LINE : Form
 LINE = Hex 16 · Sep · Hex 8 · Sep · Dec · Sep · Dec · End
 
--- address, size
+-- "INLINE records", a range of code: address, size
 abbrev pub RANGE : Form
 RANGE = Sep · Hex 16 · Sep · Hex 8 · End
 
--- the call of an INLINE record: depth, line, file, id of the origin
+-- "INLINE records", the call: depth, line, file, id of the origin
 abbrev pub CALL : Form
 CALL = Tag (codes "INLINE ") · Gap · Dec · Sep · Dec · Sep · Dec · Sep · Dec · End
 
--- the call, and the ranges of the code
+-- "INLINE records", whole: the call, and the ranges of the code
 abbrev pub INLINE : Form
 INLINE = Tag (codes "INLINE ") · Gap · Dec · Sep · Dec · Sep · Dec · Sep · Dec · Many RANGE
 
--- id, name, in a function
+-- "INLINE_ORIGIN records", in a function: id, name
 abbrev pub INNER_ORIGIN : Form
 INNER_ORIGIN = Tag (codes "INLINE_ORIGIN ") · Gap · Dec · Sep · Name
 
