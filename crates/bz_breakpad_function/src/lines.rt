@@ -8,7 +8,7 @@ ghost use Rattle.bz_breakpad_lines.specs.Told.{line_seen};
 ghost use Rattle.bz_breakpad_table.specs.Kept.{AreSearchable, kept_lines};
 
 use bz_base::{Addr, Probe, Steps, covers, nearest};
-use bz_breakpad_lines::{SourceLine, line_at, start_at};
+use bz_breakpad_lines::{SourceLine, line_record_at, start_at};
 use std::marker::{Brand, Model};
 use std::sync::ledger::{Blank, Ledger};
 
@@ -80,7 +80,7 @@ pub(crate) fn line_if_covers(bytes: &[u8], place: usize, addr: Addr) -> Option<S
     requires { ReadsLine bytes.now place }
     ensures { option_map line_seen result ≡ if_covers (λ l. l.start) (λ l. l.size) addr (line_read bytes.now place) }
 {
-    let line = line_at(bytes, place)?;
+    let line = line_record_at(bytes, place)?;
     if covers(line.addr, u64::from(line.size), addr) {
         Some(line)
     } else {

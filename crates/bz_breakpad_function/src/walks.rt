@@ -15,7 +15,7 @@ use crate::calls::inlinee_of;
 use crate::line_run::{LINE_LEN, ends_line};
 use crate::types::Inlinee;
 use bz_base::first_line;
-use bz_breakpad_lines::{SourceLine, line_at, line_or_zeros, next_line};
+use bz_breakpad_lines::{SourceLine, line_or_zeros, line_record_at, next_line_record};
 use bz_breakpad_table::{CallRange, FunctionTable, KeptFunction, LineRecords, Part};
 use std::alloc::{AllocError, Global};
 
@@ -174,7 +174,7 @@ fn first_of_run(text: &[u8], len: usize) -> FirstOfRun
     ensures some { 0 < result.len }
     ensures within { result.len ≤ len }
 {
-    let next = next_line(text);
+    let next = next_line_record(text);
     let end = next.end + 1;
     if end < len {
         FirstOfRun {
@@ -199,7 +199,7 @@ fn lines_of_places(
 {
     let mut lines = Vec::with_capacity(alloc, places.len())?;
     for place in places {
-        if let Some(line) = line_at(bytes, *place) {
+        if let Some(line) = line_record_at(bytes, *place) {
             lines.push(line)?;
         }
     }

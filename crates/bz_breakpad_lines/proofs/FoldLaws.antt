@@ -8,7 +8,7 @@ use Rattle.bz_breakpad_lines.specs.Reads.{◌>>=◌}
 use Rattle.bz_breakpad_lines.specs.Says.{module_of}
 use Rattle.bz_breakpad_lines.specs.Grammar.{IsNoModule}
 use Rattle.bz_breakpad_lines.specs.Reader.{Reading, with_record, next_read, lines_read}
-use Rattle.bz_breakpad_lines.specs.Walk.{Context, Record, context_after, free_after, record_at, text_at, walk}
+use Rattle.bz_breakpad_lines.specs.Walk.{Context, Record, context_after, free_after, record_at, after_white, walk}
 use Rattle.bz_breakpad_lines.proofs.Turns.{bind_some, map_some}
 
 -- what has been read, and then the records
@@ -74,7 +74,7 @@ abbrev walk_after : List (List ℕ) → Record → Option (List Record)
 walk_after lines r = option_map (λ rest. r ∷ rest) (walk (context_after r) (free_after r) lines)
 
 module _ (c : Context) (free : Bool) (line : List ℕ) (lines : List (List ℕ)) (r : Record)
-    (test : (free && is_nothing (text_at free line)) ≡ false) (at : record_at c (text_at free line) ≡ Some r) where
+    (test : (free && is_nothing (after_white free line)) ≡ false) (at : record_at c (after_white free line) ≡ Some r) where
   -- a line that is a record, and lines that are walked after it
   walk_more : (rest : List Record) → walk (context_after r) (free_after r) lines ≡ Some rest → walk c free (line ∷ lines) ≡ Some (r ∷ rest)
   walk_more rest walked = rw (test, at, walked) refl
@@ -90,9 +90,9 @@ pub fold_found : (c : Context) (free : Bool) (reading : Reading) (lines : List (
 fold_found c free reading [] found is =
     record { records = []; walked = refl; follow = follow_none (nat_lt 0 reading.count); is_fold = same_Some reading found is }
 fold_found c free reading (line ∷ lines) found is =
-    line_found (free && is_nothing (text_at free line)) refl is (fold_found c free reading lines found) (λ d f next. fold_found d f next lines found) where
-      line_found : (test : Bool) → (free && is_nothing (text_at free line)) ≡ test →
-          cond test (lines_read c free reading lines) (record_at c (text_at free line) >>= after_record reading lines) ≡ Some found →
+    line_found (free && is_nothing (after_white free line)) refl is (fold_found c free reading lines found) (λ d f next. fold_found d f next lines found) where
+      line_found : (test : Bool) → (free && is_nothing (after_white free line)) ≡ test →
+          cond test (lines_read c free reading lines) (record_at c (after_white free line) >>= after_record reading lines) ≡ Some found →
           (lines_read c free reading lines ≡ Some found → AreFolded c free reading lines found) →
           ((d : Context) (f : Bool) (next : Reading) → lines_read d f next lines ≡ Some found → AreFolded d f next lines found) →
           AreFolded c free reading (line ∷ lines) found
@@ -100,7 +100,7 @@ fold_found c free reading (line ∷ lines) found is =
           let rest = passed is in
           record { records = rest.records; walked = rw test rest.walked; follow = rest.follow; is_fold = rest.is_fold }
       line_found false test is passed later =
-          let first = bind_some (record_at c (text_at free line)) (after_record reading lines) found is in
+          let first = bind_some (record_at c (after_white free line)) (after_record reading lines) found is in
           let r = first.0 in
           let after : Reading → Option Reading = λ next. lines_read (context_after r) (free_after r) next lines in
           let next = bind_some (next_read reading r) after found first.2 in
@@ -122,17 +122,17 @@ pub fold_again : (c : Context) (free : Bool) (reading : Reading) (lines : List (
     lines_read c free reading lines ≡ Some (folded reading records)
 fold_again c free reading [] records is follow = ap (λ rs. Some (folded reading rs)) (same_Some [] records is)
 fold_again c free reading (line ∷ lines) records is follow =
-    line_again (free && is_nothing (text_at free line)) refl is (λ is. fold_again c free reading lines records is follow)
+    line_again (free && is_nothing (after_white free line)) refl is (λ is. fold_again c free reading lines records is follow)
     (λ d f next rest. fold_again d f next lines rest) where
-      line_again : (test : Bool) → (free && is_nothing (text_at free line)) ≡ test →
-          cond test (walk c free lines) (record_at c (text_at free line) >>= walk_after lines) ≡ Some records →
+      line_again : (test : Bool) → (free && is_nothing (after_white free line)) ≡ test →
+          cond test (walk c free lines) (record_at c (after_white free line) >>= walk_after lines) ≡ Some records →
           (walk c free lines ≡ Some records → lines_read c free reading lines ≡ Some (folded reading records)) →
           ((d : Context) (f : Bool) (next : Reading) (rest : List Record) → walk d f lines ≡ Some rest → Follow (nat_lt 0 next.count) rest →
           lines_read d f next lines ≡ Some (folded next rest)) →
           lines_read c free reading (line ∷ lines) ≡ Some (folded reading records)
       line_again true test is passed later = rw test (passed is)
       line_again false test is passed later =
-          let first = bind_some (record_at c (text_at free line)) (walk_after lines) records is in
+          let first = bind_some (record_at c (after_white free line)) (walk_after lines) records is in
           let r = first.0 in
           let rest = map_some (λ rest. r ∷ rest) (walk (context_after r) (free_after r) lines) records first.2 in
           let P : List Record → Type 0 = Follow (nat_lt 0 reading.count) in

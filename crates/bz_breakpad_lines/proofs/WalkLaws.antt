@@ -12,7 +12,7 @@ use Rattle.bz_breakpad_lines.specs.Form.{AllPass}
 use Rattle.bz_breakpad_lines.specs.Reads.{◌>>=◌, form_at, piece_at, run_at}
 use Rattle.bz_breakpad_lines.specs.Choice.{One, one_at, body_at}
 use Rattle.bz_breakpad_lines.specs.Records.{TOP, INNER, STACK_CFI}
-use Rattle.bz_breakpad_lines.specs.Walk.{Context, Record, context_after, free_after, IsInner, IsBodyOf, IsRecord, body_record, inner_at, IsText, Walks, or_record, record_at, text_at, walk, IsWalkedExactly}
+use Rattle.bz_breakpad_lines.specs.Walk.{Context, Record, context_after, free_after, IsInner, IsBodyOf, IsRecord, body_record, inner_at, IsText, Walks, or_record, record_at, after_white, walk, IsWalkedExactly}
 use Rattle.bz_breakpad_lines.specs.Walk.Context.{Outside, InFunc, InCfi}
 use Rattle.bz_breakpad_lines.specs.Walk.Record.{Top, OfFunc, OfCfi}
 use Rattle.bz_breakpad_lines.proofs.ChoiceLaws.{one_found, one_again, body_found, body_again}
@@ -28,8 +28,8 @@ run_stops byte (b ∷ text) =
     cond_both (byte b) (1 + prefix_len byte text) 0 (λ n. begins_with byte (drop n (b ∷ text)) ≡ false)
     (λ yes. rw more (run_stops byte text)) (λ none. none)
 
-text_found : (free : Bool) (line : List ℕ) → IsText free line (text_at free line)
-unfolding text_at
+text_found : (free : Bool) (line : List ℕ) → IsText free line (after_white free line)
+unfolding after_white
 text_found true line = record {
   front = take (prefix_len is_white line) line;
   whole = sym (take-append-drop (prefix_len is_white line) line);
@@ -39,8 +39,8 @@ text_found true line = record {
 }
 text_found false line = record { front = []; whole = refl; white = tt; bound = λ _. refl; longest = λ free. absurd (false≢true free) }
 
-text_again : (free : Bool) (line text : List ℕ) → IsText free line text → text_at free line ≡ text
-unfolding text_at
+text_again : (free : Bool) (line text : List ℕ) → IsText free line text → after_white free line ≡ text
+unfolding after_white
 text_again true line text is =
     rw (is.whole, run_len is_white is.front text is.white (is.longest refl), drop-append_seam is.front text) refl
 text_again false line text is = is.whole ∙ ap (λ x. x ++ text) (is.bound refl)
@@ -108,8 +108,8 @@ record_nothing InFunc = refl
 record_nothing InCfi = refl
 
 -- a line with nothing but white space
-white_line : (line : List ℕ) → is_nothing (text_at true line) ≡ true → AllPass is_white line
-unfolding text_at
+white_line : (line : List ℕ) → is_nothing (after_white true line) ≡ true → AllPass is_white line
+unfolding after_white
 white_line line none = by (drop n line) refl none where
   n : ℕ
   n = prefix_len is_white line
@@ -120,8 +120,8 @@ white_line line none = by (drop n line) refl none where
       subst (λ x. AllPass is_white x) same (front_passes is_white line)
   by (b ∷ rest) is none = absurd (false≢true none)
 
-line_white : (line : List ℕ) → AllPass is_white line → text_at true line ≡ []
-unfolding text_at
+line_white : (line : List ℕ) → AllPass is_white line → after_white true line ≡ []
+unfolding after_white
 line_white line white =
     text_again true line [] (record { front = line; whole = sym (append-nil line); white = white; bound = λ e. absurd (true≢false e); longest = λ _. refl })
 
@@ -131,24 +131,24 @@ next go lines r = option_map (λ rest. r ∷ rest) (go (context_after r) (free_a
 walk_found : (c : Context) (free : Bool) (lines : List (List ℕ)) (records : List Record) → walk c free lines ≡ Some records → Walks c free lines records
 walk_found c free [] records is = sym (same_Some [] records is)
 walk_found c free (line ∷ lines) records is =
-    line_found (free && is_nothing (text_at free line)) refl is (walk_found c free lines records) (λ d f rest. walk_found d f lines rest) where
-      line_found : (test : Bool) → (free && is_nothing (text_at free line)) ≡ test →
-          cond test (walk c free lines) (record_at c (text_at free line) >>= next walk lines) ≡ Some records →
+    line_found (free && is_nothing (after_white free line)) refl is (walk_found c free lines records) (λ d f rest. walk_found d f lines rest) where
+      line_found : (test : Bool) → (free && is_nothing (after_white free line)) ≡ test →
+          cond test (walk c free lines) (record_at c (after_white free line) >>= next walk lines) ≡ Some records →
           (walk c free lines ≡ Some records → Walks c free lines records) →
           ((d : Context) (f : Bool) (rest : List Record) → walk d f lines ≡ Some rest → Walks d f lines rest) →
           Walks c free (line ∷ lines) records
       line_found true test is passed later =
-          let parts = and_parts free (is_nothing (text_at free line)) test in
+          let parts = and_parts free (is_nothing (after_white free line)) test in
           inl (parts.0, white_line line (rw parts.0 at parts.1), passed is)
       line_found false test is passed later =
-          let first = bind_some (record_at c (text_at free line)) (next walk lines) records is in
+          let first = bind_some (record_at c (after_white free line)) (next walk lines) records is in
           let rest = map_some (λ rest. first.0 ∷ rest) (walk (context_after first.0) (free_after first.0) lines) records first.2 in
           inr (record {
-            text = text_at free line;
+            text = after_white free line;
             first = first.0;
             others = rest.0;
             text_is = text_found free line;
-            first_is = record_found c (text_at free line) first.0 first.1;
+            first_is = record_found c (after_white free line) first.0 first.1;
             rest = later (context_after first.0) (free_after first.0) rest.0 rest.1;
             records_are = sym rest.2;
           })

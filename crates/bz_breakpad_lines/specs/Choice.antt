@@ -43,8 +43,8 @@ pub record IsLine (forms : List Form) (line : List ℕ) (one : One forms) : Type
   pub body_is : IsBody line body
   pub spells : SpellsOne forms body one
 
-abbrev pub line_at : (forms : List Form) → List ℕ → Option (One forms)
-line_at forms line = body_at line >>= one_at forms
+abbrev pub one_of_line : (forms : List Form) → List ℕ → Option (One forms)
+one_of_line forms line = body_at line >>= one_at forms
 
 abbrev pub AreReadExactly : List Form → Type 0
-AreReadExactly forms = (line : List ℕ) (one : One forms) → (line_at forms line ≡ Some one) ↔ IsLine forms line one
+AreReadExactly forms = (line : List ℕ) (one : One forms) → (one_of_line forms line ≡ Some one) ↔ IsLine forms line one

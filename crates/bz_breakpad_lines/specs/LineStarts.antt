@@ -25,8 +25,8 @@ abbrev pub line_starts : List ℕ → List ℕ → List ℕ
 line_starts bytes places = map (line_start bytes) places
 
 -- each start is above the one before it
-abbrev pub Ascends : List ℕ → Type 0
-Ascends starts = (i j : ℕ) → i < j → j < length starts → slice_index starts i < slice_index starts j
+abbrev pub StrictlyAscends : List ℕ → Type 0
+StrictlyAscends starts = (i j : ℕ) → i < j → j < length starts → slice_index starts i < slice_index starts j
 
 -- a letter in lower case; a decimal digit stays as it is
 abbrev pub folded : ℕ → ℕ
@@ -42,7 +42,7 @@ pub record IsStartText (start : ℕ) (text : StartText) : Type 0 where
 
 -- the starts ascend up to the last one, whose text this is
 pub record AscendTo (starts : List ℕ) (text : StartText) : Type 0 where
-  pub ascend : Ascends starts
+  pub ascend : StrictlyAscends starts
   pub front : List ℕ
   pub last : ℕ
   pub are : starts ≡ front ++ last ∷ []

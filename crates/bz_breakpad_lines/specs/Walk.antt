@@ -95,17 +95,17 @@ body_record c body = or_record (inner_at c body) (option_map Top (one_at TOP bod
 unfoldable pub record_at : Context → List ℕ → Option Record
 record_at c line = body_at line >>= (λ body. body_record c body)
 
-unfoldable pub text_at : Bool → List ℕ → List ℕ
-text_at true line = drop (prefix_len is_white line) line
-text_at false line = line
+unfoldable pub after_white : Bool → List ℕ → List ℕ
+after_white true line = drop (prefix_len is_white line) line
+after_white false line = line
 
 -- the records of the lines
 abbrev pub walk : Context → Bool → List (List ℕ) → Option (List Record)
 walk c free [] = Some []
 walk c free (line ∷ lines) =
-    if free && is_nothing (text_at free line)
+    if free && is_nothing (after_white free line)
     then walk c free lines
-    else record_at c (text_at free line) >>= (λ r. option_map (λ rest. r ∷ rest) (walk (context_after r) (free_after r) lines))
+    else record_at c (after_white free line) >>= (λ r. option_map (λ rest. r ∷ rest) (walk (context_after r) (free_after r) lines))
 
 abbrev pub IsWalkedExactly : Type 0
 IsWalkedExactly =

@@ -58,7 +58,7 @@ fn any_len(text: &[u8]) -> usize
 }
 
 /// The line record at a place in the bytes, if one begins there.
-pub fn line_at(bytes: &[u8], place: usize) -> Option<SourceLine>
+pub fn line_record_at(bytes: &[u8], place: usize) -> Option<SourceLine>
     ensures { option_map line_seen result ≡ line_in (drop place bytes.now) }
 {
     if place > bytes.len() {
@@ -100,7 +100,7 @@ fn any_line(text: &[u8]) -> Option<SourceLine>
 pub fn line_or_zeros(bytes: &[u8], place: usize) -> SourceLine
     ensures { line_seen result ≡ line_read bytes.now place }
 {
-    match line_at(bytes, place) {
+    match line_record_at(bytes, place) {
         Some(line) => line,
         None => SourceLine {
             addr: 0,

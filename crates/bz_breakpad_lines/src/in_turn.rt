@@ -23,7 +23,7 @@ pub struct NextLine {
 
 /// The line record that the first line of the text is.
 #[inline(always)]
-pub fn next_line(text: &[u8]) -> NextLine
+pub fn next_line_record(text: &[u8]) -> NextLine
     ensures line { line_seen result.line ≡ line_read text.now 0 }
     ensures end { result.end ≡ prefix_len (λ b. not (b == line_feed)) text.now }
     ensures within { result.end ≤ length text.now }

@@ -5,7 +5,7 @@ ghost use Rattle.std.specs.List.{prefix_len};
 ghost use Rattle.bz_breakpad_lines.specs.Byte.{is_nothing, is_white};
 ghost use Rattle.bz_breakpad_lines.specs.Says.{module_of};
 ghost use Rattle.bz_breakpad_lines.specs.Told.{context_told, record_told};
-ghost use Rattle.bz_breakpad_lines.specs.Walk.{context_after, free_after, text_at};
+ghost use Rattle.bz_breakpad_lines.specs.Walk.{after_white, context_after, free_after};
 ghost use Rattle.bz_breakpad_lines.specs.declared.record.Range.{Range};
 
 use crate::record::{Context, RecordLine, TopLine};
@@ -44,9 +44,9 @@ impl RecordLine<'_> {
 }
 
 /// The line without the white space at its front, where that may stand.
-#[tactic(auto, unfolding(crate::specs::Walk::text_at))]
+#[tactic(auto, unfolding(crate::specs::Walk::after_white))]
 pub fn after_white(free: bool, line: &[u8]) -> &[u8]
-    ensures text { result.now ≡ text_at free line.now }
+    ensures text { result.now ≡ after_white free line.now }
     ensures within { length result.now ≤ length line.now }
 {
     if free { &line[white_len(line)..] } else { line }
@@ -67,7 +67,7 @@ fn is_white(byte: u8) -> bool
 }
 
 /// Whether the line may be blank and is, of which this is left after white space.
-pub fn is_blank(free: bool, text: &[u8]) -> bool
+pub fn is_blank_line(free: bool, text: &[u8]) -> bool
     ensures { result ≡ (free && is_nothing text.now) }
 {
     free && text.is_empty()

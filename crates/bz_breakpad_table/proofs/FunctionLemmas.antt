@@ -6,7 +6,7 @@ use Rattle.bz_base.specs.Nearest.{IsTable}
 use Rattle.bz_base.proofs.ListLemmas.{all_and_one}
 use Rattle.bz_base.proofs.ViewLemmas.{table_seen}
 use Rattle.bz_breakpad_table.specs.CallRanges.{call_start}
-use Rattle.bz_breakpad_table.specs.Kept.{AreCallsAt, AreEnded, AreNested, IsNested, kept_functions, IsLonger, IsPart, LinesFit, LinesFitSoFar, FunctionFits, FunctionsSoFar, kept_call, kept_lines, kept_function, current_function, records_of, records_so_far}
+use Rattle.bz_breakpad_table.specs.Kept.{AreCallsAt, AreEndedInOrder, AreNested, IsNested, kept_functions, IsLonger, IsPart, LinesFit, LinesFitSoFar, FunctionFits, FunctionsSoFar, kept_call, kept_lines, kept_function, current_function, records_of, records_so_far}
 use Rattle.bz_breakpad_lines.specs.Reader.{listed}
 use Rattle.bz_breakpad_lines.specs.Says.{Sub, with_own, line_of, inlinees_in, inlinees_of}
 use Rattle.bz_breakpad_lines.specs.Says.Sub.{Line}
@@ -116,12 +116,12 @@ module _ (bytes : List ℕ) (old new : FunctionsReading) (function kept : KeptFu
     (table : IsTable (λ c. c.depth) call_start old.calls.items sorted)
     (kept_is : kept ≡ record function { lines = kept.lines; inlinees = record { from = length old.table.inlinees.items; to = length new.table.inlinees.items } })
     (fit : LinesFitSoFar bytes old.listed.items old.lines → LinesFitSoFar bytes new.listed.items new.lines)
-    (ends : LinesFitSoFar bytes old.listed.items old.lines → AreEnded bytes new.table.lines.items old.listed.items old.lines kept.lines) where
+    (ends : LinesFitSoFar bytes old.listed.items old.lines → AreEndedInOrder bytes new.table.lines.items old.listed.items old.lines kept.lines) where
   -- its inlined calls are the last of the table
   own_calls : slice_range new.table.inlinees.items (length old.table.inlinees.items) (length new.table.inlinees.items) ≡ sorted
   own_calls = last_part old.table.inlinees.items sorted new.table.inlinees.items (record { from = length old.table.inlinees.items; to = length new.table.inlinees.items }) inlinees_are refl refl
 
-  nested : AreEnded bytes new.table.lines.items old.listed.items old.lines kept.lines →
+  nested : AreEndedInOrder bytes new.table.lines.items old.listed.items old.lines kept.lines →
       IsNested (current_function bytes old.listed.items old.lines old.calls.items function) (kept_function bytes new.table.lines.items new.table.inlinees.items kept)
   nested done =
       let seen = table_seen (λ (i : Inlinee). i.depth) (λ i. i.start) (kept_call bytes) old.calls.items sorted table in

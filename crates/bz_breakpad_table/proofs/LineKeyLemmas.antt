@@ -8,8 +8,8 @@ use Rattle.bz_base.specs.Nearest.{IsTable, has_span}
 use Rattle.bz_base.specs.Starts.{NeverDescends}
 use Rattle.bz_base.proofs.TableLemmas.{start_at}
 use Rattle.bz_base.proofs.ViewLemmas.{table_seen}
-use Rattle.bz_breakpad_table.specs.Kept.{AreEnded, IsLineKey, IsOpenRunAt, kept_lines, text_at}
-use Rattle.bz_breakpad_lines.specs.LineStarts.{ReadsLine, Ascends, line_read, line_size, line_start, line_starts}
+use Rattle.bz_breakpad_table.specs.Kept.{AreEndedInOrder, IsLineKey, IsOpenRunAt, kept_lines, text_at}
+use Rattle.bz_breakpad_lines.specs.LineStarts.{ReadsLine, StrictlyAscends, line_read, line_size, line_start, line_starts}
 use Rattle.bz_breakpad_table.specs.LineKeys.{places_of}
 use Rattle.bz_breakpad_table.specs.LineRun.{lines_in}
 use Rattle.bz_breakpad_lines.specs.Table.{SourceLine}
@@ -24,7 +24,7 @@ use Rattle.bz_base.proofs.InTableLemmas.{all_in_table}
 
 module _ {X : Type 0} (start size : X → ℕ) where
   -- records of which each starts after the one before it are a table
-  pub ascending_table : (xs : List X) → Ascends (map start xs) → IsTable start size xs xs
+  pub ascending_table : (xs : List X) → StrictlyAscends (map start xs) → IsTable start size xs xs
   ascending_table xs ascend = record {
     starts_ascend = λ i j x y up at_x at_y. elim (cases_lt i j) [
       | inl below ↦ omega (arith, ascend i j below (omega (arith, slice_get_within xs j y at_y, length-map xs start)), start_at start size xs i x at_x, start_at start size xs j y at_y)
@@ -110,7 +110,7 @@ module _ (bytes : List ℕ) where
   -- of a function that ends, those that are listed
   pub listed_ended : (places more_places : List ℕ) (keys sorted : List LineKey) (part : Part) → IsTable (λ k. k.start) (λ k. k.size) keys sorted →
       NeverDescends (map (λ (k : LineKey). k.start) sorted) → more_places ≡ places ++ places_of sorted → part.from ≡ length places → part.to ≡ length more_places →
-      AllByRecursion (IsLineKey bytes) keys → AreEnded bytes more_places keys sofar.Listed (records.Listed part)
+      AllByRecursion (IsLineKey bytes) keys → AreEndedInOrder bytes more_places keys sofar.Listed (records.Listed part)
   listed_ended places more_places keys sorted part table ascend more from to all =
       let own = last_part places (places_of sorted) more_places part more from to in
       let still = keys_sorted keys sorted table all in
@@ -125,14 +125,14 @@ module _ (bytes : List ℕ) where
       }
 
   -- and those of a run
-  pub run_ended : (places : List ℕ) (keys : List LineKey) (run : Part) (last : StartText) → IsOpenRunAt bytes run last → AreEnded bytes places keys (sofar.Run run last) (records.Run run)
+  pub run_ended : (places : List ℕ) (keys : List LineKey) (run : Part) (last : StartText) → IsOpenRunAt bytes run last → AreEndedInOrder bytes places keys (sofar.Run run last) (records.Run run)
   run_ended places keys run last is = record {
     fit = record { within = is.within; run = record { read = is.run.read; ascend = is.run.starts.ascend } };
     table = ascending_table (λ (l : SourceLine). l.start) (λ l. l.size) (lines_in (text_at bytes run)) is.run.starts.ascend;
   }
 
   -- and none
-  pub none_ended : (places : List ℕ) (keys : List LineKey) → AreEnded bytes places keys sofar.Empty (records.Run (record { from = 0; to = 0 }))
+  pub none_ended : (places : List ℕ) (keys : List LineKey) → AreEndedInOrder bytes places keys sofar.Empty (records.Run (record { from = 0; to = 0 }))
   none_ended places keys = record {
     fit = record { within = record { ordered = omega arith; within = omega arith }; run = record { read = tt; ascend = λ i j below within. absurd (omega (arith, within)) } };
     table = ascending_table (λ (l : SourceLine). l.start) (λ l. l.size) [] (λ i j below within. absurd (omega (arith, within)));

@@ -6,7 +6,7 @@ use Rattle.bz_breakpad_lines.specs.Grammar.{records_of}
 use Rattle.bz_breakpad_lines.specs.Reads.{◌>>=◌}
 use Rattle.bz_breakpad_lines.specs.Reader.{Reading, lines_read, next_read, nothing_read, with_record}
 use Rattle.bz_breakpad_lines.specs.Says.{module_of}
-use Rattle.bz_breakpad_lines.specs.Walk.{Context, Record, context_after, free_after, record_at, text_at}
+use Rattle.bz_breakpad_lines.specs.Walk.{Context, Record, context_after, free_after, record_at, after_white}
 use Rattle.bz_breakpad_lines.specs.Walk.Context.{Outside}
 use Rattle.bz_breakpad_lines.proofs.FoldLaws.{Follow, fold_found, fold_again}
 use Rattle.bz_breakpad_lines.proofs.RoleLaws.{roles_exactly}
@@ -59,13 +59,13 @@ module _ (lines : List (List ℕ))
   -- a line is read where it has its place, and then the lines
   line_passes : (line : List ℕ) → is_some (lines_read c free reading (line ∷ lines)) ≡ passes (told c free reading) (line ∷ lines)
   unfolding after_line
-  line_passes line = by (free && is_nothing (text_at free line))
+  line_passes line = by (free && is_nothing (after_white free line))
     where
       by : (blank : Bool) →
-          is_some (cond {A = Option Reading} blank (lines_read c free reading lines) (record_at c (text_at free line) >>= (λ r. next_read reading r >>= (λ next. lines_read (context_after r) (free_after r) next lines))))
-          ≡ is_some (cond {A = Option Before} blank (Some (told c free reading)) (record_at c (text_at free line) >>= after_record (told c free reading)) >>= (λ after. after_lines after lines))
+          is_some (cond {A = Option Reading} blank (lines_read c free reading lines) (record_at c (after_white free line) >>= (λ r. next_read reading r >>= (λ next. lines_read (context_after r) (free_after r) next lines))))
+          ≡ is_some (cond {A = Option Before} blank (Some (told c free reading)) (record_at c (after_white free line) >>= after_record (told c free reading)) >>= (λ after. after_lines after lines))
       by true = same c free reading
-      by false = found_passes (record_at c (text_at free line))
+      by false = found_passes (record_at c (after_white free line))
 
 -- lines are read exactly where each has its place
 lines_pass : (lines : List (List ℕ)) (c : Context) (free : Bool) (reading : Reading) → is_some (lines_read c free reading lines) ≡ passes (told c free reading) lines

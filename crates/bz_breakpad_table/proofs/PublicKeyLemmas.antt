@@ -9,7 +9,7 @@ use Rattle.std.proofs.lemmas.List.{append-nil, drop_all, length-map}
 use Rattle.bz_base.specs.Nearest.{IsTable}
 use Rattle.bz_base.specs.Starts.{NeverDescends}
 use Rattle.bz_base.proofs.TableLemmas.{in_table}
-use Rattle.bz_breakpad_lines.specs.LineStarts.{Ascends}
+use Rattle.bz_breakpad_lines.specs.LineStarts.{StrictlyAscends}
 use Rattle.bz_breakpad_table.specs.Publics.{AreAddresses, ArePublicKeys, IsFirst, IsPublicTable, public_keys_from, starts_kept}
 use Rattle.bz_breakpad_table.specs.declared.publics.PublicKey.{PublicKey}
 use Rattle.bz_breakpad_table.specs.declared.publics.PublicTable.{PublicTable}
@@ -192,7 +192,7 @@ some_of : {A B : Type 0} (f : A → B) (o : Option A) (y : B) → option_map f o
 some_of f None y is = absurd (none-some y is)
 some_of f (Some x) y is = (x, refl, same_Some (f x) y is)
 
-strict_ascends : (keys : List PublicKey) → AreStrict keys → Ascends (map (λ k. k.start) keys)
+strict_ascends : (keys : List PublicKey) → AreStrict keys → StrictlyAscends (map (λ k. k.start) keys)
 strict_ascends [] strict i j less within = absurd (omega arith)
 strict_ascends (k ∷ keys) strict i zero less within = absurd (omega arith)
 strict_ascends (k ∷ keys) strict zero (suc j) less within = later keys strict.0 j (omega arith) where
@@ -202,7 +202,7 @@ strict_ascends (k ∷ keys) strict zero (suc j) less within = later keys strict.
   later (l ∷ ls) all (suc j) within = later ls all.1 j (omega arith)
 strict_ascends (k ∷ keys) strict (suc i) (suc j) less within = strict_ascends keys strict.1 i j (omega arith) (omega arith)
 
-pub ascends_never : (starts : List ℕ) → Ascends starts → NeverDescends starts
+pub ascends_never : (starts : List ℕ) → StrictlyAscends starts → NeverDescends starts
 ascends_never starts up i j less within = by (nat_eq i j) refl where
   by : (b : Bool) → nat_eq i j ≡ b → slice_index starts i ≤ slice_index starts j
   by true is = let e = ap (slice_index starts) (eqb-true i j is) in omega arith

@@ -10,21 +10,21 @@ use Rattle.bz_breakpad_lines.specs.Quick.{IsQuick}
 use Rattle.bz_breakpad_lines.specs.Reader.{Reading, lines_read, with_record}
 use Rattle.bz_breakpad_lines.specs.Says.{module_of}
 use Rattle.bz_breakpad_lines.specs.Told.{context_told}
-use Rattle.bz_breakpad_lines.specs.Walk.{Context, Record, context_after, free_after, record_at, text_at}
+use Rattle.bz_breakpad_lines.specs.Walk.{Context, Record, context_after, free_after, record_at, after_white}
 use Rattle.bz_breakpad_table.specs.Walked.{IsMidway, IsStep}
 use Rattle.bz_breakpad_table.specs.declared.walk.Walk.{Walk}
 use Rattle.bz_breakpad_table.proofs.MidwayLemmas.{line_stands, midway_on}
 use Rattle.bz_breakpad_table.proofs.StepLemmas.{record_read, step_read}
 
 -- a line without white space in front is its own text
-its_text : (free : Bool) (line : List ℕ) → begins_with is_white line ≡ false → text_at free line ≡ line
-unfolding text_at
+its_text : (free : Bool) (line : List ℕ) → begins_with is_white line ≡ false → after_white free line ≡ line
+unfolding after_white
 its_text false line solid = refl
 its_text true [] solid = refl
 its_text true (b ∷ line) solid = rw solid refl
 
 -- of a line with something in it and no white space before it there is something left after white space
-some_text : (free : Bool) (line : List ℕ) → begins_with is_white line ≡ false → is_nothing line ≡ false → (free && is_nothing (text_at free line)) ≡ false
+some_text : (free : Bool) (line : List ℕ) → begins_with is_white line ≡ false → is_nothing line ≡ false → (free && is_nothing (after_white free line)) ≡ false
 some_text false line solid some = refl
 some_text true line solid some = ap is_nothing (its_text true line solid) ∙ some
 

@@ -14,7 +14,7 @@ use Rattle.bz_base.proofs.NearestLemmas.{candidate_is, none_below, none_from_abo
 use Rattle.bz_breakpad_lines.specs.Choice.{body_at}
 use Rattle.bz_breakpad_lines.specs.Line.{line_front, line_in, source_line}
 use Rattle.bz_breakpad_table.specs.LineRun.{AreLineRecords, IsCut, IsLineRun, lines_in, starts_in}
-use Rattle.bz_breakpad_lines.specs.LineStarts.{Ascends, line_read, line_start}
+use Rattle.bz_breakpad_lines.specs.LineStarts.{StrictlyAscends, line_read, line_start}
 use Rattle.bz_breakpad_lines.specs.Reads.{◌>>=◌, form_at}
 use Rattle.bz_breakpad_lines.specs.Records.{LINE}
 use Rattle.bz_breakpad_lines.specs.Table.{SourceLine}
@@ -131,13 +131,13 @@ module _ (text : List ℕ) (some : 0 < length text) (read : AreLineRecords text)
 -- Which part of a run answers.
 
 -- the later ones of starts that ascend do so too
-ascend_back : (starts others : List ℕ) → Ascends (starts ++ others) → Ascends others
+ascend_back : (starts others : List ℕ) → StrictlyAscends (starts ++ others) → StrictlyAscends others
 ascend_back [] others ascend = ascend
 ascend_back (s ∷ starts) others ascend =
     ascend_back starts others (λ i j below within. ascend (suc i) (suc j) (omega (arith, below)) (omega (arith, within)))
 
 -- and the earlier ones
-ascend_front : (starts others : List ℕ) → Ascends (starts ++ others) → Ascends starts
+ascend_front : (starts others : List ℕ) → StrictlyAscends (starts ++ others) → StrictlyAscends starts
 ascend_front starts others ascend i j below within =
     omega (arith, ascend i j below (omega (arith, within, length-append starts others)), get_or-append starts others 0 i (omega (arith, below, within)), get_or-append starts others 0 j within)
 
@@ -163,7 +163,7 @@ module _ {X : Type 0} (start size : X → ℕ) (addr : ℕ) where
       ) refl
 
   -- of ascending records those before one that doesn't start above the address are not tried
-  candidate_back : (xs : List X) (y : X) (ys : List X) (z : X) → Ascends (map start (xs ++ y ∷ ys)) → candidate start size addr (y ∷ ys) ≡ Some z →
+  candidate_back : (xs : List X) (y : X) (ys : List X) (z : X) → StrictlyAscends (map start (xs ++ y ∷ ys)) → candidate start size addr (y ∷ ys) ≡ Some z →
       start y ≤ start z → start z ≤ addr → candidate start size addr (xs ++ y ∷ ys) ≡ Some z
   candidate_back [] y ys z ascend is up not_above = is
   candidate_back (x ∷ xs) y ys z ascend is up not_above =
@@ -182,22 +182,22 @@ module _ {X : Type 0} (start size : X → ℕ) (addr : ℕ) where
         (z, is, found.1.closest 0 y refl not_above, found.1.not_above)
 
   -- none of them is where the first one starts above the address
-  none_tried : (y : X) (ys : List X) → Ascends (map start (y ∷ ys)) → addr < start y → candidate start size addr (y ∷ ys) ≡ None
+  none_tried : (y : X) (ys : List X) → StrictlyAscends (map start (y ∷ ys)) → addr < start y → candidate start size addr (y ∷ ys) ≡ None
   none_tried y ys ascend above =
       none_from_above start size addr (y ∷ ys) (λ i w there. omega (arith, above, (ascending_table start size (y ∷ ys) ascend).starts_ascend 0 i y w (omega arith) refl there))
 
   -- so of the two parts of ascending records the later one decides, if its first record doesn't start above the address
-  pub later_decides : (xs : List X) (y : X) (ys : List X) → Ascends (map start (xs ++ y ∷ ys)) → start y ≤ addr →
+  pub later_decides : (xs : List X) (y : X) (ys : List X) → StrictlyAscends (map start (xs ++ y ∷ ys)) → start y ≤ addr →
       candidate start size addr (xs ++ y ∷ ys) ≡ candidate start size addr (y ∷ ys)
   later_decides xs y ys ascend not_above =
       let z = tried y ys not_above in
       candidate_back xs y ys z.0 ascend z.1 z.2 z.3 ∙ sym z.1
 
   -- and else the earlier one
-  pub earlier_decides : (xs : List X) (y : X) (ys : List X) → Ascends (map start (xs ++ y ∷ ys)) → addr < start y →
+  pub earlier_decides : (xs : List X) (y : X) (ys : List X) → StrictlyAscends (map start (xs ++ y ∷ ys)) → addr < start y →
       candidate start size addr (xs ++ y ∷ ys) ≡ candidate start size addr xs
   earlier_decides xs y ys ascend above =
-      candidate_front xs (y ∷ ys) (none_tried y ys (ascend_back (map start xs) (map start (y ∷ ys)) (subst Ascends (map-append start xs (y ∷ ys)) ascend)) above)
+      candidate_front xs (y ∷ ys) (none_tried y ys (ascend_back (map start xs) (map start (y ∷ ys)) (subst StrictlyAscends (map-append start xs (y ∷ ys)) ascend)) above)
 
   -- a record alone answers, if it covers the address
   pub alone : (x : X) → nearest_covering start size addr (x ∷ []) ≡ if_covers start size addr x
@@ -228,9 +228,9 @@ module _ (text : List ℕ) (cut : ℕ) (is : IsCut text cut) (run : IsLineRun te
   records_are : lines_in text ≡ lines_in front ++ lines_in back
   records_are = ap (filter_map line_in) (lines_cut text cut is) ∙ filter_map-append line_in (all_lines front) (all_lines back)
 
-  starts_parts : Ascends (starts_in front ++ starts_in back)
+  starts_parts : StrictlyAscends (starts_in front ++ starts_in back)
   starts_parts =
-      subst Ascends (ap (map (λ (l : SourceLine). l.start)) records_are ∙ map-append (λ (l : SourceLine). l.start) (lines_in front) (lines_in back)) run.ascend
+      subst StrictlyAscends (ap (map (λ (l : SourceLine). l.start)) records_are ∙ map-append (λ (l : SourceLine). l.start) (lines_in front) (lines_in back)) run.ascend
 
   read_parts : AreLineRecords front × AreLineRecords back
   read_parts =
@@ -257,8 +257,8 @@ module _ (text : List ℕ) (cut : ℕ) (is : IsCut text cut) (run : IsLineRun te
   in_parts : lines_in text ≡ lines_in front ++ line_read back 0 ∷ later
   in_parts = records_are ∙ ap (λ ls. lines_in front ++ ls) (first_is back some_back read_parts.1)
 
-  ascend_first : Ascends (map (λ (l : SourceLine). l.start) (lines_in front ++ line_read back 0 ∷ later))
-  ascend_first = subst Ascends (ap (map (λ (l : SourceLine). l.start)) in_parts) run.ascend
+  ascend_first : StrictlyAscends (map (λ (l : SourceLine). l.start) (lines_in front ++ line_read back 0 ∷ later))
+  ascend_first = subst StrictlyAscends (ap (map (λ (l : SourceLine). l.start)) in_parts) run.ascend
 
   -- the later one decides, if its first record doesn't start above the address
   pub back_decides : (addr : ℕ) → line_start text cut ≤ addr → candidate_in addr back ≡ candidate_in addr text

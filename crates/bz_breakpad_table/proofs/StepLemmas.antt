@@ -12,7 +12,7 @@ use Rattle.bz_breakpad_table.specs.Kept.{IsRecordAt}
 use Rattle.bz_breakpad_lines.specs.Line.{line_front}
 use Rattle.bz_breakpad_lines.specs.Reader.{Reading, lines_read, with_record}
 use Rattle.bz_breakpad_lines.specs.Says.{module_of}
-use Rattle.bz_breakpad_lines.specs.Walk.{Context, Record, body_record, context_after, free_after, record_at, text_at}
+use Rattle.bz_breakpad_lines.specs.Walk.{Context, Record, body_record, context_after, free_after, record_at, after_white}
 use Rattle.bz_breakpad_table.specs.Walked.{IsLineAt}
 
 -- the rest of a line is the line of the rest
@@ -31,8 +31,8 @@ abbrev skipped : Bool → List ℕ → ℕ
 skipped true line = prefix_len is_white line
 skipped false line = 0
 
-text_after : (free : Bool) (line : List ℕ) → text_at free line ≡ drop (skipped free line) line
-unfolding text_at
+text_after : (free : Bool) (line : List ℕ) → after_white free line ≡ drop (skipped free line) line
+unfolding after_white
 text_after true line = refl
 text_after false line = refl
 
@@ -41,7 +41,7 @@ skipped_within true line = prefix_len-le-length is_white line
 skipped_within false line = omega arith
 
 -- a body of a line's text stands after the white space that was skipped
-pub text_stands : (bytes : List ℕ) (start : ℕ) (free : Bool) (line text body : List ℕ) → IsLineAt bytes start line → text ≡ text_at free line →
+pub text_stands : (bytes : List ℕ) (start : ℕ) (free : Bool) (line text body : List ℕ) → IsLineAt bytes start line → text ≡ after_white free line →
     body_at text ≡ Some body → IsRecordAt bytes (start + (length line - length text)) body
 text_stands bytes start free line text body at is body_is =
     let k = skipped free line in
@@ -65,12 +65,12 @@ record_read c text body r body_is read = rw (body_is) read
 
 -- a record that isn't a later MODULE record is read, and then the lines after it
 pub step_read : (c : Context) (free : Bool) (reading : Reading) (line : List ℕ) (r : Record) (lines : List (List ℕ)) →
-    (free && is_nothing (text_at free line)) ≡ false → record_at c (text_at free line) ≡ Some r → (is_some (module_of r) && nat_lt 0 reading.count) ≡ false →
+    (free && is_nothing (after_white free line)) ≡ false → record_at c (after_white free line) ≡ Some r → (is_some (module_of r) && nat_lt 0 reading.count) ≡ false →
     lines_read c free reading (line ∷ lines) ≡ lines_read (context_after r) (free_after r) (with_record reading r) lines
 step_read c free reading line r lines some read first = rw (some, read, first) refl
 
 -- a later MODULE record isn't
 pub step_late : (c : Context) (free : Bool) (reading : Reading) (line : List ℕ) (r : Record) (lines : List (List ℕ)) →
-    (free && is_nothing (text_at free line)) ≡ false → record_at c (text_at free line) ≡ Some r → (is_some (module_of r) && nat_lt 0 reading.count) ≡ true →
+    (free && is_nothing (after_white free line)) ≡ false → record_at c (after_white free line) ≡ Some r → (is_some (module_of r) && nat_lt 0 reading.count) ≡ true →
     lines_read c free reading (line ∷ lines) ≡ None
 step_late c free reading line r lines some read late = rw (some, read, late) refl

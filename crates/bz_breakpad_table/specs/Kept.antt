@@ -176,7 +176,7 @@ pub record AreListed (bytes : List ℕ) (keys more_keys : List LineKey) (old : L
   pub are : kept_lines bytes (places_of more_keys) ≡ records_so_far bytes keys old
 
 -- the line records of a function that ends are in order
-pub record AreEnded (bytes places : List ℕ) (keys : List LineKey) (old : LinesSoFar) (lines : LineRecords) : Type 0 where
+pub record AreEndedInOrder (bytes places : List ℕ) (keys : List LineKey) (old : LinesSoFar) (lines : LineRecords) : Type 0 where
   pub fit : LinesFit bytes places lines
   pub table : IsTable (λ l. l.start) (λ l. l.size) (records_so_far bytes keys old) (records_of bytes places lines)
 

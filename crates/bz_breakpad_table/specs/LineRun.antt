@@ -4,7 +4,7 @@ use Rattle.std.specs.List.{AllByRecursion, filter_map}
 use Rattle.bz_base.specs.Byte.{line_feed}
 use Rattle.bz_base.specs.Line.{all_lines}
 use Rattle.bz_breakpad_lines.specs.Line.{line_in}
-use Rattle.bz_breakpad_lines.specs.LineStarts.{AscendTo, Ascends}
+use Rattle.bz_breakpad_lines.specs.LineStarts.{AscendTo, StrictlyAscends}
 use Rattle.bz_breakpad_lines.specs.Table.{SourceLine}
 use Rattle.bz_breakpad_lines.specs.declared.start_text.StartText.{StartText}
 
@@ -23,7 +23,7 @@ AreLineRecords text = AllByRecursion (λ line. IsSome (line_in line)) (all_lines
 -- and each starts after the one before it
 pub record IsLineRun (text : List ℕ) : Type 0 where
   pub read : AreLineRecords text
-  pub ascend : Ascends (starts_in text)
+  pub ascend : StrictlyAscends (starts_in text)
 
 -- a run that may go on: its last line has its end, and of the last start the text is known
 pub record IsOpenRun (text : List ℕ) (last : StartText) : Type 0 where

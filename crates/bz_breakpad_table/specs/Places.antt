@@ -5,7 +5,7 @@ use Rattle.bz_breakpad_lines.specs.Byte.{is_nothing}
 use Rattle.bz_breakpad_lines.specs.Grammar.{Role, AreRoles, IsNoModule, records_of}
 use Rattle.bz_breakpad_lines.specs.Reads.{◌>>=◌}
 use Rattle.bz_breakpad_lines.specs.Says.{module_of}
-use Rattle.bz_breakpad_lines.specs.Walk.{Context, Record, context_after, free_after, record_at, text_at}
+use Rattle.bz_breakpad_lines.specs.Walk.{Context, Record, context_after, free_after, record_at, after_white}
 use Rattle.bz_breakpad_lines.specs.Walk.Context.{Outside}
 
 -- the lines have their places: each has a role after those before it, and a MODULE record is the first record or there is none
@@ -35,9 +35,9 @@ after_record before r =
 -- what is told after a line more, if it has its place
 unfoldable pub after_line : Before → List ℕ → Option Before
 after_line before line =
-    if before.free && is_nothing (text_at before.free line)
+    if before.free && is_nothing (after_white before.free line)
     then Some before
-    else record_at before.context (text_at before.free line) >>= after_record before
+    else record_at before.context (after_white before.free line) >>= after_record before
 
 -- the number of a line, if it has no place, and else what comes of those after it
 abbrev pub or_refused : ℕ → Option Before → (Before → Option ℕ) → Option ℕ

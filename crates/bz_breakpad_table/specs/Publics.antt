@@ -1,13 +1,13 @@
 -- The addresses of PUBLIC records, in their order, and the first record of each.
 use Rattle.std.specs.Prelude.{◌≡◌, ◌≤◌, ℕ, suc, List, [], ◌∷◌, length, map, Some, slice_get}
-use Rattle.bz_breakpad_lines.specs.LineStarts.{Ascends}
+use Rattle.bz_breakpad_lines.specs.LineStarts.{StrictlyAscends}
 use Rattle.bz_breakpad_table.specs.declared.publics.PublicKey.{PublicKey}
 use Rattle.bz_breakpad_table.specs.declared.publics.PublicTable.{PublicTable}
 use Rattle.bz_breakpad_table.specs.declared.types.KeptPublic.{KeptPublic}
 
 -- the addresses are those of the records, each once, in order
 pub record AreAddresses (starts addresses : List ℕ) : Type 0 where
-  pub ascend : Ascends addresses
+  pub ascend : StrictlyAscends addresses
   pub each : (i s : ℕ) → slice_get starts i ≡ Some s → (k : ℕ) × (slice_get addresses k ≡ Some s)
   pub only : (k s : ℕ) → slice_get addresses k ≡ Some s → (i : ℕ) × (slice_get starts i ≡ Some s)
 

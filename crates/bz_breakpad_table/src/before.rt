@@ -6,7 +6,9 @@ ghost use Rattle.bz_breakpad_lines.specs.declared.record.Range.{Range};
 ghost use Rattle.bz_breakpad_table.specs.Places.{after_line, after_record, at_front};
 ghost use Rattle.bz_breakpad_table.specs.Told.{before_told};
 
-use bz_breakpad_lines::{Context, Range, RecordLine, after_white, body, is_blank, read_record};
+use bz_breakpad_lines::{
+    Context, Range, RecordLine, after_white, body, is_blank_line, read_record,
+};
 use std::alloc::AllocError;
 
 /// What lines tell of the next one.
@@ -43,7 +45,7 @@ impl Before {
         ensures { IfOk result (λ after. option_map before_told after ≡ after_line (before_told self) line.now) }
     {
         let text = after_white(self.free, line);
-        if is_blank(self.free, text) {
+        if is_blank_line(self.free, text) {
             return Ok(Some(self));
         }
         let Some(body) = body(text) else {

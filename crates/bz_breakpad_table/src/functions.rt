@@ -11,7 +11,7 @@ ghost use Rattle.bz_breakpad_lines.specs.Table.{Function, SourceLine};
 ghost use Rattle.bz_breakpad_lines.specs.Told.{call_told, function_told, inlinees_told};
 ghost use Rattle.bz_breakpad_lines.specs.declared.start_text.StartText.{StartText};
 ghost use Rattle.bz_breakpad_table.specs.CallRanges.{range_kept};
-ghost use Rattle.bz_breakpad_table.specs.Kept.{AreEnded, AreListed, AreListedTo, FunctionsSoFar, IsLonger, IsNameAt, IsOpenRunAt, LinesFitSoFar};
+ghost use Rattle.bz_breakpad_table.specs.Kept.{AreEndedInOrder, AreListed, AreListedTo, FunctionsSoFar, IsLonger, IsNameAt, IsOpenRunAt, LinesFitSoFar};
 ghost use Rattle.bz_breakpad_table.specs.LineKeys.{places_of};
 ghost use Rattle.bz_breakpad_table.specs.declared.standing.LinesSoFar.{LinesSoFar};
 
@@ -155,7 +155,7 @@ fn ended_lines(
     ensures more { OnOk result ((more : List ℕ) × (places.new.items ≡ places.old.items ++ more)) }
     ensures fit { OnOk result ((bytes : List ℕ) → LinesFitSoFar bytes keys.old.items lines → LinesFitSoFar bytes keys.new.items lines) }
     ensures ended { IfOk result (λ records. (bytes : List ℕ) → LinesFitSoFar bytes keys.old.items lines →
-        AreEnded bytes places.new.items keys.old.items lines records) }
+        AreEndedInOrder bytes places.new.items keys.old.items lines records) }
 {
     match lines {
         LinesSoFar::Empty => Ok(LineRecords::Run(Part { from: 0, to: 0 })),

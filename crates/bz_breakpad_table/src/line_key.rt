@@ -5,7 +5,7 @@ ghost use Rattle.bz_breakpad_table.specs.LineKeys.{line_key};
 
 use crate::types::LineKey;
 use bz_base::Spanned;
-use bz_breakpad_lines::line_at;
+use bz_breakpad_lines::line_record_at;
 
 impl Spanned for LineKey {
     ghost start = { λ k. k.start };
@@ -25,7 +25,7 @@ impl Spanned for LineKey {
 pub fn line_key(bytes: &[u8], place: usize) -> LineKey
     ensures { result ≡ line_key bytes.now place }
 {
-    let (start, size) = match line_at(bytes, place) {
+    let (start, size) = match line_record_at(bytes, place) {
         Some(line) => (line.addr, line.size),
         None => (0, 0),
     };

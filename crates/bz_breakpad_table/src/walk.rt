@@ -17,7 +17,7 @@ use crate::types::Part;
 use bz_base::{Error, Result, next_line};
 use bz_breakpad_lines::{
     Context, Range, RecordLine, Shown, Stops, after_white, body, cfi_line, func_line, inline_line,
-    is_blank, next_on_run, quick_line, read_record,
+    is_blank_line, next_on_run, quick_line, read_record,
 };
 use std::alloc::Global;
 
@@ -228,7 +228,7 @@ impl Walk {
         ensures few { OnOk result (self.new.count ≤ self.old.count + 1) }
     {
         let text = after_white(self.free, line);
-        if is_blank(self.free, text) {
+        if is_blank_line(self.free, text) {
             return Ok(());
         }
         let Some(body) = body(text) else {

@@ -4,7 +4,7 @@ use Rattle.bz_breakpad_lines.specs.Choice.{body_at}
 use Rattle.bz_breakpad_lines.specs.Reader.{with_record}
 use Rattle.bz_breakpad_lines.specs.Says.{module_of}
 use Rattle.bz_breakpad_lines.specs.Told.{context_told, record_told}
-use Rattle.bz_breakpad_lines.specs.Walk.{body_record, record_at, text_at}
+use Rattle.bz_breakpad_lines.specs.Walk.{body_record, record_at, after_white}
 use Rattle.bz_breakpad_table.proofs.StepLemmas.{text_stands, record_read, step_read}
 use Rattle.bz_breakpad_table.proofs.walk.Walk.line.Goals as goal
 
@@ -18,12 +18,12 @@ returns-clause-ok c reading at walked =
     let ranges = c.read_record.new.ranges.items in
     let r = record_told c.in-Some-2.found ranges in
     let context = context_told old.context in
-    let text_is : text ≡ text_at old.free line = c.after_white-text.ensures.text in
+    let text_is : text ≡ after_white old.free line = c.after_white-text.ensures.text in
     let body_is : body_at text ≡ Some body = sym c.in-Some.ensures in
     let read : body_record context body ≡ Some r = sym (rw c.in-Some-2.is at c.in_ok-found.ensures) in
     let stands = text_stands bytes c.args.start old.free line text body at text_is body_is in
     let record_is = ap (record_at context) (sym text_is) ∙ record_read context text body r body_is read in
-    let some = ap (λ t. old.free && is_nothing t) (sym text_is) ∙ sym c.if-is_blank.ensures in
+    let some = ap (λ t. old.free && is_nothing t) (sym text_is) ∙ sym c.if-is_blank_line.ensures in
     let first = ap (λ n. is_some (module_of r) && nat_lt 0 n) (sym walked.count_is) ∙ sym (c.if-is_late_module.ensures ranges) in
     let kept = rw c.as_slice.ensures.value at (c.in_ok-record.ensures body context reading stands refl) in
     record {
