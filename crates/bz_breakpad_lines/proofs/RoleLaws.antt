@@ -1,10 +1,10 @@
 -- The lines have roles exactly where they are walked: the records are those among the roles.
 use Rattle.std.proofs.Common.{◌≡◌, ◌↔◌, ℕ, Bool, inl, inr, List, [], ◌∷◌, refl, sym, ap, subst, ◌∙◌}
-use Rattle.bz_breakpad_lines.specs.Grammar.{Role, is_free, under_owner, AreRoles, records_of}
+use Rattle.bz_breakpad_lines.specs.Grammar.{Role, allows_white, under_owner, AreRoles, records_of}
 use Rattle.bz_breakpad_lines.specs.Grammar.Role.{Blank, Is}
 use Rattle.bz_breakpad_lines.specs.Choice.{One}
 use Rattle.bz_breakpad_lines.specs.Records.{INNER}
-use Rattle.bz_breakpad_lines.specs.Walk.{Context, Record, context_after, free_after, IsBodyOf, IsRecord, Walks}
+use Rattle.bz_breakpad_lines.specs.Walk.{Context, Record, context_after, white_allowed_after, IsBodyOf, IsRecord, Walks}
 use Rattle.bz_breakpad_lines.specs.Walk.Context.{Outside, InFunc, InCfi}
 use Rattle.bz_breakpad_lines.specs.Walk.Record.{Top, OfFunc, OfCfi}
 
@@ -28,10 +28,10 @@ context_kept before text (OfFunc one) is = func_context (under_owner before) is.
 context_kept before text OfCfi is = cfi_context (under_owner before) is.0 is.2
 
 -- white space may stand after the record by its role, where it may by the record
-free_kept : (before : List Role) (r : Record) → free_after r ≡ is_free (Is r ∷ before)
-free_kept before (Top one) = refl
-free_kept before (OfFunc one) = refl
-free_kept before OfCfi = refl
+white_kept : (before : List Role) (r : Record) → white_allowed_after r ≡ allows_white (Is r ∷ before)
+white_kept before (Top one) = refl
+white_kept before (OfFunc one) = refl
+white_kept before OfCfi = refl
 
 -- the roles of lines whose records are these
 record HaveRoles (before : List Role) (lines : List (List ℕ)) (records : List Record) : Type 0 where
@@ -41,16 +41,16 @@ record HaveRoles (before : List Role) (lines : List (List ℕ)) (records : List 
 
 -- lines that are walked have roles
 roles_found : (before : List Role) (lines : List (List ℕ)) (records : List Record) →
-    Walks (under_owner before) (is_free before) lines records → HaveRoles before lines records
+    Walks (under_owner before) (allows_white before) lines records → HaveRoles before lines records
 roles_found before [] records is = record { roles = []; are = tt; records_are = is }
 roles_found before (line ∷ lines) records (inl is) =
-    let P : Bool → Type 0 = λ free. Walks (under_owner before) free lines records in
+    let P : Bool → Type 0 = λ white_allowed. Walks (under_owner before) white_allowed lines records in
     let rest = roles_found (Blank ∷ before) lines records (subst P is.0 is.2) in
     record { roles = Blank ∷ rest.roles; are = ((is.0, is.1), rest.are); records_are = rest.records_are }
 roles_found before (line ∷ lines) records (inr is) =
-    let P : Context → Type 0 = λ c. Walks c (free_after is.first) lines is.others in
-    let Q : Bool → Type 0 = λ free. Walks (under_owner (Is is.first ∷ before)) free lines is.others in
-    let walks = subst Q (free_kept before is.first) (subst P (context_kept before is.text is.first is.first_is) is.rest) in
+    let P : Context → Type 0 = λ c. Walks c (white_allowed_after is.first) lines is.others in
+    let Q : Bool → Type 0 = λ white_allowed. Walks (under_owner (Is is.first ∷ before)) white_allowed lines is.others in
+    let walks = subst Q (white_kept before is.first) (subst P (context_kept before is.text is.first is.first_is) is.rest) in
     let rest = roles_found (Is is.first ∷ before) lines is.others walks in
     record {
       roles = Is is.first ∷ rest.roles;
@@ -60,17 +60,17 @@ roles_found before (line ∷ lines) records (inr is) =
 
 -- lines that have roles are walked
 roles_again : (before : List Role) (lines : List (List ℕ)) (roles : List Role) → AreRoles before lines roles →
-    Walks (under_owner before) (is_free before) lines (records_of roles)
+    Walks (under_owner before) (allows_white before) lines (records_of roles)
 roles_again before [] [] are = refl
 roles_again before [] (role ∷ roles) are = absurd are
 roles_again before (line ∷ lines) [] are = absurd are
 roles_again before (line ∷ lines) (Blank ∷ roles) are =
-    let P : Bool → Type 0 = λ free. Walks (under_owner before) free lines (records_of roles) in
+    let P : Bool → Type 0 = λ white_allowed. Walks (under_owner before) white_allowed lines (records_of roles) in
     inl (are.0.0, are.0.1, subst P (sym are.0.0) (roles_again (Blank ∷ before) lines roles are.1))
 roles_again before (line ∷ lines) (Is r ∷ roles) are =
-    let P : Context → Type 0 = λ c. Walks c (free_after r) lines (records_of roles) in
-    let Q : Bool → Type 0 = λ free. Walks (under_owner (Is r ∷ before)) free lines (records_of roles) in
-    let walks = subst Q (sym (free_kept before r)) (roles_again (Is r ∷ before) lines roles are.1) in
+    let P : Context → Type 0 = λ c. Walks c (white_allowed_after r) lines (records_of roles) in
+    let Q : Bool → Type 0 = λ white_allowed. Walks (under_owner (Is r ∷ before)) white_allowed lines (records_of roles) in
+    let walks = subst Q (sym (white_kept before r)) (roles_again (Is r ∷ before) lines roles are.1) in
     inr (record {
       text = are.0.text;
       first = r;
@@ -83,11 +83,11 @@ roles_again before (line ∷ lines) (Is r ∷ roles) are =
 
 -- lines are walked exactly where they have roles
 pub roles_exactly : (before : List Role) (lines : List (List ℕ)) (records : List Record) →
-    Walks (under_owner before) (is_free before) lines records
+    Walks (under_owner before) (allows_white before) lines records
     ↔ ((roles : List Role) × AreRoles before lines roles × (records ≡ records_of roles))
 roles_exactly before lines records = (
   λ is. let have = roles_found before lines records is in (have.roles, have.are, have.records_are),
   λ have.
-      let P : List Record → Type 0 = Walks (under_owner before) (is_free before) lines in
+      let P : List Record → Type 0 = Walks (under_owner before) (allows_white before) lines in
       subst P (sym have.2) (roles_again before lines have.0 have.1),
 )

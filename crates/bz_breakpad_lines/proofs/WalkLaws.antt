@@ -12,7 +12,7 @@ use Rattle.bz_breakpad_lines.specs.Form.{AllPass}
 use Rattle.bz_breakpad_lines.specs.Reads.{◌>>=◌, form_at, piece_at, run_at}
 use Rattle.bz_breakpad_lines.specs.Choice.{One, one_at, body_at}
 use Rattle.bz_breakpad_lines.specs.Records.{TOP, INNER, STACK_CFI}
-use Rattle.bz_breakpad_lines.specs.Walk.{Context, Record, context_after, free_after, IsInner, IsBodyOf, IsRecord, body_record, inner_at, IsText, Walks, or_record, record_at, after_white, walk, IsWalkedExactly}
+use Rattle.bz_breakpad_lines.specs.Walk.{Context, Record, context_after, white_allowed_after, IsInner, IsBodyOf, IsRecord, body_record, inner_at, IsText, Walks, or_record, record_at, after_white, walk, IsWalkedExactly}
 use Rattle.bz_breakpad_lines.specs.Walk.Context.{Outside, InFunc, InCfi}
 use Rattle.bz_breakpad_lines.specs.Walk.Record.{Top, OfFunc, OfCfi}
 use Rattle.bz_breakpad_lines.proofs.ChoiceLaws.{one_found, one_again, body_found, body_again}
@@ -28,7 +28,7 @@ run_stops byte (b ∷ text) =
     cond_both (byte b) (1 + prefix_len byte text) 0 (λ n. begins_with byte (drop n (b ∷ text)) ≡ false)
     (λ yes. rw more (run_stops byte text)) (λ none. none)
 
-text_found : (free : Bool) (line : List ℕ) → IsText free line (after_white free line)
+text_found : (white_allowed : Bool) (line : List ℕ) → IsText white_allowed line (after_white white_allowed line)
 unfolding after_white
 text_found true line = record {
   front = take (prefix_len is_white line) line;
@@ -37,9 +37,9 @@ text_found true line = record {
   bound = λ no_space. absurd (true≢false no_space);
   longest = λ _. run_stops is_white line;
 }
-text_found false line = record { front = []; whole = refl; white = tt; bound = λ _. refl; longest = λ free. absurd (false≢true free) }
+text_found false line = record { front = []; whole = refl; white = tt; bound = λ _. refl; longest = λ is. absurd (false≢true is) }
 
-text_again : (free : Bool) (line text : List ℕ) → IsText free line text → after_white free line ≡ text
+text_again : (white_allowed : Bool) (line text : List ℕ) → IsText white_allowed line text → after_white white_allowed line ≡ text
 unfolding after_white
 text_again true line text is =
     rw (is.whole, run_len is_white is.front text is.white (is.longest refl), drop-append_seam is.front text) refl
@@ -126,30 +126,30 @@ line_white line white =
     text_again true line [] (record { front = line; whole = sym (append-nil line); white = white; bound = λ e. absurd (true≢false e); longest = λ _. refl })
 
 abbrev next : (Context → Bool → List (List ℕ) → Option (List Record)) → List (List ℕ) → Record → Option (List Record)
-next go lines r = option_map (λ rest. r ∷ rest) (go (context_after r) (free_after r) lines)
+next go lines r = option_map (λ rest. r ∷ rest) (go (context_after r) (white_allowed_after r) lines)
 
-walk_found : (c : Context) (free : Bool) (lines : List (List ℕ)) (records : List Record) → walk c free lines ≡ Some records → Walks c free lines records
-walk_found c free [] records is = sym (same_Some [] records is)
-walk_found c free (line ∷ lines) records is =
-    line_found (free && is_nothing (after_white free line)) refl is (walk_found c free lines records) (λ d f rest. walk_found d f lines rest) where
-      line_found : (test : Bool) → (free && is_nothing (after_white free line)) ≡ test →
-          cond test (walk c free lines) (record_at c (after_white free line) >>= next walk lines) ≡ Some records →
-          (walk c free lines ≡ Some records → Walks c free lines records) →
+walk_found : (c : Context) (white_allowed : Bool) (lines : List (List ℕ)) (records : List Record) → walk c white_allowed lines ≡ Some records → Walks c white_allowed lines records
+walk_found c white_allowed [] records is = sym (same_Some [] records is)
+walk_found c white_allowed (line ∷ lines) records is =
+    line_found (white_allowed && is_nothing (after_white white_allowed line)) refl is (walk_found c white_allowed lines records) (λ d f rest. walk_found d f lines rest) where
+      line_found : (test : Bool) → (white_allowed && is_nothing (after_white white_allowed line)) ≡ test →
+          cond test (walk c white_allowed lines) (record_at c (after_white white_allowed line) >>= next walk lines) ≡ Some records →
+          (walk c white_allowed lines ≡ Some records → Walks c white_allowed lines records) →
           ((d : Context) (f : Bool) (rest : List Record) → walk d f lines ≡ Some rest → Walks d f lines rest) →
-          Walks c free (line ∷ lines) records
+          Walks c white_allowed (line ∷ lines) records
       line_found true test is passed later =
-          let parts = and_parts free (is_nothing (after_white free line)) test in
+          let parts = and_parts white_allowed (is_nothing (after_white white_allowed line)) test in
           inl (parts.0, white_line line (rw parts.0 at parts.1), passed is)
       line_found false test is passed later =
-          let first = bind_some (record_at c (after_white free line)) (next walk lines) records is in
-          let rest = map_some (λ rest. first.0 ∷ rest) (walk (context_after first.0) (free_after first.0) lines) records first.2 in
+          let first = bind_some (record_at c (after_white white_allowed line)) (next walk lines) records is in
+          let rest = map_some (λ rest. first.0 ∷ rest) (walk (context_after first.0) (white_allowed_after first.0) lines) records first.2 in
           inr (record {
-            text = after_white free line;
+            text = after_white white_allowed line;
             first = first.0;
             others = rest.0;
-            text_is = text_found free line;
-            first_is = record_found c (after_white free line) first.0 first.1;
-            rest = later (context_after first.0) (free_after first.0) rest.0 rest.1;
+            text_is = text_found white_allowed line;
+            first_is = record_found c (after_white white_allowed line) first.0 first.1;
+            rest = later (context_after first.0) (white_allowed_after first.0) rest.0 rest.1;
             records_are = sym rest.2;
           })
 
@@ -162,20 +162,20 @@ pub some_text : (c : Context) (text : List ℕ) (r : Record) → record_at c tex
 some_text c [] r is = absurd (none-some r (sym (record_nothing c) ∙ is))
 some_text c (b ∷ text) r is = refl
 
-walk_again : (c : Context) (free : Bool) (lines : List (List ℕ)) (records : List Record) → Walks c free lines records → walk c free lines ≡ Some records
-walk_again c free [] records is = ap (λ rs. Some rs) (sym is)
-walk_again c free (line ∷ lines) records (inl is) =
-    rw (is.0, line_white line is.1) (rw is.0 at (walk_again c free lines records is.2))
-walk_again c free (line ∷ lines) records (inr is) =
+walk_again : (c : Context) (white_allowed : Bool) (lines : List (List ℕ)) (records : List Record) → Walks c white_allowed lines records → walk c white_allowed lines ≡ Some records
+walk_again c white_allowed [] records is = ap (λ rs. Some rs) (sym is)
+walk_again c white_allowed (line ∷ lines) records (inl is) =
+    rw (is.0, line_white line is.1) (rw is.0 at (walk_again c white_allowed lines records is.2))
+walk_again c white_allowed (line ∷ lines) records (inr is) =
     let first = record_again c is.text is.first is.first_is in
     rw (
-      text_again free line is.text is.text_is,
+      text_again white_allowed line is.text is.text_is,
       some_text c is.text is.first first,
-      and_right free false refl,
+      and_right white_allowed false refl,
       first,
-      walk_again (context_after is.first) (free_after is.first) lines is.others is.rest,
+      walk_again (context_after is.first) (white_allowed_after is.first) lines is.others is.rest,
       is.records_are,
     ) refl
 
 pub walked_exactly : IsWalkedExactly
-walked_exactly c free lines records = (walk_found c free lines records, walk_again c free lines records)
+walked_exactly c white_allowed lines records = (walk_found c white_allowed lines records, walk_again c white_allowed lines records)

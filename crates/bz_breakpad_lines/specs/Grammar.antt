@@ -18,12 +18,12 @@ pub data Role : Type 0 where
 
 -- white space may stand before a line where the line before it is blank, or a record by itself; the roles of the lines
 -- before are listed with the last of them first
-abbrev pub is_free : List Role → Bool
-is_free [] = false
-is_free (Blank ∷ before) = true
-is_free (Is (Top one) ∷ before) = true
-is_free (Is (OfFunc one) ∷ before) = false
-is_free (Is OfCfi ∷ before) = false
+abbrev pub allows_white : List Role → Bool
+allows_white [] = false
+allows_white (Blank ∷ before) = true
+allows_white (Is (Top one) ∷ before) = true
+allows_white (Is (OfFunc one) ∷ before) = false
+allows_white (Is OfCfi ∷ before) = false
 
 -- what may stand under the owner of a line, which is the last record by itself before it
 abbrev pub under_owner : List Role → Context
@@ -36,13 +36,13 @@ under_owner (Is OfCfi ∷ before) = under_owner before
 -- the line is a record: the text after white space, where that may stand, is one under the owner, or else one by itself
 pub record IsRecordLine (before : List Role) (line : List ℕ) (r : Record) : Type 0 where
   pub text : List ℕ
-  pub text_is : IsText (is_free before) line text
+  pub text_is : IsText (allows_white before) line text
   pub record_is : IsRecord (under_owner before) text r
 
 -- the line has the role, after lines of these roles: a blank one has only white space, and stands where white space may stand before
 -- a line
 abbrev pub IsRole : List Role → List ℕ → Role → Type 0
-IsRole before line Blank = (is_free before ≡ true) × AllPass is_white line
+IsRole before line Blank = (allows_white before ≡ true) × AllPass is_white line
 IsRole before line (Is r) = IsRecordLine before line r
 
 -- each line has its role, by the line and the roles of those before it

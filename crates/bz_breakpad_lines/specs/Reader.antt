@@ -9,7 +9,7 @@ use Rattle.bz_breakpad_lines.specs.Says.Top.{Func}
 use Rattle.bz_breakpad_lines.specs.Names.{with_names}
 use Rattle.bz_breakpad_lines.specs.Table.{Function, PublicSymbol, Table}
 use Rattle.bz_breakpad_lines.specs.Walk as Walk
-use Rattle.bz_breakpad_lines.specs.Walk.{Context, Record, context_after, free_after, record_at, after_white}
+use Rattle.bz_breakpad_lines.specs.Walk.{Context, Record, context_after, white_allowed_after, record_at, after_white}
 use Rattle.bz_breakpad_lines.specs.Walk.Context.{Outside}
 use Rattle.bz_breakpad_lines.specs.Walk.Record.{OfFunc, OfCfi}
 
@@ -76,12 +76,12 @@ next_read reading r = if is_some (module_of r) && nat_lt 0 reading.count then No
 
 -- what has been read, and then the lines
 abbrev pub lines_read : Context → Bool → Reading → List (List ℕ) → Option Reading
-lines_read c free reading [] = Some reading
-lines_read c free reading (line ∷ lines) =
-    if free && is_nothing (after_white free line)
-    then lines_read c free reading lines
-    else record_at c (after_white free line) >>= (λ r.
-    next_read reading r >>= (λ next. lines_read (context_after r) (free_after r) next lines))
+lines_read c white_allowed reading [] = Some reading
+lines_read c white_allowed reading (line ∷ lines) =
+    if white_allowed && is_nothing (after_white white_allowed line)
+    then lines_read c white_allowed reading lines
+    else record_at c (after_white white_allowed line) >>= (λ r.
+    next_read reading r >>= (λ next. lines_read (context_after r) (white_allowed_after r) next lines))
 
 -- the file that was read
 abbrev pub table_read : Reading → Table

@@ -34,9 +34,9 @@ context_after (OfFunc one) = InFunc
 context_after OfCfi = InCfi
 
 -- white space may stand after a record that stands by itself
-abbrev pub free_after : Record → Bool
-free_after (Top one) = true
-free_after _ = false
+abbrev pub white_allowed_after : Record → Bool
+white_allowed_after (Top one) = true
+white_allowed_after _ = false
 
 -- the body is that of a record that stands under another
 abbrev pub IsInner : Context → List ℕ → Record → Type 0
@@ -53,29 +53,29 @@ abbrev pub IsRecord : Context → List ℕ → Record → Type 0
 IsRecord c line r = (body : List ℕ) × IsBody line body × IsBodyOf c body r
 
 -- the record's text in its line: what is left after white space, where that may stand
-pub record IsText (free : Bool) (line text : List ℕ) : Type 0 where
+pub record IsText (white_allowed : Bool) (line text : List ℕ) : Type 0 where
   pub front : List ℕ
   pub whole : line ≡ front ++ text
   pub white : AllPass is_white front
-  pub bound : free ≡ false → front ≡ []
-  pub longest : free ≡ true → begins_with is_white text ≡ false
+  pub bound : white_allowed ≡ false → front ≡ []
+  pub longest : white_allowed ≡ true → begins_with is_white text ≡ false
 
 -- a line that is read, and the lines after it
-pub record IsRead (c : Context) (free : Bool) (line : List ℕ) (Rest : Context → Bool → List Record → Type 0) (records : List Record) : Type 0 where
+pub record IsRead (c : Context) (white_allowed : Bool) (line : List ℕ) (Rest : Context → Bool → List Record → Type 0) (records : List Record) : Type 0 where
   pub text : List ℕ
   pub first : Record
   pub others : List Record
-  pub text_is : IsText free line text
+  pub text_is : IsText white_allowed line text
   pub first_is : IsRecord c text first
-  pub rest : Rest (context_after first) (free_after first) others
+  pub rest : Rest (context_after first) (white_allowed_after first) others
   pub records_are : records ≡ first ∷ others
 
 -- the lines are the records: white lines are passed over where white space may stand, and each other line is read
 abbrev pub Walks : Context → Bool → List (List ℕ) → List Record → Type 0
-Walks c free [] records = records ≡ []
-Walks c free (line ∷ lines) records =
-    ((free ≡ true) × AllPass is_white line × Walks c free lines records)
-    ⊎ IsRead c free line (λ d f. Walks d f lines) records
+Walks c white_allowed [] records = records ≡ []
+Walks c white_allowed (line ∷ lines) records =
+    ((white_allowed ≡ true) × AllPass is_white line × Walks c white_allowed lines records)
+    ⊎ IsRead c white_allowed line (λ d f. Walks d f lines) records
 
 abbrev pub or_record : Option Record → Option Record → Option Record
 or_record (Some r) other = Some r
@@ -101,17 +101,17 @@ after_white false line = line
 
 -- the records of the lines
 abbrev pub walk : Context → Bool → List (List ℕ) → Option (List Record)
-walk c free [] = Some []
-walk c free (line ∷ lines) =
-    if free && is_nothing (after_white free line)
-    then walk c free lines
-    else record_at c (after_white free line) >>= (λ r. option_map (λ rest. r ∷ rest) (walk (context_after r) (free_after r) lines))
+walk c white_allowed [] = Some []
+walk c white_allowed (line ∷ lines) =
+    if white_allowed && is_nothing (after_white white_allowed line)
+    then walk c white_allowed lines
+    else record_at c (after_white white_allowed line) >>= (λ r. option_map (λ rest. r ∷ rest) (walk (context_after r) (white_allowed_after r) lines))
 
 abbrev pub IsWalkedExactly : Type 0
 IsWalkedExactly =
-    (c : Context) (free : Bool) (lines : List (List ℕ)) (records : List Record) → (walk c free lines ≡ Some records) ↔ Walks c free lines records
+    (c : Context) (white_allowed : Bool) (lines : List (List ℕ)) (records : List Record) → (walk c white_allowed lines ≡ Some records) ↔ Walks c white_allowed lines records
 
 -- the records of lines, if there are any
 abbrev pub walked : Context → Bool → Option (List (List ℕ)) → Option (List Record)
-walked c free None = None
-walked c free (Some lines) = walk c free lines
+walked c white_allowed None = None
+walked c white_allowed (Some lines) = walk c white_allowed lines

@@ -5,7 +5,7 @@ ghost use Rattle.std.specs.List.{prefix_len};
 ghost use Rattle.bz_breakpad_lines.specs.Byte.{is_nothing, is_white};
 ghost use Rattle.bz_breakpad_lines.specs.Says.{module_of};
 ghost use Rattle.bz_breakpad_lines.specs.Told.{context_told, record_told};
-ghost use Rattle.bz_breakpad_lines.specs.Walk.{after_white, context_after, free_after};
+ghost use Rattle.bz_breakpad_lines.specs.Walk.{after_white, context_after, white_allowed_after};
 ghost use Rattle.bz_breakpad_lines.specs.declared.record.Range.{Range};
 
 use crate::record::{Context, RecordLine, TopLine};
@@ -25,8 +25,8 @@ impl RecordLine<'_> {
     }
 
     /// Whether white space may stand before the next line.
-    pub fn free_after(&self) -> bool
-        ensures { (ranges : List Range) → result ≡ free_after (record_told self.now ranges) }
+    pub fn white_allowed_after(&self) -> bool
+        ensures { (ranges : List Range) → result ≡ white_allowed_after (record_told self.now ranges) }
     {
         match self {
             RecordLine::Top(_) => true,
@@ -45,11 +45,15 @@ impl RecordLine<'_> {
 
 /// The line without the white space at its front, where that may stand.
 #[tactic(auto, unfolding(crate::specs::Walk::after_white))]
-pub fn after_white(free: bool, line: &[u8]) -> &[u8]
-    ensures text { result.now ≡ after_white free line.now }
+pub fn after_white(white_allowed: bool, line: &[u8]) -> &[u8]
+    ensures text { result.now ≡ after_white white_allowed line.now }
     ensures within { length result.now ≤ length line.now }
 {
-    if free { &line[white_len(line)..] } else { line }
+    if white_allowed {
+        &line[white_len(line)..]
+    } else {
+        line
+    }
 }
 
 /// How many bytes of white space stand at the front.
@@ -67,8 +71,8 @@ fn is_white(byte: u8) -> bool
 }
 
 /// Whether the line may be blank and is, of which this is left after white space.
-pub fn is_blank_line(free: bool, text: &[u8]) -> bool
-    ensures { result ≡ (free && is_nothing text.now) }
+pub fn is_blank_line(white_allowed: bool, text: &[u8]) -> bool
+    ensures { result ≡ (white_allowed && is_nothing text.now) }
 {
-    free && text.is_empty()
+    white_allowed && text.is_empty()
 }

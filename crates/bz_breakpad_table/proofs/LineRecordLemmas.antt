@@ -26,7 +26,7 @@ module _ (rest : List ℕ) (found : QuickLine) (p : IsQuickLine rest found) wher
 
   -- the walk is midway still, once it has kept the record
   pub line_on : (bytes : List ℕ) (old new : Walk) (m : IsMidway bytes rest old) → context_told old.context ≡ InFunc → context_told new.context ≡ InFunc →
-      new.free ≡ false → new.count ≡ old.count + 1 → IsSoFar bytes new.kept (with_record m.reading (OfFunc (inl p.value))) → IsMidway bytes (drop found.len rest) new
+      new.white_allowed ≡ false → new.count ≡ old.count + 1 → IsSoFar bytes new.kept (with_record m.reading (OfFunc (inl p.value))) → IsMidway bytes (drop found.len rest) new
   line_on bytes old new m =
       quick_on InFunc rest (OfFunc (inl p.value)) (drop found.len rest) (quick_line rest (drop found.len rest) p.value p.form) bytes old new m refl
 
@@ -38,7 +38,7 @@ running walk from to last count = record walk {
 }
 
 -- one line record more
-pub run_step : (bytes rest : List ℕ) (walk : Walk) (from count : ℕ) (last : StartText) (next : RunLine) → context_told walk.context ≡ InFunc → walk.free ≡ false →
+pub run_step : (bytes rest : List ℕ) (walk : Walk) (from count : ℕ) (last : StartText) (next : RunLine) → context_told walk.context ≡ InFunc → walk.white_allowed ≡ false →
     IsOnRun rest last next → IsMidway bytes rest (running walk from (length bytes - length rest) last count) →
     IsMidway bytes (drop next.len rest) (running walk from (length bytes - length (drop next.len rest)) next.start (count + 1))
 run_step bytes rest walk from count last next in_func bound on m =

@@ -65,9 +65,9 @@ unfolding reading_in
 reading_in-none bytes none = ap reading_in none
 
 -- the walk at the front is midway
-pub midway_front : (bytes : List ℕ) (walk : Walk) → 0 < length bytes → IsWalked bytes walk nothing_read → context_told walk.context ≡ Outside → walk.free ≡ false →
+pub midway_front : (bytes : List ℕ) (walk : Walk) → 0 < length bytes → IsWalked bytes walk nothing_read → context_told walk.context ≡ Outside → walk.white_allowed ≡ false →
     IsMidway bytes bytes walk
-midway_front bytes walk some walked context free =
+midway_front bytes walk some walked context white_allowed =
     let none : length bytes - length bytes ≡ 0 = omega arith in
     record {
       reading = nothing_read;
@@ -75,8 +75,8 @@ midway_front bytes walk some walked context free =
       within = omega arith;
       rest_is = ap (λ n. drop n bytes) none;
       left =
-          ap (λ c. ended_lines bytes >>= lines_read c walk.free nothing_read) context
-          ∙ ap (λ f. ended_lines bytes >>= lines_read Outside f nothing_read) free
+          ap (λ c. ended_lines bytes >>= lines_read c walk.white_allowed nothing_read) context
+          ∙ ap (λ f. ended_lines bytes >>= lines_read Outside f nothing_read) white_allowed
           ∙ reading_in-some bytes some;
       few = omega (arith, walked.count_is);
     }

@@ -6,7 +6,7 @@ use Rattle.bz_breakpad_lines.specs.Grammar.{records_of}
 use Rattle.bz_breakpad_lines.specs.Reads.{◌>>=◌}
 use Rattle.bz_breakpad_lines.specs.Reader.{Reading, lines_read, next_read, nothing_read, with_record}
 use Rattle.bz_breakpad_lines.specs.Says.{module_of}
-use Rattle.bz_breakpad_lines.specs.Walk.{Context, Record, context_after, free_after, record_at, after_white}
+use Rattle.bz_breakpad_lines.specs.Walk.{Context, Record, context_after, white_allowed_after, record_at, after_white}
 use Rattle.bz_breakpad_lines.specs.Walk.Context.{Outside}
 use Rattle.bz_breakpad_lines.proofs.FoldLaws.{Follow, fold_found, fold_again}
 use Rattle.bz_breakpad_lines.proofs.RoleLaws.{roles_exactly}
@@ -26,51 +26,51 @@ passes before lines = is_some (after_lines before lines)
 
 -- what is told after what was read
 abbrev told : Context → Bool → Reading → Before
-told c free reading = record { context = c; free = free; some = nat_lt 0 reading.count }
+told c white_allowed reading = record { context = c; white_allowed = white_allowed; record_seen = nat_lt 0 reading.count }
 
 -- after a record more, some were read
 some_read : (reading : Reading) (r : Record) → nat_lt 0 (with_record reading r).count ≡ true
 some_read reading r = lt-ltb 0 (reading.count + 1) (omega arith)
 
 module _ (lines : List (List ℕ))
-    (same : (c : Context) (free : Bool) (reading : Reading) → is_some (lines_read c free reading lines) ≡ passes (told c free reading) lines)
-    (c : Context) (free : Bool) (reading : Reading) where
+    (same : (c : Context) (white_allowed : Bool) (reading : Reading) → is_some (lines_read c white_allowed reading lines) ≡ passes (told c white_allowed reading) lines)
+    (c : Context) (white_allowed : Bool) (reading : Reading) where
   -- what is read of the lines after a record
   abbrev read_after : Record → Option Reading
-  read_after r = next_read reading r >>= (λ next. lines_read (context_after r) (free_after r) next lines)
+  read_after r = next_read reading r >>= (λ next. lines_read (context_after r) (white_allowed_after r) next lines)
 
   -- a record is read where it has its place, and then the lines
-  record_passes : (r : Record) → is_some (read_after r) ≡ is_some (after_record (told c free reading) r >>= (λ after. after_lines after lines))
+  record_passes : (r : Record) → is_some (read_after r) ≡ is_some (after_record (told c white_allowed reading) r >>= (λ after. after_lines after lines))
   record_passes r = by (is_some (module_of r) && nat_lt 0 reading.count)
     where
       by : (late : Bool) →
-          is_some (cond {A = Option Reading} late None (Some (with_record reading r)) >>= (λ next. lines_read (context_after r) (free_after r) next lines))
-          ≡ is_some (cond {A = Option Before} late None (Some (record { context = context_after r; free = free_after r; some = true })) >>= (λ after. after_lines after lines))
+          is_some (cond {A = Option Reading} late None (Some (with_record reading r)) >>= (λ next. lines_read (context_after r) (white_allowed_after r) next lines))
+          ≡ is_some (cond {A = Option Before} late None (Some (record { context = context_after r; white_allowed = white_allowed_after r; record_seen = true })) >>= (λ after. after_lines after lines))
       by true = refl
       by false =
-          same (context_after r) (free_after r) (with_record reading r)
-          ∙ ap (λ some. passes (record { context = context_after r; free = free_after r; some = some }) lines) (some_read reading r)
+          same (context_after r) (white_allowed_after r) (with_record reading r)
+          ∙ ap (λ seen. passes (record { context = context_after r; white_allowed = white_allowed_after r; record_seen = seen }) lines) (some_read reading r)
 
   -- the same of a record, if there is one
-  found_passes : (found : Option Record) → is_some (found >>= read_after) ≡ is_some (found >>= after_record (told c free reading) >>= (λ after. after_lines after lines))
+  found_passes : (found : Option Record) → is_some (found >>= read_after) ≡ is_some (found >>= after_record (told c white_allowed reading) >>= (λ after. after_lines after lines))
   found_passes None = refl
   found_passes (Some r) = record_passes r
 
   -- a line is read where it has its place, and then the lines
-  line_passes : (line : List ℕ) → is_some (lines_read c free reading (line ∷ lines)) ≡ passes (told c free reading) (line ∷ lines)
+  line_passes : (line : List ℕ) → is_some (lines_read c white_allowed reading (line ∷ lines)) ≡ passes (told c white_allowed reading) (line ∷ lines)
   unfolding after_line
-  line_passes line = by (free && is_nothing (after_white free line))
+  line_passes line = by (white_allowed && is_nothing (after_white white_allowed line))
     where
       by : (blank : Bool) →
-          is_some (cond {A = Option Reading} blank (lines_read c free reading lines) (record_at c (after_white free line) >>= (λ r. next_read reading r >>= (λ next. lines_read (context_after r) (free_after r) next lines))))
-          ≡ is_some (cond {A = Option Before} blank (Some (told c free reading)) (record_at c (after_white free line) >>= after_record (told c free reading)) >>= (λ after. after_lines after lines))
-      by true = same c free reading
-      by false = found_passes (record_at c (after_white free line))
+          is_some (cond {A = Option Reading} blank (lines_read c white_allowed reading lines) (record_at c (after_white white_allowed line) >>= (λ r. next_read reading r >>= (λ next. lines_read (context_after r) (white_allowed_after r) next lines))))
+          ≡ is_some (cond {A = Option Before} blank (Some (told c white_allowed reading)) (record_at c (after_white white_allowed line) >>= after_record (told c white_allowed reading)) >>= (λ after. after_lines after lines))
+      by true = same c white_allowed reading
+      by false = found_passes (record_at c (after_white white_allowed line))
 
 -- lines are read exactly where each has its place
-lines_pass : (lines : List (List ℕ)) (c : Context) (free : Bool) (reading : Reading) → is_some (lines_read c free reading lines) ≡ passes (told c free reading) lines
-lines_pass [] c free reading = refl
-lines_pass (line ∷ lines) c free reading = line_passes lines (lines_pass lines) c free reading line
+lines_pass : (lines : List (List ℕ)) (c : Context) (white_allowed : Bool) (reading : Reading) → is_some (lines_read c white_allowed reading lines) ≡ passes (told c white_allowed reading) lines
+lines_pass [] c white_allowed reading = refl
+lines_pass (line ∷ lines) c white_allowed reading = line_passes lines (lines_pass lines) c white_allowed reading line
 
 -- Lines that have roles.
 

@@ -12,7 +12,7 @@ use Rattle.bz_breakpad_table.specs.Kept.{IsRecordAt}
 use Rattle.bz_breakpad_lines.specs.Line.{line_front}
 use Rattle.bz_breakpad_lines.specs.Reader.{Reading, lines_read, with_record}
 use Rattle.bz_breakpad_lines.specs.Says.{module_of}
-use Rattle.bz_breakpad_lines.specs.Walk.{Context, Record, body_record, context_after, free_after, record_at, after_white}
+use Rattle.bz_breakpad_lines.specs.Walk.{Context, Record, body_record, context_after, white_allowed_after, record_at, after_white}
 use Rattle.bz_breakpad_table.specs.Walked.{IsLineAt}
 
 -- the rest of a line is the line of the rest
@@ -31,22 +31,22 @@ abbrev skipped : Bool → List ℕ → ℕ
 skipped true line = prefix_len is_white line
 skipped false line = 0
 
-text_after : (free : Bool) (line : List ℕ) → after_white free line ≡ drop (skipped free line) line
+text_after : (white_allowed : Bool) (line : List ℕ) → after_white white_allowed line ≡ drop (skipped white_allowed line) line
 unfolding after_white
 text_after true line = refl
 text_after false line = refl
 
-skipped_within : (free : Bool) (line : List ℕ) → skipped free line ≤ length line
+skipped_within : (white_allowed : Bool) (line : List ℕ) → skipped white_allowed line ≤ length line
 skipped_within true line = prefix_len-le-length is_white line
 skipped_within false line = omega arith
 
 -- a body of a line's text stands after the white space that was skipped
-pub text_stands : (bytes : List ℕ) (start : ℕ) (free : Bool) (line text body : List ℕ) → IsLineAt bytes start line → text ≡ after_white free line →
+pub text_stands : (bytes : List ℕ) (start : ℕ) (white_allowed : Bool) (line text body : List ℕ) → IsLineAt bytes start line → text ≡ after_white white_allowed line →
     body_at text ≡ Some body → IsRecordAt bytes (start + (length line - length text)) body
-text_stands bytes start free line text body at is body_is =
-    let k = skipped free line in
-    let within = skipped_within free line in
-    let same : text ≡ drop k line = is ∙ text_after free line in
+text_stands bytes start white_allowed line text body at is body_is =
+    let k = skipped white_allowed line in
+    let within = skipped_within white_allowed line in
+    let same : text ≡ drop k line = is ∙ text_after white_allowed line in
     let long : length line - length text ≡ k = omega (arith, ap length same, length-drop k line, within) in
     let n = prefix_len (λ b. not (nat_eq b line_feed)) (drop start bytes) in
     let fits : length line ≤ length (drop start bytes)
@@ -64,13 +64,13 @@ unfolding record_at
 record_read c text body r body_is read = rw (body_is) read
 
 -- a record that isn't a later MODULE record is read, and then the lines after it
-pub step_read : (c : Context) (free : Bool) (reading : Reading) (line : List ℕ) (r : Record) (lines : List (List ℕ)) →
-    (free && is_nothing (after_white free line)) ≡ false → record_at c (after_white free line) ≡ Some r → (is_some (module_of r) && nat_lt 0 reading.count) ≡ false →
-    lines_read c free reading (line ∷ lines) ≡ lines_read (context_after r) (free_after r) (with_record reading r) lines
-step_read c free reading line r lines some read first = rw (some, read, first) refl
+pub step_read : (c : Context) (white_allowed : Bool) (reading : Reading) (line : List ℕ) (r : Record) (lines : List (List ℕ)) →
+    (white_allowed && is_nothing (after_white white_allowed line)) ≡ false → record_at c (after_white white_allowed line) ≡ Some r → (is_some (module_of r) && nat_lt 0 reading.count) ≡ false →
+    lines_read c white_allowed reading (line ∷ lines) ≡ lines_read (context_after r) (white_allowed_after r) (with_record reading r) lines
+step_read c white_allowed reading line r lines some read first = rw (some, read, first) refl
 
 -- a later MODULE record isn't
-pub step_late : (c : Context) (free : Bool) (reading : Reading) (line : List ℕ) (r : Record) (lines : List (List ℕ)) →
-    (free && is_nothing (after_white free line)) ≡ false → record_at c (after_white free line) ≡ Some r → (is_some (module_of r) && nat_lt 0 reading.count) ≡ true →
-    lines_read c free reading (line ∷ lines) ≡ None
-step_late c free reading line r lines some read late = rw (some, read, late) refl
+pub step_late : (c : Context) (white_allowed : Bool) (reading : Reading) (line : List ℕ) (r : Record) (lines : List (List ℕ)) →
+    (white_allowed && is_nothing (after_white white_allowed line)) ≡ false → record_at c (after_white white_allowed line) ≡ Some r → (is_some (module_of r) && nat_lt 0 reading.count) ≡ true →
+    lines_read c white_allowed reading (line ∷ lines) ≡ None
+step_late c white_allowed reading line r lines some read late = rw (some, read, late) refl

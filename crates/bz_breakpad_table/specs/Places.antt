@@ -5,7 +5,7 @@ use Rattle.bz_breakpad_lines.specs.Byte.{is_nothing}
 use Rattle.bz_breakpad_lines.specs.Grammar.{Role, AreRoles, IsNoModule, records_of}
 use Rattle.bz_breakpad_lines.specs.Reads.{◌>>=◌}
 use Rattle.bz_breakpad_lines.specs.Says.{module_of}
-use Rattle.bz_breakpad_lines.specs.Walk.{Context, Record, context_after, free_after, record_at, after_white}
+use Rattle.bz_breakpad_lines.specs.Walk.{Context, Record, context_after, white_allowed_after, record_at, after_white}
 use Rattle.bz_breakpad_lines.specs.Walk.Context.{Outside}
 
 -- the lines have their places: each has a role after those before it, and a MODULE record is the first record or there is none
@@ -18,26 +18,26 @@ pub record HavePlaces (lines : List (List ℕ)) : Type 0 where
 -- a record is among them
 pub record Before : Type 0 where
   pub context : Context
-  pub free : Bool
-  pub some : Bool
+  pub white_allowed : Bool
+  pub record_seen : Bool
 
 -- what is told at the front of a file
 abbrev pub at_front : Before
-at_front = record { context = Outside; free = false; some = false }
+at_front = record { context = Outside; white_allowed = false; record_seen = false }
 
 -- what is told after a record more, if it has its place: a MODULE record has none after another record
 abbrev pub after_record : Before → Record → Option Before
 after_record before r =
-    if is_some (module_of r) && before.some
+    if is_some (module_of r) && before.record_seen
     then None
-    else Some (record { context = context_after r; free = free_after r; some = true })
+    else Some (record { context = context_after r; white_allowed = white_allowed_after r; record_seen = true })
 
 -- what is told after a line more, if it has its place
 unfoldable pub after_line : Before → List ℕ → Option Before
 after_line before line =
-    if before.free && is_nothing (after_white before.free line)
+    if before.white_allowed && is_nothing (after_white before.white_allowed line)
     then Some before
-    else record_at before.context (after_white before.free line) >>= after_record before
+    else record_at before.context (after_white before.white_allowed line) >>= after_record before
 
 -- the number of a line, if it has no place, and else what comes of those after it
 abbrev pub or_refused : ℕ → Option Before → (Before → Option ℕ) → Option ℕ

@@ -4,4 +4,4 @@ use Rattle.bz_breakpad_table.specs.Places as places
 use Rattle.bz_breakpad_table.specs.declared.before.Before.{Before}
 
 abbrev pub before_told : Before → places.Before
-before_told b = record { context = context_told b.context; free = b.free; some = b.some }
+before_told b = record { context = context_told b.context; white_allowed = b.white_allowed; record_seen = b.record_seen }

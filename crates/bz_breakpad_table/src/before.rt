@@ -17,9 +17,9 @@ pub struct Before {
     /// The record under which it may stand.
     context: Context,
     /// Whether white space may stand before it.
-    free: bool,
+    white_allowed: bool,
     /// Whether a record is among them.
-    some: bool,
+    record_seen: bool,
 }
 
 impl Before {
@@ -29,8 +29,8 @@ impl Before {
     {
         Before {
             context: Context::Outside,
-            free: false,
-            some: false,
+            white_allowed: false,
+            record_seen: false,
         }
     }
 
@@ -44,8 +44,8 @@ impl Before {
     ) -> Result<Option<Before>, AllocError>
         ensures { IfOk result (λ after. option_map before_told after ≡ after_line (before_told self) line.now) }
     {
-        let text = after_white(self.free, line);
-        if is_blank_line(self.free, text) {
+        let text = after_white(self.white_allowed, line);
+        if is_blank_line(self.white_allowed, text) {
             return Ok(Some(self));
         }
         let Some(body) = body(text) else {
@@ -61,13 +61,13 @@ impl Before {
     fn after_record(self, found: &RecordLine<'_>) -> Option<Before>
         ensures { (ranges : List Range) → option_map before_told result ≡ after_record (before_told self) (record_told found.now ranges) }
     {
-        if found.is_module() && self.some {
+        if found.is_module() && self.record_seen {
             return None;
         }
         Some(Before {
             context: found.context_after(),
-            free: found.free_after(),
-            some: true,
+            white_allowed: found.white_allowed_after(),
+            record_seen: true,
         })
     }
 }

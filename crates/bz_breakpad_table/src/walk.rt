@@ -31,7 +31,7 @@ pub struct Walk {
     /// The record under which the next line may stand.
     pub context: Context,
     /// Whether white space may stand before the next line.
-    pub free: bool,
+    pub white_allowed: bool,
     /// How many records there were.
     pub count: usize,
 }
@@ -41,13 +41,13 @@ impl Walk {
     pub fn new(alloc: Global) -> Walk
         ensures walked { (bytes : List ℕ) → IsWalked bytes result nothing_read }
         ensures context { context_told result.context ≡ Outside }
-        ensures free { result.free ≡ false }
+        ensures white_allowed { result.white_allowed ≡ false }
     {
         Walk {
             kept: KeptReading::new(alloc),
             ranges: Vec::new(alloc),
             context: Context::Outside,
-            free: false,
+            white_allowed: false,
             count: 0,
         }
     }
@@ -91,7 +91,7 @@ impl Walk {
         self.kept
             .functions
             .inline(&call, self.ranges.as_slice(), text.len() - rest.len())?;
-        self.free = false;
+        self.white_allowed = false;
         self.count += 1;
         Ok(Some(after))
     }
@@ -109,7 +109,7 @@ impl Walk {
             return None;
         };
         let after = cfi_line(rest)?;
-        self.free = false;
+        self.white_allowed = false;
         self.count += 1;
         Some(after)
     }
@@ -131,7 +131,7 @@ impl Walk {
         self.kept.functions.close()?;
         self.kept.functions.begin(&func, name)?;
         self.context = Context::InFunc;
-        self.free = true;
+        self.white_allowed = true;
         self.count += 1;
         Ok(Some(after))
     }
@@ -159,7 +159,7 @@ impl Walk {
         self.kept
             .functions
             .line(text, text.len() - rest.len(), line)?;
-        self.free = false;
+        self.white_allowed = false;
         self.count += 1;
         Ok(Some(self.run_on(text, &rest[line.len..], stops.after(line.len))))
     }
@@ -171,7 +171,7 @@ impl Walk {
         requires midway { IsMidway text.now rest.now self.old }
         requires stops { AreStops rest.now stops }
         requires in_func { context_told self.old.context ≡ InFunc }
-        requires bound { self.old.free ≡ false }
+        requires bound { self.old.white_allowed ≡ false }
         ensures midway { IsMidway text.now result.now self.new }
         ensures within { length result.now ≤ length rest.now }
     {
@@ -227,8 +227,8 @@ impl Walk {
         ensures refusal { IfErr result (IsRefused self.old line.now) }
         ensures few { OnOk result (self.new.count ≤ self.old.count + 1) }
     {
-        let text = after_white(self.free, line);
-        if is_blank_line(self.free, text) {
+        let text = after_white(self.white_allowed, line);
+        if is_blank_line(self.white_allowed, text) {
             return Ok(());
         }
         let Some(body) = body(text) else {
@@ -242,7 +242,7 @@ impl Walk {
         }
         let place = start + (line.len() - text.len());
         self.context = found.context_after();
-        self.free = found.free_after();
+        self.white_allowed = found.white_allowed_after();
         self.kept.record(
             bytes,
             found,

@@ -8,4 +8,4 @@ returns-then-is_empty-clause-refusal c = reading_in-none c.args.text.now (none_l
 pub loop-rest-init : goal.loop-rest-init
 loop-rest-init c =
     let new = c.new-walk.ensures in
-    midway_front c.args.text.now c.new-walk.result (some_left c.args.text.now c.if-is_empty.ensures) (new.walked c.args.text.now) new.context new.free
+    midway_front c.args.text.now c.new-walk.result (some_left c.args.text.now c.if-is_empty.ensures) (new.walked c.args.text.now) new.context new.white_allowed

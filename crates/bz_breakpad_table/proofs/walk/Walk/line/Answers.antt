@@ -18,18 +18,18 @@ returns-clause-ok c reading at walked =
     let ranges = c.read_record.new.ranges.items in
     let r = record_told c.in-Some-2.found ranges in
     let context = context_told old.context in
-    let text_is : text ≡ after_white old.free line = c.after_white-text.ensures.text in
+    let text_is : text ≡ after_white old.white_allowed line = c.after_white-text.ensures.text in
     let body_is : body_at text ≡ Some body = sym c.in-Some.ensures in
     let read : body_record context body ≡ Some r = sym (rw c.in-Some-2.is at c.in_ok-found.ensures) in
-    let stands = text_stands bytes c.args.start old.free line text body at text_is body_is in
+    let stands = text_stands bytes c.args.start old.white_allowed line text body at text_is body_is in
     let record_is = ap (record_at context) (sym text_is) ∙ record_read context text body r body_is read in
-    let some = ap (λ t. old.free && is_nothing t) (sym text_is) ∙ sym c.if-is_blank_line.ensures in
+    let some = ap (λ t. old.white_allowed && is_nothing t) (sym text_is) ∙ sym c.if-is_blank_line.ensures in
     let first = ap (λ n. is_some (module_of r) && nat_lt 0 n) (sym walked.count_is) ∙ sym (c.if-is_late_module.ensures ranges) in
     let kept = rw c.as_slice.ensures.value at (c.in_ok-record.ensures body context reading stands refl) in
     record {
       next = with_record reading r;
       walked = record { so_far = kept read walked.so_far; count_is = ap (λ n. n + 1) walked.count_is };
       same = λ lines.
-          rw (c.context_after-self.ensures ranges, c.free_after-self.ensures ranges)
-          (step_read context old.free reading line r lines some record_is first);
+          rw (c.context_after-self.ensures ranges, c.white_allowed_after-self.ensures ranges)
+          (step_read context old.white_allowed reading line r lines some record_is first);
     }
