@@ -144,6 +144,7 @@ impl<'f, 'b> FoundAddrs<'f, 'b> {
 
     /// Whether the function has a name, the first of its inlined calls, if it has some, lies in no other,
     /// and its line records are text to the end of a line.
+    /// It is asked for its looks, and so takes all of them: each brings memory close that the answer reads.
     fn is_usual(&self, seed: &Seed) -> bool {
         let named = match self.bytes.get(seed.name) {
             Some(first) => *first != b'\n',
