@@ -7,11 +7,11 @@ use Rattle.std.specs.Ordering.{eq_by_cmp, nat_cmp}
 use Rattle.std.specs.FinMap.{get, insert, get-insert, same_map}
 use Rattle.bz_base.specs.declared.error.Error.{Error}
 use Rattle.bz_base.specs.declared.error.Error.TheVariants as errors
-use Rattle.bz_files.specs.World.{World, entry_at, in_view}
+use Rattle.bz_files.specs.World.{World, Entry, entry_at, in_view}
 use Rattle.bz_files.specs.declared.files.Files.{Ghosts}
 use Rattle.bz_cache.specs.Cache.{Cache, Paths, PathState, is_pinned, with_pin, with_pinned}
 use Rattle.bz_cache.specs.Format.{Comes, FailsAs}
-use Rattle.bz_cache.specs.Look.{look, Lends}
+use Rattle.bz_cache.specs.Look.{look, IsUnmoved, Lends}
 use Rattle.bz_cache.proofs.FiniteMaps.{get_inserted, insert_same}
 use Rattle.bz_cache.proofs.Naming.{paths_apart}
 use Rattle.bz_cache.proofs.Pinning.{consistent_pinned}
@@ -54,6 +54,17 @@ module _ (c : Cache) (p : List ℕ) where
   pub repinned : is_pinned c p ≡ true → with_pin true (with_pin false c p) p ≡ c
   repinned pinned = ap (λ (paths : Paths). record c { paths = paths }) (repinned_by (get c.paths p) refl pinned)
 
+  -- a path at its present stamp is at it without its pin too
+  pub unmoved_unpinned : (there : Option Entry) → IsUnmoved c p there → IsUnmoved (with_pin false c p) p there
+  unmoved_unpinned there same = record {
+    state = record same.state { pinned = false };
+    bytes = same.bytes;
+    held =
+        ap (λ (o : Option PathState). get (option_map_or (λ (e : PathState). insert c.paths p (record e { pinned = false })) o c.paths) p) same.held
+        ∙ get_inserted nat_list_cmp_total paths_apart c.paths p (record same.state { pinned = false });
+    present = same.present;
+  }
+
   -- a look that is refused refuses the pin
   fails_pinned : (looked : Result (List ℕ) Error × Cache) (e : Error) → FailsAs looked.0 e → FailsAs (pinned_by c p looked).0 e
   fails_pinned looked errors.ReadFault fails = tt
@@ -92,6 +103,7 @@ module _ {X : Type 0} (files : Ghosts X) (test : List ℕ → Option Error) (c :
     left = left_by (in_view (files.worlds before)) now did.lent.0 did.answer did.lent.1;
     err = tt;
     sure = did.sure;
+    unmoved = λ world seen same. tt;
     consistent = λ well. consistent_pinned test now p true did.lent.1.consistent;
     reload = ap (λ (x : Result (List ℕ) Error × Cache). x.1.reload) (sym did.lent.1.some.1) ∙ reload_look test (with_pin false c p) p did.lent.1.some.0;
     reads = did.reads;
@@ -106,6 +118,7 @@ module _ {X : Type 0} (files : Ghosts X) (test : List ℕ → Option Error) (c :
     left = tt;
     err = refl;
     sure = did.sure;
+    unmoved = λ world seen same. did.unmoved world seen (unmoved_unpinned c p (entry_at world p) same);
     consistent = λ well. well;
     reload = refl;
     reads = did.reads;

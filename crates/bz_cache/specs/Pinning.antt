@@ -1,12 +1,13 @@
 -- Pinning a path at the version that a look gives, where a refusal changes nothing.
-use Rattle.std.specs.Prelude.{◌≡◌, ℕ, Bool, true, false, List, Option, IsSome, Result, Ok, Err, IsOk, OnOk, OnErr, IfErr}
+use Rattle.std.specs.Prelude.{◌≡◌, ℕ, Bool, true, false, List, Option, IsSome, Result, Ok, Err, IsOk, OnOk, OnErr, IfErr, IsOkUnless}
 use Rattle.bz_base.specs.declared.error.Error.{Error}
+use Rattle.bz_base.specs.declared.error.Error.TheVariants as errors
 use Rattle.bz_files.specs.Looked.{Faulted, Looked, ReadsOne}
 use Rattle.bz_files.specs.World.{World, Entry, Told, entry_at, in_view}
 use Rattle.bz_files.specs.declared.files.Files.{Ghosts}
 use Rattle.bz_cache.specs.Cache.{Cache, Consistent, with_pin}
 use Rattle.bz_cache.specs.Format.{Comes, FailsAs, MayFail}
-use Rattle.bz_cache.specs.Look.{look, will_open, opens_after, Lends}
+use Rattle.bz_cache.specs.Look.{look, will_open, opens_after, IsUnmoved, Lends}
 use Rattle.bz_cache.specs.View.{fixed}
 
 -- a path at which a look gave a version is pinned there; a look that is refused changes nothing
@@ -39,6 +40,8 @@ pub record PinsFile {X : Type 0} (files : Ghosts X) (test : List ℕ → Option 
   pub err : OnErr result (now ≡ old)
   -- a held path of a cache that doesn't look anew is pinned as it is
   pub sure : IsSome (fixed (with_pin false old path) path) → IsOk result × (after ≡ before)
+  -- no memory is taken where the present stamp is the path's current one
+  pub unmoved : Told (in_view (files.worlds before)) (λ world. IsUnmoved old path (entry_at world path) → IsOkUnless result errors.ReadFault)
   -- the cache stays well kept
   pub consistent : Consistent test old → Consistent test now
   pub reload : now.reload ≡ old.reload
@@ -58,6 +61,7 @@ pub record LooksAt {X : Type 0} (files : Ghosts X) (test : List ℕ → Option E
   pub lent : OnOk result ((version : List ℕ) × Lends test old now path version (in_view (files.worlds before)))
   pub err : OnErr result (now ≡ old)
   pub sure : IsSome (fixed old path) → IsOk result × (after ≡ before)
+  pub unmoved : Told (in_view (files.worlds before)) (λ world. IsUnmoved old path (entry_at world path) → IsOkUnless result errors.ReadFault)
   pub reads : ReadsAt files (will_open old path) path result before after
   pub looked : Looked files before after (Faulted result)
   pub refusal : IfErr result (MayFail test)

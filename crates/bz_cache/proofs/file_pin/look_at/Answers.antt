@@ -14,6 +14,7 @@ returns-in_err-_version g c =
       lent = tt;
       err = kept;
       sure = λ held. absurd (false≢true (looked.sure held));
+      unmoved = looked.unmoved;
       reads = record { opened = λ world seen. tt; spared = looked.spared; most = looked.most };
       looked = looked.files;
       refusal = looked.refusal;
