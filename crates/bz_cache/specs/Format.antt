@@ -17,25 +17,28 @@ abbrev pub IsRefusalBy : Option Error → Error → Type 0
 IsRefusalBy given errors.OutOfMemory = Unit {0}
 IsRefusalBy given e = given ≡ Some e
 
--- the refusal is the one that is expected; but for a fault and want of memory, which may come anywhere
+-- the refusal is the one that is expected; but for a fault and want of memory, which may come anywhere. It is of a refusal
+-- alone, where `Comes` is of a whole result.
 abbrev pub FailsAs : {A : Type 0} → Result A Error → Error → Type 0
 FailsAs expected errors.ReadFault = Unit {0}
 FailsAs expected errors.OutOfMemory = Unit {0}
 FailsAs expected e = expected ≡ Err e
 
--- the answer reads as the expected one; but for a fault and want of memory, which may come anywhere
+-- the answer reads as the expected one; but for a fault and want of memory, which may come anywhere. It is of calls that look
+-- at files, where `Gives` and `MayGive` are of calls that can't fault.
 abbrev pub Comes : {A B : Type 0} → (A → B) → Result B Error → Result A Error → Type 0
 Comes reading expected (Ok x) = expected ≡ Ok (reading x)
 Comes reading expected (Err e) = FailsAs expected e
 
--- a look at a file that is told answers what lies there; a fault and want of memory may come anywhere
-abbrev pub Finds : {A : Type 0} → (A → Stamp → List ℕ → Type 0) → Option Entry → Result A Error → Type 0
-Finds Gives there (Ok given) = (stamp : Stamp) × (bytes : List ℕ) × (there ≡ Some (Present stamp bytes)) × Gives given stamp bytes
-Finds Gives there (Err errors.NotFound) = there ≡ None
-Finds Gives there (Err errors.PermissionDenied) = there ≡ Some Denied
-Finds Gives there (Err errors.ReadFault) = Unit {0}
-Finds Gives there (Err errors.OutOfMemory) = Unit {0}
-Finds Gives there (Err _) = ⊥
+-- a look at a file that is told answers what lies there; a fault and want of memory may come anywhere. It is `IsAnswer` in the
+-- refusals of a symbolizer, and compares with a file, where `Comes` compares with an expected result.
+abbrev pub IsLookAnswer : {A : Type 0} → (A → Stamp → List ℕ → Type 0) → Option Entry → Result A Error → Type 0
+IsLookAnswer Shows there (Ok given) = (stamp : Stamp) × (bytes : List ℕ) × (there ≡ Some (Present stamp bytes)) × Shows given stamp bytes
+IsLookAnswer Shows there (Err errors.NotFound) = there ≡ None
+IsLookAnswer Shows there (Err errors.PermissionDenied) = there ≡ Some Denied
+IsLookAnswer Shows there (Err errors.ReadFault) = Unit {0}
+IsLookAnswer Shows there (Err errors.OutOfMemory) = Unit {0}
+IsLookAnswer Shows there (Err _) = ⊥
 
 -- a look at a file is refused by one of these
 abbrev pub MayMiss : Error → Type 0
