@@ -1,13 +1,14 @@
 -- Pinning a path at the version that a look gives, where a refusal changes nothing.
-use Rattle.std.specs.Prelude.{◌≡◌, ℕ, Bool, true, false, List, Option, IsSome, Result, Ok, Err, IsOk, OnOk, OnErr, IfErr, IsOkUnless}
+use Rattle.std.specs.Prelude.{◌≡◌, ℕ, true, false, List, Option, IsSome, Result, Ok, Err, IsOk, OnOk, OnErr, IfErr, IsOkUnless}
 use Rattle.bz_base.specs.declared.error.Error.{Error}
 use Rattle.bz_base.specs.declared.error.Error.TheVariants as errors
-use Rattle.bz_files.specs.Looked.{Faulted, Looked, ReadsOne}
+use Rattle.bz_files.specs.Looked.{Faulted, Looked}
 use Rattle.bz_files.specs.World.{World, Entry, Told, entry_at, in_view}
 use Rattle.bz_files.specs.declared.files.Files.{Ghosts}
 use Rattle.bz_cache.specs.Cache.{Cache, Consistent, with_pin}
 use Rattle.bz_cache.specs.Format.{Comes, FailsAs, MayFail}
-use Rattle.bz_cache.specs.Look.{look, will_open, opens_after, IsUnmoved, Lends}
+use Rattle.bz_cache.specs.Look.{look, will_open, IsUnmoved, Lends}
+use Rattle.bz_cache.specs.Steps.{ReadsAt}
 use Rattle.bz_cache.specs.View.{fixed}
 
 -- a path at which a look gave a version is pinned there; a look that is refused changes nothing
@@ -24,12 +25,6 @@ pub record IsLeft (expected : Option Entry → Result (Unit {0}) Error × Cache)
   pub there : Option Entry
   pub told : Told in_view (λ world. there ≡ entry_at world path)
   pub leaves : expected there ≡ (Ok tt, now)
-
--- a call that looks at the path reads the file exactly where it has to: where it is answered, and never else; and once at most
-pub record ReadsAt {A X : Type 0} (files : Ghosts X) (opens : Option Entry → Bool) (path : List ℕ) (result : Result A Error) (before after : X) : Type 0 where
-  pub opened : Told (in_view (files.worlds before)) (λ world. OnOk result (files.opens after ≡ opens_after (opens (entry_at world path)) (files.opens before)))
-  pub spared : Told (in_view (files.worlds before)) (λ world. opens (entry_at world path) ≡ false → files.opens after ≡ files.opens before)
-  pub most : ReadsOne files before after
 
 -- all that pinning a path does
 pub record PinsFile {X : Type 0} (files : Ghosts X) (test : List ℕ → Option Error) (path : List ℕ) (result : Result (Unit {0}) Error) (old now : Cache) (before after : X) : Type 0 where

@@ -20,9 +20,16 @@ pub record LeavesCache (test : List ℕ → Option Error) (expected : Option Ent
   pub some : IfOk result (λ stamp. (there : Option Entry) × (expected there ≡ (Ok (bytes_at new stamp), new)))
   pub consistent : OnOk result (Consistent test new)
 
--- what a step does to the files, by whether it reads what lies at the path
-pub record ReadsFile {X : Type 0} (files : Ghosts X) (opens : Option Entry → Bool) (path : List ℕ) (result : Result Stamp Error) (before after : X) : Type 0 where
+-- how many files a call that looks at the path reads, by whether it has to read what lies there
+pub record ReadsAt {A X : Type 0} (files : Ghosts X) (opens : Option Entry → Bool) (path : List ℕ) (result : Result A Error) (before after : X) : Type 0 where
+  -- an answered call reads the file exactly where it has to
   pub opened : Told (in_view (files.worlds before)) (λ world. OnOk result (files.opens after ≡ opens_after (opens (entry_at world path)) (files.opens before)))
+  -- answered or not, it reads none where it needn't
   pub spared : Told (in_view (files.worlds before)) (λ world. opens (entry_at world path) ≡ false → files.opens after ≡ files.opens before)
+  -- whatever is told, it reads one at most
   pub most : ReadsOne files before after
+
+-- what a step does to the files, by whether it has to read what lies at the path
+pub record ReadsFile {X : Type 0} (files : Ghosts X) (opens : Option Entry → Bool) (path : List ℕ) (result : Result Stamp Error) (before after : X) : Type 0 where
+  pub reads : ReadsAt files opens path result before after
   pub looked : Looked files before after (Faulted result)

@@ -4,12 +4,12 @@ ghost use Rattle.std.specs.Prelude.{◌≡◌, ◌≤◌, ◌⊎◌, Option, Non
 ghost use Rattle.std.specs.FinMap as map;
 ghost use Rattle.bz_cache.specs.Cache.{Cache, PathState, Consistent, new_cache, stamp_eq, current_of, is_held, is_pinned, with_pin};
 ghost use Rattle.bz_cache.specs.Eviction.{evicted, evicts};
-ghost use Rattle.bz_files.specs.Looked.{Faulted, Looked, ReadsOne};
+ghost use Rattle.bz_files.specs.Looked.{Faulted, Looked};
 ghost use Rattle.bz_files.specs.World.{Present, Told, in_view, entry_at};
 ghost use Rattle.bz_cache.specs.Format.{Comes, MayFail};
 ghost use Rattle.bz_cache.specs.Insertion.{insertion, Inserts, MayKeepOut};
-ghost use Rattle.bz_cache.specs.Look.{named, look, by_entry, is_new, will_open, opens_after, IsUnmoved, Lends, Shares};
-ghost use Rattle.bz_cache.specs.Steps.{LeavesCache, ReadsFile};
+ghost use Rattle.bz_cache.specs.Look.{named, look, by_entry, is_new, will_open, IsUnmoved, Lends, Shares};
+ghost use Rattle.bz_cache.specs.Steps.{LeavesCache, ReadsAt, ReadsFile};
 ghost use Rattle.bz_cache.specs.View.{fixed, bytes_at};
 
 use crate::version::Version;
@@ -225,9 +225,7 @@ impl<T: Version + Drop> FileCache<T> {
         ensures unseen { IsSome (fixed self.old path.now) → files.new ≡ files.old }
         // No memory is taken where the present stamp is the path's current one.
         ensures unmoved { Told (in_view (F.worlds files.old)) (λ w. IsUnmoved self.old path.now (entry_at w path.now) → IsOkUnless result Error.ReadFault) }
-        ensures opened { Told (in_view (F.worlds files.old)) (λ w. OnOk result (F.opens files.new ≡ opens_after (will_open self.old path.now (entry_at w path.now)) (F.opens files.old))) }
-        ensures spared { Told (in_view (F.worlds files.old)) (λ w. will_open self.old path.now (entry_at w path.now) ≡ false → F.opens files.new ≡ F.opens files.old) }
-        ensures most { ReadsOne F.Files files.old files.new }
+        ensures reads { ReadsAt F.Files (will_open self.old path.now) path.now result files.old files.new }
         ensures files { Looked F.Files files.old files.new (Faulted result) }
         ensures refusal { IfErr result (MayFail T.test) }
     {
@@ -242,9 +240,7 @@ impl<T: Version + Drop> FileCache<T> {
         ensures after { Shares (λ v. T.bytes_of v.value) T.test result self.old self.new path.now (in_view (F.worlds files.old)) }
         ensures answer { Told (in_view (F.worlds files.old)) (λ w. Comes (λ v. T.bytes_of v.value) (look T.test self.old path.now (entry_at w path.now)).0 result) }
         ensures unseen { IsSome (fixed self.old path.now) → (files.new ≡ files.old) × (self.new ≡ self.old) }
-        ensures opened { Told (in_view (F.worlds files.old)) (λ w. OnOk result (F.opens files.new ≡ opens_after (will_open self.old path.now (entry_at w path.now)) (F.opens files.old))) }
-        ensures spared { Told (in_view (F.worlds files.old)) (λ w. will_open self.old path.now (entry_at w path.now) ≡ false → F.opens files.new ≡ F.opens files.old) }
-        ensures most { ReadsOne F.Files files.old files.new }
+        ensures reads { ReadsAt F.Files (will_open self.old path.now) path.now result files.old files.new }
         ensures files { Looked F.Files files.old files.new (Faulted result) }
         ensures refusal { IfErr result (MayFail T.test) }
     {

@@ -15,7 +15,7 @@ returns-in_err-_version g c =
       err = kept;
       sure = λ held. absurd (false≢true (looked.sure held));
       unmoved = looked.unmoved;
-      reads = record { opened = λ world seen. tt; spared = looked.spared; most = looked.most };
+      reads = record { opened = λ world seen. tt; spared = looked.reads.spared; most = looked.reads.most };
       looked = looked.files;
       refusal = looked.refusal;
     })

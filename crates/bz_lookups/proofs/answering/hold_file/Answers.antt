@@ -19,7 +19,7 @@ returns-in_err-version-clause-called g c opts =
     let asked = query_asked g.T.Version.test g.T.Answers.answering opts c.args.path.now (each_of (address_kind c.args.input.now)) in
     let shared = c.in_err-version.ensures in
     rw (same.1, same.2) (calls_unshared g.F.Files (held_singles opts) (λ (v : Rc g.row.T.Denot Global). g.T.Version.bytes_of v.value) asked c.args.path.now c.args.cache.now c.shared.new.self c.args.files.now c.shared.new.files
-    c.in_err-version.field-0.0 taken shared.after shared.answer (λ held. (shared.unseen held).0) shared.spared shared.most shared.files shared.refusal)
+    c.in_err-version.field-0.0 taken shared.after shared.answer (λ held. (shared.unseen held).0) shared.reads.spared shared.reads.most shared.files shared.refusal)
 
 -- the version that was shared is held
 pub returns-clause-called : goal.returns-clause-called

@@ -17,7 +17,7 @@ returns-in_err-file g c =
     let asked = asks_elf c.args.module_path.now c.args.offset in
     record {
       told = λ world told. rw (same.1, same.2) (told_refused reading asked c.args.path.now c.in_err-file.field-0.0
-          c.args.cache.now _ (entry_at world c.args.path.now) _ _ refl kept (c.in_err-file.ensures.answer world told) (c.in_err-file.ensures.spared world told));
+          c.args.cache.now _ (entry_at world c.args.path.now) _ _ refl kept (c.in_err-file.ensures.answer world told) (c.in_err-file.ensures.reads.spared world told));
       some = search rules;
       untaken = search rules;
       stays = search rules;

@@ -17,7 +17,7 @@ returns-in_err-map g c =
     let asked = asks_perf_map c.args.addr in
     record {
       told = λ world told. rw (same.1, same.2) (told_refused reading asked c.args.path.now c.in_err-map.field-0.0
-          c.args.cache.now _ (entry_at world c.args.path.now) _ _ refl kept (c.in_err-map.ensures.answer world told) (c.in_err-map.ensures.spared world told));
+          c.args.cache.now _ (entry_at world c.args.path.now) _ _ refl kept (c.in_err-map.ensures.answer world told) (c.in_err-map.ensures.reads.spared world told));
       some = search rules;
       untaken = search rules;
       stays = search rules;

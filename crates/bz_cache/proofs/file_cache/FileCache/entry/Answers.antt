@@ -11,4 +11,4 @@ pub returns-in_err-stamp : goal.returns-in_err-stamp
 returns-in_err-stamp g c =
     let same = err_from_is_err_and c.from_residual.result c.from_residual.ensures.1 in
     let look = c.in_err-stamp.ensures in
-    ((refl, λ _. tt, search rules), rw (same.1, same.2) (look.answer, (λ held. (look.fixed held).0, (λ held. (look.fixed held).2, (look.unmoved, (look.files.opened, (look.files.spared, (look.files.most, (look.files.looked, look.refusal)))))))))
+    ((refl, λ _. tt, search rules), rw (same.1, same.2) (look.answer, (λ held. (look.fixed held).0, (λ held. (look.fixed held).2, (look.unmoved, (record { opened = look.files.reads.opened; spared = look.files.reads.spared; most = look.files.reads.most }, (look.files.looked, look.refusal)))))))

@@ -45,8 +45,6 @@ returns-clause-cache g c = record {
 -- no fault of the files comes of that
 pub returns-clause-files : goal.returns-clause-files
 returns-clause-files g c = record {
-  opened = search rules;
-  spared = search rules;
-  most = search rules;
+  reads = record { opened = search rules; spared = search rules; most = search rules };
   looked = looked_unfailed g.F.Files c.args.files.now c.contents.new.files _ c.take_in.ensures.no_fault (looked_then g.F.Files c.args.files.now c.present.new.files ⊥ c.contents.new.files c.in_ok-stamp.ensures.files c.in_ok-read.ensures.files);
 }
