@@ -107,9 +107,9 @@ module _ (test : List ℕ → Option Error) (c : Cache) (p : List ℕ) where
       by_fix None = reload_entry there
 
 -- a refusal of a look is one that a call may have
-may_be_refused : (test : List ℕ → Option Error) (e : Error) → MayFail test e → MayBeRefused test e
-may_be_refused test errors.Unsupported may = tt
-may_be_refused test _ may = may
+may_be_refused : (untaken : Type 0) (test : List ℕ → Option Error) (e : Error) → MayFail test e → MayBeRefused untaken test e
+may_be_refused untaken test errors.Unsupported may = inr may
+may_be_refused untaken test _ may = may
 
 -- a call to which no version was shared
 module _ {A B V X : Type 0} (files : Ghosts X) (reading : A → B) (bytes_of : V → List ℕ) (asked : Question B) (path : List ℕ) (old new : Cache) (before after : X) where
@@ -124,7 +124,7 @@ module _ {A B V X : Type 0} (files : Ghosts X) (reading : A → B) (bytes_of : V
       Looked files before after (Faulted {A = A} (Err e)) → MayFail asked.test e → CallsFile files reading asked path (Err e) old new before after
   unanswered e taken none fails spared most looked may = record {
     told = λ world seen. told_refused reading asked path e old new (entry_at world path) _ _ taken none.unchanged (fails world seen) (spared world seen);
-    some = inr (record { refused = refl; refusal = may_be_refused asked.test e may; unchanged = none.unchanged });
+    some = inr (record { refused = refl; refusal = may_be_refused (asked.taken ≡ false) asked.test e may; unchanged = none.unchanged });
     untaken = λ other. absurd (false≢true (sym other ∙ taken));
     stays = λ held. absurd (none.not_fixed held);
     ready = λ held t. absurd (none.not_fixed held);

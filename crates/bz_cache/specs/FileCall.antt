@@ -80,10 +80,11 @@ pub record FileTold {A B : Type 0} (reading : A → B) (asked : Question B) (pat
   pub opened : OnOk result (after ≡ opens_after (file_opens asked.taken old path there) before)
   pub spared : file_opens asked.taken old path there ≡ false → after ≡ before
 
--- whatever is told, a call that no version answered is refused for its kind of address, or as a look at files of its format
-abbrev pub MayBeRefused : (List ℕ → Option Error) → Error → Type 0
-MayBeRefused test errors.Unsupported = Unit {0}
-MayBeRefused test e = MayFail test e
+-- whatever is told, a call that no version answered is refused as a look at files of its format, or by `Unsupported` for its
+-- kind of address, of which this holds
+abbrev pub MayBeRefused : Type 0 → (List ℕ → Option Error) → Error → Type 0
+MayBeRefused untaken test errors.Unsupported = untaken ⊎ MayFail test errors.Unsupported
+MayBeRefused untaken test e = MayFail test e
 
 -- some look at the path gave a version and left it kept there, and the call answers by that version
 pub record ByVersion {A B : Type 0} (reading : A → B) (asked : Question B) (path : List ℕ) (result : Result A Error) (old now : Cache) : Type 0 where
@@ -93,14 +94,14 @@ pub record ByVersion {A B : Type 0} (reading : A → B) (asked : Question B) (pa
   pub given : Gives reading (asked.given bytes) result
 
 -- the call was refused before a version was kept, and nothing has changed
-pub record RefusedFirst {A : Type 0} (test : List ℕ → Option Error) (result : Result A Error) (old now : Cache) : Type 0 where
+pub record RefusedFirst {A B : Type 0} (asked : Question B) (result : Result A Error) (old now : Cache) : Type 0 where
   pub refused : IsErr result
-  pub refusal : IfErr result (MayBeRefused test)
+  pub refusal : IfErr result (MayBeRefused (asked.taken ≡ false) asked.test)
   pub unchanged : now ≡ old
 
 -- whatever is told: a version answered, or the call was refused before one was kept
 abbrev pub FileSome : {A B : Type 0} → (A → B) → Question B → List ℕ → Result A Error → Cache → Cache → Type 0
-FileSome reading asked path result old now = ByVersion reading asked path result old now ⊎ RefusedFirst asked.test result old now
+FileSome reading asked path result old now = ByVersion reading asked path result old now ⊎ RefusedFirst asked result old now
 
 -- all that a call on one file in one cache does
 pub record CallsFile {A B X : Type 0} (files : Ghosts X) (reading : A → B) (asked : Question B) (path : List ℕ) (result : Result A Error)

@@ -18,7 +18,7 @@ use Rattle.bz_cache.proofs.Naming.{some_at}
 use Rattle.bz_symbolize.proofs.FileLemmas.{look_by_view}
 use Rattle.bz_symbolize.specs.FileCall.{Query, by_test, by_look, query_given, file_answer, ByVersion, FileSome, MayBeRefused, view_answer}
 use Rattle.bz_symbolize.specs.Sources.{FileSource, asked_of}
-use Rattle.bz_symbolize.specs.Promise.{IsAnswerOf, IsVersionOf, AnswersView, AnswersLook, AnswersKept, IsValid, IsServedOrFails, IsServedKept, IsOwnRefusal}
+use Rattle.bz_symbolize.specs.Promise.{IsAnswerOf, IsVersionOf, AnswersView, AnswersLook, AnswersKept, IsValid, IsServedOrFails, IsServedKept, IsOwnRefusal, IsUnserved}
 use Rattle.bz_symbolize.specs.State.{State, WellKept}
 use Rattle.bz_symbolize.specs.declared.source.Source.{Source}
 
@@ -170,18 +170,27 @@ module _ {B : Type 0} (opts : FindSymOpts) (source : Source) (file : FileSource)
       ready_from_version (Err errors.OutOfMemory) serves by = tt
       ready_from_version (Err e) serves by = kept_by by.bytes (Err e) by.kept.0 (served by.bytes (Err e) by.kept.1 serves by.given)
 
-      unsupported_may : (e : Error) → e ≡ errors.Unsupported → MayBeRefused file.test e
-      unsupported_may e is = subst (MayBeRefused file.test) (sym is) tt
+      abbrev MayRefuse : Error → Type 0
+      MayRefuse e = MayBeRefused (IsUnserved file query.kind) file.test e
+
+      unsupported_may : (e : Error) → file.answering.serves query.kind ≡ false → e ≡ errors.Unsupported → MayRefuse e
+      unsupported_may e serves is = subst MayRefuse (sym is) (inl (inr serves))
+
+      -- a kind that isn't taken is one that isn't served
+      first_may : (e : Error) → MayBeRefused (file.answering.takes query.kind ≡ false) file.test e → MayRefuse e
+      first_may errors.Unsupported (inl untaken) = inl (inl untaken)
+      first_may errors.Unsupported (inr may) = inr may
+      first_may _ may = may
 
       refusal_by : (bytes : List ℕ) (e : Error) → ((file.answering.serves query.kind ≡ false) × (e ≡ errors.Unsupported)) ⊎ IsAnswerOf source opts bytes query (Err e) →
-          MayBeRefused file.test e ⊎ IsOwnRefusal source opts query e
-      refusal_by bytes e (inl kind) = inl (unsupported_may e kind.1)
+          MayRefuse e ⊎ IsOwnRefusal source opts query e
+      refusal_by bytes e (inl kind) = inl (unsupported_may e kind.0 kind.1)
       refusal_by bytes e (inr own) = inr (bytes, own)
 
       -- whatever is told, which refusals may come
       pub refusal_from_some : (result : Result A Error) → FileSome reading (asked_of file opts query) file.path result (file.cache old) (file.cache now) →
-          IfErr result (λ e. MayBeRefused file.test e ⊎ IsOwnRefusal source opts query e)
+          IfErr result (λ e. MayRefuse e ⊎ IsOwnRefusal source opts query e)
       refusal_from_some (Ok given) some = tt
-      refusal_from_some (Err e) (inr first) = inl first.refusal
+      refusal_from_some (Err e) (inr first) = inl (first_may e first.refusal)
       refusal_from_some (Err errors.OutOfMemory) (inl by) = inl tt
       refusal_from_some (Err e) (inl by) = refusal_by by.bytes e (own_refusal by.bytes e by.kept.1 by.given)

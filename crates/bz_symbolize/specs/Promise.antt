@@ -149,6 +149,10 @@ IsServedKept opts source file query (Ok given) now = Unit {0}
 IsServedKept opts source file query (Err errors.OutOfMemory) now = Unit {0}
 IsServedKept opts source file query (Err e) now = AnswersKept opts source file now query (Err e)
 
+-- the kind of address isn't taken, or no version answers it
+abbrev pub IsUnserved : FileSource → AddressKind → Type 0
+IsUnserved file kind = (file.answering.takes kind ≡ false) ⊎ (file.answering.serves kind ≡ false)
+
 -- what is asked is itself refused so by some bytes in the source's format
 abbrev pub IsOwnRefusal : {B : Type 0} → Source → FindSymOpts → Query B → Error → Type 0
 IsOwnRefusal source opts query e = (bytes : List ℕ) × IsAnswerOf source opts bytes query (Err e)
@@ -186,9 +190,9 @@ pub record Symbolizes {A B X : Type 0} (files : Ghosts X) (reading : A → B) (s
   pub stays : OnFile source (λ file. IsSome (fixed (file.cache old) file.path) → (now ≡ old) × (after ≡ before))
   pub ready : OnFile source (λ file. IsSome (fixed (file.cache old) file.path) → file.answering.takes query.kind ≡ true →
       file.answering.serves query.kind ≡ true → IsServedKept (opts_of old.settings) source file query result now)
-  -- whatever is told, no other refusal comes than those of the kind of address, of a look, of the source's format, and those
-  -- that some bytes in this format themselves give to what is asked
-  pub refusal : OnFile source (λ file. IfErr result (λ e. MayBeRefused file.test e ⊎ IsOwnRefusal source (opts_of old.settings) query e))
+  -- whatever is told, no other refusal comes than `Unsupported` of a kind of address that isn't served, those of a look and of
+  -- the source's format, and those that some bytes in this format themselves give to what is asked
+  pub refusal : OnFile source (λ file. IfErr result (λ e. MayBeRefused (IsUnserved file query.kind) file.test e ⊎ IsOwnRefusal source (opts_of old.settings) query e))
   pub settings : now.settings ≡ old.settings
   pub caches : WellKept now
   -- of the files: they are only looked at, and one at most is read
