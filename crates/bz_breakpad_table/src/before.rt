@@ -1,4 +1,5 @@
-//! What lines tell of the next one.
+//! What lines tell of the next one. Unlike `Walk`, it keeps nothing of a line: it only finds the first
+//! that has no place.
 
 ghost use Rattle.std.specs.Prelude.{◌≡◌, List, option_map, IfOk};
 ghost use Rattle.bz_breakpad_lines.specs.Told.{record_told};

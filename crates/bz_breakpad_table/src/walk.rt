@@ -1,4 +1,5 @@
-//! The walk over a file's lines: what a line is depends on the record before it.
+//! The walk over a file's lines: what a line is depends on the record before it. Unlike `Before`, it
+//! keeps what each line says, and reads runs of lines quickly.
 
 ghost use Rattle.std.specs.Prelude.{◌≡◌, ◌<◌, ◌≤◌, ◌+◌, ◌^◌, ℕ, List, ◌&&◌, nat_lt, false, length, is_some, IfSome, IfNone, IfOk, IfErr, OnOk};
 ghost use Rattle.bz_base.specs.declared.error.Error.{Error};
