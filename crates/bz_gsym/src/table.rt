@@ -1,9 +1,10 @@
 //! A GSYM file that owns its bytes.
 
-ghost use Rattle.std.specs.Prelude.{◌≡◌, IfOk, IfErr};
+ghost use Rattle.std.specs.Prelude.{◌≡◌, None, IfOk, IfErr, IsErrOf};
 ghost use Rattle.bz_base.specs.Lent.{IsLentResolved};
 ghost use Rattle.bz_base.specs.Resolution.{MayGive, StartsBefore, found_of};
 ghost use Rattle.bz_base.specs.declared.error.Error.{Error};
+ghost use Rattle.bz_cache.specs.Format.{IsRefusalBy};
 ghost use Rattle.bz_gsym.specs.Plain.{plain};
 ghost use Rattle.bz_gsym.specs.Refusal.{IsAnswerRefusal};
 ghost use Rattle.bz_gsym.specs.Tables.{IsGsym};
@@ -60,7 +61,12 @@ impl Version for GsymTable {
 
     ghost test = { format_test };
 
-    fn parse(_alloc: Global, bytes: Vec<u8>) -> Result<GsymTable> {
+    fn parse(_alloc: Global, bytes: Vec<u8>) -> Result<GsymTable>
+        ensures ok { IfOk result (λ table. table ≡ bytes.items) }
+        ensures formed { IfOk result (λ table. format_test bytes.items ≡ None) }
+        ensures refusal { IfErr result (IsRefusalBy (format_test bytes.items)) }
+        ensures no_memory { IsErrOf result Error.OutOfMemory → ⊥ }
+    {
         GsymTable::from_bytes(bytes)
     }
 
