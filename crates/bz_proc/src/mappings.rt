@@ -15,7 +15,7 @@ use std::marker::Model;
 pub struct Mappings {
     entries: Vec<MapsEntry>,
     // Of each mapping the greatest end of those up to it: these never descend.
-    ends: Vec<Addr>,
+    farthest_ends: Vec<Addr>,
 }
 
 impl Model for Mappings {
@@ -27,7 +27,7 @@ impl Model for Mappings {
 
     ghost view = { λ m. map mapping_of m.entries.items };
 
-    ghost invariant = { λ m. m.ends.items ≡ reached (map mapping_of m.entries.items) };
+    ghost invariant = { λ m. m.farthest_ends.items ≡ reached (map mapping_of m.entries.items) };
 }
 
 impl Mappings {
@@ -36,8 +36,11 @@ impl Mappings {
         ensures ok { IfOk result (λ mappings. mappings ≡ map mapping_of entries.items) }
         ensures memory { IsOkUnless result Error.OutOfMemory }
     {
-        let ends = ends_of(alloc, entries.as_slice())?;
-        Ok(Mappings { entries, ends })
+        let farthest_ends = farthest_ends(alloc, entries.as_slice())?;
+        Ok(Mappings {
+            entries,
+            farthest_ends,
+        })
     }
 
     /// The mappings, in their order.
@@ -60,7 +63,7 @@ impl Mappings {
         ensures place { result ≡ owner_in self.now addr }
         ensures within { IfSome result (λ place. place < length self.now) }
     {
-        let place = self.ends.partition_point(|end| *end <= addr);
+        let place = self.farthest_ends.partition_point(|end| *end <= addr);
         if_begins(self.entries.as_slice(), addr, place)
     }
 
@@ -74,7 +77,7 @@ impl Mappings {
 }
 
 /// Of each mapping the greatest end of those up to it.
-fn ends_of(alloc: Global, entries: &[MapsEntry]) -> Result<Vec<Addr>>
+fn farthest_ends(alloc: Global, entries: &[MapsEntry]) -> Result<Vec<Addr>>
     ensures ok { IfOk result (λ ends. ends.items ≡ reached (map mapping_of entries.now)) }
     ensures memory { IsOkUnless result Error.OutOfMemory }
 {

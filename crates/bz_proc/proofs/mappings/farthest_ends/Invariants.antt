@@ -1,7 +1,7 @@
 use Rattle.std.proofs.Common.{◌≡◌, ◌++◌, map, drop}
 use Rattle.bz_proc.specs.Maps.{mapping_of}
 use Rattle.bz_proc.specs.Reach.{reached, reached_from}
-use Rattle.bz_proc.proofs.mappings.ends_of.Given as goal
+use Rattle.bz_proc.proofs.mappings.farthest_ends.Given as goal
 
 -- what was reached so far, in front of what the mappings that are left reach, is what all of them do
 abbrev pub invariant-loop-entry : goal.invariant-loop-entry
