@@ -12,15 +12,15 @@ abbrev pub maps_path : Pid → List ℕ
 maps_path pid = codes "/proc/" ++ (pid_text pid ++ codes "/maps")
 
 -- the mappings, if the text tells some
-abbrev pub told_maps : Option (List Mapping) → Result (List Mapping) Error
-told_maps None = Err errors.InvalidData
-told_maps (Some mappings) = Ok mappings
+abbrev pub or_invalid_data : Option (List Mapping) → Result (List Mapping) Error
+or_invalid_data None = Err errors.InvalidData
+or_invalid_data (Some mappings) = Ok mappings
 
 -- the mappings, or why there are none
 abbrev pub maps_told : Pid → Option Entry → Result (List Mapping) Error
 maps_told pid None = Err errors.NotFound
 maps_told pid (Some Denied) = Err errors.PermissionDenied
-maps_told pid (Some (Present stamp bytes)) = told_maps (maps_in pid bytes)
+maps_told pid (Some (Present stamp bytes)) = or_invalid_data (maps_in pid bytes)
 
 -- whatever is told, some text tells these mappings
 pub record AreOfText (pid : Pid) (mappings : List Mapping) : Type 0 where
