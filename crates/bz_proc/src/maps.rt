@@ -130,6 +130,7 @@ fn entry(alloc: Global, pid: Pid, line: &[u8]) -> Result<MapsEntry>
     let Some(told) = mapping_line(line) else {
         return Err(Error::InvalidData);
     };
+    // What follows the spaces of a line in UTF-8 is UTF-8.
     let text = unsafe { std::str::from_utf8_unchecked(told.text) };
     let path_name = path_name(alloc, pid, told.start, told.end, text)?;
     Ok(MapsEntry {

@@ -10,6 +10,9 @@ use bz_base::{Error, Result, first_line};
 /// What the line of the ids begins with.
 const LABEL: &[u8] = b"NStgid:";
 
+/// A form feed.
+pub(crate) const FORM_FEED: u8 = b'\x0c';
+
 /// The id by which the process names itself, as the text of its status tells it: the last word behind
 /// `NStgid:` in the first line that begins so. There is none where no line does. InvalidData: the text
 /// isn't UTF-8, or that word isn't a number of 32 bits.
@@ -47,10 +50,11 @@ fn labelled(status: &[u8]) -> Option<&[u8]>
     None
 }
 
+/// Whether words stand between such bytes.
 fn is_between(byte: u8) -> bool
     ensures { result ≡ is_between byte }
 {
-    byte == b' ' || byte == b'\t' || byte == b'\x0c' || byte == b'\r'
+    byte == b' ' || byte == b'\t' || byte == FORM_FEED || byte == b'\r'
 }
 
 /// How many bytes that words stand between are behind the last word.

@@ -7,6 +7,15 @@ ghost use Rattle.bz_proc.specs.Maps.{line_of};
 
 use bz_base::{Addr, read_hex};
 
+/// How many hexadecimal digits a number of a line has at most.
+const MOST_HEX_DIGITS: usize = 16;
+
+/// How many bytes the permissions have.
+const PERMISSIONS_LEN: usize = 4;
+
+/// How many decimal digits an inode has at most.
+const MOST_INODE_DIGITS: usize = 20;
+
 /// What a line of mappings tells.
 #[derive(Drop)]
 pub struct MappingLine<'a> {
@@ -42,8 +51,8 @@ pub fn mapping_line(line: &[u8]) -> Option<MappingLine<'_>>
 fn span(line: &[u8]) -> Option<(Addr, Addr, &[u8])>
     ensures { option_map (λ read. ((read.0, read.1), read.2.now)) result ≡ span_at line.now }
 {
-    let (start, rest) = read_hex(line, 16)?;
-    let (end, rest) = read_hex(after_dash(rest)?, 16)?;
+    let (start, rest) = read_hex(line, MOST_HEX_DIGITS)?;
+    let (end, rest) = read_hex(after_dash(rest)?, MOST_HEX_DIGITS)?;
     Some((start, end, rest))
 }
 
@@ -52,7 +61,7 @@ fn offset(text: &[u8]) -> Option<(u64, &[u8])>
     ensures { option_map (λ read. (read.0, read.1.now)) result ≡ offset_at text.now }
 {
     let rest = after_permissions(after_spaces(text)?)?;
-    read_hex(after_spaces(rest)?, 16)
+    read_hex(after_spaces(rest)?, MOST_HEX_DIGITS)
 }
 
 /// The text that stands last, behind device and inode.
@@ -117,7 +126,7 @@ fn after_permissions(text: &[u8]) -> Option<&[u8]>
     ensures { option_map (λ rest. rest.now) result ≡ after_run is_solid four text.now }
 {
     let len = solid_len(text);
-    if len != 4 {
+    if len != PERMISSIONS_LEN {
         return None;
     }
     Some(&text[len..])
@@ -141,7 +150,7 @@ fn after_inode(text: &[u8]) -> Option<&[u8]>
     ensures { option_map (λ rest. rest.now) result ≡ after_run is_decimal one_to_twenty text.now }
 {
     let len = digit_len(text);
-    if len == 0 || len > 20 {
+    if len == 0 || len > MOST_INODE_DIGITS {
         return None;
     }
     Some(&text[len..])

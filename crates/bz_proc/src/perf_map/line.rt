@@ -5,6 +5,7 @@ ghost use Rattle.bz_proc.specs.PerfLine.{field_at, perf_function_in, perf_number
 ghost use Rattle.bz_proc.specs.PerfLines.{line_len};
 ghost use Rattle.bz_proc.specs.PerfKept.{line_told};
 
+use crate::status::FORM_FEED;
 use memchr::{memchr2, memchr3};
 
 /// What a line tells of a function.
@@ -48,7 +49,7 @@ fn field(text: &[u8]) -> Option<(&[u8], &[u8])>
     ensures reads { option_map (λ parts. (parts.0.now, parts.1.now)) result ≡ field_at text.now }
     ensures within { IfSome result (λ parts. length parts.1.now ≤ length text.now) }
 {
-    let len = memchr3(b' ', b'\t', b'\x0c', text)?;
+    let len = memchr3(b' ', b'\t', FORM_FEED, text)?;
     Some((&text[..len], &text[len + 1..]))
 }
 
