@@ -29,31 +29,42 @@ pub struct MappingLine<'a> {
     pub(crate) text: &'a [u8],
 }
 
+/// The addresses that begin a line, and the text after them.
+#[derive(Drop)]
+struct AddressRange<'a> {
+    /// The first address.
+    start: Addr,
+    /// The address after the last one.
+    end: Addr,
+    /// The text after the addresses.
+    rest: &'a [u8],
+}
+
 /// What the line tells, if it is one of a mapping.
 pub fn mapping_line(line: &[u8]) -> Option<MappingLine<'_>>
     ensures { option_map line_of result ≡ line_in line.now }
 {
-    let (start, end, rest) = span(line)?;
-    let (offset, rest) = offset(rest)?;
+    let range = address_range(line)?;
+    let (offset, rest) = offset(range.rest)?;
     let text = last_text(rest)?;
-    if end < start {
+    if range.end < range.start {
         return None;
     }
     Some(MappingLine {
-        start,
-        end,
+        start: range.start,
+        end: range.end,
         offset,
         text,
     })
 }
 
-/// The addresses where the mapping begins and ends, and the text after them.
-fn span(line: &[u8]) -> Option<(Addr, Addr, &[u8])>
-    ensures { option_map (λ read. ((read.0, read.1), read.2.now)) result ≡ span_at line.now }
+/// The addresses where the mapping begins and ends.
+fn address_range(line: &[u8]) -> Option<AddressRange<'_>>
+    ensures { option_map (λ range. ((range.start, range.«end»), range.rest.now)) result ≡ span_at line.now }
 {
     let (start, rest) = read_hex(line, MOST_HEX_DIGITS)?;
     let (end, rest) = read_hex(after_dash(rest)?, MOST_HEX_DIGITS)?;
-    Some((start, end, rest))
+    Some(AddressRange { start, end, rest })
 }
 
 /// The offset behind the permissions, and the text after it.
