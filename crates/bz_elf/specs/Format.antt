@@ -42,6 +42,6 @@ pub record IsFirstFailing (list : List Check) (bytes : List ℕ) (index : ℕ) (
   pub refusal_is : check.refusal ≡ refusal
   pub before : (i : ℕ) (other : Check) → i < index → slice_get list i ≡ Some other → other.test bytes ≡ true
 
--- the bytes are an ELF file of the profile: each check is passed
-abbrev pub IsElf : List ℕ → Type 0
-IsElf bytes = (i : ℕ) (check : Check) → slice_get checks i ≡ Some check → check.test bytes ≡ true
+-- the bytes pass each check
+abbrev pub PassesChecks : List ℕ → Type 0
+PassesChecks bytes = (i : ℕ) (check : Check) → slice_get checks i ≡ Some check → check.test bytes ≡ true

@@ -5,14 +5,15 @@ ghost use Rattle.bz_base.specs.Answer.{Resolved};
 ghost use Rattle.bz_base.specs.ZeroEnded.{IsString, before_zero};
 ghost use Rattle.bz_elf.specs.Plain.{plain};
 ghost use Rattle.bz_base.specs.declared.error.Error.{Error};
-ghost use Rattle.bz_elf.specs.Format.{IsFirstFailing, checks, format_test};
+ghost use Rattle.bz_elf.specs.Format.{IsFirstFailing, PassesChecks, checks, format_test};
 ghost use Rattle.bz_elf.specs.Profile.{IsElf};
 ghost use Rattle.bz_elf.specs.Symbols.{is_name};
 
-/// The test of an ELF file says what the relation says, and other bytes are refused by the first
-/// check that they fail.
+/// The test of an ELF file says what the relation says, which is what the checks say together. Other
+/// bytes are refused by the first check that they fail.
 pub fn files_are_exact()
     ensures taken { (bytes : List ℕ) → (format_test bytes ≡ None) ↔ IsElf bytes }
+    ensures passed { (bytes : List ℕ) → (format_test bytes ≡ None) ↔ PassesChecks bytes }
     ensures refused { (bytes : List ℕ) (e : Error) → (format_test bytes ≡ Some e) ↔ ((index : ℕ) × IsFirstFailing checks bytes index e) }
 {}
 
