@@ -1,13 +1,13 @@
 //! What answers addresses by an ELF file.
 
-ghost use Rattle.std.specs.Prelude.{◌≡◌, None, Some, Ok, IfOk, IfErr, OnOk};
+ghost use Rattle.std.specs.Prelude.{◌≡◌, None, Some, Ok, false, IfOk, IfErr, OnOk};
 ghost use Rattle.bz_base.specs.Refusals.{IsFormatRefusal, MayRefuse};
 ghost use Rattle.bz_base.specs.Resolution.{MayGive, StartsBefore, found_of};
 ghost use Rattle.bz_cache.specs.Format.{Comes, IsRefusalBy, MayFail};
 ghost use Rattle.bz_elf.specs.Format.{format_test};
 ghost use Rattle.bz_elf.specs.Plain.{plain};
 ghost use Rattle.bz_elf.specs.Profile.{IsElf};
-ghost use Rattle.bz_elf.specs.Resolver.{opened};
+ghost use Rattle.bz_elf.specs.Resolver.{has_file, opened};
 ghost use Rattle.bz_elf.specs.Seen.{answer_seen};
 ghost use Rattle.bz_elf.specs.Segments.{segments, translated};
 ghost use Rattle.bz_files.specs.Count.{counted};
@@ -45,6 +45,7 @@ impl ElfResolver {
         ensures path { IfOk result (λ r. r.path ≡ path.now) }
         ensures accepted { IfOk result (λ r. IsElf r.bytes) }
         ensures opened { OnOk result (F.opens files.new ≡ counted (F.opens files.old)) }
+        ensures spared { Told (in_view (F.worlds files.old)) (λ world. has_file (entry_at world path.now) ≡ false → F.opens files.new ≡ F.opens files.old) }
         ensures most { ReadsOne F.Files files.old files.new }
         ensures files { Looked F.Files files.old files.new (Faulted result) }
         ensures refusal { IfErr result (MayFail format_test) }
