@@ -2,7 +2,7 @@
 use Rattle.std.proofs.Common.{◌≡◌, ℕ, ◌+◌, ◌*◌, ◌<◌, ◌≤◌, true, false, List, length, arith}
 use Rattle.std.specs.Prelude.{◌==◌, not}
 use Rattle.std.proofs.lemmas.Bool.{and_parts, leb-true, ne_eqb}
-use Rattle.bz_elf.specs.Checks.{has_head, has_program_headers, has_sections, count_elsewhere}
+use Rattle.bz_elf.specs.Checks.{has_head, has_program_headers, has_sections, pn_xnum}
 use Rattle.bz_elf.specs.Head.{head_len, program_count, program_place, program_size, section_count, section_place, section_size}
 use Rattle.bz_elf.specs.Kept.{TablesLie}
 use Rattle.bz_elf.specs.Sections.{section_header_len}
@@ -17,7 +17,7 @@ module _ (bytes : List ℕ) where
   unfolding has_program_headers
   programs_within has some =
       let other : (program_count bytes == 0) ≡ false = ne_eqb _ _ (λ none. absurd (omega (arith, none))) in
-      let told = and_parts (not (program_count bytes == count_elsewhere)) _ (rw other at has) in
+      let told = and_parts (not (program_count bytes == pn_xnum)) _ (rw other at has) in
       let both = and_parts (program_size bytes == program_header_len) _ told.1 in
       leb-true (program_place bytes + program_count bytes * program_header_len) (length bytes) both.1
 

@@ -10,9 +10,9 @@ use Rattle.bz_base.specs.Little.{number_at}
 use Rattle.bz_cache.specs.Format.{Comes, FailsAs, IsRefusalBy}
 use Rattle.bz_files.specs.World.{Entry, Present}
 use Rattle.bz_files.specs.declared.stamp.Stamp.{Stamp}
-use Rattle.bz_elf.specs.Checks.{count_elsewhere, has_head, has_names, has_program_headers, has_sections, has_strings, has_symbols, if_there, is_elf, is_supported, is_symbol_table, is_there, section_lies}
+use Rattle.bz_elf.specs.Checks.{pn_xnum, has_head, has_names, has_program_headers, has_sections, has_strings, has_symbols, if_there, is_elf, is_supported, is_symbol_table, is_there, section_lies}
 use Rattle.bz_elf.specs.Format.{checks, format_test}
-use Rattle.bz_elf.specs.Head.{elf_magic, class_64, least_first, identity_len, head_len, program_place, program_size, program_count, section_place, section_size, section_count}
+use Rattle.bz_elf.specs.Head.{elfmag, ei_class, elfclass64, ei_data, elfdata2lsb, identity_len, head_len, program_place, program_size, program_count, section_place, section_size, section_count}
 use Rattle.bz_elf.specs.Profile.{HasEntries, HaveProgramHeaders, HaveSections, IsElf, SectionLies}
 use Rattle.bz_elf.specs.Resolver.{Resolver, opened, unless_refused}
 use Rattle.bz_elf.specs.Sections.{section_header_len, string_table, strings, symbol_table}
@@ -30,25 +30,25 @@ all_pass test [] each = refl
 all_pass test (x ∷ list) each = and_from (test x) (list_all test list) (each 0 x refl) (all_pass test list (λ i y there. each (suc i) y there))
 
 module _ (bytes : List ℕ) where
-  begins : is_elf bytes ≡ true → (identity_len ≤ length bytes) × (number_at 4 bytes 0 ≡ elf_magic)
+  begins : is_elf bytes ≡ true → (identity_len ≤ length bytes) × (number_at 4 bytes 0 ≡ elfmag)
   unfolding is_elf
   begins is =
-      let both = and_parts (nat_le identity_len (length bytes)) (number_at 4 bytes 0 == elf_magic) is in
+      let both = and_parts (nat_le identity_len (length bytes)) (number_at 4 bytes 0 == elfmag) is in
       (leb-true identity_len (length bytes) both.0, eqb-true _ _ both.1)
 
-  begins_test : identity_len ≤ length bytes → number_at 4 bytes 0 ≡ elf_magic → is_elf bytes ≡ true
+  begins_test : identity_len ≤ length bytes → number_at 4 bytes 0 ≡ elfmag → is_elf bytes ≡ true
   unfolding is_elf
-  begins_test long is = and_from (nat_le identity_len (length bytes)) (number_at 4 bytes 0 == elf_magic) (le-leb identity_len (length bytes) long) (eq-eqb _ _ is)
+  begins_test long is = and_from (nat_le identity_len (length bytes)) (number_at 4 bytes 0 == elfmag) (le-leb identity_len (length bytes) long) (eq-eqb _ _ is)
 
-  supported : is_supported bytes ≡ true → (number_at 1 bytes 4 ≡ class_64) × (number_at 1 bytes 5 ≡ least_first)
+  supported : is_supported bytes ≡ true → (number_at 1 bytes ei_class ≡ elfclass64) × (number_at 1 bytes ei_data ≡ elfdata2lsb)
   unfolding is_supported
   supported is =
-      let both = and_parts (number_at 1 bytes 4 == class_64) (number_at 1 bytes 5 == least_first) is in
+      let both = and_parts (number_at 1 bytes ei_class == elfclass64) (number_at 1 bytes ei_data == elfdata2lsb) is in
       (eqb-true _ _ both.0, eqb-true _ _ both.1)
 
-  supported_test : number_at 1 bytes 4 ≡ class_64 → number_at 1 bytes 5 ≡ least_first → is_supported bytes ≡ true
+  supported_test : number_at 1 bytes ei_class ≡ elfclass64 → number_at 1 bytes ei_data ≡ elfdata2lsb → is_supported bytes ≡ true
   unfolding is_supported
-  supported_test class order = and_from (number_at 1 bytes 4 == class_64) (number_at 1 bytes 5 == least_first) (eq-eqb _ _ class) (eq-eqb _ _ order)
+  supported_test class order = and_from (number_at 1 bytes ei_class == elfclass64) (number_at 1 bytes ei_data == elfdata2lsb) (eq-eqb _ _ class) (eq-eqb _ _ order)
 
   long : has_head bytes ≡ true → head_len ≤ length bytes
   unfolding has_head
@@ -60,13 +60,13 @@ module _ (bytes : List ℕ) where
 
   abbrev programs_lie : Bool
   programs_lie =
-      not (program_count bytes == count_elsewhere)
+      not (program_count bytes == pn_xnum)
       && (program_size bytes == program_header_len && nat_le (program_place bytes + program_count bytes * program_header_len) (length bytes))
 
   programs_by : (none : Bool) → (program_count bytes == 0) ≡ none → (none || programs_lie) ≡ true → (program_count bytes ≡ 0) ⊎ HaveProgramHeaders bytes
   programs_by true none is = inl (eqb-true _ _ none)
   programs_by false some is =
-      let told = and_parts (not (program_count bytes == count_elsewhere)) (program_size bytes == program_header_len && nat_le (program_place bytes + program_count bytes * program_header_len) (length bytes)) is in
+      let told = and_parts (not (program_count bytes == pn_xnum)) (program_size bytes == program_header_len && nat_le (program_place bytes + program_count bytes * program_header_len) (length bytes)) is in
       let both = and_parts (program_size bytes == program_header_len) (nat_le (program_place bytes + program_count bytes * program_header_len) (length bytes)) told.1 in
       inr (record {
         told = eqb-false _ _ (not-true _ told.0);
@@ -87,7 +87,7 @@ module _ (bytes : List ℕ) where
   programs_test (inl none) = rw (eq-eqb _ _ none) refl
   programs_test (inr have) =
       or_true (program_count bytes == 0) programs_lie
-      (and_from (not (program_count bytes == count_elsewhere)) _ (rw (ne_eqb _ _ have.told) refl)
+      (and_from (not (program_count bytes == pn_xnum)) _ (rw (ne_eqb _ _ have.told) refl)
       (and_from (program_size bytes == program_header_len) _ (eq-eqb _ _ have.size) (le-leb (program_place bytes + program_count bytes * program_header_len) (length bytes) have.within)))
 
   abbrev sections_lie : Bool

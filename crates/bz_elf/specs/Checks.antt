@@ -2,7 +2,7 @@
 use Rattle.std.specs.Prelude.{◌≡◌, ℕ, ◌*◌, ◌%◌, ◌==◌, ◌&&◌, ◌||◌, not, nat_le, Bool, true, false, if◌then◌else◌, List, length, Option, Some, None}
 use Rattle.std.specs.List.{list_all}
 use Rattle.bz_base.specs.Little.{number_at}
-use Rattle.bz_elf.specs.Head.{elf_magic, class_64, least_first, identity_len, head_len, program_place, program_size, program_count, section_place, section_size, section_count}
+use Rattle.bz_elf.specs.Head.{elfmag, ei_class, elfclass64, ei_data, elfdata2lsb, identity_len, head_len, program_place, program_size, program_count, section_place, section_size, section_count}
 use Rattle.bz_elf.specs.Parts.{lies}
 use Rattle.bz_elf.specs.Sections.{section_header_len, string_table, strings, symbol_table}
 use Rattle.bz_elf.specs.Segments.{program_header_len}
@@ -11,25 +11,25 @@ use Rattle.bz_elf.specs.declared.types.Section.{Section}
 
 -- the bytes are those of an ELF file: they reach as far as what says so, and begin with its number
 unfoldable pub is_elf : List ℕ → Bool
-is_elf bytes = nat_le identity_len (length bytes) && number_at 4 bytes 0 == elf_magic
+is_elf bytes = nat_le identity_len (length bytes) && number_at 4 bytes 0 == elfmag
 
 -- it has 64 bits, and the least byte of each number first
 unfoldable pub is_supported : List ℕ → Bool
-is_supported bytes = number_at 1 bytes 4 == class_64 && number_at 1 bytes 5 == least_first
+is_supported bytes = number_at 1 bytes ei_class == elfclass64 && number_at 1 bytes ei_data == elfdata2lsb
 
 -- the head lies in the bytes
 unfoldable pub has_head : List ℕ → Bool
 has_head bytes = nat_le head_len (length bytes)
 
--- where more program headers are counted than a head can say, it says this
-abbrev pub count_elsewhere : ℕ
-count_elsewhere = 65535
+-- where more program headers are counted than e_phnum can say, it says this
+abbrev pub pn_xnum : ℕ
+pn_xnum = 65535
 
 -- there are no program headers; or their count is told, they have their size, and lie in the bytes
 unfoldable pub has_program_headers : List ℕ → Bool
 has_program_headers bytes =
     program_count bytes == 0
-    || (not (program_count bytes == count_elsewhere)
+    || (not (program_count bytes == pn_xnum)
     && (program_size bytes == program_header_len && lies bytes (program_place bytes) (program_count bytes * program_header_len)))
 
 -- there are no section headers, and no place is told for them; or they have their size, and lie in the bytes

@@ -1,19 +1,26 @@
--- The head of an ELF file of 64 bits with the least byte first, as the System V ABI has it.
+-- The head of an ELF file of 64 bits with the least byte first: Elf64_Ehdr of the System V gABI, chapter 4.
 use Rattle.std.specs.Prelude.{ℕ, List}
 use Rattle.bz_base.specs.Little.{number_at}
 
--- the number that each file begins with: its bytes read 7f, E, L, F
-abbrev pub elf_magic : ℕ
-elf_magic = 1179403647
+-- what e_ident begins with: its bytes read 7f, E, L, F
+abbrev pub elfmag : ℕ
+elfmag = 1179403647
 
--- the class of files of 64 bits, and the order of bytes whose first is the least
-abbrev pub class_64 : ℕ
-class_64 = 2
+-- the place of the class, and the class of files of 64 bits
+abbrev pub ei_class : ℕ
+ei_class = 4
 
-abbrev pub least_first : ℕ
-least_first = 1
+abbrev pub elfclass64 : ℕ
+elfclass64 = 2
 
--- so many bytes say what a file is
+-- the place of the order of bytes, and the order whose first byte is the least
+abbrev pub ei_data : ℕ
+ei_data = 5
+
+abbrev pub elfdata2lsb : ℕ
+elfdata2lsb = 1
+
+-- so many bytes hold magic number, class and order of bytes
 abbrev pub identity_len : ℕ
 identity_len = 6
 
@@ -21,7 +28,7 @@ identity_len = 6
 abbrev pub head_len : ℕ
 head_len = 64
 
--- where the program headers begin, the size of one, and how many they are
+-- where the program headers begin, the size of one, and how many they are: e_phoff, e_phentsize, e_phnum
 abbrev pub program_place : List ℕ → ℕ
 program_place bytes = number_at 8 bytes 32
 
@@ -31,7 +38,7 @@ program_size bytes = number_at 2 bytes 54
 abbrev pub program_count : List ℕ → ℕ
 program_count bytes = number_at 2 bytes 56
 
--- where the section headers begin, the size of one, and how many they are
+-- where the section headers begin, the size of one, and how many they are: e_shoff, e_shentsize, e_shnum
 abbrev pub section_place : List ℕ → ℕ
 section_place bytes = number_at 8 bytes 40
 

@@ -2,8 +2,8 @@
 use Rattle.std.specs.Prelude.{◌≡◌, ◌≢◌, ◌⊎◌, ℕ, ◌+◌, ◌*◌, ◌%◌, ◌≤◌, List, length, Some, slice_get}
 use Rattle.bz_base.specs.ZeroEnded.{IsString}
 use Rattle.bz_base.specs.Little.{number_at}
-use Rattle.bz_elf.specs.Checks.{count_elsewhere}
-use Rattle.bz_elf.specs.Head.{elf_magic, class_64, least_first, identity_len, head_len, program_place, program_size, program_count, section_place, section_size, section_count}
+use Rattle.bz_elf.specs.Checks.{pn_xnum}
+use Rattle.bz_elf.specs.Head.{elfmag, ei_class, elfclass64, ei_data, elfdata2lsb, identity_len, head_len, program_place, program_size, program_count, section_place, section_size, section_count}
 use Rattle.bz_elf.specs.Sections.{section_header_len, string_table, strings, symbol_table}
 use Rattle.bz_elf.specs.Segments.{program_header_len}
 use Rattle.bz_elf.specs.Symbols.{entries, symbol_len}
@@ -12,7 +12,7 @@ use Rattle.bz_elf.specs.declared.types.SymbolEntry.{SymbolEntry}
 
 -- the program headers' count is told, they have their size, and lie in the bytes
 pub record HaveProgramHeaders (bytes : List ℕ) : Type 0 where
-  pub told : program_count bytes ≢ count_elsewhere
+  pub told : program_count bytes ≢ pn_xnum
   pub size : program_size bytes ≡ program_header_len
   pub within : program_place bytes + program_count bytes * program_header_len ≤ length bytes
 
@@ -35,9 +35,9 @@ pub record HasEntries (bytes : List ℕ) (table : Section) : Type 0 where
 -- if there are any; the symbol table, if there is one, and its strings do; and each symbol that counts has a name there
 pub record IsElf (bytes : List ℕ) : Type 0 where
   pub identity : identity_len ≤ length bytes
-  pub magic : number_at 4 bytes 0 ≡ elf_magic
-  pub class : number_at 1 bytes 4 ≡ class_64
-  pub order : number_at 1 bytes 5 ≡ least_first
+  pub magic : number_at 4 bytes 0 ≡ elfmag
+  pub class : number_at 1 bytes ei_class ≡ elfclass64
+  pub order : number_at 1 bytes ei_data ≡ elfdata2lsb
   pub head : head_len ≤ length bytes
   pub program_headers : (program_count bytes ≡ 0) ⊎ HaveProgramHeaders bytes
   pub sections : ((section_count bytes ≡ 0) × (section_place bytes ≡ 0)) ⊎ ((section_count bytes ≢ 0) × HaveSections bytes)

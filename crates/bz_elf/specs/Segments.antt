@@ -1,4 +1,4 @@
--- The load segments of an ELF file, and where a byte of the file lies when they are loaded.
+-- The load segments of an ELF file, and where a byte of the file lies when they are loaded: see the System V gABI, chapter 5.
 use Rattle.std.specs.Prelude.{ℕ, ◌+◌, ◌-◌, ◌==◌, ◌&&◌, nat_le, nat_lt, Bool, if◌then◌else◌, List, Option, Some, None, option_and_then}
 use Rattle.std.specs.List.{filter_map, find}
 use Rattle.bz_base.specs.Little.{number_at}
@@ -7,15 +7,15 @@ use Rattle.bz_elf.specs.Head.{program_place, program_count}
 use Rattle.bz_elf.specs.Parts.{places}
 use Rattle.bz_elf.specs.declared.types.Segment.{Segment}
 
--- the size of a program header
+-- the size of a program header, Elf64_Phdr
 abbrev pub program_header_len : ℕ
 program_header_len = 56
 
 -- the type of a load segment
-abbrev pub load : ℕ
-load = 1
+abbrev pub pt_load : ℕ
+pt_load = 1
 
--- the segment of the program header at a place
+-- the segment of the program header at a place: p_offset at 8, p_vaddr at 16, p_filesz at 32
 abbrev pub segment_at : List ℕ → ℕ → Segment
 segment_at bytes place = record {
   offset = number_at 8 bytes (place + 8);
@@ -23,9 +23,9 @@ segment_at bytes place = record {
   size = number_at 8 bytes (place + 32);
 }
 
--- if it is a load segment
+-- if p_type, at 0, says that it is a load segment
 abbrev pub loaded_at : List ℕ → ℕ → Option Segment
-loaded_at bytes place = if number_at 4 bytes place == load then Some (segment_at bytes place) else None
+loaded_at bytes place = if number_at 4 bytes place == pt_load then Some (segment_at bytes place) else None
 
 -- the load segments, in the order of the file
 unfoldable pub segments : List ℕ → List Segment

@@ -1,4 +1,4 @@
--- The symbols of an ELF file in its order: its functions, by name, start and size.
+-- The symbols of an ELF file in its order: its functions, by name, start and size. See the System V gABI, chapter 4.
 use Rattle.std.specs.Prelude.{ℕ, ◌+◌, ◌/◌, ◌%◌, ◌==◌, ◌&&◌, ◌||◌, not, Bool, List, [], drop, map, Option, Some, None, if◌then◌else◌}
 use Rattle.std.specs.List.{list_any, filter_map}
 use Rattle.std.specs.Str.{is_utf8}
@@ -9,25 +9,34 @@ use Rattle.bz_elf.specs.Sections.{symbol_table, strings}
 use Rattle.bz_elf.specs.declared.types.Section.{Section}
 use Rattle.bz_elf.specs.declared.types.SymbolEntry.{SymbolEntry}
 
--- the size of an entry of a symbol table
+-- the size of an entry of a symbol table, Elf64_Sym
 abbrev pub symbol_len : ℕ
 symbol_len = 24
 
--- the types of symbols that are functions: called as they are, or chosen when the file is loaded
-abbrev pub function : ℕ
-function = 2
+-- the types of symbols that are functions: called as they are, or chosen when the file is loaded. The gABI leaves the second
+-- to systems, and GNU uses it so.
+abbrev pub stt_func : ℕ
+stt_func = 2
 
-abbrev pub indirect_function : ℕ
-indirect_function = 10
+abbrev pub stt_gnu_ifunc : ℕ
+stt_gnu_ifunc = 10
 
 abbrev pub is_function : ℕ → Bool
-is_function kind = kind == function || kind == indirect_function
+is_function kind = kind == stt_func || kind == stt_gnu_ifunc
 
--- the symbol at a place counts: it is a function, and lies in a section
+-- the type of a symbol by its st_info, as ELF64_ST_TYPE: the lower four bits
+abbrev pub st_type : ℕ → ℕ
+st_type info = info % 16
+
+-- the index that says that a symbol lies in no section
+abbrev pub shn_undef : ℕ
+shn_undef = 0
+
+-- the symbol at a place counts: by st_info, at 4, it is a function, and by st_shndx, at 6, it lies in a section
 abbrev pub counts : List ℕ → ℕ → Bool
-counts bytes place = is_function (number_at 1 bytes (place + 4) % 16) && not (number_at 2 bytes (place + 6) == 0)
+counts bytes place = is_function (st_type (number_at 1 bytes (place + 4))) && not (number_at 2 bytes (place + 6) == shn_undef)
 
--- its numbers
+-- its numbers: st_name at 0, st_value at 8, st_size at 16
 abbrev pub entry_at : List ℕ → ℕ → SymbolEntry
 entry_at bytes place = record {
   name = number_at 4 bytes place;

@@ -6,6 +6,7 @@ ghost use Rattle.bz_elf.specs.Format.{format_test};
 ghost use Rattle.bz_elf.specs.Kept.{IsKept};
 
 mod head;
+mod layout;
 mod names;
 mod parts;
 mod sections;
@@ -17,15 +18,6 @@ use bz_base::{Error, Result, sort_table};
 pub(crate) use names::name_of;
 use std::alloc::Global;
 pub(crate) use symbols::part_of;
-
-/// The size of a program header, in bytes.
-const PROGRAM_HEADER_LEN: usize = 56;
-
-/// The size of a section header, in bytes.
-const SECTION_HEADER_LEN: usize = 64;
-
-/// The size of an entry of a symbol table, in bytes.
-const SYMBOL_LEN: usize = 24;
 
 /// Reads an ELF file, and refuses other bytes by the first check that they fail.
 pub(crate) fn read(alloc: Global, bytes: &[u8]) -> Result<KeptFile>

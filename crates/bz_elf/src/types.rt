@@ -13,40 +13,40 @@ pub(crate) struct Part {
     pub size: usize,
 }
 
-/// A section header.
+/// A section header, an `Elf64_Shdr` of the System V gABI.
 #[derive(Clone, Copy)]
 pub(crate) struct Section {
-    /// What the section holds.
+    /// The section's type, `sh_type`.
     pub kind: u32,
-    /// The place of its first byte in the file.
+    /// The place of its first byte in the file, `sh_offset`.
     pub offset: u64,
-    /// Its size, in bytes.
+    /// Its size, in bytes: `sh_size`.
     pub size: u64,
-    /// The index of another section, that of the strings of a symbol table.
+    /// The index of another section, that of the strings of a symbol table: `sh_link`.
     pub link: u32,
-    /// The size of one of its entries, in bytes.
+    /// The size of one of its entries, in bytes: `sh_entsize`.
     pub entry_size: u64,
 }
 
-/// A load segment: a part of the file that is loaded.
+/// A load segment, `PT_LOAD`: a part of the file that is loaded.
 #[derive(Clone, Copy)]
 pub(crate) struct Segment {
-    /// The place of its first byte in the file.
+    /// The place of its first byte in the file, `p_offset`.
     pub offset: u64,
-    /// The address at which that byte is loaded.
+    /// The address at which that byte is loaded, `p_vaddr`.
     pub addr: u64,
-    /// How many bytes of the file are loaded.
+    /// How many bytes of the file are loaded: `p_filesz`.
     pub size: u64,
 }
 
-/// A symbol that counts.
+/// A symbol that counts, by fields of its `Elf64_Sym`.
 #[derive(Clone, Copy)]
 pub(crate) struct SymbolEntry {
-    /// Its first address.
+    /// Its first address, `st_value`.
     pub start: u64,
-    /// Its size, in bytes; 0 where that isn't known.
+    /// Its size in bytes, `st_size`; 0 where that isn't known.
     pub size: u64,
-    /// The place of its name in the strings.
+    /// The place of its name in the strings, `st_name`.
     pub name: u32,
 }
 

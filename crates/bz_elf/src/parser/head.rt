@@ -6,27 +6,13 @@ ghost use Rattle.bz_elf.specs.Format.{format_test};
 ghost use Rattle.bz_elf.specs.Kept.{TablesLie};
 ghost use Rattle.bz_elf.specs.Head.{head_len, identity_len, program_count, program_place, section_count, section_place};
 
+use super::layout::{
+    E_PHENTSIZE, E_PHNUM, E_PHOFF, E_SHENTSIZE, E_SHNUM, E_SHOFF, EI_CLASS, EI_DATA, EI_MAG0,
+    ELFCLASS64, ELFDATA2LSB, ELFMAG, HEAD_LEN, IDENTITY_LEN, PN_XNUM, PROGRAM_HEADER_LEN,
+    SECTION_HEADER_LEN,
+};
 use super::parts::lies;
-use super::{PROGRAM_HEADER_LEN, SECTION_HEADER_LEN};
 use bz_base::{Error, u8_at, u16_at, u32_at, u64_at};
-
-/// The number that each file begins with.
-const ELF_MAGIC: u32 = 0x464c457f;
-
-/// The class of files of 64 bits.
-const CLASS_64: u8 = 2;
-
-/// The order of bytes whose first is the least.
-const LEAST_FIRST: u8 = 1;
-
-/// How many bytes say what a file is.
-const IDENTITY_LEN: usize = 6;
-
-/// How many bytes the head has.
-const HEAD_LEN: usize = 64;
-
-/// The count of program headers that says that another place tells it.
-const COUNT_ELSEWHERE: u16 = 65535;
 
 /// How the bytes are refused for their head and the places of its tables.
 #[tactic(auto, using(crate::proofs::HeadLemmas::tables_lie))]
@@ -59,7 +45,7 @@ fn is_elf(bytes: &[u8]) -> bool
     ensures same { result ≡ is_elf bytes.now }
     ensures within { result ≡ true → identity_len ≤ length bytes.now }
 {
-    bytes.len() >= IDENTITY_LEN && u32_at(bytes, 0) == ELF_MAGIC
+    bytes.len() >= IDENTITY_LEN && u32_at(bytes, EI_MAG0) == ELFMAG
 }
 
 /// Whether the file has 64 bits, and the least byte of each number first.
@@ -68,7 +54,7 @@ fn is_supported(bytes: &[u8]) -> bool
     requires { identity_len ≤ length bytes.now }
     ensures { result ≡ is_supported bytes.now }
 {
-    u8_at(bytes, 4) == CLASS_64 && u8_at(bytes, 5) == LEAST_FIRST
+    u8_at(bytes, EI_CLASS) == ELFCLASS64 && u8_at(bytes, EI_DATA) == ELFDATA2LSB
 }
 
 /// Whether the head lies in the bytes.
@@ -89,8 +75,8 @@ fn has_program_headers(bytes: &[u8]) -> bool
     let count = program_count(bytes);
     let size = u64::from(count) * PROGRAM_HEADER_LEN as u64;
     count == 0
-        || (count != COUNT_ELSEWHERE
-            && u16_at(bytes, 54) as usize == PROGRAM_HEADER_LEN
+        || (count != PN_XNUM
+            && u16_at(bytes, E_PHENTSIZE) as usize == PROGRAM_HEADER_LEN
             && lies(bytes, program_place(bytes), size))
 }
 
@@ -106,7 +92,7 @@ fn has_sections(bytes: &[u8]) -> bool
         return place == 0;
     }
     let size = u64::from(count) * SECTION_HEADER_LEN as u64;
-    u16_at(bytes, 58) as usize == SECTION_HEADER_LEN && lies(bytes, place, size)
+    u16_at(bytes, E_SHENTSIZE) as usize == SECTION_HEADER_LEN && lies(bytes, place, size)
 }
 
 /// Where the program headers begin.
@@ -114,7 +100,7 @@ pub(crate) fn program_place(bytes: &[u8]) -> u64
     requires { head_len ≤ length bytes.now }
     ensures { result ≡ program_place bytes.now }
 {
-    u64_at(bytes, 32)
+    u64_at(bytes, E_PHOFF)
 }
 
 /// How many program headers there are.
@@ -122,7 +108,7 @@ pub(crate) fn program_count(bytes: &[u8]) -> u16
     requires { head_len ≤ length bytes.now }
     ensures { result ≡ program_count bytes.now }
 {
-    u16_at(bytes, 56)
+    u16_at(bytes, E_PHNUM)
 }
 
 /// Where the section headers begin.
@@ -130,7 +116,7 @@ pub(crate) fn section_place(bytes: &[u8]) -> u64
     requires { head_len ≤ length bytes.now }
     ensures { result ≡ section_place bytes.now }
 {
-    u64_at(bytes, 40)
+    u64_at(bytes, E_SHOFF)
 }
 
 /// How many section headers there are.
@@ -138,5 +124,5 @@ pub(crate) fn section_count(bytes: &[u8]) -> u16
     requires { head_len ≤ length bytes.now }
     ensures { result ≡ section_count bytes.now }
 {
-    u16_at(bytes, 60)
+    u16_at(bytes, E_SHNUM)
 }

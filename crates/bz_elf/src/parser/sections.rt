@@ -7,16 +7,13 @@ ghost use Rattle.bz_elf.specs.Kept.{IsSymbolTable, TablesLie};
 ghost use Rattle.bz_elf.specs.Sections.{first_of_kind, section_at, section_header_len, sections, symbol_table};
 
 use super::head::{section_count, section_place};
+use super::layout::{
+    SECTION_HEADER_LEN, SH_ENTSIZE, SH_LINK, SH_OFFSET, SH_SIZE, SH_TYPE, SHT_DYNSYM, SHT_SYMTAB,
+    SYMBOL_LEN,
+};
 use super::parts::lies;
-use super::{SECTION_HEADER_LEN, SYMBOL_LEN};
 use crate::types::{Part, Section, SymbolTable};
 use bz_base::{u32_at, u64_at};
-
-/// The type of section that holds all symbols.
-const ALL_SYMBOLS: u32 = 2;
-
-/// The type of section that holds the symbols for linking at run time.
-const DYNAMIC_SYMBOLS: u32 = 11;
 
 /// Where the symbols and their names lie; without a symbol table, none lie nowhere. None: the table
 /// isn't one, or its strings aren't there.
@@ -59,9 +56,9 @@ fn symbol_table(bytes: &[u8]) -> Option<Section>
     requires { TablesLie bytes.now }
     ensures { result ≡ symbol_table bytes.now }
 {
-    match first_of_kind(bytes, ALL_SYMBOLS) {
+    match first_of_kind(bytes, SHT_SYMTAB) {
         Some(table) => Some(table),
-        None => first_of_kind(bytes, DYNAMIC_SYMBOLS),
+        None => first_of_kind(bytes, SHT_DYNSYM),
     }
 }
 
@@ -109,11 +106,11 @@ fn section_at(bytes: &[u8], place: usize) -> Section
     ensures { result ≡ section_at bytes.now place }
 {
     Section {
-        kind: u32_at(bytes, place + 4),
-        offset: u64_at(bytes, place + 24),
-        size: u64_at(bytes, place + 32),
-        link: u32_at(bytes, place + 40),
-        entry_size: u64_at(bytes, place + 56),
+        kind: u32_at(bytes, place + SH_TYPE),
+        offset: u64_at(bytes, place + SH_OFFSET),
+        size: u64_at(bytes, place + SH_SIZE),
+        link: u32_at(bytes, place + SH_LINK),
+        entry_size: u64_at(bytes, place + SH_ENTSIZE),
     }
 }
 

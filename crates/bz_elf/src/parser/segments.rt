@@ -6,14 +6,11 @@ ghost use Rattle.bz_elf.specs.Head.{program_count, program_place};
 ghost use Rattle.bz_elf.specs.Kept.{TablesLie};
 ghost use Rattle.bz_elf.specs.Segments.{loaded_at, program_header_len, segments};
 
-use super::PROGRAM_HEADER_LEN;
 use super::head::{program_count, program_place};
+use super::layout::{P_FILESZ, P_OFFSET, P_VADDR, PROGRAM_HEADER_LEN, PT_LOAD};
 use crate::types::Segment;
 use bz_base::{Result, u32_at, u64_at};
 use std::alloc::Global;
-
-/// The type of a load segment.
-const LOAD: u32 = 1;
 
 /// The load segments, in the order of the file.
 #[tactic(auto, using(crate::proofs::SymbolLemmas::all_segments))]
@@ -49,12 +46,12 @@ fn loaded_at(bytes: &[u8], place: usize) -> Option<Segment>
     requires { place + program_header_len ≤ length bytes.now }
     ensures { result ≡ loaded_at bytes.now place }
 {
-    if u32_at(bytes, place) != LOAD {
+    if u32_at(bytes, place) != PT_LOAD {
         return None;
     }
     Some(Segment {
-        offset: u64_at(bytes, place + 8),
-        addr: u64_at(bytes, place + 16),
-        size: u64_at(bytes, place + 32),
+        offset: u64_at(bytes, place + P_OFFSET),
+        addr: u64_at(bytes, place + P_VADDR),
+        size: u64_at(bytes, place + P_FILESZ),
     })
 }

@@ -6,19 +6,15 @@ ghost use Rattle.bz_cache.specs.Format.{IsRefusalBy};
 ghost use Rattle.bz_elf.specs.Checks.{has_names};
 ghost use Rattle.bz_elf.specs.Kept.{IsPart, IsSymbolTable};
 ghost use Rattle.bz_elf.specs.Parts.{bytes_at};
-ghost use Rattle.bz_elf.specs.Symbols.{counted_at, entries, symbol_len};
+ghost use Rattle.bz_elf.specs.Symbols.{counted_at, entries, st_type, symbol_len};
 
-use super::SYMBOL_LEN;
+use super::layout::{
+    SHN_UNDEF, ST_INFO, ST_SHNDX, ST_SIZE, ST_VALUE, STT_FUNC, STT_GNU_IFUNC, SYMBOL_LEN,
+};
 use super::names::are_named;
 use crate::types::{Part, SymbolEntry, SymbolTable};
 use bz_base::{Error, Result, u8_at, u16_at, u32_at, u64_at};
 use std::alloc::Global;
-
-/// The type of symbols that are functions.
-const FUNCTION: u8 = 2;
-
-/// The type of symbols that are functions chosen when the file is loaded.
-const INDIRECT_FUNCTION: u8 = 10;
 
 /// The symbols that count, in the order of the file. InvalidData: one of them has no name.
 pub(crate) fn counted(alloc: Global, bytes: &[u8], table: &SymbolTable) -> Result<Vec<SymbolEntry>>
@@ -63,13 +59,20 @@ fn counted_at(bytes: &[u8], place: usize) -> Option<SymbolEntry>
     requires { place + symbol_len ≤ length bytes.now }
     ensures { result ≡ counted_at bytes.now place }
 {
-    let kind = u8_at(bytes, place + 4) % 16;
-    if (kind != FUNCTION && kind != INDIRECT_FUNCTION) || u16_at(bytes, place + 6) == 0 {
+    let kind = st_type(u8_at(bytes, place + ST_INFO));
+    if (kind != STT_FUNC && kind != STT_GNU_IFUNC) || u16_at(bytes, place + ST_SHNDX) == SHN_UNDEF {
         return None;
     }
     Some(SymbolEntry {
-        start: u64_at(bytes, place + 8),
-        size: u64_at(bytes, place + 16),
+        start: u64_at(bytes, place + ST_VALUE),
+        size: u64_at(bytes, place + ST_SIZE),
         name: u32_at(bytes, place),
     })
+}
+
+/// The type of a symbol, which `st_info` has in its lower four bits: `ELF64_ST_TYPE`.
+fn st_type(info: u8) -> u8
+    ensures { result ≡ st_type info }
+{
+    info % 16
 }
