@@ -1,5 +1,5 @@
 -- What a resolver holds, and what it comes from.
-use Rattle.std.specs.Prelude.{ℕ, Bool, true, false, List, Option, Some, None, Result, Ok, Err}
+use Rattle.std.specs.Prelude.{ℕ, List, Option, Some, None, Result, Ok, Err}
 use Rattle.bz_base.specs.declared.error.Error.{Error}
 use Rattle.bz_base.specs.declared.error.Error.TheVariants as errors
 use Rattle.bz_files.specs.World.{Entry, Denied, Present}
@@ -14,12 +14,6 @@ pub record Resolver : Type 0 where
 abbrev pub unless_refused : List ℕ → Option Error → Result (List ℕ) Error
 unless_refused bytes None = Ok bytes
 unless_refused bytes (Some refusal) = Err refusal
-
--- whether there is a file that may be read
-abbrev pub has_file : Option Entry → Bool
-has_file None = false
-has_file (Some Denied) = false
-has_file (Some (Present stamp bytes)) = true
 
 -- what opening a file answers by what lies at its path
 abbrev pub opened : Option Entry → Result (List ℕ) Error

@@ -7,12 +7,12 @@ ghost use Rattle.bz_cache.specs.Format.{Comes, IsRefusalBy, MayFail};
 ghost use Rattle.bz_elf.specs.Format.{format_test};
 ghost use Rattle.bz_elf.specs.Plain.{plain};
 ghost use Rattle.bz_elf.specs.Profile.{IsElf};
-ghost use Rattle.bz_elf.specs.Resolver.{has_file, opened};
+ghost use Rattle.bz_elf.specs.Resolver.{opened};
 ghost use Rattle.bz_elf.specs.Seen.{answer_seen};
 ghost use Rattle.bz_elf.specs.Segments.{segments, translated};
 ghost use Rattle.bz_files.specs.Count.{counted};
 ghost use Rattle.bz_files.specs.Looked.{Faulted, Looked, ReadsOne};
-ghost use Rattle.bz_files.specs.World.{Told, entry_at, in_view};
+ghost use Rattle.bz_files.specs.World.{Told, entry_at, has_file, in_view};
 
 use crate::file::ElfFile;
 use bz_base::{Addr, FindSymOpts, Reason, ResolvedSym, Result, Symbolize, TranslateFileOffset};

@@ -1,5 +1,5 @@
 -- Files in memory as one value: their worlds, what an edit does to the last of them, and what a look leaves.
-use Rattle.std.specs.Prelude.{ℕ, ◌+◌, ◌==◌, pos, Bool, true, false, if◌then◌else◌, List, [], ◌∷◌, ◌++◌, Option, Some, None, length, Result, Ok, Err, refl}
+use Rattle.std.specs.Prelude.{ℕ, ◌+◌, ◌==◌, pos, Bool, if◌then◌else◌, List, [], ◌∷◌, ◌++◌, Option, Some, None, length, Result, Ok, Err, refl}
 use Rattle.std.specs.List.{list_any}
 use Rattle.std.specs.FinMap as map
 use Rattle.std.specs.Coded.{Coded, code_by, coded×, coded_ℕ, coded_list}
@@ -39,12 +39,6 @@ abbrev pub on_last : (World → World) → List World → List World
 on_last edit [] = []
 on_last edit (world ∷ []) = edit world ∷ []
 on_last edit (world ∷ next ∷ later) = world ∷ on_last edit (next ∷ later)
-
--- a file is there, and may be read
-abbrev pub is_version : Option Entry → Bool
-is_version None = false
-is_version (Some Denied) = false
-is_version (Some (Present stamp bytes)) = true
 
 -- the world with the entry at the path, if it is a file that may be read
 abbrev pub with_version : List ℕ → Option Entry → World → World

@@ -1,5 +1,5 @@
 -- Worlds of files: what lies at each path, and what a look there may answer.
-use Rattle.std.specs.Prelude.{◌≡◌, ◌⊎◌, ℕ, ℤ, List, [], ◌∷◌, Option, Some, None, Result, Ok, Err, refl}
+use Rattle.std.specs.Prelude.{◌≡◌, ◌⊎◌, ℕ, ℤ, Bool, true, false, List, [], ◌∷◌, Option, Some, None, Result, Ok, Err, refl}
 use Rattle.std.specs.Ordering.{nat_cmp}
 use Rattle.std.specs.Cmp.Lexicographic.{slice_cmp}
 use Rattle.std.specs.FinMap.{FinMap}
@@ -23,6 +23,12 @@ World = FinMap (slice_cmp nat_cmp) Entry
 -- what the world has at the path
 abbrev pub entry_at : World → List ℕ → Option Entry
 entry_at world path = map.get world path
+
+-- whether there is a file that may be read
+abbrev pub has_file : Option Entry → Bool
+has_file None = false
+has_file (Some Denied) = false
+has_file (Some (Present stamp bytes)) = true
 
 -- the world with the entry at the path
 abbrev pub with_entry : List ℕ → Entry → World → World

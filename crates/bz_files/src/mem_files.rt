@@ -2,8 +2,8 @@
 
 ghost use Rattle.std.specs.Prelude.{◌≡◌, ◌<◌, ◌≤◌, ◌↔◌, [], ◌∷◌, ◌++◌, length, is_some, option_map, IsTrue, IfOk, OnOk, OnErr, IfSome, IsErrOf, IsOkUnless};
 ghost use Rattle.bz_files.specs.Count.{CountsFaults};
-ghost use Rattle.bz_files.specs.World.{Denied, Present, entry_at, with_entry, without_entry, in_view, next_worlds, Told, IsAnswer};
-ghost use Rattle.bz_files.specs.MemWorlds.{new_worlds, last_world, on_last, is_version, fresh_stamp, after_put, after_link, after_schedule, fails_next, after_look, after_read};
+ghost use Rattle.bz_files.specs.World.{Denied, Present, entry_at, has_file, with_entry, without_entry, in_view, next_worlds, Told, IsAnswer};
+ghost use Rattle.bz_files.specs.MemWorlds.{new_worlds, last_world, on_last, fresh_stamp, after_put, after_link, after_schedule, fails_next, after_look, after_read};
 ghost use Rattle.bz_files.specs.Held.{entry_of};
 
 use crate::counter::Counter;
@@ -91,7 +91,7 @@ impl MemFiles {
 
     /// Gives the path the stamp and the bytes that are at `old`. Says whether there was such a file.
     pub fn link(&mut self, alloc: Global, path: &str, old: &str) -> Result<bool, Error>
-        ensures linked { IfOk result (λ linked. linked ≡ is_version (entry_at (last_world self.old.worlds) old.now)) }
+        ensures linked { IfOk result (λ linked. linked ≡ has_file (entry_at (last_world self.old.worlds) old.now)) }
         ensures ok { OnOk result (self.new ≡ after_link path.now old.now self.old) }
         ensures err { OnErr result (self.new ≡ self.old) }
         ensures memory { IsOkUnless result Error.OutOfMemory }

@@ -6,8 +6,7 @@ ghost use Rattle.bz_base.specs.Resolution.{MayGive, StartsBefore, found_of};
 ghost use Rattle.bz_cache.specs.Format.{Comes, IsRefusalBy, MayFail};
 ghost use Rattle.bz_files.specs.Count.{counted};
 ghost use Rattle.bz_files.specs.Looked.{Faulted, Looked, ReadsOne};
-ghost use Rattle.bz_files.specs.MemWorlds.{is_version};
-ghost use Rattle.bz_files.specs.World.{Told, entry_at, in_view};
+ghost use Rattle.bz_files.specs.World.{Told, entry_at, has_file, in_view};
 ghost use Rattle.bz_gsym.specs.Plain.{plain};
 ghost use Rattle.bz_gsym.specs.Refusal.{IsAnswerRefusal};
 ghost use Rattle.bz_gsym.specs.Resolver.{opened};
@@ -44,7 +43,7 @@ impl GsymResolver {
         ensures path { IfOk result (λ r. r.path ≡ Some path.now) }
         ensures accepted { IfOk result (λ r. IsGsym r.bytes) }
         ensures opened { OnOk result (F.opens files.new ≡ counted (F.opens files.old)) }
-        ensures spared { Told (in_view (F.worlds files.old)) (λ world. is_version (entry_at world path.now) ≡ false → F.opens files.new ≡ F.opens files.old) }
+        ensures spared { Told (in_view (F.worlds files.old)) (λ world. has_file (entry_at world path.now) ≡ false → F.opens files.new ≡ F.opens files.old) }
         ensures most { ReadsOne F.Files files.old files.new }
         ensures files { Looked F.Files files.old files.new (Faulted result) }
         ensures refusal { IfErr result (MayFail format_test) }

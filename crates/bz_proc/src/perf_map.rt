@@ -8,13 +8,13 @@ ghost use Rattle.bz_base.specs.declared.error.Error.{Error};
 ghost use Rattle.bz_cache.specs.Format.{Comes, IsRefusalBy};
 ghost use Rattle.bz_files.specs.Count.{counted};
 ghost use Rattle.bz_files.specs.Looked.{Faulted, Looked, ReadsOne};
-ghost use Rattle.bz_files.specs.World.{Told, entry_at, in_view};
+ghost use Rattle.bz_files.specs.World.{Told, entry_at, has_file, in_view};
 ghost use Rattle.bz_proc.specs.PerfId.{IsOfStatus, ns_tgid_of, status_path};
 ghost use Rattle.bz_proc.specs.PerfLine.{PerfFunction};
 ghost use Rattle.bz_proc.specs.PerfLines.{perf_functions_in};
 ghost use Rattle.bz_proc.specs.PerfMap.{IsPerfMap, answer_seen, format_refusals, format_test, plain};
 ghost use Rattle.bz_proc.specs.PerfPath.{perf_map_path};
-ghost use Rattle.bz_proc.specs.SystemText.{has_file, IsReadRefusal};
+ghost use Rattle.bz_proc.specs.SystemText.{IsReadRefusal};
 
 mod entry;
 mod id;

@@ -4,10 +4,10 @@ ghost use Rattle.std.specs.Prelude.{◌≡◌, false, map, string_bytes, IfOk, I
 ghost use Rattle.bz_base.specs.declared.error.Error.{Error};
 ghost use Rattle.bz_cache.specs.Format.{Comes};
 ghost use Rattle.bz_files.specs.Looked.{Faulted, Looked, ReadsOne};
-ghost use Rattle.bz_files.specs.World.{Told, entry_at, in_view};
+ghost use Rattle.bz_files.specs.World.{Told, entry_at, has_file, in_view};
 ghost use Rattle.bz_proc.specs.Maps.{mapping_of};
 ghost use Rattle.bz_proc.specs.MapsFile.{AreOfText, maps_path, maps_told};
-ghost use Rattle.bz_proc.specs.SystemText.{has_file, IsReadRefusal};
+ghost use Rattle.bz_proc.specs.SystemText.{IsReadRefusal};
 
 use crate::maps::{MapsEntry, parse_maps};
 use bz_base::{Error, Pid, Result};

@@ -9,13 +9,12 @@ use Rattle.bz_base.specs.declared.pid.Pid.{Pid}
 use Rattle.bz_base.specs.declared.resolve.Symbolize.{Ghosts as Finds}
 use Rattle.bz_base.specs.declared.resolve.TranslateFileOffset.{Ghosts as Translates}
 use Rattle.bz_base.specs.declared.types.FindSymOpts.{FindSymOpts}
-use Rattle.bz_files.specs.World.{World, entry_at, in_view}
+use Rattle.bz_files.specs.World.{World, entry_at, has_file, in_view}
 use Rattle.bz_files.specs.declared.files.Files.{Ghosts}
 use Rattle.bz_cache.specs.Cache.{Cache}
 use Rattle.bz_cache.specs.Format.{Comes}
 use Rattle.bz_proc.specs.Maps.{Mapping, owner_of}
 use Rattle.bz_proc.specs.MapsFile.{maps_path, maps_told}
-use Rattle.bz_proc.specs.SystemText.{has_file}
 use Rattle.bz_process.specs.Asked.{Asked}
 use Rattle.bz_process.specs.Caches.{ProcessCaches}
 use Rattle.bz_process.specs.Dispatch.{Test}

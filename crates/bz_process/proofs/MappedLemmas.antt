@@ -8,12 +8,12 @@ use Rattle.bz_base.specs.declared.resolve.TranslateFileOffset.{Ghosts as Transla
 use Rattle.bz_base.specs.declared.types.FindSymOpts.{FindSymOpts}
 use Rattle.bz_base.specs.declared.types.Symbolized.{Symbolized}
 use Rattle.bz_files.specs.Looked.{Faulted, Looked, ReadsOne}
-use Rattle.bz_files.specs.World.{Entry, World, Told, in_view, entry_at}
+use Rattle.bz_files.specs.World.{Entry, World, Told, in_view, entry_at, has_file}
 use Rattle.bz_files.specs.declared.files.Files.{Ghosts}
 use Rattle.bz_cache.specs.Format.{Comes, FailsAs}
 use Rattle.bz_elf.specs.Format as elf
 use Rattle.bz_proc.specs.Maps.{Mapping}
-use Rattle.bz_proc.specs.SystemText.{IsReadRefusal, has_file}
+use Rattle.bz_proc.specs.SystemText.{IsReadRefusal}
 use Rattle.bz_proc.specs.PerfMap as perf
 use Rattle.bz_base.specs.declared.pid.Pid.{Pid}
 use Rattle.bz_process.specs.Dispatch.{Answers, Keeps, Test}

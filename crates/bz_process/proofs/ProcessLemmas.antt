@@ -7,7 +7,7 @@ use Rattle.bz_base.specs.declared.types.Symbolized.{Symbolized}
 use Rattle.bz_base.specs.Answer.{Answer, Gives, reading}
 use Rattle.bz_files.specs.Count.{CountsFaults, counted}
 use Rattle.bz_files.specs.Looked.{Faulted, Looked, ReadsOne}
-use Rattle.bz_files.specs.World.{World, Entry, Told, in_view, entry_at}
+use Rattle.bz_files.specs.World.{World, Entry, Told, in_view, entry_at, has_file}
 use Rattle.bz_files.specs.declared.files.Files.{Ghosts}
 use Rattle.bz_cache.specs.Cache.{Cache}
 use Rattle.bz_cache.specs.Format.{Comes, FailsAs}
@@ -17,7 +17,6 @@ use Rattle.bz_elf.specs.Format as elf
 use Rattle.bz_proc.specs.PerfMap as perf
 use Rattle.bz_proc.specs.PerfPath.{perf_map_path}
 use Rattle.bz_proc.specs.PerfId.{ns_tgid_of, status_path}
-use Rattle.bz_proc.specs.SystemText.{has_file}
 use Rattle.bz_base.specs.declared.pid.Pid.{Pid}
 use Rattle.bz_cache.specs.FileCall.{Question, CallsFile, FileTold, FileSome, Leaves, file_opens}
 use Rattle.bz_process.specs.Process.{Outcome, Step, and_then, followed, gives, unless_absent, or_unknown, of_elf, of_perf_map, count_of, pid_cmp, by_id, by_kept, remember, remembered}

@@ -8,7 +8,7 @@ use Rattle.bz_base.specs.Refusals.{IsFormatRefusal}
 use Rattle.bz_base.specs.declared.error.Error.{Error}
 use Rattle.bz_base.specs.declared.error.Error.TheVariants as errors
 use Rattle.bz_files.specs.declared.stamp.Stamp.{Stamp}
-use Rattle.bz_files.specs.World.{World, Entry, Denied, Present, entry_at}
+use Rattle.bz_files.specs.World.{World, Entry, Denied, Present, entry_at, has_file}
 use Rattle.bz_cache.specs.Cache.{Cache}
 use Rattle.bz_cache.specs.InsertMap.{value_at, with_absent}
 use Rattle.bz_cache.specs.Look.{by_entry, by_fixed, by_test, is_new, look, named, will_open}
@@ -22,7 +22,6 @@ use Rattle.bz_proc.specs.Maps.{Mapping, Name, File, Component, owner_of}
 use Rattle.bz_proc.specs.PerfId.{by_status, ns_tgid_of, status_path}
 use Rattle.bz_proc.specs.PerfMap as perf
 use Rattle.bz_proc.specs.Status.{ns_tgid_in}
-use Rattle.bz_proc.specs.SystemText.{has_file}
 use Rattle.bz_process.specs.Asked.{Asked}
 use Rattle.bz_process.specs.Caches.{ProcessCaches}
 use Rattle.bz_process.specs.Process.{Outcome, Said, asks_elf, asks_perf_map, at_address, batched, by_asked, by_id, by_kept, by_mapping, by_owner, by_said, count_of, followed, of_elf, of_perf_map, offset_in, or_unknown, pid_cmp, remember, remembered}

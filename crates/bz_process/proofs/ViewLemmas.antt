@@ -3,7 +3,7 @@ use Rattle.std.proofs.Common.{◌≡◌, unwrap_or, ℕ, Bool, true, false, cond
 use Rattle.std.specs.FinMap as map
 use Rattle.bz_base.specs.declared.error.Error.{Error}
 use Rattle.bz_base.specs.declared.pid.Pid.{Pid}
-use Rattle.bz_files.specs.World.{World, Present, entry_at}
+use Rattle.bz_files.specs.World.{World, Present, entry_at, has_file}
 use Rattle.bz_files.specs.declared.stamp.Stamp.{Stamp}
 use Rattle.bz_cache.specs.Cache.{Cache, Consistent, PathState, stamp_eq}
 use Rattle.bz_cache.specs.Coherence.{Coherent}
@@ -19,7 +19,6 @@ use Rattle.bz_elf.specs.Format as elf
 use Rattle.bz_proc.specs.Maps.{Mapping, Name, File, Component, owner_of}
 use Rattle.bz_proc.specs.PerfId.{status_path}
 use Rattle.bz_proc.specs.PerfMap as perf
-use Rattle.bz_proc.specs.SystemText.{has_file}
 use Rattle.bz_process.specs.Asked.{Asked}
 use Rattle.bz_process.specs.Caches.{ProcessCaches}
 use Rattle.bz_process.specs.InView.{CoheresIn, address_in_view, mapping_in_view, owner_in_view, perf_map_in_view, unnamed_in_view}

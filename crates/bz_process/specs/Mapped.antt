@@ -6,11 +6,11 @@ use Rattle.bz_base.specs.declared.error.Error.TheVariants as errors
 use Rattle.bz_base.specs.declared.resolve.Symbolize.{Ghosts as Finds}
 use Rattle.bz_base.specs.declared.resolve.TranslateFileOffset.{Ghosts as Translates}
 use Rattle.bz_base.specs.declared.types.FindSymOpts.{FindSymOpts}
-use Rattle.bz_files.specs.World.{Entry, Told, entry_at, in_view}
+use Rattle.bz_files.specs.World.{Entry, Told, entry_at, has_file, in_view}
 use Rattle.bz_files.specs.declared.files.Files.{Ghosts}
 use Rattle.bz_proc.specs.Maps.{Mapping}
 use Rattle.bz_proc.specs.MapsFile.{AreOfText, maps_path, maps_told}
-use Rattle.bz_proc.specs.SystemText.{IsReadRefusal, has_file}
+use Rattle.bz_proc.specs.SystemText.{IsReadRefusal}
 use Rattle.bz_base.specs.declared.pid.Pid.{Pid}
 use Rattle.bz_process.specs.Dispatch.{Answers, Keeps, Test}
 use Rattle.bz_process.specs.Process.{Said, Step, and_then, at_address, at_addresses, count_of, gives, unsaid}

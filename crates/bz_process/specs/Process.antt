@@ -6,7 +6,7 @@ use Rattle.bz_base.specs.Resolution as resolution
 use Rattle.bz_base.specs.declared.error.Error.{Error}
 use Rattle.bz_base.specs.declared.error.Error.TheVariants as errors
 use Rattle.bz_base.specs.declared.types.Reason.TheVariants as reasons
-use Rattle.bz_files.specs.World.{World, entry_at}
+use Rattle.bz_files.specs.World.{World, entry_at, has_file}
 use Rattle.bz_cache.specs.InsertMap.{value_at, with_absent}
 use Rattle.bz_elf.specs.Format as elf
 use Rattle.bz_elf.specs.Plain as elf_plain
@@ -15,7 +15,6 @@ use Rattle.bz_proc.specs.Maps.{Mapping, Name, File, Component, owner_of}
 use Rattle.bz_proc.specs.PerfMap as perf
 use Rattle.bz_proc.specs.PerfPath.{perf_map_path}
 use Rattle.bz_proc.specs.PerfId.{ns_tgid_of, status_path}
-use Rattle.bz_proc.specs.SystemText.{has_file}
 use Rattle.bz_base.specs.contracts.pid.PidOrd.TheImpl as pid_ord
 use Rattle.bz_base.specs.declared.pid.Pid.{Pid}
 use Rattle.bz_cache.specs.FileCall.{Question, file_answer, file_cache, file_opens}

@@ -5,12 +5,12 @@ ghost use Rattle.bz_base.specs.declared.error.Error.{Error};
 ghost use Rattle.bz_cache.specs.Format.{Comes};
 ghost use Rattle.bz_cache.specs.InsertMap.{value_at};
 ghost use Rattle.bz_files.specs.Looked.{Faulted, Looked, ReadsOne};
-ghost use Rattle.bz_files.specs.World.{Told, entry_at, in_view};
+ghost use Rattle.bz_files.specs.World.{Told, entry_at, has_file, in_view};
 ghost use Rattle.bz_proc.specs.Maps.{Mapping};
 ghost use Rattle.bz_process.specs.Caches.{ProcessCaches};
 ghost use Rattle.bz_process.specs.Mapped.{AreFrom, AreUsed, LacksMappings, if_some, mappings_of, of_text, some_mappings};
 ghost use Rattle.bz_proc.specs.MapsFile.{AreOfText, maps_path, maps_told};
-ghost use Rattle.bz_proc.specs.SystemText.{IsReadRefusal, has_file};
+ghost use Rattle.bz_proc.specs.SystemText.{IsReadRefusal};
 ghost use Rattle.bz_process.specs.Process.{pid_cmp};
 ghost use Rattle.bz_process.specs.ProcessCall.{TakesStep};
 

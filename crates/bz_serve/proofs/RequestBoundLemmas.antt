@@ -7,7 +7,7 @@ use Rattle.std.proofs.lemmas.Slice.Eq.{bytes_eq-Decides}
 use Rattle.bz_base.specs.Answer.{Answer}
 use Rattle.bz_base.specs.declared.error.Error.{Error}
 use Rattle.bz_base.specs.declared.pid.Pid.{Pid}
-use Rattle.bz_files.specs.World.{World, entry_at}
+use Rattle.bz_files.specs.World.{World, entry_at, has_file}
 use Rattle.bz_cache.specs.Cache.{Cache, with_pin}
 use Rattle.bz_cache.specs.InsertMap.{value_at}
 use Rattle.bz_cache.specs.Look.{is_new, will_open}
@@ -16,7 +16,6 @@ use Rattle.bz_proc.specs.Maps.{Mapping, owner_of}
 use Rattle.bz_proc.specs.MapsFile.{maps_path, maps_told}
 use Rattle.bz_proc.specs.PerfId.{ns_tgid_of, status_path}
 use Rattle.bz_proc.specs.PerfPath.{perf_map_path}
-use Rattle.bz_proc.specs.SystemText.{has_file}
 use Rattle.bz_process.specs.Asked.{Asked, asked_of}
 use Rattle.bz_process.specs.Caches.{ProcessCaches}
 use Rattle.bz_process.specs.Caching.{Caching, after_mappings, caches_perf_map, caches_process, pins_perf_map}

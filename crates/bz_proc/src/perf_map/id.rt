@@ -5,9 +5,9 @@ ghost use Rattle.bz_base.specs.declared.error.Error.{Error};
 ghost use Rattle.bz_cache.specs.Format.{Comes};
 ghost use Rattle.bz_files.specs.Count.{counted};
 ghost use Rattle.bz_files.specs.Looked.{Faulted, Looked, ReadsOne};
-ghost use Rattle.bz_files.specs.World.{Told, entry_at, in_view};
+ghost use Rattle.bz_files.specs.World.{Told, entry_at, has_file, in_view};
 ghost use Rattle.bz_proc.specs.PerfId.{IsOfStatus, ns_tgid_of, status_path};
-ghost use Rattle.bz_proc.specs.SystemText.{has_file, IsReadRefusal};
+ghost use Rattle.bz_proc.specs.SystemText.{IsReadRefusal};
 
 use crate::status::parse_ns_tgid;
 use bz_base::{Pid, Result};
