@@ -1,4 +1,5 @@
 //! LEB128 numbers, of which those of one or two bytes are read without a branch between the two.
+//! This is for speed alone: `Cursor` reads the same numbers, and here all longer ones.
 
 ghost use Rattle.std.specs.Prelude.{◌≡◌, ◌+◌, ◌<◌, ◌≤◌, drop, length, Some, IfNone, IfSome};
 ghost use Rattle.bz_base.specs.Cursor.{with_rest};
