@@ -13,7 +13,9 @@ mod head;
 mod starts;
 mod text;
 
-use crate::types::{AddrInfo, FileInfo, Header};
+use crate::types::{
+    AddrInfo, DATA_PLACE_LEN, FILE_COUNT_LEN, FILE_ENTRY_LEN, FUNCTION_INFO_LEN, FileInfo, Header,
+};
 use bz_base::{Addr, Result, u32_at};
 pub use data::AddrDataIter;
 pub(crate) use head::checked_header;
@@ -109,7 +111,7 @@ impl<'a> GsymContext<'a> {
         if idx >= self.header.num_addrs as usize {
             return None;
         }
-        let place = u32_at(self.bytes, data_table(&self.header) + idx * 4) as usize;
+        let place = u32_at(self.bytes, data_table(&self.header) + idx * DATA_PLACE_LEN) as usize;
         info(self.bytes, place)
     }
 
@@ -131,7 +133,7 @@ impl<'a> GsymContext<'a> {
         if idx >= u32_at(self.bytes, count_place) as usize {
             return None;
         }
-        let place = count_place + 4 + idx * 8;
+        let place = count_place + FILE_COUNT_LEN + idx * FILE_ENTRY_LEN;
         Some(FileInfo {
             directory: u32_at(self.bytes, place),
             filename: u32_at(self.bytes, place + 4),
@@ -153,12 +155,12 @@ fn info(bytes: &[u8], place: usize) -> Option<AddrInfo<'_>>
     requires { place ≤ 4294967295 }
     ensures { option_map info_seen result ≡ info_at bytes.now place }
 {
-    if place + 8 > bytes.len() {
+    if place + FUNCTION_INFO_LEN > bytes.len() {
         return None;
     }
     Some(AddrInfo {
         size: u32_at(bytes, place),
         name: u32_at(bytes, place + 4),
-        bytes: &bytes[place + 8..],
+        bytes: &bytes[place + FUNCTION_INFO_LEN..],
     })
 }

@@ -11,39 +11,6 @@ use crate::places::placed_of;
 use bz_base::{Addr, Error, FindSymOpts, Reason, ResolvedSym, Result, SrcLang, inside};
 use std::alloc::Global;
 
-/// The symbol at an address as far as the options ask, or why there is none.
-pub(crate) fn symbol_at<'a>(
-    context: &GsymContext<'a>,
-    alloc: Global,
-    addr: Addr,
-    opts: &FindSymOpts,
-) -> Result<std::result::Result<ResolvedSym<'a>, Reason>>
-    ensures answer { MayGive found_of (λ answer. answer ≡ plain context.now opts.now addr) result }
-    ensures refusal { IfErr result (IsAnswerRefusal opts.now) }
-    ensures starts { IfOk result (λ found. StartsBefore addr (found_of found)) }
-    ensures lent { IfOk result (λ found. IfOk found IsLentResolved) }
-{
-    let Some((index, start)) = context.nearest(addr) else {
-        return Ok(Err(Reason::UnknownAddr));
-    };
-    let Some(info) = context.addr_info(index) else {
-        return Err(Error::InvalidData);
-    };
-    if !reaches(start, info.size, addr) {
-        return Ok(Err(Reason::UnknownAddr));
-    }
-    let placed = placed_of(context, alloc, opts, addr, start, &info)?;
-    Ok(Ok(ResolvedSym {
-        name: placed.name,
-        module: None,
-        addr: start,
-        size: Some(info.size as usize),
-        lang: SrcLang::Unknown,
-        code_info: placed.code_info,
-        inlined: placed.inlined,
-    }))
-}
-
 impl<'a> GsymContext<'a> {
     /// The symbol at an address as far as the options ask, or why there is none. InvalidData: what is
     /// asked of it isn't in the format.
@@ -58,7 +25,25 @@ impl<'a> GsymContext<'a> {
         ensures lent { IfOk result (λ found. IfOk found IsLentResolved) }
         ensures refusal { IfErr result (IsAnswerRefusal opts.now) }
     {
-        symbol_at(self, alloc, addr, opts)
+        let Some((index, start)) = self.nearest(addr) else {
+            return Ok(Err(Reason::UnknownAddr));
+        };
+        let Some(info) = self.addr_info(index) else {
+            return Err(Error::InvalidData);
+        };
+        if !reaches(start, info.size, addr) {
+            return Ok(Err(Reason::UnknownAddr));
+        }
+        let placed = placed_of(self, alloc, opts, addr, start, &info)?;
+        Ok(Ok(ResolvedSym {
+            name: placed.name,
+            module: None,
+            addr: start,
+            size: Some(info.size as usize),
+            lang: SrcLang::Unknown,
+            code_info: placed.code_info,
+            inlined: placed.inlined,
+        }))
     }
 }
 

@@ -11,7 +11,6 @@ ghost use Rattle.bz_gsym.specs.Tables.{IsGsym};
 ghost use Rattle.bz_gsym.specs.Version.{format_test, format_refusals};
 
 use crate::parser::{GsymContext, checked_header};
-use crate::symbol::symbol_at;
 use crate::types::Header;
 use bz_base::{Addr, FindSymOpts, Reason, ResolvedSym, Result, Symbolize};
 use bz_cache::Version;
@@ -91,6 +90,6 @@ impl Symbolize for GsymTable {
         ensures lent { IfOk result (λ found. IfOk found IsLentResolved) }
         ensures refusal { IfErr result (IsAnswerRefusal opts.now) }
     {
-        symbol_at(&self.context(), alloc, addr, opts)
+        self.context().find_sym(alloc, addr, opts)
     }
 }

@@ -6,11 +6,11 @@ ghost use Rattle.bz_gsym.specs.Header.{header_of};
 ghost use Rattle.bz_gsym.specs.Tables.{IsGsym, IsHeaded, addresses_end, data_table, file_count_place, files_end, header_len, strings_end};
 
 use super::starts::starts_ascend;
-use crate::types::{GSYM_MAGIC, GSYM_VERSION, Header};
+use crate::types::{
+    DATA_PLACE_LEN, FILE_COUNT_LEN, FILE_ENTRY_LEN, GSYM_MAGIC, GSYM_MAX_UUID_SIZE, GSYM_VERSION,
+    HEADER_LEN, Header,
+};
 use bz_base::{Error, Result, u8_at, u16_at, u32_at, u64_at};
-
-/// How many bytes the head has.
-pub(crate) const HEADER_LEN: usize = 48;
 
 /// The head, if the bytes are a GSYM file. Nothing of the file is kept beside it.
 pub(crate) fn checked_header(bytes: &[u8]) -> Result<Header>
@@ -38,8 +38,8 @@ fn read_header(bytes: &[u8]) -> Header
     requires { header_len ≤ length bytes.now }
     ensures { result ≡ header_of bytes.now }
 {
-    let mut uuid = [0; 20];
-    uuid.copy_from_slice(&bytes[28..48]);
+    let mut uuid = [0; GSYM_MAX_UUID_SIZE];
+    uuid.copy_from_slice(&bytes[28..HEADER_LEN]);
     Header {
         magic: u32_at(bytes, 0),
         version: u16_at(bytes, 4),
@@ -75,7 +75,7 @@ pub(crate) fn file_count_place(header: &Header) -> usize
     ensures place { result ≡ file_count_place header.now }
     ensures within { result < 2 ^ 43 }
 {
-    data_table(header) + header.num_addrs as usize * 4
+    data_table(header) + header.num_addrs as usize * DATA_PLACE_LEN
 }
 
 /// Whether the files, which are the last of the tables, end in the bytes.
@@ -84,11 +84,11 @@ fn tables_lie(bytes: &[u8], header: &Header) -> bool
     ensures { result ≡ nat_le (files_end bytes.now) (length bytes.now) }
 {
     let count_place = file_count_place(header);
-    if count_place + 4 > bytes.len() {
+    if count_place + FILE_COUNT_LEN > bytes.len() {
         return false;
     }
     let count = u32_at(bytes, count_place) as usize;
-    count_place + 4 + count * 8 <= bytes.len()
+    count_place + FILE_COUNT_LEN + count * FILE_ENTRY_LEN <= bytes.len()
 }
 
 /// Whether the string table lies in the bytes.

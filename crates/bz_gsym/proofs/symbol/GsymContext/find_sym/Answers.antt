@@ -3,29 +3,29 @@ use Rattle.std.proofs.lemmas.Result.{err_from_is_err_and}
 use Rattle.bz_gsym.specs.JoiningSeen.{placed_seen}
 use Rattle.bz_gsym.specs.Seen.{info_seen}
 use Rattle.bz_gsym.proofs.SymbolLemmas.{no_data, none_tried, not_reached, reached, refused}
-use Rattle.bz_gsym.proofs.symbol.symbol_at.Goals as goal
+use Rattle.bz_gsym.proofs.symbol.GsymContext.find_sym.Goals as goal
 
 pub returns-in_default-clause-answer : goal.returns-in_default-clause-answer
-returns-in_default-clause-answer c = sym (none_tried c.args.context.now c.args.addr c.in_default.ensures.formed c.args.opts.now c.in_default.ensures.found)
+returns-in_default-clause-answer c = sym (none_tried c.args.self.now c.args.addr c.in_default.ensures.formed c.args.opts.now c.in_default.ensures.found)
 
 pub returns-in_default-addr_info-clause-answer : goal.returns-in_default-addr_info-clause-answer
 returns-in_default-addr_info-clause-answer c =
-    no_data c.args.context.now c.args.addr c.in-Some.ensures.formed c.in-Some.index c.in-Some.start c.in-Some.ensures.found c.args.opts.now c.in_default-addr_info.ensures
+    no_data c.args.self.now c.args.addr c.in-Some.ensures.formed c.in-Some.index c.in-Some.start c.in-Some.ensures.found c.args.opts.now c.in_default-addr_info.ensures
 
 pub returns-then-not-reaches-clause-answer : goal.returns-then-not-reaches-clause-answer
 returns-then-not-reaches-clause-answer c =
-    not_reached c.args.context.now c.args.addr c.in-Some.ensures.formed c.in-Some.index c.in-Some.start c.in-Some.ensures.found c.args.opts.now
+    not_reached c.args.self.now c.args.addr c.in-Some.ensures.formed c.in-Some.index c.in-Some.start c.in-Some.ensures.found c.args.opts.now
     (info_seen c.in-Some-addr_info.info) c.in-Some-addr_info.ensures (sym c.reaches.ensures ∙ c.if-not-reaches.true)
 
 pub returns-in_err-placed-clause-answer : goal.returns-in_err-placed-clause-answer
 returns-in_err-placed-clause-answer c =
     let same = err_from_is_err_and c.from_residual.result c.from_residual.ensures.1 in
     rw (same.1, same.2)
-    (refused c.args.context.now c.args.addr c.in-Some.ensures.formed c.in-Some.index c.in-Some.start c.in-Some.ensures.found c.args.opts.now
+    (refused c.args.self.now c.args.addr c.in-Some.ensures.formed c.in-Some.index c.in-Some.start c.in-Some.ensures.found c.args.opts.now
     (info_seen c.in-Some-addr_info.info) c.in-Some-addr_info.ensures (sym c.reaches.ensures ∙ c.if-not-reaches.false) c.in_err-placed.field-0.0 c.in_err-placed.ensures.refusal)
 
 pub returns-clause-answer : goal.returns-clause-answer
 returns-clause-answer c =
-    reached c.args.context.now c.args.addr c.in-Some.ensures.formed c.in-Some.index c.in-Some.start c.in-Some.ensures.found c.args.opts.now
+    reached c.args.self.now c.args.addr c.in-Some.ensures.formed c.in-Some.index c.in-Some.start c.in-Some.ensures.found c.args.opts.now
     (info_seen c.in-Some-addr_info.info) c.in-Some-addr_info.ensures (sym c.reaches.ensures ∙ c.if-not-reaches.false)
     (Some (placed_seen c.in_ok-placed.placed)) c.in_ok-placed.ensures.ok
