@@ -1,5 +1,5 @@
 //! The search in a run: line records that stand one after another in a file, each starting after the
-//! one before it.
+//! one before it. Hints say where a run is likely to be cut.
 
 ghost use Rattle.std.specs.Prelude.{◌≡◌, ◌≤◌, ◌<◌, ◌-◌, length, take, slice_index, true, option_map, IfSome, IfNone};
 ghost use Rattle.bz_base.specs.Byte.{line_feed};
@@ -42,19 +42,29 @@ pub(crate) fn line_in_run(bytes: &[u8], run: &Part, hints: Cuts, addr: Addr) -> 
     requires { IsRunAt bytes.now run.now }
     ensures { option_map line_seen result ≡ nearest_covering (λ l. l.start) (λ l. l.size) addr (lines_in (text_at bytes.now run.now)) }
 {
+    let len = (run.to - run.from) as usize;
+    line_in_front(run_front(bytes, run), len, hints, addr)
+}
+
+/// A run with what stands after it in the bytes, since a load of its last line shows more bytes. The run
+/// alone, if that line has no end.
+#[inline(always)]
+pub(crate) fn run_front<'a>(bytes: &'a [u8], run: &Part) -> &'a [u8]
+    requires { IsRunAt bytes.now run.now }
+    ensures front { IsRunFront result.now (run.now.to - run.now.from) }
+    ensures text { take (run.now.to - run.now.from) result.now ≡ text_at bytes.now run.now }
+{
     let text = &bytes[run.from as usize..run.to as usize];
-    // A load of the last line's bytes shows bytes after it, if the line has its end.
-    let more = if ends_line(text) {
+    if ends_line(text) {
         &bytes[run.from as usize..]
     } else {
         text
-    };
-    line_in_front(more, text.len(), hints, addr)
+    }
 }
 
 /// Whether the last line has its line feed.
 #[inline(always)]
-pub(crate) fn ends_line(text: &[u8]) -> bool
+fn ends_line(text: &[u8]) -> bool
     ensures { result ≡ true → (0 < length text.now) × (slice_index text.now (length text.now - 1) ≡ line_feed) }
 {
     !text.is_empty() && text[text.len() - 1] == b'\n'

@@ -12,7 +12,7 @@ ghost use Rattle.bz_breakpad_table.specs.LineRun.{AreLineRecords, IsRunFront, li
 ghost use Rattle.bz_breakpad_table.specs.Search.{IsFunction};
 
 use crate::calls::inlinee_of;
-use crate::line_run::{LINE_LEN, ends_line};
+use crate::line_run::{LINE_LEN, run_front};
 use crate::types::Inlinee;
 use bz_base::first_line;
 use bz_breakpad_lines::{SourceLine, line_or_zeros, line_record_at, next_line_record};
@@ -128,14 +128,8 @@ fn lines_of_run(alloc: Global, bytes: &[u8], run: &Part) -> Result<Vec<SourceLin
     requires { IsRunAt bytes.now run.now }
     ensures { IfOk result (λ lines. map line_seen lines.items ≡ lines_in (text_at bytes.now run.now)) }
 {
-    let text = &bytes[run.from as usize..run.to as usize];
-    // Loads of the last lines' bytes show bytes after them, if the last line has its end.
-    let more = if ends_line(text) {
-        &bytes[run.from as usize..]
-    } else {
-        text
-    };
-    lines_in_front(alloc, more, text.len())
+    let len = (run.to - run.from) as usize;
+    lines_in_front(alloc, run_front(bytes, run), len)
 }
 
 /// The line records of a run that is so many bytes of the text.
