@@ -9,7 +9,7 @@ ghost use Rattle.bz_breakpad_table.specs.Kept.{AreSearchable, kept_lines};
 
 use bz_base::{Addr, Probe, Steps, covers, nearest};
 use bz_breakpad_lines::{SourceLine, line_record_at, start_at};
-use std::marker::{Brand, Model};
+use std::marker::Model;
 use std::sync::ledger::{Blank, Ledger};
 
 /// The starts of the line records at places in the bytes.
@@ -44,17 +44,9 @@ impl<'a> Probe for LineStarts<'a> {
     }
 }
 
-/// The line record that answers for the address, of those at places in order.
-pub(crate) fn line_covering(bytes: &[u8], places: &[usize], addr: Addr) -> Option<SourceLine>
-    requires { AreSearchable bytes.now places.now }
-    ensures { (lines : List tables.SourceLine) → IsTable (λ l. l.start) (λ l. l.size) lines (kept_lines bytes.now places.now) →
-        option_map line_seen result ≡ nearest_covering (λ l. l.start) (λ l. l.size) addr lines }
-{
-    covering_blank::<Brand>(bytes, places, addr, Blank::new(1))
-}
-
-// The same, with a count that nobody reads.
-fn covering_blank<L: Ledger>(
+/// The line record that answers for the address, of those at places in order. Its probes are counted in
+/// the blank, which nobody reads.
+pub(crate) fn line_covering<L: Ledger>(
     bytes: &[u8],
     places: &[usize],
     addr: Addr,

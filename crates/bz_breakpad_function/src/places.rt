@@ -23,6 +23,8 @@ use bz_breakpad_lines::{SourceLine, call_at};
 use bz_breakpad_table::{CallRange, FunctionTable, KeptFunction, KeptTable, LineRecords, name_of};
 use std::alloc::{AllocError, Global};
 use std::borrow::CowStr;
+use std::marker::Brand;
+use std::sync::ledger::Blank;
 
 /// Where an address lies in the source code.
 #[derive(Drop)]
@@ -111,7 +113,7 @@ pub(crate) fn line_of(
         LineRecords::Run(part) => line_in_run(bytes, &part, hints, addr),
         LineRecords::Listed(part) => {
             let places = &code.lines[part.from as usize..part.to as usize];
-            line_covering(bytes, places, addr)
+            line_covering::<Brand>(bytes, places, addr, Blank::new(1))
         }
     }
 }

@@ -1,6 +1,6 @@
 use Rattle.std.proofs.Common.{◌∙◌}
 use Rattle.bz_breakpad_function.proofs.LineSearchLemmas.{line_covers, no_line_covers}
-use Rattle.bz_breakpad_function.proofs.lines.covering_blank.Goals as goal
+use Rattle.bz_breakpad_function.proofs.lines.line_covering.Goals as goal
 
 pub returns-in-Some : goal.returns-in-Some
 returns-in-Some g c lines table =
