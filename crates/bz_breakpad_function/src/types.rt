@@ -1,4 +1,4 @@
-//! What is told of the records of a function.
+//! What is told of an inlined call of a function.
 
 /// A range of code where a call was inlined, of an INLINE record.
 #[derive(Clone, Copy, Debug, PartialEq, Eq)]
