@@ -30,7 +30,7 @@ use crate::find::{find_records, function_index, record_at};
 use crate::found::FoundRecord;
 use crate::inspect::{SymInfo, each_info, infos_named};
 use crate::lookups::{FoundAddrs, answer_from};
-use crate::publics::{lent_public, lent_publics};
+use crate::publics::{lend_public, lend_publics};
 use crate::symbol::symbol_from;
 use crate::types::PublicSymbol;
 use bz_base::{
@@ -49,8 +49,11 @@ use std::sync::ledger::Ledger;
 #[derive(Drop)]
 pub struct SymbolFile {
     bytes: Vec<u8>,
+    /// What is kept of its records.
     table: KeptTable,
+    /// The starts of its functions, in their order.
     starts: Starts,
+    /// By what its PUBLIC records are found.
     publics: PublicTable,
 }
 
@@ -215,7 +218,7 @@ impl SymbolFile {
         requires { index < length (publics_in self.now) }
         ensures { slice_get (publics_in self.now) index ≡ Some (lent_public result) }
     {
-        lent_public(self.bytes.as_slice(), &self.table.publics[index])
+        lend_public(self.bytes.as_slice(), &self.table.publics[index])
     }
 
     /// The PUBLIC records in the order of their addresses; those of one address stand as in the file.
@@ -224,7 +227,7 @@ impl SymbolFile {
         ensures memory { IsOkUnless result Error.OutOfMemory }
     {
         let sorted = sorted_publics(alloc, &self.table.publics)?;
-        let publics = lent_publics(alloc, self.bytes.as_slice(), &sorted)?;
+        let publics = lend_publics(alloc, self.bytes.as_slice(), &sorted)?;
         Ok(publics)
     }
 

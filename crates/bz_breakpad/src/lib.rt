@@ -1,4 +1,4 @@
-//! Breakpad symbol files: the answers of one.
+//! A parsed Breakpad symbol file: its records, and its answers to addresses and names.
 #![tactic(auto)]
 
 mod file;

@@ -9,7 +9,7 @@ use bz_breakpad_table::{KeptPublic, text_of};
 use std::alloc::{AllocError, Global};
 
 /// PUBLIC records, which lend their names.
-pub(crate) fn lent_publics<'a>(
+pub(crate) fn lend_publics<'a>(
     alloc: Global,
     bytes: &'a [u8],
     publics: &[KeptPublic],
@@ -19,13 +19,13 @@ pub(crate) fn lent_publics<'a>(
 {
     let mut lent = Vec::with_capacity(alloc, publics.len())?;
     for public in publics {
-        lent.push(lent_public(bytes, public))?;
+        lent.push(lend_public(bytes, public))?;
     }
     Ok(lent)
 }
 
 /// A PUBLIC record, which lends its name.
-pub(crate) fn lent_public<'a>(bytes: &'a [u8], public: &KeptPublic) -> PublicSymbol<'a>
+pub(crate) fn lend_public<'a>(bytes: &'a [u8], public: &KeptPublic) -> PublicSymbol<'a>
     requires { IsTextAt bytes.now public.now.name }
     ensures { lent_public result ≡ kept_public bytes.now public.now }
 {

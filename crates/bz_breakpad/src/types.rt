@@ -1,4 +1,4 @@
-//! What is told of the PUBLIC records of a Breakpad file.
+//! What is told of a PUBLIC record of a Breakpad file.
 
 /// A symbol of a PUBLIC record.
 #[derive(Debug, PartialEq, Eq, Drop)]

@@ -9,8 +9,8 @@ use Rattle.bz_breakpad.specs.Listed.{publics_of}
 use Rattle.bz_breakpad.proofs.FileOrderLemmas.{publics_fit, publics_kept}
 use Rattle.bz_breakpad.proofs.file.SymbolFile.publics.Goals as goal
 
-pub lent_publics-requires : goal.lent_publics-requires
-lent_publics-requires c =
+pub lend_publics-requires : goal.lend_publics-requires
+lend_publics-requires c =
     let bytes = c.self.inside.bytes.items in
     let publics = c.self.inside.table.publics.items in
     let ordered = c.in_ok-sorted.sorted.items in
