@@ -2,18 +2,15 @@
 use Rattle.std.proofs.Common.{◌≡◌, ℕ, ◌+◌, ◌<◌, ◌≤◌, Bool, true, false, cond, List, length, map, get_or, Option, Some, None, Result, Ok, Err, refl, sym, ap, subst, ◌∙◌, arith}
 use Rattle.std.specs.List.{slice_get}
 use Rattle.std.proofs.lemmas.Option.{same_Some, slice_get-map, slice_get_read, slice_get_within}
-use Rattle.bz_base.specs.Answer.{Answer, Gives, Symbol, reading}
+use Rattle.bz_base.specs.Answer.{Answer, Symbol}
 use Rattle.bz_base.specs.Answer.Answer.{Known, Unknown}
 use Rattle.bz_base.specs.declared.error.Error.{Error}
-use Rattle.bz_base.specs.declared.error.Error.TheVariants as errors
 use Rattle.bz_base.specs.declared.types.FindSymOpts.{FindSymOpts}
 use Rattle.bz_base.specs.declared.types.Reason.TheVariants as reasons
 use Rattle.bz_breakpad.specs.Found.{IsFunctionFor, IsPublicFor}
-use Rattle.bz_breakpad_table.specs.Kept.{IsNested, IsTextAt, kept_public, function_seen}
-use Rattle.bz_breakpad_function.specs.Lent.{placed_seen}
+use Rattle.bz_breakpad_table.specs.Kept.{IsNested, kept_public, function_seen}
 use Rattle.bz_breakpad.specs.Plain.{any_between, by_place, by_public, plain, public_at, public_symbol_at}
-use Rattle.bz_breakpad_function.specs.Places.{Placed, placed_at, IsAnswerRefusal}
-use Rattle.bz_breakpad_table.specs.Search.{IsFunction}
+use Rattle.bz_breakpad_function.specs.Places.{Placed, placed_at}
 use Rattle.bz_breakpad_table.specs.Sorted.{StandsFor}
 use Rattle.bz_breakpad_lines.specs.Table.{Function, PublicSymbol, Table}
 use Rattle.bz_breakpad_table.specs.declared.types.KeptFunction.{KeptFunction}
@@ -21,8 +18,7 @@ use Rattle.bz_breakpad_table.specs.declared.types.KeptPublic.{KeptPublic}
 use Rattle.bz_breakpad_table.specs.declared.types.KeptTable.{KeptTable}
 use Rattle.bz_breakpad.proofs.AddressLaws.{public_below, starts_below}
 use Rattle.bz_breakpad_function.proofs.AsKept.{placed_same}
-use Rattle.bz_breakpad_function.proofs.IndexedLemmas.{fits_there, nested_there}
-use Rattle.bz_breakpad_table.proofs.KeptLemmas.{all_get}
+use Rattle.bz_breakpad_function.proofs.IndexedLemmas.{nested_there}
 use Rattle.bz_breakpad_function.proofs.IndexedLemmas.{some_of}
 use Rattle.bz_breakpad.proofs.PlainLemmas.{plain-some}
 
@@ -55,9 +51,6 @@ module _ (bytes : List ℕ) (table : Table) (kept : KeptTable) (stands : StandsF
       pub function_nested : IsNested is.function (function_seen bytes kept.code f)
       function_nested = nested_there bytes table kept stands index is.function is.there f read
 
-      pub function_kept : IsFunction bytes kept.code f
-      function_kept = fits_there bytes table kept stands index is.function is.there f read
-
       pub function_below : f.start ≤ addr
       function_below = omega (arith, starts_below addr table.functions is.function is.answers, ap (λ (g : Function). g.start) function_nested.same)
 
@@ -85,9 +78,6 @@ module _ (bytes : List ℕ) (table : Table) (kept : KeptTable) (stands : StandsF
           let there = slice_get_read kept.publics.items (length kept.publics.items) index p refl public_within read in
           ap (kept_public bytes) (same_Some p public_there.0 (sym there ∙ public_there.1)) ∙ public_there.2
 
-      pub public_named : IsTextAt bytes p.name
-      public_named = subst (λ (q : KeptPublic). IsTextAt bytes q.name) (sym read) (all_get (λ (q : KeptPublic). IsTextAt bytes q.name) kept.publics.items index p stands.fits.publics public_within)
-
       pub public_starts : p.start ≤ addr
       public_starts = subst (λ (q : PublicSymbol). q.start ≤ addr) (sym told_as) (answers_below table addr (public_symbol_at table is.public addr) is.answers)
 
@@ -97,10 +87,3 @@ module _ (bytes : List ℕ) (table : Table) (kept : KeptTable) (stands : StandsF
           let some : 0 < length table.functions + length table.publics = omega (arith, slice_get_within table.publics index is.public is.there) in
           plain-some table opts addr None some (sym is.no_function)
           ∙ ap Ok (is.answers ∙ ap (λ q. Known (public_symbol_at table q addr)) (sym told_as))
-
--- where a place is refused, the answer is
-pub refused_as : (table : Table) (f : Function) (addr : ℕ) (expected : Result Answer Error) (placed : Result Placed Error) (e : Error) →
-    expected ≡ by_place table f addr placed → Gives placed_seen placed (Err e) → IsAnswerRefusal e → Gives reading expected (Err e)
-refused_as table f addr expected placed errors.InvalidInput is gives refusal = is ∙ ap (by_place table f addr) gives
-refused_as table f addr expected placed errors.OutOfMemory is gives refusal = tt
-refused_as table f addr expected placed _ is gives refusal = absurd refusal

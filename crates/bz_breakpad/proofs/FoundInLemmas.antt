@@ -1,6 +1,7 @@
 -- The plain answer as a table of symbols gives it: where it is refused, and what it becomes at the address.
-use Rattle.std.proofs.Common.{◌≡◌, ℕ, ◌-◌, false, Result, Ok, Err, refl, sym, ap, ◌∙◌, arith}
-use Rattle.bz_base.specs.Answer.{Answer, Gives, Resolved}
+use Rattle.std.proofs.Common.{◌≡◌, ℕ, ◌+◌, ◌-◌, ◌<◌, Bool, true, false, List, [], ◌∷◌, length, Option, Some, None, Result, Ok, Err, refl, sym, ap, subst, ◌∙◌, arith}
+use Rattle.std.proofs.lemmas.Option.{slice_get_within}
+use Rattle.bz_base.specs.Answer.{Answer, Gives, Resolved, reading}
 use Rattle.bz_base.specs.Answer.Answer.{Known, Unknown}
 use Rattle.bz_base.specs.Resolution.{MayGive, answer_at, found_of}
 use Rattle.bz_base.specs.declared.error.Error.{Error}
@@ -8,11 +9,15 @@ use Rattle.bz_base.specs.declared.error.Error.TheVariants as errors
 use Rattle.bz_base.specs.declared.types.FindSymOpts.{FindSymOpts}
 use Rattle.bz_base.specs.declared.types.Reason.{Reason}
 use Rattle.bz_breakpad_function.specs.Lent.{placed_seen}
-use Rattle.bz_breakpad.specs.Plain.{by_place, plain}
-use Rattle.bz_breakpad_function.specs.Places.{Placed, IsAnswerRefusal}
-use Rattle.bz_breakpad.specs.Resolver.{found_in, resolved_in, unmarked}
-use Rattle.bz_breakpad_lines.specs.Table.{Function, Table}
+use Rattle.bz_breakpad.specs.Found.{IsRecordFor, IsUnanswered, is_public}
+use Rattle.bz_breakpad.specs.Plain.{by_function, by_place, by_records, function_at, plain}
+use Rattle.bz_breakpad_function.specs.Places.{Placed, placed_at, IsAnswerRefusal}
+use Rattle.bz_breakpad.specs.Resolver.{found_in, marked, resolved_in, unmarked}
+use Rattle.bz_breakpad_lines.specs.Table.{Function, PublicSymbol, Table}
+use Rattle.bz_breakpad.specs.declared.found.FoundRecord.{FoundRecord}
+use Rattle.bz_breakpad.specs.declared.found.FoundRecord.TheVariants as records
 use Rattle.bz_breakpad.proofs.AddressLaws.{known_at}
+use Rattle.bz_breakpad.proofs.PlainLemmas.{plain-some}
 
 -- where a place is refused, what is found is
 pub found_refused : (table : Table) (f : Function) (addr : ℕ) (expected : Result Answer Error) (placed : Result Placed Error) (e : Error) →
@@ -34,3 +39,48 @@ found_plain table opts addr found is = by (plain table opts addr) refl is where
       let same : Err reason ≡ found = cc in
       ap (λ (r : Result Resolved Reason). Ok (answer_at addr r)) same
   by (Err e) plain_is is = cc
+
+-- and the plain answer itself by the mark of the record that was found
+pub found_marked : (table : Table) (opts : FindSymOpts) (addr : ℕ) (given : FoundRecord) (answer : Result Resolved Reason) → IsRecordFor table addr given →
+    Ok answer ≡ found_in (plain table opts addr) → plain table opts addr ≡ Ok (marked (is_public given) (answer_at addr answer))
+found_marked table opts addr given answer is gives =
+    mark_is given is ∙ ap (marked_as (is_public given)) (found_plain table opts addr answer (sym gives)) where
+      marked_as : Bool → Result Answer Error → Result Answer Error
+      marked_as public (Ok a) = Ok (marked public a)
+      marked_as public (Err e) = Err e
+
+      by_placed : (f : Function) (placed : Result Placed Error) → by_place table f addr placed ≡ marked_as false (unmarked (by_place table f addr placed))
+      by_placed f (Ok placed) = refl
+      by_placed f (Err e) = refl
+
+      by_none : IsUnanswered table addr → by_function table opts addr None ≡ marked_as false (unmarked (by_function table opts addr None))
+      by_none is = subst (λ (a : Answer). Ok a ≡ marked_as false (unmarked (Ok a))) (sym is.no_public) refl
+
+      by_list : (functions : List Function) (publics : List PublicSymbol) → IsUnanswered table addr → function_at addr functions ≡ None →
+          by_records table opts addr functions publics ≡ marked_as false (unmarked (by_records table opts addr functions publics))
+      by_list [] [] is none = refl
+      by_list [] (p ∷ ps) is none = by_none is
+      by_list (f ∷ fs) ps is none =
+          subst (λ (o : Option Function). by_function table opts addr o ≡ marked_as false (unmarked (by_function table opts addr o))) (sym none) (by_none is)
+
+      mark_is : (given : FoundRecord) → IsRecordFor table addr given → plain table opts addr ≡ marked_as (is_public given) (unmarked (plain table opts addr))
+      mark_is (records.Function index) is =
+          let some : 0 < length table.functions + length table.publics = omega (arith, slice_get_within table.functions index is.function is.there) in
+          let by = plain-some table opts addr (Some is.function) some (sym is.answers) in
+          subst (λ (a : Result Answer Error). a ≡ marked_as false (unmarked a)) (sym by) (by_placed is.function (placed_at table opts is.function addr))
+      mark_is (records.Public index) is =
+          let some : 0 < length table.functions + length table.publics = omega (arith, slice_get_within table.publics index is.public is.there) in
+          let by = plain-some table opts addr None some (sym is.no_function) ∙ ap Ok is.answers in
+          subst (λ (a : Result Answer Error). a ≡ marked_as true (unmarked a)) (sym by) refl
+      mark_is records.Absent is = by_list table.functions table.publics is is.no_function
+
+-- where what is found is refused, the plain answer is
+pub refused_as_found : (expected : Result Answer Error) (e : Error) → MayGive found_of (λ answer. answer ≡ found_in expected) (Err e) → IsAnswerRefusal e →
+    Gives reading expected (Err e)
+refused_as_found expected errors.InvalidInput gives refusal = by expected gives where
+  by : (expected : Result Answer Error) → Err errors.InvalidInput ≡ found_in expected → expected ≡ Err errors.InvalidInput
+  by (Ok (Known s)) gives = cc
+  by (Ok (Unknown reason)) gives = cc
+  by (Err e) gives = sym gives
+refused_as_found expected errors.OutOfMemory gives refusal = tt
+refused_as_found expected _ gives refusal = absurd refusal

@@ -1,5 +1,5 @@
 -- Which record of a table answers for an address.
-use Rattle.std.specs.Prelude.{◌≡◌, ◌<◌, ◌≤◌, ◌⊎◌, ℕ, List, length, Option, Some, None, slice_get, slice_index, slice_index_or}
+use Rattle.std.specs.Prelude.{◌≡◌, ◌<◌, ◌≤◌, ◌⊎◌, ℕ, Bool, true, false, List, length, Option, Some, None, slice_get, slice_index, slice_index_or}
 use Rattle.std.specs.List.{AllByRecursion}
 use Rattle.bz_base.specs.Answer.Answer.{Known, Unknown}
 use Rattle.bz_base.specs.declared.types.Reason.TheVariants as reasons
@@ -36,6 +36,11 @@ abbrev pub IsRecordFor : Table → ℕ → FoundRecord → Type 0
 IsRecordFor table addr (found.Function index) = IsFunctionFor table addr index
 IsRecordFor table addr (found.Public index) = IsPublicFor table addr index
 IsRecordFor table addr found.Absent = IsUnanswered table addr
+
+-- it is a PUBLIC record
+abbrev pub is_public : FoundRecord → Bool
+is_public (found.Public index) = true
+is_public _ = false
 
 -- each record answers for the address at its index
 abbrev pub AreRecordsFor : Table → List ℕ → List FoundRecord → Type 0

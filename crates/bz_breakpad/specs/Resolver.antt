@@ -1,5 +1,5 @@
 -- What a resolver holds, what it comes from, and what it finds.
-use Rattle.std.specs.Prelude.{◌≡◌, ℕ, false, List, Option, Some, None, Result, Ok, Err}
+use Rattle.std.specs.Prelude.{◌≡◌, ℕ, Bool, false, List, Option, Some, None, Result, Ok, Err}
 use Rattle.bz_base.specs.Answer.{Answer, Resolved, Symbol}
 use Rattle.bz_base.specs.Answer.Answer.{Known, Unknown}
 use Rattle.bz_base.specs.declared.error.Error.{Error}
@@ -52,6 +52,11 @@ abbrev pub unmarked : Result Answer Error → Result Answer Error
 unmarked (Ok (Known s)) = Ok (Known (record s { public = false }))
 unmarked (Ok (Unknown reason)) = Ok (Unknown reason)
 unmarked (Err e) = Err e
+
+-- the answer with the mark of a PUBLIC record, or without it
+abbrev pub marked : Bool → Answer → Answer
+marked public (Known s) = Known (record s { public = public })
+marked public (Unknown reason) = Unknown reason
 
 -- it is the plain answer of a Breakpad file at the address
 abbrev pub IsPlain : List ℕ → FindSymOpts → ℕ → Result (Result Resolved Reason) Error → Type 0

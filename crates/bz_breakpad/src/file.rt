@@ -372,7 +372,15 @@ impl SymbolFile {
         ensures memory { IfErr result (WantsMemory (opts.now ≡ FindSymOpts.CodeInfoAndInlined)) }
     {
         let found = record_at(&self.table, &self.starts, &self.publics, addr, steps);
-        symbol_from(alloc, self.bytes.as_slice(), &self.table, opts, found, addr)
+        symbol_from(
+            alloc,
+            self.bytes.as_slice(),
+            &self.table,
+            opts,
+            found,
+            Cuts::unknown(),
+            addr,
+        )
     }
 
     /// What is told of the functions of a name, in their order.

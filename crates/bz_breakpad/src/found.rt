@@ -1,5 +1,8 @@
 //! Which record of a file answers for an address.
 
+ghost use Rattle.std.specs.Prelude.{◌≡◌};
+ghost use Rattle.bz_breakpad.specs.Found.{is_public};
+
 /// Which record of a Breakpad file answers for an address.
 #[derive(Clone, Copy)]
 pub enum FoundRecord {
@@ -9,4 +12,16 @@ pub enum FoundRecord {
     Public(u32),
     /// None.
     Absent,
+}
+
+impl FoundRecord {
+    /// Whether it is a PUBLIC record.
+    pub(crate) fn is_public(self) -> bool
+        ensures { result ≡ is_public self }
+    {
+        match self {
+            FoundRecord::Public(_) => true,
+            FoundRecord::Function(_) | FoundRecord::Absent => false,
+        }
+    }
 }

@@ -1,28 +1,26 @@
-//! The answers to addresses whose records were found.
+//! The answers to addresses whose records were found. What a batch of them reads is touched together.
 
-ghost use Rattle.std.specs.Prelude.{◌≡◌, ◌<◌, ◌≤◌, ◌+◌, ℕ, List, map, length, slice_index, option_map, IfOk, IfErr, IfSome, IsOkUnless};
-ghost use Rattle.std.specs.Cow.{cow_str_bytes};
+ghost use Rattle.std.specs.Prelude.{◌≡◌, ◌<◌, map, length, slice_index, IfOk, IfErr, IsOkUnless};
 ghost use Rattle.std.specs.List.{AllByRecursion};
-ghost use Rattle.bz_base.specs.Answer.{Gives, reading, symbol_of};
-ghost use Rattle.bz_base.specs.Lent.{IsLent, IsLentSymbol, IsLentText};
+ghost use Rattle.bz_base.specs.Answer.{Gives, reading};
+ghost use Rattle.bz_base.specs.Lent.{IsLent, IsLentResolved};
 ghost use Rattle.bz_base.specs.Refusals.{WantsMemory};
+ghost use Rattle.bz_base.specs.Resolution.{StartsBefore, answer_at, found_of};
 ghost use Rattle.bz_base.specs.declared.error.Error.{Error};
 ghost use Rattle.bz_base.specs.declared.types.FindSymOpts.{FindSymOpts};
-ghost use Rattle.bz_base.specs.declared.types.Reason.{Reason};
-ghost use Rattle.bz_breakpad.specs.Found.{AreRecordsFor, IsRecordFor};
-ghost use Rattle.bz_breakpad.specs.Plain.{batch, plain, public_symbol_at, symbol_at};
-ghost use Rattle.bz_breakpad_function.specs.Lent.{IsLentPlaced, placed_seen};
+ghost use Rattle.bz_breakpad.specs.Found.{AreRecordsFor, IsRecordFor, is_public};
+ghost use Rattle.bz_breakpad.specs.Plain.{batch, plain};
+ghost use Rattle.bz_breakpad.specs.Resolver.{marked};
 ghost use Rattle.bz_breakpad_function.specs.Places.{IsAnswerRefusal};
 ghost use Rattle.bz_breakpad_lines.specs.Table.{Table};
-ghost use Rattle.bz_breakpad_table.specs.Kept.{IsTextAt, kept_public, text_at, function_seen};
 ghost use Rattle.bz_breakpad_table.specs.Sorted.{StandsFor};
 
 use crate::found::FoundRecord;
-use bz_base::{Addr, Error, FindSymOpts, Reason, Result, Sym, Symbolized, in_batch};
-use bz_breakpad_function::{Cuts, Guess, Placed, placed_at};
-use bz_breakpad_table::{KeptFunction, KeptPublic, KeptTable, LineRecords, text_of};
+use crate::symbol::symbol_from;
+use bz_base::{Addr, Error, FindSymOpts, Reason, ResolvedSym, Result, Sym, Symbolized, in_batch};
+use bz_breakpad_function::{Cuts, Guess};
+use bz_breakpad_table::{KeptFunction, KeptTable, LineRecords};
 use std::alloc::Global;
-use std::borrow::CowStr;
 
 /// For so many answers what lies far is touched together.
 const TOGETHER: usize = 32;
@@ -212,97 +210,27 @@ pub(crate) fn answer_from<'a>(
     ensures refusal { IfErr result IsAnswerRefusal }
     ensures memory { IfErr result (WantsMemory (opts.now ≡ FindSymOpts.CodeInfoAndInlined)) }
 {
-    match found {
-        FoundRecord::Function(index) => {
-            let function = &kept.code.functions[index as usize];
-            match placed_at(alloc, bytes, kept, opts, function, hints, addr) {
-                Ok(placed) => Ok(Symbolized::Sym(symbol(bytes, kept, function, addr, placed))),
-                Err(error) => Err(error),
-            }
-        }
-        FoundRecord::Public(index) => {
-            let public = &kept.publics[index as usize];
-            Ok(Symbolized::Sym(public_symbol(alloc, bytes, kept, public, addr)))
-        }
-        FoundRecord::Absent => Ok(Symbolized::Unknown(unanswered(kept))),
+    match symbol_from(alloc, bytes, kept, opts, found, hints, addr) {
+        Ok(symbol) => Ok(answer_of(symbol, found, addr)),
+        Err(error) => Err(error),
     }
 }
 
-/// Why no record answers for an address.
-pub(crate) fn unanswered(kept: &KeptTable) -> Reason
-    ensures missing { (bytes : List ℕ) (table : Table) → StandsFor bytes table kept.now → length table.functions ≡ 0 → length table.publics ≡ 0 → result ≡ Reason.MissingSyms }
-    ensures unknown { (bytes : List ℕ) (table : Table) → StandsFor bytes table kept.now → 0 < length table.functions + length table.publics → result ≡ Reason.UnknownAddr }
+/// The symbol of a record, or why there is none, as the answer at the address.
+fn answer_of<'a>(
+    symbol: std::result::Result<ResolvedSym<'a>, Reason>,
+    found: FoundRecord,
+    addr: Addr,
+) -> Symbolized<'a>
+    requires { StartsBefore addr (found_of symbol) }
+    ensures answer { reading result ≡ marked (is_public found) (answer_at addr (found_of symbol.entry)) }
+    ensures lent { IfOk symbol.entry IsLentResolved → IsLent result }
 {
-    if kept.code.functions.is_empty() && kept.publics.is_empty() {
-        Reason::MissingSyms
-    } else {
-        Reason::UnknownAddr
-    }
-}
-
-/// The PUBLIC record as the symbol at the address.
-fn public_symbol<'a>(
-    alloc: Global,
-    bytes: &'a [u8],
-    kept: &'a KeptTable,
-    public: &'a KeptPublic,
-    addr: u64,
-) -> Sym<'a>
-    requires below { public.now.start ≤ addr }
-    requires module_fits { IfSome kept.now.«module» (IsTextAt bytes.now) }
-    requires name_fits { IsTextAt bytes.now public.now.name }
-    ensures symbol { (read : Table) → read.«module» ≡ option_map (text_at bytes.now) kept.now.«module» →
-        symbol_of result ≡ public_symbol_at read (kept_public bytes.now public.now) addr }
-    ensures lent { IsLentSymbol result }
-{
-    Sym {
-        name: CowStr::Borrowed(text_of(bytes, &public.name)),
-        module: module_name(bytes, kept),
-        addr: public.start,
-        offset: (addr - public.start) as usize,
-        size: None,
-        code_info: None,
-        inlined: Vec::new(alloc),
-        public: true,
-    }
-}
-
-/// The function as the symbol at the address, which lies there in the source code.
-fn symbol<'a>(
-    bytes: &'a [u8],
-    kept: &'a KeptTable,
-    function: &'a KeptFunction,
-    addr: u64,
-    placed: Placed<'a>,
-) -> Sym<'a>
-    requires below { function.now.start ≤ addr }
-    requires module_fits { IfSome kept.now.«module» (IsTextAt bytes.now) }
-    requires name_fits { IsTextAt bytes.now function.now.name }
-    requires lent { IsLentPlaced placed }
-    ensures symbol { (read : Table) → read.«module» ≡ option_map (text_at bytes.now) kept.now.«module» →
-        symbol_of result ≡ symbol_at read (function_seen bytes.now kept.now.code function.now) addr (placed_seen placed.entry) }
-    ensures lent { IsLentSymbol result }
-{
-    Sym {
-        name: CowStr::Borrowed(text_of(bytes, &function.name)),
-        module: module_name(bytes, kept),
-        addr: function.start,
-        offset: (addr - function.start) as usize,
-        size: Some(function.size as usize),
-        code_info: placed.code_info,
-        inlined: placed.inlined,
-        public: false,
-    }
-}
-
-/// The module, lent.
-fn module_name<'a>(bytes: &'a [u8], kept: &KeptTable) -> Option<CowStr<'a>>
-    requires { IfSome kept.now.«module» (IsTextAt bytes.now) }
-    ensures module { option_map cow_str_bytes result ≡ option_map (text_at bytes.now) kept.now.«module» }
-    ensures lent { IfSome result IsLentText }
-{
-    match &kept.module {
-        Some(part) => Some(CowStr::Borrowed(text_of(bytes, part))),
-        None => None,
+    match symbol {
+        Ok(symbol) => Symbolized::Sym(Sym {
+            public: found.is_public(),
+            ..symbol.into_sym(addr)
+        }),
+        Err(reason) => Symbolized::Unknown(reason),
     }
 }

@@ -1,11 +1,12 @@
-//! The symbol at an address, as a table of symbols gives it.
+//! The symbol of the record that was found for an address, as a table of symbols gives it.
 
-ghost use Rattle.std.specs.Prelude.{◌≡◌, ◌≤◌, ℕ, option_map, IfOk, IfErr, IfSome};
+ghost use Rattle.std.specs.Prelude.{◌≡◌, ◌<◌, ◌≤◌, ◌+◌, ℕ, List, length, option_map, IfOk, IfErr, IfSome};
 ghost use Rattle.bz_base.specs.Answer.{resolved_of};
 ghost use Rattle.bz_base.specs.Lent.{IsLentResolved};
 ghost use Rattle.bz_base.specs.Refusals.{WantsMemory};
 ghost use Rattle.bz_base.specs.Resolution.{MayGive, StartsBefore, found_of};
 ghost use Rattle.bz_base.specs.declared.types.FindSymOpts.{FindSymOpts};
+ghost use Rattle.bz_base.specs.declared.types.Reason.{Reason};
 ghost use Rattle.bz_breakpad.specs.Found.{IsRecordFor};
 ghost use Rattle.bz_breakpad.specs.Plain.{plain, public_symbol_at, symbol_at};
 ghost use Rattle.bz_breakpad.specs.Resolver.{found_in, resolved_in};
@@ -16,19 +17,21 @@ ghost use Rattle.bz_breakpad_table.specs.Kept.{IsTextAt, function_seen, kept_pub
 ghost use Rattle.bz_breakpad_table.specs.Sorted.{StandsFor};
 
 use crate::found::FoundRecord;
-use crate::lookups::unanswered;
 use bz_base::{Addr, FindSymOpts, Reason, ResolvedSym, Result, SrcLang};
 use bz_breakpad_function::{Cuts, Placed, placed_at};
 use bz_breakpad_table::{KeptFunction, KeptPublic, KeptTable, text_of};
 use std::alloc::Global;
 
-/// The symbol at an address, from the record that was found for it, or why there is none.
+/// The symbol at an address, from the record that was found for it, or why there is none. The hints are
+/// for `placed_at`.
+#[inline(always)]
 pub(crate) fn symbol_from<'a>(
     alloc: Global,
     bytes: &'a [u8],
     kept: &'a KeptTable,
     opts: &FindSymOpts,
     found: FoundRecord,
+    hints: Cuts,
     addr: Addr,
 ) -> Result<std::result::Result<ResolvedSym<'a>, Reason>>
     requires { (table : Table) × StandsFor bytes.now table kept.now × IsRecordFor table addr found }
@@ -42,7 +45,7 @@ pub(crate) fn symbol_from<'a>(
     match found {
         FoundRecord::Function(index) => {
             let function = &kept.code.functions[index as usize];
-            match placed_at(alloc, bytes, kept, opts, function, Cuts::unknown(), addr) {
+            match placed_at(alloc, bytes, kept, opts, function, hints, addr) {
                 Ok(placed) => Ok(Ok(function_symbol(bytes, kept, function, placed))),
                 Err(error) => Err(error),
             }
@@ -52,6 +55,18 @@ pub(crate) fn symbol_from<'a>(
             Ok(Ok(public_symbol(alloc, bytes, kept, public)))
         }
         FoundRecord::Absent => Ok(Err(unanswered(kept))),
+    }
+}
+
+/// Why no record answers for an address.
+fn unanswered(kept: &KeptTable) -> Reason
+    ensures missing { (bytes : List ℕ) (table : Table) → StandsFor bytes table kept.now → length table.functions ≡ 0 → length table.publics ≡ 0 → result ≡ Reason.MissingSyms }
+    ensures unknown { (bytes : List ℕ) (table : Table) → StandsFor bytes table kept.now → 0 < length table.functions + length table.publics → result ≡ Reason.UnknownAddr }
+{
+    if kept.code.functions.is_empty() && kept.publics.is_empty() {
+        Reason::MissingSyms
+    } else {
+        Reason::UnknownAddr
     }
 }
 
