@@ -77,7 +77,7 @@ impl Symbolize for BreakpadResolver {
         ensures refusal { IfErr result IsAnswerRefusal }
         ensures memory { IfErr result (WantsMemory (opts.now ≡ FindSymOpts.CodeInfoAndInlined)) }
     {
-        symbol_of(&self.file, alloc, addr, opts)
+        symbol_blank::<Brand>(&self.file, alloc, addr, opts, Blank::new(1))
     }
 }
 
@@ -105,23 +105,8 @@ impl fmt::Debug for BreakpadResolver {
     }
 }
 
-/// The symbol of a file's answer at an address alone, or why there is none.
-fn symbol_of<'a>(
-    file: &'a SymbolFile,
-    alloc: Global,
-    addr: Addr,
-    opts: &FindSymOpts,
-) -> Result<std::result::Result<ResolvedSym<'a>, Reason>>
-    ensures answer { MayGive found_of (IsPlain file.now opts.now addr) result }
-    ensures starts { IfOk result (λ found. StartsBefore addr (found_of found)) }
-    ensures lent { IfOk result (λ found. IfOk found IsLentResolved) }
-    ensures refusal { IfErr result IsAnswerRefusal }
-    ensures memory { IfErr result (WantsMemory (opts.now ≡ FindSymOpts.CodeInfoAndInlined)) }
-{
-    symbol_blank::<Brand>(file, alloc, addr, opts, Blank::new(1))
-}
-
-// The same, with a count that nobody reads.
+/// The symbol of a file's answer at an address alone, or why there is none. Its probes are counted in
+/// the blank, which nobody reads.
 fn symbol_blank<'a, L: Ledger>(
     file: &'a SymbolFile,
     alloc: Global,
