@@ -2,6 +2,7 @@ pub mod Asked
 pub mod Caches
 pub mod Caching
 pub mod CachingCall
+pub mod Called
 pub mod Dispatch
 pub mod Forgetting
 pub mod InView

@@ -1,26 +1,21 @@
 //! What holds of calls on processes.
 
-ghost use Rattle.std.specs.Prelude.{◌≡◌, ◌↔◌, ◌∷◌, [], ℕ, ◌+◌, ◌≤◌, true, map, List, Option, Some, Result, Ok, IfOk, Contains};
+ghost use Rattle.std.specs.Prelude.{◌≡◌, ◌↔◌, ◌∷◌, [], ℕ, ◌+◌, true, map, List, Option, Some, Ok, IfOk, Contains};
 ghost use Rattle.std.specs.List.{AllByRecursion};
-ghost use Rattle.bz_base.specs.Answer.{Answer, in_batch};
-ghost use Rattle.bz_base.specs.InputKind.{AddressKind};
-ghost use Rattle.bz_base.specs.declared.error.Error.{Error};
-ghost use Rattle.bz_base.specs.declared.types.FindSymOpts.{FindSymOpts};
 ghost use Rattle.bz_files.specs.Agreement.{Agree};
-ghost use Rattle.bz_files.specs.World.{World, in_view};
-ghost use Rattle.bz_cache.specs.Cache.{Cache};
+ghost use Rattle.bz_files.specs.World.{World};
 ghost use Rattle.bz_cache.specs.Format.{Comes};
 ghost use Rattle.bz_proc.specs.Maps.{Mapping};
 ghost use Rattle.bz_process.specs.Asked.{Asked};
 ghost use Rattle.bz_process.specs.Caches.{ProcessCaches};
+ghost use Rattle.bz_process.specs.Called.{BatchCalled, GoesByView, ReadsAtMost, SingleCalled, SymbolizesBatch, SymbolizesSingle, answer_in_view, caches_after, caches_before, entry_in_view, mappings_before, once_read, view_before};
 ghost use Rattle.bz_process.specs.InView.{CoheresIn, process_in_view};
 ghost use Rattle.bz_process.specs.Mapped.{asks_process_at, some_mappings};
 ghost use Rattle.bz_process.specs.Process.{unsaid};
-ghost use Rattle.bz_process.specs.ProcessAsk.{GivesNone};
 ghost use Rattle.bz_process.specs.ProcessCall.{Change, IsTold, Reaches, after_changes};
-ghost use Rattle.bz_process.specs.Processes.{KeptProcesses, SymbolizesAddress, SymbolizesProcess, caches_of, is_in_process, kept_mappings};
+ghost use Rattle.bz_process.specs.Processes.{is_in_process};
 ghost use Rattle.bz_process.specs.Reached.{AreLookedOver, CohereWithAll};
-ghost use Rattle.bz_process.specs.Reads.{HavePaths, reads_again, reads_once};
+ghost use Rattle.bz_process.specs.Reads.{HavePaths, reads_again};
 ghost use Rattle.bz_process.specs.declared.dispatch.ProcessMemberInfo.{ProcessMemberInfo};
 
 use crate::dispatch::{ProcessDispatch, ProcessMemberInfo};
@@ -29,12 +24,10 @@ use bz_files::Files;
 /// Whatever a call on a process answers, looks and remembered ids lead from what was kept of files and
 /// processes to what is kept; where the world is told, they are those that it tells.
 pub fn calls_are_looks<D: ProcessDispatch + Drop, F: Files, A>()
-    ensures batch { (reading : A → List Answer) (opts : FindSymOpts) (asked : Asked) (kind : AddressKind) (addrs : List ℕ) (result : Result A Error) (elf elf_now : Cache) (old now : KeptProcesses D D.Resolver) (before after : F) →
-        SymbolizesProcess F.Files reading (D.may_dispatch old.dispatcher) D.Resolver.TranslateFileOffset D.Resolver.Symbolize opts asked kind addrs result elf elf_now old now before after →
-        Reaches asked.own (in_view (F.worlds before)) (caches_of elf old) (caches_of elf_now now) }
-    ensures single { (reading : A → Answer) (opts : FindSymOpts) (asked : Asked) (kind : AddressKind) (addr : ℕ) (result : Result A Error) (elf elf_now : Cache) (old now : KeptProcesses D D.Resolver) (before after : F) →
-        SymbolizesAddress F.Files reading (D.may_dispatch old.dispatcher) D.Resolver.TranslateFileOffset D.Resolver.Symbolize opts asked kind addr result elf elf_now old now before after →
-        Reaches asked.own (in_view (F.worlds before)) (caches_of elf old) (caches_of elf_now now) }
+    ensures batch { (call : BatchCalled A F.Files D.may_dispatch D.Resolver.TranslateFileOffset D.Resolver.Symbolize) →
+        SymbolizesBatch call → Reaches call.asked.own (view_before call) (caches_before call) (caches_after call) }
+    ensures single { (call : SingleCalled A F.Files D.may_dispatch D.Resolver.TranslateFileOffset D.Resolver.Symbolize) →
+        SymbolizesSingle call → Reaches call.asked.own (view_before call) (caches_before call) (caches_after call) }
 {}
 
 /// Over any list of looks and remembered ids that a world tells, kept versions stay coherent with all
@@ -59,12 +52,10 @@ pub fn paths_are_as_looked()
 /// addresses in another order have their answers in that order, and an entry is the answer of the single
 /// call or folds its refusal.
 pub fn entries_are_in_view<D: ProcessDispatch + Drop, F: Files, A>()
-    ensures batch { (reading : A → List Answer) (opts : FindSymOpts) (asked : Asked) (kind : AddressKind) (addrs : List ℕ) (result : Result A Error) (elf elf_now : Cache) (old now : KeptProcesses D D.Resolver) (before after : F) (world : World) →
-        SymbolizesProcess F.Files reading (D.may_dispatch old.dispatcher) D.Resolver.TranslateFileOffset D.Resolver.Symbolize opts asked kind addrs result elf elf_now old now before after → GivesNone (D.may_dispatch old.dispatcher) → in_view (F.worlds before) ≡ Some world → CoheresIn world (caches_of elf old) →
-        IfOk result (λ answers. reading answers ≡ map (λ addr. in_batch (process_in_view asked world (caches_of elf old) (kept_mappings old asked.pid) addr)) addrs) }
-    ensures single { (reading : A → Answer) (opts : FindSymOpts) (asked : Asked) (kind : AddressKind) (addr : ℕ) (result : Result A Error) (elf elf_now : Cache) (old now : KeptProcesses D D.Resolver) (before after : F) (world : World) →
-        SymbolizesAddress F.Files reading (D.may_dispatch old.dispatcher) D.Resolver.TranslateFileOffset D.Resolver.Symbolize opts asked kind addr result elf elf_now old now before after → is_in_process kind ≡ true → GivesNone (D.may_dispatch old.dispatcher) → in_view (F.worlds before) ≡ Some world → CoheresIn world (caches_of elf old) →
-        Comes reading (process_in_view asked world (caches_of elf old) (kept_mappings old asked.pid) addr) result }
+    ensures batch { (call : BatchCalled A F.Files D.may_dispatch D.Resolver.TranslateFileOffset D.Resolver.Symbolize) (world : World) →
+        SymbolizesBatch call → GoesByView world call → IfOk call.result (λ answers. call.reading answers ≡ map (entry_in_view world call) call.input) }
+    ensures single { (call : SingleCalled A F.Files D.may_dispatch D.Resolver.TranslateFileOffset D.Resolver.Symbolize) (world : World) →
+        SymbolizesSingle call → is_in_process call.kind ≡ true → GoesByView world call → Comes call.reading (answer_in_view world call call.input) call.result }
     ensures alone { (asked : Asked) (known : Option (List Mapping)) (world : World) (kept : ProcessCaches) (addr : ℕ) →
         CoheresIn world kept → (asks_process_at asked known (unsaid addr) world kept).answer ≡ process_in_view asked world kept known addr }
 {}
@@ -74,14 +65,14 @@ pub fn entries_are_in_view<D: ProcessDispatch + Drop, F: Files, A>()
 /// mapped file and perf map whose present stamp isn't kept, once; and in a batch one for each address that
 /// is refused. The paths are any that have those of the mapped files.
 pub fn reads_are_few<D: ProcessDispatch + Drop, F: Files, A>()
-    ensures batch { (reading : A → List Answer) (opts : FindSymOpts) (asked : Asked) (kind : AddressKind) (addrs : List ℕ) (result : Result A Error) (elf elf_now : Cache) (old now : KeptProcesses D D.Resolver) (before after : F) (world : World) (paths : List (List ℕ)) →
-        SymbolizesProcess F.Files reading (D.may_dispatch old.dispatcher) D.Resolver.TranslateFileOffset D.Resolver.Symbolize opts asked kind addrs result elf elf_now old now before after → in_view (F.worlds before) ≡ Some world →
-        ((mappings : List Mapping) → (some_mappings asked.pid (kept_mappings old asked.pid) world (caches_of elf old)).answer ≡ Ok mappings → HavePaths asked paths mappings addrs) →
-        F.opens after ≤ F.opens before + (reads_once asked world paths (kept_mappings old asked.pid) (caches_of elf old) + reads_again reading addrs result) }
-    ensures single { (reading : A → Answer) (opts : FindSymOpts) (asked : Asked) (kind : AddressKind) (addr : ℕ) (result : Result A Error) (elf elf_now : Cache) (old now : KeptProcesses D D.Resolver) (before after : F) (world : World) (paths : List (List ℕ)) →
-        SymbolizesAddress F.Files reading (D.may_dispatch old.dispatcher) D.Resolver.TranslateFileOffset D.Resolver.Symbolize opts asked kind addr result elf elf_now old now before after → in_view (F.worlds before) ≡ Some world →
-        ((mappings : List Mapping) → (some_mappings asked.pid (kept_mappings old asked.pid) world (caches_of elf old)).answer ≡ Ok mappings → HavePaths asked paths mappings (addr ∷ [])) →
-        F.opens after ≤ F.opens before + reads_once asked world paths (kept_mappings old asked.pid) (caches_of elf old) }
+    ensures batch { (call : BatchCalled A F.Files D.may_dispatch D.Resolver.TranslateFileOffset D.Resolver.Symbolize) (world : World) (paths : List (List ℕ)) →
+        SymbolizesBatch call → view_before call ≡ Some world →
+        ((mappings : List Mapping) → (some_mappings call.asked.pid (mappings_before call) world (caches_before call)).answer ≡ Ok mappings → HavePaths call.asked paths mappings call.input) →
+        ReadsAtMost call (once_read world paths call + reads_again call.reading call.input call.result) }
+    ensures single { (call : SingleCalled A F.Files D.may_dispatch D.Resolver.TranslateFileOffset D.Resolver.Symbolize) (world : World) (paths : List (List ℕ)) →
+        SymbolizesSingle call → view_before call ≡ Some world →
+        ((mappings : List Mapping) → (some_mappings call.asked.pid (mappings_before call) world (caches_before call)).answer ≡ Ok mappings → HavePaths call.asked paths mappings (call.input ∷ [])) →
+        ReadsAtMost call (once_read world paths call) }
 {}
 
 /// A clone of what a process has mapped has the same range and refers to the same name. Cloning takes no
