@@ -1,15 +1,15 @@
 -- A head is written piece by piece.
 use Rattle.std.proofs.Common.{◌≡◌, ℕ, List, [], ◌∷◌, ◌++◌, ap, ◌∙◌, append_assoc}
-use Rattle.bz_gsym.specs.Header.{gsym_magic}
+use Rattle.bz_gsym.specs.Header.{gsym_magic, gsym_version}
 use Rattle.bz_gsym_layout.specs.Layout.{head_bytes, word, zeros}
 
-module _ (old a b c d e f g h i j : List ℕ) where
-  pieces : (((((((((old ++ a) ++ b) ++ c) ++ d) ++ e) ++ f) ++ g) ++ h) ++ i) ++ j ≡ old ++ (a ++ (b ++ (c ++ (d ++ (e ++ (f ++ (g ++ (h ++ (i ++ j)))))))))
+module _ (old a b c d e f g h i : List ℕ) where
+  pieces : ((((((((old ++ a) ++ b) ++ c) ++ d) ++ e) ++ f) ++ g) ++ h) ++ i ≡ old ++ (a ++ (b ++ (c ++ (d ++ (e ++ (f ++ (g ++ (h ++ i))))))))
   pieces = simp append_assoc
 
-  side_by_side : (o1 o2 o3 o4 o5 o6 o7 o8 o9 o10 : List ℕ) → o1 ≡ old ++ a → o2 ≡ o1 ++ b → o3 ≡ o2 ++ c → o4 ≡ o3 ++ d → o5 ≡ o4 ++ e → o6 ≡ o5 ++ f → o7 ≡ o6 ++ g →
-      o8 ≡ o7 ++ h → o9 ≡ o8 ++ i → o10 ≡ o9 ++ j → o10 ≡ old ++ (a ++ (b ++ (c ++ (d ++ (e ++ (f ++ (g ++ (h ++ (i ++ j)))))))))
-  side_by_side o1 o2 o3 o4 o5 o6 o7 o8 o9 o10 e1 e2 e3 e4 e5 e6 e7 e8 e9 e10 =
+  side_by_side : (o1 o2 o3 o4 o5 o6 o7 o8 o9 : List ℕ) → o1 ≡ old ++ a → o2 ≡ o1 ++ b → o3 ≡ o2 ++ c → o4 ≡ o3 ++ d → o5 ≡ o4 ++ e → o6 ≡ o5 ++ f → o7 ≡ o6 ++ g →
+      o8 ≡ o7 ++ h → o9 ≡ o8 ++ i → o9 ≡ old ++ (a ++ (b ++ (c ++ (d ++ (e ++ (f ++ (g ++ (h ++ i))))))))
+  side_by_side o1 o2 o3 o4 o5 o6 o7 o8 o9 e1 e2 e3 e4 e5 e6 e7 e8 e9 =
       let s2 = e2 ∙ ap (λ l. l ++ b) e1 in
       let s3 = e3 ∙ ap (λ l. l ++ c) s2 in
       let s4 = e4 ∙ ap (λ l. l ++ d) s3 in
@@ -17,12 +17,11 @@ module _ (old a b c d e f g h i j : List ℕ) where
       let s6 = e6 ∙ ap (λ l. l ++ f) s5 in
       let s7 = e7 ∙ ap (λ l. l ++ g) s6 in
       let s8 = e8 ∙ ap (λ l. l ++ h) s7 in
-      let s9 = e9 ∙ ap (λ l. l ++ i) s8 in
-      e10 ∙ ap (λ l. l ++ j) s9 ∙ pieces
+      e9 ∙ ap (λ l. l ++ i) s8 ∙ pieces
 
 -- a head
-pub head_written : (count at len : ℕ) (old o1 o2 o3 o4 o5 o6 o7 o8 o9 o10 : List ℕ) → o1 ≡ old ++ word 4 gsym_magic → o2 ≡ o1 ++ 1 ∷ [] → o3 ≡ o2 ++ 0 ∷ [] → o4 ≡ o3 ++ 8 ∷ [] →
-    o5 ≡ o4 ++ 0 ∷ [] → o6 ≡ o5 ++ word 8 0 → o7 ≡ o6 ++ word 4 count → o8 ≡ o7 ++ word 4 at → o9 ≡ o8 ++ word 4 len → o10 ≡ o9 ++ zeros 20 → o10 ≡ old ++ head_bytes count at len
-head_written count at len old o1 o2 o3 o4 o5 o6 o7 o8 o9 o10 e1 e2 e3 e4 e5 e6 e7 e8 e9 e10 =
-    side_by_side old (word 4 gsym_magic) (1 ∷ []) (0 ∷ []) (8 ∷ []) (0 ∷ []) (word 8 0) (word 4 count) (word 4 at) (word 4 len) (zeros 20) o1 o2 o3 o4 o5 o6 o7 o8 o9 o10 e1 e2 e3 e4 e5 e6
-    e7 e8 e9 e10
+pub head_written : (count at len : ℕ) (old o1 o2 o3 o4 o5 o6 o7 o8 o9 : List ℕ) → o1 ≡ old ++ word 4 gsym_magic → o2 ≡ o1 ++ word 2 gsym_version → o3 ≡ o2 ++ 8 ∷ [] →
+    o4 ≡ o3 ++ 0 ∷ [] → o5 ≡ o4 ++ word 8 0 → o6 ≡ o5 ++ word 4 count → o7 ≡ o6 ++ word 4 at → o8 ≡ o7 ++ word 4 len → o9 ≡ o8 ++ zeros 20 → o9 ≡ old ++ head_bytes count at len
+head_written count at len old o1 o2 o3 o4 o5 o6 o7 o8 o9 e1 e2 e3 e4 e5 e6 e7 e8 e9 =
+    side_by_side old (word 4 gsym_magic) (word 2 gsym_version) (8 ∷ []) (0 ∷ []) (word 8 0) (word 4 count) (word 4 at) (word 4 len) (zeros 20) o1 o2 o3 o4 o5 o6 o7 o8 o9 e1 e2 e3 e4 e5
+    e6 e7 e8 e9

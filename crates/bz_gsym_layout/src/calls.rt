@@ -10,6 +10,7 @@ ghost use Rattle.bz_gsym_layout.specs.declared.error.LayoutError.{LayoutError};
 ghost use Rattle.bz_gsym_layout.specs.declared.plan.Node.{Node};
 
 use crate::error::Result;
+use crate::format::{NO_RANGES, ONE_RANGE};
 use crate::leb::push_unsigned;
 use crate::plan::Node;
 use crate::words::{push_word, push_zeros};
@@ -31,7 +32,7 @@ pub(crate) fn push_numbers(out: &mut Vec<u8>, node: Numbers, has_children: bool)
     ensures ok { OnOk result (out.new.items ≡ out.old.items ++ numbers_bytes node.offset node.size node.name (if has_children then 1 else 0) node.file node.line) }
     ensures memory { IsOkUnless result LayoutError.OutOfMemory }
 {
-    out.push(1)?;
+    out.push(ONE_RANGE)?;
     push_unsigned(out, node.offset)?;
     push_unsigned(out, node.size)?;
     out.push(if has_children { 1 } else { 0 })?;
@@ -53,7 +54,7 @@ fn end_lists(out: &mut Vec<u8>, outer: &mut Vec<u64>, innermost: u64, depth: usi
 {
     let mut base = innermost;
     while outer.len() > depth {
-        out.push(0)?;
+        out.push(NO_RANGES)?;
         let last = outer.len() - 1;
         base = outer[last];
         outer.truncate(last);
@@ -66,7 +67,7 @@ fn end_all(out: &mut Vec<u8>, outer: usize) -> Result<()>
     ensures ok { OnOk result (out.new.items ≡ out.old.items ++ zeros (suc outer)) }
     ensures memory { IsOkUnless result LayoutError.OutOfMemory }
 {
-    out.push(0)?;
+    out.push(NO_RANGES)?;
     push_zeros(out, outer)
 }
 

@@ -3,7 +3,7 @@
 ghost use Rattle.std.specs.Prelude.{◌≡◌, ◌<◌, ◌-◌, ◌^◌, ◌++◌, ◌∷◌, ℕ, List, length, IfOk, IsOkUnless, OnOk};
 ghost use Rattle.bz_gsym_layout.specs.Indexed.{IsFunction};
 ghost use Rattle.bz_gsym_layout.specs.InOrder.{NeverBefore};
-ghost use Rattle.bz_gsym_layout.specs.Layout.{Tables, code_bytes, entry_bytes, inline_entry, line_entry};
+ghost use Rattle.bz_gsym_layout.specs.Layout.{Tables, code_bytes, entry_bytes, inline_entry, line_entry, zeros};
 ghost use Rattle.bz_gsym_layout.specs.Plan.{Code, Line};
 ghost use Rattle.bz_gsym_layout.specs.Pass.{IsCodeOf};
 ghost use Rattle.bz_gsym_layout.specs.RowPass.{AreRowsOf, AreSourced};
@@ -13,8 +13,8 @@ use crate::calls::{Numbers, push_calls, push_numbers};
 use crate::error::Result;
 use crate::plan::{Function, Row};
 use crate::rows::push_line_table;
-use crate::words::{push_word, push_zeros};
-use bz_gsym::{INFO_TYPE_INLINE_INFO, INFO_TYPE_LINE_TABLE_INFO};
+use crate::words::push_word;
+use bz_gsym::{INFO_TYPE_END_OF_LIST, INFO_TYPE_INLINE_INFO, INFO_TYPE_LINE_TABLE_INFO};
 use std::alloc::Global;
 
 /// About how many bytes a row takes.
@@ -23,11 +23,14 @@ const ROW_LEN: usize = 9;
 /// About how many bytes an inlined call takes.
 const CALL_LEN: usize = 16;
 
+/// About how many bytes the rest of a function's data has.
+const REST_LEN: usize = 64;
+
 /// About how many bytes a function's data have.
 pub(crate) fn usual_function_len(function: &Function) -> usize {
     let rows = function.rows.len().saturating_mul(ROW_LEN);
     let calls = function.calls.len().saturating_mul(CALL_LEN);
-    rows.saturating_add(calls).saturating_add(64)
+    rows.saturating_add(calls).saturating_add(REST_LEN)
 }
 
 /// Writes a data entry of a type.
@@ -39,6 +42,15 @@ fn push_entry(out: &mut Vec<u8>, typ: u32, text: &[u8]) -> Result<()>
     push_word(out, text.len() as u64)?;
     out.extend_from_slice(text)?;
     Ok(())
+}
+
+/// Ends a list of data entries, by one without bytes.
+fn push_end(out: &mut Vec<u8>) -> Result<()>
+    ensures ok { OnOk result (out.new.items ≡ out.old.items ++ zeros 8) }
+    ensures memory { IsOkUnless result LayoutError.OutOfMemory }
+{
+    push_word(out, u64::from(INFO_TYPE_END_OF_LIST))?;
+    push_word(out, 0)
 }
 
 /// Writes the line table of a function that starts there, if it has rows.
@@ -98,5 +110,5 @@ pub(crate) fn push_function(
     push_word(out, places[function.name])?;
     push_line_entry(alloc, out, function.start, &function.rows)?;
     push_inline_entry(alloc, out, function, places)?;
-    push_zeros(out, 8)
+    push_end(out)
 }

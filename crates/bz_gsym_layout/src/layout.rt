@@ -13,6 +13,7 @@ ghost use Rattle.bz_gsym_layout.specs.declared.error.LayoutError.{LayoutError};
 ghost use Rattle.bz_gsym_layout.specs.declared.plan.Function.{Function};
 
 use crate::error::{LayoutError, Result};
+use crate::format::{FILE_LEN, TEXT_END};
 use crate::function::{push_function, usual_function_len};
 use crate::plan::{Function, Plan};
 use crate::tables::{
@@ -91,9 +92,9 @@ fn front_of(
     push_starts(&mut front, &plan.functions)?;
     push_places(&mut front, places)?;
     push_word(&mut front, plan.sources.len() as u64 + 1)?;
-    push_zeros(&mut front, 8)?;
+    push_zeros(&mut front, FILE_LEN)?;
     push_files(&mut front, &plan.sources, &texts.places)?;
-    front.push(0)?;
+    front.push(TEXT_END)?;
     push_texts(&mut front, &plan.texts)?;
     Ok(front)
 }

@@ -3,6 +3,7 @@
 
 mod calls;
 mod error;
+mod format;
 mod function;
 pub mod laws;
 mod layout;

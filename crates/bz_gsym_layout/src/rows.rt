@@ -9,6 +9,9 @@ ghost use Rattle.bz_gsym_layout.specs.Plan.{Line};
 ghost use Rattle.bz_gsym_layout.specs.RowPass.{AreRowsOf, AreSourced};
 
 use crate::error::Result;
+use crate::format::{
+    ADVANCE_LINE, ADVANCE_PC, END_SEQUENCE, FIRST_LINE, MAX_DELTA, MIN_DELTA, SET_FILE,
+};
 use crate::leb::{push_negative, push_positive, push_unsigned};
 use crate::plan::Row;
 
@@ -31,11 +34,11 @@ fn push_row(out: &mut Vec<u8>, addr: u64, line: u32, row: &Row) -> Result<()>
     ensures ok { OnOk result (out.new.items ≡ out.old.items ++ row_numbers addr line row.now.addr (row.now.source + 1) row.now.line) }
     ensures memory { IsOkUnless result LayoutError.OutOfMemory }
 {
-    out.push(1)?;
+    out.push(SET_FILE)?;
     push_unsigned(out, u64::from(row.source) + 1)?;
-    out.push(3)?;
+    out.push(ADVANCE_LINE)?;
     push_delta(out, line, row.line)?;
-    out.push(2)?;
+    out.push(ADVANCE_PC)?;
     push_unsigned(out, row.addr - addr)?;
     Ok(())
 }
@@ -54,7 +57,7 @@ fn push_rows(out: &mut Vec<u8>, start: u64, rows: &[Row]) -> Result<()>
         addr = row.addr;
         line = row.line;
     }
-    out.push(0)?;
+    out.push(END_SEQUENCE)?;
     Ok(())
 }
 
@@ -65,8 +68,8 @@ pub(crate) fn push_line_table(out: &mut Vec<u8>, start: u64, rows: &[Row]) -> Re
     ensures ok { OnOk result ((t : Tables) (lines : List (ℕ × Line)) → AreRowsOf t lines rows.now → out.new.items ≡ out.old.items ++ line_table_bytes t start lines) }
     ensures memory { IsOkUnless result LayoutError.OutOfMemory }
 {
-    out.push(0)?;
-    out.push(0)?;
-    out.push(0)?;
+    out.push(MIN_DELTA)?;
+    out.push(MAX_DELTA)?;
+    out.push(FIRST_LINE)?;
     push_rows(out, start, rows)
 }

@@ -9,10 +9,19 @@ ghost use Rattle.bz_gsym_layout.specs.Places.{text_places};
 ghost use Rattle.bz_gsym_layout.specs.declared.error.LayoutError.{LayoutError};
 
 use crate::error::{LayoutError, Result};
+use crate::format::{
+    ADDR_OFF_SIZE, BASE_ADDRESS, FILE_LEN, HEADER_LEN, MAX_UUID_SIZE, TEXT_END, UUID_SIZE, WORD_LEN,
+};
 use crate::plan::{Function, SourceFile};
-use crate::words::{push_long, push_word, push_zeros};
-use bz_gsym::GSYM_MAGIC;
+use crate::words::{push_long, push_short, push_word, push_zeros};
+use bz_gsym::{GSYM_MAGIC, GSYM_VERSION};
 use std::alloc::Global;
+
+/// How many bytes a function has in the tables: its start and its data place.
+const SYMBOL_LEN: u64 = ADDR_OFF_SIZE as u64 + WORD_LEN;
+
+/// How many bytes the head has, the count of source files, and the first of these, which is none.
+const FIXED_LEN: u64 = HEADER_LEN + WORD_LEN + FILE_LEN as u64;
 
 /// Where texts lie in the string table, and how many bytes that has.
 #[derive(Drop)]
@@ -65,9 +74,9 @@ pub(crate) fn strings_place(functions: usize, sources: usize) -> Result<u64>
     ensures place { IfOk result (λ place. place ≡ 48 + 8 * functions + 4 * functions + 4 + 8 * suc sources) }
     ensures memory { IsOkUnless result LayoutError.OutOfMemory }
 {
-    let symbols = times(12, functions as u64)?;
-    let files = times(8, sources as u64)?;
-    further(further(symbols, files)?, 60)
+    let symbols = times(SYMBOL_LEN, functions as u64)?;
+    let files = times(FILE_LEN as u64, sources as u64)?;
+    further(further(symbols, files)?, FIXED_LEN)
 }
 
 /// Writes the head of a file of so many functions, whose string table stands at a place and has so many
@@ -82,15 +91,14 @@ pub(crate) fn push_head(
     ensures memory { IsOkUnless result LayoutError.OutOfMemory }
 {
     push_word(out, u64::from(GSYM_MAGIC))?;
-    out.push(1)?;
-    out.push(0)?;
-    out.push(8)?;
-    out.push(0)?;
-    push_long(out, 0)?;
+    push_short(out, GSYM_VERSION)?;
+    out.push(ADDR_OFF_SIZE)?;
+    out.push(UUID_SIZE)?;
+    push_long(out, BASE_ADDRESS)?;
     push_word(out, count)?;
     push_word(out, strings_at)?;
     push_word(out, strings_len)?;
-    push_zeros(out, 20)
+    push_zeros(out, MAX_UUID_SIZE)
 }
 
 /// Writes the starts of functions.
@@ -135,7 +143,7 @@ pub(crate) fn push_texts(out: &mut Vec<u8>, texts: &[&str]) -> Result<()>
 {
     for text in texts {
         out.extend_from_slice(text.as_bytes())?;
-        out.push(0)?;
+        out.push(TEXT_END)?;
     }
     Ok(())
 }

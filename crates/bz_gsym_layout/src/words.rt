@@ -6,6 +6,16 @@ ghost use Rattle.bz_gsym_layout.specs.declared.error.LayoutError.{LayoutError};
 
 use crate::error::Result;
 
+/// Writes a number in two bytes.
+pub(crate) fn push_short(out: &mut Vec<u8>, number: u16) -> Result<()>
+    ensures ok { OnOk result (out.new.items ≡ out.old.items ++ word 2 number) }
+    ensures memory { IsOkUnless result LayoutError.OutOfMemory }
+{
+    out.push((number % 256) as u8)?;
+    out.push((number / 256 % 256) as u8)?;
+    Ok(())
+}
+
 /// Writes a number in four bytes, which hold its low 32 bits.
 pub(crate) fn push_word(out: &mut Vec<u8>, number: u64) -> Result<()>
     ensures ok { OnOk result (out.new.items ≡ out.old.items ++ word 4 number) }

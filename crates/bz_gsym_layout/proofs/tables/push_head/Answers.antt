@@ -8,7 +8,7 @@ pub returns-clause-ok : goal.returns-clause-ok
 returns-clause-ok c =
     let a = c.args in
     on_ok c.push_zeros.result _ _ (λ ended.
-    head_written a.count a.strings_at a.strings_len a.out.now.items c.push_word.new.out.items c.push.new.self.items c.push-2.new.self.items c.push-3.new.self.items c.push-4.new.self.items
+    head_written a.count a.strings_at a.strings_len a.out.now.items c.push_word.new.out.items c.push_short.new.out.items c.push.new.self.items c.push-2.new.self.items
     c.push_long.new.out.items c.push_word-2.new.out.items c.push_word-3.new.out.items c.push_word-4.new.out.items c.push_zeros.new.out.items
-    (c.in_ok-push_word.ensures.ok ∙ ap (λ n. a.out.now.items ++ word 4 n) c.from.ensures) c.in_ok-push.ensures.items c.in_ok-push-2.ensures.items c.in_ok-push-3.ensures.items
-    c.in_ok-push-4.ensures.items c.in_ok-push_long.ensures.ok c.in_ok-push_word-2.ensures.ok c.in_ok-push_word-3.ensures.ok c.in_ok-push_word-4.ensures.ok ended) c.push_zeros.ensures.ok
+    (c.in_ok-push_word.ensures.ok ∙ ap (λ n. a.out.now.items ++ word 4 n) c.from.ensures) c.in_ok-push_short.ensures.ok c.in_ok-push.ensures.items c.in_ok-push-2.ensures.items
+    c.in_ok-push_long.ensures.ok c.in_ok-push_word-2.ensures.ok c.in_ok-push_word-3.ensures.ok c.in_ok-push_word-4.ensures.ok ended) c.push_zeros.ensures.ok
