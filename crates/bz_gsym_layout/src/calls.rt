@@ -13,7 +13,7 @@ use crate::error::Result;
 use crate::format::{NO_RANGES, ONE_RANGE};
 use crate::leb::push_unsigned;
 use crate::plan::Node;
-use crate::words::{push_word, push_zeros};
+use crate::words::{push_low_word, push_zeros};
 use std::alloc::Global;
 
 /// Where the code of a node lies, and what it says: its offset from a base, its size, the place of its
@@ -36,7 +36,7 @@ pub(crate) fn push_numbers(out: &mut Vec<u8>, node: Numbers, has_children: bool)
     push_unsigned(out, node.offset)?;
     push_unsigned(out, node.size)?;
     out.push(if has_children { 1 } else { 0 })?;
-    push_word(out, node.name)?;
+    push_low_word(out, node.name)?;
     push_unsigned(out, node.file)?;
     push_unsigned(out, u64::from(node.line))?;
     Ok(())

@@ -13,7 +13,7 @@ use crate::calls::{Numbers, push_calls, push_numbers};
 use crate::error::Result;
 use crate::plan::{Function, Row};
 use crate::rows::push_line_table;
-use crate::words::push_word;
+use crate::words::{push_low_word, push_word};
 use bz_gsym::{INFO_TYPE_END_OF_LIST, INFO_TYPE_INLINE_INFO, INFO_TYPE_LINE_TABLE_INFO};
 use std::alloc::Global;
 
@@ -38,8 +38,8 @@ fn push_entry(out: &mut Vec<u8>, typ: u32, text: &[u8]) -> Result<()>
     ensures ok { OnOk result (out.new.items ≡ out.old.items ++ entry_bytes typ text.now) }
     ensures memory { IsOkUnless result LayoutError.OutOfMemory }
 {
-    push_word(out, u64::from(typ))?;
-    push_word(out, text.len() as u64)?;
+    push_word(out, typ)?;
+    push_low_word(out, text.len() as u64)?;
     out.extend_from_slice(text)?;
     Ok(())
 }
@@ -49,7 +49,7 @@ fn push_end(out: &mut Vec<u8>) -> Result<()>
     ensures ok { OnOk result (out.new.items ≡ out.old.items ++ zeros 8) }
     ensures memory { IsOkUnless result LayoutError.OutOfMemory }
 {
-    push_word(out, u64::from(INFO_TYPE_END_OF_LIST))?;
+    push_word(out, INFO_TYPE_END_OF_LIST)?;
     push_word(out, 0)
 }
 
@@ -106,8 +106,8 @@ pub(crate) fn push_function(
     ensures ok { OnOk result ((t : Tables) (c : Code) → IsCodeOf t places.now c function.now → out.new.items ≡ out.old.items ++ code_bytes t c) }
     ensures memory { IsOkUnless result LayoutError.OutOfMemory }
 {
-    push_word(out, u64::from(function.size))?;
-    push_word(out, places[function.name])?;
+    push_word(out, function.size)?;
+    push_low_word(out, places[function.name])?;
     push_line_entry(alloc, out, function.start, &function.rows)?;
     push_inline_entry(alloc, out, function, places)?;
     push_end(out)

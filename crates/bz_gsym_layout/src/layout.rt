@@ -20,7 +20,7 @@ use crate::tables::{
     TextPlaces, further, place_texts, push_files, push_head, push_places, push_starts, push_texts,
     strings_place,
 };
-use crate::words::{push_word, push_zeros};
+use crate::words::{push_low_word, push_zeros};
 use std::alloc::Global;
 
 /// About how many bytes a file has whose functions' data begin at a place.
@@ -91,7 +91,7 @@ fn front_of(
     )?;
     push_starts(&mut front, &plan.functions)?;
     push_places(&mut front, places)?;
-    push_word(&mut front, plan.sources.len() as u64 + 1)?;
+    push_low_word(&mut front, plan.sources.len() as u64 + 1)?;
     push_zeros(&mut front, FILE_LEN)?;
     push_files(&mut front, &plan.sources, &texts.places)?;
     front.push(TEXT_END)?;

@@ -13,7 +13,7 @@ use crate::format::{
     ADDR_OFF_SIZE, BASE_ADDRESS, FILE_LEN, HEADER_LEN, MAX_UUID_SIZE, TEXT_END, UUID_SIZE, WORD_LEN,
 };
 use crate::plan::{Function, SourceFile};
-use crate::words::{push_long, push_short, push_word, push_zeros};
+use crate::words::{push_long, push_low_word, push_short, push_word, push_zeros};
 use bz_gsym::{GSYM_MAGIC, GSYM_VERSION};
 use std::alloc::Global;
 
@@ -90,14 +90,14 @@ pub(crate) fn push_head(
     ensures ok { OnOk result (out.new.items ≡ out.old.items ++ head_bytes count strings_at strings_len) }
     ensures memory { IsOkUnless result LayoutError.OutOfMemory }
 {
-    push_word(out, u64::from(GSYM_MAGIC))?;
+    push_word(out, GSYM_MAGIC)?;
     push_short(out, GSYM_VERSION)?;
     out.push(ADDR_OFF_SIZE)?;
     out.push(UUID_SIZE)?;
     push_long(out, BASE_ADDRESS)?;
-    push_word(out, count)?;
-    push_word(out, strings_at)?;
-    push_word(out, strings_len)?;
+    push_low_word(out, count)?;
+    push_low_word(out, strings_at)?;
+    push_low_word(out, strings_len)?;
     push_zeros(out, MAX_UUID_SIZE)
 }
 
@@ -118,7 +118,7 @@ pub(crate) fn push_places(out: &mut Vec<u8>, places: &[u64]) -> Result<()>
     ensures memory { IsOkUnless result LayoutError.OutOfMemory }
 {
     for place in places {
-        push_word(out, *place)?;
+        push_low_word(out, *place)?;
     }
     Ok(())
 }
@@ -130,8 +130,8 @@ pub(crate) fn push_files(out: &mut Vec<u8>, sources: &[SourceFile], places: &[u6
     ensures memory { IsOkUnless result LayoutError.OutOfMemory }
 {
     for source in sources {
-        push_word(out, places[source.dir])?;
-        push_word(out, places[source.name])?;
+        push_low_word(out, places[source.dir])?;
+        push_low_word(out, places[source.name])?;
     }
     Ok(())
 }

@@ -16,8 +16,17 @@ pub(crate) fn push_short(out: &mut Vec<u8>, number: u16) -> Result<()>
     Ok(())
 }
 
-/// Writes a number in four bytes, which hold its low 32 bits.
-pub(crate) fn push_word(out: &mut Vec<u8>, number: u64) -> Result<()>
+/// Writes a number in four bytes.
+pub(crate) fn push_word(out: &mut Vec<u8>, number: u32) -> Result<()>
+    ensures ok { OnOk result (out.new.items ≡ out.old.items ++ word 4 number) }
+    ensures memory { IsOkUnless result LayoutError.OutOfMemory }
+{
+    push_low_word(out, u64::from(number))
+}
+
+/// Writes the low 32 bits of a number in four bytes, and drops the rest. A place, a length or a count
+/// with more bits stands only in a file that is refused as too large.
+pub(crate) fn push_low_word(out: &mut Vec<u8>, number: u64) -> Result<()>
     ensures ok { OnOk result (out.new.items ≡ out.old.items ++ word 4 number) }
     ensures memory { IsOkUnless result LayoutError.OutOfMemory }
 {
@@ -33,8 +42,8 @@ pub(crate) fn push_long(out: &mut Vec<u8>, number: u64) -> Result<()>
     ensures ok { OnOk result (out.new.items ≡ out.old.items ++ word 8 number) }
     ensures memory { IsOkUnless result LayoutError.OutOfMemory }
 {
-    push_word(out, number)?;
-    push_word(out, number / 4294967296)
+    push_low_word(out, number)?;
+    push_low_word(out, number / 4294967296)
 }
 
 /// Writes so many zero bytes.

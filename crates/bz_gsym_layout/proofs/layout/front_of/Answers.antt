@@ -22,7 +22,7 @@ returns c =
     let first = c.push_head.new.out.items in
     let second = c.push_starts.new.out.items in
     let third = c.push_places.new.out.items in
-    let fourth = c.push_word.new.out.items in
+    let fourth = c.push_low_word.new.out.items in
     let fifth = c.push_zeros.new.out.items in
     let sixth = c.push_files.new.out.items in
     let seventh = c.push.new.self.items in
@@ -33,7 +33,7 @@ returns c =
     (c.in_ok-push_head.ensures.ok ∙ ap (λ l. l ++ head_bytes c.len.result c.args.strings_at c.args.texts.now.end) c.in_ok-front.ensures.items)
     (c.in_ok-push_starts.ensures.ok ∙ ap (λ l. first ++ flat_map (λ (f : Function). word 8 f.start) l) c.deref.ensures.value)
     c.in_ok-push_places.ensures.ok
-    c.in_ok-push_word.ensures.ok c.in_ok-push_zeros.ensures.ok
+    c.in_ok-push_low_word.ensures.ok c.in_ok-push_zeros.ensures.ok
     (c.in_ok-push_files.ensures.ok ∙ ap (λ l. fifth ++ flat_map (source_bytes c.deref-3.result.now) l) c.deref-2.ensures.value
     ∙ ap (λ l. fifth ++ flat_map (source_bytes l) plan.sources.items) (c.deref-3.ensures.value ∙ c.requires.texts))
     c.in_ok-push.ensures.items

@@ -18,8 +18,8 @@ loop-source-preserved c =
     let s = c.loop-source in
     let places = c.args.places.now in
     let x = slice_index_or c.args.sources.now s.source-index no_file in
-    flat_turn (source_bytes c.args.places.now) c.args.sources.now s.source-index s.out.items _ s.invariant no_file c.loop-source-test.true c.push_word-in-loop-source.new.out.items
-    (c.in_ok-push_word-2.ensures.ok ∙ ap (λ l. l ++ word 4 (place_at places x.name)) c.in_ok-push_word.ensures.ok
+    flat_turn (source_bytes c.args.places.now) c.args.sources.now s.source-index s.out.items _ s.invariant no_file c.loop-source-test.true c.push_low_word-in-loop-source.new.out.items
+    (c.in_ok-push_low_word-2.ensures.ok ∙ ap (λ l. l ++ word 4 (place_at places x.name)) c.in_ok-push_low_word.ensures.ok
     ∙ append_assoc s.out.items (word 4 (place_at places x.dir)) (word 4 (place_at places x.name)))
 
 pub returns-clause-ok : goal.returns-clause-ok

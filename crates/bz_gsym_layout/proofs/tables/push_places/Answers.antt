@@ -9,7 +9,7 @@ loop-place-init c = refl
 pub loop-place-preserved : goal.loop-place-preserved
 loop-place-preserved c =
     let s = c.loop-place in
-    flat_turn (word 4) c.args.places.now s.place-index s.out.items _ s.invariant 0 c.loop-place-test.true c.push_word.new.out.items c.in_ok-push_word.ensures.ok
+    flat_turn (word 4) c.args.places.now s.place-index s.out.items _ s.invariant 0 c.loop-place-test.true c.push_low_word.new.out.items c.in_ok-push_low_word.ensures.ok
 
 pub returns-clause-ok : goal.returns-clause-ok
 returns-clause-ok c =
