@@ -20,6 +20,7 @@ use Rattle.bz_convert.specs.Apart.{LieApart, gap_between}
 use Rattle.bz_convert.specs.Plan.{changes, is_checked, same_line}
 use Rattle.bz_convert.specs.Fault.{◌or◌}
 use Rattle.bz_convert.specs.Points.{gap_of, row_seen}
+use Rattle.bz_convert.specs.declared.rows.LineRow.{LineRow}
 use Rattle.bz_convert.specs.Rows.{gap_from, row_by, rows_from}
 use Rattle.bz_convert.proofs.PointLemmas.{gap_of_span, rows_of_span}
 use Rattle.bz_convert.proofs.PointsLemmas.{itself}
@@ -270,7 +271,7 @@ module _ (f : Function) (lines : List KeptLine) (are : map line_seen lines ≡ l
     left_out : map line_seen (drop k lines) ≡ []
     left_out = ap (map line_seen) (drop_all k lines past)
 
-    pub rows_out : (rows : List (ℕ × KeptLine)) → map row_seen rows ++ rows_left start end (map line_seen (drop k lines)) ≡ rows_left start end (map line_seen lines) →
+    pub rows_out : (rows : List LineRow) → map row_seen rows ++ rows_left start end (map line_seen (drop k lines)) ≡ rows_left start end (map line_seen lines) →
         map row_seen rows ≡ rows_from same_line la None f.start f.size
     rows_out rows so_far =
         sym (append-nil (map row_seen rows)) ∙ ap (λ ls. map row_seen rows ++ rows_left start end ls) (sym left_out) ∙ so_far

@@ -20,6 +20,7 @@ use Rattle.bz_convert.specs.Plan.{is_checked, same_line}
 use Rattle.bz_convert.specs.Fault.{◌or◌}
 use Rattle.bz_convert.specs.Points.{ArePoints, gap_of, point_within, row_seen}
 use Rattle.bz_convert.specs.Rows.{gap_from, row_by, rows_from}
+use Rattle.bz_convert.specs.declared.rows.LineRow.{LineRow}
 use Rattle.bz_convert.specs.declared.rows.Point.{Point}
 use Rattle.bz_convert.proofs.MemberLemmas.{from_table, in_append, in_left, in_right, map_in, to_table}
 use Rattle.bz_convert.proofs.PointLemmas.{ArePointsOf, IsNoPoint, gap_at_points, nearest_steady, point_gap, point_rows, rows_at_points}
@@ -175,7 +176,7 @@ module _ (f : Function) (points : List Point) (i : ℕ) (d : Point) where
   here : i < length points → addrs_of (drop i points) ≡ point ∷ addrs_of (drop (i + 1) points)
   here within = ap addrs_of (drop_more points i d within)
 
-  pub row_turn : i < length points → (before now : Option KeptLine) (rows new : List (ℕ × KeptLine)) →
+  pub row_turn : i < length points → (before now : Option KeptLine) (rows new : List LineRow) →
       option_map line_seen now ≡ line_of point → map row_seen new ≡ map row_seen rows ++ row_by same_line point (option_map line_seen before) (option_map line_seen now)
       → map row_seen rows ++ point_rows same_line itself line_of (option_map line_seen before) (addrs_of (drop i points)) ≡ point_rows same_line itself line_of None (addrs_of points) →
       map row_seen new ++ point_rows same_line itself line_of (option_map line_seen now) (addrs_of (drop (i + 1) points)) ≡ point_rows same_line itself line_of None (addrs_of points)
@@ -200,7 +201,7 @@ module _ (f : Function) (points : List Point) (i : ℕ) (d : Point) where
       ∙ ap (λ ps. gap or point_gap same_line itself line_of (option_map line_seen before) ps) (sym (here within)) ∙ so_far
 
 module _ (f : Function) (points : List Point) (i : ℕ) (past : length points ≤ i) (are : ArePoints f (addrs_of points)) where
-  pub row_end : (before : Option KeptLine) (rows : List (ℕ × KeptLine)) →
+  pub row_end : (before : Option KeptLine) (rows : List LineRow) →
       map row_seen rows ++ point_rows same_line itself (λ addr. line_at addr f.lines) (option_map line_seen before) (addrs_of (drop i points)) ≡ point_rows same_line itself (λ addr. line_at addr f.lines) None (addrs_of points) →
       map row_seen rows ≡ rows_from same_line (λ addr. line_at addr f.lines) None f.start f.size
   row_end before rows so_far =

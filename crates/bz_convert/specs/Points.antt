@@ -2,13 +2,13 @@
 use Rattle.std.specs.Prelude.{◌≡◌, ℕ, ◌+◌, ◌<◌, ◌≤◌, nat_le, nat_lt, ◌&&◌, List, [], ◌∷◌, Option, Some, None, is_none, is_some, slice_get, if◌then◌else◌}
 use Rattle.bz_breakpad_lines.specs.Table.{Function, SourceLine}
 use Rattle.bz_breakpad_lines.specs.Told.{line_seen}
-use Rattle.bz_breakpad_lines.specs.declared.record.SourceLine as lines
 use Rattle.bz_convert.specs.Bounds.{In}
+use Rattle.bz_convert.specs.declared.rows.LineRow.{LineRow}
 use Rattle.bz_convert.specs.declared.rows.Point.{Point}
 
 -- a row, as the file says it
-abbrev pub row_seen : ℕ × lines.SourceLine → ℕ × SourceLine
-row_seen row = (row.0, line_seen row.1)
+abbrev pub row_seen : LineRow → ℕ × SourceLine
+row_seen row = (row.addr, line_seen row.line)
 
 -- the gap at an address, by the record that answers before it and by the one that answers there
 abbrev pub gap_of : {L : Type 0} → ℕ → Option L → Option L → Option ℕ

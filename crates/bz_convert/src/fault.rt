@@ -12,9 +12,9 @@ use crate::calls::calls_fault;
 use crate::clean_ids::CleanIds;
 use crate::error::ConvertError;
 use crate::ids::{has_zero, ids_fault, texts_have_zero};
-use crate::rows::{Walked, walk_records};
+use crate::rows::{LineRow, Walked, walk_records};
 use bz_base::{Result, Steps};
-use bz_breakpad::{Function, Inlinee, SourceLine, SymbolFile};
+use bz_breakpad::{Function, Inlinee, SymbolFile};
 use std::alloc::Global;
 use std::marker::Brand;
 use std::sync::ledger::{Blank, Ledger};
@@ -22,9 +22,8 @@ use std::sync::ledger::{Blank, Ledger};
 /// The rows and inlined calls of a function without a fault. One whose end passes 64 bits has neither.
 #[derive(Drop)]
 pub struct RowsAndCalls {
-    /// Each row: an address, relative to the module's base, and the line record that answers from there
-    /// on.
-    pub rows: Vec<(u64, SourceLine)>,
+    /// The rows, in the order of their addresses.
+    pub rows: Vec<LineRow>,
     /// The inlined calls, in the order of depth and start.
     pub calls: Vec<Inlinee>,
 }

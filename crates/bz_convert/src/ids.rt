@@ -15,6 +15,7 @@ ghost use Rattle.bz_gsym_layout.specs.Numbering.{texts_of};
 
 use crate::clean_ids::CleanIds;
 use crate::error::ConvertError;
+use crate::rows::LineRow;
 use bz_base::split_source;
 use bz_breakpad::{Function, Inlinee, SourceLine, SymbolFile};
 
@@ -125,7 +126,7 @@ pub(crate) fn file_has_zero(file: &SymbolFile, id: u32) -> bool
 pub(crate) fn texts_have_zero(
     ids: &CleanIds<'_>,
     function: &Function<'_>,
-    rows: &[(u64, SourceLine)],
+    rows: &[LineRow],
     calls: &[Inlinee],
 ) -> bool
     requires checked { is_checked function.now ≡ true }
@@ -144,11 +145,11 @@ pub(crate) fn texts_have_zero(
 }
 
 /// Whether the texts of rows hold a zero byte.
-fn rows_have_zero(ids: &CleanIds<'_>, rows: &[(u64, SourceLine)]) -> bool
+fn rows_have_zero(ids: &CleanIds<'_>, rows: &[LineRow]) -> bool
     ensures { (table : Table) → table_in ids.now ≡ Some table → result ≡ list_any (row_has_zero table) (map row_seen rows.now) }
 {
     for row in rows {
-        if ids.file_has_zero(row.1.file) {
+        if ids.file_has_zero(row.line.file) {
             return true;
         }
     }

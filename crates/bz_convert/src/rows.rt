@@ -35,11 +35,19 @@ impl Spanned for Point {
     }
 }
 
-/// The rows of a function, each with the line record that answers from there on, and the first
-/// address without a line above one that has a line.
+/// A row of a function: the line record that answers from an address on.
+#[derive(Clone, Copy)]
+pub struct LineRow {
+    /// The address, relative to the module's base.
+    pub addr: u64,
+    /// The record.
+    pub line: SourceLine,
+}
+
+/// The rows of a function, and the first address without a line above one that has a line.
 #[derive(Drop)]
 pub(crate) struct Walked {
-    pub rows: Vec<(u64, SourceLine)>,
+    pub rows: Vec<LineRow>,
     pub gap: Option<u64>,
 }
 
@@ -106,7 +114,10 @@ fn walk_apart(alloc: Global, function: &Function<'_>, lines: &[SourceLine]) -> R
         let to = end_within(line, end);
         if from < to {
             gap = gap_before(gap, start, reached, from);
-            rows.push((from, *line))?;
+            rows.push(LineRow {
+                addr: from,
+                line: *line,
+            })?;
             reached = to;
         }
     }
@@ -170,7 +181,7 @@ fn first_gap(
 
 /// Adds the row at an address, if another record answers there than before.
 fn push_row(
-    rows: &mut Vec<(u64, SourceLine)>,
+    rows: &mut Vec<LineRow>,
     addr: u64,
     before: Option<SourceLine>,
     line: Option<SourceLine>,
@@ -186,7 +197,7 @@ fn push_row(
             return Ok(());
         }
     }
-    rows.push((addr, line))?;
+    rows.push(LineRow { addr, line })?;
     Ok(())
 }
 

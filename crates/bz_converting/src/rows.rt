@@ -13,8 +13,8 @@ ghost use Rattle.bz_gsym_layout.specs.Plan.{Source};
 
 use crate::numbering::Numbering;
 use bz_base::Result;
-use bz_breakpad::{SourceLine, SymbolFile};
-use bz_convert::{Source, located};
+use bz_breakpad::SymbolFile;
+use bz_convert::{LineRow, Source, located};
 use bz_gsym_layout::Row;
 use std::alloc::Global;
 
@@ -28,32 +28,28 @@ pub(crate) fn source_of(file: &SymbolFile, id: u32) -> Source<'_>
     }
 }
 
-/// The row of a line record that answers from an address on.
-fn row_of<'a>(
-    numbering: &mut Numbering<'a>,
-    file: &'a SymbolFile,
-    line: &(u64, SourceLine),
-) -> Result<Row>
+/// The row of a plan, by that of the file.
+fn row_of<'a>(numbering: &mut Numbering<'a>, file: &'a SymbolFile, row: &LineRow) -> Result<Row>
     ensures numbering { OnOk result ((table : Table) (texts : List (List ℕ)) (sources : List Source) → table_in file.now ≡ Some table → IsNumbering table texts sources numbering.old →
-        IsNumbering table (texts ++ texts_of_row table (row_seen line.now)) (sources ++ sources_of_row table (row_seen line.now)) numbering.new) }
-    ensures row { IfOk result (λ row. (table : Table) (texts : List (List ℕ)) (sources : List Source) → table_in file.now ≡ Some table → IsNumbering table texts sources numbering.old →
-        IsRowFor table (listed_sources numbering.new) (row_seen line.now) row) }
+        IsNumbering table (texts ++ texts_of_row table (row_seen row.now)) (sources ++ sources_of_row table (row_seen row.now)) numbering.new) }
+    ensures row { IfOk result (λ planned. (table : Table) (texts : List (List ℕ)) (sources : List Source) → table_in file.now ≡ Some table → IsNumbering table texts sources numbering.old →
+        IsRowFor table (listed_sources numbering.new) (row_seen row.now) planned) }
     ensures memory { IsOkUnless result Error.OutOfMemory }
 {
-    let source = numbering.file_source(file, line.1.file)?;
+    let source = numbering.file_source(file, row.line.file)?;
     Ok(Row {
-        addr: line.0,
+        addr: row.addr,
         source,
-        line: line.1.line,
+        line: row.line.line,
     })
 }
 
-/// The rows of line records, each of which answers from an address on.
+/// The rows of a plan, by those of the file.
 pub(crate) fn rows_of<'a>(
     alloc: Global,
     numbering: &mut Numbering<'a>,
     file: &'a SymbolFile,
-    lines: &[(u64, SourceLine)],
+    lines: &[LineRow],
 ) -> Result<Vec<Row>>
     ensures numbering { OnOk result ((table : Table) (texts : List (List ℕ)) (sources : List Source) → table_in file.now ≡ Some table → IsNumbering table texts sources numbering.old →
         IsNumbering table (texts ++ flat_map (texts_of_row table) (map row_seen lines.now)) (sources ++ flat_map (sources_of_row table) (map row_seen lines.now)) numbering.new) }

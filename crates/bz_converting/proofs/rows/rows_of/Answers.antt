@@ -1,15 +1,15 @@
-use Rattle.std.proofs.Common.{ℕ, arith}
-use Rattle.bz_breakpad_lines.specs.declared.record.SourceLine.{SourceLine}
+use Rattle.std.proofs.Common.{arith}
 use Rattle.bz_convert.specs.Points.{row_seen}
+use Rattle.bz_convert.specs.declared.rows.LineRow.{LineRow}
 use Rattle.bz_converting.specs.Laid.{IsRowFor, sources_of_row, texts_of_row}
 use Rattle.bz_converting.specs.Numbered.{listed_sources}
 use Rattle.bz_converting.proofs.SoFarLemmas.{all_turns, one_turn}
 use Rattle.bz_converting.proofs.StayLemmas.{rows_stay}
 use Rattle.bz_converting.proofs.rows.rows_of.Goals as goal
 
--- what stands where no line does
-abbrev no_line : ℕ × SourceLine
-no_line = (0, record { addr = 0; size = 0; file = 0; line = 0 })
+-- what stands where no row does
+abbrev no_line : LineRow
+no_line = record { addr = 0; line = record { addr = 0; size = 0; file = 0; line = 0 } }
 
 pub loop-line-preserved : goal.loop-line-preserved
 loop-line-preserved c table texts sources read is =
