@@ -6,7 +6,6 @@ ghost use Rattle.bz_base.specs.declared.error.Error.{Error};
 ghost use Rattle.bz_breakpad.specs.Lent.{kept_inlinee};
 ghost use Rattle.bz_breakpad_function.specs.InOrder.{calls_in_order};
 ghost use Rattle.bz_convert.specs.Fault.{is_over, lies_inside, not_nested, overlap, ◌or◌};
-ghost use Rattle.bz_convert.specs.Plan.{same_call};
 ghost use Rattle.bz_convert.specs.Reach.{AreByDepth, AreReaches, reach_after};
 
 use crate::error::ConvertError;
@@ -160,17 +159,6 @@ fn is_over(call: &Inlinee, other: &Inlinee) -> bool
     ensures { result ≡ is_over (kept_inlinee call.now) (kept_inlinee other.now) }
 {
     other.depth == call.depth
-        && !same_call(other, call)
+        && *other != *call
         && (other.addr == call.addr || inside(other.addr, u64::from(other.size), call.addr))
-}
-
-/// Whether two calls say the same.
-fn same_call(a: &Inlinee, b: &Inlinee) -> bool
-    ensures { result ≡ same_call (kept_inlinee a.now) (kept_inlinee b.now) }
-{
-    let same_code = a.depth == b.depth && a.addr == b.addr && a.size == b.size;
-    same_code
-        && a.call_line == b.call_line
-        && a.call_file == b.call_file
-        && a.origin_id == b.origin_id
 }

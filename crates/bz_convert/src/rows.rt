@@ -193,19 +193,12 @@ fn push_row(
         return Ok(());
     };
     if let Some(former) = before {
-        if same_line(&former, &line) {
+        if former == line {
             return Ok(());
         }
     }
     rows.push(LineRow { addr, line })?;
     Ok(())
-}
-
-/// Whether two line records say the same.
-fn same_line(a: &SourceLine, b: &SourceLine) -> bool
-    ensures { result ≡ same_line (line_seen a.now) (line_seen b.now) }
-{
-    a.addr == b.addr && a.size == b.size && a.line == b.line && a.file == b.file
 }
 
 /// The points of a function, in the order of their addresses: its start, and of each line record the
