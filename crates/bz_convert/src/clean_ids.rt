@@ -110,7 +110,7 @@ fn clean_files(alloc: Global, file: &SymbolFile) -> Result<Vec<bool>>
     ensures clean { IfOk result (λ flags. (table : Table) → table_in file.now ≡ Some table → (id : ℕ) → slice_get flags.items id ≡ Some true → IsCleanFile table id) }
     ensures memory { IsOkUnless result Error.OutOfMemory }
 {
-    let count = file.file_count().min(4294967295) as u32;
+    let count = file.file_count().min(u32::MAX as usize) as u32;
     let mut flags = Vec::with_capacity(alloc, count as usize)?;
     for id in 0..count {
         flags.push(is_clean_file(file, id))?;
@@ -123,7 +123,7 @@ fn clean_origins(alloc: Global, file: &SymbolFile) -> Result<Vec<bool>>
     ensures clean { IfOk result (λ flags. (table : Table) → table_in file.now ≡ Some table → (id : ℕ) → slice_get flags.items id ≡ Some true → IsCleanOrigin table id) }
     ensures memory { IsOkUnless result Error.OutOfMemory }
 {
-    let count = file.origin_count().min(4294967295) as u32;
+    let count = file.origin_count().min(u32::MAX as usize) as u32;
     let mut flags = Vec::with_capacity(alloc, count as usize)?;
     for id in 0..count {
         flags.push(is_clean_origin(file, id))?;
