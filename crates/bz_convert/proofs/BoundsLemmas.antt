@@ -24,7 +24,7 @@ use Rattle.bz_breakpad_lines.proofs.Turns.{bind_some, map_some}
 use Rattle.bz_convert.specs.Bounds.{AreBounded, In, IsBounded}
 use Rattle.bz_convert.specs.Plan.{located, source_by}
 use Rattle.bz_gsym_layout.specs.Plan.{Source}
-use Rattle.bz_convert.proofs.MemberLemmas.{all_append, member_of}
+use Rattle.bz_gsym_layout.proofs.MemberLemmas.{all_append, member_of}
 
 -- Texts that are cut at a slash.
 cut_at : (front rest : List ℕ) (last : ℕ) → slice_index (front ++ last ∷ rest) (length front) ≡ last

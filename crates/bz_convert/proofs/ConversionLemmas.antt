@@ -20,7 +20,8 @@ use Rattle.bz_gsym_layout.specs.Nesting.Forest.{NoCalls}
 use Rattle.bz_gsym_layout.specs.Plan.{Code}
 use Rattle.bz_convert.proofs.FaultLemmas.{all_clean}
 use Rattle.bz_convert.proofs.LayableLemmas.{layable}
-use Rattle.bz_convert.proofs.MemberLemmas.{all_members, from_table, map_in}
+use Rattle.bz_gsym_layout.proofs.MemberLemmas.{all_members}
+use Rattle.bz_convert.proofs.MemberLemmas.{from_table, map_in}
 
 module _ (table : Table) (none : fault_in table ≡ None) (good : AreBounded table) where
   in_table : (f : Function) → In (ordered_functions table.functions) f → In table.functions f

@@ -21,7 +21,8 @@ use Rattle.bz_convert.specs.Rows.{row_by, rows_from}
 use Rattle.bz_convert.proofs.CallLemmas.{is_table, lies_within}
 use Rattle.bz_convert.proofs.DistinctLemmas.{from_distinct}
 use Rattle.bz_convert.proofs.FaultLemmas.{IsClean}
-use Rattle.bz_convert.proofs.MemberLemmas.{all_append, filter_from, from_table}
+use Rattle.bz_gsym_layout.proofs.MemberLemmas.{all_append}
+use Rattle.bz_convert.proofs.MemberLemmas.{filter_from, from_table}
 use Rattle.bz_convert.proofs.PlanLemmas.{covering_among}
 
 empty_utf8 : IsUtf8 []

@@ -1,40 +1,11 @@
 -- What stands in a list stands in its table, and what stands in the table stands in the list.
-use Rattle.std.proofs.Common.{◌≡◌, ◌⊎◌, inl, inr, ℕ, zero, suc, ◌<◌, Bool, true, false, cond, List, [], ◌∷◌, ◌++◌, length, map, Some, refl, sym, ap, subst, ◌∙◌, arith}
-use Rattle.std.specs.List.{AllByRecursion, filter, slice_get}
+use Rattle.std.proofs.Common.{◌≡◌, ℕ, zero, suc, ◌<◌, Bool, true, false, cond, List, [], ◌∷◌, ◌++◌, length, map, Some, refl, sym, ap, subst, ◌∙◌, arith}
+use Rattle.std.specs.List.{filter, slice_get}
 use Rattle.std.proofs.lemmas.Bool.Decides.{nat_tests}
 use Rattle.std.proofs.lemmas.Option.{none-some, same_Some}
 use Rattle.bz_base.specs.Nearest.{has_span, IsTable}
+use Rattle.bz_gsym_layout.proofs.MemberLemmas.{filter_to}
 use Rattle.bz_convert.specs.Bounds.{In}
-
-pub in_left : {X : Type 0} (xs ys : List X) (x : X) → In xs x → In (xs ++ ys) x
-in_left [] ys x (i, at) = absurd (none-some x at)
-in_left (z ∷ xs) ys x (zero, at) = (0, at)
-in_left (z ∷ xs) ys x (suc i, at) = let more = in_left xs ys x (i, at) in (suc more.0, more.1)
-
-pub in_right : {X : Type 0} (xs ys : List X) (x : X) → In ys x → In (xs ++ ys) x
-in_right [] ys x found = found
-in_right (z ∷ xs) ys x found = let more = in_right xs ys x found in (suc more.0, more.1)
-
-pub in_append : {X : Type 0} (xs ys : List X) (x : X) → In (xs ++ ys) x → In xs x ⊎ In ys x
-in_append [] ys x found = inr found
-in_append (z ∷ xs) ys x (zero, there) = inl (0, there)
-in_append (z ∷ xs) ys x (suc i, there) = more (in_append xs ys x (i, there)) where
-  more : In xs x ⊎ In ys x → In (z ∷ xs) x ⊎ In ys x
-  more (inl (j, at)) = inl (suc j, at)
-  more (inr found) = inr found
-
-pub all_members : {X : Type 0} (P : X → Type 0) (xs : List X) → ((x : X) → In xs x → P x) → AllByRecursion P xs
-all_members P [] each = tt
-all_members P (x ∷ xs) each = (each x (0, refl), all_members P xs (λ y found. each y (suc found.0, found.1)))
-
-pub member_of : {X : Type 0} (P : X → Type 0) (xs : List X) → AllByRecursion P xs → (x : X) → In xs x → P x
-member_of P [] all x (i, there) = absurd (none-some x there)
-member_of P (y ∷ xs) all x (zero, there) = subst P (same_Some y x there) all.0
-member_of P (y ∷ xs) all x (suc i, there) = member_of P xs all.1 x (i, there)
-
-pub all_append : {X : Type 0} (P : X → Type 0) (xs ys : List X) → AllByRecursion P xs → AllByRecursion P ys → AllByRecursion P (xs ++ ys)
-all_append P [] ys first second = second
-all_append P (x ∷ xs) ys first second = (first.0, all_append P xs ys first.1 second)
 
 pub map_in : {X Y : Type 0} (view : X → Y) (xs : List X) (y : Y) → In (map view xs) y → (x : X) × In xs x × (view x ≡ y)
 map_in view [] y (i, there) = absurd (none-some y there)
@@ -56,14 +27,6 @@ pub record AtTwo {X : Type 0} (xs : List X) (test : X → Bool) : Type 0 where
   pub passes_j : test y ≡ true
 
 module _ {X : Type 0} (test : X → Bool) where
-  pub filter_to : (xs : List X) (i : ℕ) (x : X) → slice_get xs i ≡ Some x → test x ≡ true → In (filter test xs) x
-  filter_to [] i x there passes = absurd (none-some x there)
-  filter_to (y ∷ xs) zero x there passes = let same : y ≡ x = same_Some y x there in (0, rw (ap test same ∙ passes) there)
-  filter_to (y ∷ xs) (suc i) x there passes = by (test y) (filter_to xs i x there passes) where
-    by : (b : Bool) → In (filter test xs) x → In (cond b (y ∷ filter test xs) (filter test xs)) x
-    by true (k, at) = (suc k, at)
-    by false found = found
-
   from_rest : (y x : X) (xs : List X) → In xs x × (test x ≡ true) → In (y ∷ xs) x × (test x ≡ true)
   from_rest y x xs ((i, at), passes) = ((suc i, at), passes)
 

@@ -33,10 +33,12 @@ use Rattle.bz_gsym_layout.specs.Rows.{row_at}
 use Rattle.bz_convert.proofs.CallLemmas.{is_table, tree_around}
 use Rattle.bz_convert.proofs.FaultLemmas.{IsClean, all_clean, functions_differ}
 use Rattle.bz_convert.proofs.DistinctLemmas.{from_distinct}
-use Rattle.bz_convert.proofs.MemberLemmas.{all_append, all_members, filter_from, from_table, to_table}
+use Rattle.bz_gsym_layout.proofs.MemberLemmas.{all_append, all_members}
+use Rattle.bz_convert.proofs.MemberLemmas.{filter_from, from_table, to_table}
 use Rattle.bz_search.proofs.SortingLaws.{sorted_table}
 use Rattle.bz_convert.proofs.RowLemmas.{row_answers}
-use Rattle.bz_convert.proofs.StartLemmas.{candidate_alike, candidate_in_table, candidate_seen}
+use Rattle.bz_convert.proofs.StartLemmas.{candidate_alike, candidate_in_table}
+use Rattle.bz_gsym_layout.proofs.CandidateLemmas.{candidate_seen}
 
 -- What is seen through a view.
 row_seen : {L M : Type 0} (view : L → M) (addr : ℕ) (last : Option (ℕ × L)) (rows : List (ℕ × L)) →

@@ -22,7 +22,8 @@ use Rattle.bz_convert.specs.Points.{ArePoints, gap_of, point_within, row_seen}
 use Rattle.bz_convert.specs.Rows.{gap_from, row_by, rows_from}
 use Rattle.bz_convert.specs.declared.rows.LineRow.{LineRow}
 use Rattle.bz_convert.specs.declared.rows.Point.{Point}
-use Rattle.bz_convert.proofs.MemberLemmas.{from_table, in_append, in_left, in_right, map_in, to_table}
+use Rattle.bz_gsym_layout.proofs.MemberLemmas.{in_append, in_flat, in_left, in_right}
+use Rattle.bz_convert.proofs.MemberLemmas.{from_table, map_in, to_table}
 use Rattle.bz_convert.proofs.PointLemmas.{ArePointsOf, IsNoPoint, gap_at_points, nearest_steady, point_gap, point_rows, rows_at_points}
 
 abbrev pub addrs_of : List Point → List ℕ
@@ -78,11 +79,6 @@ within_is start end addr p = by (nat_le start addr) refl (nat_lt addr end) refl 
 
 is_within : (start end addr : ℕ) → start ≤ addr → addr < end → In (point_within start end addr) (record { addr = addr })
 is_within start end addr low high = rw (le-leb start addr low, lt-ltb addr end high) (0, refl)
-
-in_flat : {X Y : Type 0} (f : X → List Y) (xs : List X) (x : X) (y : Y) → In xs x → In (f x) y → In (flat_map f xs) y
-in_flat f [] x y (i, at) own = absurd (none-some x at)
-in_flat f (z ∷ xs) x y (zero, at) own = in_left (f z) (flat_map f xs) y (subst (λ w. In (f w) y) (sym (same_Some z x at)) own)
-in_flat f (z ∷ xs) x y (suc i, at) own = in_right (f z) (flat_map f xs) y (in_flat f xs x y (i, at) own)
 
 from_flat : {X Y : Type 0} (f : X → List Y) (xs : List X) (y : Y) → In (flat_map f xs) y → (x : X) × In xs x × In (f x) y
 from_flat f [] y (i, at) = absurd (none-some y at)

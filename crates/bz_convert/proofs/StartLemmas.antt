@@ -1,24 +1,13 @@
 -- Where no two records start alike, their starts alone say which one answers.
-use Rattle.std.proofs.Common.{◌≡◌, inl, inr, ℕ, suc, ◌<◌, cond, map, option_map, nat_le, List, [], ◌∷◌, Option, Some, None, refl, sym, ap, ◌∙◌, arith}
+use Rattle.std.proofs.Common.{◌≡◌, inl, inr, ℕ, suc, ◌<◌, cond, List, [], ◌∷◌, Option, Some, None, refl, sym, ap, ◌∙◌, arith}
 use Rattle.std.specs.List.{slice_get}
 use Rattle.std.proofs.lemmas.Bool.{cases_lt}
 use Rattle.std.proofs.lemmas.Bool.Decides.{nat_tests}
 use Rattle.std.proofs.lemmas.Option.{same_Some}
 use Rattle.bz_base.specs.Nearest.{IsTable, candidate, comes_first, first_of}
 use Rattle.bz_search.proofs.NearestLemmas.{candidate_is, candidate_again, none_below, none_from_above}
-use Rattle.bz_search.proofs.ViewLemmas.{map_cond}
 use Rattle.bz_convert.specs.Bounds.{In}
 use Rattle.bz_convert.proofs.MemberLemmas.{to_table, from_table}
-
--- the candidate of what a list is seen as is what its candidate is seen as
-module _ {X Y : Type 0} (start size : Y → ℕ) (view : X → Y) (addr : ℕ) where
-  first_seen : (x : X) (o : Option X) → first_of start size addr (view x) (option_map view o) ≡ option_map view (first_of (λ z. start (view z)) (λ z. size (view z)) addr x o)
-  first_seen x None = sym (map_cond view (nat_le (start (view x)) addr) (Some x) None)
-  first_seen x (Some y) = sym (map_cond view (comes_first start size addr (view x) (view y)) (Some x) (Some y))
-
-  pub candidate_seen : (xs : List X) → candidate start size addr (map view xs) ≡ option_map view (candidate (λ z. start (view z)) (λ z. size (view z)) addr xs)
-  candidate_seen [] = refl
-  candidate_seen (x ∷ xs) = ap (first_of start size addr (view x)) (candidate_seen xs) ∙ first_seen x (candidate (λ z. start (view z)) (λ z. size (view z)) addr xs)
 
 module _ {X : Type 0} (start : X → ℕ) where
   -- no two start alike

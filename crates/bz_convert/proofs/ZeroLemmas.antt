@@ -19,7 +19,8 @@ use Rattle.bz_gsym_layout.specs.Plan.{Called, Line, Source}
 use Rattle.bz_convert.proofs.CallLemmas.{are_sound, is_table}
 use Rattle.bz_convert.proofs.DistinctLemmas.{any_in, any_some, from_distinct, to_distinct}
 use Rattle.bz_convert.proofs.FaultLemmas.{IsNested}
-use Rattle.bz_convert.proofs.MemberLemmas.{filter_from, filter_to, from_table, in_append, in_left, in_right, to_table}
+use Rattle.bz_gsym_layout.proofs.MemberLemmas.{filter_to, in_append, in_left, in_right}
+use Rattle.bz_convert.proofs.MemberLemmas.{filter_from, from_table, to_table}
 use Rattle.bz_convert.proofs.SoundLemmas.{calls_among, listed}
 
 -- Tests of lists.

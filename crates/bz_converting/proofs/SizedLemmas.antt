@@ -15,7 +15,8 @@ use Rattle.bz_convert.specs.Fault.{is_over}
 use Rattle.bz_convert.specs.Plan.{distinct_calls, has_size, same_call, sized_calls}
 use Rattle.bz_convert.proofs.DistinctLemmas.{from_distinct, none_twice, same_call_is, same_itself, to_distinct}
 use Rattle.bz_convert.proofs.FaultLemmas.{any_none}
-use Rattle.bz_convert.proofs.MemberLemmas.{filter_from, filter_to, from_table, member_of, pair_from, to_table, two_alike}
+use Rattle.bz_gsym_layout.proofs.MemberLemmas.{filter_to, member_of}
+use Rattle.bz_convert.proofs.MemberLemmas.{filter_from, from_table, pair_from, to_table, two_alike}
 use Rattle.bz_converting.specs.Laid.{AreApart}
 use Rattle.bz_converting.specs.Sized.{is_repeated, placed_calls, without_repeats}
 use Rattle.bz_converting.specs.declared.calls.PlacedCall.{PlacedCall}

@@ -29,7 +29,7 @@ use Rattle.bz_gsym_layout.specs.Planned as answers
 use Rattle.bz_gsym_layout.specs.Rows.{row_at}
 use Rattle.bz_gsym_layout.proofs.EntryLemmas.{entry_front, entries_end}
 use Rattle.bz_gsym_layout.proofs.LineLemmas.{RowsFit, line_read, state_of, zero_header}
-use Rattle.bz_gsym_layout.proofs.MemberLemmas.{In}
+use Rattle.bz_gsym_layout.proofs.MemberLemmas.{In, all_append}
 use Rattle.bz_gsym_layout.proofs.CandidateLemmas.{candidate_seen}
 use Rattle.bz_gsym_layout.proofs.TreeLemmas.{RootFits, frame, root_frame, tree_read}
 
@@ -37,10 +37,6 @@ use Rattle.bz_gsym_layout.proofs.TreeLemmas.{RootFits, frame, root_frame, tree_r
 abbrev pub AllCalls : {X : Type 0} → (X → Type 0) → Forest X → Type 0
 AllCalls P NoCalls = Unit {0}
 AllCalls P (Call x within after) = P x × AllCalls P within × AllCalls P after
-
-pub all_append : {X : Type 0} (P : X → Type 0) (xs ys : List X) → AllByRecursion P xs → AllByRecursion P ys → AllByRecursion P (xs ++ ys)
-all_append P [] ys first second = second
-all_append P (x ∷ xs) ys first second = (first.0, all_append P xs ys first.1 second)
 
 module _ {X : Type 0} (start size : X → ℕ) (P : X → Type 0) (addr : ℕ) where
   all_by : (b : Bool) (x : X) (within after : List X) → P x → AllByRecursion P within → AllByRecursion P after → AllByRecursion P (cond b (x ∷ within) [] ++ after)

@@ -1,5 +1,5 @@
 -- What is laid out has fewer than 2 ^ 32 bytes, so no call lies so deep that a chain ends before it.
-use Rattle.std.proofs.Common.{◌≡◌, ◌⊎◌, inl, inr, ℕ, zero, suc, ◌+◌, ◌-◌, ◌<◌, Bool, true, false, cond, nat_lt, List, [], ◌∷◌, ◌++◌, length, Some, refl, ap, arith}
+use Rattle.std.proofs.Common.{◌≡◌, inl, inr, ℕ, zero, suc, ◌+◌, ◌-◌, ◌<◌, Bool, true, false, cond, nat_lt, List, [], ◌∷◌, ◌++◌, length, Some, refl, ap, arith}
 use Rattle.std.specs.Prelude.{◌==◌}
 use Rattle.std.specs.List.{slice_get}
 use Rattle.std.proofs.lemmas.Bool.{eqb-true}
@@ -10,15 +10,7 @@ use Rattle.bz_gsym_layout.specs.Layout.{Tables, calls_bytes, child_flag, node_by
 use Rattle.bz_gsym_layout.specs.Nesting.{Forest, calls_in, map_forest, nested}
 use Rattle.bz_gsym_layout.specs.Nesting.Forest.{NoCalls, Call}
 use Rattle.bz_gsym_layout.specs.Plan.{Called}
-use Rattle.bz_gsym_layout.proofs.MemberLemmas.{In}
-
-pub in_append : {X : Type 0} (xs ys : List X) (x : X) → In (xs ++ ys) x → In xs x ⊎ In ys x
-in_append [] ys x found = inr found
-in_append (z ∷ xs) ys x (zero, there) = inl (0, there)
-in_append (z ∷ xs) ys x (suc i, there) = more (in_append xs ys x (i, there)) where
-  more : In xs x ⊎ In ys x → In (z ∷ xs) x ⊎ In ys x
-  more (inl (j, at)) = inl (suc j, at)
-  more (inr found) = inr found
+use Rattle.bz_gsym_layout.proofs.MemberLemmas.{In, in_append}
 
 module _ {X : Type 0} (t : Tables) (view : X → Called) (depth start size : X → ℕ) (addr : ℕ) where
   abbrev bytes_of : ℕ → Forest X → List ℕ

@@ -1,10 +1,10 @@
 -- The bytes that a plan is laid out in hold it.
-use Rattle.std.proofs.Common.{◌≡◌, ℕ, zero, suc, ◌+◌, ◌^◌, ◌<◌, ◌≤◌, Bool, true, false, cond, map, flat_map, option_map, List, [], ◌∷◌, ◌++◌, length, Some, refl, sym, ap, subst, ◌∙◌, arith}
+use Rattle.std.proofs.Common.{◌≡◌, ℕ, suc, ◌+◌, ◌^◌, ◌<◌, ◌≤◌, Bool, true, false, cond, map, flat_map, option_map, List, [], ◌∷◌, ◌++◌, length, Some, refl, sym, ap, subst, ◌∙◌, arith}
 use Rattle.std.specs.List.{AllByRecursion, slice_get, zip}
 use Rattle.std.specs.Str.{bytes_eq}
 use Rattle.std.proofs.lemmas.Grind.{flat_map-append}
 use Rattle.std.proofs.lemmas.List.{length-append}
-use Rattle.std.proofs.lemmas.Option.{none-some, same_Some, slice_get-map}
+use Rattle.std.proofs.lemmas.Option.{slice_get-map}
 use Rattle.bz_base.specs.Span.{last_address}
 use Rattle.bz_base.specs.declared.types.FindSymOpts.TheVariants as asked
 use Rattle.bz_base.proofs.PieceOfBytesLemmas.{map_some}
@@ -13,7 +13,7 @@ use Rattle.bz_gsym.specs.InlineTree.{Nodes}
 use Rattle.bz_gsym.specs.Plain.{plain}
 use Rattle.bz_gsym.specs.Strings.{string_at}
 use Rattle.bz_gsym.specs.Tables as gsym
-use Rattle.bz_gsym.specs.Tables.{files, starts, strings}
+use Rattle.bz_gsym.specs.Tables.{files, strings}
 use Rattle.bz_gsym.specs.declared.types.Header.{Header}
 use Rattle.bz_gsym_layout.specs.Layable.{CallsDescend, IsLayable, IsStorable, RowsAscend}
 use Rattle.bz_gsym_layout.specs.Layout.{Tables, code_bytes, data_places, entry_bytes, inline_entry, layout, line_entry, line_table_bytes, source_index, tables_of, text_place, tree_bytes, word, zeros}
@@ -26,33 +26,9 @@ use Rattle.bz_gsym_layout.proofs.DataLemmas.{LiesAt, code_below, codes_are, info
 use Rattle.bz_gsym_layout.proofs.DecodeLemmas.{AllCalls, CallReads, CodeReads, Holds, LineReads, RowReads, ShortLines, ShortTree, plain_is_planned}
 use Rattle.bz_gsym_layout.proofs.LayoutLemmas.{before_data, data_at, file_of, files_read, from_data, head_read, length_is, places_read, starts_read, strings_read, text_fits, to_data}
 use Rattle.bz_gsym_layout.proofs.LineLemmas.{RowsFit, zero_header}
-use Rattle.bz_gsym_layout.proofs.MemberLemmas.{In}
+use Rattle.bz_gsym_layout.proofs.MemberLemmas.{In, all_members, in_flat, in_left, in_right, member_of}
 use Rattle.bz_gsym_layout.proofs.NumberingLemmas.{at_index, in_firsts, some_place, source_is_same, source_same, text_is_same, text_read, text_same}
 use Rattle.bz_gsym_layout.proofs.TreeLemmas.{CallsFit, tree_of, tree_written}
-
--- Members of lists side by side.
-pub in_left : {X : Type 0} (xs ys : List X) (x : X) → In xs x → In (xs ++ ys) x
-in_left [] ys x (i, there) = absurd (none-some x there)
-in_left (z ∷ xs) ys x (zero, there) = (0, there)
-in_left (z ∷ xs) ys x (suc i, there) = let k = in_left xs ys x (i, there) in (suc k.0, k.1)
-
-pub in_right : {X : Type 0} (xs ys : List X) (x : X) → In ys x → In (xs ++ ys) x
-in_right [] ys x found = found
-in_right (z ∷ xs) ys x found = let k = in_right xs ys x found in (suc k.0, k.1)
-
-pub in_flat : {X Y : Type 0} (f : X → List Y) (xs : List X) (x : X) (y : Y) → In xs x → In (f x) y → In (flat_map f xs) y
-in_flat f [] x y (i, there) own = absurd (none-some x there)
-in_flat f (z ∷ xs) x y (zero, there) own = let e : x ≡ z = sym (same_Some z x there) in in_left (f z) (flat_map f xs) y (subst (λ w. In (f w) y) e own)
-in_flat f (z ∷ xs) x y (suc i, there) own = in_right (f z) (flat_map f xs) y (in_flat f xs x y (i, there) own)
-
-pub all_members : {X : Type 0} (P : X → Type 0) (xs : List X) → ((x : X) → In xs x → P x) → AllByRecursion P xs
-all_members P [] each = tt
-all_members P (x ∷ xs) each = (each x (0, refl), all_members P xs (λ y found. each y (suc found.0, found.1)))
-
-pub member_of : {X : Type 0} (P : X → Type 0) (xs : List X) → AllByRecursion P xs → (x : X) → In xs x → P x
-member_of P [] all x (i, there) = absurd (none-some x there)
-member_of P (y ∷ xs) all x (zero, there) = subst P (same_Some y x there) all.0
-member_of P (y ∷ xs) all x (suc i, there) = member_of P xs all.1 x (i, there)
 
 -- a function's entries aren't longer than the whole
 pub entries_below : (codes : List Code) (i : ℕ) (c : Code) → slice_get codes i ≡ Some c →
