@@ -2,6 +2,7 @@
 use Rattle.std.proofs.Common.{◌≡◌, ℕ, suc, ◌+◌, ◌<◌, ◌≤◌, List, [], ◌∷◌, ◌++◌, flat_map, length, map, refl, sym, ap, ◌∙◌, arith}
 use Rattle.std.specs.Prelude.{slice_index_or}
 use Rattle.std.specs.Str.{bytes_eq}
+use Rattle.std.proofs.lemmas.Option.{slice_get-get_or}
 use Rattle.bz_gsym_layout.specs.Indexed.{AreFiles, AreFunctions, IsFunction, call_of, code_of, row_of, source_of, text_at}
 use Rattle.bz_gsym_layout.specs.Layout.{Tables, file_bytes, source_index, text_place, word}
 use Rattle.bz_gsym_layout.specs.Numbering.{same_source}
@@ -13,7 +14,6 @@ use Rattle.bz_gsym_layout.specs.declared.plan.Function.{Function}
 use Rattle.bz_gsym_layout.specs.declared.plan.Row.{Row}
 use Rattle.bz_gsym_layout.specs.declared.plan.SourceFile.{SourceFile}
 use Rattle.bz_gsym_layout.proofs.DistinctLemmas.{Differ, index_there, place_there}
-use Rattle.bz_gsym_layout.proofs.LoopLemmas.{item_there}
 use Rattle.bz_gsym_layout.proofs.NumberingLemmas.{source_is_same}
 
 -- a greater limit
@@ -33,12 +33,12 @@ module _ (t : Tables) (texts_differ : Differ bytes_eq t.texts) (sources_differ :
   places = text_places 1 t.texts
 
   named : (i : ℕ) → i < length t.texts → text_place t (text_at t.texts i) ≡ place_at places i
-  named i within = place_there t.texts 1 texts_differ i (text_at t.texts i) (item_there t.texts i [] within)
+  named i within = place_there t.texts 1 texts_differ i (text_at t.texts i) (slice_get-get_or t.texts i [] within)
 
   sourced : (i : ℕ) → i < length t.sources → source_index t (slice_index_or t.sources i no_source) ≡ i + 1
   sourced i within =
       let e : suc i ≡ i + 1 = omega arith in
-      ap suc (index_there same_source source_is_same t.sources sources_differ i (slice_index_or t.sources i no_source) (item_there t.sources i no_source within)) ∙ e
+      ap suc (index_there same_source source_is_same t.sources sources_differ i (slice_index_or t.sources i no_source) (slice_get-get_or t.sources i no_source within)) ∙ e
 
   rows_are : (rows : List Row) → AreSourced (length t.sources) rows → AreRowsOf t (map (row_of t.texts t.sources) rows) rows
   rows_are [] within = tt

@@ -1,6 +1,6 @@
 -- One turn of the pass over the calls.
 use Rattle.std.proofs.Common.{◌≡◌, ℕ, zero, suc, ◌+◌, ◌-◌, ◌<◌, ◌≤◌, Bool, true, false, cond, List, [], ◌∷◌, ◌++◌, length, reverse, drop, Some, refl, sym, ap, subst, ◌∙◌, arith, append_assoc, append-nil}
-use Rattle.std.specs.Prelude.{Err, Ok, OnOk, Result, slice_index_or}
+use Rattle.std.specs.Prelude.{Err, Ok, OnOk, Result}
 use Rattle.std.specs.List.{slice_get}
 use Rattle.std.proofs.lemmas.List.{length-reverse, reverse-append}
 use Rattle.std.proofs.lemmas.Option.{none-some, same_Some}
@@ -110,19 +110,8 @@ module _ (t : Tables) (places : List ℕ) (view : Node → Called) (nodes : List
       ∙ node_turn t view places nodes are index x at_x name named ended whole around base many left_now next.0 (ap (slice_get nodes) (sym next_is) ∙ next.1) next.2
 
 -- The loop over the calls.
-pub node_at : (nodes : List Node) (i : ℕ) (d : Node) → i < length nodes → slice_get nodes i ≡ Some (slice_index_or nodes i d)
-node_at [] i d within = absurd (omega arith)
-node_at (x ∷ nodes) zero d within = refl
-node_at (x ∷ nodes) (suc i) d within = node_at nodes i d (omega arith)
-
 pub none_passes : (limit : ℕ) (numbers : List ℕ) → numbers ≡ [] → AreAtMost limit numbers
 none_passes limit numbers empty k n at = absurd (none-some n (ap (λ l. slice_get l k) (sym empty) ∙ at))
-
-pub all_dropped : (nodes : List Node) (i : ℕ) → length nodes ≤ i → drop i nodes ≡ []
-all_dropped [] zero past = refl
-all_dropped [] (suc i) past = refl
-all_dropped (x ∷ nodes) zero past = absurd (omega arith)
-all_dropped (x ∷ nodes) (suc i) past = all_dropped nodes i (omega arith)
 
 pub on_ok : {A E : Type 0} (r : Result A E) (P Q : Type 0) → (P → Q) → OnOk r P → OnOk r Q
 on_ok (Ok a) P Q then is = then is

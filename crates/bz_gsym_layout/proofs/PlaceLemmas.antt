@@ -1,14 +1,13 @@
 -- Texts and functions are placed one behind another.
 use Rattle.std.proofs.Common.{◌≡◌, ℕ, suc, ◌+◌, ◌<◌, ◌≤◌, List, [], ◌∷◌, ◌++◌, flat_map, length, map, drop, refl, sym, ap, ◌∙◌, arith, append_assoc, append-nil}
 use Rattle.std.specs.Prelude.{slice_index_or}
-use Rattle.std.proofs.lemmas.List.{length-append}
+use Rattle.std.proofs.lemmas.List.{drop_all, drop_more, length-append}
 use Rattle.bz_base.specs.Cursor.{padding}
 use Rattle.bz_gsym_layout.specs.Layout.{Tables, code_bytes, data_bytes, data_places, zeros}
 use Rattle.bz_gsym_layout.specs.Numbering.{stored}
 use Rattle.bz_gsym_layout.specs.Places.{text_places}
 use Rattle.bz_gsym_layout.specs.Plan.{Code}
 use Rattle.bz_gsym_layout.proofs.DataLemmas.{length_zeros}
-use Rattle.bz_gsym_layout.proofs.LoopLemmas.{drop_all, item_drop}
 
 -- a text is placed
 module _ {X : Type 0} (view : X → List ℕ) (xs : List X) (i : ℕ) (d : X) where
@@ -23,7 +22,7 @@ module _ {X : Type 0} (view : X → List ℕ) (xs : List X) (i : ℕ) (d : X) wh
   text_turn within places new whole at next pushed further left =
       let e : next ≡ at + length (stored text) = omega (arith, further, length-append text (0 ∷ [])) in
       ap (λ l. l ++ text_places next rest) pushed ∙ append_assoc places (at ∷ []) (text_places next rest)
-      ∙ ap (λ n. places ++ at ∷ text_places n rest) e ∙ ap (λ l. places ++ text_places at (map view l)) (sym (item_drop xs i d within)) ∙ left
+      ∙ ap (λ n. places ++ at ∷ text_places n rest) e ∙ ap (λ l. places ++ text_places at (map view l)) (sym (drop_more xs i d within)) ∙ left
 
   pub text_length : i < length xs → (at next end : ℕ) → next ≡ at + length text + 1 → at + length (flat_map stored (map view (drop i xs))) ≡ end →
       next + length (flat_map stored rest) ≡ end
@@ -32,17 +31,17 @@ module _ {X : Type 0} (view : X → List ℕ) (xs : List X) (i : ℕ) (d : X) wh
         arith,
         further,
         left,
-        ap (λ l. length (flat_map stored (map view l))) (item_drop xs i d within),
+        ap (λ l. length (flat_map stored (map view l))) (drop_more xs i d within),
         length-append (stored text) (flat_map stored rest),
         length-append text (0 ∷ []),
       )
 
 module _ {X : Type 0} (view : X → List ℕ) (xs : List X) (i : ℕ) where
   pub texts_end : length xs ≤ i → (places whole : List ℕ) (at : ℕ) → places ++ text_places at (map view (drop i xs)) ≡ whole → places ≡ whole
-  texts_end past places whole at left = sym (append-nil places) ∙ ap (λ l. places ++ text_places at (map view l)) (sym (drop_all xs i past)) ∙ left
+  texts_end past places whole at left = sym (append-nil places) ∙ ap (λ l. places ++ text_places at (map view l)) (sym (drop_all i xs past)) ∙ left
 
   pub length_end : length xs ≤ i → (at end : ℕ) → at + length (flat_map stored (map view (drop i xs))) ≡ end → at ≡ end
-  length_end past at end left = omega (arith, left, ap (λ l. length (flat_map stored (map view l))) (drop_all xs i past))
+  length_end past at end left = omega (arith, left, ap (λ l. length (flat_map stored (map view l))) (drop_all i xs past))
 
 -- there are as many places as texts
 pub length_text_places : (at : ℕ) (texts : List (List ℕ)) → length (text_places at texts) ≡ length texts
@@ -63,7 +62,7 @@ module _ {X : Type 0} (t : Tables) (view : X → Code) (xs : List X) (i : ℕ) (
       let e : next ≡ at + padding at + length (code_bytes t code) = omega (arith, further, filled) in
       ap (λ l. l ++ data_places t next codes) pushed ∙ append_assoc places (place ∷ []) (data_places t next codes)
       ∙ ap (λ n. places ++ n ∷ data_places t next codes) filled
-      ∙ ap (λ n. places ++ (at + padding at) ∷ data_places t n codes) e ∙ ap (λ l. places ++ data_places t at (map view l)) (sym (item_drop xs i d within)) ∙ left
+      ∙ ap (λ n. places ++ (at + padding at) ∷ data_places t n codes) e ∙ ap (λ l. places ++ data_places t at (map view l)) (sym (drop_more xs i d within)) ∙ left
 
   -- and written
   pub written_turn : i < length xs → (out filled new whole : List ℕ) → filled ≡ out ++ zeros (padding (length out)) → new ≡ filled ++ code_bytes t code →
@@ -76,11 +75,11 @@ module _ {X : Type 0} (t : Tables) (view : X → Code) (xs : List X) (i : ℕ) (
       ap (λ n. new ++ data_bytes t n codes) many
       ∙ ap (λ l. l ++ data_bytes t (length out + pad + length (code_bytes t code)) codes) all
       ∙ append_assoc (out ++ zeros pad) (code_bytes t code) _ ∙ append_assoc out (zeros pad) _
-      ∙ ap (λ l. out ++ data_bytes t (length out) (map view l)) (sym (item_drop xs i d within)) ∙ left
+      ∙ ap (λ l. out ++ data_bytes t (length out) (map view l)) (sym (drop_more xs i d within)) ∙ left
 
 module _ {X : Type 0} (t : Tables) (view : X → Code) (xs : List X) (i : ℕ) where
   pub places_end : length xs ≤ i → (places whole : List ℕ) (at : ℕ) → places ++ data_places t at (map view (drop i xs)) ≡ whole → places ≡ whole
-  places_end past places whole at left = sym (append-nil places) ∙ ap (λ l. places ++ data_places t at (map view l)) (sym (drop_all xs i past)) ∙ left
+  places_end past places whole at left = sym (append-nil places) ∙ ap (λ l. places ++ data_places t at (map view l)) (sym (drop_all i xs past)) ∙ left
 
   pub written_end : length xs ≤ i → (out whole : List ℕ) → out ++ data_bytes t (length out) (map view (drop i xs)) ≡ whole → out ≡ whole
-  written_end past out whole left = sym (append-nil out) ∙ ap (λ l. out ++ data_bytes t (length out) (map view l)) (sym (drop_all xs i past)) ∙ left
+  written_end past out whole left = sym (append-nil out) ∙ ap (λ l. out ++ data_bytes t (length out) (map view l)) (sym (drop_all i xs past)) ∙ left

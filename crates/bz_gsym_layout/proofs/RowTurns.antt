@@ -1,22 +1,12 @@
 -- One turn of the loop that writes rows.
-use Rattle.std.proofs.Common.{◌≡◌, ℕ, zero, suc, ◌+◌, ◌<◌, ◌≤◌, List, [], ◌∷◌, ◌++◌, length, drop, refl, sym, ap, subst, ◌∙◌, arith, append_assoc}
+use Rattle.std.proofs.Common.{◌≡◌, ℕ, ◌+◌, ◌<◌, ◌≤◌, List, [], ◌∷◌, ◌++◌, length, drop, refl, sym, ap, subst, ◌∙◌, append_assoc}
 use Rattle.std.specs.Prelude.{slice_index_or}
+use Rattle.std.proofs.lemmas.List.{drop_all, drop_more}
 use Rattle.bz_gsym_layout.specs.Layout.{Tables, row_bytes, row_numbers, rows_bytes}
 use Rattle.bz_gsym_layout.specs.Plan.{Line}
 use Rattle.bz_gsym_layout.specs.InOrder.{NeverBefore}
 use Rattle.bz_gsym_layout.specs.RowPass.{AreRowsOf, IsRowOf}
 use Rattle.bz_gsym_layout.specs.declared.plan.Row.{Row}
-
-row_drop : (rows : List Row) (i : ℕ) (d : Row) → i < length rows → drop i rows ≡ slice_index_or rows i d ∷ drop (suc i) rows
-row_drop [] i d within = absurd (omega arith)
-row_drop (x ∷ rows) zero d within = refl
-row_drop (x ∷ rows) (suc i) d within = row_drop rows i d (omega arith)
-
-rows_dropped : (rows : List Row) (i : ℕ) → length rows ≤ i → drop i rows ≡ []
-rows_dropped [] zero past = refl
-rows_dropped [] (suc i) past = refl
-rows_dropped (x ∷ rows) zero past = absurd (omega arith)
-rows_dropped (x ∷ rows) (suc i) past = rows_dropped rows i (omega arith)
 
 -- the lines of what is left, with what is still to be written of them
 pub record AreLeft (t : Tables) (rows : List Row) (out : List ℕ) (addr line : ℕ) (whole : List ℕ) : Type 0 where
@@ -46,7 +36,7 @@ module _ (rows : List Row) (i : ℕ) (d : Row) (within : i < length rows) where
   x = slice_index_or rows i d
 
   here : drop i rows ≡ x ∷ drop (i + 1) rows
-  here = let e : suc i ≡ i + 1 = omega arith in row_drop rows i d within ∙ ap (λ n. x ∷ drop n rows) e
+  here = drop_more rows i d within
 
   pub low_turn : (addr : ℕ) → NeverBefore addr (drop i rows) → NeverBefore x.addr (drop (i + 1) rows)
   low_turn addr low = (subst (NeverBefore addr) here low).1
@@ -57,7 +47,7 @@ module _ (rows : List Row) (i : ℕ) (d : Row) (within : i < length rows) where
       one_written t x (drop (i + 1) rows) out new addr line whole wrote left.lines (subst (AreRowsOf t left.lines) here left.are) left.all
 
 pub rows_end : (t : Tables) (rows : List Row) (i : ℕ) (out new : List ℕ) (addr line : ℕ) (whole : List ℕ) → length rows ≤ i → new ≡ out ++ 0 ∷ [] → AreLeft t (drop i rows) out addr line whole → new ≡ whole
-rows_end t rows i out new addr line whole past wrote left = by left.lines (subst (AreRowsOf t left.lines) (rows_dropped rows i past) left.are) left.all where
+rows_end t rows i out new addr line whole past wrote left = by left.lines (subst (AreRowsOf t left.lines) (drop_all i rows past) left.are) left.all where
   by : (lines : List (ℕ × Line)) → AreRowsOf t lines [] → out ++ rows_bytes t addr line lines ≡ whole → new ≡ whole
   by [] are all = wrote ∙ all
   by (at ∷ lines) are all = absurd are

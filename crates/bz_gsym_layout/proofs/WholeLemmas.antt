@@ -1,10 +1,10 @@
 -- The parts of a file that are written one after another are the layout of its plan.
-use Rattle.std.proofs.Common.{◌≡◌, ℕ, zero, suc, ◌+◌, ◌*◌, ◌≤◌, List, [], ◌∷◌, ◌++◌, drop, flat_map, length, map, take, refl, sym, ap, subst, ◌∙◌, arith, append_assoc, append-nil}
+use Rattle.std.proofs.Common.{◌≡◌, ℕ, suc, ◌+◌, ◌*◌, ◌≤◌, List, [], ◌∷◌, ◌++◌, drop, flat_map, length, map, take, refl, sym, ap, subst, ◌∙◌, arith, append_assoc, append-nil}
 use Rattle.std.specs.Str.{bytes_eq}
-use Rattle.std.proofs.lemmas.List.{length-append, length-map}
+use Rattle.std.proofs.lemmas.List.{drop_all, drop_at, length-append, length-map, take_all}
 use Rattle.bz_gsym_layout.specs.Indexed.{AreFiles, AreFunctions, IsPlan, code_of, codes_of, source_of, sources_listed, tables_listed, texts_listed}
 use Rattle.bz_gsym_layout.specs.Layout as layout
-use Rattle.bz_gsym_layout.specs.Layout.{Tables, data_bytes, file_bytes, head_bytes, laid_out, string_bytes, strings_place, table_bytes, tables_of, word, zeros}
+use Rattle.bz_gsym_layout.specs.Layout.{Tables, data_bytes, file_bytes, head_bytes, laid_out, string_bytes, strings_place, tables_of, word, zeros}
 use Rattle.bz_gsym_layout.specs.Numbering.{same_source, sources_of, stored, texts_of}
 use Rattle.bz_gsym_layout.specs.Pass.{AreCodesOf, source_bytes}
 use Rattle.bz_gsym_layout.specs.Places.{text_places}
@@ -15,22 +15,11 @@ use Rattle.bz_gsym_layout.specs.declared.plan.SourceFile.{SourceFile}
 use Rattle.bz_gsym_layout.proofs.DistinctLemmas.{Differ, firsts_differ}
 use Rattle.bz_gsym_layout.proofs.IndexedLemmas.{code_is, files_are, more_sources, starts_are}
 use Rattle.bz_gsym_layout.proofs.LayoutLemmas.{length_is, to_data}
-use Rattle.bz_gsym_layout.proofs.LoopLemmas.{drop_all}
 use Rattle.bz_gsym_layout.proofs.PlaceLemmas.{length_text_places}
-
-drop_front : (xs ys : List ℕ) → drop (length xs) (xs ++ ys) ≡ ys
-drop_front [] ys = refl
-drop_front (x ∷ xs) ys = drop_front xs ys
-
-take_whole : (n : ℕ) (xs : List ℕ) → length xs ≤ n → take n xs ≡ xs
-take_whole zero [] many = refl
-take_whole (suc n) [] many = refl
-take_whole zero (x ∷ xs) many = absurd (omega arith)
-take_whole (suc n) (x ∷ xs) many = ap (λ l. x ∷ l) (take_whole n xs (omega arith))
 
 -- bytes in the place of as many
 pub put_whole : (n : ℕ) (xs old : List ℕ) → length xs ≡ length old → length old ≤ n → take n (xs ++ drop (length xs) old) ≡ xs
-put_whole n xs old same many = ap (λ l. take n (xs ++ l)) (drop_all old (length xs) (omega arith)) ∙ ap (take n) (append-nil xs) ∙ take_whole n xs (omega arith)
+put_whole n xs old same many = ap (λ l. take n (xs ++ l)) (drop_all (length xs) old (omega arith)) ∙ ap (take n) (append-nil xs) ∙ take_all n xs (omega arith)
 
 module _ (plan : Plan) (is : IsPlan plan) where
   abbrev pub codes : List Code
@@ -175,7 +164,7 @@ module _ (plan : Plan) (is : IsPlan plan) where
       front_part ++ data_bytes listed (length front_part) codes ≡ layout.layout codes → new ≡ front_part ++ drop (length front_part) out → new ≡ layout.layout codes
   filled_is blank front_part out new many same wrote whole filled =
       filled ∙ ap (λ l. front_part ++ drop (length front_part) l) wrote ∙ ap (λ n. front_part ++ drop n (blank ++ data_bytes listed (length blank) codes)) same
-      ∙ ap (λ l. front_part ++ l) (drop_front blank (data_bytes listed (length blank) codes)) ∙ ap (λ n. front_part ++ data_bytes listed n codes) (sym same) ∙ whole
+      ∙ ap (λ l. front_part ++ l) (drop_at blank (data_bytes listed (length blank) codes) (length blank) refl) ∙ ap (λ n. front_part ++ data_bytes listed n codes) (sym same) ∙ whole
 
   -- what is found of the plan's functions, and written of them
   module _ (functions : List Function) (found : List ℕ) (same_functions : functions ≡ plan.functions.items) (same_places : found ≡ places) where

@@ -1,10 +1,12 @@
 use Rattle.std.proofs.Common.{◌≡◌, ◌++◌, ◌∷◌, ◌∙◌, [], drop, length, reverse, ap, refl, sym, suc, arith}
 use Rattle.std.specs.Prelude.{slice_index_or}
+use Rattle.std.proofs.lemmas.List.{drop_all}
+use Rattle.std.proofs.lemmas.Option.{slice_get-get_or}
 use Rattle.bz_gsym_layout.specs.Layout.{zeros}
 use Rattle.bz_gsym_layout.specs.InOrder.{depth_of}
 use Rattle.bz_gsym_layout.specs.Pass.{left_bytes}
 use Rattle.bz_gsym_layout.specs.declared.plan.Node.{Node}
-use Rattle.bz_gsym_layout.proofs.PassTurns.{all_dropped, end_turn, first_turn, fits_next, goes_inside, low_next, node_at, none_passes, on_ok}
+use Rattle.bz_gsym_layout.proofs.PassTurns.{end_turn, first_turn, fits_next, goes_inside, low_next, none_passes, on_ok}
 use Rattle.bz_gsym_layout.proofs.calls.push_calls.Goals as goal
 
 -- what stands where no node does
@@ -24,20 +26,20 @@ loop-index-init c =
     }
 
 pub push_call-requires-clause-deep : goal.push_call-requires-clause-deep
-push_call-requires-clause-deep c = c.loop-index.invariant.deep _ (node_at c.args.nodes.now c.loop-index.index no_node c.loop-index-test.true)
+push_call-requires-clause-deep c = c.loop-index.invariant.deep _ (slice_get-get_or c.args.nodes.now c.loop-index.index no_node c.loop-index-test.true)
 
 pub push_call-requires-clause-low : goal.push_call-requires-clause-low
-push_call-requires-clause-low c = (c.loop-index.invariant.low _ (node_at c.args.nodes.now c.loop-index.index no_node c.loop-index-test.true)).0
+push_call-requires-clause-low c = (c.loop-index.invariant.low _ (slice_get-get_or c.args.nodes.now c.loop-index.index no_node c.loop-index-test.true)).0
 
 pub push_call-requires-clause-lower : goal.push_call-requires-clause-lower
-push_call-requires-clause-lower c = (c.loop-index.invariant.low _ (node_at c.args.nodes.now c.loop-index.index no_node c.loop-index-test.true)).1
+push_call-requires-clause-lower c = (c.loop-index.invariant.low _ (slice_get-get_or c.args.nodes.now c.loop-index.index no_node c.loop-index-test.true)).1
 
 pub loop-index-preserved : goal.loop-index-preserved
 loop-index-preserved c =
     let nodes = c.args.nodes.now in
     let i = c.loop-index.index in
     let x = slice_index_or nodes i no_node in
-    let at = node_at nodes i no_node c.loop-index-test.true in
+    let at = slice_get-get_or nodes i no_node c.loop-index-test.true in
     let inside = c.next_is_inside-inside.result in
     let facts = c.next_is_inside-inside.ensures in
     let base = c.in_ok-base.base in
@@ -54,7 +56,7 @@ returns-clause-ok c =
     on_ok c.end_all.result _ _ (λ ended t view are.
     let nodes = c.args.nodes.now in
     let s = c.loop-index in
-    let done : drop s.index nodes ≡ [] = all_dropped nodes s.index (omega (arith, c.loop-index-test.false)) in
+    let done : drop s.index nodes ≡ [] = drop_all s.index nodes (omega (arith, c.loop-index-test.false)) in
     let many : c.len.result ≡ length s.outer.items = omega (arith, c.len.ensures) in
     ended
     ∙ ap (λ n. s.out.items ++ zeros (suc n)) many

@@ -5,7 +5,7 @@ use Rattle.bz_base.specs.Cursor.{padding}
 use Rattle.bz_gsym_layout.specs.Indexed.{IsFunction}
 use Rattle.bz_gsym_layout.specs.Layout.{code_bytes, zeros}
 use Rattle.bz_gsym_layout.specs.Pass.{IsCodeOf}
-use Rattle.bz_gsym_layout.proofs.LoopLemmas.{item_there}
+use Rattle.std.proofs.lemmas.Option.{slice_get-get_or}
 use Rattle.bz_gsym_layout.proofs.DataLemmas.{length_zeros}
 use Rattle.bz_gsym_layout.proofs.PlaceLemmas.{data_turn, written_turn}
 use Rattle.bz_gsym_layout.proofs.layout.push_data.Goals as goal
@@ -17,7 +17,7 @@ push_function-requires c =
     let i = s.function-index in
     let x = c.function-item.result in
     let y = slice_index_or fs i x in
-    subst (IsFunction (length c.args.texts.now) 18446744073709551615) (sym c.function-item.is) (c.requires i y (item_there fs i x c.loop-function-test.true))
+    subst (IsFunction (length c.args.texts.now) 18446744073709551615) (sym c.function-item.is) (c.requires i y (slice_get-get_or fs i x c.loop-function-test.true))
 
 pub loop-function-preserved : goal.loop-function-preserved
 loop-function-preserved c =
@@ -26,7 +26,7 @@ loop-function-preserved c =
     let i = s.function-index in
     let x = c.function-item.result in
     let y = slice_index_or fs i x in
-    let there = item_there fs i x c.loop-function-test.true in
+    let there = slice_get-get_or fs i x c.loop-function-test.true in
     let many : c.len.result ≡ length s.out.items = omega (arith, c.len.ensures) in
     let fills : c.push_zeros.new.out.items ≡ s.out.items ++ zeros (padding (length s.out.items)) =
     c.in_ok-push_zeros.ensures.ok ∙ ap (λ n. s.out.items ++ zeros n) (c.filling.ensures ∙ ap padding many) in
