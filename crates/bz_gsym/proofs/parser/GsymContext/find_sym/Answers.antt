@@ -3,7 +3,7 @@ use Rattle.std.proofs.lemmas.Result.{err_from_is_err_and}
 use Rattle.bz_gsym.specs.JoiningSeen.{placed_seen}
 use Rattle.bz_gsym.specs.Seen.{info_seen}
 use Rattle.bz_gsym.proofs.SymbolLemmas.{no_data, none_tried, not_reached, reached, refused}
-use Rattle.bz_gsym.proofs.symbol.GsymContext.find_sym.Goals as goal
+use Rattle.bz_gsym.proofs.parser.GsymContext.find_sym.Goals as goal
 
 pub returns-in_default-clause-answer : goal.returns-in_default-clause-answer
 returns-in_default-clause-answer c = sym (none_tried c.args.self.now c.args.addr c.in_default.ensures.formed c.args.opts.now c.in_default.ensures.found)
