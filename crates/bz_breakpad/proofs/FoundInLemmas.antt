@@ -78,9 +78,12 @@ found_marked table opts addr given answer is gives =
 pub refused_as_found : (expected : Result Answer Error) (e : Error) → MayGive found_of (λ answer. answer ≡ found_in expected) (Err e) → IsAnswerRefusal e →
     Gives reading expected (Err e)
 refused_as_found expected errors.InvalidInput gives refusal = by expected gives where
+  same : (e : Error) → Err errors.InvalidInput ≡ found_in (Err e) → e ≡ errors.InvalidInput
+  same e gives = cc
+
   by : (expected : Result Answer Error) → Err errors.InvalidInput ≡ found_in expected → expected ≡ Err errors.InvalidInput
   by (Ok (Known s)) gives = cc
   by (Ok (Unknown reason)) gives = cc
-  by (Err e) gives = sym gives
+  by (Err e) gives = ap (λ (refusal : Error). Err refusal) (same e gives)
 refused_as_found expected errors.OutOfMemory gives refusal = tt
 refused_as_found expected _ gives refusal = absurd refusal
