@@ -21,7 +21,7 @@ use Rattle.bz_process.specs.Dispatch.{Test}
 use Rattle.bz_process.specs.Mapped.{asks_process, checked, some_mappings}
 use Rattle.bz_process.specs.Process.{Said, at_address, at_addresses, batched, count_of, followed, remember, unsaid}
 use Rattle.bz_process.specs.Processes.{KeptProcesses, SymbolizesAddress, SymbolizesProcess, caches_of, is_in_process, kept_mappings}
-use Rattle.bz_process.specs.Reads.{HasPath, HavePaths, ignored, is_ignored, left_to_read, perf_path, reads_again, reads_once}
+use Rattle.bz_process.specs.Reads.{CoverMapped, HasPath, HavePaths, ignored, is_ignored, left_to_read, perf_path, reads_again, reads_once}
 use Rattle.bz_process.specs.Remembered.{Remembered}
 use Rattle.bz_process.proofs.EntryLemmas.{mappings_left}
 use Rattle.bz_process.proofs.NobodyLemmas.{step_of_all}
@@ -101,10 +101,6 @@ module _ (asked : Asked) (world : World) (paths : List (List ℕ)) (start : Proc
       rw is (omega (arith, address_reads world asked paths (perf_path recalled) mappings start perf_among item (has mappings refl).0))
   told_reads_at item (Err e) kept opens is has = omega arith
 
--- the paths have the files of these addresses, by the mappings that are told
-abbrev Have : Asked → World → List (List ℕ) → Option (List Mapping) → ProcessCaches → List ℕ → Type 0
-Have asked world paths known kept addrs = (mappings : List Mapping) → (some_mappings asked.pid known world kept).answer ≡ Ok mappings → HavePaths asked paths mappings addrs
-
 module _ {A D R X : Type 0} (files : Ghosts X) (test : Test R) (translates : Translates R) (finds : Finds R) (opts : FindSymOpts) (asked : Asked) (kind : AddressKind)
     (elf elf_now : Cache) (old now : KeptProcesses D R) (before after : X) (world : World) (paths : List (List ℕ)) (seen : in_view (files.worlds before) ≡ Some world) where
   -- the addresses that are refused
@@ -113,7 +109,7 @@ module _ {A D R X : Type 0} (files : Ghosts X) (test : Test R) (translates : Tra
   again_of reading addrs (Ok given) expected comes most = omega (arith, ap refused_in comes)
   again_of reading addrs (Err e) expected comes most = most
 
-  pub batch_bound : (reading : A → List Answer) (addrs : List ℕ) (result : Result A Error) → Have asked world paths (kept_mappings old asked.pid) (caches_of elf old) addrs → SymbolizesProcess files reading test translates finds opts asked kind addrs result elf elf_now old now before after →
+  pub batch_bound : (reading : A → List Answer) (addrs : List ℕ) (result : Result A Error) → CoverMapped asked world paths (kept_mappings old asked.pid) (caches_of elf old) addrs → SymbolizesProcess files reading test translates finds opts asked kind addrs result elf elf_now old now before after →
       files.opens after ≤ files.opens before + (reads_once asked world paths (kept_mappings old asked.pid) (caches_of elf old) + reads_again reading addrs result)
   batch_bound reading addrs result have promised = by_kind (is_in_process kind) refl
     where
@@ -135,7 +131,7 @@ module _ {A D R X : Type 0} (files : Ghosts X) (test : Test R) (translates : Tra
             again_of reading addrs result (asks_process asked (kept_mappings old asked.pid) items world (caches_of elf old)).answer outcome.answer refused,
           )
 
-  pub single_bound : (reading : A → Answer) (addr : ℕ) (result : Result A Error) → Have asked world paths (kept_mappings old asked.pid) (caches_of elf old) (addr ∷ []) → SymbolizesAddress files reading test translates finds opts asked kind addr result elf elf_now old now before after →
+  pub single_bound : (reading : A → Answer) (addr : ℕ) (result : Result A Error) → CoverMapped asked world paths (kept_mappings old asked.pid) (caches_of elf old) (addr ∷ []) → SymbolizesAddress files reading test translates finds opts asked kind addr result elf elf_now old now before after →
       files.opens after ≤ files.opens before + reads_once asked world paths (kept_mappings old asked.pid) (caches_of elf old)
   single_bound reading addr result have promised = by_kind (is_in_process kind) refl
     where

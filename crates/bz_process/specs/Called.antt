@@ -16,7 +16,7 @@ use Rattle.bz_process.specs.Dispatch.{Test}
 use Rattle.bz_process.specs.InView.{CoheresIn, process_in_view}
 use Rattle.bz_process.specs.ProcessAsk.{GivesNone}
 use Rattle.bz_process.specs.Processes.{KeptProcesses, SymbolizesAddress, SymbolizesProcess, caches_of, kept_mappings}
-use Rattle.bz_process.specs.Reads.{reads_once}
+use Rattle.bz_process.specs.Reads.{CoverMapped, reads_once}
 
 -- calls over such files, with a dispatcher and resolvers that may say what these tests allow
 module _ {D R X : Type 0} (files : Ghosts X) (test : D → Test R) (translates : Translates R) (finds : Finds R) where
@@ -89,6 +89,10 @@ module _ {A B Q D R X : Type 0} {files : Ghosts X} {test : D → Test R} {transl
     -- this world is in view before it, and the versions that were kept cohere with it
     pub seen : view_before call ≡ Some world
     pub coheres : CoheresIn world (caches_before call)
+
+  -- these paths have those of the mapped files of its addresses
+  abbrev pub CoverAddresses : World → List (List ℕ) → ProcessCalled files test translates finds A B Q → List ℕ → Type 0
+  CoverAddresses world paths call addrs = CoverMapped call.asked world paths (mappings_before call) (caches_before call) addrs
 
   -- how many files it may read once, where the files that are mapped lie at these paths
   abbrev pub once_read : World → List (List ℕ) → ProcessCalled files test translates finds A B Q → ℕ

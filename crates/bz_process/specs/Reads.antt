@@ -12,6 +12,7 @@ use Rattle.bz_cache.specs.Look.{is_new}
 use Rattle.bz_proc.specs.Maps.{Mapping, File, owner_of}
 use Rattle.bz_process.specs.Asked.{Asked}
 use Rattle.bz_process.specs.Caches.{ProcessCaches}
+use Rattle.bz_process.specs.Mapped.{some_mappings}
 use Rattle.bz_process.specs.Process.{count_of, pid_cmp, remember}
 use Rattle.bz_process.specs.Remembered.{Remembered}
 
@@ -60,3 +61,7 @@ HasPath asked paths mapping = (maps_file symbolic_path : List ℕ) → mapping.n
 -- so is that of each mapping that answers for one of the addresses
 abbrev pub HavePaths : Asked → List (List ℕ) → List Mapping → List ℕ → Type 0
 HavePaths asked paths mappings addrs = AllByRecursion (λ addr. (mapping : Mapping) → owner_of mappings addr ≡ Some mapping → HasPath asked paths mapping) addrs
+
+-- the paths have those of the mapped files of these addresses, whichever mappings are told
+abbrev pub CoverMapped : Asked → World → List (List ℕ) → Option (List Mapping) → ProcessCaches → List ℕ → Type 0
+CoverMapped asked world paths known kept addrs = (mappings : List Mapping) → (some_mappings asked.pid known world kept).answer ≡ Ok mappings → HavePaths asked paths mappings addrs

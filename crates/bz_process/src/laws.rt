@@ -1,6 +1,6 @@
 //! What holds of calls on processes.
 
-ghost use Rattle.std.specs.Prelude.{◌≡◌, ◌↔◌, ◌∷◌, [], ℕ, ◌+◌, true, map, List, Option, Some, Ok, IfOk, Contains};
+ghost use Rattle.std.specs.Prelude.{◌≡◌, ◌↔◌, ◌∷◌, [], ℕ, ◌+◌, true, map, List, Option, Some, IfOk, Contains};
 ghost use Rattle.std.specs.List.{AllByRecursion};
 ghost use Rattle.bz_files.specs.Agreement.{Agree};
 ghost use Rattle.bz_files.specs.World.{World};
@@ -8,14 +8,14 @@ ghost use Rattle.bz_cache.specs.Format.{Comes};
 ghost use Rattle.bz_proc.specs.Maps.{Mapping};
 ghost use Rattle.bz_process.specs.Asked.{Asked};
 ghost use Rattle.bz_process.specs.Caches.{ProcessCaches};
-ghost use Rattle.bz_process.specs.Called.{BatchCalled, GoesByView, ReadsAtMost, SingleCalled, SymbolizesBatch, SymbolizesSingle, answer_in_view, caches_after, caches_before, entry_in_view, mappings_before, once_read, view_before};
+ghost use Rattle.bz_process.specs.Called.{BatchCalled, CoverAddresses, GoesByView, ReadsAtMost, SingleCalled, SymbolizesBatch, SymbolizesSingle, answer_in_view, caches_after, caches_before, entry_in_view, once_read, view_before};
 ghost use Rattle.bz_process.specs.InView.{CoheresIn, process_in_view};
-ghost use Rattle.bz_process.specs.Mapped.{asks_process_at, some_mappings};
+ghost use Rattle.bz_process.specs.Mapped.{asks_process_at};
 ghost use Rattle.bz_process.specs.Process.{unsaid};
 ghost use Rattle.bz_process.specs.ProcessCall.{Change, IsTold, Reaches, after_changes};
 ghost use Rattle.bz_process.specs.Processes.{is_in_process};
 ghost use Rattle.bz_process.specs.Reached.{AreLookedOver, CohereWithAll};
-ghost use Rattle.bz_process.specs.Reads.{HavePaths, reads_again};
+ghost use Rattle.bz_process.specs.Reads.{reads_again};
 ghost use Rattle.bz_process.specs.declared.dispatch.ProcessMemberInfo.{ProcessMemberInfo};
 
 use crate::dispatch::{ProcessDispatch, ProcessMemberInfo};
@@ -66,12 +66,10 @@ pub fn entries_are_in_view<D: ProcessDispatch + Drop, F: Files, A>()
 /// is refused. The paths are any that have those of the mapped files.
 pub fn reads_are_few<D: ProcessDispatch + Drop, F: Files, A>()
     ensures batch { (call : BatchCalled A F.Files D.may_dispatch D.Resolver.TranslateFileOffset D.Resolver.Symbolize) (world : World) (paths : List (List ℕ)) →
-        SymbolizesBatch call → view_before call ≡ Some world →
-        ((mappings : List Mapping) → (some_mappings call.asked.pid (mappings_before call) world (caches_before call)).answer ≡ Ok mappings → HavePaths call.asked paths mappings call.input) →
+        SymbolizesBatch call → view_before call ≡ Some world → CoverAddresses world paths call call.input →
         ReadsAtMost call (once_read world paths call + reads_again call.reading call.input call.result) }
     ensures single { (call : SingleCalled A F.Files D.may_dispatch D.Resolver.TranslateFileOffset D.Resolver.Symbolize) (world : World) (paths : List (List ℕ)) →
-        SymbolizesSingle call → view_before call ≡ Some world →
-        ((mappings : List Mapping) → (some_mappings call.asked.pid (mappings_before call) world (caches_before call)).answer ≡ Ok mappings → HavePaths call.asked paths mappings (call.input ∷ [])) →
+        SymbolizesSingle call → view_before call ≡ Some world → CoverAddresses world paths call (call.input ∷ []) →
         ReadsAtMost call (once_read world paths call) }
 {}
 
