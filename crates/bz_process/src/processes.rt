@@ -10,12 +10,12 @@ ghost use Rattle.bz_process.specs.Mapped.{AsksProcess, AsksProcessAt};
 ghost use Rattle.bz_process.specs.Process.{pid_cmp};
 ghost use Rattle.bz_process.specs.Processes.{SymbolizesAddress, SymbolizesProcess, new_processes};
 
-use crate::answering::{answer_at, answers_at};
+use crate::answering::Answering;
 use crate::dispatch::ProcessDispatch;
 use crate::dispatching::Dispatching;
 use crate::mapped::{Mapped, some_mappings};
 use crate::perf_maps::PerfMaps;
-use crate::query::ProcessQuery;
+use crate::query::{ProcessQuery, Question};
 use bz_base::{Addr, Error, FindSymOpts, Input, Pid, Result, Symbolized};
 use bz_cache::{FileCache, InsertMap};
 use bz_elf::ElfFile;
@@ -29,8 +29,7 @@ mod keeping;
 /// dispatcher with its answers. The ELF files are handed in at each call, so that sources may share them.
 #[derive(Drop)]
 pub struct Processes<D: ProcessDispatch + Drop> {
-    perf_maps: PerfMaps,
-    dispatching: Dispatching<D>,
+    answering: Answering<D>,
     mappings: InsertMap<Pid, Mapped>,
 }
 
@@ -41,9 +40,9 @@ impl<D: ProcessDispatch + Drop> Model for Processes<D> {
 
     ghost coded = { coded_processes D.code D.Resolver.code };
 
-    ghost view = { λ p. record { perf_maps = p.perf_maps.files; ids = p.perf_maps.ids; mappings = p.mappings; dispatcher = p.dispatching.dispatch; answers = p.dispatching.answers } };
+    ghost view = { λ p. record { perf_maps = p.answering.perf_maps.files; ids = p.answering.perf_maps.ids; mappings = p.mappings; dispatcher = p.answering.dispatching.dispatch; answers = p.answering.dispatching.answers } };
 
-    ghost invariant = { λ p. AreWellKept (D.may_dispatch p.dispatching.dispatch) (record { perf_maps = p.perf_maps.files; ids = p.perf_maps.ids; mappings = p.mappings; dispatcher = p.dispatching.dispatch; answers = p.dispatching.answers }) };
+    ghost invariant = { λ p. AreWellKept (D.may_dispatch p.answering.dispatching.dispatch) (record { perf_maps = p.answering.perf_maps.files; ids = p.answering.perf_maps.ids; mappings = p.mappings; dispatcher = p.answering.dispatching.dispatch; answers = p.answering.dispatching.answers }) };
 }
 
 impl<D: ProcessDispatch + Drop> Processes<D> {
@@ -53,13 +52,15 @@ impl<D: ProcessDispatch + Drop> Processes<D> {
     {
         let files = FileCache::builder().enable_auto_reload(reload).build(alloc);
         Processes {
-            perf_maps: PerfMaps {
-                files,
-                ids: InsertMap::new(alloc),
-            },
-            dispatching: Dispatching {
-                dispatch,
-                answers: InsertMap::new(alloc),
+            answering: Answering {
+                perf_maps: PerfMaps {
+                    files,
+                    ids: InsertMap::new(alloc),
+                },
+                dispatching: Dispatching {
+                    dispatch,
+                    answers: InsertMap::new(alloc),
+                },
             },
             mappings: InsertMap::new(alloc),
         }
@@ -83,14 +84,12 @@ impl<D: ProcessDispatch + Drop> Processes<D> {
     {
         match input {
             Input::AbsAddr(addrs) => ask_batch(
-                elf,
-                &mut self.perf_maps,
-                &mut self.dispatching,
+                &mut self.answering,
                 &mut self.mappings,
+                elf,
                 alloc,
                 files,
-                query,
-                opts,
+                &Question { query, opts },
                 addrs,
             ),
             Input::VirtOffset(_) | Input::FileOffset(_) => Err(Error::Unsupported),
@@ -112,14 +111,12 @@ impl<D: ProcessDispatch + Drop> Processes<D> {
     {
         match input {
             Input::AbsAddr(addr) => ask_single(
-                elf,
-                &mut self.perf_maps,
-                &mut self.dispatching,
+                &mut self.answering,
                 &mut self.mappings,
+                elf,
                 alloc,
                 files,
-                query,
-                opts,
+                &Question { query, opts },
                 addr,
             ),
             Input::VirtOffset(_) | Input::FileOffset(_) => Err(Error::Unsupported),
@@ -129,60 +126,36 @@ impl<D: ProcessDispatch + Drop> Processes<D> {
 
 // The answers to addresses by the mappings that are kept, or else by those of the text that lies there.
 fn ask_batch<D: ProcessDispatch + Drop, F: Files>(
-    elf: &mut FileCache<ElfFile>,
-    perf_maps: &mut PerfMaps,
-    dispatching: &mut Dispatching<D>,
+    answering: &mut Answering<D>,
     mappings: &mut InsertMap<Pid, Mapped>,
+    elf: &mut FileCache<ElfFile>,
     alloc: Global,
     files: &mut F,
-    query: &ProcessQuery,
-    opts: &FindSymOpts,
+    question: &Question<'_>,
     addrs: &[Addr],
 ) -> Result<Vec<Symbolized<'static>>>
-    ensures asks { AsksProcess F.Files (λ answers. map reading answers.items) (D.may_dispatch dispatching.old.dispatch) D.Resolver.TranslateFileOffset D.Resolver.Symbolize opts.now (asked_of (F.pid files.old) query.now) (value_at pid_cmp mappings.old query.now.pid) addrs.now result (caches elf.old perf_maps.old) (caches elf.new perf_maps.new) dispatching.old.answers dispatching.new.answers files.old files.new }
-    ensures dispatch { dispatching.new.dispatch ≡ dispatching.old.dispatch }
+    ensures asks { AsksProcess F.Files (λ answers. map reading answers.items) (D.may_dispatch answering.old.dispatching.dispatch) D.Resolver.TranslateFileOffset D.Resolver.Symbolize question.now.opts.now (asked_of (F.pid files.old) question.now.query.now) (value_at pid_cmp mappings.old question.now.query.now.pid) addrs.now result (caches elf.old answering.old.perf_maps) (caches elf.new answering.new.perf_maps) answering.old.dispatching.answers answering.new.dispatching.answers files.old files.new }
+    ensures dispatch { answering.new.dispatching.dispatch ≡ answering.old.dispatching.dispatch }
     ensures mappings { mappings.new ≡ mappings.old }
 {
-    let mapped = some_mappings(mappings, alloc, files, query.pid)?;
-    answers_at(
-        elf,
-        perf_maps,
-        dispatching,
-        alloc,
-        files,
-        query,
-        opts,
-        mapped.mappings(),
-        addrs,
-    )
+    let mapped = some_mappings(mappings, alloc, files, question.query.pid)?;
+    answering.answers_at(elf, alloc, files, question, mapped.mappings(), addrs)
 }
 
 // The same for an address alone.
 fn ask_single<D: ProcessDispatch + Drop, F: Files>(
-    elf: &mut FileCache<ElfFile>,
-    perf_maps: &mut PerfMaps,
-    dispatching: &mut Dispatching<D>,
+    answering: &mut Answering<D>,
     mappings: &mut InsertMap<Pid, Mapped>,
+    elf: &mut FileCache<ElfFile>,
     alloc: Global,
     files: &mut F,
-    query: &ProcessQuery,
-    opts: &FindSymOpts,
+    question: &Question<'_>,
     addr: Addr,
 ) -> Result<Symbolized<'static>>
-    ensures asks { AsksProcessAt F.Files reading (D.may_dispatch dispatching.old.dispatch) D.Resolver.TranslateFileOffset D.Resolver.Symbolize opts.now (asked_of (F.pid files.old) query.now) (value_at pid_cmp mappings.old query.now.pid) addr result (caches elf.old perf_maps.old) (caches elf.new perf_maps.new) dispatching.old.answers dispatching.new.answers files.old files.new }
-    ensures dispatch { dispatching.new.dispatch ≡ dispatching.old.dispatch }
+    ensures asks { AsksProcessAt F.Files reading (D.may_dispatch answering.old.dispatching.dispatch) D.Resolver.TranslateFileOffset D.Resolver.Symbolize question.now.opts.now (asked_of (F.pid files.old) question.now.query.now) (value_at pid_cmp mappings.old question.now.query.now.pid) addr result (caches elf.old answering.old.perf_maps) (caches elf.new answering.new.perf_maps) answering.old.dispatching.answers answering.new.dispatching.answers files.old files.new }
+    ensures dispatch { answering.new.dispatching.dispatch ≡ answering.old.dispatching.dispatch }
     ensures mappings { mappings.new ≡ mappings.old }
 {
-    let mapped = some_mappings(mappings, alloc, files, query.pid)?;
-    answer_at(
-        elf,
-        perf_maps,
-        dispatching,
-        alloc,
-        files,
-        query,
-        opts,
-        mapped.mappings(),
-        addr,
-    )
+    let mapped = some_mappings(mappings, alloc, files, question.query.pid)?;
+    answering.answer_at(elf, alloc, files, question, mapped.mappings(), addr)
 }

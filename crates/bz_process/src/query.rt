@@ -1,6 +1,6 @@
 //! How a process is asked.
 
-use bz_base::Pid;
+use bz_base::{FindSymOpts, Pid};
 
 /// How a process is asked.
 #[derive(Clone, Copy)]
@@ -12,4 +12,13 @@ pub struct ProcessQuery {
     /// Whether mapped files are looked at by the paths that stand for their mappings, which only a
     /// privileged caller may read, and not by their own, at which another file may lie by now.
     pub map_files: bool,
+}
+
+/// What a call asks: of which process and how, and what of each symbol.
+#[derive(Clone, Copy)]
+pub(crate) struct Question<'a> {
+    /// Of which process, and how.
+    pub(crate) query: &'a ProcessQuery,
+    /// What of each symbol.
+    pub(crate) opts: &'a FindSymOpts,
 }

@@ -29,7 +29,7 @@ impl<D: ProcessDispatch + Drop> Processes<D> {
         ensures { CachesProcess F.Files (caching_of (F.pid files.old) request.now) result self.old self.new files.old files.new }
     {
         cache_process(
-            &mut self.perf_maps,
+            &mut self.answering.perf_maps,
             &mut self.mappings,
             alloc,
             files,
@@ -43,7 +43,7 @@ impl<D: ProcessDispatch + Drop> Processes<D> {
         ensures { self.new ≡ without_process pid self.old }
     {
         let _mapped = self.mappings.remove(&pid);
-        self.perf_maps.forget(&pid);
+        self.answering.perf_maps.forget(&pid);
     }
 
     /// Forgets the dispatcher's answers for files with the path, their own or the one that stands for
@@ -51,6 +51,6 @@ impl<D: ProcessDispatch + Drop> Processes<D> {
     pub fn forget_path(&mut self, path: &str)
         ensures { self.new ≡ without_path path.now self.old }
     {
-        self.dispatching.forget(path);
+        self.answering.dispatching.forget(path);
     }
 }

@@ -14,7 +14,7 @@ returns-in-Ok-Some-clause-asks g c own kept = record {
   allowed = (rw c.in-Ok-Some.field-0-is at c.in-Ok-Some.ensures).said;
   faultless = tt;
   some = (refl, refl);
-  step = says g.F.Files (asked_of own c.args.query.now) (mapping_of c.args.entry.now) c.args.addr (name_of c.args.name.now) (Ok (reading c.in-Ok-Some.answer)) (Ok c.in-Ok-Some.answer) (caches c.args.elf.now kept) c.args.files.now refl (λ none. none);
+  step = says g.F.Files (asked_of own c.args.question.now.query.now) (mapping_of c.args.entry.now) c.args.addr (name_of c.args.name.now) (Ok (reading c.in-Ok-Some.answer)) (Ok c.in-Ok-Some.answer) (caches c.args.elf.now kept) c.args.files.now refl (λ none. none);
 }
 
 -- it refused, or the dispatcher did
@@ -24,7 +24,7 @@ returns-in-Err-clause-asks g c own kept = record {
   allowed = unless_same (Option Symbolized) Symbolized c.in-Err.error _ c.in-Err.ensures.said;
   faultless = says_no_fault c.in-Err.error c.in-Err.ensures.faultless;
   some = (refl, refl);
-  step = says_refusal g.F.Files (asked_of own c.args.query.now) (mapping_of c.args.entry.now) c.args.addr (name_of c.args.name.now) c.in-Err.error (caches c.args.elf.now kept) c.args.files.now c.in-Err.ensures.faultless;
+  step = says_refusal g.F.Files (asked_of own c.args.question.now.query.now) (mapping_of c.args.entry.now) c.args.addr (name_of c.args.name.now) c.in-Err.error (caches c.args.elf.now kept) c.args.files.now c.in-Err.ensures.faultless;
 }
 
 -- nobody is in charge
