@@ -1,6 +1,6 @@
 //! What answers addresses by a Breakpad file.
 
-ghost use Rattle.std.specs.Prelude.{◌≡◌, ◌<◌, Some, IfOk, IfErr, OnOk};
+ghost use Rattle.std.specs.Prelude.{◌≡◌, ◌<◌, false, Some, IfOk, IfErr, OnOk};
 ghost use Rattle.bz_base.specs.Lent.{IsLentResolved};
 ghost use Rattle.bz_base.specs.Refusals.{WantsMemory};
 ghost use Rattle.bz_base.specs.Resolution.{MayGive, StartsBefore, found_of};
@@ -15,7 +15,7 @@ ghost use Rattle.bz_breakpad_lines.specs.Table.{Table};
 ghost use Rattle.bz_cache.specs.Format.{Comes, MayFail};
 ghost use Rattle.bz_files.specs.Count.{counted};
 ghost use Rattle.bz_files.specs.Looked.{Faulted, Looked, ReadsOne};
-ghost use Rattle.bz_files.specs.World.{Told, entry_at, in_view};
+ghost use Rattle.bz_files.specs.World.{Told, entry_at, has_file, in_view};
 
 use crate::file::SymbolFile;
 use crate::inspect::{FindAddrOpts, Inspect, SymInfo};
@@ -51,6 +51,7 @@ impl BreakpadResolver {
         ensures path { IfOk result (λ r. r.path ≡ path.now) }
         ensures accepted { IfOk result (λ r. (table : Table) × (table_in r.bytes ≡ Some table) × IsFile r.bytes table) }
         ensures opened { OnOk result (F.opens files.new ≡ counted (F.opens files.old)) }
+        ensures spared { Told (in_view (F.worlds files.old)) (λ world. has_file (entry_at world path.now) ≡ false → F.opens files.new ≡ F.opens files.old) }
         ensures most { ReadsOne F.Files files.old files.new }
         ensures files { Looked F.Files files.old files.new (Faulted result) }
         ensures refusal { IfErr result (MayFail format_test) }
