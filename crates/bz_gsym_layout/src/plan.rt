@@ -1,12 +1,14 @@
 //! What is to be laid out: functions with their rows and the calls that were inlined into them, which
 //! refer to texts and source files by their indexes. Rows and calls, of which there are many, have
-//! indexes of 32 bits.
+//! indexes of 32 bits. Addresses are relative to the module's base, which is the file's base address 0.
 
 /// A source file, by the indexes of its directory and its name among the texts. A file without
 /// directory has the empty text there.
 #[derive(Clone, Copy)]
 pub struct SourceFile {
+    /// The index of the text that names its directory.
     pub dir: usize,
+    /// The index of the text that names it in its directory.
     pub name: usize,
 }
 
@@ -17,6 +19,7 @@ pub struct Row {
     pub addr: u64,
     /// The index of the source file.
     pub source: u32,
+    /// The line in the source file.
     pub line: u32,
 }
 
@@ -40,7 +43,7 @@ pub struct Node {
 /// A function.
 #[derive(Drop)]
 pub struct Function {
-    /// Its address.
+    /// Where its code begins.
     pub start: u64,
     /// How many bytes its code has.
     pub size: u32,
@@ -55,7 +58,9 @@ pub struct Function {
 /// Functions, and what they refer to: texts and source files, each once, where it is first used.
 #[derive(Drop)]
 pub struct Plan<'a> {
+    /// The texts.
     pub texts: Vec<&'a str>,
+    /// The source files.
     pub sources: Vec<SourceFile>,
     /// The functions, in the order of their addresses.
     pub functions: Vec<Function>,
