@@ -12,7 +12,7 @@ use Rattle.std.specs.declared.cmp.Ordering.{Ordering}
 use Rattle.std.specs.declared.cmp.Ordering.TheVariants.{Less, Equal, Greater}
 use Rattle.std.proofs.lemmas.Bool.{and_parts, eq-eqb, eqb-true, true≢false}
 use Rattle.std.proofs.lemmas.List.{length-map, map-append}
-use Rattle.std.proofs.lemmas.Option.{none-some, same_Some, slice_get_within}
+use Rattle.std.proofs.lemmas.Option.{none-some, same_Some, slice_get_within, slice_get-get_or}
 use Rattle.bz_breakpad_lines.specs.Table.{Table}
 use Rattle.bz_convert.proofs.DistinctLemmas.{any_in}
 use Rattle.bz_converting.specs.Listed.{HasIndexes, index_if, with_one}
@@ -22,7 +22,6 @@ use Rattle.bz_converting.specs.declared.sources.Sources.{Sources}
 use Rattle.bz_converting.specs.declared.texts.Texts.{Texts}
 use Rattle.bz_converting.proofs.ListedLemmas.{Grows, firsts_grow, firsts_last, grown_at, grown_length, indexes_more, one_known, one_new}
 use Rattle.bz_gsym_layout.proofs.DistinctLemmas.{Differ, firsts_differ, index_there}
-use Rattle.bz_gsym_layout.proofs.LoopLemmas.{item_there}
 use Rattle.bz_gsym_layout.proofs.NumberingLemmas.{source_same, text_is_same, text_same}
 use Rattle.bz_gsym_layout.specs.Indexed as indexed
 use Rattle.bz_gsym_layout.specs.Indexed.{source_of, text_at}
@@ -81,7 +80,7 @@ texts_differ used t are = subst (Differ bytes_eq) (sym are.listed) (firsts_diffe
 
 -- Source files.
 pub text_found : (texts : List (List ℕ)) (i : ℕ) (text : List ℕ) → slice_get texts i ≡ Some text → text_at texts i ≡ text
-text_found texts i text at = same_Some (text_at texts i) text (sym (item_there texts i [] (slice_get_within texts i text at)) ∙ at)
+text_found texts i text at = same_Some (text_at texts i) text (sym (slice_get-get_or texts i [] (slice_get_within texts i text at)) ∙ at)
 
 pub files_same : (a b : SourceFile) → same_file a b ≡ true → a ≡ b
 files_same a b is =
@@ -93,7 +92,7 @@ files_tied a b = both_tie (nat_cmp a.0 b.0) (nat_cmp a.1 b.1) ∙ ap (λ t. t &&
 
 module _ (texts more : List (List ℕ)) (grows : Grows texts more) where
   text_stays : (i : ℕ) → i < length texts → text_at more i ≡ text_at texts i
-  text_stays i within = text_found more i (text_at texts i) (grown_at texts more grows i (text_at texts i) (item_there texts i [] within))
+  text_stays i within = text_found more i (text_at texts i) (grown_at texts more grows i (text_at texts i) (slice_get-get_or texts i [] within))
 
   -- source files say the same by more texts
   pub files_stay : (files : List SourceFile) → indexed.AreFiles (length texts) files → map (source_of more) files ≡ map (source_of texts) files
@@ -114,8 +113,8 @@ module _ (texts : List (List ℕ)) (differ : Differ bytes_eq texts) where
     by true is true also = refl
     by false is false also = refl
     by true is false also =
-        let at_i = index_there bytes_eq text_is_same texts differ i (text_at texts i) (item_there texts i [] low) in
-        let at_j = index_there bytes_eq text_is_same texts differ j (text_at texts j) (item_there texts j [] high) in
+        let at_i = index_there bytes_eq text_is_same texts differ i (text_at texts i) (slice_get-get_or texts i [] low) in
+        let at_j = index_there bytes_eq text_is_same texts differ j (text_at texts j) (slice_get-get_or texts j [] high) in
         let e : i ≡ j = sym at_i ∙ ap (λ x. index_of bytes_eq x texts) (text_same (text_at texts i) (text_at texts j) is) ∙ at_j in
         absurd (true≢false (sym (eq-eqb i j e) ∙ also))
     by false is true also = absurd (true≢false (sym (ap (λ n. bytes_eq (text_at texts i) (text_at texts n)) (sym (eqb-true i j also)) ∙ text_is_same (text_at texts i)) ∙ is))
@@ -277,8 +276,8 @@ module _ (texts : List (List ℕ)) (sources : List Source) (n : Numbering) (is :
       let all = listed_texts n.texts in
       let f = file_at all n.sources.listed.items i s at in
       let own = is.within i f.0 f.1 in
-      let at_dir : slice_get all f.0.dir ≡ Some s.dir = item_there all f.0.dir [] own.0 ∙ ap (λ (r : Source). Some r.dir) f.2 in
-      let at_name : slice_get all f.0.name ≡ Some s.file = item_there all f.0.name [] own.1 ∙ ap (λ (r : Source). Some r.file) f.2 in
+      let at_dir : slice_get all f.0.dir ≡ Some s.dir = slice_get-get_or all f.0.dir [] own.0 ∙ ap (λ (r : Source). Some r.dir) f.2 in
+      let at_name : slice_get all f.0.name ≡ Some s.file = slice_get-get_or all f.0.name [] own.1 ∙ ap (λ (r : Source). Some r.file) f.2 in
       record {
         texts = subst (λ l. AreTexts l n.texts) (append_assoc texts (s.dir ∷ []) (s.file ∷ []))
             (texts_known (texts ++ s.dir ∷ []) n.texts (texts_known texts n.texts is.texts s.dir f.0.dir at_dir) s.file f.0.name at_name);

@@ -4,7 +4,7 @@ use Rattle.std.specs.Prelude.{slice_index_or}
 use Rattle.std.specs.List.{AllZip, slice_get}
 use Rattle.std.specs.Str.{bytes_eq}
 use Rattle.std.proofs.lemmas.List.{length-map}
-use Rattle.std.proofs.lemmas.Option.{none-some, same_Some, slice_get_within}
+use Rattle.std.proofs.lemmas.Option.{none-some, same_Some, slice_get_within, slice_get-get_or}
 use Rattle.bz_breakpad_function.specs.InOrder.{ordered_functions}
 use Rattle.bz_breakpad_function.specs.Places.{line_at}
 use Rattle.bz_breakpad_lines.specs.Table.{Function, Inlinee, SourceLine, Table}
@@ -21,7 +21,6 @@ use Rattle.bz_converting.proofs.NumberingLemmas.{text_found}
 use Rattle.bz_converting.proofs.OrderLemmas.{laid_order}
 use Rattle.bz_converting.proofs.SoFarLemmas.{SoFar}
 use Rattle.bz_converting.proofs.TreeLemmas.{all_calls, trees_alike}
-use Rattle.bz_gsym_layout.proofs.LoopLemmas.{item_there}
 use Rattle.bz_gsym_layout.specs.InOrder.{AreInOrder, NeverBefore, depth_of}
 use Rattle.bz_gsym_layout.specs.Indexed as indexed
 use Rattle.bz_gsym_layout.specs.Indexed.{IsFunction, IsPlan, call_of, codes_of, row_of, sources_listed, text_at, texts_listed}
@@ -114,7 +113,7 @@ module _ (table : Table) where
 
     module _ (texts : List (List ℕ)) (sources : List Source) (g : Planned) (says : IsFunctionFor table texts sources f g) where
       source_found : (i : ℕ) (s : Source) → slice_get sources i ≡ Some s → slice_index_or sources i no_source ≡ s
-      source_found i s at = same_Some _ s (sym (item_there sources i no_source (slice_get_within sources i s at)) ∙ at)
+      source_found i s at = same_Some _ s (sym (slice_get-get_or sources i no_source (slice_get_within sources i s at)) ∙ at)
 
       row_is : (row : ℕ × SourceLine) (r : Row) → IsRowFor table sources row r → row_of texts sources r ≡ row_in table row
       row_is row r is =
