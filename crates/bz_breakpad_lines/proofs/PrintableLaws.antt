@@ -16,8 +16,9 @@ use Rattle.bz_breakpad_lines.specs.Grammar.Role.{Blank, Is}
 use Rattle.bz_breakpad_lines.specs.Names.{names_in, with_name, with_names}
 use Rattle.bz_breakpad_lines.specs.Printed.{AreAscending, FunctionFits, IsPrintable, file_record, inlinee_one, line_one, module_records, origin_record, public_record}
 use Rattle.bz_breakpad_lines.specs.Records.{TOP, INNER, INLINE, RANGE}
-use Rattle.bz_breakpad_lines.specs.Says.{Sub, file_of, functions_of, inlinees_in, inlinees_of, line_of, module_first, module_of, origin_of, own, public_of, sub_of, table_of, top_of, function_with}
-use Rattle.bz_breakpad_lines.specs.Says.Sub.{Line, Inline, SubOrigin}
+use Rattle.bz_breakpad_lines.specs.Kinds.{InnerRecord, inlinees_in, inner_of, top_of}
+use Rattle.bz_breakpad_lines.specs.Kinds.InnerRecord.{Line, Inline, InnerOrigin}
+use Rattle.bz_breakpad_lines.specs.Says.{file_of, functions_of, inlinees_of, line_of, module_first, module_of, origin_of, inner_records, public_of, table_of, function_with}
 use Rattle.bz_breakpad_lines.specs.Table.{Named, Table}
 use Rattle.bz_breakpad_lines.specs.Walk.{Context, Record, IsBodyOf}
 use Rattle.bz_breakpad_lines.specs.Walk.Context.{Outside, InFunc, InCfi}
@@ -224,10 +225,10 @@ ascending (n ∷ names) up = (all_above n.0 names up.0, ascending names up.1)
 
 -- Functions.
 
-abbrev SubFits : Sub → Type 0
-SubFits (Line l) = RecordFits (OfFunc (line_one l))
-SubFits (Inline is) = AllByRecursion (λ i. RecordFits (OfFunc (inlinee_one i))) is
-SubFits (SubOrigin n) = Unit {0}
+abbrev InnerFits : InnerRecord → Type 0
+InnerFits (Line l) = RecordFits (OfFunc (line_one l))
+InnerFits (Inline is) = AllByRecursion (λ i. RecordFits (OfFunc (inlinee_one i))) is
+InnerFits (InnerOrigin n) = Unit {0}
 
 ranges_fit : (depth call_line call_file origin : ℕ) → depth ≤ greatest → call_line ≤ greatest → call_file ≤ greatest → origin ≤ greatest →
     (ranges : List (Value RANGE)) → AllByRecursion (FormFits RANGE) ranges →
@@ -246,46 +247,46 @@ inlinees_fit v fits =
     let origin = file.1.1 in
     ranges_fit v.0 v.1.0 v.1.1.0 v.1.1.1.0 depth.0 line.0 file.0 origin.0 v.1.1.1.1 origin.1.1
 
-sub_fits : (one : One INNER) → RecordFits (OfFunc one) → SubFits (sub_of one)
-sub_fits (inl line) fits = fits
-sub_fits (inr (inl inline)) fits = inlinees_fit inline fits
-sub_fits (inr (inr (inl origin))) fits = tt
-sub_fits (inr (inr (inr none))) fits = absurd none
+inner_fits : (one : One INNER) → RecordFits (OfFunc one) → InnerFits (inner_of one)
+inner_fits (inl line) fits = fits
+inner_fits (inr (inl inline)) fits = inlinees_fit inline fits
+inner_fits (inr (inr (inl origin))) fits = tt
+inner_fits (inr (inr (inr none))) fits = absurd none
 
-own_fits : (records : List Record) → AllByRecursion RecordFits records → AllByRecursion SubFits (own records)
-own_fits [] fit = tt
-own_fits (Top one ∷ records) fit = tt
-own_fits (OfFunc one ∷ records) fit = (sub_fits one fit.0, own_fits records fit.1)
-own_fits (OfCfi ∷ records) fit = own_fits records fit.1
+inner_records_fit : (records : List Record) → AllByRecursion RecordFits records → AllByRecursion InnerFits (inner_records records)
+inner_records_fit [] fit = tt
+inner_records_fit (Top one ∷ records) fit = tt
+inner_records_fit (OfFunc one ∷ records) fit = (inner_fits one fit.0, inner_records_fit records fit.1)
+inner_records_fit (OfCfi ∷ records) fit = inner_records_fit records fit.1
 
-own_lines : (subs : List Sub) → AllByRecursion SubFits subs → AllByRecursion (λ l. RecordFits (OfFunc (line_one l))) (flat_map line_of subs)
-own_lines [] fit = tt
-own_lines (Line l ∷ subs) fit = (fit.0, own_lines subs fit.1)
-own_lines (Inline is ∷ subs) fit = own_lines subs fit.1
-own_lines (SubOrigin n ∷ subs) fit = own_lines subs fit.1
+inner_lines_fit : (inner : List InnerRecord) → AllByRecursion InnerFits inner → AllByRecursion (λ l. RecordFits (OfFunc (line_one l))) (flat_map line_of inner)
+inner_lines_fit [] fit = tt
+inner_lines_fit (Line l ∷ inner) fit = (fit.0, inner_lines_fit inner fit.1)
+inner_lines_fit (Inline is ∷ inner) fit = inner_lines_fit inner fit.1
+inner_lines_fit (InnerOrigin n ∷ inner) fit = inner_lines_fit inner fit.1
 
-own_inlinees : (subs : List Sub) → AllByRecursion SubFits subs → AllByRecursion (λ i. RecordFits (OfFunc (inlinee_one i))) (flat_map inlinees_of subs)
-own_inlinees [] fit = tt
-own_inlinees (Line l ∷ subs) fit = own_inlinees subs fit.1
-own_inlinees (Inline is ∷ subs) fit =
-    all_append (λ i. RecordFits (OfFunc (inlinee_one i))) is (flat_map inlinees_of subs) fit.0 (own_inlinees subs fit.1)
-own_inlinees (SubOrigin n ∷ subs) fit = own_inlinees subs fit.1
+inner_inlinees_fit : (inner : List InnerRecord) → AllByRecursion InnerFits inner → AllByRecursion (λ i. RecordFits (OfFunc (inlinee_one i))) (flat_map inlinees_of inner)
+inner_inlinees_fit [] fit = tt
+inner_inlinees_fit (Line l ∷ inner) fit = inner_inlinees_fit inner fit.1
+inner_inlinees_fit (Inline is ∷ inner) fit =
+    all_append (λ i. RecordFits (OfFunc (inlinee_one i))) is (flat_map inlinees_of inner) fit.0 (inner_inlinees_fit inner fit.1)
+inner_inlinees_fit (InnerOrigin n ∷ inner) fit = inner_inlinees_fit inner fit.1
 
-function_fits : (one : One TOP) (subs : List Sub) → RecordFits (Top one) → AllByRecursion SubFits subs → AllByRecursion FunctionFits (function_with (top_of one) subs)
-function_fits (inl name) subs fits sub = tt
-function_fits (inr (inl info)) subs fits sub = tt
-function_fits (inr (inr (inl file))) subs fits sub = tt
-function_fits (inr (inr (inr (inl origin)))) subs fits sub = tt
-function_fits (inr (inr (inr (inr (inl symbol))))) subs fits sub = tt
-function_fits (inr (inr (inr (inr (inr (inl func)))))) subs fits sub = (record { func_fits = fits; inlinees_fit = own_inlinees subs sub; lines_fit = own_lines subs sub }, tt)
-function_fits (inr (inr (inr (inr (inr (inr (inl win))))))) subs fits sub = tt
-function_fits (inr (inr (inr (inr (inr (inr (inr cfi))))))) subs fits sub = tt
+function_fits : (one : One TOP) (inner : List InnerRecord) → RecordFits (Top one) → AllByRecursion InnerFits inner → AllByRecursion FunctionFits (function_with (top_of one) inner)
+function_fits (inl name) inner fits sub = tt
+function_fits (inr (inl info)) inner fits sub = tt
+function_fits (inr (inr (inl file))) inner fits sub = tt
+function_fits (inr (inr (inr (inl origin)))) inner fits sub = tt
+function_fits (inr (inr (inr (inr (inl symbol))))) inner fits sub = tt
+function_fits (inr (inr (inr (inr (inr (inl func)))))) inner fits sub = (record { func_fits = fits; inlinees_fit = inner_inlinees_fit inner sub; lines_fit = inner_lines_fit inner sub }, tt)
+function_fits (inr (inr (inr (inr (inr (inr (inl win))))))) inner fits sub = tt
+function_fits (inr (inr (inr (inr (inr (inr (inr cfi))))))) inner fits sub = tt
 
 functions_fit : (records : List Record) → AllByRecursion RecordFits records → AllByRecursion FunctionFits (functions_of records)
 functions_fit [] fit = tt
 functions_fit (Top one ∷ records) fit =
-    all_append FunctionFits (function_with (top_of one) (own records)) (functions_of records)
-    (function_fits one (own records) fit.0 (own_fits records fit.1)) (functions_fit records fit.1)
+    all_append FunctionFits (function_with (top_of one) (inner_records records)) (functions_of records)
+    (function_fits one (inner_records records) fit.0 (inner_records_fit records fit.1)) (functions_fit records fit.1)
 functions_fit (OfFunc one ∷ records) fit = functions_fit records fit.1
 functions_fit (OfCfi ∷ records) fit = functions_fit records fit.1
 

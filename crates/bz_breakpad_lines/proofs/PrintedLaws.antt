@@ -1,5 +1,5 @@
 -- The text of a table is a file that says the table.
-use Rattle.std.proofs.Common.{◌≡◌, ℕ, ◌<◌, inl, List, [], ◌∷◌, ◌++◌, map, length, drop, filter_map, Option, Some, None, refl, sym, ap, subst, ◌∙◌, append-nil, append_assoc, arith, nat_cmp, Greater}
+use Rattle.std.proofs.Common.{◌≡◌, ℕ, ◌<◌, List, [], ◌∷◌, ◌++◌, map, length, drop, filter_map, Option, Some, None, refl, sym, ap, subst, ◌∙◌, append-nil, append_assoc, arith, nat_cmp, Greater}
 use Rattle.std.specs.BTreeMap.{insert_entry}
 use Rattle.std.specs.Cmp.{nat_cmp_is}
 use Rattle.std.specs.List.{AllByRecursion, flat_map}
@@ -10,7 +10,8 @@ use Rattle.bz_breakpad_lines.specs.Names.{names_in, with_names}
 use Rattle.bz_breakpad_lines.specs.Printed.{AreAscending, FunctionFits, IsPrintable, file_record, func_record, function_ones, function_records, inlinee_one, line_one, module_records, or_info, origin_record, printed, public_record, table_records}
 use Rattle.bz_breakpad_lines.specs.Reads.{piece_at, run_at}
 use Rattle.bz_breakpad_lines.specs.Records.{INNER}
-use Rattle.bz_breakpad_lines.specs.Says.{file_of, functions_of, inlinees_of, line_of, module_first, origin_of, own, public_of, sub_of, table_of, with_own}
+use Rattle.bz_breakpad_lines.specs.Kinds.{as_module, inner_of}
+use Rattle.bz_breakpad_lines.specs.Says.{file_of, functions_of, inlinees_of, line_of, module_first, origin_of, inner_records, public_of, table_of, with_inner}
 use Rattle.bz_breakpad_lines.specs.Table.{Function, Inlinee, Named, PublicSymbol, SourceLine, Table}
 use Rattle.bz_breakpad_lines.specs.Walk.{Context, Record}
 use Rattle.bz_breakpad_lines.specs.Walk.Context.{Outside, InFunc}
@@ -36,13 +37,13 @@ func_in f (OfFunc one) is = none-some one (sym (no_inner _) ∙ one_again INNER 
 func_out : (f : Function) → StandsIn Outside (func_record f)
 func_out f r is = is
 
-stand_subs : (ones : List (One INNER)) (rest : List Record) → Stand InFunc rest → Stand InFunc (map OfFunc ones ++ rest)
-stand_subs [] rest stand = stand
-stand_subs (one ∷ ones) rest stand = (refl, stand_subs ones rest stand)
+stand_inner : (ones : List (One INNER)) (rest : List Record) → Stand InFunc rest → Stand InFunc (map OfFunc ones ++ rest)
+stand_inner [] rest stand = stand
+stand_inner (one ∷ ones) rest stand = (refl, stand_inner ones rest stand)
 
 stand_functions : (c : Context) → ((f : Function) → StandsIn c (func_record f)) → (fs : List Function) → Stand c (flat_map function_records fs)
 stand_functions c stands [] = tt
-stand_functions c stands (f ∷ fs) = (stands f, stand_subs (function_ones f) (flat_map function_records fs) (stand_functions InFunc func_in fs))
+stand_functions c stands (f ∷ fs) = (stands f, stand_inner (function_ones f) (flat_map function_records fs) (stand_functions InFunc func_in fs))
 
 module _ {A : Type 0} (g : A → Record) where
   stand_tops : ((a : A) (rest : List Record) → Stand Outside rest → Stand Outside (g a ∷ rest)) → (xs : List A) (rest : List Record) →
@@ -92,13 +93,13 @@ info_stands (r ∷ records) stand = stand
 
 -- No record but the first is a MODULE record.
 
-subs_no_module : (ones : List (One INNER)) (rest : List Record) → AllByRecursion IsNoModule rest → AllByRecursion IsNoModule (map OfFunc ones ++ rest)
-subs_no_module [] rest none = none
-subs_no_module (one ∷ ones) rest none = (refl, subs_no_module ones rest none)
+inner_no_module : (ones : List (One INNER)) (rest : List Record) → AllByRecursion IsNoModule rest → AllByRecursion IsNoModule (map OfFunc ones ++ rest)
+inner_no_module [] rest none = none
+inner_no_module (one ∷ ones) rest none = (refl, inner_no_module ones rest none)
 
 functions_no_module : (fs : List Function) → AllByRecursion IsNoModule (flat_map function_records fs)
 functions_no_module [] = tt
-functions_no_module (f ∷ fs) = (refl, subs_no_module (function_ones f) (flat_map function_records fs) (functions_no_module fs))
+functions_no_module (f ∷ fs) = (refl, inner_no_module (function_ones f) (flat_map function_records fs) (functions_no_module fs))
 
 tops_no_module : {A : Type 0} → (g : A → Record) → ((a : A) → IsNoModule (g a)) → (xs : List A) (rest : List Record) →
     AllByRecursion IsNoModule rest → AllByRecursion IsNoModule (map g xs ++ rest)
@@ -130,29 +131,29 @@ module_again None rest none = no_module_first rest none
 module_again (Some name) rest none = refl
 
 -- a function again
-lines_again : (ls : List SourceLine) → flat_map line_of (map sub_of (map line_one ls)) ≡ ls
+lines_again : (ls : List SourceLine) → flat_map line_of (map inner_of (map line_one ls)) ≡ ls
 lines_again [] = refl
 lines_again (l ∷ ls) = ap (λ more. l ∷ more) (lines_again ls)
 
-lines_after : (is : List Inlinee) (ls : List SourceLine) → flat_map line_of (map sub_of (map inlinee_one is ++ map line_one ls)) ≡ ls
+lines_after : (is : List Inlinee) (ls : List SourceLine) → flat_map line_of (map inner_of (map inlinee_one is ++ map line_one ls)) ≡ ls
 lines_after [] ls = lines_again ls
 lines_after (i ∷ is) ls = lines_after is ls
 
-no_inlinees : (ls : List SourceLine) → flat_map inlinees_of (map sub_of (map line_one ls)) ≡ []
+no_inlinees : (ls : List SourceLine) → flat_map inlinees_of (map inner_of (map line_one ls)) ≡ []
 no_inlinees [] = refl
 no_inlinees (l ∷ ls) = no_inlinees ls
 
-inlinees_again : (is : List Inlinee) (ls : List SourceLine) → flat_map inlinees_of (map sub_of (map inlinee_one is ++ map line_one ls)) ≡ is
+inlinees_again : (is : List Inlinee) (ls : List SourceLine) → flat_map inlinees_of (map inner_of (map inlinee_one is ++ map line_one ls)) ≡ is
 inlinees_again [] ls = no_inlinees ls
 inlinees_again (i ∷ is) ls = ap (λ more. i ∷ more) (inlinees_again is ls)
 
-own_none : (fs : List Function) → own (flat_map function_records fs) ≡ []
-own_none [] = refl
-own_none (f ∷ fs) = refl
+inner_none : (fs : List Function) → inner_records (flat_map function_records fs) ≡ []
+inner_none [] = refl
+inner_none (f ∷ fs) = refl
 
-own_subs : (ones : List (One INNER)) (fs : List Function) → own (map OfFunc ones ++ flat_map function_records fs) ≡ map sub_of ones
-own_subs [] fs = own_none fs
-own_subs (one ∷ ones) fs = ap (λ subs. sub_of one ∷ subs) (own_subs ones fs)
+inner_ones : (ones : List (One INNER)) (fs : List Function) → inner_records (map OfFunc ones ++ flat_map function_records fs) ≡ map inner_of ones
+inner_ones [] fs = inner_none fs
+inner_ones (one ∷ ones) fs = ap (λ inner. inner_of one ∷ inner) (inner_ones ones fs)
 
 functions_past : (ones : List (One INNER)) (rest : List Record) → functions_of (map OfFunc ones ++ rest) ≡ functions_of rest
 functions_past [] rest = refl
@@ -162,7 +163,7 @@ functions_past (one ∷ ones) rest = functions_past ones rest
 abbrev bare : Function → Function
 bare f = record { start = f.start; size = f.size; parameter_size = f.parameter_size; name = f.name; lines = []; inlinees = [] }
 
-function_again : (f : Function) → with_own (bare f) (map sub_of (function_ones f)) ≡ f
+function_again : (f : Function) → with_inner (bare f) (map inner_of (function_ones f)) ≡ f
 function_again f = λ k. record {
   start = f.start;
   size = f.size;
@@ -175,7 +176,7 @@ function_again f = λ k. record {
 functions_again : (fs : List Function) → functions_of (flat_map function_records fs) ≡ fs
 functions_again [] = refl
 functions_again (f ∷ fs) =
-    ap (λ subs. with_own (bare f) subs ∷ functions_of (map OfFunc (function_ones f) ++ flat_map function_records fs)) (own_subs (function_ones f) fs)
+    ap (λ inner. with_inner (bare f) inner ∷ functions_of (map OfFunc (function_ones f) ++ flat_map function_records fs)) (inner_ones (function_ones f) fs)
     ∙ ap (λ g. g ∷ functions_of (map OfFunc (function_ones f) ++ flat_map function_records fs)) (function_again f)
     ∙ ap (λ gs. f ∷ gs) (functions_past (function_ones f) (flat_map function_records fs) ∙ functions_again fs)
 
@@ -196,7 +197,7 @@ module _ {C : Type 0} (h : Record → Option C) (func : (f : Function) → h (fu
 abbrev named : ℕ × List ℕ → Named
 named n = record { id = n.0; name = n.1 }
 
-module_nothing : {C : Type 0} → (h : Record → Option C) → ((name : List ℕ) → h (Top (inl name)) ≡ None) → (m : Option (List ℕ)) (rest : List Record) →
+module_nothing : {C : Type 0} → (h : Record → Option C) → ((name : List ℕ) → h (Top (as_module name)) ≡ None) → (m : Option (List ℕ)) (rest : List Record) →
     filter_map h (module_records m ++ rest) ≡ filter_map h rest
 module_nothing h none None rest = refl
 module_nothing h none (Some name) rest = rw (none name) refl
@@ -353,10 +354,10 @@ abbrev pub after_module : Table → List Record
 after_module t = files_part t
 
 -- a line of another MODULE record of the same name may stand at the front
-pub headed_accepted : (line name : List ℕ) → IsWritten Outside line (Top (inl name)) → (t : Table) → IsPrintable t → t.«module» ≡ Some name →
+pub headed_accepted : (line name : List ℕ) → IsWritten Outside line (Top (as_module name)) → (t : Table) → IsPrintable t → t.«module» ≡ Some name →
     IsFile (flat_map ended (line ∷ map record_text (after_module t))) t
 headed_accepted line name first t is named =
-    let records = Top (inl name) ∷ after_module t in
+    let records = Top (as_module name) ∷ after_module t in
     let P : Option (List ℕ) → Type 0 = λ m. AllByRecursion RecordFits (module_records m ++ after_module t) in
     let fit = (subst P named (records_fit t is)).1 in
     let accepted = lines_accepted (line ∷ map record_text (after_module t)) records (omega arith)

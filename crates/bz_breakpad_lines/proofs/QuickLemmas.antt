@@ -14,6 +14,7 @@ use Rattle.bz_breakpad_lines.specs.Choice.{body_at}
 use Rattle.bz_breakpad_lines.specs.Form.{AllPass, Form, InTurn, Piece, Tell, With, told, Value, Spells}
 use Rattle.bz_breakpad_lines.specs.Form.Form.{End, Many, Name, SepText, ◌·◌}
 use Rattle.bz_breakpad_lines.specs.Form.Piece.{Tag, Opt, Sep, MSep, Gap, Word, Hex, Dec}
+use Rattle.bz_breakpad_lines.specs.Kinds.{as_func, as_inline, as_line}
 use Rattle.bz_breakpad_lines.specs.Line.{line_front, line_in, source_line}
 use Rattle.bz_breakpad_lines.specs.Quick.{AreInTurn, IsAsciiLine, IsFormLine, IsQuick, ended_by}
 use Rattle.bz_breakpad_lines.specs.Reads.{form_at, piece_at, reads, run_at}
@@ -221,11 +222,11 @@ number_solid most value [] rest is = absurd (omega (arith, is.some))
 number_solid most value (b ∷ digits) rest is = (digit_solid b is.digits.0, refl)
 
 -- a line record
-pub quick_line : (text rest : List ℕ) (value : Value LINE) → IsFormLine LINE text value rest → IsQuick InFunc text (OfFunc (inl value)) rest
+pub quick_line : (text rest : List ℕ) (value : Value LINE) → IsFormLine LINE text value rest → IsQuick InFunc text (OfFunc (as_line value)) rest
 quick_line text rest value is =
     let spells = is.spells in
     let begins = number_solid 16 spells.tells spells.front spells.back spells.front_is in
-    quick_form InFunc LINE (OfFunc (inl value)) text rest value is (rw (form_again LINE refl is.line value spells) refl)
+    quick_form InFunc LINE (OfFunc (as_line value)) text rest value is (rw (form_again LINE refl is.line value spells) refl)
     (ap (begins_with is_white) spells.whole ∙ begins.0) (ap is_nothing spells.whole ∙ begins.1)
 
 -- the first line of the text is read as the line record
@@ -247,10 +248,10 @@ unfolding piece_at digits_at
 no_code more = refl
 
 -- an INLINE record
-quick_inline : (text rest : List ℕ) (value : Value INLINE) → IsFormLine INLINE text value rest → IsQuick InFunc text (OfFunc (inr (inl value))) rest
+quick_inline : (text rest : List ℕ) (value : Value INLINE) → IsFormLine INLINE text value rest → IsQuick InFunc text (OfFunc (as_inline value)) rest
 quick_inline text rest value is =
     let begins = tagged (codes "INLINE ") is.line (Gap · Dec · Sep · Dec · Sep · Dec · Sep · Dec · Many RANGE) value is.spells in
-    quick_form InFunc INLINE (OfFunc (inr (inl value))) text rest value is (rw (ap (form_at LINE) begins ∙ no_code is.spells.back, form_again INLINE refl is.line value is.spells) refl)
+    quick_form InFunc INLINE (OfFunc (as_inline value)) text rest value is (rw (ap (form_at LINE) begins ∙ no_code is.spells.back, form_again INLINE refl is.line value is.spells) refl)
     (ap (begins_with is_white) begins) (ap is_nothing begins)
 
 -- a STACK CFI record
@@ -262,7 +263,7 @@ quick_cfi text rest is =
 
 -- with the tag of a FUNC record it is no other one, in no context
 no_other : (c : Context) (more : List ℕ) (value : Value FUNC) → form_at FUNC (codes "FUNC" ++ more) ≡ Some value →
-    body_record c (codes "FUNC" ++ more) ≡ Some (Top (inr (inr (inr (inr (inr (inl value)))))))
+    body_record c (codes "FUNC" ++ more) ≡ Some (Top (as_func value))
 unfolding piece_at digits_at run_at
 no_other Outside more value is = rw is refl
 no_other InFunc more value is = rw is refl
@@ -270,11 +271,11 @@ no_other InCfi more value is = rw is refl
 
 -- a FUNC record
 quick_func : (c : Context) (text rest : List ℕ) (value : Value FUNC) → IsFormLine FUNC text value rest →
-    IsQuick c text (Top (inr (inr (inr (inr (inr (inl value))))))) rest
+    IsQuick c text (Top (as_func value)) rest
 quick_func c text rest value is =
     let begins = tagged (codes "FUNC") is.line (Sep · Opt letter_m · Hex 16 · Sep · Hex 8 · Sep · Hex 8 · Sep · Name) value is.spells in
     let read = no_other c is.spells.back value (ap (form_at FUNC) (sym begins) ∙ form_again FUNC refl is.line value is.spells) in
-    quick_form c FUNC (Top (inr (inr (inr (inr (inr (inl value))))))) text rest value is (ap (body_record c) begins ∙ read) (ap (begins_with is_white) begins) (ap is_nothing begins)
+    quick_form c FUNC (Top (as_func value)) text rest value is (ap (body_record c) begins ∙ read) (ap (begins_with is_white) begins) (ap is_nothing begins)
 
 -- the call and the ranges of an INLINE record
 pub inline_found : (text middle rest : List ℕ) (call : InlineCall) (ranges : List Range) → reads CALL text ≡ Some (call_told call, middle) → 0 < length ranges →

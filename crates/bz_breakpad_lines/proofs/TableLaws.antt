@@ -7,12 +7,12 @@ use Rattle.bz_breakpad_lines.specs.Choice.{One}
 use Rattle.bz_breakpad_lines.specs.Names.{with_names}
 use Rattle.bz_breakpad_lines.specs.Reader.{Reading, nothing_read, listed, functions_read, module_with, begun, publics_with, with_record, table_read}
 use Rattle.bz_breakpad_lines.specs.Records.{TOP, INNER}
-use Rattle.bz_breakpad_lines.specs.Says.{Top, Sub, top_of, sub_of, module_of, file_of, origin_of, public_of, line_of, inlinees_of, own, with_own, function_with, functions_of, module_first, table_of}
-use Rattle.bz_breakpad_lines.specs.Says.Top.{Module, Info, File, Origin, Public, Func, StackWin, StackCfiInit}
+use Rattle.bz_breakpad_lines.specs.Kinds.{TopRecord, InnerRecord, top_of, inner_of}
+use Rattle.bz_breakpad_lines.specs.Kinds.TopRecord.{Module, Info, File, Origin, Public, Func, StackWin, StackCfiInit}
+use Rattle.bz_breakpad_lines.specs.Says.{module_of, file_of, origin_of, public_of, line_of, inlinees_of, inner_records, with_inner, function_with, functions_of, module_first, table_of}
 use Rattle.bz_breakpad_lines.specs.Table.{SourceLine, Inlinee, Function, Named, PublicSymbol}
-use Rattle.bz_breakpad_lines.specs.Walk as Walk
 use Rattle.bz_breakpad_lines.specs.Walk.{Record}
-use Rattle.bz_breakpad_lines.specs.Walk.Record.{OfFunc, OfCfi}
+use Rattle.bz_breakpad_lines.specs.Walk.Record.{Top, OfFunc, OfCfi}
 use Rattle.bz_breakpad_lines.proofs.FoldLaws.{folded, Follow}
 
 -- the function with these lines and inlined calls
@@ -27,32 +27,32 @@ listing f lines inlinees = record {
 }
 
 -- with nothing more under it, a function stays as it is
-own_none : (f : Function) → with_own f [] ≡ f
-own_none f = ap (λ lines. listing f lines (f.inlinees ++ [])) (append-nil f.lines) ∙ ap (listing f f.lines) (append-nil f.inlinees)
+inner_none : (f : Function) → with_inner f [] ≡ f
+inner_none f = ap (λ lines. listing f lines (f.inlinees ++ [])) (append-nil f.lines) ∙ ap (listing f f.lines) (append-nil f.inlinees)
 
 -- records under a function, and then others, are all of them
-own_more : (f : Function) (subs more : List Sub) → with_own (with_own f subs) more ≡ with_own f (subs ++ more)
-own_more f subs more =
-    let lines : (f.lines ++ flat_map line_of subs) ++ flat_map line_of more ≡ f.lines ++ flat_map line_of (subs ++ more)
-    = append_assoc f.lines (flat_map line_of subs) (flat_map line_of more) ∙ ap (λ ls. f.lines ++ ls) (sym (flat_map-append line_of subs more)) in
-    let inlinees : (f.inlinees ++ flat_map inlinees_of subs) ++ flat_map inlinees_of more ≡ f.inlinees ++ flat_map inlinees_of (subs ++ more)
-    = append_assoc f.inlinees (flat_map inlinees_of subs) (flat_map inlinees_of more)
-    ∙ ap (λ ls. f.inlinees ++ ls) (sym (flat_map-append inlinees_of subs more)) in
-    ap (λ ls. listing f ls ((f.inlinees ++ flat_map inlinees_of subs) ++ flat_map inlinees_of more)) lines
-    ∙ ap (listing f (f.lines ++ flat_map line_of (subs ++ more))) inlinees
+inner_more : (f : Function) (inner more : List InnerRecord) → with_inner (with_inner f inner) more ≡ with_inner f (inner ++ more)
+inner_more f inner more =
+    let lines : (f.lines ++ flat_map line_of inner) ++ flat_map line_of more ≡ f.lines ++ flat_map line_of (inner ++ more)
+    = append_assoc f.lines (flat_map line_of inner) (flat_map line_of more) ∙ ap (λ ls. f.lines ++ ls) (sym (flat_map-append line_of inner more)) in
+    let inlinees : (f.inlinees ++ flat_map inlinees_of inner) ++ flat_map inlinees_of more ≡ f.inlinees ++ flat_map inlinees_of (inner ++ more)
+    = append_assoc f.inlinees (flat_map inlinees_of inner) (flat_map inlinees_of more)
+    ∙ ap (λ ls. f.inlinees ++ ls) (sym (flat_map-append inlinees_of inner more)) in
+    ap (λ ls. listing f ls ((f.inlinees ++ flat_map inlinees_of inner) ++ flat_map inlinees_of more)) lines
+    ∙ ap (listing f (f.lines ++ flat_map line_of (inner ++ more))) inlinees
 
 -- the functions of the records, of which the first may stand under a function
 abbrev functions_after : Option Function → List Record → List Function
 functions_after None records = functions_of records
-functions_after (Some f) records = with_own f (own records) ∷ functions_of records
+functions_after (Some f) records = with_inner f (inner_records records) ∷ functions_of records
 
 -- with no more records, the function that was begun is all
 after_none : (current : Option Function) → functions_after current [] ≡ listed current
 after_none None = refl
-after_none (Some f) = ap (λ g. g ∷ []) (own_none f)
+after_none (Some f) = ap (λ g. g ∷ []) (inner_none f)
 
 -- a record by itself ends the function before it, and may begin one
-after_top : (t : Top) (records : List Record) → functions_after (begun t) records ≡ function_with t (own records) ++ functions_of records
+after_top : (t : TopRecord) (records : List Record) → functions_after (begun t) records ≡ function_with t (inner_records records) ++ functions_of records
 after_top (Module name) records = refl
 after_top Info records = refl
 after_top (File file) records = refl
@@ -65,17 +65,17 @@ after_top StackCfiInit records = refl
 module _ (one : One TOP) (records : List Record) where
   -- what a record by itself does with the function before it
   top_more : (current : Option Function) →
-      listed current ++ functions_after (begun (top_of one)) records ≡ functions_after current (Walk.Record.Top one ∷ records)
+      listed current ++ functions_after (begun (top_of one)) records ≡ functions_after current (Top one ∷ records)
   top_more None = after_top (top_of one) records
   top_more (Some f) =
       ap (λ fs. f ∷ fs) (after_top (top_of one) records)
-      ∙ ap (λ g. g ∷ (function_with (top_of one) (own records) ++ functions_of records)) (sym (own_none f))
+      ∙ ap (λ g. g ∷ (function_with (top_of one) (inner_records records) ++ functions_of records)) (sym (inner_none f))
 
 -- a record under a function goes into it
 func_more : (one : One INNER) (records : List Record) (current : Option Function) →
-    functions_after (option_map (λ f. with_own f (sub_of one ∷ [])) current) records ≡ functions_after current (OfFunc one ∷ records)
+    functions_after (option_map (λ f. with_inner f (inner_of one ∷ [])) current) records ≡ functions_after current (OfFunc one ∷ records)
 func_more one records None = refl
-func_more one records (Some f) = ap (λ g. g ∷ functions_of records) (own_more f (sub_of one ∷ []) (own records))
+func_more one records (Some f) = ap (λ g. g ∷ functions_of records) (inner_more f (inner_of one ∷ []) (inner_records records))
 
 -- a STACK CFI record goes into no function
 cfi_more : (records : List Record) (current : Option Function) → functions_after current records ≡ functions_after current (OfCfi ∷ records)
@@ -86,8 +86,8 @@ cfi_more records (Some f) = refl
 folded_functions : (records : List Record) (reading : Reading) →
     functions_read (folded reading records) ≡ reading.closed ++ functions_after reading.current records
 folded_functions [] reading = ap (λ fs. reading.closed ++ fs) (sym (after_none reading.current))
-folded_functions (Walk.Record.Top one ∷ records) reading =
-    folded_functions records (with_record reading (Walk.Record.Top one))
+folded_functions (Top one ∷ records) reading =
+    folded_functions records (with_record reading (Top one))
     ∙ append_assoc reading.closed (listed reading.current) (functions_after (begun (top_of one)) records)
     ∙ ap (λ fs. reading.closed ++ fs) (top_more one records reading.current)
 folded_functions (OfFunc one ∷ records) reading =

@@ -3,6 +3,7 @@ pub mod Calls
 pub mod Choice
 pub mod Form
 pub mod Grammar
+pub mod Kinds
 pub mod Line
 pub mod LineStarts
 pub mod Names

@@ -1,9 +1,9 @@
 -- The plainest text of a table: its module, its names by ascending ids, its PUBLIC records, and its functions, each with its
 -- inlined calls and its lines.
 use Rattle.std.specs.Prelude.{ℕ, ◌<◌, List, [], ◌∷◌, ◌++◌, map, flat_map, Option, Some, None}
-use mathlib.Core.Logic.{inl, inr}
 use Rattle.std.specs.List.{AllByRecursion}
 use Rattle.bz_breakpad_lines.specs.Choice.{One}
+use Rattle.bz_breakpad_lines.specs.Kinds.{as_module, as_info, as_file, as_origin, as_public, as_func, as_line, as_inline}
 use Rattle.bz_breakpad_lines.specs.Records.{INNER}
 use Rattle.bz_breakpad_lines.specs.Table.{SourceLine, Inlinee, Function, PublicSymbol, Table}
 use Rattle.bz_breakpad_lines.specs.Walk.{Record}
@@ -11,30 +11,30 @@ use Rattle.bz_breakpad_lines.specs.Walk.Record.{Top, OfFunc}
 use Rattle.bz_breakpad_lines.specs.Written.{RecordFits, records_text}
 
 abbrev pub info_record : Record
-info_record = Top (inr (inl tt))
+info_record = Top as_info
 
 abbrev pub module_records : Option (List ℕ) → List Record
 module_records None = []
-module_records (Some name) = Top (inl name) ∷ []
+module_records (Some name) = Top (as_module name) ∷ []
 
 abbrev pub file_record : ℕ × List ℕ → Record
-file_record named = Top (inr (inr (inl named)))
+file_record named = Top (as_file named)
 
 abbrev pub origin_record : ℕ × List ℕ → Record
-origin_record named = Top (inr (inr (inr (inl named))))
+origin_record named = Top (as_origin named)
 
 abbrev pub public_record : PublicSymbol → Record
-public_record p = Top (inr (inr (inr (inr (inl (p.start, (p.parameter_size, p.name)))))))
+public_record p = Top (as_public (p.start, (p.parameter_size, p.name)))
 
 abbrev pub func_record : Function → Record
-func_record f = Top (inr (inr (inr (inr (inr (inl (f.start, (f.size, (f.parameter_size, f.name)))))))))
+func_record f = Top (as_func (f.start, (f.size, (f.parameter_size, f.name))))
 
 -- an INLINE record of one range
 abbrev pub inlinee_one : Inlinee → One INNER
-inlinee_one i = inr (inl (i.depth, (i.call_line, (i.call_file, (i.origin, (i.start, (i.size, tt)) ∷ [])))))
+inlinee_one i = as_inline (i.depth, (i.call_line, (i.call_file, (i.origin, (i.start, (i.size, tt)) ∷ []))))
 
 abbrev pub line_one : SourceLine → One INNER
-line_one l = inl (l.start, (l.size, (l.line, (l.file, tt))))
+line_one l = as_line (l.start, (l.size, (l.line, (l.file, tt))))
 
 -- the inlined calls and lines of a function
 abbrev pub function_ones : Function → List (One INNER)

@@ -4,14 +4,14 @@ use Rattle.std.specs.Prelude.{ℕ, ◌+◌, Bool, false, ◌&&◌, nat_lt, List,
 use Rattle.bz_base.specs.Line.{ended_lines}
 use Rattle.bz_breakpad_lines.specs.Byte.{is_nothing}
 use Rattle.bz_breakpad_lines.specs.Reads.{◌>>=◌}
-use Rattle.bz_breakpad_lines.specs.Says.{Top, top_of, sub_of, module_of, file_of, origin_of, public_of, with_own}
-use Rattle.bz_breakpad_lines.specs.Says.Top.{Func}
+use Rattle.bz_breakpad_lines.specs.Kinds.{TopRecord, top_of, inner_of}
+use Rattle.bz_breakpad_lines.specs.Kinds.TopRecord.{Func}
+use Rattle.bz_breakpad_lines.specs.Says.{module_of, file_of, origin_of, public_of, with_inner}
 use Rattle.bz_breakpad_lines.specs.Names.{with_names}
 use Rattle.bz_breakpad_lines.specs.Table.{Function, PublicSymbol, Table}
-use Rattle.bz_breakpad_lines.specs.Walk as Walk
 use Rattle.bz_breakpad_lines.specs.Walk.{Context, Record, context_after, white_allowed_after, record_at, after_white}
 use Rattle.bz_breakpad_lines.specs.Walk.Context.{Outside}
-use Rattle.bz_breakpad_lines.specs.Walk.Record.{OfFunc, OfCfi}
+use Rattle.bz_breakpad_lines.specs.Walk.Record.{Top, OfFunc, OfCfi}
 
 -- what has been read: the functions whose records are at their end, the one whose records are being read, the other
 -- records, and how many records there were
@@ -41,17 +41,17 @@ module_with «module» (Some name) = Some name
 
 -- a record by itself ends the function before it
 abbrev pub closed_with : Reading → Record → List Function
-closed_with reading (Walk.Record.Top one) = functions_read reading
+closed_with reading (Top one) = functions_read reading
 closed_with reading (OfFunc one) = reading.closed
 closed_with reading OfCfi = reading.closed
 
-abbrev pub begun : Top → Option Function
+abbrev pub begun : TopRecord → Option Function
 begun (Func f) = Some f
 begun _ = None
 
 abbrev pub current_with : Option Function → Record → Option Function
-current_with current (Walk.Record.Top one) = begun (top_of one)
-current_with current (OfFunc one) = option_map (λ f. with_own f (sub_of one ∷ [])) current
+current_with current (Top one) = begun (top_of one)
+current_with current (OfFunc one) = option_map (λ f. with_inner f (inner_of one ∷ [])) current
 current_with current OfCfi = current
 
 abbrev pub publics_with : List PublicSymbol → Option PublicSymbol → List PublicSymbol

@@ -7,9 +7,8 @@ use Rattle.bz_breakpad_lines.specs.declared.record.InlineCall.{InlineCall}
 use Rattle.bz_breakpad_lines.specs.Calls.{call_in}
 use Rattle.bz_breakpad_lines.specs.Choice.{One}
 use Rattle.bz_breakpad_lines.specs.Line.{EndsWith, line_in, source_line}
-use Rattle.bz_breakpad_lines.specs.Says.{function_in}
+use Rattle.bz_breakpad_lines.specs.Kinds.{as_module, as_info, as_file, as_origin, as_public, as_func, as_stack_win, as_stack_cfi_init, as_line, as_inline, as_inner_origin, function_in}
 use Rattle.bz_breakpad_lines.specs.Table.{Function, Inlinee, PublicSymbol}
-use mathlib.Core.Logic.{inl, inr}
 use Rattle.bz_breakpad_lines.specs.declared.record.PublicLine.{PublicLine}
 use Rattle.bz_breakpad_lines.specs.declared.record.InnerLine.{InnerLine}
 use Rattle.bz_breakpad_lines.specs.declared.record.InnerLine.TheVariants as inners
@@ -85,20 +84,20 @@ abbrev pub public_symbol : PublicLine → PublicSymbol
 public_symbol p = record { start = p.addr; parameter_size = p.parameter_size; name = p.name.now }
 
 abbrev pub top_told : TopLine → One TOP
-top_told (tops.Module name) = inl name.now
-top_told tops.Info = inr (inl tt)
-top_told (tops.File id path) = inr (inr (inl (id, path.now)))
-top_told (tops.InlineOrigin id name) = inr (inr (inr (inl (id, name.now))))
-top_told (tops.Public p) = inr (inr (inr (inr (inl (public_told p)))))
-top_told (tops.Func f) = inr (inr (inr (inr (inr (inl (func_told f))))))
-top_told tops.StackWin = inr (inr (inr (inr (inr (inr (inl tt))))))
-top_told tops.StackCfiInit = inr (inr (inr (inr (inr (inr (inr (inl tt)))))))
+top_told (tops.Module name) = as_module name.now
+top_told tops.Info = as_info
+top_told (tops.File id path) = as_file (id, path.now)
+top_told (tops.InlineOrigin id name) = as_origin (id, name.now)
+top_told (tops.Public p) = as_public (public_told p)
+top_told (tops.Func f) = as_func (func_told f)
+top_told tops.StackWin = as_stack_win
+top_told tops.StackCfiInit = as_stack_cfi_init
 
 -- the ranges of an INLINE record stand beside it
 abbrev pub inner_told : InnerLine → List Range → One INNER
-inner_told (inners.Code l) ranges = inl (line_told l)
-inner_told (inners.Inline call) ranges = inr (inl (inline_told call ranges))
-inner_told (inners.Origin id name) ranges = inr (inr (inl (id, name.now)))
+inner_told (inners.Code l) ranges = as_line (line_told l)
+inner_told (inners.Inline call) ranges = as_inline (inline_told call ranges)
+inner_told (inners.Origin id name) ranges = as_inner_origin (id, name.now)
 
 abbrev pub context_told : Context → Walk.Context
 context_told contexts.Outside = Walk.Context.Outside

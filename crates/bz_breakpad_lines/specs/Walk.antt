@@ -1,12 +1,13 @@
 -- The walk over a file's lines: what a line is depends on the record before it.
 use Rattle.std.specs.Prelude.{◌≡◌, ◌↔◌, ℕ, Bool, true, false, ◌&&◌, ◌⊎◌, List, [], ◌∷◌, ◌++◌, drop, Option, Some, None, option_map, if◌then◌else◌}
-use mathlib.Core.Logic.{inl, inr}
 use Rattle.std.specs.List.{prefix_len}
 use Rattle.bz_base.specs.Byte.{begins_with}
 use Rattle.bz_breakpad_lines.specs.Byte.{is_white, is_nothing}
 use Rattle.bz_breakpad_lines.specs.Form.{AllPass, Spells}
 use Rattle.bz_breakpad_lines.specs.Reads.{◌>>=◌, form_at}
 use Rattle.bz_breakpad_lines.specs.Choice.{One, SpellsOne, one_at, IsBody, body_at}
+use Rattle.bz_breakpad_lines.specs.Kinds.{TopRecord, top_of}
+use Rattle.bz_breakpad_lines.specs.Kinds.TopRecord.{Func, StackCfiInit}
 use Rattle.bz_breakpad_lines.specs.Records.{TOP, INNER, STACK_CFI}
 
 -- the record under which a line stands
@@ -21,11 +22,14 @@ pub data Record : Type 0 where
   OfFunc : One INNER → Record  -- a line of a FUNC record
   OfCfi : Record  -- a line of a STACK CFI INIT record
 
--- the context that a record sets that stands by itself
+-- the context of the lines under a record that stands by itself
+abbrev pub context_under : TopRecord → Context
+context_under (Func f) = InFunc
+context_under StackCfiInit = InCfi
+context_under _ = Outside
+
 abbrev pub context_of : One TOP → Context
-context_of (inr (inr (inr (inr (inr (inl func)))))) = InFunc
-context_of (inr (inr (inr (inr (inr (inr (inr (inl cfi)))))))) = InCfi
-context_of _ = Outside
+context_of one = context_under (top_of one)
 
 -- the context of the line after the record
 abbrev pub context_after : Record → Context

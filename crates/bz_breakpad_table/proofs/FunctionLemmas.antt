@@ -8,8 +8,9 @@ use Rattle.bz_base.proofs.ViewLemmas.{table_seen}
 use Rattle.bz_breakpad_table.specs.CallRanges.{call_start}
 use Rattle.bz_breakpad_table.specs.Kept.{AreCallsAt, AreEndedInOrder, AreNested, IsNested, kept_functions, IsLonger, IsPart, LinesFit, LinesFitSoFar, FunctionFits, FunctionsSoFar, kept_call, kept_lines, kept_function, current_function, records_of, records_so_far}
 use Rattle.bz_breakpad_lines.specs.Reader.{listed}
-use Rattle.bz_breakpad_lines.specs.Says.{Sub, with_own, line_of, inlinees_in, inlinees_of}
-use Rattle.bz_breakpad_lines.specs.Says.Sub.{Line}
+use Rattle.bz_breakpad_lines.specs.Kinds.{InnerRecord, inlinees_in}
+use Rattle.bz_breakpad_lines.specs.Kinds.InnerRecord.{Line}
+use Rattle.bz_breakpad_lines.specs.Says.{with_inner, line_of, inlinees_of}
 use Rattle.bz_breakpad_lines.specs.Table.{Function, Inlinee, SourceLine}
 use Rattle.bz_breakpad_lines.specs.Told.{inline_told, inlinee_told, inlinees_told}
 use Rattle.bz_breakpad_table.specs.declared.functions.FunctionsReading.{FunctionsReading}
@@ -67,25 +68,25 @@ nested_more (g ∷ functions) [] f k are is = absurd are
 nested_more (g ∷ functions) (j ∷ kept) f k are is = (are.0, nested_more functions kept f k are.1 is)
 
 -- with more line records and inlined calls under the function whose records are being read
-module _ (bytes : List ℕ) (old new : FunctionsReading) (subs : List Sub) (table_same : new.table ≡ old.table) (current_same : new.current ≡ old.current)
+module _ (bytes : List ℕ) (old new : FunctionsReading) (subs : List InnerRecord) (table_same : new.table ≡ old.table) (current_same : new.current ≡ old.current)
     (fits : LinesFitSoFar bytes new.listed.items new.lines)
     (says_lines : records_so_far bytes new.listed.items new.lines ≡ records_so_far bytes old.listed.items old.lines ++ flat_map line_of subs)
     (says_calls : map (kept_call bytes) new.calls.items ≡ map (kept_call bytes) old.calls.items ++ flat_map inlinees_of subs) where
   current_more : (f : KeptFunction) →
-      current_function bytes new.listed.items new.lines new.calls.items f ≡ with_own (current_function bytes old.listed.items old.lines old.calls.items f) subs
+      current_function bytes new.listed.items new.lines new.calls.items f ≡ with_inner (current_function bytes old.listed.items old.lines old.calls.items f) subs
   current_more f = rw (says_lines, says_calls) refl
 
   currents_more : (o : Option KeptFunction) →
       option_map (current_function bytes new.listed.items new.lines new.calls.items) o
-      ≡ option_map (λ f. with_own f subs) (option_map (current_function bytes old.listed.items old.lines old.calls.items) o)
+      ≡ option_map (λ f. with_inner f subs) (option_map (current_function bytes old.listed.items old.lines old.calls.items) o)
   currents_more None = refl
   currents_more (Some f) = ap (λ g. Some g) (current_more f)
 
   pub more_so_far : (closed_functions : List Function) (current_is : Option Function) →
-      FunctionsSoFar bytes old closed_functions current_is → FunctionsSoFar bytes new closed_functions (option_map (λ f. with_own f subs) current_is)
+      FunctionsSoFar bytes old closed_functions current_is → FunctionsSoFar bytes new closed_functions (option_map (λ f. with_inner f subs) current_is)
   more_so_far closed_functions current_is so_far = record {
     closed_are = rw table_same so_far.closed_are;
-    current_is = rw current_same (currents_more old.current ∙ ap (option_map (λ f. with_own f subs)) so_far.current_is);
+    current_is = rw current_same (currents_more old.current ∙ ap (option_map (λ f. with_inner f subs)) so_far.current_is);
     closed_fit = rw table_same so_far.closed_fit;
     current_fits = rw current_same so_far.current_fits;
     lines_fit = fits;
@@ -95,16 +96,16 @@ module _ (bytes : List ℕ) (old new : FunctionsReading) (subs : List Sub) (tabl
 pub longer_so_far : (bytes : List ℕ) (old new : FunctionsReading) (line : SourceLine) → new.table ≡ old.table → new.calls.items ≡ old.calls.items →
     new.current ≡ old.current → IsLonger bytes old.listed.items new.listed.items old.lines new.lines line →
     (closed_functions : List Function) (current_is : Option Function) →
-    FunctionsSoFar bytes old closed_functions current_is → FunctionsSoFar bytes new closed_functions (option_map (λ f. with_own f (Line line ∷ [])) current_is)
+    FunctionsSoFar bytes old closed_functions current_is → FunctionsSoFar bytes new closed_functions (option_map (λ f. with_inner f (Line line ∷ [])) current_is)
 longer_so_far bytes old new line table calls current longer =
     more_so_far bytes old new (Line line ∷ []) table current longer.fits longer.are (ap (map (kept_call bytes)) calls ∙ sym (append-nil (map (kept_call bytes) old.calls.items)))
 
 -- the same line records still
-pub same_so_far : (bytes : List ℕ) (old new : FunctionsReading) (subs : List Sub) →
+pub same_so_far : (bytes : List ℕ) (old new : FunctionsReading) (subs : List InnerRecord) →
     new.table ≡ old.table → new.listed.items ≡ old.listed.items → new.lines ≡ old.lines → new.current ≡ old.current → flat_map line_of subs ≡ [] →
     map (kept_call bytes) new.calls.items ≡ map (kept_call bytes) old.calls.items ++ flat_map inlinees_of subs →
     (closed_functions : List Function) (current_is : Option Function) →
-    FunctionsSoFar bytes old closed_functions current_is → FunctionsSoFar bytes new closed_functions (option_map (λ f. with_own f subs) current_is)
+    FunctionsSoFar bytes old closed_functions current_is → FunctionsSoFar bytes new closed_functions (option_map (λ f. with_inner f subs) current_is)
 same_so_far bytes old new subs table keys lines current no_lines says_calls closed_functions current_is so_far =
     more_so_far bytes old new subs table current (rw (keys, lines) so_far.lines_fit)
     (rw (keys, lines, no_lines) (sym (append-nil (records_so_far bytes old.listed.items old.lines)))) says_calls closed_functions current_is so_far

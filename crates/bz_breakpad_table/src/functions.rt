@@ -5,8 +5,8 @@ ghost use Rattle.bz_breakpad_lines.specs.Calls.{call_in};
 ghost use Rattle.bz_breakpad_lines.specs.Line.{line_in, source_line};
 ghost use Rattle.bz_breakpad_lines.specs.QuickLine.{IsQuickLine};
 ghost use Rattle.bz_breakpad_lines.specs.Reader.{listed};
-ghost use Rattle.bz_breakpad_lines.specs.Says.{with_own};
-ghost use Rattle.bz_breakpad_lines.specs.Says.Sub.{Inline, Line};
+ghost use Rattle.bz_breakpad_lines.specs.Kinds.InnerRecord.{Inline, Line};
+ghost use Rattle.bz_breakpad_lines.specs.Says.{with_inner};
 ghost use Rattle.bz_breakpad_lines.specs.Table.{Function, SourceLine};
 ghost use Rattle.bz_breakpad_lines.specs.Told.{call_told, function_told, inlinees_told};
 ghost use Rattle.bz_breakpad_lines.specs.declared.start_text.StartText.{StartText};
@@ -107,7 +107,7 @@ impl FunctionsReading {
         requires { place + line.len ≤ length bytes.now }
         ensures { OnOk result ((closed : List Function) (current : Option Function) (rest : List ℕ) (is : IsQuickLine rest line) →
             drop place bytes.now ≡ rest → FunctionsSoFar bytes.now self.old closed current →
-            FunctionsSoFar bytes.now self.new closed (option_map (λ f. with_own f (Line (source_line is.value) ∷ [])) current)) }
+            FunctionsSoFar bytes.now self.new closed (option_map (λ f. with_inner f (Line (source_line is.value) ∷ [])) current)) }
     {
         let part = Part::new(place, place + line.len)?;
         match self.lines.run_with(part, line.start) {
@@ -122,7 +122,7 @@ impl FunctionsReading {
     pub fn list(&mut self, bytes: &[u8], place: usize) -> Result<(), AllocError>
         ensures { OnOk result ((closed : List Function) (current : Option Function) (line : SourceLine) → line_in (drop place bytes.now) ≡ Some line →
             FunctionsSoFar bytes.now self.old closed current →
-            FunctionsSoFar bytes.now self.new closed (option_map (λ f. with_own f (Line line ∷ [])) current)) }
+            FunctionsSoFar bytes.now self.new closed (option_map (λ f. with_inner f (Line line ∷ [])) current)) }
     {
         list_with(self.lines, &mut self.listed, bytes, place)?;
         self.lines = LinesSoFar::Listed;
@@ -138,7 +138,7 @@ impl FunctionsReading {
     ) -> Result<(), AllocError>
         ensures { OnOk result ((bytes : List ℕ) (closed : List Function) (current : Option Function) → call_in (drop place bytes) ≡ Some (call_told call.now) →
             FunctionsSoFar bytes self.old closed current →
-            FunctionsSoFar bytes self.new closed (option_map (λ f. with_own f (Inline (inlinees_told call.now ranges.now) ∷ [])) current)) }
+            FunctionsSoFar bytes self.new closed (option_map (λ f. with_inner f (Inline (inlinees_told call.now ranges.now) ∷ [])) current)) }
     {
         keep_ranges(&mut self.calls, call.depth, ranges, place)?;
         Ok(())

@@ -2,7 +2,7 @@ use Rattle.std.proofs.Common.{[], ◌∷◌, ◌++◌, map, refl, sym, ap, appen
 use Rattle.std.proofs.lemmas.List.{map-append}
 use Rattle.bz_breakpad_table.specs.CallRanges.{range_kept}
 use Rattle.bz_breakpad_table.specs.Kept.{kept_call}
-use Rattle.bz_breakpad_lines.specs.Says.Sub.{Inline}
+use Rattle.bz_breakpad_lines.specs.Kinds.InnerRecord.{Inline}
 use Rattle.bz_breakpad_lines.specs.Told.{inlinees_told}
 use Rattle.bz_breakpad_table.proofs.CallLemmas.{ranges_say}
 use Rattle.bz_breakpad_table.proofs.FunctionLemmas.{same_so_far}

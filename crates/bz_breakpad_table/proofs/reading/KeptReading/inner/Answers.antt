@@ -1,7 +1,7 @@
 use Rattle.std.proofs.Common.{[], ◌∷◌, map, refl, sym, append-nil}
 use Rattle.bz_breakpad_table.specs.Kept.{kept_call}
 use Rattle.bz_breakpad_lines.specs.Line.{source_line}
-use Rattle.bz_breakpad_lines.specs.Says.Sub.{SubOrigin}
+use Rattle.bz_breakpad_lines.specs.Kinds.InnerRecord.{InnerOrigin}
 use Rattle.bz_breakpad_lines.specs.Told.{line_told}
 use Rattle.bz_breakpad_table.proofs.FunctionLemmas.{told_said, same_so_far}
 use Rattle.bz_breakpad_table.proofs.KeptLemmas.{names_so_far}
@@ -34,11 +34,11 @@ returns-in_ok-insert-in-Origin c body reading stands end inner is =
     let bytes = c.args.bytes.now in
     let functions = c.args.self.now.functions in
     let named = c.in_ok-name_part-in-Origin.ensures bytes body c.args.start stands end (rw c.in-Origin.is at inner) in
-    let sub = SubOrigin (record { id = c.in-Origin.id; name = c.in-Origin.name.now }) in
+    let origin = InnerOrigin (record { id = c.in-Origin.id; name = c.in-Origin.name.now }) in
     rw c.in-Origin.is (record {
       module_is = is.module_is;
       functions =
-          same_so_far bytes functions functions (sub ∷ []) refl refl refl refl refl
+          same_so_far bytes functions functions (origin ∷ []) refl refl refl refl refl
           (sym (append-nil (map (kept_call bytes) functions.calls.items))) reading.closed reading.current is.functions;
       files = is.files;
       origins =
