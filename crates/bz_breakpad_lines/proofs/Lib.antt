@@ -23,4 +23,5 @@ pub mod TableLaws
 pub mod Turns
 pub mod ValueLemmas
 pub mod WalkLaws
+pub mod Walks
 pub mod WrittenLaws

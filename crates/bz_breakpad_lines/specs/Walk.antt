@@ -1,8 +1,8 @@
 -- The walk over a file's lines: what a line is depends on the record before it.
-use Rattle.std.specs.Prelude.{◌≡◌, ◌↔◌, ℕ, Bool, true, false, ◌&&◌, ◌⊎◌, List, [], ◌∷◌, ◌++◌, drop, Option, Some, None, option_map, if◌then◌else◌}
+use Rattle.std.specs.Prelude.{◌≡◌, ℕ, Bool, true, false, List, [], ◌++◌, drop, Option, Some, None, option_map}
 use Rattle.std.specs.List.{prefix_len}
 use Rattle.bz_base.specs.Byte.{begins_with}
-use Rattle.bz_breakpad_lines.specs.Byte.{is_white, is_nothing}
+use Rattle.bz_breakpad_lines.specs.Byte.{is_white}
 use Rattle.bz_breakpad_lines.specs.Form.{AllPass, Spells}
 use Rattle.bz_breakpad_lines.specs.Reads.{◌>>=◌, form_at}
 use Rattle.bz_breakpad_lines.specs.Choice.{One, SpellsOne, one_at, IsBody, body_at}
@@ -64,23 +64,6 @@ pub record IsText (white_allowed : Bool) (line text : List ℕ) : Type 0 where
   pub bound : white_allowed ≡ false → front ≡ []
   pub longest : white_allowed ≡ true → begins_with is_white text ≡ false
 
--- a line that is read, and the lines after it
-pub record IsRead (c : Context) (white_allowed : Bool) (line : List ℕ) (Rest : Context → Bool → List Record → Type 0) (records : List Record) : Type 0 where
-  pub text : List ℕ
-  pub first : Record
-  pub others : List Record
-  pub text_is : IsText white_allowed line text
-  pub first_is : IsRecord c text first
-  pub rest : Rest (context_after first) (white_allowed_after first) others
-  pub records_are : records ≡ first ∷ others
-
--- the lines are the records: white lines are passed over where white space may stand, and each other line is read
-abbrev pub Walks : Context → Bool → List (List ℕ) → List Record → Type 0
-Walks c white_allowed [] records = records ≡ []
-Walks c white_allowed (line ∷ lines) records =
-    ((white_allowed ≡ true) × AllPass is_white line × Walks c white_allowed lines records)
-    ⊎ IsRead c white_allowed line (λ d f. Walks d f lines) records
-
 abbrev pub or_record : Option Record → Option Record → Option Record
 or_record (Some r) other = Some r
 or_record None other = other
@@ -102,20 +85,3 @@ record_at c line = body_at line >>= (λ body. body_record c body)
 unfoldable pub after_white : Bool → List ℕ → List ℕ
 after_white true line = drop (prefix_len is_white line) line
 after_white false line = line
-
--- the records of the lines
-abbrev pub walk : Context → Bool → List (List ℕ) → Option (List Record)
-walk c white_allowed [] = Some []
-walk c white_allowed (line ∷ lines) =
-    if white_allowed && is_nothing (after_white white_allowed line)
-    then walk c white_allowed lines
-    else record_at c (after_white white_allowed line) >>= (λ r. option_map (λ rest. r ∷ rest) (walk (context_after r) (white_allowed_after r) lines))
-
-abbrev pub IsWalkedExactly : Type 0
-IsWalkedExactly =
-    (c : Context) (white_allowed : Bool) (lines : List (List ℕ)) (records : List Record) → (walk c white_allowed lines ≡ Some records) ↔ Walks c white_allowed lines records
-
--- the records of lines, if there are any
-abbrev pub walked : Context → Bool → Option (List (List ℕ)) → Option (List Record)
-walked c white_allowed None = None
-walked c white_allowed (Some lines) = walk c white_allowed lines
