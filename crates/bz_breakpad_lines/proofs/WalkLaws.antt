@@ -12,7 +12,7 @@ use Rattle.bz_breakpad_lines.specs.Form.{AllPass}
 use Rattle.bz_breakpad_lines.specs.Reads.{◌>>=◌, form_at, piece_at, run_at}
 use Rattle.bz_breakpad_lines.specs.Choice.{One, one_at, body_at}
 use Rattle.bz_breakpad_lines.specs.Records.{TOP, INNER, STACK_CFI}
-use Rattle.bz_breakpad_lines.specs.Walk.{Context, Record, context_after, white_allowed_after, IsInner, IsBodyOf, IsRecord, body_record, inner_at, IsText, or_record, record_at, after_white}
+use Rattle.bz_breakpad_lines.specs.Walk.{Context, Record, context_after, white_allowed_after, IsUnder, IsBodyOf, IsRecord, body_record, under_at, IsText, or_record, record_at, after_white}
 use Rattle.bz_breakpad_lines.specs.Walk.Context.{Outside, InFunc, InCfi}
 use Rattle.bz_breakpad_lines.specs.Walk.Record.{Top, OfFunc, OfCfi}
 use Rattle.bz_breakpad_lines.proofs.ChoiceLaws.{one_found, one_again, body_found, body_again}
@@ -46,56 +46,56 @@ text_again true line text is =
     rw (is.whole, run_len is_white is.front text is.white (is.longest refl), drop-append_seam is.front text) refl
 text_again false line text is = is.whole ∙ ap (λ x. x ++ text) (is.bound refl)
 
-inner_found : (c : Context) (body : List ℕ) (r : Record) → inner_at c body ≡ Some r → IsInner c body r
-inner_found Outside body r is = absurd (none-some r is)
-inner_found InFunc body r is =
+under_found : (c : Context) (body : List ℕ) (r : Record) → under_at c body ≡ Some r → IsUnder c body r
+under_found Outside body r is = absurd (none-some r is)
+under_found InFunc body r is =
     let one = map_some OfFunc (one_at INNER body) r is in
-    subst (λ x. IsInner InFunc body x) one.2 (one_found INNER body one.0 one.1)
-inner_found InCfi body r is =
+    subst (λ x. IsUnder InFunc body x) one.2 (one_found INNER body one.0 one.1)
+under_found InCfi body r is =
     let one = map_some (λ _. OfCfi) (form_at STACK_CFI body) r is in
-    subst (λ x. IsInner InCfi body x) one.2 (form_found STACK_CFI body one.0 one.1)
+    subst (λ x. IsUnder InCfi body x) one.2 (form_found STACK_CFI body one.0 one.1)
 
-inner_again : (c : Context) (body : List ℕ) (r : Record) → IsInner c body r → inner_at c body ≡ Some r
-inner_again InFunc body (OfFunc one) is = ap (option_map OfFunc) (one_again INNER refl body one is)
-inner_again InCfi body OfCfi is = ap (option_map (λ _. OfCfi)) (form_again STACK_CFI refl body tt is)
-inner_again _ body _ is = absurd is
+under_again : (c : Context) (body : List ℕ) (r : Record) → IsUnder c body r → under_at c body ≡ Some r
+under_again InFunc body (OfFunc one) is = ap (option_map OfFunc) (one_again INNER refl body one is)
+under_again InCfi body OfCfi is = ap (option_map (λ _. OfCfi)) (form_again STACK_CFI refl body tt is)
+under_again _ body _ is = absurd is
 
 -- a record under another is that of its body
-inner_body : (c : Context) (body : List ℕ) (r : Record) → IsInner c body r → IsBodyOf c body r
-inner_body c body (OfFunc one) is = is
-inner_body c body OfCfi is = is
-inner_body Outside body (Top one) is = absurd is
-inner_body InFunc body (Top one) is = absurd is
-inner_body InCfi body (Top one) is = absurd is
+under_body : (c : Context) (body : List ℕ) (r : Record) → IsUnder c body r → IsBodyOf c body r
+under_body c body (OfFunc one) is = is
+under_body c body OfCfi is = is
+under_body Outside body (Top one) is = absurd is
+under_body InFunc body (Top one) is = absurd is
+under_body InCfi body (Top one) is = absurd is
 
 or_record_found : (c : Context) (body : List ℕ) (o : Option Record) (p : Option (One TOP)) (r : Record) →
-    inner_at c body ≡ o → one_at TOP body ≡ p → or_record o (option_map Top p) ≡ Some r → IsBodyOf c body r
-or_record_found c body (Some inner) p r is_inner top is = inner_body c body r (inner_found c body r (is_inner ∙ is))
-or_record_found c body None (Some one) r is_inner top is =
+    under_at c body ≡ o → one_at TOP body ≡ p → or_record o (option_map Top p) ≡ Some r → IsBodyOf c body r
+or_record_found c body (Some under) p r is_under top is = under_body c body r (under_found c body r (is_under ∙ is))
+or_record_found c body None (Some one) r is_under top is =
     subst (λ x. IsBodyOf c body x) (same_Some (Top one) r is)
-    (λ other at. none-some other (sym is_inner ∙ inner_again c body other at), one_found TOP body one top)
-or_record_found c body None None r is_inner top is = absurd (none-some r is)
+    (λ other at. none-some other (sym is_under ∙ under_again c body other at), one_found TOP body one top)
+or_record_found c body None None r is_under top is = absurd (none-some r is)
 
 -- what a body is read as, it is
 pub body_found_of : (c : Context) (body : List ℕ) (r : Record) → body_record c body ≡ Some r → IsBodyOf c body r
-body_found_of c body r is = or_record_found c body (inner_at c body) (one_at TOP body) r refl refl is
+body_found_of c body r is = or_record_found c body (under_at c body) (one_at TOP body) r refl refl is
 
 or_record_top : (o : Option Record) (r : Record) → ((other : Record) → o ≡ Some other → ⊥) → or_record o (Some r) ≡ Some r
 or_record_top (Some other) r none = absurd (none other refl)
 or_record_top None r none = refl
 
-body_read : (c : Context) (body : List ℕ) (r : Record) → IsBodyOf c body r → or_record (inner_at c body) (option_map Top (one_at TOP body)) ≡ Some r
+body_read : (c : Context) (body : List ℕ) (r : Record) → IsBodyOf c body r → or_record (under_at c body) (option_map Top (one_at TOP body)) ≡ Some r
 body_read c body (Top one) is =
-    ap (λ o. or_record (inner_at c body) (option_map Top o)) (one_again TOP refl body one is.1)
-    ∙ or_record_top (inner_at c body) (Top one) (λ other read. is.0 other (inner_found c body other read))
-body_read c body (OfFunc one) is = rw (inner_again c body (OfFunc one) is) refl
-body_read c body OfCfi is = rw (inner_again c body OfCfi is) refl
+    ap (λ o. or_record (under_at c body) (option_map Top o)) (one_again TOP refl body one is.1)
+    ∙ or_record_top (under_at c body) (Top one) (λ other read. is.0 other (under_found c body other read))
+body_read c body (OfFunc one) is = rw (under_again c body (OfFunc one) is) refl
+body_read c body OfCfi is = rw (under_again c body OfCfi is) refl
 
 record_found : (c : Context) (line : List ℕ) (r : Record) → record_at c line ≡ Some r → IsRecord c line r
 unfolding record_at
 record_found c line r is =
-    let body = bind_some (body_at line) (λ body. or_record (inner_at c body) (option_map Top (one_at TOP body))) r is in
-    (body.0, body_found line body.0 body.1, or_record_found c body.0 (inner_at c body.0) (one_at TOP body.0) r refl refl body.2)
+    let body = bind_some (body_at line) (λ body. or_record (under_at c body) (option_map Top (one_at TOP body))) r is in
+    (body.0, body_found line body.0 body.1, or_record_found c body.0 (under_at c body.0) (one_at TOP body.0) r refl refl body.2)
 
 record_again : (c : Context) (line : List ℕ) (r : Record) → IsRecord c line r → record_at c line ≡ Some r
 unfolding record_at

@@ -19,7 +19,7 @@ use Rattle.bz_breakpad_lines.specs.Grammar.{Accepted, AreRoles, IsNoModule, IsRe
 use Rattle.bz_breakpad_lines.specs.Grammar.Role.{Is}
 use Rattle.bz_breakpad_lines.specs.Records.{TOP, INNER, STACK_CFI}
 use Rattle.bz_breakpad_lines.specs.Says.{table_of}
-use Rattle.bz_breakpad_lines.specs.Walk.{Context, Record, IsBodyOf, IsInner, context_after}
+use Rattle.bz_breakpad_lines.specs.Walk.{Context, Record, IsBodyOf, IsUnder, context_after}
 use Rattle.bz_breakpad_lines.specs.Walk.Context.{Outside, InFunc, InCfi}
 use Rattle.bz_breakpad_lines.specs.Walk.Record.{Top, OfFunc, OfCfi}
 use Rattle.bz_breakpad_lines.specs.Written.{FormFits, OneFits, PieceFits, RecordFits, first_told, form_text, is_within_line, one_text, piece_text, record_text, records_text, rest_told}
@@ -232,7 +232,7 @@ no_line_feed (b ∷ text) all = rw (or_parts (nat_eq b line_feed) (nat_eq b carr
 
 -- a record may stand under the owner: one by itself where no record under the owner has its text
 abbrev pub StandsIn : Context → Record → Type 0
-StandsIn c (Top one) = (r : Record) → IsInner c (one_text TOP one) r → ⊥
+StandsIn c (Top one) = (r : Record) → IsUnder c (one_text TOP one) r → ⊥
 StandsIn c (OfFunc one) = c ≡ InFunc
 StandsIn c OfCfi = c ≡ InCfi
 
@@ -243,10 +243,10 @@ Stand c (r ∷ records) = StandsIn c r × Stand (context_after r) records
 body_is : (c : Context) (r : Record) → RecordFits r → StandsIn c r → IsBodyOf c (record_text r) r
 body_is c (Top one) fits stands = (stands, one_spelled TOP refl one fits)
 body_is c (OfFunc one) fits stands =
-    let P : Context → Type 0 = λ d. IsInner d (one_text INNER one) (OfFunc one) in
+    let P : Context → Type 0 = λ d. IsUnder d (one_text INNER one) (OfFunc one) in
     subst P (sym stands) (one_spelled INNER refl one fits)
 body_is c OfCfi fits stands =
-    let P : Context → Type 0 = λ d. IsInner d (form_text STACK_CFI tt) OfCfi in
+    let P : Context → Type 0 = λ d. IsUnder d (form_text STACK_CFI tt) OfCfi in
     subst P (sym stands) (spelled STACK_CFI refl tt (tt, tt))
 
 -- a line that is the record under the owner, and may stand after white space or not

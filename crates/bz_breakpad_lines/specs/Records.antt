@@ -63,7 +63,7 @@ CALL = Tag (codes "INLINE ") · Gap · Dec · Sep · Dec · Sep · Dec · Sep ·
 abbrev pub INLINE : Form
 INLINE = Tag (codes "INLINE ") · Gap · Dec · Sep · Dec · Sep · Dec · Sep · Dec · Many RANGE
 
--- "INLINE_ORIGIN records", in a function: id, name
+-- "INLINE_ORIGIN records", as an inner record: id, name
 abbrev pub INNER_ORIGIN : Form
 INNER_ORIGIN = Tag (codes "INLINE_ORIGIN ") · Gap · Dec · Sep · Name
 
@@ -71,7 +71,7 @@ INNER_ORIGIN = Tag (codes "INLINE_ORIGIN ") · Gap · Dec · Sep · Name
 abbrev pub TOP : List Form
 TOP = MODULE ∷ INFO ∷ FILE ∷ INLINE_ORIGIN ∷ PUBLIC ∷ FUNC ∷ STACK_WIN ∷ STACK_CFI_INIT ∷ []
 
--- the records that stand under a FUNC record
+-- the inner records: those that belong to the FUNC record that they stand under
 abbrev pub INNER : List Form
 INNER = LINE ∷ INLINE ∷ INNER_ORIGIN ∷ []
 
@@ -88,7 +88,7 @@ pub record AreFormsRead : Type 0 where
   pub stack_cfi_init : IsReadExactly STACK_CFI_INIT
   -- the one that stands under a STACK CFI INIT record
   pub stack_cfi : IsReadExactly STACK_CFI
-  -- those that stand under a FUNC record
+  -- the inner ones, which belong to a FUNC record
   pub line : IsReadExactly LINE
   pub inline : IsReadExactly INLINE
   pub inner_origin : IsReadExactly INNER_ORIGIN

@@ -39,7 +39,7 @@ abbrev pub file_of : Record → Option Named
 file_of (Top one) = file_in_top (top_of one)
 file_of _ = None
 
--- the INLINE_ORIGIN record that a record is, by itself or under a FUNC record
+-- the INLINE_ORIGIN record that a record is, by itself or as an inner record
 abbrev pub origin_of : Record → Option Named
 origin_of (Top one) = origin_in_top (top_of one)
 origin_of (OfFunc one) = origin_in_inner (inner_of one)
@@ -57,14 +57,14 @@ abbrev pub inlinees_of : InnerRecord → List Inlinee
 inlinees_of (Inline inlinees) = inlinees
 inlinees_of _ = []
 
--- the records right under one that stands by itself: those before the next such record
+-- the inner records right under one that stands by itself: those before the next such record
 abbrev pub inner_records : List Record → List InnerRecord
 inner_records [] = []
 inner_records (Top one ∷ records) = []
 inner_records (OfFunc one ∷ records) = inner_of one ∷ inner_records records
 inner_records (OfCfi ∷ records) = inner_records records
 
--- the function with the lines and inlined calls of further records under it
+-- the function with the lines and inlined calls of further inner records
 abbrev pub with_inner : Function → List InnerRecord → Function
 with_inner f inner = record {
   start = f.start;
@@ -75,7 +75,7 @@ with_inner f inner = record {
   inlinees = f.inlinees ++ flat_map inlinees_of inner;
 }
 
--- the function of a record, with what stands under it
+-- the function that a record begins, with its inner records
 abbrev pub function_with : TopRecord → List InnerRecord → List Function
 function_with (Func f) inner = with_inner f inner ∷ []
 function_with _ inner = []

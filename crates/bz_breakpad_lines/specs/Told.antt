@@ -74,7 +74,7 @@ top_name (tops.Public p) = Some p.name.now
 top_name (tops.Func f) = Some f.name.now
 top_name _ = None
 
--- what of a record under a FUNC record is kept as a place stands there in the bytes
+-- what of an inner record is kept as a place stands there in the bytes
 abbrev pub InnerStands : List ℕ → ℕ → List ℕ → InnerLine → Type 0
 InnerStands bytes start body (inners.Code l) = line_in (drop start bytes) ≡ Some (source_line (line_told l))
 InnerStands bytes start body (inners.Inline call) = call_in (drop start bytes) ≡ Some (call_told call)

@@ -19,8 +19,8 @@ pub data Context : Type 0 where
 -- a record of a file
 pub data Record : Type 0 where
   Top : One TOP → Record  -- a record that stands by itself
-  OfFunc : One INNER → Record  -- a line of a FUNC record
-  OfCfi : Record  -- a line of a STACK CFI INIT record
+  OfFunc : One INNER → Record  -- an inner record, which belongs to a FUNC record
+  OfCfi : Record  -- a STACK CFI record, which belongs to a STACK CFI INIT record
 
 -- the context of the lines under a record that stands by itself
 abbrev pub context_under : TopRecord → Context
@@ -43,15 +43,15 @@ white_allowed_after (Top one) = true
 white_allowed_after _ = false
 
 -- the body is that of a record that stands under another
-abbrev pub IsInner : Context → List ℕ → Record → Type 0
-IsInner InFunc body (OfFunc one) = SpellsOne INNER body one
-IsInner InCfi body OfCfi = Spells STACK_CFI body tt
-IsInner _ body _ = ⊥
+abbrev pub IsUnder : Context → List ℕ → Record → Type 0
+IsUnder InFunc body (OfFunc one) = SpellsOne INNER body one
+IsUnder InCfi body OfCfi = Spells STACK_CFI body tt
+IsUnder _ body _ = ⊥
 
 -- the record of a body: one of its context, where the body has such a form, and else one that stands by itself
 abbrev pub IsBodyOf : Context → List ℕ → Record → Type 0
-IsBodyOf c body (Top one) = ((r : Record) → IsInner c body r → ⊥) × SpellsOne TOP body one
-IsBodyOf c body r = IsInner c body r
+IsBodyOf c body (Top one) = ((r : Record) → IsUnder c body r → ⊥) × SpellsOne TOP body one
+IsBodyOf c body r = IsUnder c body r
 
 abbrev pub IsRecord : Context → List ℕ → Record → Type 0
 IsRecord c line r = (body : List ℕ) × IsBody line body × IsBodyOf c body r
@@ -68,15 +68,15 @@ abbrev pub or_record : Option Record → Option Record → Option Record
 or_record (Some r) other = Some r
 or_record None other = other
 
--- the record of a line's body under one
-abbrev pub inner_at : Context → List ℕ → Option Record
-inner_at Outside body = None
-inner_at InFunc body = option_map OfFunc (one_at INNER body)
-inner_at InCfi body = option_map (λ _. OfCfi) (form_at STACK_CFI body)
+-- the record that stands under the one that the context names, where the body has the form of such a one
+abbrev pub under_at : Context → List ℕ → Option Record
+under_at Outside body = None
+under_at InFunc body = option_map OfFunc (one_at INNER body)
+under_at InCfi body = option_map (λ _. OfCfi) (form_at STACK_CFI body)
 
 -- the record of a body in the context
 abbrev pub body_record : Context → List ℕ → Option Record
-body_record c body = or_record (inner_at c body) (option_map Top (one_at TOP body))
+body_record c body = or_record (under_at c body) (option_map Top (one_at TOP body))
 
 -- the record of a line in the context
 unfoldable pub record_at : Context → List ℕ → Option Record

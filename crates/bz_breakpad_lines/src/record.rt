@@ -5,7 +5,7 @@ ghost use Rattle.bz_breakpad_lines.specs.Choice.{one_at};
 ghost use Rattle.bz_breakpad_lines.specs.Reads.{form_at, many_at, reads};
 ghost use Rattle.bz_breakpad_lines.specs.Records.{CALL, FILE, FUNC, INFO, INLINE, INLINE_ORIGIN, INNER, INNER_ORIGIN, LINE, MODULE, PUBLIC, RANGE, STACK_CFI, STACK_CFI_INIT, STACK_WIN, TOP};
 ghost use Rattle.bz_breakpad_lines.specs.Told.{call_told, context_told, func_told, inline_told, inner_told, line_told, public_told, range_told, ranges_told, record_told, top_told};
-ghost use Rattle.bz_breakpad_lines.specs.Walk.{body_record, inner_at};
+ghost use Rattle.bz_breakpad_lines.specs.Walk.{body_record, under_at};
 
 use crate::field::{
     dec, end, gap, hex, marked, module_separator, name, separator, separator_text, tag, word,
@@ -275,7 +275,7 @@ pub fn top_body(body: &[u8]) -> Option<TopLine<'_>>
     None
 }
 
-/// The id and the name of an INLINE_ORIGIN record in a function.
+/// The id and the name of an INLINE_ORIGIN record that is an inner record.
 fn inner_origin(line: &[u8]) -> Option<(u32, &str)>
     ensures { option_map (λ f. (f.0, f.1.now)) result ≡ form_at INNER_ORIGIN line.now }
 {
@@ -283,7 +283,7 @@ fn inner_origin(line: &[u8]) -> Option<(u32, &str)>
     Some((id, name(separator(rest)?)?))
 }
 
-/// A line of a FUNC record.
+/// An inner record: one that belongs to a FUNC record.
 #[derive(Drop)]
 pub enum InnerLine<'a> {
     /// A line record.
@@ -294,7 +294,7 @@ pub enum InnerLine<'a> {
     Origin(u32, &'a str),
 }
 
-/// The record under a FUNC record that the body is.
+/// The inner record that the body is.
 fn inner<'a>(ranges: &mut Vec<Range>, body: &'a [u8]) -> Result<Option<InnerLine<'a>>, AllocError>
     ensures { IfOk result (λ found. option_map (λ inner. inner_told inner ranges.new.items) found ≡ one_at INNER body.now) }
 {
@@ -326,9 +326,9 @@ pub enum Context {
 pub enum RecordLine<'a> {
     /// A record that stands by itself.
     Top(TopLine<'a>),
-    /// A line of a FUNC record.
+    /// An inner record, which belongs to a FUNC record.
     OfFunc(InnerLine<'a>),
-    /// A line of a STACK CFI INIT record.
+    /// A STACK CFI record, which belongs to a STACK CFI INIT record.
     OfCfi,
 }
 
@@ -344,7 +344,7 @@ fn under<'a>(
     context: Context,
     body: &'a [u8],
 ) -> Result<Option<RecordLine<'a>>, AllocError>
-    ensures { IfOk result (λ found. option_map (λ r. record_told r ranges.new.items) found ≡ inner_at (context_told context) body.now) }
+    ensures { IfOk result (λ found. option_map (λ r. record_told r ranges.new.items) found ≡ under_at (context_told context) body.now) }
 {
     match context {
         Context::Outside => Ok(None),
