@@ -10,7 +10,7 @@ use Rattle.bz_breakpad_lines.specs.Byte.{is_hex}
 use Rattle.bz_breakpad_lines.specs.Choice.{body_at}
 use Rattle.bz_breakpad_lines.specs.Form.{Value}
 use Rattle.bz_breakpad_lines.specs.Form.Form.{End, ◌·◌}
-use Rattle.bz_breakpad_lines.specs.Form.Piece.{Sep, Hex, Dec}
+use Rattle.bz_breakpad_lines.specs.Form.Piece.{Separator, Hex, Decimal}
 use Rattle.bz_breakpad_lines.specs.LineStarts.{ReadsLine, line_read, no_line}
 use Rattle.bz_breakpad_lines.specs.Line.{line_front, line_in, source_line}
 use Rattle.bz_breakpad_lines.specs.Reads.{◌>>=◌, form_at, piece_at, reads}
@@ -63,7 +63,7 @@ start_in_front text line is =
     ∙ ap (λ t. t ++ drop n text) (cut.whole ∙ ap (λ t. t ++ cut.ends) spelled.whole)
     ∙ append_assoc (spelled.front ++ spelled.back) cut.ends (drop n text)
     ∙ append_assoc spelled.front spelled.back more in
-    let stops = no_digit (spelled.back ++ more) (sep_front (Sep · Hex 8 · Sep · Dec · Sep · Dec · End) refl spelled.back more spelled.others spelled.back_is) in
+    let stops = no_digit (spelled.back ++ more) (sep_front (Separator · Hex 8 · Separator · Decimal · Separator · Decimal · End) refl spelled.back more spelled.others spelled.back_is) in
     let start : spelled.tells ≡ line.start = ap (λ (v : Value LINE). v.0) (sym spelled.valued) ∙ ap (λ (l : SourceLine). l.start) value.2 in (
       spelled.back ++ more,
       ap (piece_at (Hex 16)) whole ∙ piece_again (Hex 16) spelled.front (spelled.back ++ more) spelled.tells spelled.front_is stops ∙ ap (λ s. Some (s, spelled.back ++ more)) start,

@@ -7,7 +7,7 @@ use Rattle.std.proofs.lemmas.List.{take-append-drop}
 use Rattle.std.proofs.lemmas.Option.{cond_some, same_Some, none-some}
 use Rattle.std.proofs.Math.Seq.{take-append_seam, drop-append_seam}
 use Rattle.bz_base.specs.Byte.{begins_with}
-use Rattle.bz_breakpad_lines.specs.Byte.{is_hex, ends_line}
+use Rattle.bz_breakpad_lines.specs.Byte.{is_hex, is_carriage_return}
 use Rattle.bz_breakpad_lines.specs.Form.{Form, Value, AllPass, IsPiece, Spells}
 use Rattle.bz_breakpad_lines.specs.Form.Piece.{Tag, Hex}
 use Rattle.bz_breakpad_lines.specs.Form.Form.{◌·◌}
@@ -96,27 +96,27 @@ one_again (f ∷ forms) sets text (inr other) is =
     ap (or_else (form_at f text)) (one_again forms more.1 text other is)
     ∙ or_else_there (form_at f text) other (λ v read. no_other f forms more.0 text v other (form_found f text v read) is)
 
-all_ends : (text : List ℕ) → list_all ends_line text ≡ true → AllPass ends_line text
+all_ends : (text : List ℕ) → list_all is_carriage_return text ≡ true → AllPass is_carriage_return text
 all_ends [] all = tt
-all_ends (b ∷ text) all = let parts = and_parts (ends_line b) (list_all ends_line text) all in (parts.0, all_ends text parts.1)
+all_ends (b ∷ text) all = let parts = and_parts (is_carriage_return b) (list_all is_carriage_return text) all in (parts.0, all_ends text parts.1)
 
-ends_all : (text : List ℕ) → AllPass ends_line text → list_all ends_line text ≡ true
+ends_all : (text : List ℕ) → AllPass is_carriage_return text → list_all is_carriage_return text ≡ true
 ends_all [] all = refl
 ends_all (b ∷ text) all = rw all.0 (ends_all text all.1)
 
 pub body_found : (line body : List ℕ) → body_at line ≡ Some body → IsBody line body
 unfolding body_at
 body_found line body is =
-    let n = prefix_len (λ b. not (ends_line b)) line in
-    let parts = cond_some (list_all ends_line (drop n line)) (take n line) body is in
+    let n = prefix_len (λ b. not (is_carriage_return b)) line in
+    let parts = cond_some (list_all is_carriage_return (drop n line)) (take n line) body is in
     subst (λ x. IsBody line x) parts.1 (record {
       ends = drop n line;
       whole = sym (take-append-drop n line);
-      body_is = front_passes (λ b. not (ends_line b)) line;
+      body_is = front_passes (λ b. not (is_carriage_return b)) line;
       ends_are = all_ends (drop n line) parts.0;
     })
 
-ends_begin : (ends : List ℕ) → AllPass ends_line ends → begins_with (λ b. not (ends_line b)) ends ≡ false
+ends_begin : (ends : List ℕ) → AllPass is_carriage_return ends → begins_with (λ b. not (is_carriage_return b)) ends ≡ false
 ends_begin [] all = refl
 ends_begin (b ∷ ends) all = rw all.0 refl
 
@@ -125,7 +125,7 @@ unfolding body_at
 body_again line body is =
     rw (
       is.whole,
-      run_len (λ b. not (ends_line b)) body is.ends is.body_is (ends_begin is.ends is.ends_are),
+      run_len (λ b. not (is_carriage_return b)) body is.ends is.body_is (ends_begin is.ends is.ends_are),
       take-append_seam body is.ends,
       drop-append_seam body is.ends,
       ends_all is.ends is.ends_are,

@@ -11,7 +11,7 @@ use Rattle.bz_base.specs.Number.{digits_len, digits_at}
 use Rattle.bz_base.proofs.NumberLemmas.{digits_below, front_digits}
 use Rattle.bz_breakpad_lines.specs.Form.{Form, Piece, Tell, Value, greatest, told}
 use Rattle.bz_breakpad_lines.specs.Form.Form.{◌·◌}
-use Rattle.bz_breakpad_lines.specs.Form.Piece.{Dec, Gap, Hex, Sep}
+use Rattle.bz_breakpad_lines.specs.Form.Piece.{Decimal, Gap, Hex, Separator}
 use Rattle.bz_breakpad_lines.specs.Reads.{piece_at, reads}
 use Rattle.bz_breakpad_lines.specs.Stops.{AreDigits, number_between}
 use Rattle.bz_breakpad_lines.proofs.Apart.{dec_begins, hex_begins, hex_no_blank}
@@ -43,7 +43,7 @@ module _ (text : List ℕ) (from end : ℕ) where
       let fits : digits_value 10 (take n tail) ≤ greatest = omega (arith, below) in
       rw len at fits
 
-  pub dec_read : AreDigits 10 8 text from end → piece_at Dec (drop from text) ≡ Some (number_between 10 text from end, drop end text)
+  pub dec_read : AreDigits 10 8 text from end → piece_at Decimal (drop from text) ≡ Some (number_between 10 text from end, drop end text)
   unfolding piece_at digits_at
   dec_read are =
       let len : digits_len 10 (drop from text) ≡ end - from = omega (arith, are.3) in
@@ -64,7 +64,7 @@ module _ (text : List ℕ) (from end : ℕ) where
 
   dec_solid : AreDigits 10 8 text from end → begins_with is_blank (drop from text) ≡ false
   dec_solid are =
-      let at = piece_found Dec (drop from text) (number_between 10 text from end, drop end text) (dec_read are) in
+      let at = piece_found Decimal (drop from text) (number_between 10 text from end, drop end text) (dec_read are) in
       ap (begins_with is_blank) at.2 ∙ dec_begins (number_between 10 text from end) at.0 (drop end text) at.1
 
   -- so nothing is passed over
@@ -73,10 +73,10 @@ module _ (text : List ℕ) (from end : ℕ) where
 
 -- a single space before what begins with no blank
 pub one_space : (text : List ℕ) (at : ℕ) → at < length text → slice_index text at ≡ space → begins_with is_blank (drop (at + 1) text) ≡ false →
-    piece_at Sep (drop at text) ≡ Some (tt, drop (at + 1) text)
+    piece_at Separator (drop at text) ≡ Some (tt, drop (at + 1) text)
 one_space text at within is solid =
-    ap (piece_at Sep) (byte_at at space text within is)
-    ∙ piece_again Sep (space ∷ []) (drop (at + 1) text) tt (record { bytes = (refl, tt); passes = refl; tells = refl }) solid
+    ap (piece_at Separator) (byte_at at space text within is)
+    ∙ piece_again Separator (space ∷ []) (drop (at + 1) text) tt (record { bytes = (refl, tt); passes = refl; tells = refl }) solid
 
 -- a piece, and then a form
 pub next : (p : Piece) (f : Form) (text middle rest : List ℕ) (x : Tell p) (value : Value f) → piece_at p text ≡ Some (x, middle) → reads f middle ≡ Some (value, rest) →
@@ -86,13 +86,13 @@ next p f text middle rest x value is others = rw (is, others) refl
 -- a single space and digits, and then a form
 module _ (f : Form) (text : List ℕ) (at end : ℕ) (value : Value f) (rest : List ℕ) (is : slice_index text at ≡ space) where
   pub hex_next : (wide : ℕ) → AreDigits 16 8 text (at + 1) end → 8 ≤ wide → reads f (drop end text) ≡ Some (value, rest) →
-      reads (Sep · Hex wide · f) (drop at text) ≡ Some ((number_between 16 text (at + 1) end, value), rest)
+      reads (Separator · Hex wide · f) (drop at text) ≡ Some ((number_between 16 text (at + 1) end, value), rest)
   hex_next wide are fits others =
-      next Sep (Hex wide · f) (drop at text) (drop (at + 1) text) rest tt _ (one_space text at (omega (arith, are.0, are.2)) is (hex_solid text (at + 1) end 8 are))
+      next Separator (Hex wide · f) (drop at text) (drop (at + 1) text) rest tt _ (one_space text at (omega (arith, are.0, are.2)) is (hex_solid text (at + 1) end 8 are))
       (next (Hex wide) f (drop (at + 1) text) (drop end text) rest _ value (hex_read text (at + 1) end 8 wide are fits) others)
 
   pub dec_next : AreDigits 10 8 text (at + 1) end → reads f (drop end text) ≡ Some (value, rest) →
-      reads (Sep · Dec · f) (drop at text) ≡ Some ((number_between 10 text (at + 1) end, value), rest)
+      reads (Separator · Decimal · f) (drop at text) ≡ Some ((number_between 10 text (at + 1) end, value), rest)
   dec_next are others =
-      next Sep (Dec · f) (drop at text) (drop (at + 1) text) rest tt _ (one_space text at (omega (arith, are.0, are.2)) is (dec_solid text (at + 1) end are))
-      (next Dec f (drop (at + 1) text) (drop end text) rest _ value (dec_read text (at + 1) end are) others)
+      next Separator (Decimal · f) (drop at text) (drop (at + 1) text) rest tt _ (one_space text at (omega (arith, are.0, are.2)) is (dec_solid text (at + 1) end are))
+      (next Decimal f (drop (at + 1) text) (drop end text) rest _ value (dec_read text (at + 1) end are) others)

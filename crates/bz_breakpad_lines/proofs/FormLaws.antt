@@ -5,8 +5,8 @@ use Rattle.std.proofs.lemmas.Bool.{and_parts, not-true, false≢true}
 use Rattle.std.proofs.lemmas.Option.{cond_some, same_Some, none-some}
 use Rattle.std.proofs.lemmas.Str.{IsUtf8-from_is_utf8, is_utf8-from_IsUtf8}
 use Rattle.bz_base.specs.Byte.{is_blank, begins_with}
-use Rattle.bz_breakpad_lines.specs.Form.{Form, Value, told, IsSepText, Spells}
-use Rattle.bz_breakpad_lines.specs.Form.Form.{End, Name, SepText, Many, ◌·◌}
+use Rattle.bz_breakpad_lines.specs.Form.{Form, Value, told, IsSeparatorText, Spells}
+use Rattle.bz_breakpad_lines.specs.Form.Form.{End, Name, SeparatorText, Many, ◌·◌}
 use Rattle.bz_breakpad_lines.specs.Reads.{◌>>=◌, piece_at, name_at, many_at, reads, complete, form_at, IsReadExactly}
 use Rattle.bz_breakpad_lines.proofs.Apart.{Follows, is_set, before, closed, sep_first, at_end, closed_follows, sep_front, apart}
 use Rattle.bz_breakpad_lines.proofs.Pieces.{piece_found, piece_again, sep_begins}
@@ -16,7 +16,7 @@ use Rattle.bz_breakpad_lines.proofs.Turns.{bind_some, map_some, many_found, many
 abbrev Found : (f : Form) → List ℕ → Value f × List ℕ → Type 0
 Found f text read = (front : List ℕ) × Spells f front read.0 × (text ≡ front ++ read.1)
 
-begins_sep_text : (text : List ℕ) → begins_with is_blank text ≡ true → IsSepText text
+begins_sep_text : (text : List ℕ) → begins_with is_blank text ≡ true → IsSeparatorText text
 begins_sep_text [] begins = absurd (false≢true begins)
 begins_sep_text (b ∷ text) begins = record { sep = b ∷ []; more = text; whole = refl; sep_is = record { bytes = (begins, tt); passes = refl; tells = refl } }
 
@@ -31,9 +31,9 @@ name_found text read is =
 pub found : (f : Form) (text : List ℕ) (read : Value f × List ℕ) → reads f text ≡ Some read → Found f text read
 found End text read is = ([], refl, ap (λ r. r.1) (same_Some (tt, text) read is))
 found Name text read is = name_found text read is
-found SepText text read is =
+found SeparatorText text read is =
     let parts = cond_some (begins_with is_blank text) (tt, []) read is in
-    subst (λ r. Found SepText text r) parts.1 (text, begins_sep_text text parts.0, sym (append-nil text))
+    subst (λ r. Found SeparatorText text r) parts.1 (text, begins_sep_text text parts.0, sym (append-nil text))
 found (Many f) text read is =
     let values = map_some (λ vs. (vs, [])) (many_at (reads f) text) read is in
     subst (λ r. Found (Many f) text r) values.2
@@ -67,7 +67,7 @@ pub again : (f : Form) → is_set f ≡ true → (front rest : List ℕ) (value 
 again End sets front rest value is follows = rw is refl
 again Name sets front rest value is follows =
     rw (follows, append-nil front, is.1) (name_again front is.0.front (is_utf8-from_IsUtf8 front is.0.utf8))
-again SepText sets front rest value is follows =
+again SeparatorText sets front rest value is follows =
     rw (is.whole, append_assoc is.sep is.more rest, sep_begins is.sep (is.more ++ rest) is.sep_is, follows) refl
 again (Many f) sets front rest values is follows =
     let parts = and_parts (sep_first f) (closed f && is_set f) sets in

@@ -9,22 +9,22 @@ use Rattle.std.proofs.lemmas.Option.{cond_some, same_Some}
 use Rattle.std.proofs.Math.Seq.{take-append_seam, drop-append_seam}
 use Rattle.bz_base.specs.Byte.{is_blank, begins_with}
 use Rattle.bz_breakpad_lines.specs.Byte.{is_space, is_hex, is_decimal, is_word_byte}
-use Rattle.bz_breakpad_lines.specs.Form.{Piece, Tell, IsPiece, IsSep, some_bytes, anything, is_word, greatest, nothing}
-use Rattle.bz_breakpad_lines.specs.Form.Piece.{Tag, Opt, Sep, MSep, Gap, Word, Hex, Dec}
-use Rattle.bz_breakpad_lines.specs.Reads.{piece_at, opt_at}
+use Rattle.bz_breakpad_lines.specs.Form.{Piece, Tell, IsPiece, IsSeparator, some_bytes, anything, is_word, greatest, nothing}
+use Rattle.bz_breakpad_lines.specs.Form.Piece.{Tag, Mark, Separator, ModuleSeparator, Gap, Word, Hex, Decimal}
+use Rattle.bz_breakpad_lines.specs.Reads.{piece_at, mark_at}
 use Rattle.bz_base.proofs.NumberLemmas.{number_found, number_again, decimal_found, decimal_again}
 use Rattle.bz_breakpad_lines.proofs.Runs.{run_found, run_again, front_passes, run_len}
 
 -- the bytes with which a piece could go on
 abbrev pub goes_on : Piece → ℕ → Bool
 goes_on (Tag tag) b = false
-goes_on (Opt c) b = is_blank b || nat_eq b c
-goes_on Sep b = is_blank b
-goes_on MSep b = is_blank b
+goes_on (Mark c) b = is_blank b || nat_eq b c
+goes_on Separator b = is_blank b
+goes_on ModuleSeparator b = is_blank b
 goes_on Gap b = is_blank b
 goes_on Word b = is_word_byte b
 goes_on (Hex most) b = is_hex b
-goes_on Dec b = is_decimal b
+goes_on Decimal b = is_decimal b
 
 -- a text whose first bytes are the tag's begins with the tag
 begins_with_tag : (tag text : List ℕ) → pointwise nat_eq tag (take (length tag) text) ≡ true → text ≡ tag ++ drop (length tag) text
@@ -46,13 +46,13 @@ some (b ∷ text) begins =
     let more : 1 + n ≡ suc n = omega arith in
     rw (begins, more) (lt-ltb 0 (suc (length (take n text))) (omega arith))
 
--- what `opt_at` passes over is the byte and a separator, or nothing
-opt_found : (b : ℕ) (text : List ℕ) → (front : List ℕ) × IsPiece (Opt b) front tt × (text ≡ front ++ opt_at b text)
-unfolding opt_at
-opt_found b [] = ([], inl refl, refl)
-opt_found b (c ∷ text) = by (nat_eq c b && begins_with is_blank text) refl where
+-- what `mark_at` passes over is the byte and a separator, or nothing
+mark_found : (b : ℕ) (text : List ℕ) → (front : List ℕ) × IsPiece (Mark b) front tt × (text ≡ front ++ mark_at b text)
+unfolding mark_at
+mark_found b [] = ([], inl refl, refl)
+mark_found b (c ∷ text) = by (nat_eq c b && begins_with is_blank text) refl where
   by : (test : Bool) → (nat_eq c b && begins_with is_blank text) ≡ test →
-      (front : List ℕ) × IsPiece (Opt b) front tt × (c ∷ text ≡ front ++ cond test (drop (prefix_len is_blank text) text) (c ∷ text))
+      (front : List ℕ) × IsPiece (Mark b) front tt × (c ∷ text ≡ front ++ cond test (drop (prefix_len is_blank text) text) (c ∷ text))
   by false is = ([], inl refl, refl)
   by true is =
       let parts = and_parts (nat_eq c b) (begins_with is_blank text) is in
@@ -63,23 +63,23 @@ opt_found b (c ∷ text) = by (nat_eq c b && begins_with is_blank text) refl whe
       )
 
 -- a separator begins with a blank, whatever follows
-pub sep_begins : (sep rest : List ℕ) → IsSep sep → begins_with is_blank (sep ++ rest) ≡ true
+pub sep_begins : (sep rest : List ℕ) → IsSeparator sep → begins_with is_blank (sep ++ rest) ≡ true
 sep_begins [] rest is = absurd (false≢true is.passes)
 sep_begins (b ∷ sep) rest is = is.bytes.0
 
 -- nothing is passed over where another byte stands
-opt_none : (b : ℕ) (rest : List ℕ) → begins_with (goes_on (Opt b)) rest ≡ false → opt_at b rest ≡ rest
-unfolding opt_at
-opt_none b [] stops = refl
-opt_none b (c ∷ rest) stops = rw (or_parts (is_blank c) (nat_eq c b) stops).1 refl
+mark_none : (b : ℕ) (rest : List ℕ) → begins_with (goes_on (Mark b)) rest ≡ false → mark_at b rest ≡ rest
+unfolding mark_at
+mark_none b [] stops = refl
+mark_none b (c ∷ rest) stops = rw (or_parts (is_blank c) (nat_eq c b) stops).1 refl
 
 begins_first : (f g : ℕ → Bool) (text : List ℕ) → begins_with (λ b. f b || g b) text ≡ false → begins_with f text ≡ false
 begins_first f g [] stops = refl
 begins_first f g (b ∷ text) stops = (or_parts (f b) (g b) stops).0
 
-opt_some : (b : ℕ) (sep rest : List ℕ) → IsSep sep → begins_with (goes_on (Opt b)) rest ≡ false → opt_at b (b ∷ (sep ++ rest)) ≡ rest
-unfolding opt_at
-opt_some b sep rest is stops =
+mark_some : (b : ℕ) (sep rest : List ℕ) → IsSeparator sep → begins_with (goes_on (Mark b)) rest ≡ false → mark_at b (b ∷ (sep ++ rest)) ≡ rest
+unfolding mark_at
+mark_some b sep rest is stops =
     rw (
       eq-eqb b b refl,
       sep_begins sep rest is,
@@ -87,9 +87,9 @@ opt_some b sep rest is stops =
       drop-append_seam sep rest,
     ) refl
 
-opt_again : (b : ℕ) (front rest : List ℕ) → IsPiece (Opt b) front tt → begins_with (goes_on (Opt b)) rest ≡ false → opt_at b (front ++ rest) ≡ rest
-opt_again b front rest (inl none) stops = rw none (opt_none b rest stops)
-opt_again b front rest (inr is) stops = rw is.1 (opt_some b is.0 rest is.2 stops)
+mark_again : (b : ℕ) (front rest : List ℕ) → IsPiece (Mark b) front tt → begins_with (goes_on (Mark b)) rest ≡ false → mark_at b (front ++ rest) ≡ rest
+mark_again b front rest (inl none) stops = rw none (mark_none b rest stops)
+mark_again b front rest (inr is) stops = rw is.1 (mark_some b is.0 rest is.2 stops)
 
 pub piece_found : (p : Piece) (text : List ℕ) (read : Tell p × List ℕ) → piece_at p text ≡ Some read →
     (front : List ℕ) × IsPiece p front read.0 × (text ≡ front ++ read.1)
@@ -97,17 +97,17 @@ unfolding piece_at
 piece_found (Tag tag) text read is =
     let parts = cond_some (starts_with nat_eq text tag) (tt, drop (length tag) text) read is in
     (tag, refl, begins_with_tag tag text parts.0 ∙ ap (λ r. tag ++ r.1) parts.1)
-piece_found (Opt b) text read is =
-    let found = opt_found b text in
-    (found.0, found.1, found.2 ∙ ap (λ r. found.0 ++ r.1) (same_Some (tt, opt_at b text) read is))
-piece_found Sep text read is = run_found is_blank some_bytes nothing text read is
-piece_found MSep text read is = run_found is_blank (begins_with is_space) nothing text read is
+piece_found (Mark b) text read is =
+    let found = mark_found b text in
+    (found.0, found.1, found.2 ∙ ap (λ r. found.0 ++ r.1) (same_Some (tt, mark_at b text) read is))
+piece_found Separator text read is = run_found is_blank some_bytes nothing text read is
+piece_found ModuleSeparator text read is = run_found is_blank (begins_with is_space) nothing text read is
 piece_found Gap text read is = run_found is_blank anything nothing text read is
 piece_found Word text read is = run_found is_word_byte is_word nothing text read is
 piece_found (Hex most) text read is =
     let at = number_found 16 most text read.0 read.1 is in
     (at.front, at.number, at.split)
-piece_found Dec text read is =
+piece_found Decimal text read is =
     let at = decimal_found 10 greatest text read.0 read.1 is in
     (at.0.front, record { number = at.0.number; fits = at.1 }, at.0.split)
 
@@ -116,11 +116,11 @@ pub piece_again : (p : Piece) (front rest : List ℕ) (tells : Tell p) → IsPie
 unfolding piece_at
 piece_again (Tag tag) front rest tells is stops =
     rw (is, take-append_seam tag rest, same_tag tag, drop-append_seam tag rest) refl
-piece_again (Opt b) front rest tells is stops = ap (λ r. Some (tt, r)) (opt_again b front rest is stops)
-piece_again Sep front rest tells is stops = run_again is_blank some_bytes nothing front rest tells is stops
-piece_again MSep front rest tells is stops = run_again is_blank (begins_with is_space) nothing front rest tells is stops
+piece_again (Mark b) front rest tells is stops = ap (λ r. Some (tt, r)) (mark_again b front rest is stops)
+piece_again Separator front rest tells is stops = run_again is_blank some_bytes nothing front rest tells is stops
+piece_again ModuleSeparator front rest tells is stops = run_again is_blank (begins_with is_space) nothing front rest tells is stops
 piece_again Gap front rest tells is stops = run_again is_blank anything nothing front rest tells is stops
 piece_again Word front rest tells is stops = run_again is_word_byte is_word nothing front rest tells is stops
 piece_again (Hex most) front rest tells is stops = number_again 16 most front rest tells is stops
-piece_again Dec front rest tells is stops =
+piece_again Decimal front rest tells is stops =
     decimal_again 10 greatest (front ++ rest) tells rest (record { front = front; split = refl; number = is.number; ends = stops }) is.fits

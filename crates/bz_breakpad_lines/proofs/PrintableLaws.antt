@@ -6,11 +6,11 @@ use Rattle.std.specs.Ordering.{match_ordering}
 use Rattle.std.proofs.lemmas.Bool.{or_from, or_parts, not-true}
 use Rattle.bz_base.specs.Byte.{HasNo, carriage_return, line_feed}
 use Rattle.bz_base.proofs.NumberLemmas.{digits_below}
-use Rattle.bz_breakpad_lines.specs.Byte.{ends_line}
+use Rattle.bz_breakpad_lines.specs.Byte.{is_carriage_return}
 use Rattle.bz_breakpad_lines.specs.Choice.{One, SpellsOne}
 use Rattle.bz_breakpad_lines.specs.Form.{Piece, Form, Tell, Value, AllPass, IsPiece, InTurn, Spells, greatest, told}
-use Rattle.bz_breakpad_lines.specs.Form.Piece.{Tag, Opt, Sep, MSep, Gap, Word, Hex, Dec}
-use Rattle.bz_breakpad_lines.specs.Form.Form.{End, Name, SepText, Many, ◌·◌}
+use Rattle.bz_breakpad_lines.specs.Form.Piece.{Tag, Mark, Separator, ModuleSeparator, Gap, Word, Hex, Decimal}
+use Rattle.bz_breakpad_lines.specs.Form.Form.{End, Name, SeparatorText, Many, ◌·◌}
 use Rattle.bz_breakpad_lines.specs.Grammar.{Accepted, AreRoles, IsRecordLine, Role, records_of}
 use Rattle.bz_breakpad_lines.specs.Grammar.Role.{Blank, Is}
 use Rattle.bz_breakpad_lines.specs.Names.{names_in, with_name, with_names}
@@ -39,26 +39,26 @@ all_back test (b ∷ front) back all = all_back test front back all.1
 
 piece_fits : (p : Piece) (text : List ℕ) (v : Tell p) → IsPiece p text v → PieceFits p v
 piece_fits (Tag tag) text v is = tt
-piece_fits (Opt b) text v is = tt
-piece_fits Sep text v is = tt
-piece_fits MSep text v is = tt
+piece_fits (Mark b) text v is = tt
+piece_fits Separator text v is = tt
+piece_fits ModuleSeparator text v is = tt
 piece_fits Gap text v is = tt
 piece_fits Word text v is = tt
 piece_fits (Hex most) text v is =
     let below = digits_below 16 text most (omega arith) is.few is.digits in
     let P : ℕ → Type 0 = λ n. n < 16 ^ most in
     subst P (sym is.valued) below
-piece_fits Dec text v is = is.fits
+piece_fits Decimal text v is = is.fits
 
 told_fits : (p : Piece) (f : Form) (x : Tell p) (v : Value f) → PieceFits p x → FormFits f v → FormFits (p · f) (told p x v)
 told_fits (Tag tag) f x v piece form = (tt, form)
-told_fits (Opt b) f x v piece form = (tt, form)
-told_fits Sep f x v piece form = (tt, form)
-told_fits MSep f x v piece form = (tt, form)
+told_fits (Mark b) f x v piece form = (tt, form)
+told_fits Separator f x v piece form = (tt, form)
+told_fits ModuleSeparator f x v piece form = (tt, form)
 told_fits Gap f x v piece form = (tt, form)
 told_fits Word f x v piece form = (tt, form)
 told_fits (Hex most) f x v piece form = (piece, form)
-told_fits Dec f x v piece form = (piece, form)
+told_fits Decimal f x v piece form = (piece, form)
 
 turns_fit : (f : Form) → ((text : List ℕ) (v : Value f) → AllPass is_within_line text → Spells f text v → FormFits f v) → (values : List (Value f)) (text : List ℕ) →
     AllPass is_within_line text → InTurn (Spells f) text values → AllByRecursion (FormFits f) values
@@ -73,7 +73,7 @@ form_fits End text v all is = tt
 form_fits Name text v all is =
     let P : List ℕ → Type 0 = λ name. FormFits Name name in
     subst P (sym is.1) (record { name_is = is.0; within = all })
-form_fits SepText text v all is = tt
+form_fits SeparatorText text v all is = tt
 form_fits (Many f) text values all is = (is.0, turns_fit f (form_fits f) values text all is.1)
 form_fits (p · f) text v all is =
     let P : List ℕ → Type 0 = AllPass is_within_line in
@@ -96,7 +96,7 @@ body_fits InCfi body (OfFunc one) all is = absurd is
 body_fits c body OfCfi all is = tt
 
 -- the body of a line has no ends
-body_within : (body rest : List ℕ) → HasNo line_feed (body ++ rest) → AllPass (λ b. not (ends_line b)) body → AllPass is_within_line body
+body_within : (body rest : List ℕ) → HasNo line_feed (body ++ rest) → AllPass (λ b. not (is_carriage_return b)) body → AllPass is_within_line body
 body_within [] rest none all = tt
 body_within (b ∷ body) rest none all =
     let parts = or_parts (nat_eq b line_feed) _ none in

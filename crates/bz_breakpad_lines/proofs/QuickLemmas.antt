@@ -9,11 +9,11 @@ use Rattle.std.proofs.lemmas.List.Folds.{list_any-append}
 use Rattle.bz_base.specs.Byte.{tab, line_feed, carriage_return, is_blank, space, HasNo, begins_with}
 use Rattle.bz_base.specs.Number.{IsNumber, digits_at}
 use Rattle.bz_base.proofs.ByteLemmas.{HasNo-digits}
-use Rattle.bz_breakpad_lines.specs.Byte.{ends_line, is_nothing, is_plain, is_white}
+use Rattle.bz_breakpad_lines.specs.Byte.{is_carriage_return, is_nothing, is_plain, is_white}
 use Rattle.bz_breakpad_lines.specs.Choice.{body_at}
 use Rattle.bz_breakpad_lines.specs.Form.{AllPass, Form, InTurn, Piece, Tell, With, told, Value, Spells}
-use Rattle.bz_breakpad_lines.specs.Form.Form.{End, Many, Name, SepText, ◌·◌}
-use Rattle.bz_breakpad_lines.specs.Form.Piece.{Tag, Opt, Sep, MSep, Gap, Word, Hex, Dec}
+use Rattle.bz_breakpad_lines.specs.Form.Form.{End, Many, Name, SeparatorText, ◌·◌}
+use Rattle.bz_breakpad_lines.specs.Form.Piece.{Tag, Mark, Separator, ModuleSeparator, Gap, Word, Hex, Decimal}
 use Rattle.bz_breakpad_lines.specs.Kinds.{as_func, as_inline, as_line}
 use Rattle.bz_breakpad_lines.specs.Line.{line_front, line_in, source_line}
 use Rattle.bz_breakpad_lines.specs.Quick.{AreInTurn, IsAsciiLine, IsFormLine, IsQuick, ended_by}
@@ -48,23 +48,23 @@ use Rattle.bz_breakpad_lines.specs.declared.start_text.StartText.{StartText}
 -- the value of a piece and a form, with another value of the form
 abbrev pub lift : (p : Piece) → {A B : Type 0} → (A → B) → With p A → With p B
 lift (Tag t) h v = h v
-lift (Opt b) h v = h v
-lift Sep h v = h v
-lift MSep h v = h v
+lift (Mark b) h v = h v
+lift Separator h v = h v
+lift ModuleSeparator h v = h v
 lift Gap h v = h v
 lift Word h v = h v
 lift (Hex most) h v = (v.0, h v.1)
-lift Dec h v = (v.0, h v.1)
+lift Decimal h v = (v.0, h v.1)
 
 pub lift_told : (p : Piece) {A B : Type 0} (h : A → B) (x : Tell p) (a : A) → lift p h (told p x a) ≡ told p x (h a)
 lift_told (Tag t) h x a = refl
-lift_told (Opt b) h x a = refl
-lift_told Sep h x a = refl
-lift_told MSep h x a = refl
+lift_told (Mark b) h x a = refl
+lift_told Separator h x a = refl
+lift_told ModuleSeparator h x a = refl
 lift_told Gap h x a = refl
 lift_told Word h x a = refl
 lift_told (Hex most) h x a = refl
-lift_told Dec h x a = refl
+lift_told Decimal h x a = refl
 
 -- the values of fields, and what the line's end tells
 abbrev pub with_end : (f g : Form) → Value g → Value f → Value (ended_by f g)
@@ -107,38 +107,38 @@ no_blank byte other (b ∷ text) blank =
 abbrev pub IsClean : ℕ → Form → Type 0
 IsClean byte End = Unit {0}
 IsClean byte (Tag tag · f) = HasNo byte tag × IsClean byte f
-IsClean byte (Opt b · f) = (nat_eq b byte ≡ false) × IsClean byte f
-IsClean byte (Sep · f) = IsClean byte f
+IsClean byte (Mark b · f) = (nat_eq b byte ≡ false) × IsClean byte f
+IsClean byte (Separator · f) = IsClean byte f
 IsClean byte (Gap · f) = IsClean byte f
 IsClean byte (Hex most · f) = IsClean byte f
-IsClean byte (Dec · f) = IsClean byte f
+IsClean byte (Decimal · f) = IsClean byte f
 IsClean byte _ = ⊥
 
 pub none_in : (byte : ℕ) → is_blank byte ≡ false → 16 ≤ digit_value byte → (f : Form) → IsClean byte f → (text : List ℕ) (v : Value f) → Spells f text v → HasNo byte text
 none_in byte other no_digit End clean text v is = rw is refl
 none_in byte other no_digit (Tag tag · f) clean text v is =
     rw (is.whole, is.front_is) (both byte tag is.back clean.0 (none_in byte other no_digit f clean.1 is.back is.others is.back_is))
-none_in byte other no_digit (Opt b · f) clean text v is =
+none_in byte other no_digit (Mark b · f) clean text v is =
     rw is.whole (both byte is.front is.back
     (elim is.front_is [
       | inl none ↦ rw none refl
       | inr (sep, whole, sep_is) ↦ rw whole (or_from _ _ clean.0 (no_blank byte other sep sep_is.bytes))
     ])
     (none_in byte other no_digit f clean.1 is.back is.others is.back_is))
-none_in byte other no_digit (Sep · f) clean text v is =
+none_in byte other no_digit (Separator · f) clean text v is =
     rw is.whole (both byte is.front is.back (no_blank byte other is.front is.front_is.bytes) (none_in byte other no_digit f clean is.back is.others is.back_is))
 none_in byte other no_digit (Gap · f) clean text v is =
     rw is.whole (both byte is.front is.back (no_blank byte other is.front is.front_is.bytes) (none_in byte other no_digit f clean is.back is.others is.back_is))
 none_in byte other no_digit (Hex most · f) clean text v is =
     rw is.whole (both byte is.front is.back (HasNo-digits 16 byte is.front no_digit is.front_is.digits) (none_in byte other no_digit f clean is.back is.others is.back_is))
-none_in byte other no_digit (Dec · f) clean text v is =
+none_in byte other no_digit (Decimal · f) clean text v is =
     rw is.whole (both byte is.front is.back (HasNo-digits 10 byte is.front (omega (arith, no_digit)) is.front_is.number.digits) (none_in byte other no_digit f clean is.back is.others is.back_is))
 none_in byte other no_digit _ clean text v is = absurd clean
 
 -- a line without a carriage return is its body
 its_body : (line : List ℕ) → HasNo carriage_return line → body_at line ≡ Some line
 its_body line none = body_again line line (record { ends = []; whole = sym (append-nil line); body_is = passes line none; ends_are = tt }) where
-  passes : (text : List ℕ) → HasNo carriage_return text → AllPass (λ b. not (ends_line b)) text
+  passes : (text : List ℕ) → HasNo carriage_return text → AllPass (λ b. not (is_carriage_return b)) text
   passes [] none = tt
   passes (b ∷ text) none =
       let parts = or_parts (nat_eq b carriage_return) (list_any (λ c. nat_eq c carriage_return) text) none in
@@ -250,14 +250,14 @@ no_code more = refl
 -- an INLINE record
 quick_inline : (text rest : List ℕ) (value : Value INLINE) → IsFormLine INLINE text value rest → IsQuick InFunc text (OfFunc (as_inline value)) rest
 quick_inline text rest value is =
-    let begins = tagged (codes "INLINE ") is.line (Gap · Dec · Sep · Dec · Sep · Dec · Sep · Dec · Many RANGE) value is.spells in
+    let begins = tagged (codes "INLINE ") is.line (Gap · Decimal · Separator · Decimal · Separator · Decimal · Separator · Decimal · Many RANGE) value is.spells in
     quick_form InFunc INLINE (OfFunc (as_inline value)) text rest value is (rw (ap (form_at LINE) begins ∙ no_code is.spells.back, form_again INLINE refl is.line value is.spells) refl)
     (ap (begins_with is_white) begins) (ap is_nothing begins)
 
 -- a STACK CFI record
 quick_cfi : (text rest : List ℕ) → IsFormLine STACK_CFI text tt rest → IsQuick InCfi text OfCfi rest
 quick_cfi text rest is =
-    let begins = tagged (codes "STACK CFI") is.line SepText tt is.spells in
+    let begins = tagged (codes "STACK CFI") is.line SeparatorText tt is.spells in
     quick_form InCfi STACK_CFI OfCfi text rest tt is (rw (form_again STACK_CFI refl is.line tt is.spells) refl)
     (ap (begins_with is_white) begins) (ap is_nothing begins)
 
@@ -273,7 +273,7 @@ no_other InCfi more value is = rw is refl
 quick_func : (c : Context) (text rest : List ℕ) (value : Value FUNC) → IsFormLine FUNC text value rest →
     IsQuick c text (Top (as_func value)) rest
 quick_func c text rest value is =
-    let begins = tagged (codes "FUNC") is.line (Sep · Opt letter_m · Hex 16 · Sep · Hex 8 · Sep · Hex 8 · Sep · Name) value is.spells in
+    let begins = tagged (codes "FUNC") is.line (Separator · Mark letter_m · Hex 16 · Separator · Hex 8 · Separator · Hex 8 · Separator · Name) value is.spells in
     let read = no_other c is.spells.back value (ap (form_at FUNC) (sym begins) ∙ form_again FUNC refl is.line value is.spells) in
     quick_form c FUNC (Top (as_func value)) text rest value is (ap (body_record c) begins ∙ read) (ap (begins_with is_white) begins) (ap is_nothing begins)
 
@@ -295,15 +295,15 @@ pub call_read : (text fields : List ℕ) (depth line file origin : ℕ) → Some
 call_read text fields depth line file origin is_tag is_depth before_line is_line before_file is_file before_origin is_origin =
     let rest = drop origin fields in
     let origin_read = dec_next End fields file origin tt rest before_origin is_origin refl in
-    let file_read = dec_next (Sep · Dec · End) fields line file (number_between 10 fields (file + 1) origin, tt) rest before_file is_file origin_read in
-    let line_read = dec_next (Sep · Dec · Sep · Dec · End) fields depth line (number_between 10 fields (line + 1) file, (number_between 10 fields (file + 1) origin, tt)) rest before_line is_line file_read in
+    let file_read = dec_next (Separator · Decimal · End) fields line file (number_between 10 fields (file + 1) origin, tt) rest before_file is_file origin_read in
+    let line_read = dec_next (Separator · Decimal · Separator · Decimal · End) fields depth line (number_between 10 fields (line + 1) file, (number_between 10 fields (file + 1) origin, tt)) rest before_line is_line file_read in
     rw (sym is_tag, no_gap fields 0 depth is_depth, dec_read fields 0 depth is_depth, line_read) refl
 
 -- a range
 pub range_read : (text : List ℕ) (addr size : ℕ) → slice_index text 0 ≡ space → AreDigits 16 8 text 1 addr → slice_index text addr ≡ space → AreDigits 16 8 text (addr + 1) size →
     reads RANGE text ≡ Some ((number_between 16 text 1 addr, (number_between 16 text (addr + 1) size, tt)), drop size text)
 range_read text addr size before_addr is_addr before_size is_size =
-    hex_next (Sep · Hex 8 · End) text 0 addr (number_between 16 text (addr + 1) size, tt) (drop size text) before_addr 16 is_addr (omega arith)
+    hex_next (Separator · Hex 8 · End) text 0 addr (number_between 16 text (addr + 1) size, tt) (drop size text) before_addr 16 is_addr (omega arith)
     (hex_next End text addr size tt (drop size text) before_size 8 is_size (omega arith) refl)
 
 pub range_kept : (before after : List Range) (range : Range) → after ≡ before ++ range ∷ [] → ranges_told after ≡ ranges_told before ++ range_told range ∷ []
@@ -315,13 +315,13 @@ pub line_read : (text : List ℕ) (start size line file : ℕ) (rest : List ℕ)
     reads LINE text ≡ Some ((number_between 16 text 0 start, (number_between 16 text (start + 1) size, (number_between 10 text (size + 1) line, (number_between 10 text (line + 1) file, tt)))), rest)
 line_read text start size line file rest is_start before_size is_size before_line is_line before_file is_file ends =
     let file_read = dec_next End text line file tt rest before_file is_file (ap (λ t. Some (tt, t)) ends) in
-    let line_read = dec_next (Sep · Dec · End) text size line (number_between 10 text (line + 1) file, tt) rest before_line is_line file_read in
-    let size_read = hex_next (Sep · Dec · Sep · Dec · End) text start size (number_between 10 text (size + 1) line, (number_between 10 text (line + 1) file, tt)) rest before_size 8 is_size (omega arith) line_read in
+    let line_read = dec_next (Separator · Decimal · End) text size line (number_between 10 text (line + 1) file, tt) rest before_line is_line file_read in
+    let size_read = hex_next (Separator · Decimal · Separator · Decimal · End) text start size (number_between 10 text (size + 1) line, (number_between 10 text (line + 1) file, tt)) rest before_size 8 is_size (omega arith) line_read in
     rw (hex_read text 0 start 16 16 is_start (omega arith), size_read) refl
 
 -- the fields of a FUNC record
 abbrev FUNC_FIELDS : Form
-FUNC_FIELDS = Tag (codes "FUNC") · Sep · Opt letter_m · Hex 16 · Sep · Hex 8 · Sep · Hex 8 · Sep · End
+FUNC_FIELDS = Tag (codes "FUNC") · Separator · Mark letter_m · Hex 16 · Separator · Hex 8 · Separator · Hex 8 · Separator · End
 
 func_read : (text fields : List ℕ) (start size parameter_size : ℕ) → text ≡ codes "FUNC " ++ fields → AreDigits 16 8 fields 0 start →
     slice_index fields start ≡ space → AreDigits 16 8 fields (start + 1) size → slice_index fields size ≡ space → AreDigits 16 8 fields (size + 1) parameter_size →
@@ -330,16 +330,16 @@ func_read : (text fields : List ℕ) (start size parameter_size : ℕ) → text 
 func_read text fields start size parameter_size whole is_start before_size is_size before_parameter is_parameter before_name solid =
     let rest = drop (parameter_size + 1) fields in
     let digits = piece_found (Hex 8) fields (number_between 16 fields 0 start, drop start fields) (hex_read fields 0 start 8 8 is_start (omega arith)) in
-    let no_mark : begins_with (goes_on (Opt letter_m)) fields ≡ false
-    = ap (begins_with (goes_on (Opt letter_m))) digits.2
-    ∙ hex_begins 8 (number_between 16 fields 0 start) (goes_on (Opt letter_m)) (λ b is. or_from _ _ (hex_no_blank b is) (other_than letter_m refl b is)) digits.0 (drop start fields) digits.1 in
-    let name_read = next Sep End (drop parameter_size fields) rest rest tt tt (one_space fields parameter_size is_parameter.2 before_name solid) refl in
-    let parameter_read = hex_next (Sep · End) fields size parameter_size tt rest before_parameter 8 is_parameter (omega arith) name_read in
-    let size_read = hex_next (Sep · Hex 8 · Sep · End) fields start size (number_between 16 fields (size + 1) parameter_size, tt) rest before_size 8 is_size (omega arith) parameter_read in
+    let no_mark : begins_with (goes_on (Mark letter_m)) fields ≡ false
+    = ap (begins_with (goes_on (Mark letter_m))) digits.2
+    ∙ hex_begins 8 (number_between 16 fields 0 start) (goes_on (Mark letter_m)) (λ b is. or_from _ _ (hex_no_blank b is) (other_than letter_m refl b is)) digits.0 (drop start fields) digits.1 in
+    let name_read = next Separator End (drop parameter_size fields) rest rest tt tt (one_space fields parameter_size is_parameter.2 before_name solid) refl in
+    let parameter_read = hex_next (Separator · End) fields size parameter_size tt rest before_parameter 8 is_parameter (omega arith) name_read in
+    let size_read = hex_next (Separator · Hex 8 · Separator · End) fields start size (number_between 16 fields (size + 1) parameter_size, tt) rest before_size 8 is_size (omega arith) parameter_read in
     rw (
       ap (piece_at (Tag (codes "FUNC"))) whole ∙ piece_again (Tag (codes "FUNC")) (codes "FUNC") (space ∷ fields) tt refl refl,
       one_space (space ∷ fields) 0 (omega arith) refl (hex_solid fields 0 start 8 is_start),
-      piece_again (Opt letter_m) [] fields tt (inl refl) no_mark,
+      piece_again (Mark letter_m) [] fields tt (inl refl) no_mark,
       hex_read fields 0 start 8 16 is_start (omega arith),
       size_read,
     ) refl
@@ -368,7 +368,7 @@ cfi_found text more tail rest is_tag ascii =
     let front = piece_found (Tag (codes "STACK CFI ")) text (tt, more) (sym is_tag) in
     let end = space ∷ tail in
     quick_cfi text rest
-    (made_of (Tag (codes "STACK CFI") · End) SepText tt (refl, tt) (refl, tt) text (codes "STACK CFI") end rest tt tt
+    (made_of (Tag (codes "STACK CFI") · End) SeparatorText tt (refl, tt) (refl, tt) text (codes "STACK CFI") end rest tt tt
     (front.2 ∙ ap (λ t. t ++ more) front.1 ∙ ap (λ t. codes "STACK CFI " ++ t) ascii.cut)
     (record { front = codes "STACK CFI"; back = []; whole = refl; tells = tt; others = tt; front_is = refl; back_is = refl; valued = refl })
     (record { sep = space ∷ []; more = tail; whole = refl; sep_is = record { bytes = (refl, tt); passes = refl; tells = refl } })

@@ -3,7 +3,7 @@ use Rattle.std.proofs.Common.{◌≡◌, [], ◌∷◌, None, Some, codes, refl}
 use Rattle.std.specs.Str.{is_utf8, chars}
 use Rattle.bz_base.specs.Number.{digits_at}
 use Rattle.bz_breakpad_lines.specs.Choice.{body_at}
-use Rattle.bz_breakpad_lines.specs.Reads.{run_at, opt_at, piece_at, name_at, turns_at, many_at}
+use Rattle.bz_breakpad_lines.specs.Reads.{run_at, mark_at, piece_at, name_at, turns_at, many_at}
 use Rattle.bz_breakpad_lines.specs.Reader.{table_in, counted_in, reading_in}
 use Rattle.bz_breakpad_lines.specs.Walk.{record_at, after_white}
 use lib.Utf8.{encode}
@@ -26,12 +26,12 @@ line_after_blank : counted_in (codes "FUNC 1 2 3 x\n\n1 2 3 4\n") ≡ Some (
   },
   2,
 )
-unfolding reading_in run_at opt_at piece_at name_at turns_at many_at body_at record_at after_white digits_at is_utf8 chars encode
+unfolding reading_in run_at mark_at piece_at name_at turns_at many_at body_at record_at after_white digits_at is_utf8 chars encode
 line_after_blank = refl
 
 -- no blank line stands after a line record
 blank_after_line : table_in (codes "FUNC 1 2 3 x\n1 2 3 4\n\nFILE 1 a.c\n") ≡ None
-unfolding reading_in run_at opt_at piece_at name_at turns_at many_at body_at record_at after_white digits_at is_utf8 chars encode
+unfolding reading_in run_at mark_at piece_at name_at turns_at many_at body_at record_at after_white digits_at is_utf8 chars encode
 blank_after_line = refl
 
 -- a file with a module, white space, ranges of an inlined call, two names of one id, and a function with an empty name
@@ -53,17 +53,17 @@ many_records : counted_in (codes "MODULE Linux x86 1 m n\r\n\t\r\n FUNC m a 10 0
   },
   9,
 )
-unfolding reading_in run_at opt_at piece_at name_at turns_at many_at body_at record_at after_white digits_at is_utf8 chars encode
+unfolding reading_in run_at mark_at piece_at name_at turns_at many_at body_at record_at after_white digits_at is_utf8 chars encode
 many_records = refl
 
 -- no MODULE record stands after another record
 module_second : table_in (codes "FILE 1 a\nMODULE Linux x86 1 m\n") ≡ None
-unfolding reading_in run_at opt_at piece_at name_at turns_at many_at body_at record_at after_white digits_at is_utf8 chars encode
+unfolding reading_in run_at mark_at piece_at name_at turns_at many_at body_at record_at after_white digits_at is_utf8 chars encode
 module_second = refl
 
 -- no line lacks its end
 last_unended : table_in (codes "FILE 1 a\nFILE 2 b") ≡ None
-unfolding reading_in run_at opt_at piece_at name_at turns_at many_at body_at record_at after_white digits_at is_utf8 chars encode
+unfolding reading_in run_at mark_at piece_at name_at turns_at many_at body_at record_at after_white digits_at is_utf8 chars encode
 last_unended = refl
 
 -- no file is empty
@@ -73,10 +73,10 @@ nothing_there = refl
 
 -- no line record stands outside of a function
 line_outside : table_in (codes "FUNC 1 2 3 x\nFILE 1 a\n1 2 3 4\n") ≡ None
-unfolding reading_in run_at opt_at piece_at name_at turns_at many_at body_at record_at after_white digits_at is_utf8 chars encode
+unfolding reading_in run_at mark_at piece_at name_at turns_at many_at body_at record_at after_white digits_at is_utf8 chars encode
 line_outside = refl
 
 -- the first line isn't blank
 blank_first : table_in (codes "\nFILE 1 a\n") ≡ None
-unfolding reading_in run_at opt_at piece_at name_at turns_at many_at body_at record_at after_white digits_at is_utf8 chars encode
+unfolding reading_in run_at mark_at piece_at name_at turns_at many_at body_at record_at after_white digits_at is_utf8 chars encode
 blank_first = refl

@@ -10,11 +10,11 @@ use Rattle.std.proofs.Math.Nat.{pow-suc, pow-le-pow_right}
 use Rattle.bz_base.specs.Byte.{HasNo, begins_with, carriage_return, line_feed}
 use Rattle.bz_base.specs.Line.{ended}
 use Rattle.bz_base.specs.Number.{IsNumber}
-use Rattle.bz_breakpad_lines.specs.Byte.{ends_line, is_white}
+use Rattle.bz_breakpad_lines.specs.Byte.{is_carriage_return, is_white}
 use Rattle.bz_breakpad_lines.specs.Choice.{One, SpellsOne}
 use Rattle.bz_breakpad_lines.specs.Form.{Piece, Form, Tell, With, Value, AllPass, IsPiece, InTurn, Spells, greatest, told}
-use Rattle.bz_breakpad_lines.specs.Form.Piece.{Tag, Opt, Sep, MSep, Gap, Word, Hex, Dec}
-use Rattle.bz_breakpad_lines.specs.Form.Form.{End, Name, SepText, Many, ◌·◌}
+use Rattle.bz_breakpad_lines.specs.Form.Piece.{Tag, Mark, Separator, ModuleSeparator, Gap, Word, Hex, Decimal}
+use Rattle.bz_breakpad_lines.specs.Form.Form.{End, Name, SeparatorText, Many, ◌·◌}
 use Rattle.bz_breakpad_lines.specs.Grammar.{Accepted, AreRoles, IsNoModule, IsRecordLine, Role, records_of, under_owner}
 use Rattle.bz_breakpad_lines.specs.Grammar.Role.{Is}
 use Rattle.bz_breakpad_lines.specs.Records.{TOP, INNER, STACK_CFI}
@@ -99,23 +99,23 @@ are_plain (f ∷ forms) = is_plain f && are_plain forms
 
 piece_is : (p : Piece) → is_plain_piece p ≡ true → (v : Tell p) → PieceFits p v → IsPiece p (piece_text p v) v
 piece_is (Tag tag) plain v fits = refl
-piece_is (Opt b) plain v fits = inl refl
-piece_is Sep plain v fits = record { bytes = (refl, tt); passes = refl; tells = refl }
-piece_is MSep plain v fits = record { bytes = (refl, tt); passes = refl; tells = refl }
+piece_is (Mark b) plain v fits = inl refl
+piece_is Separator plain v fits = record { bytes = (refl, tt); passes = refl; tells = refl }
+piece_is ModuleSeparator plain v fits = record { bytes = (refl, tt); passes = refl; tells = refl }
 piece_is Gap plain v fits = record { bytes = tt; passes = refl; tells = refl }
 piece_is Word plain v fits = record { bytes = (refl, tt); passes = refl; tells = refl }
 piece_is (Hex most) plain v fits = hex_is most plain v fits
-piece_is Dec plain v fits = record { number = decimal_is v fits; fits = fits }
+piece_is Decimal plain v fits = record { number = decimal_is v fits; fits = fits }
 
 told_again : (p : Piece) (A : Type 0) (v : With p A) → v ≡ told p (first_told p A v) (rest_told p A v)
 told_again (Tag t) A v = refl
-told_again (Opt b) A v = refl
-told_again Sep A v = refl
-told_again MSep A v = refl
+told_again (Mark b) A v = refl
+told_again Separator A v = refl
+told_again ModuleSeparator A v = refl
 told_again Gap A v = refl
 told_again Word A v = refl
 told_again (Hex most) A v = refl
-told_again Dec A v = refl
+told_again Decimal A v = refl
 
 in_turn : (f : Form) → ((v : Value f) → FormFits f v → Spells f (form_text f v) v) → (values : List (Value f)) →
     AllByRecursion (FormFits f) values → InTurn (Spells f) (flat_map (form_text f) values) values
@@ -126,7 +126,7 @@ in_turn f each (v ∷ values) fit = (form_text f v, flat_map (form_text f) value
 pub spelled : (f : Form) → is_plain f ≡ true → (v : Value f) → FormFits f v → Spells f (form_text f v) v
 spelled End plain v fits = refl
 spelled Name plain v fits = (fits.name_is, refl)
-spelled SepText plain v fits = record { sep = 32 ∷ []; more = 45 ∷ []; whole = refl; sep_is = record { bytes = (refl, tt); passes = refl; tells = refl } }
+spelled SeparatorText plain v fits = record { sep = 32 ∷ []; more = 45 ∷ []; whole = refl; sep_is = record { bytes = (refl, tt); passes = refl; tells = refl } }
 spelled (Many f) plain values fits = (fits.0, in_turn f (spelled f plain) values fits.1)
 spelled (p · f) plain v fits =
     let parts = and_parts (is_plain_piece p) (is_plain f) plain in
@@ -158,13 +158,13 @@ all_from test (b ∷ text) all = let parts = and_parts (test b) (list_all test t
 
 piece_in_line : (p : Piece) → is_plain_piece p ≡ true → (v : Tell p) → PieceFits p v → AllPass is_within_line (piece_text p v)
 piece_in_line (Tag tag) plain v fits = all_from is_within_line tag plain
-piece_in_line (Opt b) plain v fits = tt
-piece_in_line Sep plain v fits = (refl, tt)
-piece_in_line MSep plain v fits = (refl, tt)
+piece_in_line (Mark b) plain v fits = tt
+piece_in_line Separator plain v fits = (refl, tt)
+piece_in_line ModuleSeparator plain v fits = (refl, tt)
 piece_in_line Gap plain v fits = tt
 piece_in_line Word plain v fits = (refl, tt)
 piece_in_line (Hex most) plain v fits = digits_in_line 16 (omega arith) (digits 16 false v) (hex_is most plain v fits).digits
-piece_in_line Dec plain v fits = digits_in_line 10 (omega arith) (decimal v) (decimal_is v fits).digits
+piece_in_line Decimal plain v fits = digits_in_line 10 (omega arith) (decimal v) (decimal_is v fits).digits
 
 all_in_line : (f : Form) → ((v : Value f) → FormFits f v → AllPass is_within_line (form_text f v)) → (values : List (Value f)) →
     AllByRecursion (FormFits f) values → AllPass is_within_line (flat_map (form_text f) values)
@@ -175,7 +175,7 @@ all_in_line f each (v ∷ values) fit =
 form_in_line : (f : Form) → is_plain f ≡ true → (v : Value f) → FormFits f v → AllPass is_within_line (form_text f v)
 form_in_line End plain v fits = tt
 form_in_line Name plain v fits = fits.within
-form_in_line SepText plain v fits = (refl, (refl, tt))
+form_in_line SeparatorText plain v fits = (refl, (refl, tt))
 form_in_line (Many f) plain values fits = all_in_line f (form_in_line f plain) values fits.1
 form_in_line (p · f) plain v fits =
     let parts = and_parts (is_plain_piece p) (is_plain f) plain in
@@ -222,7 +222,7 @@ record_solid (Top one) fits = one_solid TOP refl one fits
 record_solid (OfFunc one) fits = one_solid INNER refl one fits
 record_solid OfCfi fits = refl
 
-no_ends : (text : List ℕ) → AllPass is_within_line text → AllPass (λ b. not (ends_line b)) text
+no_ends : (text : List ℕ) → AllPass is_within_line text → AllPass (λ b. not (is_carriage_return b)) text
 no_ends [] all = tt
 no_ends (b ∷ text) all = (rw (or_parts (nat_eq b line_feed) (nat_eq b carriage_return) (not-true _ all.0)).1 refl, no_ends text all.1)
 

@@ -31,9 +31,8 @@ is_white b = is_blank b || b == carriage_return
 abbrev pub is_plain : ℕ → Bool
 is_plain b = is_ascii b && not (b == line_feed || b == carriage_return)
 
--- the bytes that end a line
-abbrev pub ends_line : ℕ → Bool
-ends_line b = b == carriage_return
+abbrev pub is_carriage_return : ℕ → Bool
+is_carriage_return b = b == carriage_return
 
 abbrev pub is_nothing : List ℕ → Bool
 is_nothing [] = true

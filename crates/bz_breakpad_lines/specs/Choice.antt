@@ -2,7 +2,7 @@
 use Rattle.std.specs.Prelude.{◌≡◌, ◌↔◌, ℕ, not, ◌⊎◌, List, [], ◌∷◌, ◌++◌, take, drop, Option, Some, None, option_map, if◌then◌else◌}
 use mathlib.Core.Logic.{inl, inr}
 use Rattle.std.specs.List.{prefix_len, list_all}
-use Rattle.bz_breakpad_lines.specs.Byte.{ends_line}
+use Rattle.bz_breakpad_lines.specs.Byte.{is_carriage_return}
 use Rattle.bz_breakpad_lines.specs.Form.{Form, Value, AllPass, Spells}
 use Rattle.bz_breakpad_lines.specs.Reads.{◌>>=◌, form_at}
 
@@ -29,13 +29,13 @@ one_at (f ∷ forms) text = or_else (form_at f text) (one_at forms text)
 pub record IsBody (line body : List ℕ) : Type 0 where
   pub ends : List ℕ
   pub whole : line ≡ body ++ ends
-  pub body_is : AllPass (λ b. not (ends_line b)) body
-  pub ends_are : AllPass ends_line ends
+  pub body_is : AllPass (λ b. not (is_carriage_return b)) body
+  pub ends_are : AllPass is_carriage_return ends
 
 unfoldable pub body_at : List ℕ → Option (List ℕ)
 body_at line =
-    let n = prefix_len (λ b. not (ends_line b)) line in
-    if list_all ends_line (drop n line) then Some (take n line) else None
+    let n = prefix_len (λ b. not (is_carriage_return b)) line in
+    if list_all is_carriage_return (drop n line) then Some (take n line) else None
 
 -- the line of a record of one of the forms
 pub record IsLine (forms : List Form) (line : List ℕ) (one : One forms) : Type 0 where

@@ -7,50 +7,50 @@ use Rattle.bz_breakpad_lines.specs.Byte.{is_space, is_tab, is_word_byte}
 -- a piece of a line
 pub data Piece : Type 0 where
   Tag : List ℕ → Piece  -- these bytes
-  Opt : ℕ → Piece  -- this byte and a separator, or nothing
-  Sep : Piece  -- one or more blanks
-  MSep : Piece  -- a space, and any number of blanks
+  Mark : ℕ → Piece  -- this byte and a separator, or nothing
+  Separator : Piece  -- one or more blanks
+  ModuleSeparator : Piece  -- a space, and any number of blanks: what divides the fields of a MODULE record
   Gap : Piece  -- any number of blanks
   Word : Piece  -- bytes other than space, of which the first is no tab
   Hex : ℕ → Piece  -- one to so many hexadecimal digits
-  Dec : Piece  -- one to ten decimal digits, of a number of 32 bits
+  Decimal : Piece  -- one to ten decimal digits, of a number of 32 bits
 
 -- a form: pieces, and what ends the line
 infixr 30 ◌·◌
 pub data Form : Type 0 where
   End : Form  -- nothing more
   Name : Form  -- a name
-  SepText : Form  -- a separator, and any text
+  SeparatorText : Form  -- a separator, and any text
   Many : Form → Form  -- one or more times this form
   ◌·◌ : Piece → Form → Form  -- the piece, and then the form
 
 -- what a piece tells
 abbrev pub Tell : Piece → Type 0
 Tell (Hex most) = ℕ
-Tell Dec = ℕ
+Tell Decimal = ℕ
 Tell _ = Unit {0}
 
 -- a pair, where the piece tells something
 abbrev pub With : Piece → Type 0 → Type 0
 With (Hex most) A = ℕ × A
-With Dec A = ℕ × A
+With Decimal A = ℕ × A
 With _ A = A
 
 abbrev pub told : (p : Piece) → {A : Type 0} → Tell p → A → With p A
 told (Tag t) x rest = rest
-told (Opt b) x rest = rest
-told Sep x rest = rest
-told MSep x rest = rest
+told (Mark b) x rest = rest
+told Separator x rest = rest
+told ModuleSeparator x rest = rest
 told Gap x rest = rest
 told Word x rest = rest
 told (Hex most) x rest = (x, rest)
-told Dec x rest = (x, rest)
+told Decimal x rest = (x, rest)
 
 -- what a line of the form tells: the numbers of its fields, and its name
 abbrev pub Value : Form → Type 0
 Value End = Unit {0}
 Value Name = List ℕ
-Value SepText = Unit {0}
+Value SeparatorText = Unit {0}
 Value (Many f) = List (Value f)
 Value (p · f) = With p (Value f)
 
@@ -81,30 +81,30 @@ abbrev pub nothing : List ℕ → Unit {0}
 nothing text = tt
 
 -- a separator: one or more spaces and tabs
-abbrev pub IsSep : List ℕ → Type 0
-IsSep text = IsRun is_blank some_bytes nothing text tt
+abbrev pub IsSeparator : List ℕ → Type 0
+IsSeparator text = IsRun is_blank some_bytes nothing text tt
 
 -- the text is the piece, and tells the value
 abbrev pub IsPiece : (p : Piece) → List ℕ → Tell p → Type 0
 IsPiece (Tag tag) text value = text ≡ tag
-IsPiece (Opt b) text value = (text ≡ []) ⊎ ((sep : List ℕ) × (text ≡ b ∷ sep) × IsSep sep)
-IsPiece Sep text value = IsSep text
-IsPiece MSep text value = IsRun is_blank (begins_with is_space) nothing text value
+IsPiece (Mark b) text value = (text ≡ []) ⊎ ((sep : List ℕ) × (text ≡ b ∷ sep) × IsSeparator sep)
+IsPiece Separator text value = IsSeparator text
+IsPiece ModuleSeparator text value = IsRun is_blank (begins_with is_space) nothing text value
 IsPiece Gap text value = IsRun is_blank anything nothing text value
 IsPiece Word text value = IsRun is_word_byte is_word nothing text value
 IsPiece (Hex most) text value = IsHex most text value
-IsPiece Dec text value = IsDecimal 10 greatest text value
+IsPiece Decimal text value = IsDecimal 10 greatest text value
 
 -- a name begins with no blank; it may be empty
 pub record IsName (text : List ℕ) : Type 0 where
   pub utf8 : IsUtf8 text
   pub front : begins_with is_blank text ≡ false
 
-pub record IsSepText (text : List ℕ) : Type 0 where
+pub record IsSeparatorText (text : List ℕ) : Type 0 where
   pub sep : List ℕ
   pub more : List ℕ
   pub whole : text ≡ sep ++ more
-  pub sep_is : IsSep sep
+  pub sep_is : IsSeparator sep
 
 -- a text that is a text of P for each of the values, one after another
 abbrev pub InTurn : {A : Type 0} → (List ℕ → A → Type 0) → List ℕ → List A → Type 0
@@ -126,6 +126,6 @@ pub record Splits {A V : Type 0} (p : Piece) (P : List ℕ → A → Type 0) (pa
 abbrev pub Spells : (f : Form) → List ℕ → Value f → Type 0
 Spells End text value = text ≡ []
 Spells Name text value = IsName text × (value ≡ text)
-Spells SepText text value = IsSepText text
+Spells SeparatorText text value = IsSeparatorText text
 Spells (Many f) text values = (0 < length values) × InTurn (Spells f) text values
 Spells (p · f) text value = Splits p (Spells f) (told p) text value

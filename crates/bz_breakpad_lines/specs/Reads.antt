@@ -6,8 +6,8 @@ use Rattle.bz_base.specs.Byte.{is_blank, begins_with}
 use Rattle.bz_base.specs.Number.{hex_at, decimal_at}
 use Rattle.bz_breakpad_lines.specs.Byte.{is_space, is_word_byte}
 use Rattle.bz_breakpad_lines.specs.Form.{Piece, Form, Tell, told, Value, some_bytes, anything, is_word, greatest, nothing, Spells}
-use Rattle.bz_breakpad_lines.specs.Form.Piece.{Tag, Opt, Sep, MSep, Gap, Word, Hex, Dec}
-use Rattle.bz_breakpad_lines.specs.Form.Form.{End, Name, SepText, Many, ◌·◌}
+use Rattle.bz_breakpad_lines.specs.Form.Piece.{Tag, Mark, Separator, ModuleSeparator, Gap, Word, Hex, Decimal}
+use Rattle.bz_breakpad_lines.specs.Form.Form.{End, Name, SeparatorText, Many, ◌·◌}
 
 -- what is read next, where the first was there
 infixl 10 ◌>>=◌
@@ -22,20 +22,20 @@ run_at byte whole tell text =
     if whole (take n text) then Some (tell (take n text), drop n text) else None
 
 -- the text after the byte and a separator, and else the text
-unfoldable pub opt_at : ℕ → List ℕ → List ℕ
-opt_at b [] = []
-opt_at b (c ∷ text) = if c == b && begins_with is_blank text then drop (prefix_len is_blank text) text else c ∷ text
+unfoldable pub mark_at : ℕ → List ℕ → List ℕ
+mark_at b [] = []
+mark_at b (c ∷ text) = if c == b && begins_with is_blank text then drop (prefix_len is_blank text) text else c ∷ text
 
 -- the piece at the front of the text
 unfoldable pub piece_at : (p : Piece) → List ℕ → Option (Tell p × List ℕ)
 piece_at (Tag tag) text = if starts_with nat_eq text tag then Some (tt, drop (length tag) text) else None
-piece_at (Opt b) text = Some (tt, opt_at b text)
-piece_at Sep text = run_at is_blank some_bytes nothing text
-piece_at MSep text = run_at is_blank (begins_with is_space) nothing text
+piece_at (Mark b) text = Some (tt, mark_at b text)
+piece_at Separator text = run_at is_blank some_bytes nothing text
+piece_at ModuleSeparator text = run_at is_blank (begins_with is_space) nothing text
 piece_at Gap text = run_at is_blank anything nothing text
 piece_at Word text = run_at is_word_byte is_word nothing text
 piece_at (Hex most) text = hex_at most text
-piece_at Dec text = decimal_at 10 greatest text
+piece_at Decimal text = decimal_at 10 greatest text
 
 unfoldable pub name_at : List ℕ → Option (List ℕ × List ℕ)
 name_at text = if not (begins_with is_blank text) && is_utf8 text then Some (text, []) else None
@@ -57,7 +57,7 @@ many_at read text = turns_at (length text) read text
 abbrev pub reads : (f : Form) → List ℕ → Option (Value f × List ℕ)
 reads End text = Some (tt, text)
 reads Name text = name_at text
-reads SepText text = if begins_with is_blank text then Some (tt, []) else None
+reads SeparatorText text = if begins_with is_blank text then Some (tt, []) else None
 reads (Many f) text = option_map (λ vs. (vs, [])) (many_at (reads f) text)
 reads (p · f) text = piece_at p text >>= (λ x. option_map (λ y. (told p x.0 y.0, y.1)) (reads f x.1))
 

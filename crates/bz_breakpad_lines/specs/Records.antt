@@ -3,8 +3,8 @@
 -- The document divides fields by one space. Here one or more spaces and tabs do, and numbers may have either case.
 use Rattle.std.specs.Prelude.{ℕ, List, [], ◌∷◌, codes}
 use Rattle.bz_breakpad_lines.specs.Form.{Form}
-use Rattle.bz_breakpad_lines.specs.Form.Piece.{Tag, Opt, Sep, MSep, Gap, Word, Hex, Dec}
-use Rattle.bz_breakpad_lines.specs.Form.Form.{End, Name, SepText, Many, ◌·◌}
+use Rattle.bz_breakpad_lines.specs.Form.Piece.{Tag, Mark, Separator, ModuleSeparator, Gap, Word, Hex, Decimal}
+use Rattle.bz_breakpad_lines.specs.Form.Form.{End, Name, SeparatorText, Many, ◌·◌}
 use Rattle.bz_breakpad_lines.specs.Reads.{IsReadExactly}
 
 -- the mark "m" of FUNC and PUBLIC records, whose function or symbol stands in several places
@@ -13,59 +13,59 @@ letter_m = 109
 
 -- "MODULE records": name. Operating system, architecture and id are words that aren't kept.
 abbrev pub MODULE : Form
-MODULE = Tag (codes "MODULE") · Sep · Word · MSep · Word · MSep · Word · MSep · Name
+MODULE = Tag (codes "MODULE") · Separator · Word · ModuleSeparator · Word · ModuleSeparator · Word · ModuleSeparator · Name
 
 -- a line that Breakpad's dumpers write beside the MODULE record; nothing of it is kept
 abbrev pub INFO : Form
-INFO = Tag (codes "INFO") · SepText
+INFO = Tag (codes "INFO") · SeparatorText
 
 -- "FILE records": id, path
 abbrev pub FILE : Form
-FILE = Tag (codes "FILE") · Sep · Dec · Sep · Name
+FILE = Tag (codes "FILE") · Separator · Decimal · Separator · Name
 
 -- "INLINE_ORIGIN records": id, name
 abbrev pub INLINE_ORIGIN : Form
-INLINE_ORIGIN = Tag (codes "INLINE_ORIGIN") · Sep · Dec · Sep · Name
+INLINE_ORIGIN = Tag (codes "INLINE_ORIGIN") · Separator · Decimal · Separator · Name
 
 -- "PUBLIC records": address, size of the parameters, name
 abbrev pub PUBLIC : Form
-PUBLIC = Tag (codes "PUBLIC") · Sep · Opt letter_m · Hex 16 · Sep · Hex 8 · Sep · Name
+PUBLIC = Tag (codes "PUBLIC") · Separator · Mark letter_m · Hex 16 · Separator · Hex 8 · Separator · Name
 
 -- "FUNC records": address, size, size of the parameters, name
 abbrev pub FUNC : Form
-FUNC = Tag (codes "FUNC") · Sep · Opt letter_m · Hex 16 · Sep · Hex 8 · Sep · Hex 8 · Sep · Name
+FUNC = Tag (codes "FUNC") · Separator · Mark letter_m · Hex 16 · Separator · Hex 8 · Separator · Hex 8 · Separator · Name
 
 -- "STACK WIN records": nothing of it is kept
 abbrev pub STACK_WIN : Form
-STACK_WIN = Tag (codes "STACK WIN") · SepText
+STACK_WIN = Tag (codes "STACK WIN") · SeparatorText
 
 -- "STACK CFI records", the first of a group: nothing of it is kept
 abbrev pub STACK_CFI_INIT : Form
-STACK_CFI_INIT = Tag (codes "STACK CFI INIT") · SepText
+STACK_CFI_INIT = Tag (codes "STACK CFI INIT") · SeparatorText
 
 -- "STACK CFI records", one that follows in the group: nothing of it is kept
 abbrev pub STACK_CFI : Form
-STACK_CFI = Tag (codes "STACK CFI") · SepText
+STACK_CFI = Tag (codes "STACK CFI") · SeparatorText
 
 -- "Line records": address, size, line, id of the file
 abbrev pub LINE : Form
-LINE = Hex 16 · Sep · Hex 8 · Sep · Dec · Sep · Dec · End
+LINE = Hex 16 · Separator · Hex 8 · Separator · Decimal · Separator · Decimal · End
 
 -- "INLINE records", a range of code: address, size
 abbrev pub RANGE : Form
-RANGE = Sep · Hex 16 · Sep · Hex 8 · End
+RANGE = Separator · Hex 16 · Separator · Hex 8 · End
 
 -- "INLINE records", the call: depth, line, file, id of the origin
 abbrev pub CALL : Form
-CALL = Tag (codes "INLINE ") · Gap · Dec · Sep · Dec · Sep · Dec · Sep · Dec · End
+CALL = Tag (codes "INLINE ") · Gap · Decimal · Separator · Decimal · Separator · Decimal · Separator · Decimal · End
 
 -- "INLINE records", whole: the call, and the ranges of the code
 abbrev pub INLINE : Form
-INLINE = Tag (codes "INLINE ") · Gap · Dec · Sep · Dec · Sep · Dec · Sep · Dec · Many RANGE
+INLINE = Tag (codes "INLINE ") · Gap · Decimal · Separator · Decimal · Separator · Decimal · Separator · Decimal · Many RANGE
 
 -- "INLINE_ORIGIN records", as an inner record: id, name
 abbrev pub INNER_ORIGIN : Form
-INNER_ORIGIN = Tag (codes "INLINE_ORIGIN ") · Gap · Dec · Sep · Name
+INNER_ORIGIN = Tag (codes "INLINE_ORIGIN ") · Gap · Decimal · Separator · Name
 
 -- the records that stand by themselves
 abbrev pub TOP : List Form

@@ -8,8 +8,8 @@ use Rattle.bz_base.specs.Byte.{line_feed, carriage_return, space, dash}
 use Rattle.bz_base.specs.Line.{ended}
 use Rattle.bz_breakpad_lines.specs.Choice.{One}
 use Rattle.bz_breakpad_lines.specs.Form.{Piece, Form, Tell, With, Value, AllPass, IsName, greatest}
-use Rattle.bz_breakpad_lines.specs.Form.Piece.{Tag, Opt, Sep, MSep, Gap, Word, Hex, Dec}
-use Rattle.bz_breakpad_lines.specs.Form.Form.{End, Name, SepText, Many, ◌·◌}
+use Rattle.bz_breakpad_lines.specs.Form.Piece.{Tag, Mark, Separator, ModuleSeparator, Gap, Word, Hex, Decimal}
+use Rattle.bz_breakpad_lines.specs.Form.Form.{End, Name, SeparatorText, Many, ◌·◌}
 use Rattle.bz_breakpad_lines.specs.Records.{TOP, INNER, STACK_CFI}
 use Rattle.bz_breakpad_lines.specs.Walk.{Record}
 use Rattle.bz_breakpad_lines.specs.Walk.Record.{Top, OfFunc, OfCfi}
@@ -17,40 +17,40 @@ use Rattle.bz_breakpad_lines.specs.Walk.Record.{Top, OfFunc, OfCfi}
 -- what the first piece tells, and what the rest of the form does
 abbrev pub first_told : (p : Piece) → (A : Type 0) → With p A → Tell p
 first_told (Tag t) A value = tt
-first_told (Opt b) A value = tt
-first_told Sep A value = tt
-first_told MSep A value = tt
+first_told (Mark b) A value = tt
+first_told Separator A value = tt
+first_told ModuleSeparator A value = tt
 first_told Gap A value = tt
 first_told Word A value = tt
 first_told (Hex most) A value = value.0
-first_told Dec A value = value.0
+first_told Decimal A value = value.0
 
 abbrev pub rest_told : (p : Piece) → (A : Type 0) → With p A → A
 rest_told (Tag t) A value = value
-rest_told (Opt b) A value = value
-rest_told Sep A value = value
-rest_told MSep A value = value
+rest_told (Mark b) A value = value
+rest_told Separator A value = value
+rest_told ModuleSeparator A value = value
 rest_told Gap A value = value
 rest_told Word A value = value
 rest_told (Hex most) A value = value.1
-rest_told Dec A value = value.1
+rest_told Decimal A value = value.1
 
 -- the plainest text of a piece
 abbrev pub piece_text : (p : Piece) → Tell p → List ℕ
 piece_text (Tag tag) value = tag
-piece_text (Opt b) value = []
-piece_text Sep value = space ∷ []
-piece_text MSep value = space ∷ []
+piece_text (Mark b) value = []
+piece_text Separator value = space ∷ []
+piece_text ModuleSeparator value = space ∷ []
 piece_text Gap value = []
 piece_text Word value = dash ∷ []
 piece_text (Hex most) value = digits 16 false value
-piece_text Dec value = decimal value
+piece_text Decimal value = decimal value
 
 -- the plainest text of the form that tells the value
 abbrev pub form_text : (f : Form) → Value f → List ℕ
 form_text End value = []
 form_text Name value = value
-form_text SepText value = space ∷ dash ∷ []
+form_text SeparatorText value = space ∷ dash ∷ []
 form_text (Many f) values = flat_map (form_text f) values
 form_text (p · f) value = piece_text p (first_told p (Value f) value) ++ form_text f (rest_told p (Value f) value)
 
@@ -82,14 +82,14 @@ pub record IsLineName (name : List ℕ) : Type 0 where
 -- a number that the piece can tell
 abbrev pub PieceFits : (p : Piece) → Tell p → Type 0
 PieceFits (Hex most) value = value < 16 ^ most
-PieceFits Dec value = value ≤ greatest
+PieceFits Decimal value = value ≤ greatest
 PieceFits _ value = Unit {0}
 
 -- a value that a text of the form can tell
 abbrev pub FormFits : (f : Form) → Value f → Type 0
 FormFits End value = Unit {0}
 FormFits Name value = IsLineName value
-FormFits SepText value = Unit {0}
+FormFits SeparatorText value = Unit {0}
 FormFits (Many f) values = (0 < length values) × AllByRecursion (FormFits f) values
 FormFits (p · f) value = PieceFits p (first_told p (Value f) value) × FormFits f (rest_told p (Value f) value)
 

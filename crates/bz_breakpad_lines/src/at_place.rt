@@ -12,7 +12,7 @@ ghost use Rattle.bz_breakpad_lines.specs.Reads.{piece_at};
 ghost use Rattle.bz_breakpad_lines.specs.Stops.{AreDigits};
 ghost use Rattle.bz_breakpad_lines.specs.Told.{line_seen, call_told};
 
-use crate::field::{body, hex};
+use crate::field::{body, hex_field};
 use crate::in_turn::quick_next;
 use crate::inline::call_line;
 use crate::lanes::{few_hex, line_feeds};
@@ -150,7 +150,7 @@ fn quick_start(text: &[u8]) -> Option<u64>
 fn any_start(text: &[u8]) -> u64
     ensures { result ≡ unwrap_or (option_map (λ read. read.0) (piece_at (Hex 16) text.now)) 0 }
 {
-    match hex(text, 16) {
+    match hex_field(text, 16) {
         Some((start, _)) => start,
         None => 0,
     }

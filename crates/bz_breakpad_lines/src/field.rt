@@ -3,10 +3,10 @@
 ghost use Rattle.std.specs.Prelude.{◌≡◌, not, ◌<◌, ◌≤◌, ◌^◌, [], Some, length, option_map, IfSome};
 ghost use Rattle.std.specs.List.{list_all, prefix_len};
 ghost use Rattle.bz_base.specs.Byte.{begins_with, is_blank};
-ghost use Rattle.bz_breakpad_lines.specs.Byte.{ends_line, is_word_byte};
+ghost use Rattle.bz_breakpad_lines.specs.Byte.{is_carriage_return, is_word_byte};
 ghost use Rattle.bz_breakpad_lines.specs.Choice.{body_at};
-ghost use Rattle.bz_breakpad_lines.specs.Form.Form.{SepText};
-ghost use Rattle.bz_breakpad_lines.specs.Form.Piece.{Tag, Opt, Sep, MSep, Gap, Word, Hex, Dec};
+ghost use Rattle.bz_breakpad_lines.specs.Form.Form.{SeparatorText};
+ghost use Rattle.bz_breakpad_lines.specs.Form.Piece.{Tag, Mark, Separator, ModuleSeparator, Gap, Word, Hex, Decimal};
 ghost use Rattle.bz_breakpad_lines.specs.Reads.{piece_at, name_at, end_at, reads};
 
 use bz_base::read_decimal;
@@ -52,7 +52,7 @@ pub fn begins_blank(text: &[u8]) -> bool
 #[inline(always)]
 #[tactic(auto, unfolding(crate::specs::Reads::piece_at, crate::specs::Reads::run_at))]
 pub fn separator(text: &[u8]) -> Option<&[u8]>
-    ensures { option_map (λ rest. (tt, rest.now)) result ≡ piece_at Sep text.now }
+    ensures { option_map (λ rest. (tt, rest.now)) result ≡ piece_at Separator text.now }
 {
     let len = blank_len(text);
     if len == 0 {
@@ -64,7 +64,7 @@ pub fn separator(text: &[u8]) -> Option<&[u8]>
 /// The text after a space and any blanks, if the text begins with a space.
 #[tactic(auto, unfolding(crate::specs::Reads::piece_at, crate::specs::Reads::run_at))]
 pub fn module_separator(text: &[u8]) -> Option<&[u8]>
-    ensures { option_map (λ rest. (tt, rest.now)) result ≡ piece_at MSep text.now }
+    ensures { option_map (λ rest. (tt, rest.now)) result ≡ piece_at ModuleSeparator text.now }
 {
     if text.is_empty() || text[0] != b' ' {
         return None;
@@ -81,9 +81,9 @@ pub fn gap(text: &[u8]) -> &[u8]
 }
 
 /// The text after the byte and a separator, and else the text.
-#[tactic(auto, unfolding(crate::specs::Reads::piece_at, crate::specs::Reads::opt_at))]
+#[tactic(auto, unfolding(crate::specs::Reads::piece_at, crate::specs::Reads::mark_at))]
 pub fn marked(text: &[u8], byte: u8) -> &[u8]
-    ensures { Some (tt, result.now) ≡ piece_at (Opt byte) text.now }
+    ensures { Some (tt, result.now) ≡ piece_at (Mark byte) text.now }
 {
     match text {
         [first, rest @ ..] if *first == byte && begins_blank(rest) => &rest[blank_len(rest)..],
@@ -117,10 +117,10 @@ pub fn word(text: &[u8]) -> Option<&[u8]>
     Some(&text[len..])
 }
 
-/// The number of the one to `most` hexadecimal digits at the front, and the text after them.
+/// A field of one to `most` hexadecimal digits at the front: its number, and the text after it.
 #[inline(always)]
 #[tactic(auto, unfolding(crate::specs::Reads::piece_at))]
-pub fn hex(text: &[u8], most: usize) -> Option<(u64, &[u8])>
+pub fn hex_field(text: &[u8], most: usize) -> Option<(u64, &[u8])>
     requires { most ≤ 16 }
     ensures reads { option_map (λ read. (read.0, read.1.now)) result ≡ piece_at (Hex most) text.now }
     ensures small { IfSome result (λ read. read.0 < 16 ^ most) }
@@ -128,11 +128,11 @@ pub fn hex(text: &[u8], most: usize) -> Option<(u64, &[u8])>
     bz_base::read_hex(text, most)
 }
 
-/// The number of the decimal digits at the front, and the text after them.
+/// A field of one to ten decimal digits at the front: its number, and the text after it.
 #[inline(always)]
 #[tactic(auto, unfolding(crate::specs::Reads::piece_at))]
-pub fn dec(text: &[u8]) -> Option<(u32, &[u8])>
-    ensures { option_map (λ read. (read.0, read.1.now)) result ≡ piece_at Dec text.now }
+pub fn decimal_field(text: &[u8]) -> Option<(u32, &[u8])>
+    ensures { option_map (λ read. (read.0, read.1.now)) result ≡ piece_at Decimal text.now }
 {
     let (value, rest) = read_decimal(text, 10, 4294967295)?;
     Some((value as u32, rest))
@@ -164,13 +164,14 @@ pub fn end(text: &[u8]) -> Option<()>
 
 /// That the text is a separator and any text.
 pub fn separator_text(text: &[u8]) -> Option<()>
-    ensures { option_map (λ _. (tt, [])) result ≡ reads SepText text.now }
+    ensures { option_map (λ _. (tt, [])) result ≡ reads SeparatorText text.now }
 {
     if begins_blank(text) { Some(()) } else { None }
 }
 
+/// How many bytes stand before the first carriage return.
 fn body_len(line: &[u8]) -> usize
-    ensures value { result ≡ prefix_len (λ b. not (ends_line b)) line.now }
+    ensures value { result ≡ prefix_len (λ b. not (is_carriage_return b)) line.now }
     ensures within { result ≤ length line.now }
 {
     match memchr(b'\r', line) {
@@ -179,8 +180,9 @@ fn body_len(line: &[u8]) -> usize
     }
 }
 
-fn are_ends(text: &[u8]) -> bool
-    ensures { result ≡ list_all ends_line text.now }
+/// Whether the text has nothing but carriage returns.
+fn are_carriage_returns(text: &[u8]) -> bool
+    ensures { result ≡ list_all is_carriage_return text.now }
 {
     text.iter().all(|b| *b == b'\r')
 }
@@ -191,7 +193,7 @@ pub fn body(line: &[u8]) -> Option<&[u8]>
     ensures { option_map (λ body. body.now) result ≡ body_at line.now }
 {
     let len = body_len(line);
-    if are_ends(&line[len..]) {
+    if are_carriage_returns(&line[len..]) {
         Some(&line[..len])
     } else {
         None

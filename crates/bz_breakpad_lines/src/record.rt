@@ -8,7 +8,8 @@ ghost use Rattle.bz_breakpad_lines.specs.Told.{call_told, context_told, func_tol
 ghost use Rattle.bz_breakpad_lines.specs.Walk.{body_record, under_at};
 
 use crate::field::{
-    dec, end, gap, hex, marked, module_separator, name, separator, separator_text, tag, word,
+    decimal_field, end, gap, hex_field, marked, module_separator, name, separator, separator_text,
+    tag, word,
 };
 use std::alloc::AllocError;
 
@@ -43,9 +44,9 @@ fn func(line: &[u8]) -> Option<FuncLine<'_>>
     ensures { option_map func_told result ≡ form_at FUNC line.now }
 {
     let rest = separator(tag(line, b"FUNC")?)?;
-    let (start, rest) = hex(marked(rest, b'm'), 16)?;
-    let (size, rest) = hex(separator(rest)?, 8)?;
-    let (parameter_size, rest) = hex(separator(rest)?, 8)?;
+    let (start, rest) = hex_field(marked(rest, b'm'), 16)?;
+    let (size, rest) = hex_field(separator(rest)?, 8)?;
+    let (parameter_size, rest) = hex_field(separator(rest)?, 8)?;
     let name = name(separator(rest)?)?;
     Some(FuncLine {
         start,
@@ -59,10 +60,10 @@ fn func(line: &[u8]) -> Option<FuncLine<'_>>
 pub fn code_line(line: &[u8]) -> Option<SourceLine>
     ensures { option_map line_told result ≡ form_at LINE line.now }
 {
-    let (addr, rest) = hex(line, 16)?;
-    let (size, rest) = hex(separator(rest)?, 8)?;
-    let (line, rest) = dec(separator(rest)?)?;
-    let (file, rest) = dec(separator(rest)?)?;
+    let (addr, rest) = hex_field(line, 16)?;
+    let (size, rest) = hex_field(separator(rest)?, 8)?;
+    let (line, rest) = decimal_field(separator(rest)?)?;
+    let (file, rest) = decimal_field(separator(rest)?)?;
     end(rest)?;
     Some(SourceLine {
         addr,
@@ -76,7 +77,7 @@ pub fn code_line(line: &[u8]) -> Option<SourceLine>
 fn file(line: &[u8]) -> Option<(u32, &str)>
     ensures { option_map (λ f. (f.0, f.1.now)) result ≡ form_at FILE line.now }
 {
-    let (id, rest) = dec(separator(tag(line, b"FILE")?)?)?;
+    let (id, rest) = decimal_field(separator(tag(line, b"FILE")?)?)?;
     Some((id, name(separator(rest)?)?))
 }
 
@@ -116,10 +117,10 @@ pub struct InlineCall {
 pub fn call_front(line: &[u8]) -> Option<(InlineCall, &[u8])>
     ensures { option_map (λ read. (call_told read.0, read.1.now)) result ≡ reads CALL line.now }
 {
-    let (depth, rest) = dec(gap(tag(line, b"INLINE ")?))?;
-    let (line, rest) = dec(separator(rest)?)?;
-    let (file, rest) = dec(separator(rest)?)?;
-    let (origin, rest) = dec(separator(rest)?)?;
+    let (depth, rest) = decimal_field(gap(tag(line, b"INLINE ")?))?;
+    let (line, rest) = decimal_field(separator(rest)?)?;
+    let (file, rest) = decimal_field(separator(rest)?)?;
+    let (origin, rest) = decimal_field(separator(rest)?)?;
     Some((
         InlineCall {
             depth,
@@ -135,8 +136,8 @@ pub fn call_front(line: &[u8]) -> Option<(InlineCall, &[u8])>
 fn range_front(text: &[u8]) -> Option<(Range, &[u8])>
     ensures { option_map (λ read. (range_told read.0, read.1.now)) result ≡ reads RANGE text.now }
 {
-    let (addr, rest) = hex(separator(text)?, 16)?;
-    let (size, rest) = hex(separator(rest)?, 8)?;
+    let (addr, rest) = hex_field(separator(text)?, 16)?;
+    let (size, rest) = hex_field(separator(rest)?, 8)?;
     let size = size as u32;
     Some((Range { addr, size }, rest))
 }
@@ -185,8 +186,8 @@ fn public_line(line: &[u8]) -> Option<PublicLine<'_>>
     ensures { option_map public_told result ≡ form_at PUBLIC line.now }
 {
     let rest = separator(tag(line, b"PUBLIC")?)?;
-    let (addr, rest) = hex(marked(rest, b'm'), 16)?;
-    let (parameter_size, rest) = hex(separator(rest)?, 8)?;
+    let (addr, rest) = hex_field(marked(rest, b'm'), 16)?;
+    let (parameter_size, rest) = hex_field(separator(rest)?, 8)?;
     let parameter_size = parameter_size as u32;
     let name = name(separator(rest)?)?;
     Some(PublicLine {
@@ -200,7 +201,7 @@ fn public_line(line: &[u8]) -> Option<PublicLine<'_>>
 fn inline_origin(line: &[u8]) -> Option<(u32, &str)>
     ensures { option_map (λ f. (f.0, f.1.now)) result ≡ form_at INLINE_ORIGIN line.now }
 {
-    let (id, rest) = dec(separator(tag(line, b"INLINE_ORIGIN")?)?)?;
+    let (id, rest) = decimal_field(separator(tag(line, b"INLINE_ORIGIN")?)?)?;
     Some((id, name(separator(rest)?)?))
 }
 
@@ -279,7 +280,7 @@ pub fn top_body(body: &[u8]) -> Option<TopLine<'_>>
 fn inner_origin(line: &[u8]) -> Option<(u32, &str)>
     ensures { option_map (λ f. (f.0, f.1.now)) result ≡ form_at INNER_ORIGIN line.now }
 {
-    let (id, rest) = dec(gap(tag(line, b"INLINE_ORIGIN ")?))?;
+    let (id, rest) = decimal_field(gap(tag(line, b"INLINE_ORIGIN ")?))?;
     Some((id, name(separator(rest)?)?))
 }
 

@@ -3,8 +3,8 @@ use Rattle.std.proofs.Common.{◌≡◌, ℕ, List, [], ◌++◌, Option, Some, 
 use Rattle.std.proofs.lemmas.Option.{none-some, same_Some}
 use Rattle.bz_breakpad_lines.specs.Choice.{SpellsOne}
 use Rattle.bz_breakpad_lines.specs.Form.{Piece, Form, Tell, With, Value, told, Spells}
-use Rattle.bz_breakpad_lines.specs.Form.Piece.{Tag, Opt, Sep, MSep, Gap, Word, Hex, Dec}
-use Rattle.bz_breakpad_lines.specs.Form.Form.{End, Name, SepText, Many, ◌·◌}
+use Rattle.bz_breakpad_lines.specs.Form.Piece.{Tag, Mark, Separator, ModuleSeparator, Gap, Word, Hex, Decimal}
+use Rattle.bz_breakpad_lines.specs.Form.Form.{End, Name, SeparatorText, Many, ◌·◌}
 use Rattle.bz_breakpad_table.specs.Kept.{IsRecordAt}
 use Rattle.bz_breakpad_lines.specs.Line.{EndsWith, source_line}
 use Rattle.bz_breakpad_lines.specs.Reads.{◌>>=◌, form_at}
@@ -25,13 +25,13 @@ use Rattle.bz_breakpad_lines.proofs.WalkLaws.{body_found_of}
 -- what is told after a piece
 abbrev rest_told : (p : Piece) → {A : Type 0} → With p A → A
 rest_told (Tag t) v = v
-rest_told (Opt b) v = v
-rest_told Sep v = v
-rest_told MSep v = v
+rest_told (Mark b) v = v
+rest_told Separator v = v
+rest_told ModuleSeparator v = v
 rest_told Gap v = v
 rest_told Word v = v
 rest_told (Hex most) v = v.1
-rest_told Dec v = v.1
+rest_told Decimal v = v.1
 
 -- the name at the end of a form
 abbrev name_told : (f : Form) → Value f → Option (List ℕ)
@@ -41,13 +41,13 @@ name_told _ v = None
 
 told_rest : (p : Piece) {A : Type 0} (x : Tell p) (rest : A) → rest_told p (told p x rest) ≡ rest
 told_rest (Tag t) x rest = refl
-told_rest (Opt b) x rest = refl
-told_rest Sep x rest = refl
-told_rest MSep x rest = refl
+told_rest (Mark b) x rest = refl
+told_rest Separator x rest = refl
+told_rest ModuleSeparator x rest = refl
 told_rest Gap x rest = refl
 told_rest Word x rest = refl
 told_rest (Hex most) x rest = refl
-told_rest Dec x rest = refl
+told_rest Decimal x rest = refl
 
 -- a text of the form ends with the name that it tells
 ends : (f : Form) (text : List ℕ) (v : Value f) (name : List ℕ) → Spells f text v → name_told f v ≡ Some name → EndsWith text name
@@ -58,7 +58,7 @@ ends (p · f) text v name is named =
     let rest = ends f is.back is.others name is.back_is same in
     (is.front ++ rest.0, is.whole ∙ ap (λ back. is.front ++ back) rest.1 ∙ sym (append_assoc is.front rest.0 name))
 ends End text v name is named = absurd (none-some name named)
-ends SepText text v name is named = absurd (none-some name named)
+ends SeparatorText text v name is named = absurd (none-some name named)
 ends (Many f) text v name is named = absurd (none-some name named)
 
 top_ends : (body : List ℕ) (top : TopLine) → SpellsOne TOP body (top_told top) → IfSome (top_name top) (EndsWith body)

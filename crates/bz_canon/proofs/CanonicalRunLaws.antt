@@ -10,10 +10,10 @@ use Rattle.std.proofs.lemmas.Str.Parse.{numerals_by_value, tells_digits}
 use Rattle.bz_base.specs.Byte.{HasNo, begins_with, carriage_return, is_blank, line_feed, space}
 use Rattle.bz_base.specs.Line.{all_lines, ended, unended}
 use Rattle.bz_base.specs.Number.{IsNumber, IsDecimal}
-use Rattle.bz_breakpad_lines.specs.Byte.{ends_line}
+use Rattle.bz_breakpad_lines.specs.Byte.{is_carriage_return}
 use Rattle.bz_breakpad_lines.specs.Choice.{body_at}
-use Rattle.bz_breakpad_lines.specs.Form.{AllPass, Form, IsSep, Spells, Value, greatest}
-use Rattle.bz_breakpad_lines.specs.Form.Piece.{Sep, Hex, Dec}
+use Rattle.bz_breakpad_lines.specs.Form.{AllPass, Form, IsSeparator, Spells, Value, greatest}
+use Rattle.bz_breakpad_lines.specs.Form.Piece.{Separator, Hex, Decimal}
 use Rattle.bz_breakpad_lines.specs.Form.Form.{End, ◌·◌}
 use Rattle.bz_breakpad_lines.specs.Line.{line_front, line_in, source_line}
 use Rattle.bz_breakpad_lines.specs.Printed.{line_one}
@@ -186,7 +186,7 @@ two_blanks a b (c ∷ blanks) rest first all lower solid are =
     two_blanks b c blanks rest (blank_again b all.0 lower.0) all.1 lower.1 solid (fields_after a (b ∷ c ∷ (blanks ++ rest)) are)
 
 -- so a separator is one space
-sep_field : (a : ℕ) (sep rest : List ℕ) → IsSep sep → AllPass is_lower sep → begins_solid rest ≡ true → AreFields (a ∷ (sep ++ rest)) → sep ≡ space ∷ []
+sep_field : (a : ℕ) (sep rest : List ℕ) → IsSeparator sep → AllPass is_lower sep → begins_solid rest ≡ true → AreFields (a ∷ (sep ++ rest)) → sep ≡ space ∷ []
 sep_field a [] rest is lower solid are = absurd (false≢true is.passes)
 sep_field a (b ∷ []) rest is lower solid are = ap (λ (c : ℕ). c ∷ []) (blank_again b is.bytes.0 lower.0)
 sep_field a (b ∷ c ∷ sep) rest is lower solid are =
@@ -214,19 +214,19 @@ module _ (a : ℕ) (front back rest : List ℕ) (left : IsLeft a (front ++ back)
 -- the form is numbers with separators between them, of which the next is a number or a separator
 abbrev are_numbers : Bool → Form → Bool
 are_numbers true (Hex most · f) = nat_le most 16 && are_numbers false f
-are_numbers true (Dec · f) = are_numbers false f
-are_numbers false (Sep · f) = are_numbers true f
+are_numbers true (Decimal · f) = are_numbers false f
+are_numbers false (Separator · f) = are_numbers true f
 are_numbers false End = true
 are_numbers _ _ = false
 
 numbers_solid : (f : Form) → are_numbers true f ≡ true → (text rest : List ℕ) (v : Value f) → Spells f text v → begins_solid (text ++ rest) ≡ true
 numbers_solid (Hex most · f) are text rest v is =
     rw (is.whole, append_assoc is.front is.back rest) (number_solid 16 (omega arith) most is.tells is.front (is.back ++ rest) is.front_is)
-numbers_solid (Dec · f) are text rest v is =
+numbers_solid (Decimal · f) are text rest v is =
     rw (is.whole, append_assoc is.front is.back rest) (number_solid 10 (omega arith) 10 is.tells is.front (is.back ++ rest) is.front_is.number)
 numbers_solid _ are text rest v is = absurd (false≢true are)
 
-sep_some : (sep : List ℕ) → IsSep sep → 0 < length sep
+sep_some : (sep : List ℕ) → IsSeparator sep → 0 < length sep
 sep_some [] is = absurd (false≢true is.passes)
 sep_some (b ∷ sep) is = omega arith
 
@@ -243,7 +243,7 @@ numbers_again true (Hex most · f) are a gap text rest v is left =
     (hex_field a (gap refl) is.front (is.back ++ rest) front.lower front.fields most is.tells (leb-true most 16 parts.0) is.front_is)
     (numbers_again false f parts.1 back.0 (λ no. absurd (false≢true no)) is.back rest is.others is.back_is back.1)
     ∙ sym is.whole
-numbers_again true (Dec · f) are a gap text rest v is left =
+numbers_again true (Decimal · f) are a gap text rest v is left =
     let left : IsLeft a (is.front ++ is.back) rest = subst (λ (t : List ℕ). IsLeft a t rest) is.whole left in
     let front = front_left a is.front is.back rest left in
     let back = back_left a is.front is.back rest left is.front_is.number.some in
@@ -252,7 +252,7 @@ numbers_again true (Dec · f) are a gap text rest v is left =
     (dec_field a (gap refl) is.front (is.back ++ rest) front.lower front.fields 10 is.tells is.front_is)
     (numbers_again false f are back.0 (λ no. absurd (false≢true no)) is.back rest is.others is.back_is back.1)
     ∙ sym is.whole
-numbers_again false (Sep · f) are a gap text rest v is left =
+numbers_again false (Separator · f) are a gap text rest v is left =
     let left : IsLeft a (is.front ++ is.back) rest = subst (λ (t : List ℕ). IsLeft a t rest) is.whole left in
     let front = front_left a is.front is.back rest left in
     let solid = numbers_solid f are is.back rest is.others is.back_is in
@@ -278,7 +278,7 @@ line_whole (b ∷ line) none =
     rw (parts.0, more) (ap (λ rest. b ∷ rest) (line_whole line parts.1))
 
 -- no carriage return is in lower case
-no_returns : (text : List ℕ) → AllPass ends_line text → AllPass is_lower text → text ≡ []
+no_returns : (text : List ℕ) → AllPass is_carriage_return text → AllPass is_lower text → text ≡ []
 no_returns [] all lower = refl
 no_returns (b ∷ text) all lower = absurd (false≢true (sym (ap is_lower (eqb-true b carriage_return all.0)) ∙ lower.0))
 

@@ -7,9 +7,9 @@ use Rattle.std.specs.Str.Parse.{AllDigits}
 use Rattle.std.proofs.lemmas.Bool.{agree_below_at, lt-ltb}
 use Rattle.bz_base.specs.Line.{ended}
 use Rattle.bz_breakpad_lines.specs.Byte.{is_plain, is_word_byte}
-use Rattle.bz_breakpad_lines.specs.Form.{AllPass, Form, IsPiece, IsSep, Piece, Spells, Tell, Value, told}
+use Rattle.bz_breakpad_lines.specs.Form.{AllPass, Form, IsPiece, IsSeparator, Piece, Spells, Tell, Value, told}
 use Rattle.bz_breakpad_lines.specs.Form.Form.{Name, ◌·◌}
-use Rattle.bz_breakpad_lines.specs.Form.Piece.{MSep, Sep, Tag, Word}
+use Rattle.bz_breakpad_lines.specs.Form.Piece.{ModuleSeparator, Separator, Tag, Word}
 use Rattle.bz_breakpad_lines.specs.Grammar.{IsFile}
 use Rattle.bz_breakpad_lines.specs.Printed.{FunctionFits, IsPrintable, func_record, function_records, inlinee_one, line_one}
 use Rattle.bz_breakpad_lines.specs.Records.{MODULE}
@@ -34,7 +34,7 @@ piece : (p : Piece) (f : Form) (front back : List ℕ) (told_first : Tell p) (ot
 piece p f front back told_first others first rest =
     record { front = front; back = back; whole = refl; tells = told_first; others = others; front_is = first; back_is = rest; valued = refl }
 
-one_space : IsSep (codes " ")
+one_space : IsSeparator (codes " ")
 one_space = record { bytes = (refl, tt); passes = refl; tells = refl }
 
 gen_name : IsLineName (codes "gen")
@@ -44,14 +44,14 @@ gen_name = record { name_is = record { utf8 = plain_utf8 (codes "gen") (all_from
 module_spelled : Spells MODULE module_line (codes "gen")
 unfolding module_line
 module_spelled =
-    piece (Tag (codes "MODULE")) (Sep · Word · MSep · Word · MSep · Word · MSep · Name) (codes "MODULE") (codes " Linux x86_64 0 gen") tt (codes "gen") refl
-    (piece Sep (Word · MSep · Word · MSep · Word · MSep · Name) (codes " ") (codes "Linux x86_64 0 gen") tt (codes "gen") one_space
-    (piece Word (MSep · Word · MSep · Word · MSep · Name) (codes "Linux") (codes " x86_64 0 gen") tt (codes "gen") (record { bytes = all_from is_word_byte (codes "Linux") refl; passes = refl; tells = refl })
-    (piece MSep (Word · MSep · Word · MSep · Name) (codes " ") (codes "x86_64 0 gen") tt (codes "gen") (record { bytes = (refl, tt); passes = refl; tells = refl })
-    (piece Word (MSep · Word · MSep · Name) (codes "x86_64") (codes " 0 gen") tt (codes "gen") (record { bytes = all_from is_word_byte (codes "x86_64") refl; passes = refl; tells = refl })
-    (piece MSep (Word · MSep · Name) (codes " ") (codes "0 gen") tt (codes "gen") (record { bytes = (refl, tt); passes = refl; tells = refl })
-    (piece Word (MSep · Name) (codes "0") (codes " gen") tt (codes "gen") (record { bytes = all_from is_word_byte (codes "0") refl; passes = refl; tells = refl })
-    (piece MSep Name (codes " ") (codes "gen") tt (codes "gen") (record { bytes = (refl, tt); passes = refl; tells = refl }) (gen_name.name_is, refl))))))))
+    piece (Tag (codes "MODULE")) (Separator · Word · ModuleSeparator · Word · ModuleSeparator · Word · ModuleSeparator · Name) (codes "MODULE") (codes " Linux x86_64 0 gen") tt (codes "gen") refl
+    (piece Separator (Word · ModuleSeparator · Word · ModuleSeparator · Word · ModuleSeparator · Name) (codes " ") (codes "Linux x86_64 0 gen") tt (codes "gen") one_space
+    (piece Word (ModuleSeparator · Word · ModuleSeparator · Word · ModuleSeparator · Name) (codes "Linux") (codes " x86_64 0 gen") tt (codes "gen") (record { bytes = all_from is_word_byte (codes "Linux") refl; passes = refl; tells = refl })
+    (piece ModuleSeparator (Word · ModuleSeparator · Word · ModuleSeparator · Name) (codes " ") (codes "x86_64 0 gen") tt (codes "gen") (record { bytes = (refl, tt); passes = refl; tells = refl })
+    (piece Word (ModuleSeparator · Word · ModuleSeparator · Name) (codes "x86_64") (codes " 0 gen") tt (codes "gen") (record { bytes = all_from is_word_byte (codes "x86_64") refl; passes = refl; tells = refl })
+    (piece ModuleSeparator (Word · ModuleSeparator · Name) (codes " ") (codes "0 gen") tt (codes "gen") (record { bytes = (refl, tt); passes = refl; tells = refl })
+    (piece Word (ModuleSeparator · Name) (codes "0") (codes " gen") tt (codes "gen") (record { bytes = all_from is_word_byte (codes "0") refl; passes = refl; tells = refl })
+    (piece ModuleSeparator Name (codes " ") (codes "gen") tt (codes "gen") (record { bytes = (refl, tt); passes = refl; tells = refl }) (gen_name.name_is, refl))))))))
 
 -- so it is the line of one
 module_written : IsWritten Outside module_line (Top (inl (codes "gen")))
