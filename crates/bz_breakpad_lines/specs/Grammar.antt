@@ -1,5 +1,5 @@
 -- Which bytes are a Breakpad file, and what it says: each line is blank, or a record by itself, or one under another.
--- After Breakpad's documentation of its symbol files; where blank lines and white space may stand is this crate's choice.
+-- After docs/symbol_files.md among Breakpad's sources; where blank lines and white space may stand is this crate's choice.
 use Rattle.std.specs.Prelude.{◌≡◌, ℕ, ◌<◌, Bool, true, false, List, [], ◌∷◌, length, drop, Option, Some, None}
 use Rattle.std.specs.List.{AllByRecursion, filter_map}
 use Rattle.bz_base.specs.Line.{AreEnded}

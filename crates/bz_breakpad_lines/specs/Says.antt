@@ -1,4 +1,4 @@
--- What the records of a file say together.
+-- What the records of a file say together, after docs/symbol_files.md among Breakpad's sources.
 use Rattle.std.specs.Prelude.{ℕ, List, [], ◌∷◌, ◌++◌, flat_map, Option, Some, None}
 use Rattle.std.specs.List.{filter_map}
 use Rattle.bz_breakpad_lines.specs.Kinds.{TopRecord, InnerRecord, top_of, inner_of}

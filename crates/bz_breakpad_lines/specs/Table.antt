@@ -1,4 +1,4 @@
--- What a Breakpad file says. Addresses are relative to the module's base, sizes are in bytes.
+-- What a Breakpad file says, in the terms of docs/symbol_files.md among Breakpad's sources. Addresses are relative to the module's base, sizes are in bytes.
 use Rattle.std.specs.Prelude.{ℕ, List, Option}
 
 -- a line record: where its code starts, the code's size, the line of the source, and the id of its file

@@ -1,4 +1,5 @@
--- The walk over a file's lines: what a line is depends on the record before it.
+-- What a line is, which depends on the record before it: after "Line records", "INLINE records" and "STACK CFI records" of
+-- docs/symbol_files.md among Breakpad's sources.
 use Rattle.std.specs.Prelude.{◌≡◌, ℕ, Bool, true, false, List, [], ◌++◌, drop, Option, Some, None, option_map}
 use Rattle.std.specs.List.{prefix_len}
 use Rattle.bz_base.specs.Byte.{begins_with}
