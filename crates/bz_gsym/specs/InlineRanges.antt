@@ -1,4 +1,4 @@
--- What the ranges of a node say of an address, from the first on.
+-- What the ranges of a node (llvm::gsym::InlineInfo) say of an address, from the first on.
 use Rattle.std.specs.Prelude.{ℕ, Bool, false, ◌||◌, ◌==◌, nat_le, List, Option, Some, None, option_map, if◌then◌else◌}
 use Rattle.bz_gsym.specs.InlineTree.{last_index, all_fit, some_has_inside, first_start, frame_by}
 use Rattle.bz_gsym.specs.declared.inline.node.Level.TheVariants.{PassedOver, Read}

@@ -1,4 +1,4 @@
--- The inline tree of a data entry's bytes, read from their front, and the frames that it gives.
+-- The inline tree of a data entry's bytes, read from their front (llvm::gsym::InlineInfo), and the frames that it gives.
 use Rattle.std.specs.Prelude.{ℕ, zero, suc, Bool, true, false, not, ◌==◌, List, [], ◌∷◌, length, Option, Some, None, option_map, if◌then◌else◌}
 use Rattle.bz_base.specs.Cursor.{byte_at, word_at}
 use Rattle.bz_base.specs.Leb128.{uleb_at}

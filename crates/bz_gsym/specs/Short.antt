@@ -1,4 +1,4 @@
--- LEB128 numbers of one or two bytes.
+-- LEB128 numbers, of the DWARF standard, of one or two bytes.
 use Rattle.std.specs.Prelude.{◌≡◌, ℕ, ◌+◌, ◌^◌, ◌<◌, ◌≤◌, List, length, take, drop, Some}
 use Rattle.bz_base.specs.Leb128.{leb_at, low_bits}
 

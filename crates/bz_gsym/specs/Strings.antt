@@ -1,4 +1,5 @@
--- The strings of a GSYM file: texts that a zero byte ends, named by their places in the string table.
+-- The strings of a GSYM file: texts that a zero byte ends, named by their places in the string table
+-- (llvm::gsym::StringTable).
 use Rattle.std.specs.Prelude.{ℕ, ◌&&◌, nat_lt, Bool, if◌then◌else◌, List, drop, Option, Some, None, option_and_then}
 use Rattle.std.specs.Char.{is_ascii}
 use Rattle.std.specs.Str.{is_utf8}

@@ -1,5 +1,6 @@
 //! LEB128 numbers, of which those of one or two bytes are read without a branch between the two.
-//! This is for speed alone: `Cursor` reads the same numbers, and here all longer ones.
+//! This is for speed alone: `Cursor` reads the same numbers, and here all longer ones. Its own quick
+//! path is for one byte; by this one answers are faster.
 
 ghost use Rattle.std.specs.Prelude.{◌≡◌, ◌+◌, ◌<◌, ◌≤◌, drop, length, Some, IfNone, IfSome};
 ghost use Rattle.bz_base.specs.Cursor.{with_rest};

@@ -1,4 +1,5 @@
--- The bytes of a GSYM file of version 1 for a plan. All numbers are little-endian.
+-- The bytes of a GSYM file of version 1 for a plan. All numbers are little-endian. After LLVM's documentation of the format
+-- (llvm::gsym::GsymCreator).
 use Rattle.std.specs.Prelude.{ℕ, zero, suc, pos, ◌+◌, ◌-◌, ◌-ℤ◌, ◌*◌, ◌/◌, ◌%◌, List, [], ◌∷◌, ◌++◌, length, flat_map}
 use Rattle.std.specs.List.{repeat}
 use Rattle.bz_base.specs.Byte.{zero_byte}
