@@ -9,11 +9,15 @@ pub record Info : Type 0 where
   pub name : ℕ
   pub rest : List ℕ
 
+-- how many bytes stand before a symbol's entries: those of its size and of its name
+abbrev pub function_info_len : ℕ
+function_info_len = 8
+
 -- the data at a place, if size and name lie in the bytes
 abbrev pub info_at : List ℕ → ℕ → Option Info
 info_at bytes place =
-    if nat_le (place + 8) (length bytes)
-    then Some (record { size = number_at 4 bytes place; name = number_at 4 bytes (place + 4); rest = drop (place + 8) bytes })
+    if nat_le (place + function_info_len) (length bytes)
+    then Some (record { size = number_at 4 bytes place; name = number_at 4 bytes (place + 4); rest = drop (place + function_info_len) bytes })
     else None
 
 -- the type that ends a list of data entries, and those of line tables and of inline trees
@@ -31,9 +35,13 @@ pub record Entry : Type 0 where
   pub typ : ℕ
   pub text : List ℕ
 
--- so many bytes in front are an entry: type and length, of 4 bytes each, and as many bytes as the length says
+-- how many bytes stand before those of an entry: its type and its length, of 4 bytes each
+abbrev pub entry_head_len : ℕ
+entry_head_len = 8
+
+-- so many bytes in front are an entry: its head, and as many bytes as the length says
 abbrev pub entry_len : List ℕ → ℕ
-entry_len bytes = 8 + number_at 4 bytes 4
+entry_len bytes = entry_head_len + number_at 4 bytes 4
 
 -- an entry lies in front, and isn't the end of the list
 abbrev pub has_entry : List ℕ → Bool
@@ -41,7 +49,7 @@ has_entry bytes = not (number_at 4 bytes 0 == end_of_list) && nat_le (entry_len 
 
 -- that entry
 abbrev pub first_entry : List ℕ → Entry
-first_entry bytes = record { typ = number_at 4 bytes 0; text = take (number_at 4 bytes 4) (drop 8 bytes) }
+first_entry bytes = record { typ = number_at 4 bytes 0; text = take (number_at 4 bytes 4) (drop entry_head_len bytes) }
 
 -- the entries in front, at most so many
 abbrev pub entries_within : ℕ → List ℕ → List Entry

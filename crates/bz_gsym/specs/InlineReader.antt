@@ -2,7 +2,7 @@
 use Rattle.std.specs.Prelude.{ℕ, zero, suc, Bool, true, false, not, ◌==◌, List, [], ◌∷◌, length, Option, Some, None, option_map, if◌then◌else◌}
 use Rattle.bz_base.specs.Cursor.{byte_at, word_at}
 use Rattle.bz_base.specs.Leb128.{uleb_at}
-use Rattle.bz_gsym.specs.InlineTree.{Head, Nodes, Frame, frames}
+use Rattle.bz_gsym.specs.InlineTree.{Head, Nodes, Frame, frames, no_children, no_ranges}
 use Rattle.bz_gsym.specs.InlineTree.Nodes.{Ended, Node}
 
 -- what is read next, where the first was there
@@ -40,7 +40,7 @@ tail_at bytes = do
   name ← word_at 4 flag.1
   call_file ← uleb_at name.1
   call_line ← uleb_at call_file.1
-  Some (record { has_children = not (flag.0 == 0); name = name.0; call_file = call_file.0; call_line = call_line.0 }, call_line.1)
+  Some (record { has_children = not (flag.0 == no_children); name = name.0; call_file = call_file.0; call_line = call_line.0 }, call_line.1)
 
 -- a node's head from its two parts
 abbrev pub head_of : List (ℕ × ℕ) → Tail → Head
@@ -57,11 +57,11 @@ filled_at count bytes = do
 abbrev pub there : Head × List ℕ → Option Head × List ℕ
 there head = (Some head.0, head.1)
 
--- the head of the next node, or None for the count 0, which ends siblings
+-- the head of the next node, or None for the count that ends siblings
 unfoldable pub head_at : List ℕ → Option (Option Head × List ℕ)
 head_at bytes = do
   count ← uleb_at bytes
-  if count.0 == 0 then Some (None, count.1) else option_map there (filled_at count.0 count.1)
+  if count.0 == no_ranges then Some (None, count.1) else option_map there (filled_at count.0 count.1)
 
 -- a node before its siblings
 abbrev pub node_before : Head → Nodes → Nodes × List ℕ → Nodes × List ℕ

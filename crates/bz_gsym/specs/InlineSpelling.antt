@@ -2,7 +2,7 @@
 use Rattle.std.specs.Prelude.{◌≡◌, ℕ, true, false, not, ◌<◌, ◌==◌, List, [], ◌∷◌, ◌++◌, length}
 use Rattle.bz_base.specs.Cursor.{IsWord}
 use Rattle.bz_base.specs.Leb128.{IsUleb}
-use Rattle.bz_gsym.specs.InlineTree.{Head, Nodes}
+use Rattle.bz_gsym.specs.InlineTree.{Head, Nodes, no_children, no_ranges}
 use Rattle.bz_gsym.specs.InlineTree.Nodes.{Ended, Node}
 
 -- the text is ranges, each an offset and a size
@@ -24,22 +24,22 @@ pub record IsHead (head : Head) (text : List ℕ) : Type 0 where
   pub some : 0 < length head.ranges
   pub count_is : IsUleb (length head.ranges) count
   pub ranges_are : AreRanges head.ranges ranges
-  pub flag_is : head.has_children ≡ not (flag == 0)
+  pub flag_is : head.has_children ≡ not (flag == no_children)
   pub name_is : IsWord 4 head.name name
   pub file_is : IsUleb head.call_file call_file
   pub line_is : IsUleb head.call_line call_line
 
--- the text is siblings: each a node with its children, if it has some; a count of 0 ends them
+-- the text is siblings: each a node with its children, if it has some; the count of no ranges ends them
 abbrev pub AreNodes : Nodes → List ℕ → Type 0
-AreNodes Ended text = IsUleb 0 text
+AreNodes Ended text = IsUleb no_ranges text
 AreNodes (Node head children siblings) text =
     (own inner after : List ℕ) × (text ≡ own ++ (inner ++ after)) × IsHead head own
     × (head.has_children ≡ true → AreNodes children inner) × (head.has_children ≡ false → (children ≡ Ended) × (inner ≡ []))
     × AreNodes siblings after
 
--- the text is one root with its children, or a count of 0
+-- the text is one root with its children, or the count of no ranges
 abbrev pub IsRoot : Nodes → List ℕ → Type 0
-IsRoot Ended text = IsUleb 0 text
+IsRoot Ended text = IsUleb no_ranges text
 IsRoot (Node head children siblings) text =
     (own inner : List ℕ) × (siblings ≡ Ended) × (text ≡ own ++ inner) × IsHead head own
     × (head.has_children ≡ true → AreNodes children inner) × (head.has_children ≡ false → (children ≡ Ended) × (inner ≡ []))

@@ -23,6 +23,14 @@ pub record Frame : Type 0 where
   pub call_file : ℕ
   pub call_line : ℕ
 
+-- the count of ranges that ends siblings
+abbrev pub no_ranges : ℕ
+no_ranges = 0
+
+-- the flag of a node without children; any other one says that children follow
+abbrev pub no_children : ℕ
+no_children = 0
+
 -- the greatest number of 32 bits
 abbrev pub last_index : ℕ
 last_index = 4294967295

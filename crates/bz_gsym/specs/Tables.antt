@@ -14,6 +14,17 @@ use Rattle.bz_gsym.specs.declared.types.Header.{Header}
 abbrev pub header_len : ℕ
 header_len = 48
 
+-- how many bytes a data place has, and the count of files
+abbrev pub data_place_len : ℕ
+data_place_len = 4
+
+abbrev pub file_count_len : ℕ
+file_count_len = 4
+
+-- how many bytes a file has: those of its directory and of its name
+abbrev pub file_entry_len : ℕ
+file_entry_len = 8
+
 -- the sizes that an entry of the address table may have, in bytes
 abbrev pub is_address_size : ℕ → Bool
 is_address_size size = size == 1 || (size == 2 || (size == 4 || size == 8))
@@ -28,18 +39,18 @@ data_table h = addresses_end h + padding (addresses_end h)
 
 -- then comes the count of files
 abbrev pub file_count_place : Header → ℕ
-file_count_place h = data_table h + h.num_addrs * 4
+file_count_place h = data_table h + h.num_addrs * data_place_len
 
 -- and then the files
 abbrev pub file_table : Header → ℕ
-file_table h = file_count_place h + 4
+file_table h = file_count_place h + file_count_len
 
 abbrev pub file_count : List ℕ → ℕ
-file_count bytes = number_at 4 bytes (file_count_place (header_of bytes))
+file_count bytes = number_at file_count_len bytes (file_count_place (header_of bytes))
 
--- the place behind the files, of 8 bytes each
+-- the place behind the files
 abbrev pub files_end : List ℕ → ℕ
-files_end bytes = file_table (header_of bytes) + file_count bytes * 8
+files_end bytes = file_table (header_of bytes) + file_count bytes * file_entry_len
 
 -- the place behind the string table
 abbrev pub strings_end : Header → ℕ
@@ -53,7 +64,7 @@ starts bytes =
 
 -- for each symbol the place of its data
 abbrev pub data_places : List ℕ → List ℕ
-data_places bytes = let h : Header = header_of bytes in numbers_at 4 h.num_addrs bytes (data_table h)
+data_places bytes = let h : Header = header_of bytes in numbers_at data_place_len h.num_addrs bytes (data_table h)
 
 -- a file at a place: where its directory and its name begin in the string table
 abbrev pub file_at : List ℕ → ℕ → FileInfo
@@ -61,7 +72,7 @@ file_at bytes place = record { directory = number_at 4 bytes place; filename = n
 
 -- the source files
 abbrev pub files : List ℕ → List FileInfo
-files bytes = map (λ i. file_at bytes (file_table (header_of bytes) + i * 8)) (range_with_len 0 (file_count bytes))
+files bytes = map (λ i. file_at bytes (file_table (header_of bytes) + i * file_entry_len)) (range_with_len 0 (file_count bytes))
 
 -- the string table
 abbrev pub strings : List ℕ → List ℕ

@@ -9,10 +9,11 @@ ghost use Rattle.bz_gsym.specs.JoiningSeen.{HasAskedFrames, told_seen};
 ghost use Rattle.bz_gsym.specs.Refusal.{Refuses};
 ghost use Rattle.bz_gsym.specs.Seen.{entry_seen};
 
+use crate::format::{INFO_TYPE_INLINE_INFO, INFO_TYPE_LINE_TABLE_INFO};
 use crate::inline::InlineInfo;
 use crate::linetab::{LineTableRow, line_in};
 use crate::parser::parse_address_data;
-use crate::types::{AddrData, INFO_TYPE_INLINE_INFO, INFO_TYPE_LINE_TABLE_INFO, InlineFrame};
+use crate::types::{AddrData, InlineFrame};
 use bz_base::{Addr, Error, FindSymOpts, Result};
 use std::alloc::Global;
 

@@ -14,6 +14,7 @@ ghost use Rattle.bz_gsym.specs.declared.inline.node.Level.TheVariants.{PassedOve
 mod node;
 mod reader;
 
+use crate::format::NO_RANGES;
 use crate::types::InlineFrame;
 use bz_base::{Addr, Cursor, Error, Result};
 use node::{Level, Span, Tail, Visit};
@@ -107,7 +108,7 @@ fn visit(cursor: &mut Cursor<'_>, level: Level, addr: u64) -> Option<Option<Visi
     ensures none { IfNone result (visit_at addr level cursor.old.left ≡ None) }
 {
     let count = cursor.read_uleb()?;
-    if count == 0 {
+    if count == NO_RANGES {
         return Some(None);
     }
     match level {

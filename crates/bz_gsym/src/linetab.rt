@@ -5,23 +5,9 @@ ghost use Rattle.bz_base.specs.Cursor.{with_rest};
 ghost use Rattle.bz_gsym.specs.LineTable.{behind_delta, first_state, header_at, is_above, line_in, low_half, operated, operator_at, picked, sought, special, states, wrapped};
 ghost use Rattle.bz_gsym.specs.declared.linetab.RunResult.TheVariants.{NewRow};
 
+use crate::format::{ADVANCE_LINE, ADVANCE_PC, END_SEQUENCE, FIRST_SPECIAL, SET_FILE};
 use crate::short::{pass, read_sleb, read_uleb};
 use bz_base::{Addr, Cursor};
-
-/// The operator that ends the table.
-const END_SEQUENCE: u8 = 0;
-
-/// The operator that sets the file. Its state is no row.
-const SET_FILE: u8 = 1;
-
-/// The operator that goes on to a further address. Its state is a row.
-const ADVANCE_PC: u8 = 2;
-
-/// The operator that goes on to another line. Its state is no row.
-const ADVANCE_LINE: u8 = 3;
-
-/// The first of the special operators, whose states are rows.
-const FIRST_SPECIAL: u8 = 4;
 
 /// The head of a line table.
 #[derive(Debug, Drop)]

@@ -2,7 +2,7 @@
 
 ghost use Rattle.std.specs.Prelude.{◌≡◌, ◌≤◌, ◌*◌, ℕ, List, length, option_and_then, option_map, slice_get, IfOk, IfErr};
 ghost use Rattle.bz_base.specs.declared.error.Error.{Error};
-ghost use Rattle.bz_gsym.specs.Entries.{entries_in, info_at};
+ghost use Rattle.bz_gsym.specs.Entries.{entries_in, entry_head_len, info_at};
 ghost use Rattle.bz_gsym.specs.Header.{header_of};
 ghost use Rattle.bz_gsym.specs.Seen.{info_seen};
 ghost use Rattle.bz_gsym.specs.Strings.{string_at};
@@ -13,9 +13,8 @@ mod head;
 mod starts;
 mod text;
 
-use crate::types::{
-    AddrInfo, DATA_PLACE_LEN, FILE_COUNT_LEN, FILE_ENTRY_LEN, FUNCTION_INFO_LEN, FileInfo, Header,
-};
+use crate::format::{DATA_PLACE_LEN, FILE_COUNT_LEN, FILE_ENTRY_LEN, FUNCTION_INFO_LEN};
+use crate::types::{AddrInfo, FileInfo, Header};
 use bz_base::{Addr, Result, u32_at};
 pub use data::AddrDataIter;
 pub(crate) use head::checked_header;
@@ -145,7 +144,7 @@ impl<'a> GsymContext<'a> {
 /// don't suffice.
 pub fn parse_address_data<'a>(bytes: &'a [u8]) -> AddrDataIter<'a>
     ensures entries { result ≡ entries_in bytes.now }
-    ensures few { 8 * length (entries_in bytes.now) ≤ length bytes.now }
+    ensures few { entry_head_len * length (entries_in bytes.now) ≤ length bytes.now }
 {
     AddrDataIter::new(bytes)
 }

@@ -1,37 +1,6 @@
 //! What a GSYM file is made of.
 
-/// The number that each file begins with.
-pub const GSYM_MAGIC: u32 = 0x4753594d;
-
-/// The one version that is read.
-pub const GSYM_VERSION: u16 = 1;
-
-/// How many bytes the head has.
-pub(crate) const HEADER_LEN: usize = 48;
-
-/// How many bytes there are for the build id, at the end of the head.
-pub(crate) const GSYM_MAX_UUID_SIZE: usize = 20;
-
-/// How many bytes a data place has.
-pub(crate) const DATA_PLACE_LEN: usize = 4;
-
-/// How many bytes the count of files has.
-pub(crate) const FILE_COUNT_LEN: usize = 4;
-
-/// How many bytes a file has: those of its directory and of its name.
-pub(crate) const FILE_ENTRY_LEN: usize = 8;
-
-/// How many bytes stand before a symbol's data entries: those of its size and of its name.
-pub(crate) const FUNCTION_INFO_LEN: usize = 8;
-
-/// The type of data entry that ends a list.
-pub const INFO_TYPE_END_OF_LIST: u32 = 0;
-
-/// The type of data entry that is a line table.
-pub const INFO_TYPE_LINE_TABLE_INFO: u32 = 1;
-
-/// The type of data entry that is a tree of inlined calls.
-pub const INFO_TYPE_INLINE_INFO: u32 = 2;
+use crate::format::GSYM_MAX_UUID_SIZE;
 
 /// The head of a file.
 #[derive(Clone, Copy, Debug)]
@@ -53,7 +22,7 @@ pub struct Header {
     /// The size of the string table, in bytes.
     pub strtab_size: u32,
     /// The build id, filled up with zeros. It isn't looked at.
-    pub uuid: [u8; 20],
+    pub uuid: [u8; GSYM_MAX_UUID_SIZE],
 }
 
 /// A source file: where its texts begin in the string table.

@@ -6,6 +6,7 @@ ghost use Rattle.bz_gsym.specs.InlineReader.{range_at, tail_at};
 ghost use Rattle.bz_gsym.specs.InlineSeen.{span_seen, tail_seen};
 
 use super::node::{Span, Tail};
+use crate::format::NO_CHILDREN;
 use crate::short::read_uleb;
 use bz_base::Cursor;
 
@@ -78,7 +79,7 @@ pub(crate) fn tail(cursor: &mut Cursor<'_>) -> Option<Tail>
     let call_file = read_uleb(cursor)?;
     let call_line = read_uleb(cursor)?;
     Some(Tail {
-        has_children: flag != 0,
+        has_children: flag != NO_CHILDREN,
         name,
         call_file,
         call_line,

@@ -5,7 +5,8 @@ ghost use Rattle.std.specs.Iterator.{YieldsFirstBy, item_count};
 ghost use Rattle.bz_gsym.specs.Entries.{entries_in};
 ghost use Rattle.bz_gsym.specs.Seen.{entry_seen};
 
-use crate::types::{AddrData, INFO_TYPE_END_OF_LIST};
+use crate::format::INFO_TYPE_END_OF_LIST;
+use crate::types::AddrData;
 use bz_base::Cursor;
 use std::marker::Model;
 

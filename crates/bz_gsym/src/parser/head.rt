@@ -6,10 +6,11 @@ ghost use Rattle.bz_gsym.specs.Header.{header_of};
 ghost use Rattle.bz_gsym.specs.Tables.{IsGsym, IsHeaded, addresses_end, data_table, file_count_place, files_end, header_len, strings_end};
 
 use super::starts::starts_ascend;
-use crate::types::{
+use crate::format::{
     DATA_PLACE_LEN, FILE_COUNT_LEN, FILE_ENTRY_LEN, GSYM_MAGIC, GSYM_MAX_UUID_SIZE, GSYM_VERSION,
-    HEADER_LEN, Header,
+    HEADER_LEN,
 };
+use crate::types::Header;
 use bz_base::{Error, Result, u8_at, u16_at, u32_at, u64_at};
 
 /// The head, if the bytes are a GSYM file. Nothing of the file is kept beside it.

@@ -6,7 +6,8 @@ ghost use Rattle.bz_base.specs.Starts.{IsFound, NeverDescends};
 ghost use Rattle.bz_gsym.specs.Header.{header_of};
 ghost use Rattle.bz_gsym.specs.Tables.{AreStarts, header_len, is_address_size, addresses_end, starts};
 
-use crate::types::{HEADER_LEN, Header};
+use crate::format::HEADER_LEN;
+use crate::types::Header;
 use bz_base::{Probe, Steps, nearest, u8_at, u16_at, u32_at, u64_at};
 use std::marker::{Brand, Model};
 use std::sync::ledger::{Blank, Ledger};
