@@ -6,7 +6,7 @@ use Rattle.std.proofs.lemmas.List.{length-append}
 use Rattle.std.proofs.lemmas.Option.{none-some, same_Some}
 use Rattle.std.proofs.Math.Seq.{drop-append_seam}
 use Rattle.bz_base.specs.Cursor.{padding}
-use Rattle.bz_gsym.specs.Entries.{info_at}
+use Rattle.bz_gsym.specs.Entries.{entry_head_len, info_at}
 use Rattle.bz_base.specs.Little.{number_at}
 use Rattle.bz_gsym_layout.specs.Layout.{Tables, code_bytes, data_bytes, data_places, inline_entry, line_entry, text_place, word, zeros}
 use Rattle.bz_gsym_layout.specs.Plan.{Code}
@@ -67,10 +67,10 @@ module _ (t : Tables) where
   -- what lies there is read
   module _ (bytes : List ℕ) (place : ℕ) (c : Code) (lies : LiesAt bytes place c) (small_size : c.size < 2 ^ 32) (small_name : text_place t c.name < 2 ^ 32) where
     abbrev rest : List ℕ
-    rest = line_entry t c.start c.rows ++ (inline_entry t c c.calls ++ (zeros 8 ++ lies.after))
+    rest = line_entry t c.start c.rows ++ (inline_entry t c c.calls ++ (zeros entry_head_len ++ lies.after))
 
     parts : code_bytes t c ++ lies.after ≡ word 4 c.size ++ (word 4 (text_place t c.name) ++ rest)
-    parts = assoc (word 4 c.size) (word 4 (text_place t c.name)) (line_entry t c.start c.rows) (inline_entry t c c.calls) (zeros 8) lies.after where
+    parts = assoc (word 4 c.size) (word 4 (text_place t c.name)) (line_entry t c.start c.rows) (inline_entry t c c.calls) (zeros entry_head_len) lies.after where
       assoc : (a b d e f g : List ℕ) → (a ++ (b ++ (d ++ (e ++ f)))) ++ g ≡ a ++ (b ++ (d ++ (e ++ (f ++ g))))
       assoc a b d e f g = simp append_assoc
 

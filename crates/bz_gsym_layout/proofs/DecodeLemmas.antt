@@ -9,7 +9,7 @@ use Rattle.bz_base.specs.Nearest.{candidate}
 use Rattle.bz_base.specs.Span.{inside, last_address}
 use Rattle.bz_base.specs.declared.types.FindSymOpts.TheVariants as asked
 use Rattle.bz_base.specs.declared.types.Reason.TheVariants as reasons
-use Rattle.bz_gsym.specs.Entries.{Info, entries_in, info_at, inline_tree, line_table}
+use Rattle.bz_gsym.specs.Entries.{Info, entries_in, entry_head_len, info_at, inline_tree, line_table}
 use Rattle.bz_gsym.specs.Header.{header_of}
 use Rattle.bz_gsym.specs.InlineReader.{◌>>=◌}
 use Rattle.bz_gsym.specs.InlineTree.{Frame}
@@ -58,7 +58,7 @@ row_among P addr last (row ∷ rows) own all = by (nat_lt addr row.0) (row_among
 
 -- a function's data, with what stands behind it
 abbrev pub info_of : Tables → Code → List ℕ → Info
-info_of t c after = record { size = c.size; name = text_place t c.name; rest = line_entry t c.start c.rows ++ (inline_entry t c c.calls ++ (zeros 8 ++ after)) }
+info_of t c after = record { size = c.size; name = text_place t c.name; rest = line_entry t c.start c.rows ++ (inline_entry t c c.calls ++ (zeros entry_head_len ++ after)) }
 
 module _ (bytes : List ℕ) (t : Tables) where
   -- a line's source file is read
@@ -142,16 +142,16 @@ module _ (bytes : List ℕ) (t : Tables) where
         ∙ ap (λ o. o >>= (λ more. told_after asked.CodeInfoAndInlined c.start addr more (entries_in rest))) lines_told
 
     tree_front : (row : Option LineTableRow) (after : List ℕ) (forest : Forest Called) → forest ≡ c.calls →
-        told_after asked.CodeInfoAndInlined c.start addr (record { row = row; frames = [] }) (entries_in (inline_entry t c forest ++ (zeros 8 ++ after)))
+        told_after asked.CodeInfoAndInlined c.start addr (record { row = row; frames = [] }) (entries_in (inline_entry t c forest ++ (zeros entry_head_len ++ after)))
         ≡ Some (record { row = row; frames = frames_by forest })
     tree_front row after NoCalls is = rw (entries_end after) refl
     tree_front row after (Call call within later) is =
-        rw (entry_front inline_tree (tree_bytes t c) (zeros 8 ++ after) (λ none. omega arith) (omega arith) (subst (ShortTree c) (sym is) reads.short_tree), entries_end after, tree_told row) refl
+        rw (entry_front inline_tree (tree_bytes t c) (zeros entry_head_len ++ after) (λ none. omega arith) (omega arith) (subst (ShortTree c) (sym is) reads.short_tree), entries_end after, tree_told row) refl
 
     told_is : (after : List ℕ) →
-        told_of asked.CodeInfoAndInlined c.start addr (entries_in (line_entry t c.start c.rows ++ (inline_entry t c c.calls ++ (zeros 8 ++ after))))
+        told_of asked.CodeInfoAndInlined c.start addr (entries_in (line_entry t c.start c.rows ++ (inline_entry t c c.calls ++ (zeros entry_head_len ++ after))))
         ≡ Some (record { row = state; frames = frames_by c.calls })
-    told_is after = lines_front (inline_entry t c c.calls ++ (zeros 8 ++ after)) c.rows refl ∙ tree_front state after c.calls refl
+    told_is after = lines_front (inline_entry t c c.calls ++ (zeros entry_head_len ++ after)) c.rows refl ∙ tree_front state after c.calls refl
 
     -- and how it is joined
     abbrev place : Option (Site × List InnerCall)

@@ -1,6 +1,6 @@
 -- Data entries that are written are read again, and the list ends behind them.
 use Rattle.std.proofs.Common.{◌≡◌, ℕ, ◌^◌, ◌<◌, List, [], ◌∷◌, ◌++◌, length, drop, refl, ap, ◌∙◌, arith, append_assoc}
-use Rattle.bz_gsym.specs.Entries.{Begins, Entry, entries_in, entry_len}
+use Rattle.bz_gsym.specs.Entries.{Begins, Entry, entries_in, entry_head_len, entry_len}
 use Rattle.bz_base.specs.Little.{number_at}
 use Rattle.bz_gsym.proofs.EntryLaws.{first_is, has_it, rest_read}
 use Rattle.bz_gsym.proofs.EntryLemmas.{entries_step, no_entries}
@@ -26,6 +26,6 @@ entry_front typ text rest some small short =
     entries_step bytes (has_it bytes entry rest is) ∙ ap (λ e. e ∷ entries_in (drop (entry_len bytes) bytes)) (first_is bytes entry rest is) ∙ ap (λ l. entry ∷ entries_in l) (rest_read bytes entry rest is)
 
 -- and none behind the last one
-pub entries_end : (rest : List ℕ) → entries_in (zeros 8 ++ rest) ≡ []
+pub entries_end : (rest : List ℕ) → entries_in (zeros entry_head_len ++ rest) ≡ []
 unfolding number_at
-entries_end rest = no_entries (zeros 8 ++ rest) refl
+entries_end rest = no_entries (zeros entry_head_len ++ rest) refl

@@ -1,6 +1,6 @@
 -- A function's data is written piece by piece.
 use Rattle.std.proofs.Common.{◌≡◌, ℕ, ◌<◌, List, [], ◌∷◌, ◌++◌, length, refl, sym, ap, ◌∙◌, arith, append_assoc}
-use Rattle.bz_gsym.specs.Entries.{inline_tree, line_table}
+use Rattle.bz_gsym.specs.Entries.{entry_head_len, inline_tree, line_table}
 use Rattle.bz_gsym_layout.specs.InOrder.{AreInOrder, depth_of}
 use Rattle.bz_gsym_layout.specs.Layout.{Tables, calls_bytes, code_bytes, entry_bytes, inline_entry, line_entry, line_table_bytes, numbers_bytes, text_place, tree_bytes, word, zeros}
 use Rattle.bz_gsym_layout.specs.Nesting.{map_forest, nested}
@@ -64,13 +64,13 @@ module _ (t : Tables) (places : List ℕ) (c : Code) (f : Function) (is : IsCode
 
   -- the whole data
   pub code_written : (old first second third fourth new : List ℕ) → first ≡ old ++ word 4 f.size → second ≡ first ++ word 4 (place_at places f.name) →
-      third ≡ second ++ line_entry t f.start c.rows → fourth ≡ third ++ inline_entry t c c.calls → new ≡ fourth ++ zeros 8 → new ≡ old ++ code_bytes t c
+      third ≡ second ++ line_entry t f.start c.rows → fourth ≡ third ++ inline_entry t c c.calls → new ≡ fourth ++ zeros entry_head_len → new ≡ old ++ code_bytes t c
   code_written old first second third fourth new size name lines tree ends =
-      ends ∙ ap (λ l. l ++ zeros 8) tree
-      ∙ ap (λ l. (l ++ inline_entry t c c.calls) ++ zeros 8) lines
-      ∙ ap (λ l. ((l ++ line_entry t f.start c.rows) ++ inline_entry t c c.calls) ++ zeros 8) name
-      ∙ ap (λ l. (((l ++ word 4 (place_at places f.name)) ++ line_entry t f.start c.rows) ++ inline_entry t c c.calls) ++ zeros 8) size
-      ∙ pieces old (word 4 f.size) (word 4 (place_at places f.name)) (line_entry t f.start c.rows) (inline_entry t c c.calls) (zeros 8)
-      ∙ ap (λ n. old ++ (word 4 n ++ (word 4 (place_at places f.name) ++ (line_entry t f.start c.rows ++ (inline_entry t c c.calls ++ zeros 8))))) (sym is.size)
-      ∙ ap (λ n. old ++ (word 4 c.size ++ (word 4 n ++ (line_entry t f.start c.rows ++ (inline_entry t c c.calls ++ zeros 8))))) (sym is.name)
-      ∙ ap (λ n. old ++ (word 4 c.size ++ (word 4 (text_place t c.name) ++ (line_entry t n c.rows ++ (inline_entry t c c.calls ++ zeros 8))))) (sym is.start)
+      ends ∙ ap (λ l. l ++ zeros entry_head_len) tree
+      ∙ ap (λ l. (l ++ inline_entry t c c.calls) ++ zeros entry_head_len) lines
+      ∙ ap (λ l. ((l ++ line_entry t f.start c.rows) ++ inline_entry t c c.calls) ++ zeros entry_head_len) name
+      ∙ ap (λ l. (((l ++ word 4 (place_at places f.name)) ++ line_entry t f.start c.rows) ++ inline_entry t c c.calls) ++ zeros entry_head_len) size
+      ∙ pieces old (word 4 f.size) (word 4 (place_at places f.name)) (line_entry t f.start c.rows) (inline_entry t c c.calls) (zeros entry_head_len)
+      ∙ ap (λ n. old ++ (word 4 n ++ (word 4 (place_at places f.name) ++ (line_entry t f.start c.rows ++ (inline_entry t c c.calls ++ zeros entry_head_len))))) (sym is.size)
+      ∙ ap (λ n. old ++ (word 4 c.size ++ (word 4 n ++ (line_entry t f.start c.rows ++ (inline_entry t c c.calls ++ zeros entry_head_len))))) (sym is.name)
+      ∙ ap (λ n. old ++ (word 4 c.size ++ (word 4 (text_place t c.name) ++ (line_entry t n c.rows ++ (inline_entry t c c.calls ++ zeros entry_head_len))))) (sym is.start)

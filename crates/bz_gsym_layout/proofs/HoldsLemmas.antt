@@ -8,6 +8,7 @@ use Rattle.std.proofs.lemmas.Option.{slice_get-map}
 use Rattle.bz_base.specs.Span.{last_address}
 use Rattle.bz_base.specs.declared.types.FindSymOpts.TheVariants as asked
 use Rattle.bz_base.proofs.PieceOfBytesLemmas.{map_some}
+use Rattle.bz_gsym.specs.Entries.{entry_head_len}
 use Rattle.bz_gsym.specs.InlineSpelling.{IsTree}
 use Rattle.bz_gsym.specs.InlineTree.{Nodes}
 use Rattle.bz_gsym.specs.Plain.{plain}
@@ -44,10 +45,10 @@ entries_below codes i c there =
       arith,
       below,
       ap (λ d. length (code_bytes t d)) found.2,
-      length-append (word 4 c.size) (word 4 (text_place t c.name) ++ (line_entry t c.start c.rows ++ (inline_entry t c c.calls ++ zeros 8))),
-      length-append (word 4 (text_place t c.name)) (line_entry t c.start c.rows ++ (inline_entry t c c.calls ++ zeros 8)),
-      length-append (line_entry t c.start c.rows) (inline_entry t c c.calls ++ zeros 8),
-      length-append (inline_entry t c c.calls) (zeros 8),
+      length-append (word 4 c.size) (word 4 (text_place t c.name) ++ (line_entry t c.start c.rows ++ (inline_entry t c c.calls ++ zeros entry_head_len))),
+      length-append (word 4 (text_place t c.name)) (line_entry t c.start c.rows ++ (inline_entry t c c.calls ++ zeros entry_head_len)),
+      length-append (line_entry t c.start c.rows) (inline_entry t c c.calls ++ zeros entry_head_len),
+      length-append (inline_entry t c c.calls) (zeros entry_head_len),
     )
 
 module _ (codes : List Code) (small : length (layout codes) < 2 ^ 32) (layable : AllByRecursion IsLayable codes) where
@@ -168,10 +169,10 @@ module _ (codes : List Code) (small : length (layout codes) < 2 ^ 32) (layable :
         omega (
           arith,
           code_below t bytes place c lies,
-          length-append (word 4 c.size) (word 4 (text_place t c.name) ++ (lines c.rows ++ (tree c.calls ++ zeros 8))),
-          length-append (word 4 (text_place t c.name)) (lines c.rows ++ (tree c.calls ++ zeros 8)),
-          length-append (lines c.rows) (tree c.calls ++ zeros 8),
-          length-append (tree c.calls) (zeros 8),
+          length-append (word 4 c.size) (word 4 (text_place t c.name) ++ (lines c.rows ++ (tree c.calls ++ zeros entry_head_len))),
+          length-append (word 4 (text_place t c.name)) (lines c.rows ++ (tree c.calls ++ zeros entry_head_len)),
+          length-append (lines c.rows) (tree c.calls ++ zeros entry_head_len),
+          length-append (tree c.calls) (zeros entry_head_len),
         )
 
     entry_longer : (typ : ℕ) (text : List ℕ) → length text ≤ length (entry_bytes typ text)

@@ -2,6 +2,8 @@
 use Rattle.std.proofs.Common.{◌≡◌, ℕ, suc, ◌+◌, ◌*◌, ◌≤◌, List, [], ◌∷◌, ◌++◌, drop, flat_map, length, map, take, refl, sym, ap, subst, ◌∙◌, arith, append_assoc, append-nil}
 use Rattle.std.specs.Str.{bytes_eq}
 use Rattle.std.proofs.lemmas.List.{drop_all, drop_at, length-append, length-map, take_all}
+use Rattle.bz_gsym.specs.Tables.{data_place_len, file_count_len, file_entry_len, header_len}
+use Rattle.bz_gsym_layout.specs.Format.{addr_off_size}
 use Rattle.bz_gsym_layout.specs.Indexed.{AreFiles, AreFunctions, IsPlan, code_of, codes_of, source_of, sources_listed, tables_listed, texts_listed}
 use Rattle.bz_gsym_layout.specs.Layout as layout
 use Rattle.bz_gsym_layout.specs.Layout.{Tables, data_bytes, file_bytes, head_bytes, laid_out, string_bytes, strings_place, tables_of, word, zeros}
@@ -70,7 +72,7 @@ module _ (plan : Plan) (is : IsPlan plan) where
       let both = is.files i s there in
       (omega (arith, both.0, texts_many), omega (arith, both.1, texts_many)))
 
-  pub starts_written : flat_map (λ (f : Function). word 8 f.start) plan.functions.items ≡ flat_map (λ (c : Code). word 8 c.start) codes
+  pub starts_written : flat_map (λ (f : Function). word addr_off_size f.start) plan.functions.items ≡ flat_map (λ (c : Code). word addr_off_size c.start) codes
   starts_written = starts_are view (λ f. refl) plan.functions.items
 
   -- the layout of the codes is that by the listed tables
@@ -86,7 +88,9 @@ module _ (plan : Plan) (is : IsPlan plan) where
   codes_many : length codes ≡ length plan.functions.items
   codes_many = length-map plan.functions.items view
 
-  pub strings_at_is : (place : ℕ) → place ≡ 48 + 8 * length plan.functions.items + 4 * length plan.functions.items + 4 + 8 * suc (length plan.sources.items) → place ≡ strings_at
+  pub strings_at_is : (place : ℕ) →
+      place ≡ header_len + addr_off_size * length plan.functions.items + data_place_len * length plan.functions.items + file_count_len + file_entry_len * suc (length plan.sources.items) →
+      place ≡ strings_at
   strings_at_is place same = omega (arith, same, codes_many, sources_many)
 
   pub data_at_is : (place strings end : ℕ) → strings ≡ strings_at → end ≡ 1 + length (flat_map stored listed.texts) → place ≡ strings + end → place ≡ data_at
@@ -107,22 +111,22 @@ module _ (plan : Plan) (is : IsPlan plan) where
   head = head_bytes (length codes) strings_at (length (string_bytes listed))
 
   abbrev pub places_written : List ℕ
-  places_written = flat_map (word 4) (layout.data_places listed data_at codes)
+  places_written = flat_map (word data_place_len) (layout.data_places listed data_at codes)
 
   abbrev pub front : List ℕ
   front =
-      (((((head ++ flat_map (λ (c : Code). word 8 c.start) codes) ++ places_written) ++ word 4 (suc (length listed.sources))) ++ zeros 8)
+      (((((head ++ flat_map (λ (c : Code). word addr_off_size c.start) codes) ++ places_written) ++ word file_count_len (suc (length listed.sources))) ++ zeros file_entry_len)
       ++ flat_map (file_bytes listed) listed.sources) ++ string_bytes listed
 
   front_many : length front ≡ data_at
   front_many =
-      ap length (before head (flat_map (λ (c : Code). word 8 c.start) codes) places_written (word 4 (suc (length listed.sources))) (zeros 8) (flat_map (file_bytes listed) listed.sources) (string_bytes listed))
+      ap length (before head (flat_map (λ (c : Code). word addr_off_size c.start) codes) places_written (word file_count_len (suc (length listed.sources))) (zeros file_entry_len) (flat_map (file_bytes listed) listed.sources) (string_bytes listed))
       ∙ to_data codes listed
 
   pub whole_is : (out : List ℕ) → out ≡ front ++ data_bytes listed (length front) codes → out ≡ layout.layout codes
   whole_is out wrote =
       wrote ∙ ap (λ n. front ++ data_bytes listed n codes) front_many
-      ∙ assoc head (flat_map (λ (c : Code). word 8 c.start) codes) places_written (word 4 (suc (length listed.sources))) (zeros 8)
+      ∙ assoc head (flat_map (λ (c : Code). word addr_off_size c.start) codes) places_written (word file_count_len (suc (length listed.sources))) (zeros file_entry_len)
       (flat_map (file_bytes listed) listed.sources) (string_bytes listed) (data_bytes listed data_at codes)
       ∙ laid_out_is
 
@@ -139,17 +143,17 @@ module _ (plan : Plan) (is : IsPlan plan) where
   -- what is written before the functions' data
   pub front_is : (count at len sources : ℕ) (found o1 o2 o3 o4 o5 o6 o7 o8 : List ℕ) → count ≡ length plan.functions.items → at ≡ strings_at →
       len ≡ 1 + length (flat_map stored listed.texts) → sources ≡ length plan.sources.items + 1 → found ≡ layout.data_places listed data_at codes →
-      o1 ≡ head_bytes count at len → o2 ≡ o1 ++ flat_map (λ (f : Function). word 8 f.start) plan.functions.items → o3 ≡ o2 ++ flat_map (word 4) found →
-      o4 ≡ o3 ++ word 4 sources → o5 ≡ o4 ++ zeros 8 → o6 ≡ o5 ++ flat_map (source_bytes places) plan.sources.items → o7 ≡ o6 ++ 0 ∷ [] →
+      o1 ≡ head_bytes count at len → o2 ≡ o1 ++ flat_map (λ (f : Function). word addr_off_size f.start) plan.functions.items → o3 ≡ o2 ++ flat_map (word data_place_len) found →
+      o4 ≡ o3 ++ word file_count_len sources → o5 ≡ o4 ++ zeros file_entry_len → o6 ≡ o5 ++ flat_map (source_bytes places) plan.sources.items → o7 ≡ o6 ++ 0 ∷ [] →
       o8 ≡ o7 ++ flat_map stored listed.texts → o8 ≡ front
   front_is count at len sources found o1 o2 o3 o4 o5 o6 o7 o8 count_is at_is len_is sources_is found_is e1 e2 e3 e4 e5 e6 e7 e8 =
       let n : count ≡ length codes = count_is ∙ sym codes_many in
       let l : len ≡ length (string_bytes listed) = omega (arith, len_is) in
       let s : sources ≡ suc (length listed.sources) = omega (arith, sources_is, sources_many) in
       let h : o1 ≡ head = e1 ∙ ap (λ k. head_bytes k at len) n ∙ ap (λ k. head_bytes (length codes) k len) at_is ∙ ap (λ k. head_bytes (length codes) strings_at k) l in
-      steps head (flat_map (λ (c : Code). word 8 c.start) codes) places_written (word 4 (suc (length listed.sources))) (zeros 8)
+      steps head (flat_map (λ (c : Code). word addr_off_size c.start) codes) places_written (word file_count_len (suc (length listed.sources))) (zeros file_entry_len)
       (flat_map (file_bytes listed) listed.sources) (flat_map stored listed.texts) o1 o2 o3 o4 o5 o6 o7 o8 h
-      (e2 ∙ ap (λ k. o1 ++ k) starts_written) (e3 ∙ ap (λ k. o2 ++ flat_map (word 4) k) found_is) (e4 ∙ ap (λ k. o3 ++ word 4 k) s) e5
+      (e2 ∙ ap (λ k. o1 ++ k) starts_written) (e3 ∙ ap (λ k. o2 ++ flat_map (word data_place_len) k) found_is) (e4 ∙ ap (λ k. o3 ++ word file_count_len k) s) e5
       (e6 ∙ ap (λ k. o5 ++ k) files_written) e7 e8
 
   pub front_len : (front_part : List ℕ) → front_part ≡ front → length front_part ≡ data_at

@@ -4,8 +4,12 @@ use Rattle.std.specs.Prelude.{ℕ, zero, suc, pos, ◌+◌, ◌-◌, ◌-ℤ◌,
 use Rattle.std.specs.List.{repeat}
 use Rattle.bz_base.specs.Byte.{zero_byte}
 use Rattle.bz_base.specs.Cursor.{padding}
-use Rattle.bz_gsym.specs.Entries.{inline_tree, line_table}
-use Rattle.bz_gsym.specs.Header.{gsym_magic, gsym_version}
+use Rattle.bz_gsym.specs.Entries.{entry_head_len, inline_tree, line_table}
+use Rattle.bz_gsym.specs.Header.{gsym_magic, gsym_version, max_uuid_size}
+use Rattle.bz_gsym.specs.InlineTree.{no_children, no_ranges}
+use Rattle.bz_gsym.specs.LineTable.{advance_line, advance_pc, end_sequence, set_file}
+use Rattle.bz_gsym.specs.Tables.{data_place_len, file_count_len, file_entry_len, header_len}
+use Rattle.bz_gsym_layout.specs.Format.{addr_off_size, base_address, first_line, max_delta, min_delta, no_file, no_line, one_range, root_offset, some_children, uuid_size}
 use Rattle.bz_gsym_layout.specs.Leb.{sleb, uleb}
 use Rattle.bz_gsym_layout.specs.Nesting.{Forest}
 use Rattle.bz_gsym_layout.specs.Nesting.Forest.{NoCalls, Call}
@@ -22,8 +26,8 @@ zeros count = repeat count (0 ∷ [])
 
 -- whether a node has children, as its byte says
 abbrev pub child_flag : Forest Called → ℕ
-child_flag NoCalls = 0
-child_flag (Call c within after) = 1
+child_flag NoCalls = no_children
+child_flag (Call c within after) = some_children
 
 -- the list of the calls inside a call; a call with none has no list
 abbrev pub unless_ended : Forest Called → List ℕ → List ℕ
@@ -36,11 +40,12 @@ entry_bytes typ text = word 4 typ ++ (word 4 (length text) ++ text)
 
 -- a node up to its children, by its numbers: its one range, whose offset counts from a base, and what it says
 abbrev pub numbers_bytes : ℕ → ℕ → ℕ → ℕ → ℕ → ℕ → List ℕ
-numbers_bytes offset size name flag file line = 1 ∷ uleb offset ++ (uleb size ++ flag ∷ (word 4 name ++ (uleb file ++ uleb line)))
+numbers_bytes offset size name flag file line = one_range ∷ uleb offset ++ (uleb size ++ flag ∷ (word 4 name ++ (uleb file ++ uleb line)))
 
 -- a row by its numbers, and the address and the line before it: its file, how many lines further, and how far the address lies on
 abbrev pub row_numbers : ℕ → ℕ → ℕ → ℕ → ℕ → List ℕ
-row_numbers addr line to_addr to_file to_line = 1 ∷ uleb to_file ++ (3 ∷ sleb (pos to_line -ℤ pos line) ++ 2 ∷ uleb (to_addr - addr))
+row_numbers addr line to_addr to_file to_line =
+    set_file ∷ uleb to_file ++ (advance_line ∷ sleb (pos to_line -ℤ pos line) ++ advance_pc ∷ uleb (to_addr - addr))
 
 -- the numbered texts and source files
 pub record Tables : Type 0 where
@@ -52,7 +57,7 @@ module _ (t : Tables) where
   abbrev pub text_place : List ℕ → ℕ
   text_place text = place_from 1 text t.texts
 
-  -- a source file by its index: file 0 is none
+  -- a source file by its index: that of no file comes first
   abbrev pub source_index : Source → ℕ
   source_index source = suc (index_of same_source source t.sources)
 
@@ -62,27 +67,27 @@ module _ (t : Tables) where
 
   -- rows, and the end
   abbrev pub rows_bytes : ℕ → ℕ → List (ℕ × Line) → List ℕ
-  rows_bytes addr line [] = 0 ∷ []
+  rows_bytes addr line [] = end_sequence ∷ []
   rows_bytes addr line (row ∷ rows) = row_bytes addr line row ++ rows_bytes row.0 row.1.line rows
 
-  -- a line table: least and greatest line delta and the first line are 0
+  -- a line table
   abbrev pub line_table_bytes : ℕ → List (ℕ × Line) → List ℕ
-  line_table_bytes start rows = 0 ∷ 0 ∷ 0 ∷ rows_bytes start 0 rows
+  line_table_bytes start rows = min_delta ∷ max_delta ∷ first_line ∷ rows_bytes start first_line rows
 
   -- and by the text of its name
   abbrev pub node_bytes : ℕ → ℕ → List ℕ → ℕ → ℕ → ℕ → List ℕ
   node_bytes offset size name flag file line = numbers_bytes offset size (text_place name) flag file line
 
-  -- siblings, and the zero byte that ends them
+  -- siblings, and the count that ends them
   abbrev pub calls_bytes : ℕ → Forest Called → List ℕ
-  calls_bytes base NoCalls = 0 ∷ []
+  calls_bytes base NoCalls = no_ranges ∷ []
   calls_bytes base (Call c within after) =
       node_bytes (c.start - base) c.size c.name (child_flag within) (source_index c.at.source) c.at.line
       ++ (unless_ended within (calls_bytes c.start within) ++ calls_bytes base after)
 
   -- an inline tree: the root is the function
   abbrev pub tree_bytes : Code → List ℕ
-  tree_bytes c = node_bytes 0 c.size c.name 1 0 0 ++ calls_bytes c.start c.calls
+  tree_bytes c = node_bytes root_offset c.size c.name some_children no_file no_line ++ calls_bytes c.start c.calls
 
   abbrev pub line_entry : ℕ → List (ℕ × Line) → List ℕ
   line_entry start [] = []
@@ -92,9 +97,9 @@ module _ (t : Tables) where
   inline_entry c NoCalls = []
   inline_entry c (Call call within after) = entry_bytes inline_tree (tree_bytes c)
 
-  -- what stands at a function's data place: its size, its name, its entries, and the end of their list
+  -- what stands at a function's data place: its size, its name, its entries, and the end of their list, an entry without bytes
   abbrev pub code_bytes : Code → List ℕ
-  code_bytes c = word 4 c.size ++ (word 4 (text_place c.name) ++ (line_entry c.start c.rows ++ (inline_entry c c.calls ++ zeros 8)))
+  code_bytes c = word 4 c.size ++ (word 4 (text_place c.name) ++ (line_entry c.start c.rows ++ (inline_entry c c.calls ++ zeros entry_head_len)))
 
   -- the functions, each at the next place that is divisible by 4
   abbrev pub data_bytes : ℕ → List Code → List ℕ
@@ -116,17 +121,19 @@ string_bytes t = zero_byte ∷ flat_map stored t.texts
 -- the head of a file with so many functions, whose string table stands at a place and has so many bytes
 abbrev pub head_bytes : ℕ → ℕ → ℕ → List ℕ
 head_bytes count strings_at strings_len =
-    word 4 gsym_magic ++ (word 2 gsym_version ++ (8 ∷ 0 ∷ (word 8 0 ++ (word 4 count ++ (word 4 strings_at ++ (word 4 strings_len ++ zeros 20))))))
+    word 4 gsym_magic ++ (word 2 gsym_version ++ (addr_off_size ∷ uuid_size ∷ (word 8 base_address
+    ++ (word 4 count ++ (word 4 strings_at ++ (word 4 strings_len ++ zeros max_uuid_size))))))
 
 -- where the string table stands: behind the head, a start and a data place for each function, the file count, and the files
 abbrev pub strings_place : List Code → Tables → ℕ
-strings_place codes t = 48 + 8 * length codes + 4 * length codes + 4 + 8 * suc (length t.sources)
+strings_place codes t =
+    header_len + addr_off_size * length codes + data_place_len * length codes + file_count_len + file_entry_len * suc (length t.sources)
 
--- the tables up to the string table; behind the starts, of 8 bytes each, no filling is needed
+-- the tables up to the string table; behind starts of 8 bytes no filling is needed, and file 0 is none
 abbrev pub table_bytes : List Code → Tables → List ℕ → List ℕ
 table_bytes codes t places =
-    flat_map (λ (c : Code). word 8 c.start) codes
-    ++ (flat_map (word 4) places ++ (word 4 (suc (length t.sources)) ++ (zeros 8 ++ flat_map (file_bytes t) t.sources)))
+    flat_map (λ (c : Code). word addr_off_size c.start) codes
+    ++ (flat_map (word data_place_len) places ++ (word file_count_len (suc (length t.sources)) ++ (zeros file_entry_len ++ flat_map (file_bytes t) t.sources)))
 
 -- the whole file
 abbrev pub laid_out : List Code → Tables → List ℕ

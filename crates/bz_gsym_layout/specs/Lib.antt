@@ -1,3 +1,4 @@
+pub mod Format
 pub mod Indexed
 pub mod InOrder
 pub mod Layable

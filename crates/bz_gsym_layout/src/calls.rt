@@ -1,6 +1,8 @@
 //! The lists of inlined calls of an inline tree.
 
 ghost use Rattle.std.specs.Prelude.{◌≡◌, ◌≤◌, ◌<◌, ◌+◌, ◌-◌, ◌^◌, ◌++◌, ◌∷◌, ℕ, suc, true, false, List, Some, length, reverse, drop, slice_get, slice_index_or, if◌then◌else◌, IfOk, IsOkUnless, OnOk};
+ghost use Rattle.bz_gsym.specs.InlineTree.{no_children};
+ghost use Rattle.bz_gsym_layout.specs.Format.{some_children};
 ghost use Rattle.bz_gsym_layout.specs.InOrder.{AreInOrder, depth_of};
 ghost use Rattle.bz_gsym_layout.specs.Layout.{Tables, calls_bytes, numbers_bytes, zeros};
 ghost use Rattle.bz_gsym_layout.specs.Nesting.{map_forest, nested};
@@ -10,10 +12,11 @@ ghost use Rattle.bz_gsym_layout.specs.declared.error.LayoutError.{LayoutError};
 ghost use Rattle.bz_gsym_layout.specs.declared.plan.Node.{Node};
 
 use crate::error::Result;
-use crate::format::{NO_RANGES, ONE_RANGE};
+use crate::format::{ONE_RANGE, SIBLINGS_END, SOME_CHILDREN};
 use crate::leb::push_unsigned;
 use crate::plan::Node;
 use crate::words::{push_low_word, push_zeros};
+use bz_gsym::format::NO_CHILDREN;
 use std::alloc::Global;
 
 /// Where the code of a node lies, and what it says: its offset from a base, its size, the place of its
@@ -29,13 +32,17 @@ pub(crate) struct Numbers {
 
 /// Writes a node up to its children.
 pub(crate) fn push_numbers(out: &mut Vec<u8>, node: Numbers, has_children: bool) -> Result<()>
-    ensures ok { OnOk result (out.new.items ≡ out.old.items ++ numbers_bytes node.offset node.size node.name (if has_children then 1 else 0) node.file node.line) }
+    ensures ok { OnOk result (out.new.items ≡ out.old.items ++ numbers_bytes node.offset node.size node.name (if has_children then some_children else no_children) node.file node.line) }
     ensures memory { IsOkUnless result LayoutError.OutOfMemory }
 {
     out.push(ONE_RANGE)?;
     push_unsigned(out, node.offset)?;
     push_unsigned(out, node.size)?;
-    out.push(if has_children { 1 } else { 0 })?;
+    out.push(if has_children {
+        SOME_CHILDREN
+    } else {
+        NO_CHILDREN
+    })?;
     push_low_word(out, node.name)?;
     push_unsigned(out, node.file)?;
     push_unsigned(out, u64::from(node.line))?;
@@ -54,7 +61,7 @@ fn end_lists(out: &mut Vec<u8>, outer: &mut Vec<u64>, innermost: u64, depth: usi
 {
     let mut base = innermost;
     while outer.len() > depth {
-        out.push(NO_RANGES)?;
+        out.push(SIBLINGS_END)?;
         let last = outer.len() - 1;
         base = outer[last];
         outer.truncate(last);
@@ -67,7 +74,7 @@ fn end_all(out: &mut Vec<u8>, outer: usize) -> Result<()>
     ensures ok { OnOk result (out.new.items ≡ out.old.items ++ zeros (suc outer)) }
     ensures memory { IsOkUnless result LayoutError.OutOfMemory }
 {
-    out.push(NO_RANGES)?;
+    out.push(SIBLINGS_END)?;
     push_zeros(out, outer)
 }
 

@@ -1,7 +1,6 @@
-//! The numbers that a file is written with.
+//! The numbers that a file is written with, where the format leaves a choice.
 
-/// How many bytes the head has.
-pub(crate) const HEADER_LEN: u64 = 48;
+use bz_gsym::format::NO_RANGES;
 
 /// The size of a start in the address table, in bytes.
 pub(crate) const ADDR_OFF_SIZE: u8 = 8;
@@ -9,17 +8,8 @@ pub(crate) const ADDR_OFF_SIZE: u8 = 8;
 /// The size of the build id, in bytes: there is none.
 pub(crate) const UUID_SIZE: u8 = 0;
 
-/// How many bytes the head has for a build id.
-pub(crate) const MAX_UUID_SIZE: usize = 20;
-
 /// The address that the starts of the address table count from.
 pub(crate) const BASE_ADDRESS: u64 = 0;
-
-/// How many bytes a data place has, or the count of source files.
-pub(crate) const WORD_LEN: u64 = 4;
-
-/// How many bytes a source file has in the file table.
-pub(crate) const FILE_LEN: usize = 8;
 
 /// The byte that ends each text of the string table.
 pub(crate) const TEXT_END: u8 = 0;
@@ -33,20 +23,20 @@ pub(crate) const MAX_DELTA: u8 = 0;
 /// The line before the first operator.
 pub(crate) const FIRST_LINE: u8 = 0;
 
-/// The operator that ends a line table.
-pub(crate) const END_SEQUENCE: u8 = 0;
-
-/// The operator that sets the file.
-pub(crate) const SET_FILE: u8 = 1;
-
-/// The operator that goes on to a further address, with a row.
-pub(crate) const ADVANCE_PC: u8 = 2;
-
-/// The operator that goes on to another line.
-pub(crate) const ADVANCE_LINE: u8 = 3;
-
 /// How many ranges each node of an inline tree has.
 pub(crate) const ONE_RANGE: u8 = 1;
 
-/// The count of ranges that ends siblings in an inline tree.
-pub(crate) const NO_RANGES: u8 = 0;
+/// The byte that ends siblings in an inline tree: the count of no ranges.
+pub(crate) const SIBLINGS_END: u8 = NO_RANGES as u8;
+
+/// The flag of a node of an inline tree that has children.
+pub(crate) const SOME_CHILDREN: u8 = 1;
+
+/// The offset of the root of an inline tree, which starts where its function does.
+pub(crate) const ROOT_OFFSET: u64 = 0;
+
+/// The file that the root of an inline tree is called in: none.
+pub(crate) const NO_FILE: u64 = 0;
+
+/// The line that the root of an inline tree is called at: none.
+pub(crate) const NO_LINE: u32 = 0;

@@ -1,6 +1,7 @@
 //! What stands at a function's data place: its size, its name, and its entries.
 
 ghost use Rattle.std.specs.Prelude.{◌≡◌, ◌<◌, ◌-◌, ◌^◌, ◌++◌, ◌∷◌, ℕ, List, length, IfOk, IsOkUnless, OnOk};
+ghost use Rattle.bz_gsym.specs.Entries.{entry_head_len};
 ghost use Rattle.bz_gsym_layout.specs.Indexed.{IsFunction};
 ghost use Rattle.bz_gsym_layout.specs.InOrder.{NeverBefore};
 ghost use Rattle.bz_gsym_layout.specs.Layout.{Tables, code_bytes, entry_bytes, inline_entry, line_entry, zeros};
@@ -11,10 +12,11 @@ ghost use Rattle.bz_gsym_layout.specs.declared.error.LayoutError.{LayoutError};
 
 use crate::calls::{Numbers, push_calls, push_numbers};
 use crate::error::Result;
+use crate::format::{NO_FILE, NO_LINE, ROOT_OFFSET};
 use crate::plan::{Function, Row};
 use crate::rows::push_line_table;
 use crate::words::{push_low_word, push_word};
-use bz_gsym::{INFO_TYPE_END_OF_LIST, INFO_TYPE_INLINE_INFO, INFO_TYPE_LINE_TABLE_INFO};
+use bz_gsym::format::{INFO_TYPE_END_OF_LIST, INFO_TYPE_INLINE_INFO, INFO_TYPE_LINE_TABLE_INFO};
 use std::alloc::Global;
 
 /// About how many bytes a row takes.
@@ -46,7 +48,7 @@ fn push_entry(out: &mut Vec<u8>, typ: u32, text: &[u8]) -> Result<()>
 
 /// Ends a list of data entries, by one without bytes.
 fn push_end(out: &mut Vec<u8>) -> Result<()>
-    ensures ok { OnOk result (out.new.items ≡ out.old.items ++ zeros 8) }
+    ensures ok { OnOk result (out.new.items ≡ out.old.items ++ zeros entry_head_len) }
     ensures memory { IsOkUnless result LayoutError.OutOfMemory }
 {
     push_word(out, INFO_TYPE_END_OF_LIST)?;
@@ -84,11 +86,11 @@ fn push_inline_entry(
     }
     let mut text = Vec::with_capacity(alloc, function.calls.len().saturating_mul(CALL_LEN))?;
     let root = Numbers {
-        offset: 0,
+        offset: ROOT_OFFSET,
         size: u64::from(function.size),
         name: places[function.name],
-        file: 0,
-        line: 0,
+        file: NO_FILE,
+        line: NO_LINE,
     };
     push_numbers(&mut text, root, true)?;
     push_calls(alloc, &mut text, function.start, &function.calls, places)?;

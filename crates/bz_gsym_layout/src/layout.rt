@@ -13,7 +13,7 @@ ghost use Rattle.bz_gsym_layout.specs.declared.error.LayoutError.{LayoutError};
 ghost use Rattle.bz_gsym_layout.specs.declared.plan.Function.{Function};
 
 use crate::error::{LayoutError, Result};
-use crate::format::{FILE_LEN, TEXT_END};
+use crate::format::TEXT_END;
 use crate::function::{push_function, usual_function_len};
 use crate::plan::{Function, Plan};
 use crate::tables::{
@@ -21,6 +21,7 @@ use crate::tables::{
     strings_place,
 };
 use crate::words::{push_low_word, push_zeros};
+use bz_gsym::format::FILE_ENTRY_LEN;
 use std::alloc::Global;
 
 /// About how many bytes a file has whose functions' data begin at a place.
@@ -92,7 +93,7 @@ fn front_of(
     push_starts(&mut front, &plan.functions)?;
     push_places(&mut front, places)?;
     push_low_word(&mut front, plan.sources.len() as u64 + 1)?;
-    push_zeros(&mut front, FILE_LEN)?;
+    push_zeros(&mut front, FILE_ENTRY_LEN)?;
     push_files(&mut front, &plan.sources, &texts.places)?;
     front.push(TEXT_END)?;
     push_texts(&mut front, &plan.texts)?;

@@ -9,11 +9,10 @@ ghost use Rattle.bz_gsym_layout.specs.Plan.{Line};
 ghost use Rattle.bz_gsym_layout.specs.RowPass.{AreRowsOf, AreSourced};
 
 use crate::error::Result;
-use crate::format::{
-    ADVANCE_LINE, ADVANCE_PC, END_SEQUENCE, FIRST_LINE, MAX_DELTA, MIN_DELTA, SET_FILE,
-};
+use crate::format::{FIRST_LINE, MAX_DELTA, MIN_DELTA};
 use crate::leb::{push_negative, push_positive, push_unsigned};
 use crate::plan::Row;
+use bz_gsym::format::{ADVANCE_LINE, ADVANCE_PC, END_SEQUENCE, SET_FILE};
 
 /// Writes how far one line lies from another.
 fn push_delta(out: &mut Vec<u8>, from: u32, to: u32) -> Result<()>

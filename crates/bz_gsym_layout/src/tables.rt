@@ -1,6 +1,8 @@
 //! What stands before the functions' data: the head, the tables, and the string table.
 
 ghost use Rattle.std.specs.Prelude.{◌≡◌, ◌<◌, ◌+◌, ◌*◌, ◌++◌, ◌∷◌, ℕ, List, Some, flat_map, length, map, slice_get, suc, IfOk, IsOkUnless, OnOk};
+ghost use Rattle.bz_gsym.specs.Tables.{data_place_len, file_count_len, file_entry_len, header_len};
+ghost use Rattle.bz_gsym_layout.specs.Format.{addr_off_size};
 ghost use Rattle.bz_gsym_layout.specs.Layout.{head_bytes, word};
 ghost use Rattle.bz_gsym_layout.specs.Numbering.{stored};
 ghost use Rattle.bz_gsym_layout.specs.Pass.{source_bytes};
@@ -9,19 +11,20 @@ ghost use Rattle.bz_gsym_layout.specs.Places.{text_places};
 ghost use Rattle.bz_gsym_layout.specs.declared.error.LayoutError.{LayoutError};
 
 use crate::error::{LayoutError, Result};
-use crate::format::{
-    ADDR_OFF_SIZE, BASE_ADDRESS, FILE_LEN, HEADER_LEN, MAX_UUID_SIZE, TEXT_END, UUID_SIZE, WORD_LEN,
-};
+use crate::format::{ADDR_OFF_SIZE, BASE_ADDRESS, TEXT_END, UUID_SIZE};
 use crate::plan::{Function, SourceFile};
 use crate::words::{push_long, push_low_word, push_short, push_word, push_zeros};
-use bz_gsym::{GSYM_MAGIC, GSYM_VERSION};
+use bz_gsym::format::{
+    DATA_PLACE_LEN, FILE_COUNT_LEN, FILE_ENTRY_LEN, GSYM_MAGIC, GSYM_MAX_UUID_SIZE, GSYM_VERSION,
+    HEADER_LEN,
+};
 use std::alloc::Global;
 
 /// How many bytes a function has in the tables: its start and its data place.
-const SYMBOL_LEN: u64 = ADDR_OFF_SIZE as u64 + WORD_LEN;
+const SYMBOL_LEN: u64 = ADDR_OFF_SIZE as u64 + DATA_PLACE_LEN as u64;
 
 /// How many bytes the head has, the count of source files, and the first of these, which is none.
-const FIXED_LEN: u64 = HEADER_LEN + WORD_LEN + FILE_LEN as u64;
+const FIXED_LEN: u64 = (HEADER_LEN + FILE_COUNT_LEN + FILE_ENTRY_LEN) as u64;
 
 /// Where texts lie in the string table, and how many bytes that has.
 #[derive(Drop)]
@@ -68,14 +71,14 @@ fn times(number: u64, count: u64) -> Result<u64>
     }
 }
 
-/// Where the string table stands in a file of so many functions and source files: behind the head of
-/// 48 bytes, a start and a data place for each function, the file count, and the files.
+/// Where the string table stands in a file of so many functions and source files: behind the head,
+/// a start and a data place for each function, the file count, and the files.
 pub(crate) fn strings_place(functions: usize, sources: usize) -> Result<u64>
-    ensures place { IfOk result (λ place. place ≡ 48 + 8 * functions + 4 * functions + 4 + 8 * suc sources) }
+    ensures place { IfOk result (λ place. place ≡ header_len + addr_off_size * functions + data_place_len * functions + file_count_len + file_entry_len * suc sources) }
     ensures memory { IsOkUnless result LayoutError.OutOfMemory }
 {
     let symbols = times(SYMBOL_LEN, functions as u64)?;
-    let files = times(FILE_LEN as u64, sources as u64)?;
+    let files = times(FILE_ENTRY_LEN as u64, sources as u64)?;
     further(further(symbols, files)?, FIXED_LEN)
 }
 
@@ -98,12 +101,12 @@ pub(crate) fn push_head(
     push_low_word(out, count)?;
     push_low_word(out, strings_at)?;
     push_low_word(out, strings_len)?;
-    push_zeros(out, MAX_UUID_SIZE)
+    push_zeros(out, GSYM_MAX_UUID_SIZE)
 }
 
 /// Writes the starts of functions.
 pub(crate) fn push_starts(out: &mut Vec<u8>, functions: &[Function]) -> Result<()>
-    ensures ok { OnOk result (out.new.items ≡ out.old.items ++ flat_map (λ f. word 8 f.start) functions.now) }
+    ensures ok { OnOk result (out.new.items ≡ out.old.items ++ flat_map (λ f. word addr_off_size f.start) functions.now) }
     ensures memory { IsOkUnless result LayoutError.OutOfMemory }
 {
     for function in functions {
@@ -114,7 +117,7 @@ pub(crate) fn push_starts(out: &mut Vec<u8>, functions: &[Function]) -> Result<(
 
 /// Writes data places.
 pub(crate) fn push_places(out: &mut Vec<u8>, places: &[u64]) -> Result<()>
-    ensures ok { OnOk result (out.new.items ≡ out.old.items ++ flat_map (word 4) places.now) }
+    ensures ok { OnOk result (out.new.items ≡ out.old.items ++ flat_map (word data_place_len) places.now) }
     ensures memory { IsOkUnless result LayoutError.OutOfMemory }
 {
     for place in places {
