@@ -41,7 +41,7 @@ walk-missing addr level levels front bytes is = ap (after_front front) (open_fra
 
 -- how a walk begins
 module _ (addr base : ℕ) (bytes after : List ℕ) where
-  pub root-node : (found : Visit) → visit_at addr (Read base) bytes ≡ Some (Some found, after) →
+  root-node : (found : Visit) → visit_at addr (Read base) bytes ≡ Some (Some found, after) →
       frames_at addr base bytes ≡ after_front (with_frame found.frame []) (open_frames addr (opened found.inside []) after)
   root-node found is =
       frames_at-step addr base bytes ∙ ap (λ o. o >>= walked_root addr) is ∙ with_in_front found.frame (open_frames addr (opened found.inside []) after)
@@ -58,6 +58,13 @@ pub root-alone : (addr base : ℕ) (bytes after : List ℕ) (found : Visit) → 
 root-alone addr base bytes after found is alone =
     root-node addr base bytes after found is ∙ ap (λ inside. after_front (with_frame found.frame []) (open_frames addr (opened inside []) after)) alone
     ∙ ap (λ frames. Some frames) (append-nil (with_frame found.frame []))
+
+-- where it has some, they are walked behind its frame
+pub root-inside : (addr base : ℕ) (bytes after : List ℕ) (found : Visit) → visit_at addr (Read base) bytes ≡ Some (Some found, after) → (children : Level) → found.inside ≡ Some children →
+    (front : List Frame) → front ≡ with_frame found.frame [] → frames_at addr base bytes ≡ after_front front (open_frames addr (children ∷ []) after)
+root-inside addr base bytes after found is children inside front same =
+    root-node addr base bytes after found is ∙ ap (λ inside. after_front (with_frame found.frame []) (open_frames addr (opened inside []) after)) inside
+    ∙ ap (λ frames. after_front frames (open_frames addr (children ∷ []) after)) (sym same)
 
 -- the innermost of the outer siblings stand last in the list of the code
 pub innermost : (xs : List Level) (x : Level) → reverse (xs ++ x ∷ []) ≡ x ∷ reverse xs

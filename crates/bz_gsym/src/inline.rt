@@ -6,7 +6,7 @@ ghost use Rattle.bz_gsym.specs.InlineRanges.{read_at};
 ghost use Rattle.bz_gsym.specs.InlineReader.{frames_at};
 ghost use Rattle.bz_gsym.specs.InlineSeen.{visit_seen};
 ghost use Rattle.bz_gsym.specs.InlineTree.{frame_by, with_frame};
-ghost use Rattle.bz_gsym.specs.InlineWalk.{opened, passed_at, visit_at};
+ghost use Rattle.bz_gsym.specs.InlineWalk.{after_front, open_frames, opened, passed_at, visit_at};
 ghost use Rattle.bz_gsym.specs.Refusal.{Refuses};
 ghost use Rattle.bz_gsym.specs.Seen.{frame_seen, frames_seen};
 ghost use Rattle.bz_gsym.specs.declared.inline.node.Level.TheVariants.{PassedOver, Read};
@@ -48,22 +48,40 @@ impl InlineInfo {
             return Ok(frames);
         };
         keep_frame(&mut frames, found.frame)?;
-        let Some(mut level) = found.inside else {
+        let Some(children) = found.inside else {
             return Ok(frames);
         };
-        let mut outer = Vec::new(alloc);
-        loop {
-            let Some(next) = visit(&mut cursor, level, lookup_addr) else {
-                return Err(Error::InvalidData);
+        keep_inside(alloc, &mut cursor, &mut frames, children, lookup_addr)?;
+        Ok(frames)
+    }
+}
+
+/// Keeps the frames at an address of the siblings in front, which are taken so, and of all below them.
+/// InvalidData: they aren't whole, or a node that is read isn't sound.
+#[inline(always)]
+fn keep_inside(
+    alloc: Global,
+    cursor: &mut Cursor<'_>,
+    frames: &mut Vec<InlineFrame>,
+    siblings: Level,
+    addr: Addr,
+) -> Result<()>
+    ensures ok { OnOk result (after_front (frames_seen frames.old.items) (open_frames addr (siblings ∷ []) cursor.old.left) ≡ Some (frames_seen frames.new.items)) }
+    ensures refusal { IfErr result (Refuses (after_front (frames_seen frames.old.items) (open_frames addr (siblings ∷ []) cursor.old.left))) }
+{
+    let mut level = siblings;
+    let mut outer = Vec::new(alloc);
+    loop {
+        let Some(next) = visit(cursor, level, addr) else {
+            return Err(Error::InvalidData);
+        };
+        if let Some(found) = next {
+            level = keep(frames, &mut outer, level, found)?;
+        } else {
+            let Some(around) = outer.pop() else {
+                return Ok(());
             };
-            if let Some(found) = next {
-                level = keep(&mut frames, &mut outer, level, found)?;
-            } else {
-                let Some(around) = outer.pop() else {
-                    return Ok(frames);
-                };
-                level = around;
-            }
+            level = around;
         }
     }
 }

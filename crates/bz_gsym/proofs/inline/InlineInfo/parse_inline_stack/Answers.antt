@@ -1,8 +1,8 @@
-use Rattle.std.proofs.Common.{ap, sym, ◌∙◌, reverse, arith}
+use Rattle.std.proofs.Common.{◌∙◌, subst, sym}
+use Rattle.std.proofs.lemmas.Result.{err_from_is_err_and}
 use Rattle.bz_gsym.specs.InlineSeen.{visit_seen}
-use Rattle.bz_gsym.specs.Seen.{frames_seen}
-use Rattle.bz_gsym.specs.InlineReader.{frames_at}
-use Rattle.bz_gsym.proofs.InlineWalkLemmas.{innermost, no_outer, root-alone, root-end, root-missing, root-node, turn-end, turn-missing, turn-node, turn-over, visit_at-shorter}
+use Rattle.bz_gsym.specs.Refusal.{Refuses}
+use Rattle.bz_gsym.proofs.InlineWalkLemmas.{root-alone, root-end, root-inside, root-missing}
 use Rattle.bz_gsym.proofs.inline.InlineInfo.parse_inline_stack.Goals as goal
 
 pub returns-in_default-clause-refusal : goal.returns-in_default-clause-refusal
@@ -20,43 +20,19 @@ returns-in_default-inside-clause-ok c =
     rw (c.in_ok-keep_frame.ensures.frames, c.new-frames.ensures.items)
     (root-alone c.args.lookup_addr c.args.base_addr c.args.bytes.now c.visit.new.cursor.left (visit_seen c.in-Some-root.found) is c.in_default-inside.is)
 
-pub loop-next-init : goal.loop-next-init
-loop-next-init c =
+pub returns-in_err-keep_inside-clause-refusal : goal.returns-in_err-keep_inside-clause-refusal
+returns-in_err-keep_inside-clause-refusal c =
     let is = rw (c.new-cursor.ensures.left, c.in-Some-root.is) at c.in-Some.ensures.some in
-    rw (c.in_ok-keep_frame.ensures.frames, c.new-frames.ensures.items, c.new-outer.ensures.items)
-    (sym (rw c.in-Some-inside.is at (root-node c.args.lookup_addr c.args.base_addr c.args.bytes.now c.visit.new.cursor.left (visit_seen c.in-Some-root.found) is)))
+    let same = err_from_is_err_and c.from_residual-in_err-keep_inside.result c.from_residual-in_err-keep_inside.ensures.1 in
+    let front = rw c.new-frames.ensures.items at c.in_ok-keep_frame.ensures.frames in
+    rw (same.1, same.2)
+    (subst (λ read. Refuses read c.in_err-keep_inside.field-0.0)
+    (sym (root-inside c.args.lookup_addr c.args.base_addr c.args.bytes.now c.visit.new.cursor.left (visit_seen c.in-Some-root.found) is c.in-Some-inside.children c.in-Some-inside.is _ front))
+    c.in_err-keep_inside.ensures.refusal)
 
-pub returns-in_default-visit-clause-refusal : goal.returns-in_default-visit-clause-refusal
-returns-in_default-visit-clause-refusal c =
-    let so_far = c.loop-next in
-    turn-missing c.args.lookup_addr so_far.level (reverse so_far.outer.items) (frames_seen so_far.frames.items) so_far.cursor.left
-    (frames_at c.args.lookup_addr c.args.base_addr c.args.bytes.now) so_far.invariant c.in_default-visit.ensures.none
-
-pub loop-next-preserved-in-Some-next : goal.loop-next-preserved-in-Some-next
-loop-next-preserved-in-Some-next c =
-    let so_far = c.loop-next in
-    let is = rw c.in-Some-next.is at c.in-Some-visit.ensures.some in
-    turn-node c.args.lookup_addr so_far.level (reverse so_far.outer.items) (frames_seen so_far.frames.items) so_far.cursor.left
-    (frames_at c.args.lookup_addr c.args.base_addr c.args.bytes.now) so_far.invariant c.visit-in-loop-next.new.cursor.left
-    (visit_seen c.in-Some-next.found) c.in_ok-level.level (reverse c.keep.new.outer.items) (frames_seen c.keep.new.frames.items) is c.in_ok-level.ensures.outer c.in_ok-level.ensures.frames
-
-pub returns-in_default-pop-clause-ok : goal.returns-in_default-pop-clause-ok
-returns-in_default-pop-clause-ok c =
-    let so_far = c.loop-next in
-    let is = rw c.in_default-next.is at c.in-Some-visit.ensures.some in
-    turn-over c.args.lookup_addr so_far.level (reverse so_far.outer.items) (frames_seen so_far.frames.items) so_far.cursor.left
-    (frames_at c.args.lookup_addr c.args.base_addr c.args.bytes.now) so_far.invariant c.visit-in-loop-next.new.cursor.left is (no_outer so_far.outer.items (omega (arith, so_far.outer.ok, c.in_default-pop.ensures.cases.0)))
-
-pub loop-next-preserved : goal.loop-next-preserved
-loop-next-preserved c =
-    let so_far = c.loop-next in
-    let is = rw c.in_default-next.is at c.in-Some-visit.ensures.some in
-    turn-end c.args.lookup_addr so_far.level (reverse so_far.outer.items) (frames_seen so_far.frames.items) so_far.cursor.left
-    (frames_at c.args.lookup_addr c.args.base_addr c.args.bytes.now) so_far.invariant c.visit-in-loop-next.new.cursor.left is _
-    (ap reverse c.in-Some-pop.ensures.items ∙ innermost c.pop.new.self.items c.in-Some-pop.around)
-
-pub loop-next-smaller : goal.loop-next-smaller
-loop-next-smaller c = visit_at-shorter c.args.lookup_addr c.loop-next.level c.loop-next.cursor.left _ c.in-Some-visit.ensures.some
-
-pub loop-next-smaller-in-Some-next : goal.loop-next-smaller-in-Some-next
-loop-next-smaller-in-Some-next c = visit_at-shorter c.args.lookup_addr c.loop-next.level c.loop-next.cursor.left _ c.in-Some-visit.ensures.some
+pub returns-clause-ok : goal.returns-clause-ok
+returns-clause-ok c =
+    let is = rw (c.new-cursor.ensures.left, c.in-Some-root.is) at c.in-Some.ensures.some in
+    let front = rw c.new-frames.ensures.items at c.in_ok-keep_frame.ensures.frames in
+    root-inside c.args.lookup_addr c.args.base_addr c.args.bytes.now c.visit.new.cursor.left (visit_seen c.in-Some-root.found) is c.in-Some-inside.children c.in-Some-inside.is _ front
+    ∙ c.in_ok-keep_inside.ensures.ok
