@@ -1,4 +1,5 @@
 -- Where an address lies in a function: the line record that answers for it, the calls around it, and the place that they tell.
+-- The records are those of Breakpad's docs/symbol_files.md; a line record answers by the rule of bz_base's `Nearest`.
 use Rattle.std.specs.Prelude.{ℕ, List, [], Option, Some, None, option_map, Result, Ok, Err}
 use Rattle.bz_base.specs.Answer.{Site, Call}
 use Rattle.bz_base.specs.Chain.{around, chain, inner}

@@ -1,4 +1,4 @@
--- What is kept of the inlined calls of functions.
+-- What is kept of the inlined calls of functions: one for each range of an INLINE record (Breakpad's docs/symbol_files.md).
 use Rattle.std.specs.Prelude.{◌+◌, ◌*◌, ◌/◌, ◌%◌, ℕ}
 use Rattle.bz_breakpad_lines.specs.declared.record.Range.{Range}
 use Rattle.bz_breakpad_table.specs.declared.types.CallRange.{CallRange}

@@ -1,4 +1,4 @@
--- What is kept of a file, as its bytes say it.
+-- What is kept of a file, as its bytes say it. Its records are those of Breakpad's docs/symbol_files.md.
 use Rattle.std.specs.Prelude.{◌≡◌, ◌≤◌, ◌-◌, ℕ, List, [], ◌∷◌, ◌++◌, length, drop, map, Option, Some, option_map, IsUtf8, slice_range, IfSome, IsSome}
 use Rattle.std.specs.List.{AllByRecursion, filter_map}
 use Rattle.std.specs.Map.{values_of}

@@ -1,4 +1,4 @@
--- Which lines have their places in a Breakpad file, one after the other.
+-- Which lines have their places in a Breakpad file, one after the other. Its records stand in the order of Breakpad's docs/symbol_files.md.
 use Rattle.std.specs.Prelude.{ℕ, ◌+◌, Bool, true, false, ◌&&◌, List, [], ◌∷◌, drop, Option, Some, None, is_some, if◌then◌else◌}
 use Rattle.std.specs.List.{AllByRecursion}
 use Rattle.bz_breakpad_lines.specs.Byte.{is_nothing}
