@@ -1,3 +1,4 @@
+pub mod AdmittedLaws
 pub mod CallLemmas
 pub mod DenseLemmas
 pub mod EndLemmas
@@ -11,7 +12,6 @@ pub mod ListingLemmas
 pub mod MidwayLemmas
 pub mod NameEnds
 pub mod NestedLemmas
-pub mod PlaceLaws
 pub mod PlaceLemmas
 pub mod PublicKeyLemmas
 pub mod QuickStep

@@ -7,11 +7,11 @@ use Rattle.bz_base.proofs.LineLemmas.{all_found, all_again, ended_found, ended_a
 use Rattle.bz_breakpad_lines.specs.Grammar.{IsFile, records_of}
 use Rattle.bz_breakpad_lines.specs.Says.{table_of}
 use Rattle.bz_breakpad_lines.specs.Table.{Table}
-use Rattle.bz_breakpad_table.specs.Places.{HavePlaces, at_front, refused_from}
+use Rattle.bz_breakpad_table.specs.Admitted.{AreAdmitted, at_front, refused_from}
 use Rattle.bz_breakpad_table.specs.Refusals.{IsFirstRefused, IsUnended, IsRefusal, refusal_by, refusal_in}
 use Rattle.bz_breakpad_table.specs.declared.refused.Refused.{Refused}
 use Rattle.bz_breakpad_table.specs.declared.refused.Refused.TheVariants.{Line, NoEnd, Empty}
-use Rattle.bz_breakpad_table.proofs.PlaceLaws.{places_found, places_again, unplaced_found, unplaced_again, stop_found, stop_again, pass_found, pass_again}
+use Rattle.bz_breakpad_table.proofs.AdmittedLaws.{admitted_found, admitted_again, unadmitted_found, unadmitted_again, stop_found, stop_again, pass_found, pass_again}
 
 -- lines that each have their end are lines
 ended_are_lines : (bytes : List ℕ) (lines : List (List ℕ)) → AreEnded bytes lines → AreLines bytes lines
@@ -30,7 +30,7 @@ ended_all bytes lines are = all_again bytes lines (ended_are_lines bytes lines a
 
 -- What is found is so.
 
--- the line whose number is found is the first that has no place
+-- the line whose number is found is the first that isn't admitted
 line_found : (bytes : List ℕ) (number : ℕ) → refused_from at_front 1 (all_lines bytes) ≡ Some number → IsFirstRefused bytes number
 line_found bytes number found =
     let stop = stop_found at_front 1 (all_lines bytes) number found in
@@ -39,8 +39,8 @@ line_found bytes number found =
       line = stop.line;
       after = stop.after;
       are_lines = subst (AreLines bytes) stop.split (all_found bytes);
-      placed = places_found stop.before stop.placed;
-      refused = unplaced_found (stop.before ++ stop.line ∷ []) stop.refused;
+      admitted = admitted_found stop.before stop.admitted;
+      refused = unadmitted_found (stop.before ++ stop.line ∷ []) stop.refused;
       numbered = stop.numbered;
     }
 
@@ -49,7 +49,7 @@ unended_found : (bytes : List ℕ) → refused_from at_front 1 (all_lines bytes)
 unended_found bytes found ends = record {
   lines = all_lines bytes;
   are_lines = all_found bytes;
-  placed = places_found (all_lines bytes) (pass_found at_front 1 (all_lines bytes) found);
+  admitted = admitted_found (all_lines bytes) (pass_found at_front 1 (all_lines bytes) found);
   unended = λ are. none-some (all_lines bytes) (sym ends ∙ ended_again bytes (all_lines bytes) are);
 }
 
@@ -63,8 +63,8 @@ file_found : (b : ℕ) (bytes : List ℕ) (lines : List (List ℕ)) → refused_
     (table : Table) × IsFile (b ∷ bytes) table
 file_found b bytes lines found ends =
     let are = ended_found (b ∷ bytes) lines ends in
-    let placed = places_found (all_lines (b ∷ bytes)) (pass_found at_front 1 (all_lines (b ∷ bytes)) found) in
-    let have = subst HavePlaces (ended_all (b ∷ bytes) lines are) placed in (
+    let admitted = admitted_found (all_lines (b ∷ bytes)) (pass_found at_front 1 (all_lines (b ∷ bytes)) found) in
+    let have = subst AreAdmitted (ended_all (b ∷ bytes) lines are) admitted in (
       table_of (records_of have.roles),
       (
         length (records_of have.roles),
@@ -101,21 +101,21 @@ line_bytes before line after are =
     let same : [] ≡ before ++ line ∷ after = all_again [] (before ++ line ∷ after) are in
     omega (arith, ap length same, length-append before (line ∷ after))
 
--- the first line that has no place is found
+-- the first line that isn't admitted is found
 line_again : (bytes : List ℕ) (number : ℕ) → IsFirstRefused bytes number → refusal_in bytes ≡ Some (Line number)
 unfolding refusal_in
 line_again [] number is = absurd (line_bytes is.before is.line is.after is.are_lines)
 line_again (b ∷ bytes) number is =
     let found : refused_from at_front 1 (all_lines (b ∷ bytes)) ≡ Some number
     = ap (refused_from at_front 1) (all_again (b ∷ bytes) (is.before ++ is.line ∷ is.after) is.are_lines)
-    ∙ stop_again at_front 1 is.before is.line is.after (places_again is.before is.placed) (unplaced_again (is.before ++ is.line ∷ []) is.refused)
+    ∙ stop_again at_front 1 is.before is.line is.after (admitted_again is.before is.admitted) (unadmitted_again (is.before ++ is.line ∷ []) is.refused)
     ∙ ap Some (sym is.numbered) in
     ap (λ found. refusal_by found (ended_lines (b ∷ bytes))) found
 
--- where all lines have their places, no line is found
-none_again : (bytes : List ℕ) (lines : List (List ℕ)) → AreLines bytes lines → HavePlaces lines → refused_from at_front 1 (all_lines bytes) ≡ None
+-- where all lines are admitted, no line is found
+none_again : (bytes : List ℕ) (lines : List (List ℕ)) → AreLines bytes lines → AreAdmitted lines → refused_from at_front 1 (all_lines bytes) ≡ None
 none_again bytes lines are have =
-    ap (refused_from at_front 1) (all_again bytes lines are) ∙ pass_again at_front 1 lines (places_again lines have)
+    ap (refused_from at_front 1) (all_again bytes lines are) ∙ pass_again at_front 1 lines (admitted_again lines have)
 
 -- lines of which one has no end aren't read as lines that each have it
 ends_none : (bytes : List ℕ) (lines : List (List ℕ)) → AreLines bytes lines → ¬ AreEnded bytes lines → ended_lines bytes ≡ None
@@ -135,7 +135,7 @@ unended_again [] is =
     let none : [] ≡ is.lines = all_again [] is.lines is.are_lines in
     absurd (is.unended (subst (AreEnded []) none (record { whole = refl; no_line_feed = tt })))
 unended_again (b ∷ bytes) is =
-    rw (none_again (b ∷ bytes) is.lines is.are_lines is.placed, ends_none (b ∷ bytes) is.lines is.are_lines is.unended) refl
+    rw (none_again (b ∷ bytes) is.lines is.are_lines is.admitted, ends_none (b ∷ bytes) is.lines is.are_lines is.unended) refl
 
 -- a text of lines has bytes
 text_some : (lines : List (List ℕ)) → 0 < length lines → 0 < length (flat_map ended lines)
@@ -148,7 +148,7 @@ unfolding refusal_in
 file_again [] table is = absurd (omega (arith, ap length is.1.are_lines.whole, text_some is.1.lines is.1.some))
 file_again (b ∷ bytes) table is =
     let file = is.1 in
-    let have : HavePlaces file.lines = record { roles = file.roles; are_roles = file.are_roles; module_first = file.module_first } in
+    let have : AreAdmitted file.lines = record { roles = file.roles; are_roles = file.are_roles; module_first = file.module_first } in
     rw (none_again (b ∷ bytes) file.lines (ended_are_lines (b ∷ bytes) file.lines file.are_lines) have, ended_again (b ∷ bytes) file.lines file.are_lines) refl
 
 -- why the bytes are refused is found

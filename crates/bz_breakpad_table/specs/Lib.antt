@@ -1,9 +1,9 @@
+pub mod Admitted
 pub mod CallRanges
 pub mod FunctionKeys
 pub mod Kept
 pub mod LineKeys
 pub mod LineRun
-pub mod Places
 pub mod Publics
 pub mod Refusal
 pub mod Refusals

@@ -3,26 +3,26 @@ use Rattle.std.specs.Prelude.{◌≡◌, ◌↔◌, ℕ, ◌+◌, List, [], ◌�
 use Rattle.bz_base.specs.Line.{AreEnded, AreLines, all_lines, ended_lines}
 use Rattle.bz_breakpad_lines.specs.Grammar.{IsFile}
 use Rattle.bz_breakpad_lines.specs.Table.{Table}
-use Rattle.bz_breakpad_table.specs.Places.{HavePlaces, at_front, refused_from}
+use Rattle.bz_breakpad_table.specs.Admitted.{AreAdmitted, at_front, refused_from}
 use Rattle.bz_breakpad_table.specs.declared.refused.Refused.{Refused}
 use Rattle.bz_breakpad_table.specs.declared.refused.Refused.TheVariants.{Line, NoEnd, Empty}
 
--- the line of this number is the first that has no place after those before it; lines count from 1, and the last one may lack
+-- the line of this number is the first that isn't admitted after those before it; lines count from 1, and the last one may lack
 -- its end
 pub record IsFirstRefused (bytes : List ℕ) (number : ℕ) : Type 0 where
   pub before : List (List ℕ)
   pub line : List ℕ
   pub after : List (List ℕ)
   pub are_lines : AreLines bytes (before ++ line ∷ after)
-  pub placed : HavePlaces before
-  pub refused : ¬ HavePlaces (before ++ line ∷ [])
+  pub admitted : AreAdmitted before
+  pub refused : ¬ AreAdmitted (before ++ line ∷ [])
   pub numbered : number ≡ length before + 1
 
--- every line has its place, but the last one has no end
+-- every line is admitted, but the last one has no end
 pub record IsUnended (bytes : List ℕ) : Type 0 where
   pub lines : List (List ℕ)
   pub are_lines : AreLines bytes lines
-  pub placed : HavePlaces lines
+  pub admitted : AreAdmitted lines
   pub unended : ¬ AreEnded bytes lines
 
 -- why the bytes are no Breakpad file; nothing where they are one
@@ -32,7 +32,7 @@ IsRefusal bytes (Some NoEnd) = IsUnended bytes
 IsRefusal bytes (Some Empty) = bytes ≡ []
 IsRefusal bytes None = (table : Table) × IsFile bytes table
 
--- a line that has no place comes before an end that is missing
+-- a line that isn't admitted comes before an end that is missing
 abbrev pub refusal_by : Option ℕ → Option (List (List ℕ)) → Option Refused
 refusal_by (Some number) ended = Some (Line number)
 refusal_by None None = Some NoEnd

@@ -1,10 +1,10 @@
 //! What lines tell of the next one. Unlike `Walk`, it keeps nothing of a line: it only finds the first
-//! that has no place.
+//! that isn't admitted.
 
 ghost use Rattle.std.specs.Prelude.{◌≡◌, List, option_map, IfOk};
 ghost use Rattle.bz_breakpad_lines.specs.Told.{record_told};
 ghost use Rattle.bz_breakpad_lines.specs.declared.record.Range.{Range};
-ghost use Rattle.bz_breakpad_table.specs.Places.{after_line, after_record, at_front};
+ghost use Rattle.bz_breakpad_table.specs.Admitted.{after_line, after_record, at_front};
 ghost use Rattle.bz_breakpad_table.specs.Told.{before_told};
 
 use bz_breakpad_lines::{
@@ -35,9 +35,9 @@ impl Before {
         }
     }
 
-    /// What is told after a line more; none where that has no place. The ranges of an INLINE record
+    /// What is told after a line more; none where that isn't admitted. The ranges of an INLINE record
     /// need memory.
-    #[tactic(auto, unfolding(bz_breakpad_lines::specs::Walk::record_at, crate::specs::Places::after_line))]
+    #[tactic(auto, unfolding(bz_breakpad_lines::specs::Walk::record_at, crate::specs::Admitted::after_line))]
     pub fn after_line(
         self,
         ranges: &mut Vec<Range>,
@@ -58,7 +58,7 @@ impl Before {
         }
     }
 
-    /// What is told after a record more; none where that has no place.
+    /// What is told after a record more; none where that isn't admitted.
     fn after_record(self, found: &RecordLine<'_>) -> Option<Before>
         ensures { (ranges : List Range) → option_map before_told result ≡ after_record (before_told self) (record_told found.now ranges) }
     {

@@ -2,7 +2,7 @@
 
 ghost use Rattle.std.specs.Prelude.{◌≡◌, ◌↔◌, ◌<◌, Option, length, is_some, IfOk};
 ghost use Rattle.bz_base.specs.Line.{all_lines, ended_lines};
-ghost use Rattle.bz_breakpad_table.specs.Places.{at_front, refused_from};
+ghost use Rattle.bz_breakpad_table.specs.Admitted.{at_front, refused_from};
 ghost use Rattle.bz_breakpad_table.specs.Refusals.{IsRefusal, refusal_in};
 ghost use Rattle.bz_breakpad_table.specs.declared.refused.Refused.{Refused};
 
@@ -14,9 +14,9 @@ use std::alloc::{AllocError, Global};
 /// Where a Breakpad file is refused.
 #[derive(Clone, Copy, Debug, PartialEq, Eq)]
 pub enum Refused {
-    /// The number, from 1, of the first line that has no place after those before it.
+    /// The number, from 1, of the first line that isn't admitted after those before it.
     Line(u64),
-    /// Every line has its place, but the last one has no end.
+    /// Every line is admitted, but the last one has no end.
     NoEnd,
     /// There is no line at all.
     Empty,
@@ -46,7 +46,7 @@ fn found(alloc: Global, bytes: &[u8]) -> Result<Option<Refused>, AllocError>
     }
 }
 
-/// The number of the first line that has no place.
+/// The number of the first line that isn't admitted.
 fn line_refused(alloc: Global, bytes: &[u8]) -> Result<Option<u64>, AllocError>
     ensures { IfOk result (λ number. number ≡ refused_from at_front 1 (all_lines bytes.now)) }
 {

@@ -1,6 +1,6 @@
 use Rattle.std.proofs.Common.{◌≡◌, ◌+◌, ◌≤◌, length}
 use Rattle.bz_base.specs.Line.{all_lines}
-use Rattle.bz_breakpad_table.specs.Places.{at_front, refused_from}
+use Rattle.bz_breakpad_table.specs.Admitted.{at_front, refused_from}
 use Rattle.bz_breakpad_table.specs.Told.{before_told}
 use Rattle.bz_breakpad_table.proofs.refused.line_refused.Given as goal
 

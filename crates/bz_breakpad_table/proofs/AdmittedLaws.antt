@@ -1,4 +1,4 @@
--- Lines have their places exactly where they are passed one after the other.
+-- Lines are admitted exactly where they are passed one after the other.
 use Rattle.std.proofs.Common.{◌≡◌, ℕ, suc, ◌+◌, ◌&&◌, nat_lt, Bool, true, false, cond, List, [], ◌∷◌, ◌++◌, length, Option, Some, None, is_some, refl, sym, ap, subst, ◌∙◌, arith}
 use Rattle.std.proofs.lemmas.Bool.{false≢true, lt-ltb, true≢false}
 use Rattle.bz_breakpad_lines.specs.Byte.{is_nothing}
@@ -11,14 +11,14 @@ use Rattle.bz_breakpad_lines.specs.Walk.Context.{Outside}
 use Rattle.bz_breakpad_lines.proofs.FoldLaws.{Follow, fold_found, fold_again}
 use Rattle.bz_breakpad_lines.proofs.RoleLaws.{roles_exactly}
 use Rattle.bz_breakpad_lines.proofs.WalkLaws.{walked_exactly}
-use Rattle.bz_breakpad_table.specs.Places.{Before, HavePlaces, at_front, after_record, after_line, or_refused, refused_from}
+use Rattle.bz_breakpad_table.specs.Admitted.{Before, AreAdmitted, at_front, after_record, after_line, or_refused, refused_from}
 
--- what is told after all of the lines, if each has its place
+-- what is told after all of the lines, if each is admitted
 abbrev pub after_lines : Before → List (List ℕ) → Option Before
 after_lines before [] = Some before
 after_lines before (line ∷ lines) = after_line before line >>= (λ after. after_lines after lines)
 
--- whether all of the lines have their places
+-- whether all of the lines are admitted
 abbrev pub passes : Before → List (List ℕ) → Bool
 passes before lines = is_some (after_lines before lines)
 
@@ -39,7 +39,7 @@ module _ (lines : List (List ℕ))
   abbrev read_after : Record → Option Reading
   read_after r = next_read reading r >>= (λ next. lines_read (context_after r) (white_allowed_after r) next lines)
 
-  -- a record is read where it has its place, and then the lines
+  -- a record is read where it is admitted, and then the lines
   record_passes : (r : Record) → is_some (read_after r) ≡ is_some (after_record (told c white_allowed reading) r >>= (λ after. after_lines after lines))
   record_passes r = by (is_some (module_of r) && nat_lt 0 reading.count)
     where
@@ -56,7 +56,7 @@ module _ (lines : List (List ℕ))
   found_passes None = refl
   found_passes (Some r) = record_passes r
 
-  -- a line is read where it has its place, and then the lines
+  -- a line is read where it is admitted, and then the lines
   line_passes : (line : List ℕ) → is_some (lines_read c white_allowed reading (line ∷ lines)) ≡ passes (told c white_allowed reading) (line ∷ lines)
   unfolding after_line
   line_passes line = by (white_allowed && is_nothing (after_white white_allowed line))
@@ -67,7 +67,7 @@ module _ (lines : List (List ℕ))
       by true = same c white_allowed reading
       by false = found_passes (record_at c (after_white white_allowed line))
 
--- lines are read exactly where each has its place
+-- lines are read exactly where each is admitted
 lines_pass : (lines : List (List ℕ)) (c : Context) (white_allowed : Bool) (reading : Reading) → is_some (lines_read c white_allowed reading lines) ≡ passes (told c white_allowed reading) lines
 lines_pass [] c white_allowed reading = refl
 lines_pass (line ∷ lines) c white_allowed reading = line_passes lines (lines_pass lines) c white_allowed reading line
@@ -79,35 +79,35 @@ is_there : {A : Type 0} (o : Option A) → is_some o ≡ true → (x : A) × (o 
 is_there None is = absurd (false≢true is)
 is_there (Some x) is = (x, refl)
 
--- lines that pass have their places
-pub places_found : (lines : List (List ℕ)) → passes at_front lines ≡ true → HavePlaces lines
-places_found lines pass =
+-- lines that pass are admitted
+pub admitted_found : (lines : List (List ℕ)) → passes at_front lines ≡ true → AreAdmitted lines
+admitted_found lines pass =
     let read = is_there (lines_read Outside false nothing_read lines) (lines_pass lines Outside false nothing_read ∙ pass) in
     let fold = fold_found Outside false nothing_read lines read.0 read.1 in
     let roles = (roles_exactly [] lines fold.records).0 ((walked_exactly Outside false lines fold.records).0 fold.walked) in
     let P : List Record → Type 0 = Follow false in
     record { roles = roles.0; are_roles = roles.1; module_first = subst P roles.2 fold.follow }
 
--- lines that have their places pass
-pub places_again : (lines : List (List ℕ)) → HavePlaces lines → passes at_front lines ≡ true
-places_again lines have =
+-- lines that are admitted pass
+pub admitted_again : (lines : List (List ℕ)) → AreAdmitted lines → passes at_front lines ≡ true
+admitted_again lines have =
     let records = records_of have.roles in
     let walks = (roles_exactly [] lines records).1 (have.roles, have.are_roles, refl) in
     let walked = (walked_exactly Outside false lines records).1 walks in
     sym (lines_pass lines Outside false nothing_read) ∙ ap is_some (fold_again Outside false nothing_read lines records walked have.module_first)
 
--- lines that don't pass don't have their places, and the other way round
-pub unplaced_found : (lines : List (List ℕ)) → passes at_front lines ≡ false → ¬ HavePlaces lines
-unplaced_found lines stop have = true≢false (sym (places_again lines have) ∙ stop)
+-- lines that don't pass aren't admitted, and the other way round
+pub unadmitted_found : (lines : List (List ℕ)) → passes at_front lines ≡ false → ¬ AreAdmitted lines
+unadmitted_found lines stop have = true≢false (sym (admitted_again lines have) ∙ stop)
 
-pub unplaced_again : (lines : List (List ℕ)) → ¬ HavePlaces lines → passes at_front lines ≡ false
-unplaced_again lines none = by (passes at_front lines) refl
+pub unadmitted_again : (lines : List (List ℕ)) → ¬ AreAdmitted lines → passes at_front lines ≡ false
+unadmitted_again lines none = by (passes at_front lines) refl
   where
     by : (pass : Bool) → passes at_front lines ≡ pass → passes at_front lines ≡ false
-    by true is = absurd (none (places_found lines is))
+    by true is = absurd (none (admitted_found lines is))
     by false is = is
 
--- The first line that has no place.
+-- The first line that isn't admitted.
 
 -- of lines that are numbered from n, line m is the first that doesn't pass
 pub record IsStop (told : Before) (n : ℕ) (lines : List (List ℕ)) (m : ℕ) : Type 0 where
@@ -115,7 +115,7 @@ pub record IsStop (told : Before) (n : ℕ) (lines : List (List ℕ)) (m : ℕ) 
   pub line : List ℕ
   pub after : List (List ℕ)
   pub split : lines ≡ before ++ line ∷ after
-  pub placed : passes told before ≡ true
+  pub admitted : passes told before ≡ true
   pub refused : passes told (before ++ line ∷ []) ≡ false
   pub numbered : m ≡ length before + n
 
@@ -128,7 +128,7 @@ stop_found told n (line ∷ lines) m read = by (λ later. stop_found later (n + 
         or_refused n after (λ later. refused_from later (n + 1) lines) ≡ Some m → IsStop told n (line ∷ lines) m
     by more None is read =
         let same : m ≡ n = cc in
-        record { before = []; line = line; after = lines; split = refl; placed = refl; refused = rw is refl; numbered = omega arith }
+        record { before = []; line = line; after = lines; split = refl; admitted = refl; refused = rw is refl; numbered = omega arith }
     by more (Some later) is read =
         let others = more later read in
         record {
@@ -136,7 +136,7 @@ stop_found told n (line ∷ lines) m read = by (λ later. stop_found later (n + 
           line = others.line;
           after = others.after;
           split = ap (λ rest. line ∷ rest) others.split;
-          placed = rw is others.placed;
+          admitted = rw is others.admitted;
           refused = rw is others.refused;
           numbered = omega (arith, others.numbered);
         }
@@ -144,22 +144,22 @@ stop_found told n (line ∷ lines) m read = by (λ later. stop_found later (n + 
 -- the number of the first line that doesn't pass is found
 pub stop_again : (told : Before) (n : ℕ) (before : List (List ℕ)) (line : List ℕ) (after : List (List ℕ)) →
     passes told before ≡ true → passes told (before ++ line ∷ []) ≡ false → refused_from told n (before ++ line ∷ after) ≡ Some (length before + n)
-stop_again told n [] line after placed refused = by (after_line told line) refl refused
+stop_again told n [] line after admitted refused = by (after_line told line) refl refused
   where
     by : (found : Option Before) → after_line told line ≡ found → is_some (found >>= (λ later. Some later)) ≡ false →
         refused_from told n (line ∷ after) ≡ Some (0 + n)
     by None is refused = let same : n ≡ 0 + n = omega arith in rw is (ap Some same)
     by (Some later) is refused = absurd (true≢false refused)
-stop_again told n (first ∷ before) line after placed refused =
-    by (λ later. stop_again later (n + 1) before line after) (after_line told first) refl placed refused
+stop_again told n (first ∷ before) line after admitted refused =
+    by (λ later. stop_again later (n + 1) before line after) (after_line told first) refl admitted refused
   where
     by : ((later : Before) → passes later before ≡ true → passes later (before ++ line ∷ []) ≡ false → refused_from later (n + 1) (before ++ line ∷ after) ≡ Some (length before + (n + 1))) →
         (found : Option Before) → after_line told first ≡ found → is_some (found >>= (λ later. after_lines later before)) ≡ true →
         is_some (found >>= (λ later. after_lines later (before ++ line ∷ []))) ≡ false → refused_from told n (first ∷ before ++ line ∷ after) ≡ Some (suc (length before) + n)
-    by more None is placed refused = absurd (false≢true placed)
-    by more (Some later) is placed refused =
+    by more None is admitted refused = absurd (false≢true admitted)
+    by more (Some later) is admitted refused =
         let same : length before + (n + 1) ≡ suc (length before) + n = omega arith in
-        rw is (more later placed refused ∙ ap Some same)
+        rw is (more later admitted refused ∙ ap Some same)
 
 -- no number is found where all lines pass, and nowhere else
 pub pass_found : (told : Before) (n : ℕ) (lines : List (List ℕ)) → refused_from told n lines ≡ None → passes told lines ≡ true
