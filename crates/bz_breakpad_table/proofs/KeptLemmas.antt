@@ -1,5 +1,5 @@
 -- What is kept of a file as it is read: one record more leaves what was kept before.
-use Rattle.std.proofs.Common.{◌≡◌, ℕ, zero, suc, ◌-◌, ◌<◌, ◌≤◌, Bool, true, false, cond, List, [], ◌∷◌, ◌++◌, length, drop, map, get_or, Some, refl, ap, ap₂, subst, ◌∙◌, arith, length-drop}
+use Rattle.std.proofs.Common.{◌≡◌, ℕ, zero, suc, ◌-◌, ◌<◌, ◌≤◌, Bool, true, false, cond, List, [], ◌∷◌, ◌++◌, length, drop, map, get_or, Some, refl, ap, ap₂, subst, ◌∙◌, arith, length-drop, Option}
 use Rattle.std.specs.BTreeMap.{insert_entry}
 use Rattle.std.specs.List.{AllByRecursion, slice_range}
 use Rattle.std.specs.Map.{lookup, values_of}
@@ -8,8 +8,12 @@ use Rattle.std.proofs.lemmas.List.{take-append-le, drop-append-le, take_rest}
 use Rattle.std.specs.Ordering.{nat_cmp}
 use Rattle.std.specs.declared.cmp.Ordering.{Ordering}
 use Rattle.std.specs.declared.cmp.Ordering.TheVariants.{Less, Equal, Greater}
-use Rattle.bz_breakpad_table.specs.Kept.{IsPart, IsTextAt, IsNameAt, NamesSoFar, text_at}
+use Rattle.bz_breakpad_table.specs.Kept.{FunctionsSoFar, IsNameAt, IsPart, IsSoFar, IsTextAt, NamesSoFar, text_at}
 use Rattle.bz_breakpad_lines.specs.Names.{with_name}
+use Rattle.bz_breakpad_lines.specs.Reader.{Reading}
+use Rattle.bz_breakpad_lines.specs.Table.{Function}
+use Rattle.bz_breakpad_table.specs.declared.functions.FunctionsReading.{FunctionsReading}
+use Rattle.bz_breakpad_table.specs.declared.reading.KeptReading.{KeptReading}
 use Rattle.bz_breakpad_table.specs.declared.types.Part.{Part}
 
 -- what holds of each of two lists holds of each of both side by side
@@ -96,4 +100,16 @@ names_so_far bytes old new id part name list inserted named so_far = record {
       ∙ names_with bytes old id part name named.is
       ∙ ap (λ names. with_name names (record { id = id; name = name })) so_far.are;
   fit = rw inserted (values_with (IsTextAt bytes) old id part so_far.fit named.fits);
+}
+
+-- where nothing but functions was read, what else is kept is as before
+pub with_functions : {bytes : List ℕ} {kept : KeptReading} {reading : Reading} {functions : FunctionsReading} {closed : List Function} {current : Option Function} {count : ℕ} →
+    IsSoFar bytes kept reading → FunctionsSoFar bytes functions closed current →
+    IsSoFar bytes (record kept { functions = functions }) (record reading { closed = closed; current = current; count = count })
+with_functions so_far functions_are = record {
+  module_is = so_far.module_is;
+  functions = functions_are;
+  files = so_far.files;
+  origins = so_far.origins;
+  publics = so_far.publics;
 }

@@ -4,30 +4,16 @@ use Rattle.bz_breakpad_lines.specs.Line.{source_line}
 use Rattle.bz_breakpad_lines.specs.Kinds.InnerRecord.{InnerOrigin}
 use Rattle.bz_breakpad_lines.specs.Told.{line_told}
 use Rattle.bz_breakpad_table.proofs.FunctionLemmas.{told_said, same_so_far}
-use Rattle.bz_breakpad_table.proofs.KeptLemmas.{names_so_far}
+use Rattle.bz_breakpad_table.proofs.KeptLemmas.{names_so_far, with_functions}
 use Rattle.bz_breakpad_table.proofs.reading.KeptReading.inner.Goals as goal
 
 pub returns-in_ok-list-in-Code : goal.returns-in_ok-list-in-Code
 returns-in_ok-list-in-Code c body reading stands end inner is =
-    rw c.in-Code.is (record {
-      module_is = is.module_is;
-      functions =
-          c.in_ok-list-in-Code.ensures reading.closed reading.current (source_line (line_told c.in-Code.field-0))
-          (rw c.in-Code.is at inner) is.functions;
-      files = is.files;
-      origins = is.origins;
-      publics = is.publics;
-    })
+    rw c.in-Code.is (with_functions is (c.in_ok-list-in-Code.ensures reading.closed reading.current (source_line (line_told c.in-Code.field-0)) (rw c.in-Code.is at inner) is.functions))
 
 pub returns-in_ok-inline-in-Inline : goal.returns-in_ok-inline-in-Inline
 returns-in_ok-inline-in-Inline c body reading stands end inner is =
-    rw (c.in-Inline.is, told_said c.in-Inline.call c.args.ranges.now) (record {
-      module_is = is.module_is;
-      functions = c.in_ok-inline-in-Inline.ensures c.args.bytes.now reading.closed reading.current (rw c.in-Inline.is at inner) is.functions;
-      files = is.files;
-      origins = is.origins;
-      publics = is.publics;
-    })
+    rw (c.in-Inline.is, told_said c.in-Inline.call c.args.ranges.now) (with_functions is (c.in_ok-inline-in-Inline.ensures c.args.bytes.now reading.closed reading.current (rw c.in-Inline.is at inner) is.functions))
 
 pub returns-in_ok-insert-in-Origin : goal.returns-in_ok-insert-in-Origin
 returns-in_ok-insert-in-Origin c body reading stands end inner is =

@@ -1,5 +1,5 @@
 use Rattle.std.proofs.Common.{Some, ap}
-use Rattle.bz_breakpad_table.proofs.KeptLemmas.{names_so_far}
+use Rattle.bz_breakpad_table.proofs.KeptLemmas.{names_so_far, with_functions}
 use Rattle.bz_breakpad_table.proofs.reading.KeptReading.top.Goals as goal
 
 pub returns-in_ok-name_part-in-Module : goal.returns-in_ok-name_part-in-Module
@@ -54,40 +54,16 @@ pub returns-in_ok-begin-in-Func : goal.returns-in_ok-begin-in-Func
 returns-in_ok-begin-in-Func c bytes body start reading stands end ends is =
     let named = c.in_ok-name_part-in-Func.ensures bytes body start stands end (rw c.in-Func.is at ends) in
     let closed = c.in_ok-close.ensures bytes reading.closed reading.current is.functions in
-    rw c.in-Func.is (record {
-      module_is = is.module_is;
-      functions = c.in_ok-begin-in-Func.ensures bytes _ named closed;
-      files = is.files;
-      origins = is.origins;
-      publics = is.publics;
-    })
+    rw c.in-Func.is (with_functions is (c.in_ok-begin-in-Func.ensures bytes _ named closed))
 
 pub returns-in-Info : goal.returns-in-Info
 returns-in-Info c bytes body start reading stands end ends is =
-    rw c.in-Info.is (record {
-      module_is = is.module_is;
-      functions = c.in_ok-close.ensures bytes reading.closed reading.current is.functions;
-      files = is.files;
-      origins = is.origins;
-      publics = is.publics;
-    })
+    rw c.in-Info.is (with_functions is (c.in_ok-close.ensures bytes reading.closed reading.current is.functions))
 
 pub returns-in-StackWin : goal.returns-in-StackWin
 returns-in-StackWin c bytes body start reading stands end ends is =
-    rw c.in-StackWin.is (record {
-      module_is = is.module_is;
-      functions = c.in_ok-close.ensures bytes reading.closed reading.current is.functions;
-      files = is.files;
-      origins = is.origins;
-      publics = is.publics;
-    })
+    rw c.in-StackWin.is (with_functions is (c.in_ok-close.ensures bytes reading.closed reading.current is.functions))
 
 pub returns-in-StackCfiInit : goal.returns-in-StackCfiInit
 returns-in-StackCfiInit c bytes body start reading stands end ends is =
-    rw c.in-StackCfiInit.is (record {
-      module_is = is.module_is;
-      functions = c.in_ok-close.ensures bytes reading.closed reading.current is.functions;
-      files = is.files;
-      origins = is.origins;
-      publics = is.publics;
-    })
+    rw c.in-StackCfiInit.is (with_functions is (c.in_ok-close.ensures bytes reading.closed reading.current is.functions))

@@ -2,6 +2,7 @@ use Rattle.std.proofs.Common.{◌≡◌, refl, ap}
 use Rattle.bz_breakpad_lines.specs.Told.{context_told}
 use Rattle.bz_breakpad_lines.specs.Walk.Context.{InCfi}
 use Rattle.bz_breakpad_lines.specs.Walk.Record.{OfCfi}
+use Rattle.bz_breakpad_table.proofs.KeptLemmas.{with_functions}
 use Rattle.bz_breakpad_table.proofs.QuickStep.{quick_on}
 use Rattle.bz_breakpad_lines.proofs.QuickLemmas.{quick_shorter}
 use Rattle.bz_breakpad_table.proofs.walk.Walk.cfi.Goals as goal
@@ -11,13 +12,7 @@ returns-clause-some c =
     let m = c.requires.midway in
     let old = c.args.self.now in
     let in_cfi : context_told old.context ≡ InCfi = ap context_told c.in-InCfi.is in
-    quick_on InCfi c.args.rest.now OfCfi c.in_ok-after.after.now c.in_ok-after.ensures c.args.text.now old _ m refl in_cfi in_cfi refl refl (record {
-      module_is = m.walked.so_far.module_is;
-      functions = m.walked.so_far.functions;
-      files = m.walked.so_far.files;
-      origins = m.walked.so_far.origins;
-      publics = m.walked.so_far.publics;
-    })
+    quick_on InCfi c.args.rest.now OfCfi c.in_ok-after.after.now c.in_ok-after.ensures c.args.text.now old _ m refl in_cfi in_cfi refl refl (with_functions m.walked.so_far m.walked.so_far.functions)
 
 pub returns-clause-shorter : goal.returns-clause-shorter
 returns-clause-shorter c = quick_shorter InCfi c.args.rest.now OfCfi c.in_ok-after.after.now c.in_ok-after.ensures

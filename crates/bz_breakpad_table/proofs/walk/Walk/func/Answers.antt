@@ -2,6 +2,7 @@ use Rattle.std.proofs.Common.{◌-◌, length, refl, arith}
 use Rattle.bz_breakpad_lines.specs.Told.{context_told, top_told}
 use Rattle.bz_breakpad_lines.specs.Walk.Record.{Top}
 use Rattle.bz_breakpad_lines.specs.declared.record.TopLine.TheVariants as tops
+use Rattle.bz_breakpad_table.proofs.KeptLemmas.{with_functions}
 use Rattle.bz_breakpad_table.proofs.NameEnds.{top_named}
 use Rattle.bz_breakpad_table.proofs.QuickStep.{quick_on, quick_stands}
 use Rattle.bz_breakpad_lines.proofs.QuickLemmas.{quick_length}
@@ -22,10 +23,4 @@ returns-clause-ok c =
     let named =
     c.in_ok-name.ensures bytes p.line (length bytes - length rest) stands (omega (arith, m.within, long)) (top_named context p.line func p.reads) in
     let closed = c.in_ok-close.ensures bytes m.reading.closed m.reading.current so_far.functions in
-    quick_on context rest (Top (top_told func)) after p bytes c.args.self.now _ m refl refl refl refl refl (record {
-      module_is = so_far.module_is;
-      functions = c.in_ok-begin.ensures bytes _ named closed;
-      files = so_far.files;
-      origins = so_far.origins;
-      publics = so_far.publics;
-    })
+    quick_on context rest (Top (top_told func)) after p bytes c.args.self.now _ m refl refl refl refl refl (with_functions so_far (c.in_ok-begin.ensures bytes _ named closed))

@@ -3,6 +3,7 @@ use Rattle.bz_breakpad_lines.specs.Told.{context_told, inner_told}
 use Rattle.bz_breakpad_lines.specs.Walk.Context.{InFunc}
 use Rattle.bz_breakpad_lines.specs.Walk.Record.{OfFunc}
 use Rattle.bz_breakpad_lines.specs.declared.record.InnerLine.TheVariants as inners
+use Rattle.bz_breakpad_table.proofs.KeptLemmas.{with_functions}
 use Rattle.bz_breakpad_table.proofs.FunctionLemmas.{told_said}
 use Rattle.bz_breakpad_table.proofs.NameEnds.{inner_stands}
 use Rattle.bz_breakpad_table.proofs.QuickStep.{quick_on, quick_stands}
@@ -25,13 +26,7 @@ returns-clause-ok c =
     let stands = quick_stands InFunc rest record_is after p bytes m.within m.rest_is in
     let reads = inner_stands bytes (length bytes - length rest) p.line InFunc (inners.Inline call) ranges stands p.reads in
     quick_on InFunc rest record_is after p bytes old _ m refl in_func in_func refl refl
-    (rw (told_said call ranges) (record {
-      module_is = so_far.module_is;
-      functions = rw c.as_slice.ensures.value at (c.in_ok-inline.ensures bytes m.reading.closed m.reading.current reads so_far.functions);
-      files = so_far.files;
-      origins = so_far.origins;
-      publics = so_far.publics;
-    }))
+    (rw (told_said call ranges) (with_functions so_far (rw c.as_slice.ensures.value at (c.in_ok-inline.ensures bytes m.reading.closed m.reading.current reads so_far.functions))))
 
 pub returns-clause-shorter : goal.returns-clause-shorter
 returns-clause-shorter c =

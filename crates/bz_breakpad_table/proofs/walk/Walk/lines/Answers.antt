@@ -2,6 +2,7 @@ use Rattle.std.proofs.Common.{◌≡◌, refl, ap}
 use Rattle.std.proofs.lemmas.List.{take_rest}
 use Rattle.bz_breakpad_lines.specs.Told.{context_told}
 use Rattle.bz_breakpad_lines.specs.Walk.Context.{InFunc}
+use Rattle.bz_breakpad_table.proofs.KeptLemmas.{with_functions}
 use Rattle.bz_breakpad_table.proofs.LineRecordLemmas.{line_on}
 use Rattle.bz_breakpad_table.proofs.walk.Walk.lines.Goals as goal
 
@@ -15,13 +16,7 @@ run_on-requires-clause-midway c =
     let p = c.in-Some.ensures.quick in
     let in_func : context_told old.context ≡ InFunc = ap context_told c.in-InFunc.is in
     let so_far = m.walked.so_far in
-    rw (take_rest rest line.len) (line_on rest line p bytes old _ m in_func in_func refl refl (record {
-      module_is = so_far.module_is;
-      functions = c.in_ok-line.ensures m.reading.closed m.reading.current rest p m.rest_is so_far.functions;
-      files = so_far.files;
-      origins = so_far.origins;
-      publics = so_far.publics;
-    }))
+    rw (take_rest rest line.len) (line_on rest line p bytes old _ m in_func in_func refl refl (with_functions so_far (c.in_ok-line.ensures m.reading.closed m.reading.current rest p m.rest_is so_far.functions)))
 
 pub run_on-requires-clause-stops : goal.run_on-requires-clause-stops
 run_on-requires-clause-stops c =
