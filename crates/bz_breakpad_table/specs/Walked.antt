@@ -1,5 +1,5 @@
 -- The code's walk, at the end of a line, and the step that it makes over one line.
-use Rattle.std.specs.Prelude.{◌≡◌, ◌≤◌, ◌-◌, ℕ, List, ◌∷◌, length, drop, Option, Some, None}
+use Rattle.std.specs.Prelude.{◌≡◌, ◌≤◌, ◌+◌, ◌-◌, ℕ, false, List, ◌∷◌, length, drop, Option, Some, None}
 use Rattle.bz_base.specs.Line.{ended_lines}
 use Rattle.bz_base.specs.declared.error.Error.{Error}
 use Rattle.bz_base.specs.declared.error.Error.TheVariants as errors
@@ -8,6 +8,9 @@ use Rattle.bz_breakpad_lines.specs.Line.{line_front}
 use Rattle.bz_breakpad_lines.specs.Reader.{Reading, lines_read, reading_in, table_read}
 use Rattle.bz_breakpad_lines.specs.Reads.{◌>>=◌}
 use Rattle.bz_breakpad_lines.specs.Told.{context_told}
+use Rattle.bz_breakpad_lines.specs.Walk.Context.{InFunc}
+use Rattle.bz_breakpad_lines.specs.declared.start_text.StartText.{StartText}
+use Rattle.bz_breakpad_table.specs.declared.standing.LinesSoFar.TheVariants as sofar
 use Rattle.bz_breakpad_table.specs.declared.walk.Walk.{Walk}
 use Rattle.bz_breakpad_table.specs.declared.types.KeptTable.{KeptTable}
 
@@ -64,3 +67,16 @@ pub record IsFinishedAs (bytes : List ℕ) (table : KeptTable) (reading : Readin
 
 abbrev pub IsFinished : List ℕ → Walk → KeptTable → Type 0
 IsFinished bytes walk table = (reading : Reading) → IsWalked bytes walk reading → IsFinishedAs bytes table reading
+
+-- the walk where the run is this one, and so many records have been read
+abbrev pub running : Walk → ℕ → ℕ → StartText → ℕ → Walk
+running walk from to last count = record walk {
+  kept = record walk.kept { functions = record walk.kept.functions { lines = sofar.Run (record { from = from; to = to }) last } };
+  count = count;
+}
+
+-- where a walk may end its run before the rest, it may end it before what is left, so many records later
+abbrev pub GoesOn : List ℕ → StartText → List ℕ → StartText → ℕ → Type 0
+GoesOn rest start left last passed =
+    (bytes : List ℕ) (walk : Walk) (from count : ℕ) → context_told walk.context ≡ InFunc → walk.white_allowed ≡ false →
+    IsMidway bytes rest (running walk from (length bytes - length rest) start count) → IsMidway bytes left (running walk from (length bytes - length left) last (count + passed))

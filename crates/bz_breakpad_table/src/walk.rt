@@ -1,24 +1,24 @@
 //! The walk over a file's lines: what a line is depends on the record before it. Unlike `Before`, it
 //! keeps what each line says, and reads runs of lines quickly.
 
-ghost use Rattle.std.specs.Prelude.{◌≡◌, ◌<◌, ◌≤◌, ◌+◌, ◌^◌, ℕ, List, ◌&&◌, nat_lt, false, length, is_some, IfSome, IfNone, IfOk, IfErr, OnOk};
+ghost use Rattle.std.specs.Prelude.{◌≡◌, ◌<◌, ◌≤◌, ◌+◌, ◌^◌, ℕ, List, false, length, IfSome, IfNone, IfOk, IfErr, OnOk};
 ghost use Rattle.bz_base.specs.declared.error.Error.{Error};
 ghost use Rattle.bz_breakpad_lines.specs.Reader.{Reading, nothing_read, reading_in};
-ghost use Rattle.bz_breakpad_lines.specs.Says.{module_of};
 ghost use Rattle.bz_breakpad_lines.specs.Stops.{AreStops};
-ghost use Rattle.bz_breakpad_lines.specs.Told.{context_told, record_told};
+ghost use Rattle.bz_breakpad_lines.specs.Told.{context_told};
 ghost use Rattle.bz_breakpad_lines.specs.Walk.{Context};
 ghost use Rattle.bz_breakpad_lines.specs.Walk.Context.{InFunc, Outside};
 ghost use Rattle.bz_breakpad_table.specs.Refusal.{Refuses};
-ghost use Rattle.bz_breakpad_table.specs.Walked.{IsLineAt, IsMidway, IsRefused, IsStep, IsWalked};
+ghost use Rattle.bz_breakpad_table.specs.Walked.{GoesOn, IsLineAt, IsMidway, IsRefused, IsStep, IsWalked};
 
+use crate::before::{is_late_module, record_in};
 use crate::reading::{KeptReading, name_part};
 use crate::standing::LinesSoFar;
 use crate::types::Part;
 use bz_base::{Error, Result, next_line};
 use bz_breakpad_lines::{
-    Context, Range, RecordLine, Shown, Stops, after_white, body, cfi_line, func_line, inline_line,
-    is_blank_line, next_on_run, quick_line, read_record,
+    Context, Range, Shown, StartText, Stops, after_white, cfi_line, func_line, inline_line,
+    is_blank_line, next_on_run, quick_line,
 };
 use std::alloc::Global;
 
@@ -176,30 +176,17 @@ impl Walk {
         ensures midway { IsMidway text.now result.now self.new }
         ensures within { length result.now ≤ length rest.now }
     {
-        let LinesSoFar::Run(run, start) = self.kept.functions.lines else {
+        let place = text.len() - rest.len();
+        let Some((run, start)) = self.kept.functions.lines.run_up_to(place) else {
             return rest;
         };
-        // Never so: the run ends here, and its last start has one to eight digits.
-        if run.to as usize != text.len() - rest.len() || start.digits == 0 || start.digits > 8 {
-            return rest;
-        }
-        // In registers, and not in the walk, until the run is at its end.
-        let mut left = rest;
-        let mut stops = stops;
-        let mut last = start;
-        let mut count = self.count;
-        while let Some(next) = next_on_run(Shown { text: left, stops }, last) {
-            left = &left[next.len..];
-            stops = next.stops;
-            last = next.start;
-            count += 1;
-        }
-        let Ok(whole) = Part::new(run.from as usize, text.len() - left.len()) else {
+        let end = pass_run(rest, start, stops);
+        let Ok(whole) = Part::new(run.from as usize, text.len() - end.left.len()) else {
             return rest;
         };
-        self.kept.functions.lines = LinesSoFar::Run(whole, last);
-        self.count = count;
-        left
+        self.kept.functions.lines = LinesSoFar::Run(whole, end.last);
+        self.count += end.count;
+        end.left
     }
 
     /// Reads the first line of the rest of a text, in any form, and returns the rest after it.
@@ -219,7 +206,6 @@ impl Walk {
     }
 
     /// Reads the line at a place in the bytes.
-    #[tactic(auto, unfolding(bz_breakpad_lines::specs::Walk::record_at))]
     fn line(&mut self, bytes: &[u8], start: usize, line: &[u8]) -> Result<()>
         requires room { start + length line.now < 2 ^ 63 }
         requires few { self.old.count ≤ start }
@@ -232,13 +218,10 @@ impl Walk {
         if is_blank_line(self.white_allowed, text) {
             return Ok(());
         }
-        let Some(body) = body(text) else {
+        let Some((found, body)) = record_in(&mut self.ranges, self.context, text)? else {
             return Err(Error::InvalidInput);
         };
-        let Some(found) = read_record(&mut self.ranges, self.context, body)? else {
-            return Err(Error::InvalidInput);
-        };
-        if is_late_module(&found, self.count) {
+        if is_late_module(&found, self.count > 0) {
             return Err(Error::InvalidInput);
         }
         let place = start + (line.len() - text.len());
@@ -256,9 +239,36 @@ impl Walk {
     }
 }
 
-/// Whether the record is a MODULE record that isn't the first of so many.
-fn is_late_module(found: &RecordLine<'_>, count: usize) -> bool
-    ensures { (ranges : List Range) → result ≡ (is_some (module_of (record_told found.now ranges)) && nat_lt 0 count) }
+/// Where line records end that go on a run.
+#[derive(Clone, Copy)]
+struct RunEnd<'a> {
+    /// What stands after them.
+    left: &'a [u8],
+    /// The text of the last start.
+    last: StartText,
+    /// How many they are.
+    count: usize,
+}
+
+/// Passes the line records that go on a run with this last start, of which bytes may be shown. What it
+/// finds is in registers, and not in the walk, until the run is at its end.
+#[inline(always)]
+fn pass_run<'a>(rest: &'a [u8], start: StartText, stops: Stops) -> RunEnd<'a>
+    requires stops { AreStops rest.now stops }
+    requires some { 0 < start.digits }
+    requires few { start.digits ≤ 8 }
+    ensures goes_on { GoesOn rest.now start result.left.now result.last result.count }
+    ensures few { result.count + length result.left.now ≤ length rest.now }
 {
-    found.is_module() && count > 0
+    let mut left = rest;
+    let mut stops = stops;
+    let mut last = start;
+    let mut count = 0;
+    while let Some(next) = next_on_run(Shown { text: left, stops }, last) {
+        left = &left[next.len..];
+        stops = next.stops;
+        last = next.start;
+        count += 1;
+    }
+    RunEnd { left, last, count }
 }
