@@ -16,4 +16,5 @@ pub mod Listed
 pub mod Plain
 pub mod Probes
 pub mod Resolver
+pub mod Stands
 pub mod Version

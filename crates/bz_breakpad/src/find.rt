@@ -1,15 +1,15 @@
 //! Which record answers for an address: the function that covers it, or else a PUBLIC record.
 
-ghost use Rattle.std.specs.Prelude.{◌≡◌, ◌≤◌, ◌<◌, ◌-◌, ℕ, List, None, length, map, slice_index, IfOk, IfSome, IsOkUnless};
+ghost use Rattle.std.specs.Prelude.{◌≡◌, ◌≤◌, ◌<◌, ◌-◌, ℕ, None, length, map, slice_index, IfOk, IfSome, IsOkUnless};
 ghost use Rattle.std.specs.List.{AllByRecursion};
 ghost use Rattle.bz_base.specs.Starts.{AreFound, IsAt, NeverDescends};
 ghost use Rattle.bz_base.specs.declared.error.Error.{Error};
 ghost use Rattle.bz_breakpad.specs.Found.{AreFunctionsFor, AreRecordsFor, AreUncovered, IsFunctionOr, IsRecordFor};
 ghost use Rattle.bz_breakpad.specs.Plain.{any_between, function_at};
 ghost use Rattle.bz_breakpad.specs.Probes.{AreFewProbes, AreFewSteps};
-ghost use Rattle.bz_breakpad_lines.specs.Table.{Table};
+ghost use Rattle.bz_breakpad.specs.Stands.{OfItsTable};
 ghost use Rattle.bz_breakpad_table.specs.Publics.{IsPublicTable};
-ghost use Rattle.bz_breakpad_table.specs.Sorted.{StandsFor, starts_of};
+ghost use Rattle.bz_breakpad_table.specs.Sorted.{starts_of};
 
 use crate::found::FoundRecord;
 use bz_base::{
@@ -29,10 +29,9 @@ pub(crate) fn record_at<L: Ledger>(
 ) -> FoundRecord
     requires starts { starts.now ≡ starts_of kept.now.code }
     requires publics { IsPublicTable kept.now.publics.items publics.now }
-    requires stands { (bytes : List ℕ) × (table : Table) × StandsFor bytes table kept.now }
-    ensures record { (bytes : List ℕ) (table : Table) → StandsFor bytes table kept.now → IsRecordFor table addr result }
+    ensures record { OfItsTable kept.now (λ table. IsRecordFor table addr result) }
     ensures more { steps.old ≤ steps.new }
-    ensures probes { (bytes : List ℕ) (table : Table) → StandsFor bytes table kept.now → AreFewProbes table (steps.new - steps.old) }
+    ensures probes { OfItsTable kept.now (λ table. AreFewProbes table (steps.new - steps.old)) }
 {
     let place = place_found(nearest(starts, addr, steps));
     if let Some(index) = function_index(kept, place, addr) {
@@ -57,11 +56,10 @@ pub(crate) fn find_records<L: Ledger>(
 ) -> Result<Vec<FoundRecord>>
     requires starts { starts.now ≡ starts_of kept.now.code }
     requires publics { IsPublicTable kept.now.publics.items publics.now }
-    requires stands { (bytes : List ℕ) × (table : Table) × StandsFor bytes table kept.now }
-    ensures records { IfOk result (λ found. (bytes : List ℕ) (table : Table) → StandsFor bytes table kept.now → AreRecordsFor table addrs.now found.items) }
+    ensures records { IfOk result (λ found. OfItsTable kept.now (λ table. AreRecordsFor table addrs.now found.items)) }
     ensures count { IfOk result (λ found. length found.items ≡ length addrs.now) }
     ensures more { steps.old ≤ steps.new }
-    ensures probes { (bytes : List ℕ) (table : Table) → StandsFor bytes table kept.now → AreFewSteps table (length addrs.now) (steps.new - steps.old) }
+    ensures probes { OfItsTable kept.now (λ table. AreFewSteps table (length addrs.now) (steps.new - steps.old)) }
     ensures memory { IsOkUnless result Error.OutOfMemory }
 {
     let places = nearest_each(alloc, starts, addrs, steps)?;
@@ -103,10 +101,10 @@ fn functions_found(
 ) -> std::result::Result<FoundFunctions, AllocError>
     requires found { AreFound (starts_of kept.now.code) addrs.now places.now }
     requires count { length places.now ≡ length addrs.now }
-    ensures found { IfOk result (λ found. (bytes : List ℕ) (table : Table) → StandsFor bytes table kept.now → AreFunctionsFor table addrs.now found.records.items found.left.items 0) }
+    ensures found { IfOk result (λ found. OfItsTable kept.now (λ table. AreFunctionsFor table addrs.now found.records.items found.left.items 0)) }
     ensures count { IfOk result (λ found. length found.records.items ≡ length addrs.now) }
     ensures within { IfOk result (λ found. AllByRecursion (λ index. index < length addrs.now) found.left.items) }
-    ensures uncovered { IfOk result (λ found. (bytes : List ℕ) (table : Table) → StandsFor bytes table kept.now → AreUncovered table addrs.now found.left.items) }
+    ensures uncovered { IfOk result (λ found. OfItsTable kept.now (λ table. AreUncovered table addrs.now found.left.items)) }
     ensures addrs { IfOk result (λ found. found.left_addrs.items ≡ map (λ index. slice_index addrs.now index) found.left.items) }
     ensures fewer { IfOk result (λ found. length found.left_addrs.items ≤ length addrs.now) }
 {
@@ -144,13 +142,13 @@ fn with_publics(
     requires publics { IsPublicTable kept.now.publics.items publics.now }
     requires found { AreFound (starts_of kept.now.code) addrs.now places.now }
     requires count { length places.now ≡ length addrs.now }
-    requires functions { (bytes : List ℕ) (table : Table) → StandsFor bytes table kept.now → AreFunctionsFor table addrs.now functions.items left.now 0 }
+    requires functions { OfItsTable kept.now (λ table. AreFunctionsFor table addrs.now functions.items left.now 0) }
     requires functions_count { length functions.items ≡ length addrs.now }
     requires within { AllByRecursion (λ index. index < length addrs.now) left.now }
-    requires uncovered { (bytes : List ℕ) (table : Table) → StandsFor bytes table kept.now → AreUncovered table addrs.now left.now }
+    requires uncovered { OfItsTable kept.now (λ table. AreUncovered table addrs.now left.now) }
     requires public_found { AreFound publics.now.starts (map (λ index. slice_index addrs.now index) left.now) public_places.now }
     requires public_count { length public_places.now ≡ length left.now }
-    ensures records { (bytes : List ℕ) (table : Table) → StandsFor bytes table kept.now → AreRecordsFor table addrs.now result.items }
+    ensures records { OfItsTable kept.now (λ table. AreRecordsFor table addrs.now result.items) }
     ensures count { length result.items ≡ length addrs.now }
 {
     let mut records = functions;
@@ -171,7 +169,7 @@ fn with_publics(
 /// functions' starts found.
 pub(crate) fn function_index(kept: &KeptTable, place: Option<usize>, addr: Addr) -> Option<u32>
     requires { IsAt (starts_of kept.now.code) addr place }
-    ensures { (bytes : List ℕ) (table : Table) → StandsFor bytes table kept.now → IsFunctionOr table addr result }
+    ensures { OfItsTable kept.now (λ table. IsFunctionOr table addr result) }
 {
     match covering_at(&kept.code.keys, place, addr) {
         Some(key) => Some(key.index),
@@ -191,7 +189,7 @@ fn public_record(
     requires publics { IsPublicTable kept.now.publics.items publics.now }
     requires found { IsAt (starts_of kept.now.code) addr place }
     requires public_found { IsAt publics.now.starts addr public_place }
-    ensures { (bytes : List ℕ) (table : Table) → StandsFor bytes table kept.now → function_at addr table.functions ≡ None → IsRecordFor table addr result }
+    ensures { OfItsTable kept.now (λ table. function_at addr table.functions ≡ None → IsRecordFor table addr result) }
 {
     let Some(public_place) = public_place else {
         return FoundRecord::Absent;

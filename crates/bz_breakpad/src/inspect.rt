@@ -6,8 +6,7 @@ ghost use Rattle.bz_base.specs.Refusals.{WantsMemory};
 ghost use Rattle.bz_base.specs.declared.error.Error.{Error};
 ghost use Rattle.bz_base.specs.declared.types.SymType.{SymType};
 ghost use Rattle.bz_breakpad.specs.Inspect.{CalledInTurn, Goes, Info, info_of, infos_in, infos_of, named, told_named, told_of};
-ghost use Rattle.bz_breakpad_lines.specs.Table.{Table};
-ghost use Rattle.bz_breakpad_table.specs.Sorted.{StandsFor};
+ghost use Rattle.bz_breakpad.specs.Stands.{OfTableIn, StandsForSome};
 
 use crate::file::SymbolFile;
 use bz_base::{Addr, Error, Result, SymType};
@@ -89,8 +88,8 @@ pub(crate) fn infos_named<'a>(
     kept: &'a KeptTable,
     name: &str,
 ) -> Result<Vec<SymInfo<'a>>>
-    requires stands { (table : Table) × StandsFor bytes.now table kept.now }
-    ensures infos { (table : Table) → StandsFor bytes.now table kept.now → Gives (λ infos. map info_of infos.items) (Ok (named name.now (infos_of table.functions))) result }
+    requires stands { StandsForSome bytes.now kept.now }
+    ensures infos { OfTableIn bytes.now kept.now (λ table. Gives (λ infos. map info_of infos.items) (Ok (named name.now (infos_of table.functions))) result) }
     ensures memory { IsOkUnless result Error.OutOfMemory }
 {
     let mut infos = Vec::new(alloc);
@@ -106,8 +105,8 @@ pub(crate) fn infos_named<'a>(
 /// Calls the closure at what is told of each function, in their order, until it answers false.
 pub(crate) fn each_info<F: FnMut(&SymInfo<'_>) -> bool>(bytes: &[u8], kept: &KeptTable, mut f: F)
     requires callable { F.IsAlwaysCallable f }
-    requires stands { (table : Table) × StandsFor bytes.now table kept.now }
-    ensures { (table : Table) → StandsFor bytes.now table kept.now → (last : F) × CalledInTurn F.FnMut f (infos_of table.functions) last }
+    requires stands { StandsForSome bytes.now kept.now }
+    ensures { OfTableIn bytes.now kept.now (λ table. (last : F) × CalledInTurn F.FnMut f (infos_of table.functions) last) }
 {
     for index in 0..kept.code.keys.len() {
         let info = info_at(bytes, kept, index);
@@ -120,8 +119,8 @@ pub(crate) fn each_info<F: FnMut(&SymInfo<'_>) -> bool>(bytes: &[u8], kept: &Kep
 /// What is told of the function at an index, in the order of start, size and place in the file.
 fn info_at<'a>(bytes: &'a [u8], kept: &'a KeptTable, index: usize) -> SymInfo<'a>
     requires within { index < length kept.now.code.keys.items }
-    requires stands { (table : Table) × StandsFor bytes.now table kept.now }
-    ensures { (table : Table) → StandsFor bytes.now table kept.now → slice_get (infos_of table.functions) index ≡ Some (info_of result) }
+    requires stands { StandsForSome bytes.now kept.now }
+    ensures { OfTableIn bytes.now kept.now (λ table. slice_get (infos_of table.functions) index ≡ Some (info_of result)) }
 {
     let key = &kept.code.keys[index];
     let function = &kept.code.functions[key.index as usize];

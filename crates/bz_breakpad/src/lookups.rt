@@ -11,9 +11,8 @@ ghost use Rattle.bz_base.specs.declared.types.FindSymOpts.{FindSymOpts};
 ghost use Rattle.bz_breakpad.specs.Found.{AreRecordsFor, IsRecordFor, is_public};
 ghost use Rattle.bz_breakpad.specs.Plain.{batch, plain};
 ghost use Rattle.bz_breakpad.specs.Resolver.{marked};
+ghost use Rattle.bz_breakpad.specs.Stands.{OfTableIn, StandsForSuch};
 ghost use Rattle.bz_breakpad_function.specs.Places.{IsAnswerRefusal};
-ghost use Rattle.bz_breakpad_lines.specs.Table.{Table};
-ghost use Rattle.bz_breakpad_table.specs.Sorted.{StandsFor};
 
 use crate::found::FoundRecord;
 use crate::symbol::symbol_from;
@@ -37,10 +36,10 @@ pub(crate) struct FoundAddrs<'f, 'b> {
 impl<'f, 'b> FoundAddrs<'f, 'b> {
     /// The answers to all addresses, in their order; an address that is refused is an ignored error.
     pub fn answers(&self, alloc: Global, opts: &FindSymOpts) -> Result<Vec<Symbolized<'f>>>
-        requires records { (table : Table) × StandsFor self.now.bytes.now table self.now.kept.now × AreRecordsFor table self.now.addrs.now self.now.found.now }
+        requires records { StandsForSuch self.now.bytes.now self.now.kept.now (λ table. AreRecordsFor table self.now.addrs.now self.now.found.now) }
         requires count { length self.now.found.now ≡ length self.now.addrs.now }
-        ensures answers { IfOk result (λ answers. (table : Table) → StandsFor self.now.bytes.now table self.now.kept.now → AreRecordsFor table self.now.addrs.now self.now.found.now →
-            map reading answers.items ≡ batch table opts.now self.now.addrs.now) }
+        ensures answers { IfOk result (λ answers. OfTableIn self.now.bytes.now self.now.kept.now (λ table. AreRecordsFor table self.now.addrs.now self.now.found.now →
+            map reading answers.items ≡ batch table opts.now self.now.addrs.now)) }
         ensures lent { IfOk result (λ answers. AllByRecursion IsLent answers.items) }
         ensures memory { IsOkUnless result Error.OutOfMemory }
     {
@@ -66,11 +65,11 @@ impl<'f, 'b> FoundAddrs<'f, 'b> {
         opts: &FindSymOpts,
         hints: Cuts,
     ) -> Result<Symbolized<'f>>
-        requires records { (table : Table) × StandsFor self.now.bytes.now table self.now.kept.now × AreRecordsFor table self.now.addrs.now self.now.found.now }
+        requires records { StandsForSuch self.now.bytes.now self.now.kept.now (λ table. AreRecordsFor table self.now.addrs.now self.now.found.now) }
         requires count { length self.now.found.now ≡ length self.now.addrs.now }
         requires within { index < length self.now.addrs.now }
-        ensures answer { (table : Table) → StandsFor self.now.bytes.now table self.now.kept.now → AreRecordsFor table self.now.addrs.now self.now.found.now →
-            Gives reading (plain table opts.now (slice_index self.now.addrs.now index)) result }
+        ensures answer { OfTableIn self.now.bytes.now self.now.kept.now (λ table. AreRecordsFor table self.now.addrs.now self.now.found.now →
+            Gives reading (plain table opts.now (slice_index self.now.addrs.now index)) result) }
         ensures lent { IfOk result IsLent }
         ensures refusal { IfErr result IsAnswerRefusal }
         ensures memory { IfErr result (WantsMemory (opts.now ≡ FindSymOpts.CodeInfoAndInlined)) }
@@ -204,8 +203,8 @@ pub(crate) fn answer_from<'a>(
     hints: Cuts,
     addr: Addr,
 ) -> Result<Symbolized<'a>>
-    requires { (table : Table) × StandsFor bytes.now table kept.now × IsRecordFor table addr found }
-    ensures answer { (table : Table) → StandsFor bytes.now table kept.now → IsRecordFor table addr found → Gives reading (plain table opts.now addr) result }
+    requires { StandsForSuch bytes.now kept.now (λ table. IsRecordFor table addr found) }
+    ensures answer { OfTableIn bytes.now kept.now (λ table. IsRecordFor table addr found → Gives reading (plain table opts.now addr) result) }
     ensures lent { IfOk result IsLent }
     ensures refusal { IfErr result IsAnswerRefusal }
     ensures memory { IfErr result (WantsMemory (opts.now ≡ FindSymOpts.CodeInfoAndInlined)) }

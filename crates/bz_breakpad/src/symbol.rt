@@ -1,6 +1,6 @@
 //! The symbol of the record that was found for an address, as a table of symbols gives it.
 
-ghost use Rattle.std.specs.Prelude.{◌≡◌, ◌<◌, ◌≤◌, ◌+◌, ℕ, List, length, option_map, IfOk, IfErr, IfSome};
+ghost use Rattle.std.specs.Prelude.{◌≡◌, ◌<◌, ◌≤◌, ◌+◌, ℕ, length, option_map, IfOk, IfErr, IfSome};
 ghost use Rattle.bz_base.specs.Answer.{resolved_of};
 ghost use Rattle.bz_base.specs.Lent.{IsLentResolved};
 ghost use Rattle.bz_base.specs.Refusals.{WantsMemory};
@@ -10,11 +10,11 @@ ghost use Rattle.bz_base.specs.declared.types.Reason.{Reason};
 ghost use Rattle.bz_breakpad.specs.Found.{IsRecordFor};
 ghost use Rattle.bz_breakpad.specs.Plain.{plain, public_symbol_at, symbol_at};
 ghost use Rattle.bz_breakpad.specs.Resolver.{found_in, resolved_in};
+ghost use Rattle.bz_breakpad.specs.Stands.{OfItsTable, OfTableIn, StandsForSuch};
 ghost use Rattle.bz_breakpad_function.specs.Lent.{IsLentPlaced, placed_seen};
 ghost use Rattle.bz_breakpad_function.specs.Places.{IsAnswerRefusal};
 ghost use Rattle.bz_breakpad_lines.specs.Table.{Table};
 ghost use Rattle.bz_breakpad_table.specs.Kept.{IsTextAt, function_seen, kept_public, text_at};
-ghost use Rattle.bz_breakpad_table.specs.Sorted.{StandsFor};
 
 use crate::found::FoundRecord;
 use bz_base::{Addr, FindSymOpts, Reason, ResolvedSym, Result, SrcLang};
@@ -34,9 +34,9 @@ pub(crate) fn symbol_from<'a>(
     hints: Cuts,
     addr: Addr,
 ) -> Result<std::result::Result<ResolvedSym<'a>, Reason>>
-    requires { (table : Table) × StandsFor bytes.now table kept.now × IsRecordFor table addr found }
-    ensures answer { (table : Table) → StandsFor bytes.now table kept.now → IsRecordFor table addr found →
-        MayGive found_of (λ answer. answer ≡ found_in (plain table opts.now addr)) result }
+    requires { StandsForSuch bytes.now kept.now (λ table. IsRecordFor table addr found) }
+    ensures answer { OfTableIn bytes.now kept.now (λ table. IsRecordFor table addr found →
+        MayGive found_of (λ answer. answer ≡ found_in (plain table opts.now addr)) result) }
     ensures starts { IfOk result (λ found. StartsBefore addr (found_of found)) }
     ensures lent { IfOk result (λ found. IfOk found IsLentResolved) }
     ensures refusal { IfErr result IsAnswerRefusal }
@@ -60,8 +60,8 @@ pub(crate) fn symbol_from<'a>(
 
 /// Why no record answers for an address.
 fn unanswered(kept: &KeptTable) -> Reason
-    ensures missing { (bytes : List ℕ) (table : Table) → StandsFor bytes table kept.now → length table.functions ≡ 0 → length table.publics ≡ 0 → result ≡ Reason.MissingSyms }
-    ensures unknown { (bytes : List ℕ) (table : Table) → StandsFor bytes table kept.now → 0 < length table.functions + length table.publics → result ≡ Reason.UnknownAddr }
+    ensures missing { OfItsTable kept.now (λ table. length table.functions ≡ 0 → length table.publics ≡ 0 → result ≡ Reason.MissingSyms) }
+    ensures unknown { OfItsTable kept.now (λ table. 0 < length table.functions + length table.publics → result ≡ Reason.UnknownAddr) }
 {
     if kept.code.functions.is_empty() && kept.publics.is_empty() {
         Reason::MissingSyms
