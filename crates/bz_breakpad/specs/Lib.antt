@@ -16,5 +16,6 @@ pub mod Listed
 pub mod Plain
 pub mod Probes
 pub mod Resolver
+pub mod Searched
 pub mod Stands
 pub mod Version

@@ -16,6 +16,7 @@ ghost use Rattle.bz_breakpad.specs.Listed.{files_in, lent_public, origins_in, pu
 ghost use Rattle.bz_breakpad.specs.Plain.{batch, function_at, plain};
 ghost use Rattle.bz_breakpad.specs.Probes.{AreFewProbes, AreFewSteps};
 ghost use Rattle.bz_breakpad.specs.Resolver.{IsPlain};
+ghost use Rattle.bz_breakpad.specs.Searched.{IsSearched};
 ghost use Rattle.bz_breakpad_function.specs.InOrder.{functions_in_order};
 ghost use Rattle.bz_breakpad_function.specs.Indexed.{function_in, functions_in};
 ghost use Rattle.bz_breakpad_function.specs.Places.{IsAnswerRefusal};
@@ -24,9 +25,9 @@ ghost use Rattle.bz_breakpad_lines.specs.Names.{name_for};
 ghost use Rattle.bz_breakpad_lines.specs.Reader.{counted_in, table_in};
 ghost use Rattle.bz_breakpad_lines.specs.Table.{Table};
 ghost use Rattle.bz_breakpad_table.specs.Refusal.{Refuses};
-ghost use Rattle.bz_breakpad_table.specs.Sorted.{IsKept};
+ghost use Rattle.bz_breakpad_table.specs.Sorted.{IsKept, StandsFor};
 
-use crate::find::{find_records, function_index, record_at};
+use crate::find::{Searched, function_index};
 use crate::found::FoundRecord;
 use crate::inspect::{SymInfo, each_info, infos_named};
 use crate::lookups::{FoundAddrs, answer_from};
@@ -242,6 +243,18 @@ impl SymbolFile {
         Some(self.function_in_file(index))
     }
 
+    /// What is searched for addresses.
+    fn searched(&self) -> Searched<'_>
+        ensures searched { IsSearched result }
+        ensures stands { (table : Table) → table_in self.now ≡ Some table → StandsFor self.now table result.kept.now }
+    {
+        Searched {
+            kept: &self.table,
+            starts: &self.starts,
+            publics: &self.publics,
+        }
+    }
+
     /// Which record answers for each of the addresses, which are relative to the module's base.
     pub fn find_records<L: Ledger>(
         &self,
@@ -255,14 +268,7 @@ impl SymbolFile {
         ensures probes { (table : Table) → table_in self.now ≡ Some table → AreFewSteps table (length addrs.now) (steps.new - steps.old) }
         ensures memory { IsOkUnless result Error.OutOfMemory }
     {
-        find_records(
-            alloc,
-            &self.table,
-            &self.starts,
-            &self.publics,
-            addrs,
-            steps,
-        )
+        self.searched().find_records(alloc, addrs, steps)
     }
 
     /// The answers to addresses whose records were found, in their order, each the file's answer at
@@ -352,7 +358,7 @@ impl SymbolFile {
         ensures more { steps.old ≤ steps.new }
         ensures probes { (table : Table) → table_in self.now ≡ Some table → AreFewProbes table (steps.new - steps.old) }
     {
-        let found = record_at(&self.table, &self.starts, &self.publics, addr, steps);
+        let found = self.searched().record_at(addr, steps);
         self.answer_by(alloc, addr, found, opts)
     }
 
@@ -371,7 +377,7 @@ impl SymbolFile {
         ensures refusal { IfErr result IsAnswerRefusal }
         ensures memory { IfErr result (WantsMemory (opts.now ≡ FindSymOpts.CodeInfoAndInlined)) }
     {
-        let found = record_at(&self.table, &self.starts, &self.publics, addr, steps);
+        let found = self.searched().record_at(addr, steps);
         symbol_from(
             alloc,
             self.bytes.as_slice(),
