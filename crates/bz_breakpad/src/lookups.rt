@@ -88,22 +88,56 @@ impl<'f, 'b> FoundAddrs<'f, 'b> {
     /// Hints for the answers from an index on. What lies far is touched for all of them together: the
     /// keys, then the functions, then the text near each one's line record, its name and its calls.
     fn hints(&self, from: usize) -> [Cuts; TOGETHER] {
+        let indices = self.function_indices(from);
+        let functions = self.functions(&indices);
+        let seeds = self.seeds(from, &functions);
+        let usual = self.which_are_usual(&seeds);
+        self.cuts_of_usual(from, &seeds, &usual)
+    }
+
+    /// The indices of the functions that answer from an index on.
+    fn function_indices(&self, from: usize) -> [usize; TOGETHER] {
         let mut indices = [usize::MAX; TOGETHER];
         for place in 0..TOGETHER {
             indices[place] = self.function_index(from.saturating_add(place));
         }
+        indices
+    }
+
+    /// The functions of the indices.
+    fn functions(&self, indices: &[usize; TOGETHER]) -> [Option<KeptFunction>; TOGETHER] {
         let mut functions = [None; TOGETHER];
         for place in 0..TOGETHER {
             functions[place] = self.kept.code.functions.get(indices[place]).copied();
         }
+        functions
+    }
+
+    /// What the answers from an index on read of the functions that lies elsewhere.
+    fn seeds(&self, from: usize, functions: &[Option<KeptFunction>; TOGETHER]) -> [Seed; TOGETHER] {
         let mut seeds = [Seed::none(); TOGETHER];
         for place in 0..TOGETHER {
             seeds[place] = self.seed(&functions[place], from.saturating_add(place));
         }
+        seeds
+    }
+
+    /// Which of them are usual. What they read is touched.
+    fn which_are_usual(&self, seeds: &[Seed; TOGETHER]) -> [bool; TOGETHER] {
         let mut usual = [false; TOGETHER];
         for place in 0..TOGETHER {
-            usual[place] = self.is_usual(&seeds[place]);
+            usual[place] = self.touched(&seeds[place]).is_usual();
         }
+        usual
+    }
+
+    /// Where the line records are to be cut for the answers from an index on, of those that are usual.
+    fn cuts_of_usual(
+        &self,
+        from: usize,
+        seeds: &[Seed; TOGETHER],
+        usual: &[bool; TOGETHER],
+    ) -> [Cuts; TOGETHER] {
         let mut hints = [Cuts::unknown(); TOGETHER];
         for place in 0..TOGETHER {
             if usual[place] {
@@ -139,27 +173,18 @@ impl<'f, 'b> FoundAddrs<'f, 'b> {
         }
     }
 
-    /// Whether the function has a name, the first of its inlined calls, if it has some, lies in no other,
-    /// and its line records are text to the end of a line.
-    /// It is asked for its looks, and so takes all of them: each brings memory close that the answer reads.
-    fn is_usual(&self, seed: &Seed) -> bool {
-        let named = match self.bytes.get(seed.name) {
-            Some(first) => *first != b'\n',
-            None => false,
-        };
-        let outermost = match self.kept.code.inlinees.get(seed.inlinees) {
-            Some(call) => call.depth == 0,
-            None => true,
-        };
-        let text = match self.bytes.get(seed.guess.place()) {
-            Some(byte) => *byte != 0,
-            None => false,
-        };
-        let ended = match self.bytes.get(seed.guess.last()) {
-            Some(byte) => *byte == b'\n',
-            None => false,
-        };
-        named & outermost & text & ended
+    /// What stands at the places of a seed. All of it is read: each read brings memory close that the
+    /// answer reads.
+    fn touched(&self, seed: &Seed) -> Touched {
+        Touched {
+            name: self.bytes.get(seed.name).copied(),
+            depth: match self.kept.code.inlinees.get(seed.inlinees) {
+                Some(call) => Some(call.depth),
+                None => None,
+            },
+            line: self.bytes.get(seed.guess.place()).copied(),
+            last: self.bytes.get(seed.guess.last()).copied(),
+        }
     }
 
     /// Where the line records are to be cut for the answer at an index.
@@ -190,6 +215,43 @@ impl Seed {
             name: usize::MAX,
             inlinees: usize::MAX,
         }
+    }
+}
+
+/// What stands at the places of a seed.
+#[derive(Clone, Copy)]
+struct Touched {
+    /// The first byte of the function's name.
+    name: Option<u8>,
+    /// The depth of its first inlined call.
+    depth: Option<u32>,
+    /// The byte where its line record is likely to stand.
+    line: Option<u8>,
+    /// The last byte of its line records.
+    last: Option<u8>,
+}
+
+impl Touched {
+    /// Whether the function has a name, the first of its inlined calls, if it has some, lies in no other,
+    /// and its line records are text to the end of a line.
+    fn is_usual(&self) -> bool {
+        let named = match self.name {
+            Some(first) => first != b'\n',
+            None => false,
+        };
+        let outermost = match self.depth {
+            Some(depth) => depth == 0,
+            None => true,
+        };
+        let text = match self.line {
+            Some(byte) => byte != 0,
+            None => false,
+        };
+        let ended = match self.last {
+            Some(byte) => byte == b'\n',
+            None => false,
+        };
+        named & outermost & text & ended
     }
 }
 
