@@ -9,7 +9,9 @@ use Rattle.bz_base.specs.Byte.{line_feed}
 use Rattle.bz_base.specs.Line.{all_lines, begins_line}
 use Rattle.bz_breakpad_lines.specs.Choice.{body_at}
 use Rattle.bz_breakpad_lines.specs.Line.{line_front, line_in, source_line}
+use Rattle.bz_breakpad_table.specs.Kept.{IsRunAt, text_at}
 use Rattle.bz_breakpad_table.specs.LineRun.{IsCut, IsLineRun, IsRunFront}
+use Rattle.bz_breakpad_table.specs.declared.types.Part.{Part}
 use Rattle.bz_breakpad_lines.specs.LineStarts.{line_start, no_line}
 use Rattle.bz_breakpad_lines.specs.Reads.{◌>>=◌, form_at}
 use Rattle.bz_breakpad_lines.specs.Records.{LINE}
@@ -44,7 +46,7 @@ same_in_front text len within ends place before =
     ∙ ap (λ front. option_map source_line (body_at front >>= form_at LINE)) same
 
 -- a run that ends with a line feed, and what comes after it
-pub run_in_front : (text : List ℕ) (len : ℕ) → len ≤ length text → IsLineRun (take len text) → 0 < len → slice_index (take len text) (len - 1) ≡ line_feed → IsRunFront text len
+run_in_front : (text : List ℕ) (len : ℕ) → len ≤ length text → IsLineRun (take len text) → 0 < len → slice_index (take len text) (len - 1) ≡ line_feed → IsRunFront text len
 run_in_front text len within run some ends = record {
   within = within;
   run = run;
@@ -52,7 +54,7 @@ run_in_front text len within run some ends = record {
 }
 
 -- a run and nothing after it
-pub run_alone : (text : List ℕ) → IsLineRun text → IsRunFront text (length text)
+run_alone : (text : List ℕ) → IsLineRun text → IsRunFront text (length text)
 run_alone text run =
     let all : take (length text) text ≡ text = take_all (length text) text (omega arith) in
     record {
@@ -60,6 +62,24 @@ run_alone text run =
       run = subst IsLineRun (sym all) run;
       same = λ place before. ap (λ t. line_in (drop place t)) all;
     }
+
+module _ (bytes : List ℕ) (run : Part) (at : IsRunAt bytes run) where
+  run_room : run.to - run.from ≤ length (drop run.from bytes)
+  run_room = omega (arith, at.within.ordered, at.within.within, length-drop run.from bytes)
+
+  run_long : length (text_at bytes run) ≡ run.to - run.from
+  run_long = length-take-le (run.to - run.from) (drop run.from bytes) run_room
+
+  -- a run at a part of the bytes, with what comes after it, where its last line has its line feed
+  pub run_and_rest : 0 < length (text_at bytes run) → slice_index (text_at bytes run) (length (text_at bytes run) - 1) ≡ line_feed →
+      IsRunFront (drop run.from bytes) (run.to - run.from)
+  run_and_rest some ends =
+      run_in_front (drop run.from bytes) (run.to - run.from) run_room at.run (omega (arith, some, run_long))
+      (ap (λ k. slice_index (text_at bytes run) (k - 1)) (sym run_long) ∙ ends)
+
+  -- and without it
+  pub run_by_itself : IsRunFront (text_at bytes run) (run.to - run.from)
+  run_by_itself = subst (IsRunFront (text_at bytes run)) run_long (run_alone (text_at bytes run) at.run)
 
 module _ (text : List ℕ) (len : ℕ) (is_front : IsRunFront text len) where
   abbrev run_text : List ℕ

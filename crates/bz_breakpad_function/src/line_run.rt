@@ -139,10 +139,15 @@ impl Guess {
     /// Where its run is to be cut for the address: at the line after a place a little before the guess,
     /// and then as far from there as that line's start is from the address.
     pub fn cuts(&self, bytes: &[u8], addr: Addr) -> Cuts {
+        match bytes.get(self.run.from as usize..) {
+            Some(text) => self.cuts_in(text, addr),
+            None => Cuts::unknown(),
+        }
+    }
+
+    /// The same, where the text begins as its run does.
+    fn cuts_in(&self, text: &[u8], addr: Addr) -> Cuts {
         let len = self.run.to.saturating_sub(self.run.from) as usize;
-        let Some(text) = bytes.get(self.run.from as usize..) else {
-            return Cuts::unknown();
-        };
         if len > text.len() {
             return Cuts::unknown();
         }
@@ -150,19 +155,21 @@ impl Guess {
         if first >= len {
             return Cuts::unknown();
         }
-        let start = start_of(&text[first..]);
-        let place = if start <= addr {
-            first
-                .saturating_add(paced(addr - start, self.pace))
-                .saturating_add(LINE_LEN)
-        } else {
-            first
-                .saturating_sub(paced(start - addr, self.pace))
-                .saturating_sub(2 * LINE_LEN)
-        };
+        let place = self.place_beside(first, start_of(&text[first..]), addr);
         Cuts {
             first,
             second: cut_if_near(text, len, place),
+        }
+    }
+
+    /// A place near the record for the address, by a line at a place and that line's start.
+    fn place_beside(&self, line: usize, start: u64, addr: Addr) -> usize {
+        if start <= addr {
+            line.saturating_add(paced(addr - start, self.pace))
+                .saturating_add(LINE_LEN)
+        } else {
+            line.saturating_sub(paced(start - addr, self.pace))
+                .saturating_sub(2 * LINE_LEN)
         }
     }
 }
