@@ -132,3 +132,9 @@ each_more P [] x each own zero y at = subst (P 0) (same_Some x y at) own
 each_more P [] x each own (suc i) y at = absurd (none-some y at)
 each_more P (z ∷ xs) x each own zero y at = each 0 y at
 each_more P (z ∷ xs) x each own (suc i) y at = each_more (λ j w. P (suc j) w) xs x (λ j w there. each (suc j) w there) own i y at
+
+-- what holds of each index at which true stands, with one flag more
+pub flags_more : (P : ℕ → Type 0) (flags more : List Bool) (flag : Bool) → more ≡ flags ++ flag ∷ [] → ((i : ℕ) → slice_get flags i ≡ Some true → P i) → (flag ≡ true → P (length flags)) →
+    (i : ℕ) → slice_get more i ≡ Some true → P i
+flags_more P flags more flag pushed each own i at =
+    each_more (λ j b. b ≡ true → P j) flags flag (λ j b there is. each j (there ∙ ap Some is)) own i true (ap (λ l. slice_get l i) (sym pushed) ∙ at) refl
