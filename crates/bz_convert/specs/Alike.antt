@@ -1,4 +1,4 @@
--- When a converted file answers as the Breakpad file does.
+-- When a converted file answers as the Breakpad file does: this repository's own promise.
 use Rattle.std.specs.Prelude.{◌≡◌, ℕ, List, map, Option, Some, None, option_map, Result, Ok, Err}
 use Rattle.bz_base.specs.Answer.{Answer, Call, Resolved, Site, Symbol}
 use Rattle.bz_base.specs.Answer.Answer.{Known}

@@ -1,4 +1,4 @@
--- What the grammar says of a table's numbers and texts.
+-- What the grammar of bz_breakpad_lines (`Grammar`) says of a table's numbers and texts.
 use Rattle.std.specs.Prelude.{◌≡◌, ℕ, ◌^◌, ◌<◌, List, Some, slice_get, IsUtf8}
 use Rattle.bz_breakpad_lines.specs.Names.{name_for}
 use Rattle.bz_breakpad_lines.specs.Table.{SourceLine, Inlinee, Function, Table}

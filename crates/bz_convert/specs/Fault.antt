@@ -1,4 +1,5 @@
--- Why a file isn't converted: the first fault of the first function that has one, by start, size and place in the file.
+-- Why a file isn't converted: the first fault of the first function that has one, by start, size and place in the file. No public
+-- document says this: the definition is this repository's own, for what GSYM can't hold.
 use Rattle.std.specs.Prelude.{ℕ, ◌+◌, Bool, ◌==◌, ◌&&◌, ◌||◌, not, nat_le, List, [], ◌∷◌, Option, Some, None, is_none, option_map, if◌then◌else◌}
 use Rattle.std.specs.List.{find, list_any}
 use Rattle.bz_base.specs.Byte.{zero_byte}
