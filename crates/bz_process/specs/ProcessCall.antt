@@ -19,7 +19,8 @@ use Rattle.bz_proc.specs.PerfId.{ns_tgid_of, status_path}
 use Rattle.bz_base.specs.declared.pid.Pid.{Pid}
 use Rattle.bz_process.specs.Process.{Outcome, Step, pid_cmp, remembered}
 use Rattle.bz_process.specs.Remembered.{Remembered}
-use Rattle.bz_process.specs.Caches.{ProcessCaches}
+use Rattle.bz_process.specs.Caches.{ProcessCaches, caches}
+use Rattle.bz_process.specs.declared.perf_maps.PerfMaps.{PerfMaps}
 
 -- what may change in what is kept of processes: a look at a path that has this, or a process that is remembered
 pub data Change : Type 0 where
@@ -80,6 +81,11 @@ pub record TakesStep {A B X : Type 0} (files : Ghosts X) (own : ℕ) (reading : 
   pub perf_maps : StaysKept perf.format_test old.perf_maps now.perf_maps
   -- of the files: they are only looked at
   pub looked : Looked files before after (Faulted result)
+
+-- a step of the perf maps and of what is remembered of processes, beside any ELF files
+abbrev pub StepsPerfMaps : {A B X : Type 0} → Ghosts X → ℕ → (A → B) → Step B → Result A Error → PerfMaps → PerfMaps → X → X → Type 0
+StepsPerfMaps files own reading expected result old now before after =
+    (elf : Cache) → TakesStep files own reading expected result (caches elf old) (caches elf now) before after
 
 -- an answer, where a file that is absent makes the address unknown
 abbrev pub softened : Result Symbolized Error → Result Symbolized Error

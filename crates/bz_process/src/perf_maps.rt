@@ -16,7 +16,7 @@ ghost use Rattle.bz_proc.specs.PerfMap as perf;
 ghost use Rattle.bz_process.specs.Asked.{asked_of};
 ghost use Rattle.bz_process.specs.Caches.{caches};
 ghost use Rattle.bz_process.specs.Process.{and_then, asks_perf_map, by_asked, by_perf_map, of_perf_map, pid_cmp, remember, remembered};
-ghost use Rattle.bz_process.specs.ProcessCall.{TakesStep, softened};
+ghost use Rattle.bz_process.specs.ProcessCall.{StepsPerfMaps, softened};
 ghost use Rattle.bz_process.specs.Untold.{IsKnown, LooksAtPerfMap, LooksSoftly, MayLackId, SomeByAsked, as_read};
 
 use crate::known::Known;
@@ -45,7 +45,7 @@ impl PerfMaps {
         query: &ProcessQuery,
         addr: Addr,
     ) -> Result<Symbolized<'static>>
-        ensures step { (elf : Cache) → TakesStep F.Files (F.pid files.old) reading (by_asked query.now.perf_map (asked_of (F.pid files.old) query.now) addr) result (caches elf self.old) (caches elf self.new) files.old files.new }
+        ensures step { StepsPerfMaps F.Files (F.pid files.old) reading (by_asked query.now.perf_map (asked_of (F.pid files.old) query.now) addr) result self.old self.new files.old files.new }
         ensures some { (elf : Cache) → SomeByAsked (asked_of (F.pid files.old) query.now) (as_read reading result) (caches elf self.old) (caches elf self.new) query.now.perf_map addr }
     {
         if query.perf_map {
@@ -63,7 +63,7 @@ impl PerfMaps {
         pid: Pid,
         addr: Addr,
     ) -> Result<Symbolized<'static>>
-        ensures step { (elf : Cache) → TakesStep F.Files (F.pid files.old) reading (by_perf_map pid (F.pid files.old) addr) result (caches elf self.old) (caches elf self.new) files.old files.new }
+        ensures step { StepsPerfMaps F.Files (F.pid files.old) reading (by_perf_map pid (F.pid files.old) addr) result self.old self.new files.old files.new }
         ensures some { (elf : Cache) → LooksSoftly (as_read reading result) (caches elf self.old) (caches elf self.new) pid (F.pid files.old) addr }
     {
         unless_absent(self.look_in_perf_map(alloc, files, pid, addr))
@@ -77,7 +77,7 @@ impl PerfMaps {
         pid: Pid,
         addr: Addr,
     ) -> Result<Symbolized<'static>>
-        ensures step { (elf : Cache) → TakesStep F.Files (F.pid files.old) reading (and_then (remember pid (F.pid files.old)) (λ known. of_perf_map (asks_perf_map addr) known.perf_map)) result (caches elf self.old) (caches elf self.new) files.old files.new }
+        ensures step { StepsPerfMaps F.Files (F.pid files.old) reading (and_then (remember pid (F.pid files.old)) (λ known. of_perf_map (asks_perf_map addr) known.perf_map)) result self.old self.new files.old files.new }
         ensures some { (elf : Cache) → LooksAtPerfMap (as_read reading result) (caches elf self.old) (caches elf self.new) pid (F.pid files.old) addr }
     {
         let known = self.known(alloc, files, pid)?;
@@ -92,7 +92,7 @@ impl PerfMaps {
         files: &mut F,
         pid: Pid,
     ) -> Result<Known>
-        ensures step { (elf : Cache) → TakesStep F.Files (F.pid files.old) (λ known. known) (remember pid (F.pid files.old)) result (caches elf self.old) (caches elf self.new) files.old files.new }
+        ensures step { StepsPerfMaps F.Files (F.pid files.old) (λ known. known) (remember pid (F.pid files.old)) result self.old self.new files.old files.new }
         ensures ok { IfOk result (λ known. self.new ≡ record self.old { ids = with_absent pid_cmp self.old.ids pid known }) }
         ensures err { OnErr result (self.new ≡ self.old) }
         ensures some { IfOk result (IsKnown pid (F.pid files.old) (value_at pid_cmp self.old.ids pid)) }
@@ -107,7 +107,7 @@ impl PerfMaps {
     // Remembers a process by its status.
     fn remember<F: Files>(&mut self, alloc: Global, files: &mut F, pid: Pid) -> Result<Known>
         requires { value_at pid_cmp self.old.ids pid ≡ None }
-        ensures step { (elf : Cache) → TakesStep F.Files (F.pid files.old) (λ known. known) (remember pid (F.pid files.old)) result (caches elf self.old) (caches elf self.new) files.old files.new }
+        ensures step { StepsPerfMaps F.Files (F.pid files.old) (λ known. known) (remember pid (F.pid files.old)) result self.old self.new files.old files.new }
         ensures ok { IfOk result (λ known. self.new ≡ record self.old { ids = with_absent pid_cmp self.old.ids pid known }) }
         ensures err { OnErr result (self.new ≡ self.old) }
         ensures some { IfOk result (IsKnown pid (F.pid files.old) None) }
