@@ -14,13 +14,14 @@ use Rattle.bz_proc.specs.Maps.{Mapping}
 use Rattle.bz_proc.specs.MapsFile.{AreOfText}
 use Rattle.bz_proc.specs.PerfMap as perf
 use Rattle.bz_proc.specs.SystemText.{IsReadRefusal}
-use Rattle.bz_process.specs.Caches.{ProcessCaches}
+use Rattle.bz_process.specs.Caches.{ProcessCaches, caches}
 use Rattle.bz_process.specs.Caching.{Caching, KeptMappings, caches_process, mappings_after, perf_map_pinning, with_mappings}
 use Rattle.bz_process.specs.Process.{Outcome, Step, pid_cmp}
 use Rattle.bz_process.specs.ProcessCall.{Change, IsTold, StaysKept, changed}
 use Rattle.bz_process.specs.Processes.{KeptProcesses, caches_of}
 use Rattle.bz_process.specs.Remembered.{Remembered}
 use Rattle.bz_process.specs.Untold.{IsKnown}
+use Rattle.bz_process.specs.declared.perf_maps.PerfMaps.{PerfMaps}
 
 -- what caching may change: what a call may that answers, and whether the path of a perf map is pinned, if it is held
 pub data CachingChange : Type 0 where
@@ -62,6 +63,11 @@ pub record TakesWhole {A B X : Type 0} (files : Ghosts X) (own : ℕ) (reading :
   -- of the files: they are only looked at
   pub looked : Looked files before after (Faulted result)
 
+-- such a step of the perf maps and of what is remembered of processes, beside any ELF files
+abbrev pub KeepsWhole : {X : Type 0} → Ghosts X → ℕ → Step (Unit {0}) → Result (Unit {0}) Error → PerfMaps → PerfMaps → X → X → Type 0
+KeepsWhole files own expected result old now before after =
+    (elf : Cache) → TakesWhole files own (λ (done : Unit {0}). done) expected result (caches elf old) (caches elf now) before after
+
 -- the mappings of this process alone may be others, and only where they are asked for
 pub record MayKeep (asked : Caching) (old now : KeptMappings) : Type 0 where
   pub mappings : List Mapping
@@ -100,5 +106,6 @@ pub record CachesProcess {D R X : Type 0} (files : Ghosts X) (asked : Caching) (
   -- nothing else changes
   pub dispatcher : now.dispatcher ≡ old.dispatcher
   pub answers : now.answers ≡ old.answers
-  -- the perf maps that it found were well kept: each version is in its format
+  -- not what the call does, but what it found: each version of a perf map that was kept is in its format. Callers learn it only
+  -- here, and by it they show that a held version isn't refused
   pub found : Consistent perf.format_test old.perf_maps

@@ -10,11 +10,10 @@ ghost use Rattle.bz_files.specs.World.{Told, entry_at, in_view};
 ghost use Rattle.bz_proc.specs.Maps.{Mapping};
 ghost use Rattle.bz_proc.specs.MapsFile.{AreOfText, maps_path, maps_told};
 ghost use Rattle.bz_proc.specs.SystemText.{IsReadRefusal};
-ghost use Rattle.bz_process.specs.Caches.{caches};
+ghost use Rattle.bz_process.specs.Caches.{ProcessCaches, caches};
 ghost use Rattle.bz_process.specs.Caching.{after_mappings, caches_perf_map, caches_process, caching_of, is_gone, mappings_after, perf_map_pinning, pins_perf_map, with_former, with_mappings, with_told};
-ghost use Rattle.bz_process.specs.CachingCall.{MayKeep, MayPin, PinsKnown, TakesWhole};
+ghost use Rattle.bz_process.specs.CachingCall.{KeepsWhole, MayKeep, MayPin, PinsKnown, TakesWhole};
 ghost use Rattle.bz_process.specs.Process.{and_then, pid_cmp, remember};
-ghost use Rattle.bz_process.specs.Remembered.{Remembered};
 
 use crate::mapped::{Mapped, read_mapped};
 use crate::perf_maps::PerfMaps;
@@ -44,7 +43,7 @@ pub(crate) fn cache_process<F: Files>(
     files: &mut F,
     request: &ProcessCaching,
 ) -> Result<()>
-    ensures step { (elf : Cache) → TakesWhole F.Files (F.pid files.old) (λ (done : Unit {0}). done) (caches_process (caching_of (F.pid files.old) request.now)) result (caches elf perf_maps.old) (caches elf perf_maps.new) files.old files.new }
+    ensures step { KeepsWhole F.Files (F.pid files.old) (caches_process (caching_of (F.pid files.old) request.now)) result perf_maps.old perf_maps.new files.old files.new }
     ensures mappings { Told (in_view (F.worlds files.old)) (λ world. OnOk result (mappings.new ≡ mappings_after (caching_of (F.pid files.old) request.now) world mappings.old)) }
     ensures some { OnOk result (MayKeep (caching_of (F.pid files.old) request.now) mappings.old mappings.new) }
     ensures pinned { (elf : Cache) → OnOk result (MayPin request.now.cache_perf_map request.now.pid (F.pid files.old) (in_view (F.worlds files.old)) (caches elf perf_maps.old) (caches elf perf_maps.new)) }
@@ -67,7 +66,7 @@ fn cache_mapped<F: Files>(
     files: &mut F,
     request: &ProcessCaching,
 ) -> Result<()>
-    ensures step { (elf : Cache) → TakesWhole F.Files (F.pid files.old) (λ (done : Unit {0}). done) (after_mappings true request.now.pid (caches_perf_map request.now.cache_perf_map request.now.pid (F.pid files.old))) result (caches elf perf_maps.old) (caches elf perf_maps.new) files.old files.new }
+    ensures step { KeepsWhole F.Files (F.pid files.old) (after_mappings true request.now.pid (caches_perf_map request.now.cache_perf_map request.now.pid (F.pid files.old))) result perf_maps.old perf_maps.new files.old files.new }
     ensures mappings { Told (in_view (F.worlds files.old)) (λ world. OnOk result (mappings.new ≡ with_told request.now.pid mappings.old (maps_told request.now.pid (entry_at world (maps_path request.now.pid))))) }
     ensures some { OnOk result ((told : List Mapping) × AreOfText request.now.pid told × (mappings.new ≡ with_mappings request.now.pid mappings.old told)) }
     ensures pinned { (elf : Cache) → OnOk result (MayPin request.now.cache_perf_map request.now.pid (F.pid files.old) (in_view (F.worlds files.old)) (caches elf perf_maps.old) (caches elf perf_maps.new)) }
@@ -129,7 +128,7 @@ impl PerfMaps {
         files: &mut F,
         request: &ProcessCaching,
     ) -> Result<()>
-        ensures step { (elf : Cache) → TakesWhole F.Files (F.pid files.old) (λ (done : Unit {0}). done) (caches_perf_map request.now.cache_perf_map request.now.pid (F.pid files.old)) result (caches elf self.old) (caches elf self.new) files.old files.new }
+        ensures step { KeepsWhole F.Files (F.pid files.old) (caches_perf_map request.now.cache_perf_map request.now.pid (F.pid files.old)) result self.old self.new files.old files.new }
         ensures pinned { (elf : Cache) → OnOk result (MayPin request.now.cache_perf_map request.now.pid (F.pid files.old) (in_view (F.worlds files.old)) (caches elf self.old) (caches elf self.new)) }
         ensures refusal { IfErr result IsReadRefusal }
         ensures sure { request.now.cache_perf_map ≡ false → IsOk result }
@@ -143,7 +142,7 @@ impl PerfMaps {
 
     // Remembers a process and pins its perf map.
     fn pin<F: Files>(&mut self, alloc: Global, files: &mut F, pid: Pid) -> Result<()>
-        ensures step { (elf : Cache) → TakesWhole F.Files (F.pid files.old) (λ (done : Unit {0}). done) (and_then (remember pid (F.pid files.old)) (λ known. pins_perf_map known.perf_map)) result (caches elf self.old) (caches elf self.new) files.old files.new }
+        ensures step { KeepsWhole F.Files (F.pid files.old) (and_then (remember pid (F.pid files.old)) (λ known. pins_perf_map known.perf_map)) result self.old self.new files.old files.new }
         ensures pinned { (elf : Cache) → OnOk result (PinsKnown pid (F.pid files.old) (in_view (F.worlds files.old)) (caches elf self.old) (caches elf self.new)) }
         ensures refusal { IfErr result IsReadRefusal }
     {
@@ -184,7 +183,7 @@ fn pin_perf_map<F: Files>(
     files: &mut F,
     path: &str,
 ) -> Result<()>
-    ensures step { (own : ℕ) (elf : Cache) (ids : List (Pid × Remembered)) → TakesWhole F.Files own (λ (done : Unit {0}). done) (pins_perf_map path.now) result (record { elf = elf; perf_maps = cache.old; ids = ids }) (record { elf = elf; perf_maps = cache.new; ids = ids }) files.old files.new }
+    ensures step { (own : ℕ) (kept : ProcessCaches) → TakesWhole F.Files own (λ (done : Unit {0}). done) (pins_perf_map path.now) result (record kept { perf_maps = cache.old }) (record kept { perf_maps = cache.new }) files.old files.new }
     ensures left { OnOk result (IsLeft (perf_map_pinning cache.old path.now) path.now (in_view (F.worlds files.old)) cache.new) }
     ensures refusal { IfErr result IsReadRefusal }
 {

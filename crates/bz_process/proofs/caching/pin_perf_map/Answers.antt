@@ -4,8 +4,8 @@ use Rattle.bz_process.proofs.caching.pin_perf_map.Goals as goal
 
 -- an absent perf map is pinned as it is held
 pub returns-then-is_gone-clause-step : goal.returns-then-is_gone-clause-step
-returns-then-is_gone-clause-step g c own elf ids =
-    rw c.pin-held.ensures.state (pins_gone g.F.Files own c.args.path.now (record { elf = elf; perf_maps = c.args.cache.now; ids = ids }) c.pin_file-pinned.new.cache c.args.files.now c.pin_file-pinned.new.files c.pin_file-pinned.result
+returns-then-is_gone-clause-step g c own kept =
+    rw c.pin-held.ensures.state (pins_gone g.F.Files own c.args.path.now (record kept { perf_maps = c.args.cache.now }) c.pin_file-pinned.new.cache c.args.files.now c.pin_file-pinned.new.files c.pin_file-pinned.result
     (sym c.is_gone.ensures ∙ c.if-is_gone.true) c.pin_file-pinned.ensures)
 
 pub returns-then-is_gone-clause-left : goal.returns-then-is_gone-clause-left
@@ -15,8 +15,8 @@ returns-then-is_gone-clause-left g c =
 
 -- any other is pinned at the version of a look, or refused
 pub returns-clause-step : goal.returns-clause-step
-returns-clause-step g c own elf ids =
-    pins_stays g.F.Files own c.args.path.now (record { elf = elf; perf_maps = c.args.cache.now; ids = ids }) c.pin_file-pinned.new.cache c.args.files.now c.pin_file-pinned.new.files c.pin_file-pinned.result
+returns-clause-step g c own kept =
+    pins_stays g.F.Files own c.args.path.now (record kept { perf_maps = c.args.cache.now }) c.pin_file-pinned.new.cache c.args.files.now c.pin_file-pinned.new.files c.pin_file-pinned.result
     (sym c.is_gone.ensures ∙ c.if-is_gone.false) c.pin_file-pinned.ensures
 
 pub returns-clause-left : goal.returns-clause-left

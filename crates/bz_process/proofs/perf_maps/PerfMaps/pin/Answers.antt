@@ -24,7 +24,7 @@ pub returns-in-Ok-clause-step : goal.returns-in-Ok-clause-step
 returns-in-Ok-clause-step g c elf =
     let own = g.F.Files.pid c.args.files.now in
     let step = rw c.remembers-remembered.ensures.same at (c.in_ok-known.ensures.step elf) in
-    let pin = rw c.perf_map.ensures at (c.in-Ok.ensures.step own elf c.known.new.self.ids) in
+    let pin = rw c.perf_map.ensures at (c.in-Ok.ensures.step own (caches elf c.known.new.self)) in
     whole_next g.F.Files own (λ (k : Remembered). k) (remember c.args.pid own) (λ (k : Remembered). pins_perf_map k.perf_map) c.in_ok-known.known (Ok tt)
     (caches elf c.args.self.now) (caches elf c.known.new.self) (record { elf = elf; perf_maps = c.pin_perf_map.new.cache; ids = c.known.new.self.ids }) _
     c.args.files.now c.known.new.files c.pin_perf_map.new.files step pin refl tt
@@ -35,7 +35,7 @@ returns-clause-step g c elf =
     let own = g.F.Files.pid c.args.files.now in
     let step = rw c.remembers-remembered.ensures.same at (c.in_ok-known.ensures.step elf) in
     let noted = rw c.remembers-remembered.ensures.same at c.in_ok-known.ensures.ok in
-    let pin = rw c.perf_map.ensures at (c.in-Err.ensures.step own elf c.known.new.self.ids) in
+    let pin = rw c.perf_map.ensures at (c.in-Err.ensures.step own (caches elf c.known.new.self)) in
     whole_next g.F.Files own (λ (k : Remembered). k) (remember c.args.pid own) (λ (k : Remembered). pins_perf_map k.perf_map) c.in_ok-known.known (Err c.in-Err.error)
     (caches elf c.args.self.now) (caches elf c.known.new.self) (record { elf = elf; perf_maps = c.pin_perf_map.new.cache; ids = c.known.new.self.ids }) _
     c.args.files.now c.known.new.files c.pin_perf_map.new.files step pin tt
