@@ -27,10 +27,11 @@ use Rattle.bz_proc.specs.declared.maps.PathName.{PathName}
 use Rattle.bz_process.specs.Dispatch.{Adds, Answers, IsSaid, Keeps, Test, kept_for}
 use Rattle.bz_process.specs.Member.{as_member}
 use Rattle.bz_process.specs.Process.{Batched, Outcome, Said, at_address, at_addresses, batched, by_asked, by_mapping, by_owner, by_said, unsaid}
-use Rattle.bz_process.specs.ProcessAsk.{AddsAmong, AddsIn, AsksAll, AsksFront, AsksOne, IsAdded, IsSaidAt, IsSaidBy, IsSaidIn, SaidInTurn, next_of}
+use Rattle.bz_process.specs.ProcessAsk.{AddsAmong, AddsIn, AsksAddress, AsksAll, AsksFront, AsksNamed, IsAdded, IsSaidAt, IsSaidBy, IsSaidIn, SaidInTurn, next_of, readings}
 use Rattle.bz_process.specs.ProcessCall.{Reaches, TakesStep, UnlessFailed}
 use Rattle.bz_process.specs.Asked.{Asked}
 use Rattle.bz_process.specs.Caches.{ProcessCaches}
+use Rattle.bz_process.specs.Terms.{Kept, Terms}
 use Rattle.bz_process.specs.Untold.{SaysNoFault, SomeAtAddress, SomeAtAddresses, SomeByAsked, SomeByMapping, SomeByOwner, SomeBySaid, Unfailing, as_read}
 use Rattle.bz_process.proofs.UntoldLemmas.{gives_self, some_last}
 use Rattle.bz_process.proofs.ProcessLemmas.{looked_both, reaches_both, reaches_same, stays, stays_both, still, unlooked, wants_memory}
@@ -98,9 +99,6 @@ pub refused_so : {A B : Type 0} (read : A → B) (e : Error) → Comes read (Err
 refused_so read errors.ReadFault = tt
 refused_so read errors.OutOfMemory = tt
 refused_so read _ = refl
-
-abbrev pub read : Vec Symbolized Global → List Answer
-read answers = map reading answers.items
 
 -- files that were looked at for an entry
 pub looked_ok : {X : Type 0} (files : Ghosts X) (result : Result Symbolized Error) (entry : Symbolized) (middle after : X) → IfErr result (λ e. IsFailure e → IsErrOf {T = Symbolized} (Ok entry) e) →
@@ -170,7 +168,7 @@ module _ {X : Type 0} (files : Ghosts X) (asked : Asked) where
     answers_last (first ∷ front) item world kept = ap (λ (answers : List Answer). in_batch (O first world kept).answer ∷ answers) (answers_last front item world (O first world kept).left)
 
     -- no address was asked
-    pub step_none : (answers : Vec Symbolized Global) (kept : ProcessCaches) (at : X) → answers.items ≡ [] → TakesStep files asked.own read (at_addresses asked mappings []) (Ok answers) kept kept at at
+    pub step_none : (answers : Vec Symbolized Global) (kept : ProcessCaches) (at : X) → answers.items ≡ [] → TakesStep files asked.own readings (at_addresses asked mappings []) (Ok answers) kept kept at at
     step_none answers kept at is = record {
       told = λ world seen. record { answer = ap (λ (items : List Symbolized). Ok (map reading items)) (sym is); left = refl; opened = omega arith };
       reached = reaches_same asked.own _ kept;
@@ -181,11 +179,11 @@ module _ {X : Type 0} (files : Ghosts X) (asked : Asked) where
 
     -- one more address was asked, and its answer is an entry
     pub step_more : (front : List (ℕ × Said)) (item : ℕ × Said) (answers more : Vec Symbolized Global) (result : Result Symbolized Error) (entry : Symbolized) (old mid now : ProcessCaches) (before middle after : X) →
-        TakesStep files asked.own read (at_addresses asked mappings front) (Ok answers) old mid before middle →
+        TakesStep files asked.own readings (at_addresses asked mappings front) (Ok answers) old mid before middle →
         TakesStep files asked.own reading (at_address asked mappings item) result mid now middle after →
         ((expected : Result Answer Error) → Gives reading expected result → reading entry ≡ in_batch expected) →
         IfErr result (λ e. IsFailure e → IsErrOf {T = Symbolized} (Ok entry) e) → more.items ≡ answers.items ++ entry ∷ [] →
-        TakesStep files asked.own read (at_addresses asked mappings (front ++ item ∷ [])) (Ok more) old now before after
+        TakesStep files asked.own readings (at_addresses asked mappings (front ++ item ∷ [])) (Ok more) old now before after
     step_more front item answers more result entry old mid now before middle after one two is unfailed pushed =
         let same : in_view (files.worlds middle) ≡ in_view (files.worlds before) = ap in_view one.looked.worlds in
         record {
@@ -194,13 +192,13 @@ module _ {X : Type 0} (files : Ghosts X) (asked : Asked) where
               let second = two.told world (same ∙ seen) in
               let kept_is : mid ≡ (B front world old).left = first.left in
               let left_is : now ≡ (O item world mid).left = unfailing result entry _ unfailed second.left in
-              let answers_are : (B front world old).answers ≡ read answers = cc first.answer in
+              let answers_are : (B front world old).answers ≡ readings answers = cc first.answer in
               let entry_is : reading entry ≡ in_batch (O item world mid).answer = is _ (gives_comes result entry _ unfailed second.answer) in
               let opened : files.opens after ≤ files.opens middle + (O item world (B front world old).left).opens = subst (λ (k : ProcessCaches). files.opens after ≤ files.opens middle + (O item world k).opens) kept_is second.opened in
               record {
                 answer = ap Ok (answers_last front item world old
                     ∙ ap₂ (λ (all : List Answer) (k : ProcessCaches). all ++ in_batch (O item world k).answer ∷ []) answers_are (sym kept_is)
-                    ∙ ap (λ (a : Answer). read answers ++ a ∷ []) (sym entry_is)
+                    ∙ ap (λ (a : Answer). readings answers ++ a ∷ []) (sym entry_is)
                     ∙ sym (map-append reading answers.items (entry ∷ []))
                     ∙ ap (map reading) (sym pushed));
                 left = left_is ∙ ap (λ (k : ProcessCaches). (O item world k).left) kept_is ∙ sym (left_last front item world old);
@@ -214,7 +212,7 @@ module _ {X : Type 0} (files : Ghosts X) (asked : Asked) where
 
     -- and what is left then is expected
     pub left_more : (front : List (ℕ × Said)) (item : ℕ × Said) (answers : Vec Symbolized Global) (result : Result Symbolized Error) (entry : Symbolized) (old mid now : ProcessCaches) (before middle after : X) →
-        TakesStep files asked.own read (at_addresses asked mappings front) (Ok answers) old mid before middle →
+        TakesStep files asked.own readings (at_addresses asked mappings front) (Ok answers) old mid before middle →
         TakesStep files asked.own reading (at_address asked mappings item) result mid now middle after →
         IfErr result (λ e. IsFailure e → IsErrOf {T = Symbolized} (Ok entry) e) → Told (in_view (files.worlds before)) (λ world. now ≡ (B (front ++ item ∷ []) world old).left)
     left_more front item answers result entry old mid now before middle after one two unfailed = λ world seen.
@@ -226,10 +224,10 @@ module _ {X : Type 0} (files : Ghosts X) (asked : Asked) where
     -- the batch failed at an address, or after it
     pub step_fails : (front : List (ℕ × Said)) (item : ℕ × Said) (all : List (ℕ × Said)) (answers : Vec Symbolized Global) (result : Result Symbolized Error) (e : Error) (old mid now : ProcessCaches) (before middle after : X) →
         ((world : World) → (B front world old).opens + (O item world (B front world old).left).opens ≤ (B all world old).opens) →
-        TakesStep files asked.own read (at_addresses asked mappings front) (Ok answers) old mid before middle →
+        TakesStep files asked.own readings (at_addresses asked mappings front) (Ok answers) old mid before middle →
         TakesStep files asked.own reading (at_address asked mappings item) result mid now middle after →
         IsFailure e → Looked files before after (Faulted {A = Vec Symbolized Global} (Err e)) →
-        TakesStep files asked.own read (at_addresses asked mappings all) (Err e) old now before after
+        TakesStep files asked.own readings (at_addresses asked mappings all) (Err e) old now before after
     step_fails front item all answers result e old mid now before middle after few one two failure looked =
         let same : in_view (files.worlds middle) ≡ in_view (files.worlds before) = ap in_view one.looked.worlds in
         record {
@@ -240,7 +238,7 @@ module _ {X : Type 0} (files : Ghosts X) (asked : Asked) where
               let opened : files.opens after ≤ files.opens middle + (O item world (B front world old).left).opens =
               subst (λ (k : ProcessCaches). files.opens after ≤ files.opens middle + (O item world k).opens) kept_is second.opened in
               record {
-                answer = comes_failed read _ e failure;
+                answer = comes_failed readings _ e failure;
                 left = left_failed (Vec Symbolized Global) e _ failure;
                 opened = omega (arith, first.opened, opened, few world);
               };
@@ -320,90 +318,80 @@ module _ {R : Type 0} (test : Test R) (translates : Translates R) (finds : Finds
 pub split_at_next : (addrs : List ℕ) (i : ℕ) → i < length addrs → take i addrs ++ (get_or addrs i 0 ∷ drop (suc i) addrs) ≡ addrs
 split_at_next addrs i lt = ap (λ (rest : List ℕ). take i addrs ++ rest) (sym (drop-cons addrs i 0 lt)) ∙ take-append-drop i addrs
 
-module _ {R X : Type 0} (files : Ghosts X) (test : Test R) (translates : Translates R) (finds : Finds R) (opts : FindSymOpts) (asked : Asked) where
-  -- an address of a mapping of this
-  pub in_named : (mapping : Mapping) (name : PathName) (named : Option Name) (addr : ℕ) (result : Result Symbolized Error) (old now : ProcessCaches) (answers answers_now : Answers R) (before after : X) →
-      named ≡ Some (name_of name) →
-      AsksOne files asked.own reading (IsSaid test translates finds opts mapping name addr answers answers_now) (SomeBySaid asked (as_read reading result) old now mapping addr (name_of name)) (by_said asked mapping addr (name_of name)) result old now before after →
-      AsksOne files asked.own reading (IsSaidIn test translates finds opts mapping named addr answers answers_now) (λ said. SomeByMapping asked (as_read reading result) old now mapping addr said named) (λ said. by_mapping asked mapping addr said named) result old now before after
-  in_named mapping name named addr result old now answers answers_now before after is one =
-      rw is (record { said = one.said; allowed = unless_map result _ _ (λ allowed. (name, refl, allowed)) one.allowed; faultless = one.faultless; some = one.some; step = one.step })
+module _ {R X : Type 0} (files : Ghosts X) (terms : Terms R) where
+  -- something was said for an address of a mapping of this
+  pub in_named : (mapping : Mapping) (name : PathName) (named : Option Name) (addr : ℕ) (said : Said) (result : Result Symbolized Error) (old now : Kept R) (before after : X) →
+      named ≡ Some (name_of name) → UnlessFailed result (IsSaid terms.test terms.translates terms.finds terms.opts mapping name addr old.answers now.answers said) → SaysNoFault said →
+      SomeBySaid terms.asked (as_read reading result) old.caches now.caches mapping addr (name_of name) said →
+      TakesStep files terms.asked.own reading (by_said terms.asked mapping addr (name_of name) said) result old.caches now.caches before after →
+      AsksNamed files terms mapping named addr result old now before after
+  in_named mapping name named addr said result old now before after is allowed faultless some step =
+      rw is (record { said = said; allowed = unless_map result _ _ (λ allowed. (name, refl, allowed)) allowed; faultless = faultless; some = some; step = step })
 
   -- an address of a mapping that is of nothing
   pub in_unnamed : (mapping : Mapping) (named : Option Name) (addr : ℕ) (result : Result Symbolized Error) (old now : ProcessCaches) (answers : Answers R) (before after : X) → named ≡ None →
-      TakesStep files asked.own reading (by_asked asked.perf_map asked addr) result old now before after →
-      SomeByAsked asked (as_read reading result) old now asked.perf_map addr →
-      AsksOne files asked.own reading (IsSaidIn test translates finds opts mapping named addr answers answers) (λ said. SomeByMapping asked (as_read reading result) old now mapping addr said named) (λ said. by_mapping asked mapping addr said named) result old now before after
+      TakesStep files terms.asked.own reading (by_asked terms.asked.perf_map terms.asked addr) result old now before after →
+      SomeByAsked terms.asked (as_read reading result) old now terms.asked.perf_map addr →
+      AsksNamed files terms mapping named addr result (record { caches = old; answers = answers }) (record { caches = now; answers = answers }) before after
   in_unnamed mapping named addr result old now answers before after is step some = rw is (record { said = None; allowed = unless result _ refl; faultless = tt; some = some; step = step })
 
-  pub adds_named : (mapping : Mapping) (name : PathName) (answers answers_now : Answers R) → mapping.name ≡ Some (name_of name) → Adds test mapping name answers answers_now → AddsIn test mapping answers answers_now
+  pub adds_named : (mapping : Mapping) (name : PathName) (answers answers_now : Answers R) → mapping.name ≡ Some (name_of name) → Adds terms.test mapping name answers answers_now → AddsIn terms.test mapping answers answers_now
   adds_named mapping name answers answers_now named adds other answer kept = by_added (adds other answer kept)
     where
-      by_added : (kept_for answers other ≡ Some answer) ⊎ ((is_at (name_order other) name ≡ true) × test (as_member mapping (name_of name)) (Ok answer)) →
-          (kept_for answers other ≡ Some answer) ⊎ ((own : PathName) × (mapping.name ≡ Some (name_of own)) × (is_at (name_order other) own ≡ true) × test (as_member mapping (name_of own)) (Ok answer))
+      by_added : (kept_for answers other ≡ Some answer) ⊎ ((is_at (name_order other) name ≡ true) × terms.test (as_member mapping (name_of name)) (Ok answer)) →
+          (kept_for answers other ≡ Some answer) ⊎ ((own : PathName) × (mapping.name ≡ Some (name_of own)) × (is_at (name_order other) own ≡ true) × terms.test (as_member mapping (name_of own)) (Ok answer))
       by_added (inl was) = inl was
       by_added (inr added) = inr (name, named, added.0, added.1)
 
   module _ (mappings : List Mapping) where
     -- an address that no mapping has
-    pub unmapped : (addr : ℕ) (kept : ProcessCaches) (answers : Answers R) (at : X) → owner_of mappings addr ≡ None →
-        AsksOne files asked.own reading (IsSaidAt test translates finds opts mappings addr answers answers) (λ said. SomeAtAddress asked (Ok (Unknown reasons.Unmapped)) kept kept mappings (addr, said)) (λ said. at_address asked mappings (addr, said)) (Ok (symbolized.Unknown reasons.Unmapped)) kept kept at at
-    unmapped addr kept answers at none = record {
+    pub unmapped : (addr : ℕ) (kept : Kept R) (at : X) → owner_of mappings addr ≡ None → AsksAddress files terms mappings addr (Ok (symbolized.Unknown reasons.Unmapped)) kept kept at at
+    unmapped addr kept at none = record {
       said = None;
-      allowed = subst (λ (o : Option Mapping). IsSaidBy test translates finds opts o addr answers answers None) (sym none) refl;
+      allowed = subst (λ (o : Option Mapping). IsSaidBy terms.test terms.translates terms.finds terms.opts o addr kept.answers kept.answers None) (sym none) refl;
       faultless = tt;
-      some = subst (λ (o : Option Mapping). SomeByOwner asked (Ok (Unknown reasons.Unmapped)) kept kept addr None o) (sym none) (refl, refl);
-      step = rw none (still files asked.own reading (Unknown reasons.Unmapped) _ kept at refl);
+      some = subst (λ (o : Option Mapping). SomeByOwner terms.asked (Ok (Unknown reasons.Unmapped)) kept.caches kept.caches addr None o) (sym none) (refl, refl);
+      step = rw none (still files terms.asked.own reading (Unknown reasons.Unmapped) _ kept.caches at refl);
     }
 
-    pub adds_owned : (addr : ℕ) (mapping : Mapping) (answers answers_now : Answers R) → owner_of mappings addr ≡ Some mapping → AddsIn test mapping answers answers_now → AddsAmong test mappings (addr ∷ []) answers answers_now
+    pub adds_owned : (addr : ℕ) (mapping : Mapping) (answers answers_now : Answers R) → owner_of mappings addr ≡ Some mapping → AddsIn terms.test mapping answers answers_now → AddsAmong terms.test mappings (addr ∷ []) answers answers_now
     adds_owned addr mapping answers answers_now owner adds other answer kept = by_added (adds other answer kept)
       where
-        by_added : (kept_for answers other ≡ Some answer) ⊎ ((own : PathName) × (mapping.name ≡ Some (name_of own)) × (is_at (name_order other) own ≡ true) × test (as_member mapping (name_of own)) (Ok answer)) →
-            (kept_for answers other ≡ Some answer) ⊎ IsAdded test mappings (addr ∷ []) other answer
+        by_added : (kept_for answers other ≡ Some answer) ⊎ ((own : PathName) × (mapping.name ≡ Some (name_of own)) × (is_at (name_order other) own ≡ true) × terms.test (as_member mapping (name_of own)) (Ok answer)) →
+            (kept_for answers other ≡ Some answer) ⊎ IsAdded terms.test mappings (addr ∷ []) other answer
         by_added (inl was) = inl was
         by_added (inr added) = inr (record { addr = addr; there = (0, omega arith, refl); mapping = mapping; owner = owner; name = added.0; named = added.1; same = added.2; allowed = added.3 })
 
-    abbrev Front : List ℕ → Vec Symbolized Global → ProcessCaches → ProcessCaches → Answers R → Answers R → X → X → Type 0
-    Front addrs given old now answers answers_now before after = AsksFront files read test translates finds opts asked mappings addrs given old now answers answers_now before after
+    pub front_none : (given : Vec Symbolized Global) (kept : Kept R) (at : X) → given.items ≡ [] → AsksFront files terms mappings [] given kept kept at at
+    front_none given kept at is =
+        record { front = []; addrs_are = refl; allowed = λ n a kept. kept; some = (ap (map reading) is, refl); step = step_none files terms.asked mappings given kept.caches at is; keeps = λ n a kept. kept; adds = λ n a kept. inl kept }
 
-    abbrev One : ℕ → Result Symbolized Error → ProcessCaches → ProcessCaches → Answers R → Answers R → X → X → Type 0
-    One addr result old now answers answers_now before after =
-        AsksOne files asked.own reading (IsSaidAt test translates finds opts mappings addr answers answers_now) (λ said. SomeAtAddress asked (as_read reading result) old now mappings (addr, said)) (λ said. at_address asked mappings (addr, said)) result old now before after
-
-    abbrev All : List ℕ → Result (Vec Symbolized Global) Error → ProcessCaches → ProcessCaches → Answers R → Answers R → X → X → Type 0
-    All addrs result old now answers answers_now before after = AsksAll files read test translates finds opts asked mappings addrs result old now answers answers_now before after
-
-    pub front_none : (given : Vec Symbolized Global) (kept : ProcessCaches) (answers : Answers R) (at : X) → given.items ≡ [] → Front [] given kept kept answers answers at at
-    front_none given kept answers at is =
-        record { front = []; addrs_are = refl; allowed = λ n a kept. kept; some = (ap (map reading) is, refl); step = step_none files asked mappings given kept at is; keeps = λ n a kept. kept; adds = λ n a kept. inl kept }
-
-    pub front_more : (addrs : List ℕ) (addr : ℕ) (given more : Vec Symbolized Global) (result : Result Symbolized Error) (entry : Symbolized) (old mid now : ProcessCaches) (answers answers_mid answers_now : Answers R) (before middle after : X) →
-        Front addrs given old mid answers answers_mid before middle → One addr result mid now answers_mid answers_now middle after →
-        Keeps answers_mid answers_now → AddsAmong test mappings (addr ∷ []) answers_mid answers_now →
+    pub front_more : (addrs : List ℕ) (addr : ℕ) (given more : Vec Symbolized Global) (result : Result Symbolized Error) (entry : Symbolized) (old mid now : Kept R) (before middle after : X) →
+        AsksFront files terms mappings addrs given old mid before middle → AsksAddress files terms mappings addr result mid now middle after →
+        Keeps mid.answers now.answers → AddsAmong terms.test mappings (addr ∷ []) mid.answers now.answers →
         ((expected : Result Answer Error) → Gives reading expected result → reading entry ≡ in_batch expected) →
         IfErr result (λ e. IsFailure e → IsErrOf {T = Symbolized} (Ok entry) e) → more.items ≡ given.items ++ entry ∷ [] →
-        Front (addrs ++ addr ∷ []) more old now answers answers_now before after
-    front_more addrs addr given more result entry old mid now answers answers_mid answers_now before middle after front one keeps adds is unfailed pushed = record {
+        AsksFront files terms mappings (addrs ++ addr ∷ []) more old now before after
+    front_more addrs addr given more result entry old mid now before middle after front one keeps adds is unfailed pushed = record {
       front = front.front ++ (addr, one.said) ∷ [];
       addrs_are = map-append (λ (item : ℕ × Said). item.0) front.front ((addr, one.said) ∷ []) ∙ ap (λ (xs : List ℕ). xs ++ addr ∷ []) front.addrs_are;
-      allowed = turn_last test translates finds opts mappings front.front (addr, one.said) answers answers_mid answers_now front.allowed keeps (unfailing result entry _ unfailed one.allowed);
+      allowed = turn_last terms.test terms.translates terms.finds terms.opts mappings front.front (addr, one.said) old.answers mid.answers now.answers front.allowed keeps (unfailing result entry _ unfailed one.allowed);
       some =
           let entry_is : reading entry ≡ in_batch (as_read reading result) = is (as_read reading result) (gives_self reading result) in
-          let answers_are : read more ≡ read given ++ in_batch (as_read reading result) ∷ [] =
-          ap (map reading) pushed ∙ map-append reading given.items (entry ∷ []) ∙ ap (λ (a : Answer). read given ++ a ∷ []) entry_is in
-          subst (λ (all : List Answer). SomeAtAddresses asked mappings (front.front ++ (addr, one.said) ∷ []) all old now) (sym answers_are)
-          (some_last asked mappings front.front (addr, one.said) (read given) (as_read reading result) old mid now front.some one.some (no_failure result entry unfailed));
-      step = step_more files asked mappings front.front (addr, one.said) given more result entry old mid now before middle after front.step one.step is unfailed pushed;
-      keeps = keeps_both test translates finds opts mappings answers answers_mid answers_now front.keeps keeps;
-      adds = adds_both test translates finds opts mappings addrs (addr ∷ []) (addrs ++ addr ∷ []) answers answers_mid answers_now
+          let answers_are : readings more ≡ readings given ++ in_batch (as_read reading result) ∷ [] =
+          ap (map reading) pushed ∙ map-append reading given.items (entry ∷ []) ∙ ap (λ (a : Answer). readings given ++ a ∷ []) entry_is in
+          subst (λ (all : List Answer). SomeAtAddresses terms.asked mappings (front.front ++ (addr, one.said) ∷ []) all old.caches now.caches) (sym answers_are)
+          (some_last terms.asked mappings front.front (addr, one.said) (readings given) (as_read reading result) old.caches mid.caches now.caches front.some one.some (no_failure result entry unfailed));
+      step = step_more files terms.asked mappings front.front (addr, one.said) given more result entry old.caches mid.caches now.caches before middle after front.step one.step is unfailed pushed;
+      keeps = keeps_both terms.test terms.translates terms.finds terms.opts mappings old.answers mid.answers now.answers front.keeps keeps;
+      adds = adds_both terms.test terms.translates terms.finds terms.opts mappings addrs (addr ∷ []) (addrs ++ addr ∷ []) old.answers mid.answers now.answers
           (Contains-append_left addrs (addr ∷ [])) (Contains-append_right addrs (addr ∷ [])) front.adds adds;
     }
 
     -- all were asked
-    pub all_done : (addrs : List ℕ) (given : Vec Symbolized Global) (old now : ProcessCaches) (answers answers_now : Answers R) (before after : X) →
-        Front addrs given old now answers answers_now before after → All addrs (Ok given) old now answers answers_now before after
-    all_done addrs given old now answers answers_now before after front =
+    pub all_done : (addrs : List ℕ) (given : Vec Symbolized Global) (old now : Kept R) (before after : X) →
+        AsksFront files terms mappings addrs given old now before after → AsksAll files terms mappings addrs (Ok given) old now before after
+    all_done addrs given old now before after front =
         let all : map (λ (item : ℕ × Said). item.0) front.front ++ [] ≡ addrs = append-nil _ ∙ front.addrs_are in
         record {
           front = front.front;
@@ -412,45 +400,45 @@ module _ {R X : Type 0} (files : Ghosts X) (test : Test R) (translates : Transla
           all = refl;
           allowed = front.allowed;
           some = front.some;
-          adds = subst (λ (xs : List ℕ). AddsAmong test mappings xs answers answers_now) (sym all) front.adds;
+          adds = subst (λ (xs : List ℕ). AddsAmong terms.test mappings xs old.answers now.answers) (sym all) front.adds;
           step = rw append-nil front.step;
         }
 
     -- the next address failed
-    pub all_fail : (addrs : List ℕ) (addr : ℕ) (rest whole : List ℕ) (given : Vec Symbolized Global) (result : Result Symbolized Error) (e : Error) (old mid now : ProcessCaches) (answers answers_mid answers_now : Answers R) (before middle after : X) →
+    pub all_fail : (addrs : List ℕ) (addr : ℕ) (rest whole : List ℕ) (given : Vec Symbolized Global) (result : Result Symbolized Error) (e : Error) (old mid now : Kept R) (before middle after : X) →
         addrs ++ (addr ∷ rest) ≡ whole →
-        Front addrs given old mid answers answers_mid before middle → One addr result mid now answers_mid answers_now middle after →
-        Keeps answers_mid answers_now → AddsAmong test mappings (addr ∷ []) answers_mid answers_now →
-        result ≡ Err e → IsFailure e → Looked files before after (Faulted {A = Vec Symbolized Global} (Err e)) → All whole (Err e) old now answers answers_now before after
-    all_fail addrs addr rest whole given result e old mid now answers answers_mid answers_now before middle after whole_is front one keeps adds is failure looked = record {
+        AsksFront files terms mappings addrs given old mid before middle → AsksAddress files terms mappings addr result mid now middle after →
+        Keeps mid.answers now.answers → AddsAmong terms.test mappings (addr ∷ []) mid.answers now.answers →
+        result ≡ Err e → IsFailure e → Looked files before after (Faulted {A = Vec Symbolized Global} (Err e)) → AsksAll files terms mappings whole (Err e) old now before after
+    all_fail addrs addr rest whole given result e old mid now before middle after whole_is front one keeps adds is failure looked = record {
       front = front.front;
       rest = addr ∷ rest;
       addrs_are = ap (λ (xs : List ℕ). xs ++ (addr ∷ rest)) front.addrs_are ∙ whole_is;
       all = tt;
-      allowed = turn_longer test translates finds opts mappings front.front answers answers_mid answers_now front.allowed keeps;
+      allowed = turn_longer terms.test terms.translates terms.finds terms.opts mappings front.front old.answers mid.answers now.answers front.allowed keeps;
       some = record {
         failure = failure;
-        answers = read given;
-        middle = mid;
+        answers = readings given;
+        middle = mid.caches;
         some = front.some;
         told = λ world seen. (front.step.told world seen).left;
-        ends = inr (one.said, one.faultless, subst (λ (r : Result Symbolized Error). SomeAtAddress asked (as_read reading r) mid now mappings (addr, one.said)) is one.some);
+        ends = inr (one.said, one.faultless, subst (λ (r : Result Symbolized Error). SomeAtAddress terms.asked (as_read reading r) mid.caches now.caches mappings (addr, one.said)) is one.some);
       };
-      adds = subst (λ (xs : List ℕ). AddsAmong test mappings (xs ++ addr ∷ []) answers answers_now) (sym front.addrs_are)
-          (adds_both test translates finds opts mappings addrs (addr ∷ []) (addrs ++ addr ∷ []) answers answers_mid answers_now
+      adds = subst (λ (xs : List ℕ). AddsAmong terms.test mappings (xs ++ addr ∷ []) old.answers now.answers) (sym front.addrs_are)
+          (adds_both terms.test terms.translates terms.finds terms.opts mappings addrs (addr ∷ []) (addrs ++ addr ∷ []) old.answers mid.answers now.answers
           (Contains-append_left addrs (addr ∷ [])) (Contains-append_right addrs (addr ∷ [])) front.adds adds);
-      step = step_fails files asked mappings front.front (addr, one.said) (front.front ++ map unsaid (addr ∷ [])) given result e old mid now before middle after
-          (few_at files asked mappings front.front addr one.said old) front.step one.step failure looked;
+      step = step_fails files terms.asked mappings front.front (addr, one.said) (front.front ++ map unsaid (addr ∷ [])) given result e old.caches mid.caches now.caches before middle after
+          (few_at files terms.asked mappings front.front addr one.said old.caches) front.step one.step failure looked;
     }
 
     -- memory ran out for the answer of the next address
-    pub all_stop : (addrs : List ℕ) (addr : ℕ) (rest whole : List ℕ) (given : Vec Symbolized Global) (result : Result Symbolized Error) (entry : Symbolized) (old mid now : ProcessCaches) (answers answers_mid answers_now : Answers R) (before middle after : X) →
+    pub all_stop : (addrs : List ℕ) (addr : ℕ) (rest whole : List ℕ) (given : Vec Symbolized Global) (result : Result Symbolized Error) (entry : Symbolized) (old mid now : Kept R) (before middle after : X) →
         addrs ++ (addr ∷ rest) ≡ whole →
-        Front addrs given old mid answers answers_mid before middle → One addr result mid now answers_mid answers_now middle after →
-        Keeps answers_mid answers_now → AddsAmong test mappings (addr ∷ []) answers_mid answers_now →
+        AsksFront files terms mappings addrs given old mid before middle → AsksAddress files terms mappings addr result mid now middle after →
+        Keeps mid.answers now.answers → AddsAmong terms.test mappings (addr ∷ []) mid.answers now.answers →
         IfErr result (λ e. IsFailure e → IsErrOf {T = Symbolized} (Ok entry) e) →
-        Looked files before after (Faulted {A = Vec Symbolized Global} (Err errors.OutOfMemory)) → All whole (Err errors.OutOfMemory) old now answers answers_now before after
-    all_stop addrs addr rest whole given result entry old mid now answers answers_mid answers_now before middle after whole_is front one keeps adds unfailed looked =
+        Looked files before after (Faulted {A = Vec Symbolized Global} (Err errors.OutOfMemory)) → AsksAll files terms mappings whole (Err errors.OutOfMemory) old now before after
+    all_stop addrs addr rest whole given result entry old mid now before middle after whole_is front one keeps adds unfailed looked =
         let fronts : map (λ (item : ℕ × Said). item.0) (front.front ++ (addr, one.said) ∷ []) ≡ addrs ++ addr ∷ [] =
         map-append (λ (item : ℕ × Said). item.0) front.front ((addr, one.said) ∷ []) ∙ ap (λ (xs : List ℕ). xs ++ addr ∷ []) front.addrs_are in
         record {
@@ -458,32 +446,32 @@ module _ {R X : Type 0} (files : Ghosts X) (test : Test R) (translates : Transla
           rest = rest;
           addrs_are = ap (λ (xs : List ℕ). xs ++ rest) fronts ∙ append_assoc addrs (addr ∷ []) rest ∙ whole_is;
           all = tt;
-          allowed = turn_last test translates finds opts mappings front.front (addr, one.said) answers answers_mid answers_now front.allowed keeps (unfailing result entry _ unfailed one.allowed);
+          allowed = turn_last terms.test terms.translates terms.finds terms.opts mappings front.front (addr, one.said) old.answers mid.answers now.answers front.allowed keeps (unfailing result entry _ unfailed one.allowed);
           some = record {
             failure = tt;
-            answers = read given ++ in_batch (as_read reading result) ∷ [];
-            middle = now;
-            some = some_last asked mappings front.front (addr, one.said) (read given) (as_read reading result) old mid now front.some one.some (no_failure result entry unfailed);
-            told = left_more files asked mappings front.front (addr, one.said) given result entry old mid now before middle after front.step one.step unfailed;
+            answers = readings given ++ in_batch (as_read reading result) ∷ [];
+            middle = now.caches;
+            some = some_last terms.asked mappings front.front (addr, one.said) (readings given) (as_read reading result) old.caches mid.caches now.caches front.some one.some (no_failure result entry unfailed);
+            told = left_more files terms.asked mappings front.front (addr, one.said) given result entry old.caches mid.caches now.caches before middle after front.step one.step unfailed;
             ends = inl (record { memory = refl; unchanged = refl });
           };
-          adds = subst (λ (xs : List ℕ). AddsAmong test mappings (xs ++ next_of rest) answers answers_now) (sym fronts)
-              (adds_both test translates finds opts mappings addrs (addr ∷ []) ((addrs ++ addr ∷ []) ++ next_of rest) answers answers_mid answers_now
+          adds = subst (λ (xs : List ℕ). AddsAmong terms.test mappings (xs ++ next_of rest) old.answers now.answers) (sym fronts)
+              (adds_both terms.test terms.translates terms.finds terms.opts mappings addrs (addr ∷ []) ((addrs ++ addr ∷ []) ++ next_of rest) old.answers mid.answers now.answers
               (λ x there. Contains-append_left (addrs ++ addr ∷ []) (next_of rest) x (Contains-append_left addrs (addr ∷ []) x there))
               (λ x there. Contains-append_left (addrs ++ addr ∷ []) (next_of rest) x (Contains-append_right addrs (addr ∷ []) x there)) front.adds adds);
-          step = step_fails files asked mappings front.front (addr, one.said) ((front.front ++ (addr, one.said) ∷ []) ++ map unsaid (next_of rest)) given result errors.OutOfMemory old mid now before middle after
-              (few_after files asked mappings front.front (addr, one.said) (next_of rest) old) front.step one.step tt looked;
+          step = step_fails files terms.asked mappings front.front (addr, one.said) ((front.front ++ (addr, one.said) ∷ []) ++ map unsaid (next_of rest)) given result errors.OutOfMemory old.caches mid.caches now.caches before middle after
+              (few_after files terms.asked mappings front.front (addr, one.said) (next_of rest) old.caches) front.step one.step tt looked;
         }
 
     -- memory ran out before any address was asked
-    pub none_asked : (addrs : List ℕ) (kept : ProcessCaches) (answers : Answers R) (at : X) → All addrs (Err errors.OutOfMemory) kept kept answers answers at at
-    none_asked addrs kept answers at = record {
+    pub none_asked : (addrs : List ℕ) (kept : Kept R) (at : X) → AsksAll files terms mappings addrs (Err errors.OutOfMemory) kept kept at at
+    none_asked addrs kept at = record {
       front = [];
       rest = addrs;
       addrs_are = refl;
       all = tt;
       allowed = λ n a k. k;
-      some = record { failure = tt; answers = []; middle = kept; some = (refl, refl); told = λ world seen. refl; ends = inl (record { memory = refl; unchanged = refl }) };
+      some = record { failure = tt; answers = []; middle = kept.caches; some = (refl, refl); told = λ world seen. refl; ends = inl (record { memory = refl; unchanged = refl }) };
       adds = λ n a k. inl k;
-      step = wants_memory files asked.own read (at_addresses asked mappings (map unsaid (next_of addrs))) kept at;
+      step = wants_memory files terms.asked.own readings (at_addresses terms.asked mappings (map unsaid (next_of addrs))) kept.caches at;
     }

@@ -3,28 +3,26 @@ use Rattle.std.proofs.Common.{◌≡◌, ℕ, false, List, [], ◌∷◌, ◌++�
 use Rattle.bz_base.specs.Answer.{reading}
 use Rattle.bz_base.specs.declared.error.Error.{Error}
 use Rattle.bz_base.specs.declared.error.Error.TheVariants as errors
-use Rattle.bz_base.specs.declared.resolve.Symbolize.{Ghosts as Finds}
-use Rattle.bz_base.specs.declared.resolve.TranslateFileOffset.{Ghosts as Translates}
-use Rattle.bz_base.specs.declared.types.FindSymOpts.{FindSymOpts}
 use Rattle.bz_base.specs.declared.types.Symbolized.{Symbolized}
 use Rattle.bz_files.specs.Looked.{Faulted, Looked, ReadsOne}
 use Rattle.bz_files.specs.World.{Entry, World, Told, in_view, entry_at, has_file}
 use Rattle.bz_files.specs.declared.files.Files.{Ghosts}
 use Rattle.bz_cache.specs.Format.{Comes, FailsAs}
+use Rattle.bz_cache.specs.InsertMap.{value_at}
 use Rattle.bz_elf.specs.Format as elf
 use Rattle.bz_proc.specs.Maps.{Mapping}
 use Rattle.bz_proc.specs.SystemText.{IsReadRefusal}
 use Rattle.bz_proc.specs.PerfMap as perf
 use Rattle.bz_base.specs.declared.pid.Pid.{Pid}
-use Rattle.bz_process.specs.Dispatch.{Answers, Keeps, Test}
-use Rattle.bz_process.specs.Mapped.{AreFrom, AreUsed, AsksProcess, AsksProcessAt, LacksMappings, checked, if_some, mappings_of, of_text, some_mappings}
-use Rattle.bz_process.specs.Process.{at_address, at_addresses, gives, unsaid}
-use Rattle.bz_process.specs.ProcessAsk.{AddsAmong, AsksAll, AsksOne, IsSaidAt, next_of}
+use Rattle.bz_process.specs.Dispatch.{Keeps}
+use Rattle.bz_process.specs.Mapped.{AreFrom, AreUsed, AsksBatch, AsksSingle, LacksMappings, checked, if_some, mappings_of, of_text, some_mappings}
+use Rattle.bz_process.specs.Process.{at_address, at_addresses, gives, pid_cmp, unsaid}
+use Rattle.bz_process.specs.ProcessAsk.{AddsAmong, AsksAddress, AsksAll, next_of, readings}
 use Rattle.bz_process.specs.ProcessCall.{TakesStep, UnlessFailed}
-use Rattle.bz_process.specs.Asked.{Asked}
 use Rattle.bz_process.specs.Caches.{ProcessCaches}
-use Rattle.bz_process.specs.Untold.{SomeAtAddress, SomeBatch, as_read}
-use Rattle.bz_process.proofs.AskLemmas.{read, unless}
+use Rattle.bz_process.specs.Terms.{Kept, Terms}
+use Rattle.bz_process.specs.Untold.{SomeBatch}
+use Rattle.bz_process.proofs.AskLemmas.{unless}
 use Rattle.bz_process.proofs.ProcessLemmas.{in_order, opened_by, reaches_same, refused, stays, still, unlooked, wants_memory}
 
 module _ {X : Type 0} (files : Ghosts X) (own : ℕ) where
@@ -120,87 +118,87 @@ on_ok : {A : Type 0} (result : Result A Error) (P : Type 0) → P → OnOk resul
 on_ok (Ok x) P p = p
 on_ok (Err e) P p = tt
 
-module _ {R X : Type 0} (files : Ghosts X) (test : Test R) (translates : Translates R) (finds : Finds R) (opts : FindSymOpts) (asked : Asked) (known : Option (List Mapping)) (addrs : List ℕ) where
-  abbrev Asks : Result (Vec Symbolized Global) Error → ProcessCaches → ProcessCaches → Answers R → Answers R → X → X → Type 0
-  Asks result old now answers answers_now before after = AsksProcess files read test translates finds opts asked known addrs result old now answers answers_now before after
+unread : (expected : Result (List Mapping) Error) (e : Error) → FailsAs expected e → UnlessFailed {A = Symbolized} (Err e) ((told : List Mapping) → expected ≡ Ok told → told ≡ [])
+unread expected errors.ReadFault fails = tt
+unread expected errors.OutOfMemory fails = tt
+unread expected _ fails = λ told is. let none : Err _ ≡ Ok told = sym fails ∙ is in cc none
 
-  -- the mappings, and then the addresses
-  pub asks_mapped : (mappings : List Mapping) (result : Result (Vec Symbolized Global) Error) (old now : ProcessCaches) (answers answers_now : Answers R) (before middle after : X) →
-      TakesStep files asked.own (λ (k : List Mapping). k) (some_mappings asked.pid known) (Ok mappings) old old before middle → AreUsed asked.pid known mappings →
-      AsksAll files read test translates finds opts asked mappings addrs result old now answers answers_now middle after →
-      Keeps answers answers_now → Asks result old now answers answers_now before after
-  asks_mapped mappings result old now answers answers_now before middle after one used all keeps = record {
-    mappings = mappings;
-    mapped = λ world seen. on_ok result _ (one.told world seen).answer;
-    used = inl (used, subst (λ (view : Option World). SomeBatch view read asked mappings all.front all.rest result old now) (ap in_view one.looked.worlds) all.some);
-    tied = λ world seen. inl (one.told world seen).answer;
-    front = all.front;
-    rest = all.rest;
-    addrs_are = all.addrs_are;
-    all = all.all;
-    allowed = all.allowed;
-    keeps = keeps;
-    adds = all.adds;
-    step = in_order files asked.own (λ (k : List Mapping). k) read (some_mappings asked.pid known) (λ maps. at_addresses asked maps (all.front ++ map unsaid (next_of all.rest))) mappings result old old now before middle after one all.step;
-  }
+module _ {R X : Type 0} (files : Ghosts X) (terms : Terms R) (maps : List (Pid × List Mapping)) where
+  abbrev own_maps : Option (List Mapping)
+  own_maps = value_at pid_cmp maps terms.asked.pid
 
-  -- the mappings are refused
-  pub asks_unmapped : (e : Error) (old : ProcessCaches) (answers : Answers R) (before after : X) →
-      TakesStep files asked.own (λ (k : List Mapping). k) (some_mappings asked.pid known) (Err e) old old before after → LacksMappings known e → Asks (Err e) old old answers answers before after
-  asks_unmapped e old answers before after one lacks = record {
-    mappings = [];
-    mapped = λ world seen. tt;
-    used = inr (record { refused = refl; refusal = lacks; unchanged = refl; unsaid = refl });
-    tied = λ world seen. inr (refl, refl);
-    front = [];
-    rest = addrs;
-    addrs_are = refl;
-    all = tt;
-    allowed = λ n a kept. kept;
-    keeps = λ n a kept. kept;
-    adds = λ n a kept. inl kept;
-    step = refused files asked.own (λ (k : List Mapping). k) read (some_mappings asked.pid known) (λ maps. at_addresses asked maps (map unsaid (next_of addrs))) e old old before after one;
-  }
+  -- its mappings were looked for
+  abbrev Finds : Result (List Mapping) Error → Kept R → X → X → Type 0
+  Finds result old before after = TakesStep files terms.asked.own (λ (k : List Mapping). k) (some_mappings terms.asked.pid own_maps) result old.caches old.caches before after
 
-module _ {R X : Type 0} (files : Ghosts X) (test : Test R) (translates : Translates R) (finds : Finds R) (opts : FindSymOpts) (asked : Asked) (known : Option (List Mapping)) (addr : ℕ) where
-  abbrev AsksAt : Result Symbolized Error → ProcessCaches → ProcessCaches → Answers R → Answers R → X → X → Type 0
-  AsksAt result old now answers answers_now before after = AsksProcessAt files reading test translates finds opts asked known addr result old now answers answers_now before after
+  module _ (addrs : List ℕ) where
+    -- the mappings, and then the addresses
+    pub asks_mapped : (mappings : List Mapping) (result : Result (Vec Symbolized Global) Error) (old now : Kept R) (before middle after : X) →
+        Finds (Ok mappings) old before middle → AreUsed terms.asked.pid own_maps mappings → AsksAll files terms mappings addrs result old now middle after →
+        Keeps old.answers now.answers → AsksBatch files terms maps addrs result old now before after
+    asks_mapped mappings result old now before middle after one used all keeps = record {
+      mappings = mappings;
+      mapped = λ world seen. on_ok result _ (one.told world seen).answer;
+      used = inl (used, subst (λ (view : Option World). SomeBatch view readings terms.asked mappings all.front all.rest result old.caches now.caches) (ap in_view one.looked.worlds) all.some);
+      tied = λ world seen. inl (one.told world seen).answer;
+      front = all.front;
+      rest = all.rest;
+      addrs_are = all.addrs_are;
+      all = all.all;
+      allowed = all.allowed;
+      keeps = keeps;
+      adds = all.adds;
+      step = in_order files terms.asked.own (λ (k : List Mapping). k) readings (some_mappings terms.asked.pid own_maps) (λ found. at_addresses terms.asked found (all.front ++ map unsaid (next_of all.rest))) mappings result
+          old.caches old.caches now.caches before middle after one all.step;
+    }
 
-  -- the mappings, and then the address
-  pub asks_mapped_at : (mappings : List Mapping) (result : Result Symbolized Error) (old now : ProcessCaches) (answers answers_now : Answers R) (before middle after : X) →
-      TakesStep files asked.own (λ (k : List Mapping). k) (some_mappings asked.pid known) (Ok mappings) old old before middle → AreUsed asked.pid known mappings →
-      AsksOne files asked.own reading (IsSaidAt test translates finds opts mappings addr answers answers_now) (λ said. SomeAtAddress asked (as_read reading result) old now mappings (addr, said)) (λ said. at_address asked mappings (addr, said)) result old now middle after →
-      Keeps answers answers_now → AddsAmong test mappings (addr ∷ []) answers answers_now → AsksAt result old now answers answers_now before after
-  asks_mapped_at mappings result old now answers answers_now before middle after one used asks keeps adds = record {
-    mappings = mappings;
-    mapped = λ world seen. unless result _ (λ told is. let same : Ok told ≡ Ok mappings = sym is ∙ (one.told world seen).answer in cc same);
-    used = inl (used, asks.some);
-    tied = λ world seen. inl (one.told world seen).answer;
-    said = asks.said;
-    allowed = asks.allowed;
-    faultless = asks.faultless;
-    keeps = keeps;
-    adds = adds;
-    step = in_order files asked.own (λ (k : List Mapping). k) reading (some_mappings asked.pid known) (λ maps. at_address asked maps (addr, asks.said)) mappings result old old now before middle after one asks.step;
-  }
+    -- the mappings are refused
+    pub asks_unmapped : (e : Error) (old : Kept R) (before after : X) → Finds (Err e) old before after → LacksMappings own_maps e → AsksBatch files terms maps addrs (Err e) old old before after
+    asks_unmapped e old before after one lacks = record {
+      mappings = [];
+      mapped = λ world seen. tt;
+      used = inr (record { refused = refl; refusal = lacks; unchanged = refl; unsaid = refl });
+      tied = λ world seen. inr (refl, refl);
+      front = [];
+      rest = addrs;
+      addrs_are = refl;
+      all = tt;
+      allowed = λ n a kept. kept;
+      keeps = λ n a kept. kept;
+      adds = λ n a kept. inl kept;
+      step = refused files terms.asked.own (λ (k : List Mapping). k) readings (some_mappings terms.asked.pid own_maps) (λ found. at_addresses terms.asked found (map unsaid (next_of addrs))) e old.caches old.caches before after one;
+    }
 
-  unread : (expected : Result (List Mapping) Error) (e : Error) → FailsAs expected e → UnlessFailed {A = Symbolized} (Err e) ((told : List Mapping) → expected ≡ Ok told → told ≡ [])
-  unread expected errors.ReadFault fails = tt
-  unread expected errors.OutOfMemory fails = tt
-  unread expected _ fails = λ told is. let none : Err _ ≡ Ok told = sym fails ∙ is in cc none
+  module _ (addr : ℕ) where
+    -- the mappings, and then the address
+    pub asks_mapped_at : (mappings : List Mapping) (result : Result Symbolized Error) (old now : Kept R) (before middle after : X) →
+        Finds (Ok mappings) old before middle → AreUsed terms.asked.pid own_maps mappings → AsksAddress files terms mappings addr result old now middle after →
+        Keeps old.answers now.answers → AddsAmong terms.test mappings (addr ∷ []) old.answers now.answers → AsksSingle files terms maps addr result old now before after
+    asks_mapped_at mappings result old now before middle after one used asks keeps adds = record {
+      mappings = mappings;
+      mapped = λ world seen. unless result _ (λ told is. let same : Ok told ≡ Ok mappings = sym is ∙ (one.told world seen).answer in cc same);
+      used = inl (used, asks.some);
+      tied = λ world seen. inl (one.told world seen).answer;
+      said = asks.said;
+      allowed = asks.allowed;
+      faultless = asks.faultless;
+      keeps = keeps;
+      adds = adds;
+      step = in_order files terms.asked.own (λ (k : List Mapping). k) reading (some_mappings terms.asked.pid own_maps) (λ found. at_address terms.asked found (addr, asks.said)) mappings result
+          old.caches old.caches now.caches before middle after one asks.step;
+    }
 
-  -- the mappings are refused
-  pub asks_unmapped_at : (e : Error) (old : ProcessCaches) (answers : Answers R) (before after : X) →
-      TakesStep files asked.own (λ (k : List Mapping). k) (some_mappings asked.pid known) (Err e) old old before after → LacksMappings known e → AsksAt (Err e) old old answers answers before after
-  asks_unmapped_at e old answers before after one lacks = record {
-    mappings = [];
-    mapped = λ world seen. unread _ e (one.told world seen).answer;
-    used = inr (record { refused = refl; refusal = lacks; unchanged = refl; unsaid = refl });
-    tied = λ world seen. inr (refl, refl);
-    said = None;
-    allowed = unless {A = Symbolized} (Err e) _ refl;
-    faultless = tt;
-    keeps = λ n a kept. kept;
-    adds = λ n a kept. inl kept;
-    step = refused files asked.own (λ (k : List Mapping). k) reading (some_mappings asked.pid known) (λ maps. at_address asked maps (addr, None)) e old old before after one;
-  }
+    -- the mappings are refused
+    pub asks_unmapped_at : (e : Error) (old : Kept R) (before after : X) → Finds (Err e) old before after → LacksMappings own_maps e → AsksSingle files terms maps addr (Err e) old old before after
+    asks_unmapped_at e old before after one lacks = record {
+      mappings = [];
+      mapped = λ world seen. unread _ e (one.told world seen).answer;
+      used = inr (record { refused = refl; refusal = lacks; unchanged = refl; unsaid = refl });
+      tied = λ world seen. inr (refl, refl);
+      said = None;
+      allowed = unless {A = Symbolized} (Err e) _ refl;
+      faultless = tt;
+      keeps = λ n a kept. kept;
+      adds = λ n a kept. inl kept;
+      step = refused files terms.asked.own (λ (k : List Mapping). k) reading (some_mappings terms.asked.pid own_maps) (λ found. at_address terms.asked found (addr, None)) e old.caches old.caches before after one;
+    }

@@ -12,23 +12,22 @@ use Rattle.bz_cache.specs.Cache.{Cache}
 use Rattle.bz_process.specs.Asked.{Asked}
 use Rattle.bz_process.specs.Dispatch.{Test}
 use Rattle.bz_process.specs.Mapped.{AsksProcess, AsksProcessAt}
-use Rattle.bz_process.specs.ProcessAsk.{come_to}
+use Rattle.bz_process.specs.ProcessAsk.{come_to, readings}
 use Rattle.bz_process.specs.Processes.{AreWellKept, KeptProcesses, SymbolizesAddress, SymbolizesProcess, caches_of, is_in_process, kept_mappings}
-use Rattle.bz_process.proofs.AskLemmas.{read}
 use Rattle.bz_process.proofs.NobodyLemmas.{allowed_after, nobody_said, nobody_said_at}
 
 module _ {D R X : Type 0} (files : Ghosts X) (test : Test R) (translates : Translates R) (finds : Finds R) (opts : FindSymOpts) (asked : Asked) (kind : AddressKind)
     (elf elf_now : Cache) (old now : KeptProcesses D R) (before after : X) where
   module _ (addrs : List ℕ) (result : Result (Vec Symbolized Global) Error) where
     abbrev Asks : Type 0
-    Asks = AsksProcess files read test translates finds opts asked (kept_mappings old asked.pid) addrs result (caches_of elf old) (caches_of elf_now now) old.answers now.answers before after
+    Asks = AsksProcess files readings test translates finds opts asked (kept_mappings old asked.pid) addrs result (caches_of elf old) (caches_of elf_now now) old.answers now.answers before after
 
     pub promised : is_in_process kind ≡ true → AreWellKept test old → Asks → now.mappings ≡ old.mappings → now.dispatcher ≡ old.dispatcher →
-        SymbolizesProcess files read test translates finds opts asked kind addrs result elf elf_now old now before after
+        SymbolizesProcess files readings test translates finds opts asked kind addrs result elf elf_now old now before after
     promised taken well asks mappings dispatcher = record {
       untaken = λ not. cc (sym taken ∙ not);
       asks = λ t. asks;
-      exact = λ none t. nobody_said test translates finds opts none files read asked (kept_mappings old asked.pid) addrs result (caches_of elf old) (caches_of elf_now now) old.answers now.answers before after well.answers asks;
+      exact = λ none t. nobody_said test translates finds opts none files readings asked (kept_mappings old asked.pid) addrs result (caches_of elf old) (caches_of elf_now now) old.answers now.answers before after well.answers asks;
       mappings = mappings;
       dispatcher = dispatcher;
     }

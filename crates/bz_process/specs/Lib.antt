@@ -15,4 +15,5 @@ pub mod Processes
 pub mod Reached
 pub mod Reads
 pub mod Remembered
+pub mod Terms
 pub mod Untold

@@ -1,23 +1,27 @@
 -- The mappings that a process is answered by: the kept ones, else those of the text that lies there.
 use Rattle.std.specs.Prelude.{◌≡◌, ◌⊎◌, ℕ, List, [], ◌∷◌, ◌++◌, map, Option, Some, None, Result, Ok, Err, IfErr, IsErr, OnOk}
-use Rattle.bz_base.specs.Answer.{Answer}
+use Rattle.std.specs.Global.{Vec}
+use Rattle.bz_base.specs.Answer.{Answer, reading}
 use Rattle.bz_base.specs.declared.error.Error.{Error}
 use Rattle.bz_base.specs.declared.error.Error.TheVariants as errors
 use Rattle.bz_base.specs.declared.resolve.Symbolize.{Ghosts as Finds}
 use Rattle.bz_base.specs.declared.resolve.TranslateFileOffset.{Ghosts as Translates}
 use Rattle.bz_base.specs.declared.types.FindSymOpts.{FindSymOpts}
+use Rattle.bz_base.specs.declared.types.Symbolized.{Symbolized}
 use Rattle.bz_files.specs.World.{Entry, Told, entry_at, has_file, in_view}
 use Rattle.bz_files.specs.declared.files.Files.{Ghosts}
+use Rattle.bz_cache.specs.InsertMap.{value_at}
 use Rattle.bz_proc.specs.Maps.{Mapping}
 use Rattle.bz_proc.specs.MapsFile.{AreOfText, maps_path, maps_told}
 use Rattle.bz_proc.specs.SystemText.{IsReadRefusal}
 use Rattle.bz_base.specs.declared.pid.Pid.{Pid}
 use Rattle.bz_process.specs.Dispatch.{Answers, Keeps, Test}
-use Rattle.bz_process.specs.Process.{Said, Step, and_then, at_address, at_addresses, count_of, gives, unsaid}
-use Rattle.bz_process.specs.ProcessAsk.{AddsAmong, IsSaidAt, SaidInTurn, come_to, next_of}
+use Rattle.bz_process.specs.Process.{Said, Step, and_then, at_address, at_addresses, count_of, gives, pid_cmp, unsaid}
+use Rattle.bz_process.specs.ProcessAsk.{AddsAmong, IsSaidAt, SaidInTurn, come_to, next_of, readings}
 use Rattle.bz_process.specs.ProcessCall.{TakesStep, UnlessFailed}
 use Rattle.bz_process.specs.Asked.{Asked}
 use Rattle.bz_process.specs.Caches.{ProcessCaches}
+use Rattle.bz_process.specs.Terms.{Kept, Terms}
 use Rattle.bz_process.specs.Untold.{SaysNoFault, SomeAtAddress, SomeBatch, as_read}
 
 -- what a text at a path tells
@@ -116,3 +120,17 @@ pub record AsksProcessAt {A R X : Type 0} (files : Ghosts X) (reading : A → An
   pub keeps : Keeps answers answers_now
   pub adds : AddsAmong test mappings (addr ∷ []) answers answers_now
   pub step : TakesStep files asked.own reading (asks_process_at asked kept (addr, said)) result old now before after
+
+-- a call under these terms, where these mappings are kept of processes
+module _ {R X : Type 0} (files : Ghosts X) (terms : Terms R) (mappings : List (Pid × List Mapping)) where
+  -- its process was asked for a batch of addresses
+  abbrev pub AsksBatch : List ℕ → Result (Vec Symbolized) Error → Kept R → Kept R → X → X → Type 0
+  AsksBatch addrs result old now before after =
+      AsksProcess files readings terms.test terms.translates terms.finds terms.opts terms.asked (value_at pid_cmp mappings terms.asked.pid) addrs result
+      old.caches now.caches old.answers now.answers before after
+
+  -- for an address alone
+  abbrev pub AsksSingle : ℕ → Result Symbolized Error → Kept R → Kept R → X → X → Type 0
+  AsksSingle addr result old now before after =
+      AsksProcessAt files reading terms.test terms.translates terms.finds terms.opts terms.asked (value_at pid_cmp mappings terms.asked.pid) addr result
+      old.caches now.caches old.answers now.answers before after

@@ -1,6 +1,7 @@
 -- What a call asks of a process with a dispatcher: what was said for each address, and what the steps are then.
 use Rattle.std.specs.Prelude.{◌≡◌, ◌⊎◌, ℕ, true, List, [], ◌∷◌, ◌++◌, map, Option, Some, None, Result, Ok, OnOk, Contains}
 use Rattle.std.specs.BTreeMap.{is_at}
+use Rattle.std.specs.Global.{Vec}
 use Rattle.bz_base.specs.Answer.{Answer, reading}
 use Rattle.bz_base.specs.declared.error.Error.{Error}
 use Rattle.bz_base.specs.declared.resolve.Symbolize.{Ghosts as Finds}
@@ -14,11 +15,11 @@ use Rattle.bz_proc.specs.NameOrder.{name_order}
 use Rattle.bz_proc.specs.declared.maps.PathName.{PathName}
 use Rattle.bz_process.specs.Dispatch.{Answers, IsSaid, Keeps, Test, kept_for}
 use Rattle.bz_process.specs.Member.{Member, as_member}
-use Rattle.bz_process.specs.Process.{Said, Step, at_address, at_addresses, by_mapping, by_said, unsaid}
+use Rattle.bz_process.specs.Process.{Said, Step, at_address, at_addresses, by_mapping, unsaid}
 use Rattle.bz_process.specs.ProcessCall.{TakesStep, UnlessFailed}
-use Rattle.bz_process.specs.Asked.{Asked}
 use Rattle.bz_process.specs.Caches.{ProcessCaches}
-use Rattle.bz_process.specs.Untold.{SaysNoFault, SomeAtAddress, SomeAtAddresses, SomeBatch, SomeByMapping, SomeBySaid, as_read}
+use Rattle.bz_process.specs.Terms.{Kept, Terms}
+use Rattle.bz_process.specs.Untold.{SaysNoFault, SomeAtAddress, SomeAtAddresses, SomeBatch, SomeByMapping, as_read}
 
 -- something allowed was said, and the step is the one that is expected then; after a failure nothing needs to have been said.
 -- Where nothing is told, what was given and is left is what may be shown then
@@ -43,21 +44,6 @@ module _ {R : Type 0} (test : Test R) (translates : Translates R) (finds : Finds
 
   abbrev pub IsSaidAt : List Mapping → ℕ → Answers R → Answers R → Said → Type 0
   IsSaidAt mappings addr old now said = IsSaidBy (owner_of mappings addr) addr old now said
-
-  -- an address was asked, by the mappings of its process
-  abbrev pub AsksAddress : {X : Type 0} → Ghosts X → Asked → List Mapping → ℕ → Result Symbolized Error → ProcessCaches → ProcessCaches → Answers R → Answers R → X → X → Type 0
-  AsksAddress files asked mappings addr result old now answers answers_now before after =
-      AsksOne files asked.own reading (IsSaidAt mappings addr answers answers_now) (λ said. SomeAtAddress asked (as_read reading result) old now mappings (addr, said)) (λ said. at_address asked mappings (addr, said)) result old now before after
-
-  -- an address of this mapping
-  abbrev pub AsksMapping : {X : Type 0} → Ghosts X → Asked → Mapping → ℕ → Result Symbolized Error → ProcessCaches → ProcessCaches → Answers R → Answers R → X → X → Type 0
-  AsksMapping files asked mapping addr result old now answers answers_now before after =
-      AsksOne files asked.own reading (IsSaidIn mapping mapping.name addr answers answers_now) (λ said. SomeByMapping asked (as_read reading result) old now mapping addr said mapping.name) (λ said. by_mapping asked mapping addr said mapping.name) result old now before after
-
-  -- an address of this mapping, which has this name
-  abbrev pub AsksMember : {X : Type 0} → Ghosts X → Asked → Mapping → PathName → ℕ → Result Symbolized Error → ProcessCaches → ProcessCaches → Answers R → Answers R → X → X → Type 0
-  AsksMember files asked mapping name addr result old now answers answers_now before after =
-      AsksOne files asked.own reading (IsSaid test translates finds opts mapping name addr answers answers_now) (SomeBySaid asked (as_read reading result) old now mapping addr (name_of name)) (by_said asked mapping addr (name_of name)) result old now before after
 
   -- something allowed is said for addresses one after another, for each by the answers that are kept when it is come to; kept answers
   -- stay
@@ -95,30 +81,52 @@ next_of (addr ∷ later) = addr ∷ []
 abbrev pub come_to : List (ℕ × Said) → List ℕ → List ℕ
 come_to front rest = map (λ item. item.0) front ++ next_of rest
 
--- addresses were asked one after another: of a front of them something allowed was said, of all where the call is answered; and the
--- step is that of the addresses that were come to, where no resolver is in charge of the next one
-pub record AsksAll {A R X : Type 0} (files : Ghosts X) (reading : A → List Answer) (test : Test R) (translates : Translates R) (finds : Finds R) (opts : FindSymOpts)
-    (asked : Asked) (mappings : List Mapping) (addrs : List ℕ) (result : Result A Error) (old now : ProcessCaches) (answers answers_now : Answers R) (before after : X) : Type 0 where
-  pub front : List (ℕ × Said)
-  pub rest : List ℕ
-  pub addrs_are : map (λ item. item.0) front ++ rest ≡ addrs
-  pub all : OnOk result (rest ≡ [])
-  pub allowed : SaidInTurn test translates finds opts mappings front answers answers_now
-  -- whatever is told, each answer is by some version that a look gave, or refused as a look is; and a failure ends the batch
-  pub some : SomeBatch (in_view (files.worlds before)) reading asked mappings front rest result old now
-  pub adds : AddsAmong test mappings (come_to front rest) answers answers_now
-  pub step : TakesStep files asked.own reading (at_addresses asked mappings (front ++ map unsaid (next_of rest))) result old now before after
+-- answers as plain data
+abbrev pub readings : Vec Symbolized → List Answer
+readings answers = map reading answers.items
 
--- these addresses were asked and answered, and something allowed was said for each
-pub record AsksFront {A R X : Type 0} (files : Ghosts X) (reading : A → List Answer) (test : Test R) (translates : Translates R) (finds : Finds R) (opts : FindSymOpts)
-    (asked : Asked) (mappings : List Mapping) (addrs : List ℕ) (given : A) (old now : ProcessCaches) (answers answers_now : Answers R) (before after : X) : Type 0 where
-  pub front : List (ℕ × Said)
-  pub addrs_are : map (λ item. item.0) front ≡ addrs
-  pub allowed : SaidInTurn test translates finds opts mappings front answers answers_now
-  pub some : SomeAtAddresses asked mappings front (reading given) old now
-  pub step : TakesStep files asked.own reading (at_addresses asked mappings front) (Ok given) old now before after
-  pub keeps : Keeps answers answers_now
-  pub adds : AddsAmong test mappings addrs answers answers_now
+module _ {R X : Type 0} (files : Ghosts X) (terms : Terms R) where
+  -- an address of this mapping was asked, which is of what has this name, or of nothing
+  abbrev pub AsksNamed : Mapping → Option Name → ℕ → Result Symbolized Error → Kept R → Kept R → X → X → Type 0
+  AsksNamed mapping name addr result old now before after =
+      AsksOne files terms.asked.own reading
+      (IsSaidIn terms.test terms.translates terms.finds terms.opts mapping name addr old.answers now.answers)
+      (λ said. SomeByMapping terms.asked (as_read reading result) old.caches now.caches mapping addr said name)
+      (λ said. by_mapping terms.asked mapping addr said name) result old.caches now.caches before after
+
+  abbrev pub AsksMapping : Mapping → ℕ → Result Symbolized Error → Kept R → Kept R → X → X → Type 0
+  AsksMapping mapping addr result old now before after = AsksNamed mapping mapping.name addr result old now before after
+
+  -- an address was asked, by the mappings of its process
+  abbrev pub AsksAddress : List Mapping → ℕ → Result Symbolized Error → Kept R → Kept R → X → X → Type 0
+  AsksAddress mappings addr result old now before after =
+      AsksOne files terms.asked.own reading
+      (IsSaidAt terms.test terms.translates terms.finds terms.opts mappings addr old.answers now.answers)
+      (λ said. SomeAtAddress terms.asked (as_read reading result) old.caches now.caches mappings (addr, said))
+      (λ said. at_address terms.asked mappings (addr, said)) result old.caches now.caches before after
+
+  -- addresses were asked one after another: of a front of them something allowed was said, of all where the call is answered; and
+  -- the step is that of the addresses that were come to, where no resolver is in charge of the next one
+  pub record AsksAll (mappings : List Mapping) (addrs : List ℕ) (result : Result (Vec Symbolized) Error) (old now : Kept R) (before after : X) : Type 0 where
+    pub front : List (ℕ × Said)
+    pub rest : List ℕ
+    pub addrs_are : map (λ item. item.0) front ++ rest ≡ addrs
+    pub all : OnOk result (rest ≡ [])
+    pub allowed : SaidInTurn terms.test terms.translates terms.finds terms.opts mappings front old.answers now.answers
+    -- whatever is told, each answer is by some version that a look gave, or refused as a look is; and a failure ends the batch
+    pub some : SomeBatch (in_view (files.worlds before)) readings terms.asked mappings front rest result old.caches now.caches
+    pub adds : AddsAmong terms.test mappings (come_to front rest) old.answers now.answers
+    pub step : TakesStep files terms.asked.own readings (at_addresses terms.asked mappings (front ++ map unsaid (next_of rest))) result old.caches now.caches before after
+
+  -- these addresses were asked and answered, and something allowed was said for each
+  pub record AsksFront (mappings : List Mapping) (addrs : List ℕ) (given : Vec Symbolized) (old now : Kept R) (before after : X) : Type 0 where
+    pub front : List (ℕ × Said)
+    pub addrs_are : map (λ item. item.0) front ≡ addrs
+    pub allowed : SaidInTurn terms.test terms.translates terms.finds terms.opts mappings front old.answers now.answers
+    pub some : SomeAtAddresses terms.asked mappings front (readings given) old.caches now.caches
+    pub step : TakesStep files terms.asked.own readings (at_addresses terms.asked mappings front) (Ok given) old.caches now.caches before after
+    pub keeps : Keeps old.answers now.answers
+    pub adds : AddsAmong terms.test mappings addrs old.answers now.answers
 
 -- every answer that is kept is one that the dispatcher's test allows
 abbrev pub AreAllowed : {R : Type 0} → Test R → Answers R → Type 0

@@ -3,17 +3,13 @@
 ghost use Rattle.std.specs.Prelude.{◌≡◌, map};
 ghost use Rattle.bz_base.specs.Answer.{reading};
 ghost use Rattle.bz_base.specs.InputKind.{address_kind, payload};
-ghost use Rattle.bz_cache.specs.InsertMap.{value_at};
 ghost use Rattle.bz_process.specs.Asked.{asked_of};
-ghost use Rattle.bz_process.specs.Caches.{caches};
-ghost use Rattle.bz_process.specs.Mapped.{AsksProcess, AsksProcessAt};
-ghost use Rattle.bz_process.specs.Process.{pid_cmp};
 ghost use Rattle.bz_process.specs.Processes.{SymbolizesAddress, SymbolizesProcess, new_processes};
 
 use crate::answering::Answering;
 use crate::dispatch::ProcessDispatch;
 use crate::dispatching::Dispatching;
-use crate::mapped::{Mapped, some_mappings};
+use crate::mapped::Mapped;
 use crate::perf_maps::PerfMaps;
 use crate::query::{ProcessQuery, Question};
 use bz_base::{Addr, Error, FindSymOpts, Input, Pid, Result, Symbolized};
@@ -83,15 +79,11 @@ impl<D: ProcessDispatch + Drop> Processes<D> {
         ensures { SymbolizesProcess F.Files (λ answers. map reading answers.items) (D.may_dispatch self.old.dispatcher) D.Resolver.TranslateFileOffset D.Resolver.Symbolize opts.now (asked_of (F.pid files.old) query.now) (address_kind input.entry) (payload input.entry).now result elf.old elf.new self.old self.new files.old files.new }
     {
         match input {
-            Input::AbsAddr(addrs) => ask_batch(
-                &mut self.answering,
-                &mut self.mappings,
-                elf,
-                alloc,
-                files,
-                &Question { query, opts },
-                addrs,
-            ),
+            Input::AbsAddr(addrs) => {
+                let question = Question { query, opts };
+                self.answering
+                    .ask_batch(&mut self.mappings, elf, alloc, files, &question, addrs)
+            }
             Input::VirtOffset(_) | Input::FileOffset(_) => Err(Error::Unsupported),
         }
     }
@@ -110,52 +102,12 @@ impl<D: ProcessDispatch + Drop> Processes<D> {
         ensures { SymbolizesAddress F.Files reading (D.may_dispatch self.old.dispatcher) D.Resolver.TranslateFileOffset D.Resolver.Symbolize opts.now (asked_of (F.pid files.old) query.now) (address_kind input) (payload input) result elf.old elf.new self.old self.new files.old files.new }
     {
         match input {
-            Input::AbsAddr(addr) => ask_single(
-                &mut self.answering,
-                &mut self.mappings,
-                elf,
-                alloc,
-                files,
-                &Question { query, opts },
-                addr,
-            ),
+            Input::AbsAddr(addr) => {
+                let question = Question { query, opts };
+                self.answering
+                    .ask_single(&mut self.mappings, elf, alloc, files, &question, addr)
+            }
             Input::VirtOffset(_) | Input::FileOffset(_) => Err(Error::Unsupported),
         }
     }
-}
-
-// The answers to addresses by the mappings that are kept, or else by those of the text that lies there.
-fn ask_batch<D: ProcessDispatch + Drop, F: Files>(
-    answering: &mut Answering<D>,
-    mappings: &mut InsertMap<Pid, Mapped>,
-    elf: &mut FileCache<ElfFile>,
-    alloc: Global,
-    files: &mut F,
-    question: &Question<'_>,
-    addrs: &[Addr],
-) -> Result<Vec<Symbolized<'static>>>
-    ensures asks { AsksProcess F.Files (λ answers. map reading answers.items) (D.may_dispatch answering.old.dispatching.dispatch) D.Resolver.TranslateFileOffset D.Resolver.Symbolize question.now.opts.now (asked_of (F.pid files.old) question.now.query.now) (value_at pid_cmp mappings.old question.now.query.now.pid) addrs.now result (caches elf.old answering.old.perf_maps) (caches elf.new answering.new.perf_maps) answering.old.dispatching.answers answering.new.dispatching.answers files.old files.new }
-    ensures dispatch { answering.new.dispatching.dispatch ≡ answering.old.dispatching.dispatch }
-    ensures mappings { mappings.new ≡ mappings.old }
-{
-    let mapped = some_mappings(mappings, alloc, files, question.query.pid)?;
-    answering.answers_at(elf, alloc, files, question, mapped.mappings(), addrs)
-}
-
-// The same for an address alone.
-fn ask_single<D: ProcessDispatch + Drop, F: Files>(
-    answering: &mut Answering<D>,
-    mappings: &mut InsertMap<Pid, Mapped>,
-    elf: &mut FileCache<ElfFile>,
-    alloc: Global,
-    files: &mut F,
-    question: &Question<'_>,
-    addr: Addr,
-) -> Result<Symbolized<'static>>
-    ensures asks { AsksProcessAt F.Files reading (D.may_dispatch answering.old.dispatching.dispatch) D.Resolver.TranslateFileOffset D.Resolver.Symbolize question.now.opts.now (asked_of (F.pid files.old) question.now.query.now) (value_at pid_cmp mappings.old question.now.query.now.pid) addr result (caches elf.old answering.old.perf_maps) (caches elf.new answering.new.perf_maps) answering.old.dispatching.answers answering.new.dispatching.answers files.old files.new }
-    ensures dispatch { answering.new.dispatching.dispatch ≡ answering.old.dispatching.dispatch }
-    ensures mappings { mappings.new ≡ mappings.old }
-{
-    let mapped = some_mappings(mappings, alloc, files, question.query.pid)?;
-    answering.answer_at(elf, alloc, files, question, mapped.mappings(), addr)
 }

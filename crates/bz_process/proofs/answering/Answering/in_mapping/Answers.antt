@@ -1,28 +1,66 @@
-use Rattle.std.proofs.Common.{◌≡◌, None, Some, option_map, ap}
+use Rattle.std.proofs.Common.{◌≡◌, Option, None, Some, Ok, Err, option_map, ap, refl}
+use Rattle.bz_base.specs.Answer.{reading}
+use Rattle.bz_base.specs.declared.types.Symbolized.{Symbolized}
 use Rattle.bz_proc.specs.Maps.{mapping_of, name_of}
-use Rattle.bz_process.specs.Asked.{asked_of}
 use Rattle.bz_process.specs.Caches.{caches}
-use Rattle.bz_process.proofs.AskLemmas.{adds_named, in_named, in_unnamed}
+use Rattle.bz_process.specs.Terms.{kept_by, terms_of}
+use Rattle.bz_process.proofs.AskLemmas.{adds_named, in_named, in_unnamed, says, says_no_fault, says_refusal, unless, unless_same}
 use Rattle.bz_process.proofs.answering.Answering.in_mapping.Goals as goal
-
--- the mapping is of this
-pub returns-in-Some-clause-asks : goal.returns-in-Some-clause-asks
-returns-in-Some-clause-asks g c =
-    let named : option_map name_of c.args.entry.now.path_name ≡ Some (name_of c.in-Some.name) = ap (option_map name_of) c.in-Some.is in
-    in_named g.F.Files (g.D.ProcessDispatch.may_dispatch c.args.self.now.dispatching.dispatch) g.D.Resolver.TranslateFileOffset g.D.Resolver.Symbolize c.args.question.now.opts.now (asked_of (g.F.Files.pid c.args.files.now) c.args.question.now.query.now)
-    (mapping_of c.args.entry.now) c.in-Some.name _ c.args.addr c.in_member.result (caches c.args.elf.now c.args.self.now.perf_maps) (caches c.in_member.new.elf c.args.self.now.perf_maps) c.args.self.now.dispatching.answers c.in_member.new.dispatching.answers c.args.files.now c.in_member.new.files
-    named (c.in_member.ensures.asks (g.F.Files.pid c.args.files.now) c.args.self.now.perf_maps)
-
-pub returns-in-Some-clause-adds : goal.returns-in-Some-clause-adds
-returns-in-Some-clause-adds g c =
-    let named : option_map name_of c.args.entry.now.path_name ≡ Some (name_of c.in-Some.name) = ap (option_map name_of) c.in-Some.is in
-    adds_named g.F.Files (g.D.ProcessDispatch.may_dispatch c.args.self.now.dispatching.dispatch) g.D.Resolver.TranslateFileOffset g.D.Resolver.Symbolize c.args.question.now.opts.now (asked_of (g.F.Files.pid c.args.files.now) c.args.question.now.query.now)
-    (mapping_of c.args.entry.now) c.in-Some.name c.args.self.now.dispatching.answers c.in_member.new.dispatching.answers named c.in_member.ensures.adds
 
 -- the mapping is of nothing
 pub returns-in-None-clause-asks : goal.returns-in-None-clause-asks
 returns-in-None-clause-asks g c =
+    let terms = terms_of g.D.ProcessDispatch g.D.Resolver.TranslateFileOffset g.D.Resolver.Symbolize c.args.self.now c.args.question.now (g.F.Files.pid c.args.files.now) in
     let none : option_map name_of c.args.entry.now.path_name ≡ None = ap (option_map name_of) c.in-None.is in
-    in_unnamed g.F.Files (g.D.ProcessDispatch.may_dispatch c.args.self.now.dispatching.dispatch) g.D.Resolver.TranslateFileOffset g.D.Resolver.Symbolize c.args.question.now.opts.now (asked_of (g.F.Files.pid c.args.files.now) c.args.question.now.query.now)
-    (mapping_of c.args.entry.now) _ c.args.addr c.unnamed.result (caches c.args.elf.now c.args.self.now.perf_maps) (caches c.args.elf.now c.unnamed.new.self) c.args.self.now.dispatching.answers c.args.files.now c.unnamed.new.files
+    in_unnamed g.F.Files terms (mapping_of c.args.entry.now) _ c.args.addr c.unnamed.result (caches c.args.elf.now c.args.self.now.perf_maps) (caches c.args.elf.now c.unnamed.new.self) c.args.self.now.dispatching.answers c.args.files.now c.unnamed.new.files
     none (c.unnamed.ensures.step c.args.elf.now) (c.unnamed.ensures.some c.args.elf.now)
+
+-- the resolver that is in charge answered
+pub returns-in-Ok-Some-clause-asks : goal.returns-in-Ok-Some-clause-asks
+returns-in-Ok-Some-clause-asks g c =
+    let terms = terms_of g.D.ProcessDispatch g.D.Resolver.TranslateFileOffset g.D.Resolver.Symbolize c.args.self.now c.args.question.now (g.F.Files.pid c.args.files.now) in
+    let kept = caches c.args.elf.now c.args.self.now.perf_maps in
+    let named : option_map name_of c.args.entry.now.path_name ≡ Some (name_of c.in-Some.name) = ap (option_map name_of) c.in-Some.is in
+    in_named g.F.Files terms (mapping_of c.args.entry.now) c.in-Some.name _ c.args.addr (Some (Ok (reading c.in-Ok-Some.answer))) (Ok c.in-Ok-Some.answer)
+    (kept_by c.args.elf.now c.args.self.now) (record { caches = kept; answers = c.say.new.self.answers }) c.args.files.now c.args.files.now named
+    (rw c.in-Ok-Some.field-0-is at c.in-Ok-Some.ensures).said tt (refl, refl)
+    (says g.F.Files terms.asked (mapping_of c.args.entry.now) c.args.addr (name_of c.in-Some.name) (Ok (reading c.in-Ok-Some.answer)) (Ok c.in-Ok-Some.answer) kept c.args.files.now refl (λ none. none))
+
+-- it refused, or the dispatcher did
+pub returns-in-Err-clause-asks : goal.returns-in-Err-clause-asks
+returns-in-Err-clause-asks g c =
+    let terms = terms_of g.D.ProcessDispatch g.D.Resolver.TranslateFileOffset g.D.Resolver.Symbolize c.args.self.now c.args.question.now (g.F.Files.pid c.args.files.now) in
+    let kept = caches c.args.elf.now c.args.self.now.perf_maps in
+    let named : option_map name_of c.args.entry.now.path_name ≡ Some (name_of c.in-Some.name) = ap (option_map name_of) c.in-Some.is in
+    in_named g.F.Files terms (mapping_of c.args.entry.now) c.in-Some.name _ c.args.addr (Some (Err c.in-Err.error)) (Err c.in-Err.error)
+    (kept_by c.args.elf.now c.args.self.now) (record { caches = kept; answers = c.say.new.self.answers }) c.args.files.now c.args.files.now named
+    (unless_same (Option Symbolized) Symbolized c.in-Err.error _ c.in-Err.ensures.said) (says_no_fault c.in-Err.error c.in-Err.ensures.faultless) (refl, refl)
+    (says_refusal g.F.Files terms.asked (mapping_of c.args.entry.now) c.args.addr (name_of c.in-Some.name) c.in-Err.error kept c.args.files.now c.in-Err.ensures.faultless)
+
+-- nobody is in charge
+pub returns-in-Ok-None-clause-asks : goal.returns-in-Ok-None-clause-asks
+returns-in-Ok-None-clause-asks g c =
+    let terms = terms_of g.D.ProcessDispatch g.D.Resolver.TranslateFileOffset g.D.Resolver.Symbolize c.args.self.now c.args.question.now (g.F.Files.pid c.args.files.now) in
+    let own = g.F.Files.pid c.args.files.now in
+    let named : option_map name_of c.args.entry.now.path_name ≡ Some (name_of c.in-Some.name) = ap (option_map name_of) c.in-Some.is in
+    in_named g.F.Files terms (mapping_of c.args.entry.now) c.in-Some.name _ c.args.addr None c.named.result
+    (kept_by c.args.elf.now c.args.self.now) (record { caches = caches c.named.new.elf c.args.self.now.perf_maps; answers = c.say.new.self.answers }) c.args.files.now c.named.new.files named
+    (unless c.named.result _ (rw c.in-Ok-None.field-0-is at c.in-Ok-None.ensures).said) tt (c.named.ensures.some own c.args.self.now.perf_maps) (c.named.ensures.step own c.args.self.now.perf_maps)
+
+pub returns-in-Ok-Some-clause-adds : goal.returns-in-Ok-Some-clause-adds
+returns-in-Ok-Some-clause-adds g c =
+    let terms = terms_of g.D.ProcessDispatch g.D.Resolver.TranslateFileOffset g.D.Resolver.Symbolize c.args.self.now c.args.question.now (g.F.Files.pid c.args.files.now) in
+    let named : option_map name_of c.args.entry.now.path_name ≡ Some (name_of c.in-Some.name) = ap (option_map name_of) c.in-Some.is in
+    adds_named g.F.Files terms (mapping_of c.args.entry.now) c.in-Some.name c.args.self.now.dispatching.answers c.say.new.self.answers named c.say.ensures.adds
+
+pub returns-in-Err-clause-adds : goal.returns-in-Err-clause-adds
+returns-in-Err-clause-adds g c =
+    let terms = terms_of g.D.ProcessDispatch g.D.Resolver.TranslateFileOffset g.D.Resolver.Symbolize c.args.self.now c.args.question.now (g.F.Files.pid c.args.files.now) in
+    let named : option_map name_of c.args.entry.now.path_name ≡ Some (name_of c.in-Some.name) = ap (option_map name_of) c.in-Some.is in
+    adds_named g.F.Files terms (mapping_of c.args.entry.now) c.in-Some.name c.args.self.now.dispatching.answers c.say.new.self.answers named c.say.ensures.adds
+
+pub returns-in-Ok-None-clause-adds : goal.returns-in-Ok-None-clause-adds
+returns-in-Ok-None-clause-adds g c =
+    let terms = terms_of g.D.ProcessDispatch g.D.Resolver.TranslateFileOffset g.D.Resolver.Symbolize c.args.self.now c.args.question.now (g.F.Files.pid c.args.files.now) in
+    let named : option_map name_of c.args.entry.now.path_name ≡ Some (name_of c.in-Some.name) = ap (option_map name_of) c.in-Some.is in
+    adds_named g.F.Files terms (mapping_of c.args.entry.now) c.in-Some.name c.args.self.now.dispatching.answers c.say.new.self.answers named c.say.ensures.adds
