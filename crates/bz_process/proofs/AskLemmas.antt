@@ -32,7 +32,7 @@ use Rattle.bz_process.specs.ProcessCall.{Reaches, TakesStep, UnlessFailed}
 use Rattle.bz_process.specs.Asked.{Asked}
 use Rattle.bz_process.specs.Caches.{ProcessCaches}
 use Rattle.bz_process.specs.Terms.{Kept, Terms}
-use Rattle.bz_process.specs.Untold.{SaysNoFault, SomeAtAddress, SomeAtAddresses, SomeByAsked, SomeByMapping, SomeByOwner, SomeBySaid, Unfailing, as_read}
+use Rattle.bz_process.specs.Untold.{SaysNoFault, SomeAtAddress, SomeAtAddresses, SomeByAsked, SomeByOwner, SomeBySaid, Unfailing, as_read}
 use Rattle.bz_process.proofs.UntoldLemmas.{gives_self, some_last}
 use Rattle.bz_process.proofs.ProcessLemmas.{looked_both, reaches_both, reaches_same, stays, stays_both, still, unlooked, wants_memory}
 
