@@ -121,6 +121,16 @@ abbrev pub IsBadInput : Command → List ℕ → Type 0
 IsBadInput command input =
     (asking : Asking) × (command ≡ Batch asking) × inputs.IsBadInput IsAddress input
 
+-- what a run comes to has the status exactly where the command, the input and the world are such
+abbrev pub ComesExactlyWhere : Status → (Command → List ℕ → World → Type 0) → Type 0
+ComesExactlyWhere status Such = (command : Command) (input : List ℕ) (world : World) (own : ℕ) →
+    ((run_outcome command input world own).status ≡ status) ↔ Such command input world
+
+-- where a run ended by the status, as its outcome, what it was asked for and what it has written are such
+abbrev pub EndsOnlyWhere : Status → (Command → List ℕ → World → ℕ → List ℕ → Option (List ℕ) → Type 0) → Type 0
+EndsOnlyWhere status Such = (command : Command) (input : List ℕ) (world : World) (own : ℕ) (old : List ℕ) (new : Option (List ℕ)) →
+    Ends (run_outcome command input world own) old status new → Such command input world own old new
+
 -- the input at which answers are asked for was read: to its end, or to the byte that makes it too long
 abbrev pub IsReadWhole : Command → Option (List ℕ) → Option (List ℕ) → Type 0
 IsReadWhole command before after = (asking : Asking) → command ≡ Batch asking → inputs.IsReadWhole before after
@@ -167,18 +177,21 @@ pub record Runs {R W F : Type 0} (reads : input_trait.Ghosts R) (writes : output
       IsOrFails (run_outcome command text world (looks.pid files_before)).status ended))
   -- status 0 means that the input was addresses of a source that has answers, and that these are what was written; or that a
   -- product was asked for, which is what was written
-  pub done : ended ≡ statuses.Done → Told (seen_by command (reads.left input_before)) (λ text. Told (in_view (looks.worlds files_before)) (λ world.
-      Told (writes.written output_before) (λ old. IsDone command text world (looks.pid files_before) old (writes.written output_after) ⊎ IsMade command world old (writes.written output_after))))
+  pub done : ended ≡ statuses.Done →
+      Told (seen_by command (reads.left input_before)) (λ text. Told (in_view (looks.worlds files_before)) (λ world. Told (writes.written output_before) (λ old.
+      IsDone command text world (looks.pid files_before) old (writes.written output_after) ⊎ IsMade command world old (writes.written output_after))))
   -- and whatever the files tell, that they are those of some bytes in the format of the source, or that some file makes it
   pub answered : ended ≡ statuses.Done → Told (seen_by command (reads.left input_before)) (λ text. Told (writes.written output_before) (λ old.
       IsSomeDone command text old (writes.written output_after) ⊎ IsSomeMade command old (writes.written output_after)))
   -- status 1 means that the input was addresses of a source that has no answers, or that a product was asked for that can't be
   -- made, and that the refusal is what was written
-  pub refused : ended ≡ statuses.Refused → Told (seen_by command (reads.left input_before)) (λ text. Told (in_view (looks.worlds files_before)) (λ world.
-      Told (writes.written output_before) (λ old. IsRefused command text world old (writes.written output_after) ⊎ IsUnmade command world old (writes.written output_after))))
+  pub refused : ended ≡ statuses.Refused →
+      Told (seen_by command (reads.left input_before)) (λ text. Told (in_view (looks.worlds files_before)) (λ world. Told (writes.written output_before) (λ old.
+      IsRefused command text world old (writes.written output_after) ⊎ IsUnmade command world old (writes.written output_after))))
   -- status 2 is for words that give no command, and command and input alone decide on status 3
   pub usage : ended ≢ statuses.Usage
-  pub input : Told (seen_by command (reads.left input_before)) (λ text. (ended ≡ statuses.Input → IsBadInput command text) × (IsBadInput command text → IsOrFails statuses.Input ended))
+  pub input : Told (seen_by command (reads.left input_before)) (λ text.
+      (ended ≡ statuses.Input → IsBadInput command text) × (IsBadInput command text → IsOrFails statuses.Input ended))
   -- a source that has answers is answered, and a product that can be made is made, unless something fails or memory runs out
   pub complete : Told (seen_by command (reads.left input_before)) (λ text. Told (in_view (looks.worlds files_before)) (λ world.
       IsAnswerable command text world ⊎ IsMakeable command world → IsOrFails statuses.Done ended))
@@ -195,12 +208,15 @@ pub record Runs {R W F : Type 0} (reads : input_trait.Ghosts R) (writes : output
   -- until the input is read, no file is looked at and nothing is written
   pub order : ((files_after ≡ files_before) × (output_after ≡ output_before)) ⊎ IsReadWhole command (reads.left input_before) (reads.left input_after)
   -- where there is nothing to write, the output is left alone
-  pub silent : Told (seen_by command (reads.left input_before)) (λ text. Told (in_view (looks.worlds files_before)) (λ world. (run_outcome command text world (looks.pid files_before)).text ≡ [] → output_after ≡ output_before))
+  pub silent : Told (seen_by command (reads.left input_before)) (λ text. Told (in_view (looks.worlds files_before)) (λ world.
+      (run_outcome command text world (looks.pid files_before)).text ≡ [] → output_after ≡ output_before))
   -- one file at most is read, and where a run is done one was; unless a process is asked
   pub most : UnlessProcess command (ReadsOne looks files_before files_after)
-  pub opened : UnlessProcess command (Told (in_view (looks.worlds files_before)) (λ world. ended ≡ statuses.Done → looks.opens files_after ≡ counted (looks.opens files_before)))
+  pub opened : UnlessProcess command (Told (in_view (looks.worlds files_before)) (λ world.
+      ended ≡ statuses.Done → looks.opens files_after ≡ counted (looks.opens files_before)))
   -- for a process no more files are read than its batch reads
-  pub process : Told (seen_by command (reads.left input_before)) (λ text. Told (in_view (looks.worlds files_before)) (λ world. (asking : Asking) (number : ℕ) (addrs : List ℕ) → Asks command text asking addrs → asking.target ≡ OneProcess number →
+  pub process : Told (seen_by command (reads.left input_before)) (λ text. Told (in_view (looks.worlds files_before)) (λ world.
+      (asking : Asking) (number : ℕ) (addrs : List ℕ) → Asks command text asking addrs → asking.target ≡ OneProcess number →
       looks.opens files_after ≤ looks.opens files_before + (process_batch asking.config number (looks.pid files_before) addrs world).opens))
   -- one side at most failed, and files only before the output; a fault comes only where a call failed, and at any other status
   -- none has

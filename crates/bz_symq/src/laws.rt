@@ -1,6 +1,6 @@
 //! What holds of this crate's definitions.
 
-ghost use Rattle.std.specs.Prelude.{◌≡◌, ◌≢◌, ◌⊎◌, ◌↔◌, ℕ, List, map, Option, None};
+ghost use Rattle.std.specs.Prelude.{◌≡◌, ◌≢◌, ◌⊎◌, ℕ, List, map, None};
 ghost use Rattle.bz_base.specs.Answer.{Answer, in_batch};
 ghost use Rattle.bz_files.specs.Agreement.{AgreeOn};
 ghost use Rattle.bz_files.specs.World.{World};
@@ -8,23 +8,23 @@ ghost use Rattle.bz_process.specs.InView.{process_in_view};
 ghost use Rattle.bz_symq.specs.Command.{Asking, Command, OneProcess};
 ghost use Rattle.bz_symq.specs.Outcome.{run_outcome};
 ghost use Rattle.bz_symq.specs.Processes.{asked_by, nothing_kept};
-ghost use Rattle.bz_symq.specs.Run.{Ends, IsAnswerable, IsBadInput, IsDone, IsMade, IsMakeable, IsRefusable, IsRefused, IsUnmade, IsUnmakeable};
+ghost use Rattle.bz_symq.specs.Run.{ComesExactlyWhere, EndsOnlyWhere, IsAnswerable, IsBadInput, IsDone, IsMade, IsMakeable, IsRefusable, IsRefused, IsUnmade, IsUnmakeable};
 ghost use Rattle.bz_symq.specs.Targets.{AnswersIn};
 ghost use Rattle.bz_symq.specs.declared.status.Status.TheVariants as statuses;
 
 /// The outcome of a run is each status exactly where the status has its cause; that of words that give
 /// no command is never one.
 pub fn outcomes_have_causes()
-    ensures done { (command : Command) (input : List ℕ) (world : World) (own : ℕ) → ((run_outcome command input world own).status ≡ statuses.Done) ↔ (IsAnswerable command input world ⊎ IsMakeable command world) }
-    ensures refused { (command : Command) (input : List ℕ) (world : World) (own : ℕ) → ((run_outcome command input world own).status ≡ statuses.Refused) ↔ (IsRefusable command input world ⊎ IsUnmakeable command world) }
+    ensures done { ComesExactlyWhere statuses.Done (λ command input world. IsAnswerable command input world ⊎ IsMakeable command world) }
+    ensures refused { ComesExactlyWhere statuses.Refused (λ command input world. IsRefusable command input world ⊎ IsUnmakeable command world) }
     ensures usage { (command : Command) (input : List ℕ) (world : World) (own : ℕ) → (run_outcome command input world own).status ≢ statuses.Usage }
-    ensures input { (command : Command) (input : List ℕ) (world : World) (own : ℕ) → ((run_outcome command input world own).status ≡ statuses.Input) ↔ IsBadInput command input }
+    ensures input { ComesExactlyWhere statuses.Input (λ command input world. IsBadInput command input) }
 {}
 
 /// A run that ends as its outcome, done or refused, has written the answers, the product or the refusal.
 pub fn endings_have_causes()
-    ensures done { (command : Command) (input : List ℕ) (world : World) (own : ℕ) (old : List ℕ) (new : Option (List ℕ)) → Ends (run_outcome command input world own) old statuses.Done new → IsDone command input world own old new ⊎ IsMade command world old new }
-    ensures refused { (command : Command) (input : List ℕ) (world : World) (own : ℕ) (old : List ℕ) (new : Option (List ℕ)) → Ends (run_outcome command input world own) old statuses.Refused new → IsRefused command input world old new ⊎ IsUnmade command world old new }
+    ensures done { EndsOnlyWhere statuses.Done (λ command input world own old new. IsDone command input world own old new ⊎ IsMade command world old new) }
+    ensures refused { EndsOnlyWhere statuses.Refused (λ command input world own old new. IsRefused command input world old new ⊎ IsUnmade command world old new) }
 {}
 
 /// Where equal stamps have equal bytes in the world, each answer of a process is what is in view for its
