@@ -5,8 +5,10 @@ use Rattle.bz_requests.specs.declared.requests.Config.{Config}
 use Rattle.bz_symq.specs.declared.command.Batch as lent_batch
 use Rattle.bz_symq.specs.declared.command.Command as lent_command
 use Rattle.bz_symq.specs.declared.command.Command.TheVariants as commands
+use Rattle.bz_symq.specs.declared.command.FileBatch as lent_file_batch
 use Rattle.bz_symq.specs.declared.command.FileTarget as lent_file
 use Rattle.bz_symq.specs.declared.command.FileTarget.TheVariants as files
+use Rattle.bz_symq.specs.declared.command.ProcessBatch as process_batch
 use Rattle.bz_symq.specs.declared.command.Product as lent_product
 use Rattle.bz_symq.specs.declared.command.Product.TheVariants as products
 use Rattle.bz_symq.specs.declared.command.Target as lent_target
@@ -68,6 +70,13 @@ target_of (targets.Process number) = OneProcess number
 
 abbrev pub asking_of : lent_batch.Batch → Asking
 asking_of batch = record { target = target_of batch.target; kind = address_kind batch.kind; config = batch.config }
+
+-- what a batch of a file asks, and one of a process
+abbrev pub file_asking : lent_file_batch.FileBatch → Asking
+file_asking batch = of_file (file_target_of batch.file) (address_kind batch.kind) batch.config
+
+abbrev pub process_asking : process_batch.ProcessBatch → Asking
+process_asking batch = of_process batch.number (address_kind batch.kind) batch.config
 
 abbrev pub product_of : lent_product.Product → Product
 product_of (products.Converted path) = Converted path.now

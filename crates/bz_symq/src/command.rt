@@ -35,6 +35,28 @@ pub struct Batch<'a> {
     pub config: Config,
 }
 
+/// A batch that a file is asked, in words that are lent.
+#[derive(Clone, Copy, Debug)]
+pub(crate) struct FileBatch<'a> {
+    /// The file that answers the addresses.
+    pub(crate) file: FileTarget<'a>,
+    /// What the addresses are relative to.
+    pub(crate) kind: Input<()>,
+    /// The settings of the symbolizer.
+    pub(crate) config: Config,
+}
+
+/// A batch that a process is asked.
+#[derive(Clone, Copy, Debug)]
+pub(crate) struct ProcessBatch {
+    /// The id of the process; 0 stands for the own one.
+    pub(crate) number: u32,
+    /// What the addresses are relative to.
+    pub(crate) kind: Input<()>,
+    /// The settings of the symbolizer, and how the process is asked.
+    pub(crate) config: Config,
+}
+
 /// What is made of one file, in words that are lent.
 #[derive(Clone, Copy, Debug)]
 pub enum Product<'a> {

@@ -6,25 +6,25 @@ ghost use Rattle.bz_files.specs.Looked.{Faulted, Looked};
 ghost use Rattle.bz_files.specs.World.{Told, in_view};
 ghost use Rattle.bz_cache.specs.Format.{Comes};
 ghost use Rattle.bz_requests.specs.Addresses.{addresses_in};
-ghost use Rattle.bz_symq.specs.Command.{asking_of, command_of, file_target_of, of_file, seen_by, target_of, Batch as OneBatch, OneFile};
+ghost use Rattle.bz_symq.specs.Command.{asking_of, command_of, file_asking, file_target_of, seen_by, target_of, Batch as OneBatch, OneFile};
 ghost use Rattle.bz_symq.specs.Counted.{AnswersInFew, InputTakesFew, RunTakesFew, TakesFew};
-ghost use Rattle.bz_symq.specs.Outcome.{by_answer, by_addresses};
+ghost use Rattle.bz_symq.specs.Outcome.{by_addresses};
 ghost use Rattle.bz_symq.specs.Reply.{IsBatchReply, IsDoneReply, IsInputReply, IsInputStatus, Replies, RepliesToCommand, RepliesUnread};
 ghost use Rattle.bz_symq.specs.Run.{Runs};
 ghost use Rattle.bz_symq.specs.Targets.{answer_to, file_takes, takes, AnswersSome, IsSourceOf};
 ghost use Rattle.bz_symq.specs.Turns.{FailsAtOne, ReadsFor, ReadsForInput, ReadsOneFor, TakesTurns};
 
 use crate::asking::{input_for, new_symbolizer};
-use crate::command::{Batch, Command, FileTarget, Target};
+use crate::command::{Batch, Command, FileBatch, FileTarget, ProcessBatch, Target};
 use crate::input::{self, ReadStop};
 use crate::output::finish;
 use crate::process::reply_of_process;
 use crate::product::reply_with_product;
 use crate::reply::{Reply, Said, bad_line, refusal, stored_reply};
 use crate::status::Status;
-use bz_base::{Error, Input, Result, Steps};
+use bz_base::{Error, Result, Steps};
 use bz_files::{Files, TextIn, TextOut};
-use bz_requests::{BadInput, Config};
+use bz_requests::BadInput;
 use bz_symbolize::Lookups;
 use bz_symbolize::source::{Breakpad, Elf, GsymFile, Source};
 use std::alloc::Global;
@@ -176,7 +176,7 @@ fn reply_to_batch<F: Files, L: Ledger>(
     files: &mut F,
     steps: &mut Steps<L>,
 ) -> Result<Reply>
-    ensures reply { Told (in_view (F.worlds files.old)) (λ world. Replies (by_answer addrs.items (answer_to (asking_of batch.now) addrs.items world (F.pid files.old))) result) }
+    ensures reply { Told (in_view (F.worlds files.old)) (λ world. Replies (by_addresses (asking_of batch.now) world (F.pid files.old) (Ok addrs.items)) result) }
     ensures answered { IfOk result (λ given. IsBatchReply (asking_of batch.now) addrs.items given) }
     ensures status { IfOk result (λ given. IsInputStatus (Ok addrs.items) given.status) }
     ensures untaken { takes (target_of batch.now.target) (address_kind batch.now.kind) ≡ false → files.new ≡ files.old }
@@ -187,9 +187,17 @@ fn reply_to_batch<F: Files, L: Ledger>(
     let kind = batch.kind;
     let config = batch.config;
     match batch.target {
-        Target::File(file) => reply_of_file(alloc, &file, kind, config, addrs, files, steps),
+        Target::File(file) => {
+            let asked = FileBatch { file, kind, config };
+            reply_of_file(alloc, &asked, addrs, files, steps)
+        }
         Target::Process(number) => {
-            reply_of_process(alloc, number, kind, config, addrs, files, steps)
+            let asked = ProcessBatch {
+                number,
+                kind,
+                config,
+            };
+            reply_of_process(alloc, asked, addrs, files, steps)
         }
     }
 }
@@ -197,22 +205,20 @@ fn reply_to_batch<F: Files, L: Ledger>(
 // The addresses are answered by a file.
 fn reply_of_file<F: Files, L: Ledger>(
     alloc: Global,
-    file: &FileTarget<'_>,
-    kind: Input<()>,
-    config: Config,
+    batch: &FileBatch<'_>,
     addrs: Vec<u64>,
     files: &mut F,
     steps: &mut Steps<L>,
 ) -> Result<Reply>
-    ensures reply { Told (in_view (F.worlds files.old)) (λ world. Replies (by_answer addrs.items (answer_to (of_file (file_target_of file.now) (address_kind kind) config) addrs.items world (F.pid files.old))) result) }
-    ensures answered { IfOk result (λ given. IsBatchReply (of_file (file_target_of file.now) (address_kind kind) config) addrs.items given) }
+    ensures reply { Told (in_view (F.worlds files.old)) (λ world. Replies (by_addresses (file_asking batch.now) world (F.pid files.old) (Ok addrs.items)) result) }
+    ensures answered { IfOk result (λ given. IsBatchReply (file_asking batch.now) addrs.items given) }
     ensures status { IfOk result (λ given. IsInputStatus (Ok addrs.items) given.status) }
-    ensures untaken { file_takes (file_target_of file.now) (address_kind kind) ≡ false → files.new ≡ files.old }
+    ensures untaken { file_takes (file_target_of batch.now.file) (address_kind batch.now.kind) ≡ false → files.new ≡ files.old }
     ensures opens { ReadsOneFor F.Files (IsDoneReply result) files.old files.new }
     ensures files { Looked F.Files files.old files.new (Faulted result) }
-    ensures steps { TakesFew (OneFile (file_target_of file.now)) (length addrs.items) steps.old steps.new }
+    ensures steps { TakesFew (OneFile (file_target_of batch.now.file)) (length addrs.items) steps.old steps.new }
 {
-    match look_up(alloc, file, kind, config, addrs, files, steps) {
+    match look_up(alloc, batch, addrs, files, steps) {
         Ok(lookups) => Ok(Reply {
             status: Status::Done,
             said: Said::Answers(lookups),
@@ -224,25 +230,23 @@ fn reply_of_file<F: Files, L: Ledger>(
 // The file's source, looked at for the addresses, which are searched for in it.
 fn look_up<F: Files, L: Ledger>(
     alloc: Global,
-    file: &FileTarget<'_>,
-    kind: Input<()>,
-    config: Config,
+    batch: &FileBatch<'_>,
     addrs: Vec<u64>,
     files: &mut F,
     steps: &mut Steps<L>,
 ) -> Result<Lookups<'static>>
-    ensures answer { Told (in_view (F.worlds files.old)) (λ world. Comes (λ lookups. lookups.answers) (answer_to (of_file (file_target_of file.now) (address_kind kind) config) addrs.items world (F.pid files.old)) result) }
-    ensures answered { IfOk result (λ lookups. AnswersSome (of_file (file_target_of file.now) (address_kind kind) config) addrs.items lookups.answers) }
+    ensures answer { Told (in_view (F.worlds files.old)) (λ world. Comes (λ lookups. lookups.answers) (answer_to (file_asking batch.now) addrs.items world (F.pid files.old)) result) }
+    ensures answered { IfOk result (λ lookups. AnswersSome (file_asking batch.now) addrs.items lookups.answers) }
     ensures addrs { IfOk result (λ lookups. lookups.addrs ≡ addrs.items) }
-    ensures untaken { file_takes (file_target_of file.now) (address_kind kind) ≡ false → files.new ≡ files.old }
+    ensures untaken { file_takes (file_target_of batch.now.file) (address_kind batch.now.kind) ≡ false → files.new ≡ files.old }
     ensures opens { ReadsOneFor F.Files (IsOk result) files.old files.new }
     ensures files { Looked F.Files files.old files.new (Faulted result) }
-    ensures found { IfOk result (λ lookups. AnswersInFew (file_target_of file.now) (address_kind kind) config addrs.items lookups.answers steps.old steps.new) }
-    ensures steps { TakesFew (OneFile (file_target_of file.now)) (length addrs.items) steps.old steps.new }
+    ensures found { IfOk result (λ lookups. AnswersInFew (file_target_of batch.now.file) (address_kind batch.now.kind) batch.now.config addrs.items lookups.answers steps.old steps.new) }
+    ensures steps { TakesFew (OneFile (file_target_of batch.now.file)) (length addrs.items) steps.old steps.new }
 {
-    let src = source(alloc, file)?;
-    let mut symbolizer = new_symbolizer(alloc, config);
-    symbolizer.look_up(alloc, files, &src, input_for(kind, addrs), steps)
+    let src = source(alloc, &batch.file)?;
+    let mut symbolizer = new_symbolizer(alloc, batch.config);
+    symbolizer.look_up(alloc, files, &src, input_for(batch.kind, addrs), steps)
 }
 
 // The source that is the file's.

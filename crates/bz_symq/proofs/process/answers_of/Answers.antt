@@ -9,21 +9,21 @@ use Rattle.bz_symq.proofs.process.answers_of.Goals as goal
 -- a dispatcher that gives no resolver leaves the answers to the definitions
 pub returns-clause-answer : goal.returns-clause-answer
 returns-clause-answer g c world seen =
-    let named : c.from.result ≡ pid_of c.args.number = process_named c.args.number c.from.result c.from.ensures in
+    let named : c.from.result ≡ pid_of c.args.batch.number = process_named c.args.batch.number c.from.result c.from.ensures in
     let promise = rw (c.from-src.ensures, c.new-process.ensures, named, c.input_for.ensures.kind, c.input_for.ensures.addrs) at c.symbolize_counted.ensures.process.asked in
     let kept = c.new_symbolizer-symbolizer.ensures in
     let files = ap (λ (k : Kept). k.files) kept in
     let perf_maps = ap (λ (k : Kept). k.processes.perf_maps) kept in
     let ids = ap (λ (k : Kept). k.processes.ids) kept in
     let mappings = ap (λ (k : Kept). k.processes.mappings) kept in
-    answered_if_taken views (is_in_process (address_kind c.args.kind)) (process_batch c.args.config c.args.number (g.F.Files.pid c.args.files.now) c.args.addrs.now world).answer c.symbolize_counted.result (λ is. (promise.untaken is).0)
+    answered_if_taken views (is_in_process (address_kind c.args.batch.kind)) (process_batch c.args.batch.config c.args.batch.number (g.F.Files.pid c.args.files.now) c.args.addrs.now world).answer c.symbolize_counted.result (λ is. (promise.untaken is).0)
     (λ is. let step = promise.exact (λ member answer is. is) is in rw (files, perf_maps, ids, mappings) at ((step.told world seen).answer))
 
 -- what is answered was taken
 pub returns-clause-served : goal.returns-clause-served
 returns-clause-served g c =
     let promise = rw (c.from-src.ensures, c.input_for.ensures.kind) at c.symbolize_counted.ensures.process.asked in
-    served_if_given (is_in_process (address_kind c.args.kind)) c.symbolize_counted.result (λ is. (promise.untaken is).0)
+    served_if_given (is_in_process (address_kind c.args.batch.kind)) c.symbolize_counted.result (λ is. (promise.untaken is).0)
 
 -- what isn't taken is refused without a look
 pub returns-clause-untaken : goal.returns-clause-untaken
@@ -34,14 +34,14 @@ returns-clause-untaken g c is =
 -- and no more files are read than they say
 pub returns-clause-opens : goal.returns-clause-opens
 returns-clause-opens g c world seen =
-    let named : c.from.result ≡ pid_of c.args.number = process_named c.args.number c.from.result c.from.ensures in
+    let named : c.from.result ≡ pid_of c.args.batch.number = process_named c.args.batch.number c.from.result c.from.ensures in
     let promise = rw (c.from-src.ensures, c.new-process.ensures, named, c.input_for.ensures.kind, c.input_for.ensures.addrs) at c.symbolize_counted.ensures.process.asked in
     let kept = c.new_symbolizer-symbolizer.ensures in
     let files = ap (λ (k : Kept). k.files) kept in
     let perf_maps = ap (λ (k : Kept). k.processes.perf_maps) kept in
     let ids = ap (λ (k : Kept). k.processes.ids) kept in
     let mappings = ap (λ (k : Kept). k.processes.mappings) kept in
-    opened_if_taken (is_in_process (address_kind c.args.kind)) _ _ _ (λ is. ap g.F.Files.opens (promise.untaken is).3)
+    opened_if_taken (is_in_process (address_kind c.args.batch.kind)) _ _ _ (λ is. ap g.F.Files.opens (promise.untaken is).3)
     (λ is. let step = promise.exact (λ member answer is. is) is in rw (files, perf_maps, ids, mappings) at ((step.told world seen).opened))
 
 -- of a process no steps are counted
