@@ -81,7 +81,8 @@ pub record RunsFrames {R W F : Type 0} (reads : input_trait.Ghosts R) (writes : 
   -- until the input is read, no file is looked at and nothing is written
   pub order : ((files_after ≡ files_before) × (output_after ≡ output_before)) ⊎ IsReadWhole (reads.left input_before) (reads.left input_after)
   -- where there is nothing to write, the output is left alone
-  pub silent : Told (reads.left input_before) (λ text. Told (in_view (looks.worlds files_before)) (λ world. (frames_outcome world root opts text).text ≡ [] → output_after ≡ output_before))
+  pub silent : Told (reads.left input_before) (λ text. Told (in_view (looks.worlds files_before)) (λ world.
+      (frames_outcome world root opts text).text ≡ [] → output_after ≡ output_before))
   -- one side at most failed, and files only before the output; a fault comes only where a call failed, and at any other status
   -- none has
   pub fails : Fails reads writes looks ended input_before input_after output_before output_after files_before files_after

@@ -60,25 +60,25 @@ caching_reads asked world kept =
 abbrev pub file_reads : Cache → List ℕ → World → ℕ
 file_reads cache path world = count_of (will_open cache path (entry_at world path))
 
--- what is asked of a target, by what is asked of a process
-abbrev pub target_reads : (ℕ → ℕ) → Target → Kept → World → ℕ
-target_reads of_process (Breakpad path) kept world = file_reads kept.files.breakpad path world
-target_reads of_process (Gsym path) kept world = file_reads kept.files.gsym path world
-target_reads of_process (Elf path) kept world = file_reads kept.files.elf path world
-target_reads of_process (Process number) kept world = of_process number
+-- by the setting for paths that stand for mappings, and the id of the own process
+module _ (map_files : Bool) (own : ℕ) where
+  -- what is asked of a target: of a process by how it is asked, and by the mappings that are kept of it
+  abbrev pub target_reads : (Asked → Option (List Mapping) → ℕ) → Target → Kept → World → ℕ
+  target_reads of_process (Breakpad path) kept world = file_reads kept.files.breakpad path world
+  target_reads of_process (Gsym path) kept world = file_reads kept.files.gsym path world
+  target_reads of_process (Elf path) kept world = file_reads kept.files.elf path world
+  target_reads of_process (Process number) kept world = of_process (asked_of own (query_by map_files number)) (kept_mappings kept.processes (pid_by number))
 
--- a request, by the id of the own process; a path that is to be kept is looked at as if it weren't pinned
-abbrev pub request_reads : Bool → ℕ → Request → Kept → World → ℕ
-request_reads map_files own (Batch target addrs) kept world =
-    target_reads (λ number. batch_reads (asked_of own (query_by map_files number)) (kept_mappings kept.processes (pid_by number)) addrs world (caches_in kept)) target kept world
-request_reads map_files own (Single target addr) kept world =
-    target_reads (λ number. process_reads (asked_of own (query_by map_files number)) (kept_mappings kept.processes (pid_by number)) (addr ∷ []) world (caches_in kept)) target kept world
-request_reads map_files own (CacheElf path) kept world = file_reads (with_pin false kept.files.elf path) path world
-request_reads map_files own (CacheProcess number) kept world = caching_reads (record { pid = pid_by number; own = own; vmas = true; perf_map = true }) world (caches_in kept)
-request_reads map_files own (EvictElf path) kept world = 0
-request_reads map_files own (EvictProcess number) kept world = 0
+  -- a request; a path that is to be kept is looked at as if it weren't pinned
+  abbrev pub request_reads : Request → Kept → World → ℕ
+  request_reads (Batch target addrs) kept world = target_reads (λ asked known. batch_reads asked known addrs world (caches_in kept)) target kept world
+  request_reads (Single target addr) kept world = target_reads (λ asked known. process_reads asked known (addr ∷ []) world (caches_in kept)) target kept world
+  request_reads (CacheElf path) kept world = file_reads (with_pin false kept.files.elf path) path world
+  request_reads (CacheProcess number) kept world = caching_reads (record { pid = pid_by number; own = own; vmas = true; perf_map = true }) world (caches_in kept)
+  request_reads (EvictElf path) kept world = 0
+  request_reads (EvictProcess number) kept world = 0
 
--- requests one after the other, each in its world and in the state that those before it left
-abbrev pub requests_read : Bool → ℕ → Kept → List (World × Request) → ℕ
-requests_read map_files own kept [] = 0
-requests_read map_files own kept (turn ∷ later) = request_reads map_files own turn.1 kept turn.0 + requests_read map_files own (step map_files own turn.1 kept turn.0).state later
+  -- requests one after the other, each in its world and in the state that those before it left
+  abbrev pub requests_read : Kept → List (World × Request) → ℕ
+  requests_read kept [] = 0
+  requests_read kept (turn ∷ later) = request_reads turn.1 kept turn.0 + requests_read (step map_files own turn.1 kept turn.0).state later
