@@ -31,6 +31,15 @@ pub(crate) enum Stop {
     Memory,
 }
 
+/// What serves requests.
+#[derive(Drop)]
+pub(crate) struct Server {
+    /// The symbolizer that is asked, which keeps what it learnt.
+    pub(crate) symbolizer: Symbolizer,
+    /// Whether mapped files of a process are looked at by the paths that stand for their mappings.
+    pub(crate) map_files: bool,
+}
+
 /// Answers the requests by one symbolizer, each in its world of files, and writes the texts of the
 /// answers as they come. A refused request is answered by the name of its refusal, and the run goes on.
 /// It ends by `Done`; by `Fault` where a look at a file or the writing failed; or by `Memory`.
@@ -61,16 +70,11 @@ fn serve_blank<W: TextOut, F: Files, L: Ledger>(
     ensures { Serves W.TextOut F.Files config (map request_of requests.now) result output.old output.new files.old files.new }
 {
     let mut steps = Steps::<L>::new(blank);
-    let mut symbolizer = new_symbolizer(alloc, config);
-    let served = serve_all(
-        alloc,
-        &mut symbolizer,
-        config.map_files,
-        requests,
-        output,
-        files,
-        &mut steps,
-    );
+    let mut server = Server {
+        symbolizer: new_symbolizer(alloc, config),
+        map_files: config.map_files,
+    };
+    let served = serve_all(alloc, &mut server, requests, output, files, &mut steps);
     status_of(served)
 }
 
@@ -88,18 +92,17 @@ fn status_of(served: Result<(), Stop>) -> Status
 
 fn serve_all<W: TextOut, F: Files, L: Ledger>(
     alloc: Global,
-    symbolizer: &mut Symbolizer,
-    map_files: bool,
+    server: &mut Server,
     requests: &[Request],
     output: &mut W,
     files: &mut F,
     steps: &mut Steps<L>,
 ) -> Result<(), Stop>
-    ensures { ServesAll W.TextOut F.Files (step map_files) (map request_of requests.now) result (kept_of symbolizer.old) output.old output.new files.old files.new }
+    ensures { ServesAll W.TextOut F.Files (step server.old.map_files) (map request_of requests.now) result (kept_of server.old.symbolizer) output.old output.new files.old files.new }
 {
     for request in requests {
         files.begin();
-        if let Err(stop) = serve_one(alloc, symbolizer, map_files, request, output, files, steps) {
+        if let Err(stop) = serve_one(alloc, server, request, output, files, steps) {
             return Err(stop);
         }
     }
@@ -109,16 +112,16 @@ fn serve_all<W: TextOut, F: Files, L: Ledger>(
 // Answers one request in the world in view, and writes its text.
 fn serve_one<W: TextOut, F: Files, L: Ledger>(
     alloc: Global,
-    symbolizer: &mut Symbolizer,
-    map_files: bool,
+    server: &mut Server,
     request: &Request,
     output: &mut W,
     files: &mut F,
     steps: &mut Steps<L>,
 ) -> Result<(), Stop>
-    ensures { Served W.TextOut F.Files (step map_files (F.pid files.old) (request_of request.now)) result (kept_of symbolizer.old) (kept_of symbolizer.new) output.old output.new files.old files.new }
+    ensures served { Served W.TextOut F.Files (step server.old.map_files (F.pid files.old) (request_of request.now)) result (kept_of server.old.symbolizer) (kept_of server.new.symbolizer) output.old output.new files.old files.new }
+    ensures same { server.new.map_files ≡ server.old.map_files }
 {
-    match reply_to_request(alloc, symbolizer, map_files, request, files, steps) {
+    match reply_to_request(alloc, server, request, files, steps) {
         Ok(said) => stopped(write_said(alloc, output, &said)),
         Err(error) => Err(stop_by(error)),
     }

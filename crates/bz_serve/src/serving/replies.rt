@@ -3,15 +3,16 @@
 ghost use Rattle.std.specs.Prelude.{◌≡◌};
 ghost use Rattle.bz_base.specs.InputKind.{InProcess, address_kind, payload};
 ghost use Rattle.bz_process.specs.declared.query.ProcessQuery.{ProcessQuery};
-ghost use Rattle.bz_requests.specs.Requests.{request_of, target_of, usual_kind};
+ghost use Rattle.bz_requests.specs.Requests.{request_of, target_of, Batch, Single};
 ghost use Rattle.bz_serve.specs.Serving.{Replied};
-ghost use Rattle.bz_serve.specs.RequestSteps.{asking, asking_batch, asking_single, done_by, forgetting, keeping, okay, step, target_form};
+ghost use Rattle.bz_serve.specs.RequestSteps.{asking, asking_batch, done_by, forgetting, keeping, okay, step};
 ghost use Rattle.bz_symbolize.specs.FileCall.{batch_of};
 ghost use Rattle.bz_symbolize.specs.Requests.{ToCache, ToEvict, cache_read, evict_read};
 ghost use Rattle.bz_symbolize.specs.Sources.{FileSource, OneFile, OneProcess, form_of};
-ghost use Rattle.bz_canon.specs.AnswerText.{answer_text, answer_texts};
+ghost use Rattle.bz_canon.specs.AnswerText.{answer_texts};
 ghost use Rattle.bz_symq.specs.Kept.{kept_of};
 
+use crate::serving::Server;
 use crate::serving::saying::{said_answer, said_okay, said_refusal};
 use crate::serving::sources::{
     elf_to_cache, elf_to_evict, input_of, process_to_cache, process_to_evict, source_of,
@@ -30,72 +31,57 @@ use std::sync::ledger::Ledger;
 /// What is said to a request in the world in view.
 pub(crate) fn reply_to_request<F: Files, L: Ledger>(
     alloc: Global,
-    symbolizer: &mut Symbolizer,
-    map_files: bool,
+    server: &mut Server,
     request: &Request,
     files: &mut F,
     steps: &mut Steps<L>,
 ) -> Result<Said>
-    ensures { Replied F.Files (step map_files (F.pid files.old) (request_of request.now)) result (kept_of symbolizer.old) (kept_of symbolizer.new) files.old files.new }
+    ensures reply { Replied F.Files (step server.old.map_files (F.pid files.old) (request_of request.now)) result (kept_of server.old.symbolizer) (kept_of server.new.symbolizer) files.old files.new }
+    ensures same { server.new.map_files ≡ server.old.map_files }
 {
     match request {
         Request::Batch(target, addrs) => {
-            reply_to_addrs(
-                alloc,
-                symbolizer,
-                map_files,
-                target,
-                addrs.as_slice(),
-                files,
-                steps,
-            )
+            reply_to_addrs(alloc, server, target, addrs.as_slice(), files, steps)
         }
-        Request::Single(target, addr) => {
-            reply_to_addr(alloc, symbolizer, map_files, target, *addr, files)
-        }
+        Request::Single(target, addr) => reply_to_addr(alloc, server, target, *addr, files),
         Request::CacheElf(path) => {
             let cache = elf_to_cache(alloc, path.as_str())?;
-            reply_to_cache(alloc, symbolizer, &cache, files)
+            reply_to_cache(alloc, &mut server.symbolizer, &cache, files)
         }
         Request::CacheProcess(number) => {
             let cache = process_to_cache(*number);
-            reply_to_cache(alloc, symbolizer, &cache, files)
+            reply_to_cache(alloc, &mut server.symbolizer, &cache, files)
         }
         Request::EvictElf(path) => {
             let evict = elf_to_evict(alloc, path.as_str())?;
-            reply_to_evict(symbolizer, &evict, files)
+            reply_to_evict(&mut server.symbolizer, &evict, files)
         }
         Request::EvictProcess(number) => {
             let evict = process_to_evict(*number);
-            reply_to_evict(symbolizer, &evict, files)
+            reply_to_evict(&mut server.symbolizer, &evict, files)
         }
     }
 }
 
 fn reply_to_addrs<F: Files, L: Ledger>(
     alloc: Global,
-    symbolizer: &mut Symbolizer,
-    map_files: bool,
+    server: &mut Server,
     target: &Target,
     addrs: &[Addr],
     files: &mut F,
     steps: &mut Steps<L>,
 ) -> Result<Said>
-    ensures { Replied F.Files (done_by (answer_texts addrs.now) (asking_batch (F.pid files.old) (target_form map_files (target_of target.now)) (usual_kind (target_of target.now)) addrs.now)) result (kept_of symbolizer.old) (kept_of symbolizer.new) files.old files.new }
+    ensures reply { Replied F.Files (step server.old.map_files (F.pid files.old) (Batch (target_of target.now) addrs.now)) result (kept_of server.old.symbolizer) (kept_of server.new.symbolizer) files.old files.new }
+    ensures same { server.new.map_files ≡ server.old.map_files }
 {
-    let src = source_of(alloc, map_files, target)?;
+    let src = source_of(alloc, server.map_files, target)?;
+    let symbolizer = &mut server.symbolizer;
     let addrs = Vec::from_slice(alloc, addrs)?;
     match target {
         Target::Process(_) => reply_by_process(alloc, symbolizer, &src, addrs, files, steps),
         Target::Breakpad(_) | Target::Gsym(_) | Target::Elf(_) => {
-            reply_by_file(
-                alloc,
-                symbolizer,
-                &src,
-                input_of(target, addrs),
-                files,
-                steps,
-            )
+            let input = input_of(target, addrs);
+            reply_by_file(alloc, symbolizer, &src, input, files, steps)
         }
     }
 }
@@ -138,17 +124,20 @@ fn reply_by_process<F: Files, L: Ledger>(
 
 fn reply_to_addr<F: Files>(
     alloc: Global,
-    symbolizer: &mut Symbolizer,
-    map_files: bool,
+    server: &mut Server,
     target: &Target,
     addr: Addr,
     files: &mut F,
 ) -> Result<Said>
-    ensures { Replied F.Files (done_by (answer_text addr) (asking_single (F.pid files.old) (target_form map_files (target_of target.now)) (usual_kind (target_of target.now)) addr)) result (kept_of symbolizer.old) (kept_of symbolizer.new) files.old files.new }
+    ensures reply { Replied F.Files (step server.old.map_files (F.pid files.old) (Single (target_of target.now) addr)) result (kept_of server.old.symbolizer) (kept_of server.new.symbolizer) files.old files.new }
+    ensures same { server.new.map_files ≡ server.old.map_files }
 {
-    let src = source_of(alloc, map_files, target)?;
+    let src = source_of(alloc, server.map_files, target)?;
     let input = input_of(target, addr);
-    match symbolizer.symbolize_single(alloc, files, &src, input) {
+    match server
+        .symbolizer
+        .symbolize_single(alloc, files, &src, input)
+    {
         Ok(answer) => said_answer(alloc, addr, &answer),
         Err(error) => said_refusal(alloc, error),
     }

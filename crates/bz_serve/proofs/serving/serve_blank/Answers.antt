@@ -7,4 +7,4 @@ use Rattle.bz_serve.proofs.serving.serve_blank.Goals as goal
 pub returns : goal.returns
 returns g c =
     serves_from_all g.W.TextOut g.F.Files c.args.config (map request_of c.args.requests.now) c.serve_all-served.result c.status_of.result _ _ _ _
-    (rw c.new_symbolizer-symbolizer.ensures at c.serve_all-served.ensures) c.status_of.ensures
+    (rw c.new_symbolizer.ensures at c.serve_all-served.ensures) c.status_of.ensures

@@ -6,21 +6,21 @@ use Rattle.bz_serve.proofs.RequestReplyLemmas.{replied_given, replied_refused}
 use Rattle.bz_serve.proofs.serving.replies.reply_to_addr.Goals as goal
 
 -- the answer is said
-pub returns-in-Ok : goal.returns-in-Ok
-returns-in-Ok g c =
+pub returns-in-Ok-clause-reply : goal.returns-in-Ok-clause-reply
+returns-in-Ok-clause-reply g c =
     let kind = c.input_of-input.ensures.kind in
     let addr = c.input_of-input.ensures.addrs in
     replied_given g.F.Files _ _ reading (answer_text c.args.addr) _ _ _ c.in-Ok.answer c.said_answer.result
-    (does_target g.F.Files c.in_ok-src.src _ _ _ _ _ c.args.map_files (target_of c.args.target.now) c.in_ok-src.ensures.ok _ _ _ reading c.args.addr
+    (does_target g.F.Files c.in_ok-src.src _ _ _ _ _ c.args.server.now.map_files (target_of c.args.target.now) c.in_ok-src.ensures.ok _ _ _ reading c.args.addr
     (rw (kind, addr) at c.in-Ok.ensures.call) (rw (kind, addr) at c.in-Ok.ensures.process) (λ member answer is. is))
     c.said_answer.ensures
 
 -- the refusal is said
-pub returns : goal.returns
-returns g c =
+pub returns-clause-reply : goal.returns-clause-reply
+returns-clause-reply g c =
     let kind = c.input_of-input.ensures.kind in
     let addr = c.input_of-input.ensures.addrs in
     replied_refused g.F.Files _ _ reading (answer_text c.args.addr) _ _ _ c.in-Err.error c.said_refusal.result
-    (does_target g.F.Files c.in_ok-src.src _ _ _ _ _ c.args.map_files (target_of c.args.target.now) c.in_ok-src.ensures.ok _ _ _ reading c.args.addr
+    (does_target g.F.Files c.in_ok-src.src _ _ _ _ _ c.args.server.now.map_files (target_of c.args.target.now) c.in_ok-src.ensures.ok _ _ _ reading c.args.addr
     (rw (kind, addr) at c.in-Err.ensures.call) (rw (kind, addr) at c.in-Err.ensures.process) (λ member answer is. is))
     c.said_refusal.ensures

@@ -9,10 +9,10 @@ use Rattle.bz_serve.proofs.DoesLemmas.{by_file}
 use Rattle.bz_serve.proofs.serving.replies.reply_to_addrs.Goals as goal
 
 -- the target is a file, of the addresses that were copied
-pub returns : goal.returns
-returns g c =
-    let items : (payload c.input_of.result).items ≡ c.args.addrs.now = ap (λ addrs. addrs.items) c.input_of.ensures.addrs ∙ c.in_ok-addrs.ensures.items in
+pub returns-clause-reply : goal.returns-clause-reply
+returns-clause-reply g c =
+    let items : (payload c.input_of-input.result).items ≡ c.args.addrs.now = ap (λ addrs. addrs.items) c.input_of-input.ensures.addrs ∙ c.in_ok-addrs.ensures.items in
     by_file
-    (λ (doing : Doing (List Answer)). Replied g.F.Files (done_by (answer_texts c.args.addrs.now) doing) c.reply_by_file.result (kept_of c.args.symbolizer.now) (kept_of c.reply_by_file.new.symbolizer) c.args.files.now c.reply_by_file.new.files)
-    c.args.map_files (g.F.Files.pid c.args.files.now) c.args.target.now c.args.addrs.now c.in_ok-src.src c.in_ok-src.ensures.ok c.in-Breakpad.is
-    (λ file is. rw (c.input_of.ensures.kind, items) at (c.reply_by_file.ensures file is))
+    (λ (doing : Doing (List Answer)). Replied g.F.Files (done_by (answer_texts c.args.addrs.now) doing) c.reply_by_file.result (kept_of c.args.server.now.symbolizer) (kept_of c.reply_by_file.new.symbolizer) c.args.files.now c.reply_by_file.new.files)
+    c.args.server.now.map_files (g.F.Files.pid c.args.files.now) c.args.target.now c.args.addrs.now c.in_ok-src.src c.in_ok-src.ensures.ok c.in-Breakpad.is
+    (λ file is. rw (c.input_of-input.ensures.kind, items) at (c.reply_by_file.ensures file is))
