@@ -87,9 +87,11 @@ pub record RunsStacks {R W F : Type 0} (reads : input_trait.Ghosts R) (writes : 
   pub usage : ended ≢ statuses.Usage
   pub input : Told (reads.left input_before) (λ text. (ended ≡ statuses.Input → IsBadInput IsStack text) × (IsBadInput IsStack text → IsOrFails statuses.Input ended))
   -- stacks are folded where a Breakpad file lies at the path, unless something fails or memory runs out
-  pub complete : Told (reads.left input_before) (λ text. Told (in_view (looks.worlds files_before)) (λ world. IsFoldable path text world → IsOrFails statuses.Done ended))
+  pub complete : Told (reads.left input_before) (λ text. Told (in_view (looks.worlds files_before)) (λ world.
+      IsFoldable path text world → IsOrFails statuses.Done ended))
   -- and refused where none does, unless something fails or memory runs out
-  pub refuses : Told (reads.left input_before) (λ text. Told (in_view (looks.worlds files_before)) (λ world. IsRefusable path text world → IsOrFails statuses.Refused ended))
+  pub refuses : Told (reads.left input_before) (λ text. Told (in_view (looks.worlds files_before)) (λ world.
+      IsRefusable path text world → IsOrFails statuses.Refused ended))
   -- for a bad input no file is looked at
   pub unlooked : Told (reads.left input_before) (λ text. IsBadInput IsStack text → files_after ≡ files_before)
   -- a run that doesn't fail has read the input, and no run reads on past the byte that makes it too long
@@ -98,7 +100,8 @@ pub record RunsStacks {R W F : Type 0} (reads : input_trait.Ghosts R) (writes : 
   -- until the input is read, no file is looked at and nothing is written
   pub order : ((files_after ≡ files_before) × (output_after ≡ output_before)) ⊎ IsReadWhole (reads.left input_before) (reads.left input_after)
   -- where there is nothing to write, the output is left alone
-  pub silent : Told (reads.left input_before) (λ text. Told (in_view (looks.worlds files_before)) (λ world. (stacks_outcome path config text world).text ≡ [] → output_after ≡ output_before))
+  pub silent : Told (reads.left input_before) (λ text. Told (in_view (looks.worlds files_before)) (λ world.
+      (stacks_outcome path config text world).text ≡ [] → output_after ≡ output_before))
   -- one file at most is read, and where a run is done one was
   pub most : ReadsOne looks files_before files_after
   pub opened : Told (in_view (looks.worlds files_before)) (λ world. ended ≡ statuses.Done → looks.opens files_after ≡ counted (looks.opens files_before))
