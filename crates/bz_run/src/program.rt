@@ -1,21 +1,20 @@
 //! One run over words: the command that they give, and what runs it.
 
 ghost use Rattle.std.specs.Prelude.{map, string_bytes};
-ghost use Rattle.bz_base.specs.InputKind.{address_kind};
-ghost use Rattle.bz_requests.specs.Requests.{target_of};
 ghost use Rattle.bz_requests.specs.declared.requests.Config.{Config};
 ghost use Rattle.bz_run.specs.Generated.{HasSmallNumbers};
 ghost use Rattle.bz_run.specs.Run.{Runs, RunsCommand, RunsJob};
-ghost use Rattle.bz_words.specs.Command.{Batch, Make, command_in, job_of, product_of};
+ghost use Rattle.bz_symq.specs.Command.{asking_of, Batch};
+ghost use Rattle.bz_symq.specs.Run.{Runs as RunsOne};
+ghost use Rattle.bz_words.specs.Command.{Make, command_in, job_of, product_of};
 
 use crate::frames::answer_frames;
 use crate::generating::generate;
 use crate::misuse::tell_usage;
 use crate::stacks::run_stacks;
-use crate::targets::{asked_product, asked_target};
-use bz_base::Input;
+use crate::targets::{asked_batch, asked_product};
 use bz_files::{Files, TextIn, TextOut};
-use bz_requests::{Config, Target};
+use bz_requests::Config;
 use bz_serve::serve_input;
 use bz_symq::Status;
 use bz_words::{BadWords, Job, Product, read_command};
@@ -63,7 +62,10 @@ fn run_job<R: TextIn, W: TextOut, F: Files>(
     ensures { RunsJob R.TextIn W.TextOut F.Files config (job_of job.now) result input.old input.new output.old output.new files.old files.new }
 {
     match job {
-        Job::Batch(target, kind) => run_batch(alloc, config, target, *kind, input, output, files),
+        Job::Batch(target, kind) => {
+            let batch = asked_batch(target, *kind, config);
+            run_batch(alloc, &batch, input, output, files)
+        }
         Job::Serve => serve_input(alloc, config, input, output, files),
         Job::Make(product) => make(alloc, product, input, output, files),
         Job::Generate {
@@ -76,24 +78,17 @@ fn run_job<R: TextIn, W: TextOut, F: Files>(
     }
 }
 
-// The answers of the target to the addresses of the input.
+// The answers of the batch's target to the addresses of the input.
 fn run_batch<R: TextIn, W: TextOut, F: Files>(
     alloc: Global,
-    config: Config,
-    target: &Target,
-    kind: Input<()>,
+    batch: &bz_symq::Batch<'_>,
     input: &mut R,
     output: &mut W,
     files: &mut F,
 ) -> Status
-    ensures { RunsJob R.TextIn W.TextOut F.Files config (Batch (target_of target.now) (address_kind kind)) result input.old input.new output.old output.new files.old files.new }
+    ensures { RunsOne R.TextIn W.TextOut F.Files (Batch (asking_of batch.now)) result input.old input.new output.old output.new files.old files.new }
 {
-    let batch = bz_symq::Batch {
-        target: asked_target(target),
-        kind,
-        config,
-    };
-    let command = bz_symq::Command::Batch(batch);
+    let command = bz_symq::Command::Batch(*batch);
     bz_symq::run_command(alloc, &command, input, output, files)
 }
 
