@@ -119,7 +119,7 @@ fn serve_one<W: TextOut, F: Files, L: Ledger>(
     steps: &mut Steps<L>,
 ) -> Result<(), Stop>
     ensures served { Served W.TextOut F.Files (step server.old.map_files (F.pid files.old) (request_of request.now)) result (kept_of server.old.symbolizer) (kept_of server.new.symbolizer) output.old output.new files.old files.new }
-    ensures same { server.new.map_files ≡ server.old.map_files }
+    ensures settings { server.new.map_files ≡ server.old.map_files }
 {
     match reply_to_request(alloc, server, request, files, steps) {
         Ok(said) => stopped(write_said(alloc, output, &said)),

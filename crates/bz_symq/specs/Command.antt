@@ -8,7 +8,7 @@ use Rattle.bz_symq.specs.declared.command.Command.TheVariants as commands
 use Rattle.bz_symq.specs.declared.command.FileBatch as lent_file_batch
 use Rattle.bz_symq.specs.declared.command.FileTarget as lent_file
 use Rattle.bz_symq.specs.declared.command.FileTarget.TheVariants as files
-use Rattle.bz_symq.specs.declared.command.ProcessBatch as process_batch
+use Rattle.bz_symq.specs.declared.command.ProcessBatch as lent_process_batch
 use Rattle.bz_symq.specs.declared.command.Product as lent_product
 use Rattle.bz_symq.specs.declared.command.Product.TheVariants as products
 use Rattle.bz_symq.specs.declared.command.Target as lent_target
@@ -75,7 +75,7 @@ asking_of batch = record { target = target_of batch.target; kind = address_kind 
 abbrev pub file_asking : lent_file_batch.FileBatch → Asking
 file_asking batch = of_file (file_target_of batch.file) (address_kind batch.kind) batch.config
 
-abbrev pub process_asking : process_batch.ProcessBatch → Asking
+abbrev pub process_asking : lent_process_batch.ProcessBatch → Asking
 process_asking batch = of_process batch.number (address_kind batch.kind) batch.config
 
 abbrev pub product_of : lent_product.Product → Product

@@ -37,7 +37,7 @@ pub(crate) fn reply_to_request<F: Files, L: Ledger>(
     steps: &mut Steps<L>,
 ) -> Result<Said>
     ensures reply { Replied F.Files (step server.old.map_files (F.pid files.old) (request_of request.now)) result (kept_of server.old.symbolizer) (kept_of server.new.symbolizer) files.old files.new }
-    ensures same { server.new.map_files ≡ server.old.map_files }
+    ensures settings { server.new.map_files ≡ server.old.map_files }
 {
     match request {
         Request::Batch(target, addrs) => {
@@ -72,7 +72,7 @@ fn reply_to_addrs<F: Files, L: Ledger>(
     steps: &mut Steps<L>,
 ) -> Result<Said>
     ensures reply { Replied F.Files (step server.old.map_files (F.pid files.old) (Batch (target_of target.now) addrs.now)) result (kept_of server.old.symbolizer) (kept_of server.new.symbolizer) files.old files.new }
-    ensures same { server.new.map_files ≡ server.old.map_files }
+    ensures settings { server.new.map_files ≡ server.old.map_files }
 {
     let src = source_of(alloc, server.map_files, target)?;
     let symbolizer = &mut server.symbolizer;
@@ -130,7 +130,7 @@ fn reply_to_addr<F: Files>(
     files: &mut F,
 ) -> Result<Said>
     ensures reply { Replied F.Files (step server.old.map_files (F.pid files.old) (Single (target_of target.now) addr)) result (kept_of server.old.symbolizer) (kept_of server.new.symbolizer) files.old files.new }
-    ensures same { server.new.map_files ≡ server.old.map_files }
+    ensures settings { server.new.map_files ≡ server.old.map_files }
 {
     let src = source_of(alloc, server.map_files, target)?;
     let input = input_of(target, addr);

@@ -11,7 +11,7 @@ use Rattle.bz_serve.proofs.serving.serve_all.Goals as goal
 pub loop-request-init : goal.loop-request-init
 loop-request-init g c = record {
   served = served_none g.W.TextOut g.F.Files (step c.args.server.now.map_files) (map request_of c.args.requests.now) _ _ _;
-  same = refl;
+  settings = refl;
 }
 
 -- one more was
@@ -24,8 +24,8 @@ loop-request-preserved g c =
     c.args.output.now c.loop-request.output c.args.files.now c.loop-request.files) next c.loop-request.invariant.served in
     record {
       served = served_more g.W.TextOut g.F.Files (step c.args.server.now.map_files) (map request_of requests) (map request_of (drop (index + 1) requests)) (request_of c.request-item.result) _ _ _ _ _ _ _ _ _ _ so_far
-          c.begin.ensures.worlds c.begin.ensures.faults c.begin.ensures.opens c.begin.ensures.pid (rw c.loop-request.invariant.same at c.in_default.ensures.served);
-      same = c.in_default.ensures.same ∙ c.loop-request.invariant.same;
+          c.begin.ensures.worlds c.begin.ensures.faults c.begin.ensures.opens c.begin.ensures.pid (rw c.loop-request.invariant.settings at c.in_default.ensures.served);
+      settings = c.in_default.ensures.settings ∙ c.loop-request.invariant.settings;
     }
 
 -- one stopped the run
@@ -37,7 +37,7 @@ returns-in-Err g c =
     let so_far = subst (λ (left : List made.Request). ServedSoFar g.W.TextOut g.F.Files (step c.args.server.now.map_files) (map request_of requests) (map request_of left) (kept_of c.args.server.now.symbolizer) (kept_of c.loop-request.server.symbolizer)
     c.args.output.now c.loop-request.output c.args.files.now c.loop-request.files) next c.loop-request.invariant.served in
     served_stopped g.W.TextOut g.F.Files (step c.args.server.now.map_files) (map request_of requests) (map request_of (drop (index + 1) requests)) (request_of c.request-item.result) _ _ _ _ _ _ _ _ _ _ so_far
-    c.begin.ensures.worlds c.begin.ensures.faults c.begin.ensures.opens c.begin.ensures.pid c.in-Err.stop (rw c.loop-request.invariant.same at c.in-Err.ensures.served)
+    c.begin.ensures.worlds c.begin.ensures.faults c.begin.ensures.opens c.begin.ensures.pid c.in-Err.stop (rw c.loop-request.invariant.settings at c.in-Err.ensures.served)
 
 -- none is left
 pub returns : goal.returns

@@ -9,5 +9,5 @@ use Rattle.bz_serve.proofs.serving.serve_all.Given as goal
 abbrev pub invariant-loop-request : goal.invariant-loop-request
 invariant-loop-request g l = record {
   served : ServedSoFar g.W.TextOut g.F.Files (step l.initial.server.map_files) (map request_of l.requests) (map request_of (drop l.request-index l.requests)) (kept_of l.initial.server.symbolizer) (kept_of l.server.symbolizer) l.initial.output l.output l.initial.files l.files;
-  same : l.server.map_files ≡ l.initial.server.map_files;
+  settings : l.server.map_files ≡ l.initial.server.map_files;
 }
