@@ -2,7 +2,9 @@
 
 ghost use Rattle.std.specs.Prelude.{◌≡◌};
 ghost use Rattle.bz_convert.specs.ErrorNames.{name_of};
+ghost use Rattle.bz_convert.specs.declared.error.ConvertError.TheVariants.{OutOfMemory};
 
+use std::alloc::{AllocError, AllocFailed};
 use thiserror::Error;
 
 /// A refusal of a conversion, with the record that causes it. Addresses are relative to the module's
@@ -99,5 +101,30 @@ impl ConvertError {
             ConvertError::TooLarge { .. } => "TooLarge",
             ConvertError::OutOfMemory => "OutOfMemory",
         }
+    }
+}
+
+impl From<AllocError> for ConvertError {
+    ghost from_gives = { λ _ e. e ≡ OutOfMemory };
+
+    fn from(_error: AllocError) -> ConvertError {
+        ConvertError::OutOfMemory
+    }
+}
+
+impl<T: Drop> From<AllocFailed<T>> for ConvertError {
+    ghost from_gives = { λ _ e. e ≡ OutOfMemory };
+
+    fn from(_failed: AllocFailed<T>) -> ConvertError {
+        ConvertError::OutOfMemory
+    }
+}
+
+/// The calls of other crates that a conversion makes fail only for want of memory.
+impl From<bz_base::Error> for ConvertError {
+    ghost from_gives = { λ _ e. e ≡ OutOfMemory };
+
+    fn from(_error: bz_base::Error) -> ConvertError {
+        ConvertError::OutOfMemory
     }
 }

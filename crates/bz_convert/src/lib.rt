@@ -11,6 +11,6 @@ mod rows;
 
 pub use clean_ids::CleanIds;
 pub use error::ConvertError;
-pub use fault::{RowsAndCalls, first_fault, rows_and_calls};
+pub use fault::{RowsAndCalls, rows_and_calls};
 pub use ids::{Source, located};
 pub use rows::LineRow;

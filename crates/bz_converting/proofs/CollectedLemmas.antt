@@ -10,13 +10,12 @@ use Rattle.bz_convert.specs.Fault.{fault_in, fault_of}
 use Rattle.bz_convert.specs.Plan.{is_checked, plan}
 use Rattle.bz_convert.proofs.FaultLemmas.{clean}
 use Rattle.bz_converting.specs.Laid.{AreApart, IsFunctionFor, sources_used, texts_used}
-use Rattle.bz_converting.specs.Numbered.{IsNumbering, listed_sources, listed_texts}
+use Rattle.bz_converting.specs.Numbered.{IsNumbered, Uses, listed_sources, listed_texts}
 use Rattle.bz_converting.specs.declared.numbering.Numbering.{Numbering}
 use Rattle.bz_converting.proofs.PlannedLemmas.{Collected, codes_are, is_plan}
 use Rattle.bz_converting.proofs.SoFarLemmas.{found_end, found_turn}
 use Rattle.bz_converting.proofs.StayLemmas.{functions_stay}
 use Rattle.bz_gsym_layout.specs.Indexed.{IsPlan, codes_of}
-use Rattle.bz_gsym_layout.specs.Plan.{Source}
 use Rattle.bz_gsym_layout.specs.declared.plan.Function.{Function as Planned}
 use Rattle.bz_gsym_layout.specs.declared.plan.Plan.{Plan}
 use Rattle.bz_search.proofs.SortingLaws.{sorted_length}
@@ -40,12 +39,12 @@ module _ (bytes : List ℕ) where
   module _ (table : Table) (read : table_in bytes ≡ Some table) where
     pub collected_turn : (old new : Numbering) (i : ℕ) (f : Function) → slice_get (functions_in_order bytes) i ≡ Some f → (gs more : List Planned) (g : Planned) → more ≡ gs ++ g ∷ [] →
         Collected table old (take i (ordered_functions table.functions)) gs →
-        ((table : Table) (texts : List (List ℕ)) (sources : List Source) → table_in bytes ≡ Some table → IsNumbering table texts sources old → IsNumbering table (texts ++ texts_used table f) (sources ++ sources_used table f) new) →
-        ((table : Table) (texts : List (List ℕ)) (sources : List Source) → table_in bytes ≡ Some table → IsNumbering table texts sources old → IsFunctionFor table (listed_texts new.texts) (listed_sources new) f g) →
+        ((table : Table) → table_in bytes ≡ Some table → Uses table (texts_used table f) (sources_used table f) old new) →
+        ((table : Table) → table_in bytes ≡ Some table → IsNumbered table old → IsFunctionFor table (listed_texts new.texts) (listed_sources new) f g) →
         Collected table new (take (i + 1) (ordered_functions table.functions)) more
     collected_turn old new i f at gs more g pushed so_far numbers says =
         found_turn table (texts_used table) (sources_used table) (λ n. IsFunctionFor table (listed_texts n.texts) (listed_sources n)) (functions_stay table) [] [] old new (ordered_functions table.functions) i f
-        (ap (λ fs. slice_get fs i) (sym (in_order table read)) ∙ at) gs more g pushed so_far (λ texts sources is. numbers table texts sources read is) (λ texts sources is. says table texts sources read is)
+        (ap (λ fs. slice_get fs i) (sym (in_order table read)) ∙ at) gs more g pushed so_far (numbers table read) (λ texts sources is. says table read (texts, sources, is))
 
     -- all are collected
     module _ (n : ℕ) (count : option_map (λ (t : Table). length t.functions) (table_in bytes) ≡ Some n) (none : fault_in table ≡ None) (i : ℕ) (past : n ≤ i) (numbering : Numbering) (p : Plan)

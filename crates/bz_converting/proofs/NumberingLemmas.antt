@@ -16,7 +16,7 @@ use Rattle.std.proofs.lemmas.Option.{none-some, same_Some, slice_get_within, sli
 use Rattle.bz_breakpad_lines.specs.Table.{Table}
 use Rattle.bz_convert.proofs.DistinctLemmas.{any_in}
 use Rattle.bz_converting.specs.Listed.{HasIndexes, index_if, with_one}
-use Rattle.bz_converting.specs.Numbered.{AreFiles, AreKnown, AreNumbered, AreTexts, IsNumbering, IsRemembered, origin_named, source_named, file_of, listed_sources, listed_texts, pair_cmp, same_file, same_text, text_of}
+use Rattle.bz_converting.specs.Numbered.{AreFiles, AreKnown, AreNumbered, AreTexts, IsNumbering, IsRemembered, Uses, origin_named, source_named, file_of, listed_sources, listed_texts, pair_cmp, same_file, same_text, text_of}
 use Rattle.bz_converting.specs.declared.numbering.Numbering.{Numbering}
 use Rattle.bz_converting.specs.declared.sources.Sources.{Sources}
 use Rattle.bz_converting.specs.declared.texts.Texts.{Texts}
@@ -399,3 +399,11 @@ none_numbered table n texts empty has files origins = record {
 pub call_numbered : (table : Table) (texts : List (List ℕ)) (sources : List Source) (n : Numbering) (name : List ℕ) (s : Source) →
     IsNumbering table ((texts ++ name ∷ []) ++ s.dir ∷ s.file ∷ []) (sources ++ s ∷ []) n → IsNumbering table (texts ++ name ∷ s.dir ∷ s.file ∷ []) (sources ++ s ∷ []) n
 call_numbered table texts sources n name s is = subst (λ l. IsNumbering table l (sources ++ s ∷ []) n) (append_assoc texts (name ∷ []) (s.dir ∷ s.file ∷ [])) is
+
+-- Texts more, and no source file more.
+module _ (table : Table) where
+  pub no_source_more : (texts : List (List ℕ)) (sources : List Source) (n : Numbering) → IsNumbering table texts sources n → IsNumbering table texts (sources ++ []) n
+  no_source_more texts sources n is = subst (λ l. IsNumbering table texts l n) (sym (append-nil sources)) is
+
+  pub texts_alone : (more : List (List ℕ)) (old new : Numbering) → Uses table more [] old new → (texts : List (List ℕ)) (sources : List Source) → IsNumbering table texts sources old → IsNumbering table (texts ++ more) sources new
+  texts_alone more old new uses texts sources is = subst (λ l. IsNumbering table (texts ++ more) l new) (append-nil sources) (uses texts sources is)

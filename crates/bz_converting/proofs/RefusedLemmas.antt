@@ -1,5 +1,5 @@
 -- No fault of a file is that it is too large.
-use Rattle.std.proofs.Common.{◌≡◌, ℕ, Bool, true, false, cond, List, [], ◌∷◌, Option, Some, None, option_map, sym, ap, subst, ◌∙◌}
+use Rattle.std.proofs.Common.{◌≡◌, ◌≢◌, ℕ, Bool, true, false, cond, List, [], ◌∷◌, Option, Some, None, option_map, sym, ap, subst, ◌∙◌}
 use Rattle.std.proofs.lemmas.Option.{same_Some}
 use Rattle.bz_breakpad_lines.specs.Table.{Function, Inlinee, SourceLine, Table}
 use Rattle.bz_breakpad_function.specs.InOrder.{ordered_functions}
@@ -8,6 +8,13 @@ use Rattle.bz_convert.specs.Plan.{is_checked}
 use Rattle.bz_convert.specs.declared.error.ConvertError.{ConvertError}
 use Rattle.bz_convert.specs.declared.error.ConvertError.TheVariants.{EqualStarts, LineGap, NoFile, NoOrigin, NotNested, OutOfMemory, Overlap, TooLarge, ZeroByte, ZeroSize}
 use Rattle.bz_converting.specs.Converted.{Refuses}
+
+abbrev IsOther : ConvertError → Type 0
+IsOther OutOfMemory = ⊥
+IsOther e = Unit {0}
+
+other : (e : ConvertError) → IsOther e → e ≢ OutOfMemory
+other e is same = subst IsOther same is
 
 abbrev IsFault : ConvertError → Type 0
 IsFault (TooLarge bytes) = ⊥
@@ -57,20 +64,18 @@ module _ (table : Table) where
   all_faults [] before = tt
   all_faults (f ∷ fs) before = or_faults (fault_of table before f) (first_fault table (Some f.start) fs) (function_faults before f) (all_faults fs (Some f.start))
 
-  -- a fault refuses the file
-  pub fault_refuses : (e : ConvertError) (len : ℕ) → fault_in table ≡ Some e → Refuses e (fault_in table) len
-  fault_refuses e len is = by e (subst AreFaults is (all_faults (ordered_functions table.functions) None)) is where
-    by : (e : ConvertError) → IsFault e → fault_in table ≡ Some e → Refuses e (fault_in table) len
-    by (TooLarge bytes) fault told = absurd fault
-    by OutOfMemory fault told = tt
-    by (ZeroSize addr) fault told = told
-    by (EqualStarts addr) fault told = told
-    by (LineGap func addr) fault told = told
-    by (NotNested func depth addr) fault told = told
-    by (Overlap func depth addr) fault told = told
-    by (NoFile func id) fault told = told
-    by (NoOrigin func id) fault told = told
-    by (ZeroByte func) fault told = told
+  -- a cause refuses the file if it is the fault, unless it is want of memory
+  pub fault_refuses : (e : ConvertError) (len : ℕ) → (e ≢ OutOfMemory → fault_in table ≡ Some e) → Refuses e (fault_in table) len
+  fault_refuses (TooLarge bytes) len told = absurd (subst AreFaults (told (other (TooLarge bytes) tt)) (all_faults (ordered_functions table.functions) None))
+  fault_refuses OutOfMemory len told = tt
+  fault_refuses (ZeroSize addr) len told = told (other (ZeroSize addr) tt)
+  fault_refuses (EqualStarts addr) len told = told (other (EqualStarts addr) tt)
+  fault_refuses (LineGap func addr) len told = told (other (LineGap func addr) tt)
+  fault_refuses (NotNested func depth addr) len told = told (other (NotNested func depth addr) tt)
+  fault_refuses (Overlap func depth addr) len told = told (other (Overlap func depth addr) tt)
+  fault_refuses (NoFile func id) len told = told (other (NoFile func id) tt)
+  fault_refuses (NoOrigin func id) len told = told (other (NoOrigin func id) tt)
+  fault_refuses (ZeroByte func) len told = told (other (ZeroByte func) tt)
 
 -- what was found of the file is found of its table
 pub fault_told : (o : Option Table) (fault : Option ConvertError) → option_map fault_in o ≡ Some fault → (table : Table) → o ≡ Some table → fault_in table ≡ fault

@@ -1,4 +1,4 @@
--- The GSYM file of a Breakpad file, and why there is none.
+-- The GSYM file of a Breakpad file, and why there is none. Both are this repository's own definitions, over LLVM's format (bz_gsym).
 use Rattle.std.specs.Prelude.{◌≡◌, ℕ, ◌^◌, ◌<◌, ◌≤◌, nat_lt, List, length, Option, Some, None, Result, Ok, Err, if◌then◌else◌}
 use Rattle.bz_breakpad_lines.specs.Table.{Table}
 use Rattle.bz_convert.specs.Fault.{fault_in}

@@ -1,9 +1,8 @@
--- The plan of a file, or its first fault.
-use Rattle.std.specs.Prelude.{◌≡◌, None, Ok, Err, Result, Some}
+-- When a plan is that of a file.
+use Rattle.std.specs.Prelude.{◌≡◌, None}
 use Rattle.bz_breakpad_lines.specs.Table.{Table}
 use Rattle.bz_convert.specs.Fault.{fault_in}
 use Rattle.bz_convert.specs.Plan.{plan}
-use Rattle.bz_convert.specs.declared.error.ConvertError.{ConvertError}
 use Rattle.bz_gsym_layout.specs.Indexed.{IsPlan, codes_of}
 use Rattle.bz_gsym_layout.specs.declared.plan.Plan.{Plan}
 
@@ -12,8 +11,3 @@ pub record IsPlanOf (table : Table) (p : Plan) : Type 0 where
   pub clean : fault_in table ≡ None
   pub formed : IsPlan p
   pub codes : codes_of p ≡ plan table
-
--- the plan of a file without a fault, or else its first fault
-abbrev pub IsPlanOr : Table → Result Plan ConvertError → Type 0
-IsPlanOr table (Ok p) = IsPlanOf table p
-IsPlanOr table (Err fault) = fault_in table ≡ Some fault

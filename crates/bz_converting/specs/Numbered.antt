@@ -1,5 +1,5 @@
 -- Texts and source files of a plan that is collected, numbered where they are first used.
-use Rattle.std.specs.Prelude.{◌≡◌, ◌⊎◌, ℕ, Bool, ◌==◌, ◌&&◌, List, [], length, map, Option, Some, slice_get, unwrap_or}
+use Rattle.std.specs.Prelude.{◌≡◌, ◌⊎◌, ℕ, Bool, ◌==◌, ◌&&◌, List, [], ◌∷◌, ◌++◌, length, map, Option, Some, slice_get, unwrap_or}
 use Rattle.std.specs.BTreeMap as btree
 use Rattle.std.specs.Borrow.{Bor}
 use Rattle.std.specs.HashMap.{get}
@@ -73,6 +73,18 @@ pub record AreKnown (table : Table) (n : Numbering) : Type 0 where
 pub record IsNumbering (table : Table) (used : List (List ℕ)) (used_sources : List Source) (n : Numbering) : Type 0 where
   pub numbered : AreNumbered used used_sources n
   pub known : AreKnown table n
+
+-- they were used in some order
+abbrev pub IsNumbered : Table → Numbering → Type 0
+IsNumbered table n = (texts : List (List ℕ)) × (sources : List Source) × IsNumbering table texts sources n
+
+-- a call uses these texts and source files, behind those that were used before it
+abbrev pub Uses : Table → List (List ℕ) → List Source → Numbering → Numbering → Type 0
+Uses table more more_sources old new = (texts : List (List ℕ)) (sources : List Source) → IsNumbering table texts sources old → IsNumbering table (texts ++ more) (sources ++ more_sources) new
+
+-- the texts of a source file
+abbrev pub parts_of : Source → List (List ℕ)
+parts_of s = s.dir ∷ s.file ∷ []
 
 -- each index that is known was so before, or is that of the id
 abbrev pub IsRemembered : List (Option ℕ) → List (Option ℕ) → ℕ → ℕ → Type 0

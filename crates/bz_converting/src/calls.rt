@@ -1,6 +1,7 @@
-//! The inlined calls of a function, as a plan has them.
+//! The inlined calls of a function, as a plan has them. One is an `Inlinee` of the file, a `PlacedCall`
+//! while calls are sorted, and a `Node` of the plan.
 
-ghost use Rattle.std.specs.Prelude.{◌≡◌, ◌++◌, ℕ, List, true, flat_map, map, option_map, None, Some, IfOk, IsOkUnless, OnOk};
+ghost use Rattle.std.specs.Prelude.{◌≡◌, true, flat_map, map, option_map, None, Some, IfOk, IsOkUnless, OnOk};
 ghost use Rattle.std.specs.List.{AllZip, filter};
 ghost use Rattle.bz_base.specs.declared.error.Error.{Error};
 ghost use Rattle.bz_breakpad.specs.Lent.{kept_inlinee};
@@ -10,9 +11,8 @@ ghost use Rattle.bz_breakpad_lines.specs.Table.{Function, Table};
 ghost use Rattle.bz_convert.specs.Plan.{has_size, is_checked, sized_calls};
 ghost use Rattle.bz_convert.specs.RowsAndCalls.{AreRowsAndCalls};
 ghost use Rattle.bz_converting.specs.Laid.{AreApart, IsNodeFor, laid_calls, sources_of_call, texts_of_call};
-ghost use Rattle.bz_converting.specs.Numbered.{IsNumbering, listed_sources, listed_texts, origin_named};
+ghost use Rattle.bz_converting.specs.Numbered.{IsNumbered, Uses, listed_sources, listed_texts, origin_named};
 ghost use Rattle.bz_converting.specs.Sized.{is_repeated, placed_calls, without_repeats};
-ghost use Rattle.bz_gsym_layout.specs.Plan.{Source};
 
 use crate::numbering::Numbering;
 use bz_base::{Result, Spanned, sort_table};
@@ -21,7 +21,8 @@ use bz_convert::RowsAndCalls;
 use bz_gsym_layout::Node;
 use std::alloc::Global;
 
-/// An inlined call, which a plan gives by start and depth.
+/// An inlined call of the file that is sorted by start and depth, as a plan has them. The file's go by
+/// depth and start.
 #[derive(Clone, Copy)]
 pub(crate) struct PlacedCall {
     pub call: Inlinee,
@@ -104,9 +105,9 @@ fn is_repeated(before: Option<Inlinee>, call: &Inlinee) -> bool
 
 /// The node of an inlined call.
 fn node_of<'a>(numbering: &mut Numbering<'a>, file: &'a SymbolFile, call: &Inlinee) -> Result<Node>
-    ensures numbering { OnOk result ((table : Table) (texts : List (List ℕ)) (sources : List Source) → table_in file.now ≡ Some table → IsNumbering table texts sources numbering.old →
-        IsNumbering table (texts ++ texts_of_call table (kept_inlinee call.now)) (sources ++ sources_of_call table (kept_inlinee call.now)) numbering.new) }
-    ensures node { IfOk result (λ node. (table : Table) (texts : List (List ℕ)) (sources : List Source) → table_in file.now ≡ Some table → IsNumbering table texts sources numbering.old →
+    ensures numbering { OnOk result ((table : Table) → table_in file.now ≡ Some table →
+        Uses table (texts_of_call table (kept_inlinee call.now)) (sources_of_call table (kept_inlinee call.now)) numbering.old numbering.new) }
+    ensures node { IfOk result (λ node. (table : Table) → table_in file.now ≡ Some table → IsNumbered table numbering.old →
         IsNodeFor table (listed_texts numbering.new.texts) (listed_sources numbering.new) (kept_inlinee call.now) node) }
     ensures memory { IsOkUnless result Error.OutOfMemory }
 {
@@ -139,9 +140,9 @@ pub(crate) fn nodes_of<'a>(
     file: &'a SymbolFile,
     calls: &[Inlinee],
 ) -> Result<Vec<Node>>
-    ensures numbering { OnOk result ((table : Table) (texts : List (List ℕ)) (sources : List Source) → table_in file.now ≡ Some table → IsNumbering table texts sources numbering.old →
-        IsNumbering table (texts ++ flat_map (texts_of_call table) (map kept_inlinee calls.now)) (sources ++ flat_map (sources_of_call table) (map kept_inlinee calls.now)) numbering.new) }
-    ensures nodes { IfOk result (λ nodes. (table : Table) (texts : List (List ℕ)) (sources : List Source) → table_in file.now ≡ Some table → IsNumbering table texts sources numbering.old →
+    ensures numbering { OnOk result ((table : Table) → table_in file.now ≡ Some table →
+        Uses table (flat_map (texts_of_call table) (map kept_inlinee calls.now)) (flat_map (sources_of_call table) (map kept_inlinee calls.now)) numbering.old numbering.new) }
+    ensures nodes { IfOk result (λ nodes. (table : Table) → table_in file.now ≡ Some table → IsNumbered table numbering.old →
         AllZip (IsNodeFor table (listed_texts numbering.new.texts) (listed_sources numbering.new)) (map kept_inlinee calls.now) nodes.items) }
     ensures memory { IsOkUnless result Error.OutOfMemory }
 {

@@ -33,11 +33,7 @@ pub fn convert(alloc: Global, file: &SymbolFile) -> Result<Vec<u8>, ConvertError
     ensures refusal { IfErr result (λ e. (table : Table) → table_in file.now ≡ Some table → Refuses e (fault_in table) (length (layout (plan table)))) }
 {
     conversions_answer_alike();
-    let plan = match plan_of(alloc, file) {
-        Ok(Ok(plan)) => plan,
-        Ok(Err(fault)) => return Err(fault),
-        Err(_) => return Err(ConvertError::OutOfMemory),
-    };
+    let plan = plan_of(alloc, file)?;
     match write(alloc, &plan) {
         Ok(bytes) => Ok(bytes),
         Err(LayoutError::TooLarge { bytes }) => Err(ConvertError::TooLarge { bytes }),

@@ -1,14 +1,13 @@
 //! A function, as a plan has it.
 
-ghost use Rattle.std.specs.Prelude.{◌≡◌, ◌++◌, ℕ, List, true, Some, IfOk, IsOkUnless, OnOk};
+ghost use Rattle.std.specs.Prelude.{◌≡◌, true, Some, IfOk, IsOkUnless, OnOk};
 ghost use Rattle.bz_base.specs.declared.error.Error.{Error};
 ghost use Rattle.bz_breakpad_lines.specs.Reader.{table_in};
 ghost use Rattle.bz_breakpad_lines.specs.Table.{Table};
 ghost use Rattle.bz_convert.specs.Plan.{is_checked};
 ghost use Rattle.bz_convert.specs.RowsAndCalls.{AreRowsAndCalls};
 ghost use Rattle.bz_converting.specs.Laid.{AreApart, IsFunctionFor, sources_used, texts_used};
-ghost use Rattle.bz_converting.specs.Numbered.{IsNumbering, listed_sources, listed_texts};
-ghost use Rattle.bz_gsym_layout.specs.Plan.{Source};
+ghost use Rattle.bz_converting.specs.Numbered.{IsNumbered, Uses, listed_sources, listed_texts};
 
 use crate::calls::{calls_of, nodes_of};
 use crate::numbering::Numbering;
@@ -29,9 +28,9 @@ pub(crate) fn function_of<'a>(
 ) -> Result<PlannedFunction>
     requires apart { is_checked function.now ≡ true → AreApart function.now }
     requires found { AreRowsAndCalls function.now found.now }
-    ensures numbering { OnOk result ((table : Table) (texts : List (List ℕ)) (sources : List Source) → table_in file.now ≡ Some table → IsNumbering table texts sources numbering.old →
-        IsNumbering table (texts ++ texts_used table function.now) (sources ++ sources_used table function.now) numbering.new) }
-    ensures function { IfOk result (λ planned. (table : Table) (texts : List (List ℕ)) (sources : List Source) → table_in file.now ≡ Some table → IsNumbering table texts sources numbering.old →
+    ensures numbering { OnOk result ((table : Table) → table_in file.now ≡ Some table →
+        Uses table (texts_used table function.now) (sources_used table function.now) numbering.old numbering.new) }
+    ensures function { IfOk result (λ planned. (table : Table) → table_in file.now ≡ Some table → IsNumbered table numbering.old →
         IsFunctionFor table (listed_texts numbering.new.texts) (listed_sources numbering.new) function.now planned) }
     ensures memory { IsOkUnless result Error.OutOfMemory }
 {

@@ -1,12 +1,11 @@
 //! Texts and source files, numbered where they are first used.
 
-ghost use Rattle.std.specs.Prelude.{◌≡◌, ◌++◌, ◌∷◌, ℕ, List, [], Some, option_map, slice_get, unwrap_or, IfOk, IfSome, IsOkUnless, OnOk};
+ghost use Rattle.std.specs.Prelude.{◌≡◌, ◌∷◌, ℕ, [], Some, option_map, slice_get, unwrap_or, IfOk, IfSome, IsOkUnless, OnOk};
 ghost use Rattle.bz_base.specs.declared.error.Error.{Error};
 ghost use Rattle.bz_breakpad_lines.specs.Reader.{table_in};
 ghost use Rattle.bz_breakpad_lines.specs.Table.{Table};
 ghost use Rattle.bz_convert.specs.Ids.{lent_source};
-ghost use Rattle.bz_converting.specs.Numbered.{IsNumbering, IsRemembered, listed_sources, listed_texts, origin_named, source_named};
-ghost use Rattle.bz_gsym_layout.specs.Plan.{Source};
+ghost use Rattle.bz_converting.specs.Numbered.{IsNumbered, IsNumbering, IsRemembered, Uses, listed_sources, listed_texts, origin_named, parts_of, source_named};
 
 use crate::calls::name_of;
 use crate::rows::source_of;
@@ -47,8 +46,8 @@ impl<'a> Numbering<'a> {
 
     /// The index of a text.
     pub fn text(&mut self, text: &'a str) -> Result<usize>
-        ensures numbering { OnOk result ((table : Table) (texts : List (List ℕ)) (sources : List Source) → IsNumbering table texts sources self.old → IsNumbering table (texts ++ text.now ∷ []) sources self.new) }
-        ensures index { IfOk result (λ index. (table : Table) (texts : List (List ℕ)) (sources : List Source) → IsNumbering table texts sources self.old → slice_get (listed_texts self.new.texts) index ≡ Some text.now) }
+        ensures numbering { OnOk result ((table : Table) → Uses table (text.now ∷ []) [] self.old self.new) }
+        ensures index { IfOk result (λ index. (table : Table) → IsNumbered table self.old → slice_get (listed_texts self.new.texts) index ≡ Some text.now) }
         ensures memory { IsOkUnless result Error.OutOfMemory }
     {
         self.texts.index_of(text)
@@ -56,9 +55,8 @@ impl<'a> Numbering<'a> {
 
     /// The index of a source file.
     pub fn source(&mut self, source: Source<'a>) -> Result<usize>
-        ensures numbering { OnOk result ((table : Table) (texts : List (List ℕ)) (sources : List Source) → IsNumbering table texts sources self.old →
-            IsNumbering table (texts ++ (lent_source source.entry).dir ∷ (lent_source source.entry).file ∷ []) (sources ++ lent_source source.entry ∷ []) self.new) }
-        ensures index { IfOk result (λ index. (table : Table) (texts : List (List ℕ)) (sources : List Source) → IsNumbering table texts sources self.old → slice_get (listed_sources self.new) index ≡ Some (lent_source source.entry)) }
+        ensures numbering { OnOk result ((table : Table) → Uses table (parts_of (lent_source source.entry)) (lent_source source.entry ∷ []) self.old self.new) }
+        ensures index { IfOk result (λ index. (table : Table) → IsNumbered table self.old → slice_get (listed_sources self.new) index ≡ Some (lent_source source.entry)) }
         ensures memory { IsOkUnless result Error.OutOfMemory }
     {
         let (dir, name) = source;
@@ -69,10 +67,8 @@ impl<'a> Numbering<'a> {
 
     /// The index of the source file of an id.
     pub fn file_source(&mut self, file: &'a SymbolFile, id: u32) -> Result<u32>
-        ensures numbering { OnOk result ((table : Table) (texts : List (List ℕ)) (sources : List Source) → table_in file.now ≡ Some table → IsNumbering table texts sources self.old →
-            IsNumbering table (texts ++ (source_named table id).dir ∷ (source_named table id).file ∷ []) (sources ++ source_named table id ∷ []) self.new) }
-        ensures index { IfOk result (λ index. (table : Table) (texts : List (List ℕ)) (sources : List Source) → table_in file.now ≡ Some table → IsNumbering table texts sources self.old →
-            slice_get (listed_sources self.new) index ≡ Some (source_named table id)) }
+        ensures numbering { OnOk result ((table : Table) → table_in file.now ≡ Some table → Uses table (parts_of (source_named table id)) (source_named table id ∷ []) self.old self.new) }
+        ensures index { IfOk result (λ index. (table : Table) → table_in file.now ≡ Some table → IsNumbered table self.old → slice_get (listed_sources self.new) index ≡ Some (source_named table id)) }
         ensures memory { IsOkUnless result Error.OutOfMemory }
     {
         if let Some(index) = known_at(&self.files, id) {
@@ -86,10 +82,8 @@ impl<'a> Numbering<'a> {
 
     /// The index of the text of an origin.
     pub fn origin_text(&mut self, file: &'a SymbolFile, id: u32) -> Result<u32>
-        ensures numbering { OnOk result ((table : Table) (texts : List (List ℕ)) (sources : List Source) → table_in file.now ≡ Some table → IsNumbering table texts sources self.old →
-            IsNumbering table (texts ++ origin_named table id ∷ []) sources self.new) }
-        ensures index { IfOk result (λ index. (table : Table) (texts : List (List ℕ)) (sources : List Source) → table_in file.now ≡ Some table → IsNumbering table texts sources self.old →
-            slice_get (listed_texts self.new.texts) index ≡ Some (origin_named table id)) }
+        ensures numbering { OnOk result ((table : Table) → table_in file.now ≡ Some table → Uses table (origin_named table id ∷ []) [] self.old self.new) }
+        ensures index { IfOk result (λ index. (table : Table) → table_in file.now ≡ Some table → IsNumbered table self.old → slice_get (listed_texts self.new.texts) index ≡ Some (origin_named table id)) }
         ensures memory { IsOkUnless result Error.OutOfMemory }
     {
         if let Some(index) = known_at(&self.origins, id) {

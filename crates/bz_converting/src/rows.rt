@@ -1,6 +1,6 @@
 //! The rows of a function, as a plan has them.
 
-ghost use Rattle.std.specs.Prelude.{◌≡◌, ◌++◌, ℕ, List, flat_map, map, Some, IfOk, IsOkUnless, OnOk};
+ghost use Rattle.std.specs.Prelude.{◌≡◌, flat_map, map, Some, IfOk, IsOkUnless, OnOk};
 ghost use Rattle.std.specs.List.{AllZip};
 ghost use Rattle.bz_base.specs.declared.error.Error.{Error};
 ghost use Rattle.bz_breakpad_lines.specs.Reader.{table_in};
@@ -8,8 +8,7 @@ ghost use Rattle.bz_breakpad_lines.specs.Table.{Table};
 ghost use Rattle.bz_convert.specs.Ids.{lent_source};
 ghost use Rattle.bz_convert.specs.Points.{row_seen};
 ghost use Rattle.bz_converting.specs.Laid.{IsRowFor, sources_of_row, texts_of_row};
-ghost use Rattle.bz_converting.specs.Numbered.{IsNumbering, listed_sources, source_named};
-ghost use Rattle.bz_gsym_layout.specs.Plan.{Source};
+ghost use Rattle.bz_converting.specs.Numbered.{IsNumbered, Uses, listed_sources, source_named};
 
 use crate::numbering::Numbering;
 use bz_base::Result;
@@ -30,9 +29,9 @@ pub(crate) fn source_of(file: &SymbolFile, id: u32) -> Source<'_>
 
 /// The row of a plan, by that of the file.
 fn row_of<'a>(numbering: &mut Numbering<'a>, file: &'a SymbolFile, row: &LineRow) -> Result<Row>
-    ensures numbering { OnOk result ((table : Table) (texts : List (List ℕ)) (sources : List Source) → table_in file.now ≡ Some table → IsNumbering table texts sources numbering.old →
-        IsNumbering table (texts ++ texts_of_row table (row_seen row.now)) (sources ++ sources_of_row table (row_seen row.now)) numbering.new) }
-    ensures row { IfOk result (λ planned. (table : Table) (texts : List (List ℕ)) (sources : List Source) → table_in file.now ≡ Some table → IsNumbering table texts sources numbering.old →
+    ensures numbering { OnOk result ((table : Table) → table_in file.now ≡ Some table →
+        Uses table (texts_of_row table (row_seen row.now)) (sources_of_row table (row_seen row.now)) numbering.old numbering.new) }
+    ensures row { IfOk result (λ planned. (table : Table) → table_in file.now ≡ Some table → IsNumbered table numbering.old →
         IsRowFor table (listed_sources numbering.new) (row_seen row.now) planned) }
     ensures memory { IsOkUnless result Error.OutOfMemory }
 {
@@ -51,9 +50,9 @@ pub(crate) fn rows_of<'a>(
     file: &'a SymbolFile,
     lines: &[LineRow],
 ) -> Result<Vec<Row>>
-    ensures numbering { OnOk result ((table : Table) (texts : List (List ℕ)) (sources : List Source) → table_in file.now ≡ Some table → IsNumbering table texts sources numbering.old →
-        IsNumbering table (texts ++ flat_map (texts_of_row table) (map row_seen lines.now)) (sources ++ flat_map (sources_of_row table) (map row_seen lines.now)) numbering.new) }
-    ensures rows { IfOk result (λ rows. (table : Table) (texts : List (List ℕ)) (sources : List Source) → table_in file.now ≡ Some table → IsNumbering table texts sources numbering.old →
+    ensures numbering { OnOk result ((table : Table) → table_in file.now ≡ Some table →
+        Uses table (flat_map (texts_of_row table) (map row_seen lines.now)) (flat_map (sources_of_row table) (map row_seen lines.now)) numbering.old numbering.new) }
+    ensures rows { IfOk result (λ rows. (table : Table) → table_in file.now ≡ Some table → IsNumbered table numbering.old →
         AllZip (IsRowFor table (listed_sources numbering.new)) (map row_seen lines.now) rows.items) }
     ensures memory { IsOkUnless result Error.OutOfMemory }
 {

@@ -2,7 +2,8 @@
 
 use bz_base::Error;
 use bz_breakpad::SymbolFile;
-use bz_convert::{ConvertError, first_fault};
+use bz_convert::ConvertError;
+use bz_converting::convert;
 use std::alloc::Global;
 
 /// A file's text, and what is said of its first fault: nothing where it has none. Each cause once; sizes
@@ -97,17 +98,13 @@ fn is_message(alloc: Global, error: ConvertError, expected: &str) -> Result<bool
     Ok(message.as_str() == expected)
 }
 
-fn is_first(alloc: Global, file: &SymbolFile, said: &str) -> Result<bool, Error> {
-    match first_fault(alloc, file)? {
-        Some(fault) => is_message(alloc, fault, said),
-        None => Ok(said.is_empty()),
-    }
-}
-
-/// Whether this is said of the first fault of a text.
+/// Whether this is said of the first fault of a text, or nothing where the text is converted.
 fn is_said(alloc: Global, text: &[u8], said: &str) -> Result<bool, Error> {
     let file = SymbolFile::from_bytes(alloc, Vec::from_slice(alloc, text)?)?;
-    is_first(alloc, &file, said)
+    match convert(alloc, &file) {
+        Ok(_bytes) => Ok(said.is_empty()),
+        Err(fault) => is_message(alloc, fault, said),
+    }
 }
 
 #[test]

@@ -16,16 +16,19 @@ loop-call-preserved c table texts sources read is =
     let s = c.loop-call in
     one_turn table (texts_of_call table) (sources_of_call table) (λ n. IsNodeFor table (listed_texts n.texts) (listed_sources n)) kept_inlinee c.args.calls.now s.call-index texts sources s.numbering s.nodes.items (s.invariant table texts sources read is)
     (nodes_stay table) no_call (omega (arith, c.loop-call-test.true)) c.node_of.new.numbering c.in_ok-node_of.field-0 c.push.new.self.items c.in_ok-push.ensures.items
-    (λ used used_sources old. c.in_ok-node_of.ensures.numbering table used used_sources read old) (λ used used_sources old. c.in_ok-node_of.ensures.node table used used_sources read old)
+    (c.in_ok-node_of.ensures.numbering table read) (λ used used_sources old. c.in_ok-node_of.ensures.node table read (used, used_sources, old))
 
 pub returns-clause-numbering : goal.returns-clause-numbering
-returns-clause-numbering c table texts sources read is =
+returns-clause-numbering c table read texts sources is =
     let s = c.loop-call in
     (all_turns table (texts_of_call table) (sources_of_call table) (λ n. IsNodeFor table (listed_texts n.texts) (listed_sources n)) kept_inlinee c.args.calls.now s.call-index texts sources s.numbering s.nodes.items (s.invariant table texts sources read is)
     (omega (arith, c.loop-call-test.false))).numbering
 
 pub returns-clause-nodes : goal.returns-clause-nodes
-returns-clause-nodes c table texts sources read is =
+returns-clause-nodes c table read has =
     let s = c.loop-call in
+    let texts = has.0 in
+    let sources = has.1 in
+    let is = has.2 in
     (all_turns table (texts_of_call table) (sources_of_call table) (λ n. IsNodeFor table (listed_texts n.texts) (listed_sources n)) kept_inlinee c.args.calls.now s.call-index texts sources s.numbering s.nodes.items (s.invariant table texts sources read is)
     (omega (arith, c.loop-call-test.false))).each

@@ -1,9 +1,9 @@
-use Rattle.std.proofs.Common.{[], IfOk, None, Some, ap, arith, drop, length, refl, sym, subst, take, ◌+◌, ◌≡◌, ◌≤◌, ◌∙◌}
+use Rattle.std.proofs.Common.{[], None, Some, ap, arith, drop, length, refl, sym, subst, take, ◌+◌, ◌≡◌, ◌≤◌, ◌∙◌}
+use Rattle.std.proofs.lemmas.Result.{err_from_is_err_and}
 use Rattle.bz_breakpad_function.specs.InOrder.{ordered_functions}
 use Rattle.bz_breakpad_lines.specs.Reader.{table_in}
 use Rattle.bz_breakpad_lines.specs.Table.{Table}
 use Rattle.bz_convert.specs.Fault.{fault_of, first_fault}
-use Rattle.bz_convert.specs.RowsAndCalls.{AreRowsAndCalls, fault_found}
 use Rattle.bz_convert.proofs.FileTurns.{turn_on, turn_out, turns_end}
 use Rattle.bz_converting.proofs.CollectedLemmas.{calls_apart, collected_turn, plan_codes, plan_formed, table_there}
 use Rattle.bz_converting.specs.Laid.{IsFunctionFor, sources_used, texts_used}
@@ -17,11 +17,10 @@ pub function_of-requires : goal.function_of-requires
 function_of-requires g c =
     let s = c.loop-index in
     let f = c.function-function.result in
-    let none : (table : Table) → table_in c.args.file.now ≡ Some table → fault_of table s.before f ≡ None = λ table read.
-    sym (c.in_ok-found.ensures.fault table (ap table_in c.in_ok-ids.ensures.ok ∙ read)) ∙ ap fault_found c.in-Ok.is in
+    let none : (table : Table) → table_in c.args.file.now ≡ Some table → fault_of table s.before f ≡ None = λ table read. c.in_ok-found.ensures.clean table (ap table_in c.in_ok-ids.ensures.ok ∙ read) in
     record {
       apart = λ checked. calls_apart c.args.file.now c.function_count-index-end.result c.function_count-index-end.ensures.table s.before f none checked;
-      found = subst (λ r. IfOk r (AreRowsAndCalls f)) c.in-Ok.is c.in_ok-found.ensures.found;
+      found = c.in_ok-found.ensures.found;
     }
 
 pub loop-index-init : goal.loop-index-init
@@ -39,22 +38,22 @@ loop-index-preserved g c =
       clean = λ table read.
           ap (λ a. first_fault table (Some a) (drop (s.index + 1) (ordered_functions table.functions))) c.addr.ensures
           ∙ turn_on c.args.file.now table read s.before s.index c.function-function.result c.function-function.ensures.function
-          (ap fault_found (sym c.in-Ok.is) ∙ c.in_ok-found.ensures.fault table (ap table_in c.in_ok-ids.ensures.ok ∙ read)) (s.invariant.clean table read);
+          (sym (c.in_ok-found.ensures.clean table (ap table_in c.in_ok-ids.ensures.ok ∙ read))) (s.invariant.clean table read);
       collected = λ table read.
           collected_turn c.args.file.now table read s.numbering c.function_of.new.numbering s.index c.function-function.result c.function-function.ensures.function s.functions.items c.push.new.self.items
           c.in_ok-function_of.field-0 c.in_ok-push.ensures.items (s.invariant.collected table read) c.in_ok-function_of.ensures.numbering c.in_ok-function_of.ensures.function;
     }
 
-pub returns-in-Err-clause-plan : goal.returns-in-Err-clause-plan
-returns-in-Err-clause-plan g c =
+pub returns-in_err-found-clause-fault : goal.returns-in_err-found-clause-fault
+returns-in_err-found-clause-fault g c =
     let s = c.loop-index in
-    let f = c.function-function.result in
-    let count = c.function_count-index-end.ensures.table in
-    let there = table_there (table_in c.args.file.now) (λ (t : Table). length t.functions) c.function_count-index-end.result count in
+    let e = c.in_err-found.field-0.0 in
+    let same = err_from_is_err_and c.from_residual-in_err-found.result c.from_residual-in_err-found.ensures.1 in
+    rw (same.1, same.2) (λ other table read.
     let out =
-    turn_out c.args.file.now c.function_count-index-end.result count s.before s.index f c.function-function.ensures.function c.in-Err.fault
-    (λ table read. ap fault_found (sym c.in-Err.is) ∙ c.in_ok-found.ensures.fault table (ap table_in c.in_ok-ids.ensures.ok ∙ read)) s.invariant.clean in
-    (there.0, there.1, fault_told (table_in c.args.file.now) (Some c.in-Err.fault) out there.0 there.1)
+    turn_out c.args.file.now c.function_count-index-end.result c.function_count-index-end.ensures.table s.before s.index c.function-function.result c.function-function.ensures.function e
+    (λ table read. sym (c.in_err-found.ensures.fault other table (ap table_in c.in_ok-ids.ensures.ok ∙ read))) s.invariant.clean in
+    fault_told (table_in c.args.file.now) (Some e) out table read)
 
 pub returns-clause-plan : goal.returns-clause-plan
 returns-clause-plan g c =

@@ -19,7 +19,10 @@ returns-clause-numbering c =
 pub returns-clause-index : goal.returns-clause-index
 returns-clause-index c =
     if_ok c.index_of-3.result _ _
-    (λ index found table texts sources is.
+    (λ index found table has.
+    let texts = has.0 in
+    let sources = has.1 in
+    let is = has.2 in
     let one = c.in_ok-dir.ensures.texts texts is.numbered.texts in
     source_at texts sources c.args.self.now is.numbered (lent_source c.args.source) c.dir_text.result.now c.dir_text.ensures c.index_of.new.self c.index_of-2.new.self one
     (c.in_ok-name.ensures.texts (texts ++ c.dir_text.result.now ∷ []) one) (record { dir = c.in_ok-dir.dir; name = c.in_ok-name.name }) (c.in_ok-dir.ensures.index texts is.numbered.texts)
