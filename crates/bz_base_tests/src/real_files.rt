@@ -2,16 +2,13 @@
 
 use bz_files::{FileError, Files, RealFiles};
 use std::alloc::Global;
-use std::fs::OpenFile;
+use std::fs::{FileTimes, OpenFile};
 use std::os::unix::fs::symlink;
 use std::time::{Duration, SystemTime};
 use std::{fs, io};
 
-/// The files of this system.
-type Real = RealFiles<HostRuntime>;
-
 /// Whether a look at the file of seven bytes tells its stamp, and the same by another path.
-fn has_stamp(files: &mut Real) -> bool {
+fn has_stamp<F: Files>(files: &mut F) -> bool {
     match files.stat("bz_files_real") {
         Ok(stamp) => stamp.size == 7
             && stamp.inode > 0
@@ -22,7 +19,7 @@ fn has_stamp(files: &mut Real) -> bool {
 }
 
 /// Whether the file of seven bytes comes with the stamp that a look at it tells.
-fn comes_with_its_stamp(files: &mut Real, alloc: Global) -> bool {
+fn comes_with_its_stamp<F: Files>(files: &mut F, alloc: Global) -> bool {
     match files.read_stamped(alloc, "bz_files_real") {
         Ok(read) => read.bytes.len() == 7 && files.stat("bz_files_real") == Ok(read.stamp),
         Err(_) => false,
@@ -30,7 +27,7 @@ fn comes_with_its_stamp(files: &mut Real, alloc: Global) -> bool {
 }
 
 /// Whether the file at the path tells no length.
-fn tells_no_length(files: &mut Real, path: &str) -> bool {
+fn tells_no_length<F: Files>(files: &mut F, path: &str) -> bool {
     match files.stat(path) {
         Ok(stamp) => stamp.size == 0,
         Err(_) => false,
@@ -38,7 +35,7 @@ fn tells_no_length(files: &mut Real, path: &str) -> bool {
 }
 
 /// Whether the file at the path is read, and has this text: all of it, or at its start.
-fn has_text(files: &mut Real, alloc: Global, path: &str, text: &[u8], whole: bool) -> bool {
+fn has_text<F: Files>(files: &mut F, alloc: Global, path: &str, text: &[u8], whole: bool) -> bool {
     match files.read(alloc, path) {
         Ok(bytes) => bytes.starts_with(text) && (bytes.len() == text.len() || !whole),
         Err(_) => false,
@@ -46,7 +43,7 @@ fn has_text(files: &mut Real, alloc: Global, path: &str, text: &[u8], whole: boo
 }
 
 /// Whether the file at the path isn't read, for this reason.
-fn is_refused(files: &mut Real, alloc: Global, path: &str, reason: FileError) -> bool {
+fn is_refused<F: Files>(files: &mut F, alloc: Global, path: &str, reason: FileError) -> bool {
     files.read(alloc, path).err() == Some(reason)
 }
 
@@ -95,8 +92,8 @@ const FAILING: [Row; 3] = [
 ];
 
 /// Whether this comes of the path.
-fn is_answered(
-    files: &mut Real,
+fn is_answered<F: Files>(
+    files: &mut F,
     alloc: Global,
     outcome: &Outcome,
     path: &str,
@@ -114,7 +111,11 @@ fn is_answered(
 }
 
 /// Whether all rows are answered and counted so.
-fn are_answered(files: &mut Real, alloc: Global, rows: &[Row]) -> bool {
+fn are_answered<R: std::rt::Files + Drop>(
+    files: &mut RealFiles<R>,
+    alloc: Global,
+    rows: &[Row],
+) -> bool {
     for (outcome, path, text, faults, opens) in rows {
         if !is_answered(files, alloc, outcome, path, text)
             || files.faults() != *faults
@@ -127,7 +128,7 @@ fn are_answered(files: &mut Real, alloc: Global, rows: &[Row]) -> bool {
 }
 
 /// Whether the files are looked at, and the stamp of one is told.
-fn are_looked_at(files: &mut Real, alloc: Global) -> bool {
+fn are_looked_at<R: std::rt::Files + Drop>(files: &mut RealFiles<R>, alloc: Global) -> bool {
     files.begin();
     has_stamp(files)
         && comes_with_its_stamp(files, alloc)
@@ -136,7 +137,7 @@ fn are_looked_at(files: &mut Real, alloc: Global) -> bool {
 }
 
 /// Whether the stamps of two files are told apart, and the time of the first is told whole.
-fn are_told_apart(files: &mut RealFiles<&HostRuntime>) -> Result<bool, FileError> {
+fn are_told_apart<F: Files>(files: &mut F) -> Result<bool, FileError> {
     let one = files.stat("bz_files_one")?;
     let two = files.stat("bz_files_two")?;
     let timed = one.mtime_sec == 1_234_567_890 && one.mtime_nsec == 987_654_321;
@@ -153,30 +154,31 @@ const MADE: [&str; 5] = [
 ];
 
 /// Makes the two empty ones. Only the first one's time is set.
-fn make_two(rt: &HostRuntime) -> io::Result<()> {
+fn make_two<R: std::rt::Files>(rt: &R) -> io::Result<()> {
     let changed = Duration::new(1_234_567_890, 987_654_321);
     if let Some(changed) = SystemTime::UNIX_EPOCH.checked_add(changed) {
-        fs::create(rt, "bz_files_one")?.set_modified(changed)?;
+        let times = FileTimes::new().set_modified(changed);
+        fs::create(rt, "bz_files_one")?.set_times(times)?;
     }
     fs::create(rt, "bz_files_two")?;
     Ok(())
 }
 
 /// Makes the link, and the file with a hole: one byte too long, and no byte is stored.
-fn make_failing(rt: &HostRuntime) -> io::Result<()> {
+fn make_failing<R: std::rt::Files>(rt: &R) -> io::Result<()> {
     symlink(rt, "bz_files_loop", "bz_files_loop")?;
     fs::create(rt, "bz_files_long")?.set_len(1_073_741_825)
 }
 
 /// Makes all of them.
-fn make(rt: &HostRuntime) -> bool {
+fn make<R: std::rt::Files>(rt: &R) -> bool {
     fs::write(rt, "bz_files_real", b"one two".as_slice()).is_ok()
         && make_two(rt).is_ok()
         && make_failing(rt).is_ok()
 }
 
 /// Takes them away. Says whether each was there.
-fn remove(rt: &HostRuntime) -> bool {
+fn remove<R: std::rt::Files>(rt: &R) -> bool {
     let mut removed = true;
     for path in &MADE {
         removed = fs::remove_file(rt, *path).is_ok() && removed;
@@ -185,16 +187,16 @@ fn remove(rt: &HostRuntime) -> bool {
 }
 
 /// Whether the files are looked at, told apart, and fail.
-fn answer(rt: &HostRuntime) -> bool {
-    are_looked_at(&mut Real::new(*rt, 7), rt.alloc())
+fn answer<R: std::rt::Files + Copy + Drop>(rt: &R, alloc: Global) -> bool {
+    are_looked_at(&mut RealFiles::new(*rt, 7), alloc)
         && are_told_apart(&mut RealFiles::new(rt, 0)) == Ok(true)
-        && are_answered(&mut Real::new(*rt, 0), rt.alloc(), &FAILING)
+        && are_answered(&mut RealFiles::new(*rt, 0), alloc, &FAILING)
 }
 
 #[test]
 fn real_files_are_looked_at_told_apart_and_fail(rt: HostRuntime) {
     let made = make(&rt);
-    let answered = answer(&rt);
+    let answered = answer(&rt, rt.alloc());
     let removed = remove(&rt);
     assert!(rt; made && answered && removed);
 }
