@@ -75,6 +75,14 @@ fn lends(answer: &Symbolized<'_>, expected: &Sym<'_>) -> bool {
     }
 }
 
+/// Whether a copy is made, and equal to what it is of.
+fn is_equal<T: PartialEq + Drop>(copy: Result<T>, original: &T) -> bool {
+    match copy {
+        Ok(copy) => copy == *original,
+        Err(_) => false,
+    }
+}
+
 /// Whether an answer lends the symbol, and then gives it.
 fn gives(answer: Symbolized<'_>, expected: &Sym<'_>) -> bool {
     let lent = lends(&answer, expected);
@@ -96,35 +104,40 @@ fn is_kept(alloc: Global, own: Sym<'_>, lent: &Sym<'_>) -> bool {
     is_answered(alloc, Symbolized::Sym(own), lent) && cloned
 }
 
+/// The symbol with texts of its own.
+fn own_symbol(alloc: Global) -> Result<Sym<'static>> {
+    symbol(alloc)?.into_owned(alloc)
+}
+
+/// Whether the symbol with texts of its own is made, cloned and given, equal to the one that lent them.
+fn owned_is_kept(alloc: Global, lent: &Sym<'_>) -> bool {
+    match own_symbol(alloc) {
+        Ok(own) => is_kept(alloc, own, lent),
+        Err(_) => false,
+    }
+}
+
 /// Whether a symbol is cloned, as it was made and with texts of its own, and no field changes.
-fn is_cloned_and_given(alloc: Global) -> Result<bool> {
-    let lent = symbol(alloc)?;
-    let own = symbol(alloc)?.into_owned(alloc)?;
-    Ok(is_cloned(alloc, &lent, true) && is_kept(alloc, own, &lent))
+fn is_cloned_and_given(alloc: Global) -> bool {
+    match symbol(alloc) {
+        Ok(lent) => is_cloned(alloc, &lent, true) && owned_is_kept(alloc, &lent),
+        Err(_) => false,
+    }
 }
 
 /// Whether a copy of a call is equal to it.
 fn call_is_cloned(alloc: Global, call: &InlinedFn<'_>) -> bool {
-    match call.try_clone(alloc) {
-        Ok(copy) => copy == *call,
-        Err(_) => false,
-    }
+    is_equal(call.try_clone(alloc), call)
 }
 
 /// Whether a copy of a place is equal to it.
 fn place_is_cloned(alloc: Global, place: &CodeInfo<'_>) -> bool {
-    match place.try_clone(alloc) {
-        Ok(copy) => copy == *place,
-        Err(_) => false,
-    }
+    is_equal(place.try_clone(alloc), place)
 }
 
 /// Whether a copy of an answer is equal to it.
 fn answer_is_cloned(alloc: Global, answer: &Symbolized<'_>) -> bool {
-    match answer.try_clone(alloc) {
-        Ok(copy) => copy == *answer,
-        Err(_) => false,
-    }
+    is_equal(answer.try_clone(alloc), answer)
 }
 
 /// Whether the call with texts of its own is equal to it.
@@ -153,7 +166,7 @@ fn parts_are_cloned(alloc: Global) -> bool {
 
 #[test]
 fn answers_are_cloned_and_give_their_symbols(rt: HostRuntime) {
-    assert!(rt; is_cloned_and_given(rt.alloc()) == Ok(true) && parts_are_cloned(rt.alloc()));
+    assert!(rt; is_cloned_and_given(rt.alloc()) && parts_are_cloned(rt.alloc()));
 }
 
 #[test]
