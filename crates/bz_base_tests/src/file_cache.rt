@@ -97,28 +97,18 @@ enum Act {
     Failed,
     /// So many files were read.
     WereRead,
-    /// The cache answers the text at the path.
-    Answers,
-    /// It doesn't.
-    Refuses,
+    /// Whether the cache answers the text at the path.
+    Answers(bool),
     /// It keeps a version with the stamp of the file at `/s`.
     Keeps,
-    /// It takes in a note as that of the file at `/s`.
-    TakesIn,
-    /// It refuses that, since no file is there.
-    FindsNone,
-    /// It refuses that, since it has one.
-    HasOne,
-    /// It pins the path, which is then pinned.
-    Pins,
-    /// It doesn't hold the path that it is to pin.
-    PinsNone,
+    /// It takes in a note as that of the file at `/s`, or refuses it so.
+    TakesIn(Result<()>),
+    /// Whether it pins the path, which is pinned only then.
+    Pins(bool),
     /// It takes the pin off the path.
     Unpins,
-    /// It drops a version with the path.
-    Evicts,
-    /// It drops none.
-    EvictsNone,
+    /// Whether it drops a version with the path.
+    Evicts(bool),
     /// So many versions are kept.
     Versions,
     /// So many paths are held.
@@ -131,9 +121,9 @@ type Step = (Act, &'static str, &'static [u8], usize);
 /// A changed file is answered by its first version.
 const CHANGES_UNSEEN: [Step; 4] = [
     (Act::Puts, "", b"V1", 0),
-    (Act::Answers, "/s", b"V1", 0),
+    (Act::Answers(true), "/s", b"V1", 0),
     (Act::Puts, "", b"V2", 0),
-    (Act::Answers, "/s", b"V1", 0),
+    (Act::Answers(true), "/s", b"V1", 0),
 ];
 
 /// A file is read where it has changed, refused where a look fails, and read once. A version is looked
@@ -141,13 +131,13 @@ const CHANGES_UNSEEN: [Step; 4] = [
 const CHANGES: [Step; 10] = [
     (Act::WillFail, "", b"", 6),
     (Act::Puts, "", b"V1", 0),
-    (Act::Answers, "/s", b"V1", 0),
+    (Act::Answers(true), "/s", b"V1", 0),
     (Act::Puts, "", b"V2", 0),
-    (Act::Answers, "/s", b"V2", 0),
-    (Act::Answers, "/s", b"V2", 0),
-    (Act::Refuses, "/s", b"V2", 0),
+    (Act::Answers(true), "/s", b"V2", 0),
+    (Act::Answers(true), "/s", b"V2", 0),
+    (Act::Answers(false), "/s", b"V2", 0),
     (Act::Failed, "", b"", 1),
-    (Act::Answers, "/s", b"V2", 0),
+    (Act::Answers(true), "/s", b"V2", 0),
     (Act::WereRead, "", b"", 2),
 ];
 
@@ -155,40 +145,40 @@ const CHANGES: [Step; 10] = [
 /// unpinned, and then let go with both versions.
 const IS_PINNED: [Step; 12] = [
     (Act::Puts, "", b"V1", 0),
-    (Act::Answers, "/s", b"V1", 0),
+    (Act::Answers(true), "/s", b"V1", 0),
     (Act::Keeps, "", b"", 0),
-    (Act::Pins, "/s", b"", 0),
+    (Act::Pins(true), "/s", b"", 0),
     (Act::Puts, "", b"V2", 0),
-    (Act::Answers, "/s", b"V1", 0),
+    (Act::Answers(true), "/s", b"V1", 0),
     (Act::Unpins, "/s", b"", 0),
-    (Act::Answers, "/s", b"V2", 0),
+    (Act::Answers(true), "/s", b"V2", 0),
     (Act::Versions, "", b"", 2),
     (Act::Paths, "", b"", 1),
-    (Act::Evicts, "/s", b"", 0),
+    (Act::Evicts(true), "/s", b"", 0),
     (Act::Versions, "", b"", 0),
 ];
 
 /// A note is taken in once where a file is, which isn't read.
 const IS_TAKEN_IN: [Step; 6] = [
-    (Act::FindsNone, "", b"", 0),
+    (Act::TakesIn(Err(Error::NotFound)), "", b"", 0),
     (Act::Puts, "", b"not a note", 0),
-    (Act::TakesIn, "", b"", 0),
-    (Act::Answers, "/s", b"V1", 0),
+    (Act::TakesIn(Ok(())), "", b"", 0),
+    (Act::Answers(true), "/s", b"V1", 0),
     (Act::WereRead, "", b"", 0),
-    (Act::HasOne, "", b"", 0),
+    (Act::TakesIn(Err(Error::AlreadyExists)), "", b"", 0),
 ];
 
 /// A path whose file changes and changes back, and that so names a stamp twice, lets both versions go.
 const CHANGES_BACK: [Step; 10] = [
     (Act::Puts, "", b"V1", 0),
     (Act::Links, "", b"", 0),
-    (Act::Answers, "/s", b"V1", 0),
+    (Act::Answers(true), "/s", b"V1", 0),
     (Act::Puts, "", b"V2", 0),
-    (Act::Answers, "/s", b"V2", 0),
+    (Act::Answers(true), "/s", b"V2", 0),
     (Act::PutsUnderItsStamp, "", b"V1", 0),
-    (Act::Answers, "/s", b"V1", 0),
+    (Act::Answers(true), "/s", b"V1", 0),
     (Act::Versions, "", b"", 2),
-    (Act::Evicts, "/s", b"", 0),
+    (Act::Evicts(true), "/s", b"", 0),
     (Act::Versions, "", b"", 0),
 ];
 
@@ -196,9 +186,9 @@ const CHANGES_BACK: [Step; 10] = [
 const KEEPS_ITS_STAMP: [Step; 6] = [
     (Act::Puts, "", b"V1", 0),
     (Act::Links, "", b"", 0),
-    (Act::Answers, "/s", b"V1", 0),
+    (Act::Answers(true), "/s", b"V1", 0),
     (Act::PutsUnderItsStamp, "", b"V2", 0),
-    (Act::Answers, "/s", b"V1", 0),
+    (Act::Answers(true), "/s", b"V1", 0),
     (Act::Versions, "", b"", 1),
 ];
 
@@ -206,16 +196,16 @@ const KEEPS_ITS_STAMP: [Step; 6] = [
 const HAS_TWO_PATHS: [Step; 12] = [
     (Act::Puts, "", b"V1", 0),
     (Act::Links, "", b"", 0),
-    (Act::Answers, "/s", b"V1", 0),
-    (Act::Answers, "/b", b"V1", 0),
+    (Act::Answers(true), "/s", b"V1", 0),
+    (Act::Answers(true), "/b", b"V1", 0),
     (Act::Versions, "", b"", 1),
     (Act::Paths, "", b"", 2),
-    (Act::EvictsNone, "/s", b"", 0),
+    (Act::Evicts(false), "/s", b"", 0),
     (Act::Versions, "", b"", 1),
-    (Act::Evicts, "/b", b"", 0),
+    (Act::Evicts(true), "/b", b"", 0),
     (Act::Versions, "", b"", 0),
-    (Act::EvictsNone, "/b", b"", 0),
-    (Act::PinsNone, "/b", b"", 0),
+    (Act::Evicts(false), "/b", b"", 0),
+    (Act::Pins(false), "/b", b"", 0),
 ];
 
 /// Whether a step is done, or is so.
@@ -228,17 +218,12 @@ fn goes(cache: &mut FileCache<Note>, alloc: Global, files: &mut MemFiles, step: 
         Act::WillFail => files.fail_call(alloc, *number as u64).is_ok(),
         Act::Failed => files.faults() == *number as u64,
         Act::WereRead => files.opens() == *number as u64,
-        Act::Answers => answers(cache, alloc, files, path, text),
-        Act::Refuses => !answers(cache, alloc, files, path, text),
+        Act::Answers(so) => answers(cache, alloc, files, path, text) == *so,
         Act::Keeps => is_kept(cache, files),
-        Act::TakesIn => take_in(cache, alloc, files) == Ok(()),
-        Act::FindsNone => take_in(cache, alloc, files) == Err(Error::NotFound),
-        Act::HasOne => take_in(cache, alloc, files) == Err(Error::AlreadyExists),
-        Act::Pins => cache.pin(path).is_some() && cache.is_pinned(path),
-        Act::PinsNone => cache.pin(path).is_none(),
+        Act::TakesIn(answer) => take_in(cache, alloc, files) == *answer,
+        Act::Pins(so) => cache.pin(path).is_some() == *so && cache.is_pinned(path) == *so,
         Act::Unpins => cache.unpin(path).is_some(),
-        Act::Evicts => cache.evict(path),
-        Act::EvictsNone => !cache.evict(path),
+        Act::Evicts(so) => cache.evict(path) == *so,
         Act::Versions => cache.entry_count() == *number,
         Act::Paths => cache.path_count() == *number,
     }
