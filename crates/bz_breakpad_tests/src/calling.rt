@@ -37,11 +37,14 @@ fn is_named(alloc: Global, files: &mut MemFiles, addr: Addr, expected: &str) -> 
     }
 }
 
+/// Whether the names of a function and of a PUBLIC record are told.
+fn are_named(alloc: Global, files: &mut MemFiles) -> bool {
+    is_named(alloc, files, 0x1174, "main") == Ok(true)
+        && is_named(alloc, files, 0x1020, "_start") == Ok(true)
+}
+
 #[test]
 fn names_the_symbol_at_an_address(rt: HostRuntime) {
-    let mut files = MemFiles::new(rt.alloc(), 0);
-    assert!(rt;
-        is_named(rt.alloc(), &mut files, 0x1174, "main") == Ok(true)
-            && is_named(rt.alloc(), &mut files, 0x1020, "_start") == Ok(true)
-    );
+    let named = are_named(rt.alloc(), &mut MemFiles::new(rt.alloc(), 0));
+    assert!(rt; named);
 }

@@ -6,10 +6,10 @@ use crate::answered::{is_answered_alone, is_answered_in_batch};
 use crate::fact::{ABSENT, Fact, Row};
 use crate::found::has_batch;
 use crate::named::{are_listed, has_file_ids, has_function_names, has_origin_ids, has_public};
-use crate::read::{Way, records_of};
+use crate::read::{Way, file_of, records_of};
 use crate::told::is_told;
 use crate::walked::is_walk;
-use bz_base::{Result, Steps, SymType};
+use bz_base::{Steps, SymType};
 use bz_breakpad::SymbolFile;
 use bz_cache::Version;
 use std::alloc::Global;
@@ -19,20 +19,18 @@ use std::sync::ledger::{Blank, Ledger};
 /// Whether each row's text is a file that shows the row's facts.
 pub(crate) fn hold(alloc: Global, rows: &[Row], way: &Way) -> bool {
     for (text, facts) in rows {
-        if holds(alloc, text, facts, way) != Ok(true) {
+        if !holds(alloc, text, facts, way) {
             return false;
         }
     }
     true
 }
 
-fn holds(alloc: Global, text: &[u8], facts: &[Fact], way: &Way) -> Result<bool> {
-    let bytes = Vec::from_slice(alloc, text)?;
-    let file = match way {
-        Way::Bytes => SymbolFile::from_bytes(alloc, bytes)?,
-        Way::Version => <SymbolFile as Version>::parse(alloc, bytes)?,
-    };
-    Ok(shows_all::<Brand>(alloc, Blank::new(1), text, &file, facts))
+fn holds(alloc: Global, text: &[u8], facts: &[Fact], way: &Way) -> bool {
+    match file_of(alloc, text, way) {
+        Ok(file) => shows_all::<Brand>(alloc, Blank::new(1), text, &file, facts),
+        Err(_) => false,
+    }
 }
 
 fn shows_all<L: Ledger>(

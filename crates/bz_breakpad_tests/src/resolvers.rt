@@ -91,12 +91,20 @@ const RESOLVED: &[Row] = &[
     (TWINS, NoVariables("twin")),
 ];
 
+/// Whether the resolver of each text shows what its row says.
+fn are_resolved(alloc: Global, files: &mut MemFiles) -> bool {
+    for (text, resolved) in RESOLVED {
+        if is_resolved(alloc, files, text, resolved) != Ok(true) {
+            return false;
+        }
+    }
+    true
+}
+
 #[test]
 fn resolvers_answer(rt: HostRuntime) {
-    let mut files = MemFiles::new(rt.alloc(), 0);
-    for (text, resolved) in RESOLVED {
-        assert!(rt; is_resolved(rt.alloc(), &mut files, text, resolved) == Ok(true));
-    }
+    let resolved = are_resolved(rt.alloc(), &mut MemFiles::new(rt.alloc(), 0));
+    assert!(rt; resolved);
 }
 
 /// Whether the path is refused so.
@@ -124,6 +132,6 @@ fn refuses_paths(alloc: Global, files: &mut MemFiles) -> Result<bool> {
 
 #[test]
 fn refusals_have_their_causes(rt: HostRuntime) {
-    let mut files = MemFiles::new(rt.alloc(), 0);
-    assert!(rt; refuses_paths(rt.alloc(), &mut files) == Ok(true));
+    let refused = refuses_paths(rt.alloc(), &mut MemFiles::new(rt.alloc(), 0));
+    assert!(rt; refused == Ok(true));
 }
