@@ -73,15 +73,10 @@ impl<R: rt::Files + Drop> RealFiles<R> {
         ensures after { self.new ≡ after_failure failed self.old }
         ensures faults { CountsFaults self.old.faults self.new.faults (failed ≡ FileError.Fault) }
     {
-        match failed {
-            FileError::Fault => {
-                self.faults.add_one();
-                FileError::Fault
-            }
-            FileError::NotFound => FileError::NotFound,
-            FileError::Denied => FileError::Denied,
-            FileError::OutOfMemory => FileError::OutOfMemory,
+        if failed == FileError::Fault {
+            self.faults.add_one();
         }
+        failed
     }
 }
 
