@@ -10,7 +10,7 @@ use bz_base::Error;
 use std::alloc::Global;
 
 /// Why a look at a file failed.
-#[derive(Clone, Copy, Debug, PartialEq, Eq)]
+#[derive(Clone, Copy, PartialEq, Eq)]
 pub enum FileError {
     /// There is no file at the path.
     NotFound,

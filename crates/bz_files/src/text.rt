@@ -5,7 +5,7 @@ ghost use Rattle.bz_files.specs.Count.{CountsFaults};
 ghost use Rattle.bz_files.specs.TextEnd.{Takes, Puts};
 
 /// Why an end of a text failed.
-#[derive(Clone, Copy, Debug, PartialEq, Eq)]
+#[derive(Clone, Copy, PartialEq, Eq)]
 pub enum IoFault {
     /// The end failed: its count of faults rose by one.
     Fault,
