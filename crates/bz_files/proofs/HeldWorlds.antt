@@ -19,7 +19,7 @@ entry-cond true first second = refl
 entry-cond false first second = refl
 
 -- what a borrowed file is, as what is held behind the borrow
-pub option_map-now : (held : Option (Bor Held)) → option_map (λ h. entry_of h.now) held ≡ option_map entry_of (option_copied held)
+option_map-now : (held : Option (Bor Held)) → option_map (λ h. entry_of h.now) held ≡ option_map entry_of (option_copied held)
 option_map-now None = refl
 option_map-now (Some held) = refl
 
@@ -39,6 +39,10 @@ module _ {Y : Type 0} where
   -- the world has the entry of what is held at the path
   pub entry_held : (m : BTreeMap (String Y) Held) (path : List ℕ) → entry_at (world_of m) path ≡ option_map entry_of (get_by_text m path)
   entry_held m path = get-from_entries nat_list_cmp_total _ path ∙ find_held path m.entries
+
+  -- a borrowed file that the map gives for the path is the world's entry there
+  pub entry_found : (m : BTreeMap (String Y) Held) (path : List ℕ) (held : Option (Bor Held)) → option_copied held ≡ get_by_text m path → option_map (λ h. entry_of h.now) held ≡ entry_at (world_of m) path
+  entry_found m path held found = option_map-now held ∙ ap (option_map entry_of) found ∙ sym (entry_held m path)
 
   -- something is there in the world exactly where something is held
   pub is_some_held : (m : BTreeMap (String Y) Held) (path : List ℕ) → is_some (entry_at (world_of m) path) ≡ is_some (get_by_text m path)

@@ -4,7 +4,7 @@ ghost use Rattle.std.specs.Prelude.{◌≡◌, ◌∷◌, ◌++◌, [], length, 
 ghost use Rattle.std.specs.FinMap as map;
 ghost use Rattle.bz_files.specs.World.{entry_at, next_worlds, with_entry, without_entry};
 ghost use Rattle.bz_files.specs.MemWorlds.{first_world, last_world, on_last};
-ghost use Rattle.bz_files.specs.Held.{entry_of, world_of};
+ghost use Rattle.bz_files.specs.Held.{entry_of};
 
 use crate::stamp::Stamp;
 use bz_base::Error;
@@ -73,8 +73,8 @@ impl Worlds {
         ensures { option_map (λ held. entry_of held.now) result ≡ entry_at (first_world self.now) path.now }
     {
         match self.earlier.first() {
-            Some(world) => look(world, path),
-            None => look(&self.last, path),
+            Some(world) => world.get(path),
+            None => self.last.get(path),
         }
     }
 
@@ -82,7 +82,7 @@ impl Worlds {
     pub(crate) fn look_last(&self, path: &str) -> Option<&Held>
         ensures { option_map (λ held. entry_of held.now) result ≡ entry_at (last_world self.now) path.now }
     {
-        look(&self.last, path)
+        self.last.get(path)
     }
 
     /// Holds this at the path in the last world, in place of what was there.
@@ -92,7 +92,9 @@ impl Worlds {
         ensures count { length self.new ≡ length self.old }
         ensures memory { IsOkUnless result Error.OutOfMemory }
     {
-        hold(&mut self.last, alloc, path, held)
+        let key = String::from_str(alloc, path)?;
+        self.last.insert(key, held)?;
+        Ok(())
     }
 
     /// Takes away what is held at the path in the last world, and says whether anything was.
@@ -101,7 +103,7 @@ impl Worlds {
         ensures after { self.new ≡ on_last (without_entry path.now) self.old }
         ensures count { length self.new ≡ length self.old }
     {
-        clear(&mut self.last, path)
+        self.last.remove(path).is_some()
     }
 
     /// Brings the next world into view, if there is one.
@@ -123,35 +125,4 @@ impl Worlds {
         self.earlier.push(copy)?;
         Ok(())
     }
-}
-
-/// What is held at the path.
-fn look<'m>(entries: &'m BTreeMap<String, Held>, path: &str) -> Option<&'m Held>
-    ensures { option_map (λ held. entry_of held.now) result ≡ map.get (world_of entries.now) path.now }
-{
-    entries.get(path)
-}
-
-/// Holds this at the path, in place of what was there.
-fn hold(
-    entries: &mut BTreeMap<String, Held>,
-    alloc: Global,
-    path: &str,
-    held: Held,
-) -> Result<(), Error>
-    ensures ok { OnOk result (world_of entries.new ≡ with_entry path.now (entry_of held) (world_of entries.old)) }
-    ensures err { OnErr result (world_of entries.new ≡ world_of entries.old) }
-    ensures memory { IsOkUnless result Error.OutOfMemory }
-{
-    let key = String::from_str(alloc, path)?;
-    entries.insert(key, held)?;
-    Ok(())
-}
-
-/// Takes away what is held at the path, and says whether anything was.
-fn clear(entries: &mut BTreeMap<String, Held>, path: &str) -> bool
-    ensures removed { result ≡ is_some (entry_at (world_of entries.old) path.now) }
-    ensures after { world_of entries.new ≡ without_entry path.now (world_of entries.old) }
-{
-    entries.remove(path).is_some()
 }
