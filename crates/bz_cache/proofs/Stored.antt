@@ -10,8 +10,8 @@ use Rattle.std.specs.FinMap.{slice_cmp-IsAntisymmetric, nat_cmp-IsAntisymmetric,
 use Rattle.std.specs.Cmp.{eq_by_cmp_equiv}
 use Rattle.std.proofs.lemmas.Map.Text.{btree_map_updates_text, is_eq-slice_cmp}
 use Rattle.bz_files.specs.declared.stamp.Stamp.{Stamp}
-use Rattle.bz_cache.specs.declared.file_cache.entries.KeptVersion.{KeptVersion}
-use Rattle.bz_cache.specs.declared.file_cache.paths.PathEntry.{PathEntry}
+use Rattle.bz_cache.specs.declared.file_cache.versions.KeptVersion.{KeptVersion}
+use Rattle.bz_cache.specs.declared.file_cache.paths.HeldPath.{HeldPath}
 use Rattle.bz_cache.specs.Cache.{stamp_cmp, stamp_eq, PathState}
 use Rattle.bz_cache.specs.Counts.{Counted, CountedVersions}
 use Rattle.bz_cache.specs.Store.{kept_of, counted_of, paths_of, path_state}
@@ -108,37 +108,37 @@ module _ {T : Type 0} (bytes_of : T → List ℕ) where
 
 module _ {A : Type 0} where
   -- the state of what the map has at the path
-  pub get_path : (m : BTreeMap (String A) PathEntry) (p : List ℕ) → map.get (paths_of m) p ≡ option_map path_state (get_by_text m p)
+  pub get_path : (m : BTreeMap (String A) HeldPath) (p : List ℕ) → map.get (paths_of m) p ≡ option_map path_state (get_by_text m p)
   get_path m p = get_read (slice_cmp nat_cmp) string_bytes path_state nat_list_cmp_total m.entries p
 
   -- a path that the map has
-  pub path_found : (m : BTreeMap (String A) PathEntry) (p : List ℕ) (e : PathEntry) → get_by_text m p ≡ Some e → map.get (paths_of m) p ≡ Some (path_state e)
+  pub path_found : (m : BTreeMap (String A) HeldPath) (p : List ℕ) (e : HeldPath) → get_by_text m p ≡ Some e → map.get (paths_of m) p ≡ Some (path_state e)
   path_found m p e found = get_path m p ∙ ap (option_map path_state) found
 
   -- a path that the map hasn't
-  pub path_absent : (m : BTreeMap (String A) PathEntry) (p : List ℕ) → get_by_text m p ≡ None → map.get (paths_of m) p ≡ None
+  pub path_absent : (m : BTreeMap (String A) HeldPath) (p : List ℕ) → get_by_text m p ≡ None → map.get (paths_of m) p ≡ None
   path_absent m p absent = get_path m p ∙ ap (option_map path_state) absent
 
-  module _ (m n : BTreeMap (String A) PathEntry) (p : List ℕ) (w : Option PathEntry) (updates : UpdatesBy string_cmp (λ k. slice_cmp nat_cmp p (string_bytes k)) m n w) where
+  module _ (m n : BTreeMap (String A) HeldPath) (p : List ℕ) (w : Option HeldPath) (updates : UpdatesBy string_cmp (λ k. slice_cmp nat_cmp p (string_bytes k)) m n w) where
     -- what the changed map has at each path
     updated_text : (q : List ℕ) → get_by_text n q ≡ cond (is_eq (slice_cmp nat_cmp p q)) w (get_by_text m q)
     updated_text q = btree_map_updates_text p m n w updates q ∙ ap (λ b. cond b w (get_by_text m q)) (sym (is_eq-slice_cmp p q))
 
     -- a path that was put in
-    pub paths_insert : (e : PathEntry) → w ≡ Some e → paths_of n ≡ map.insert (paths_of m) p (path_state e)
+    pub paths_insert : (e : HeldPath) → w ≡ Some e → paths_of n ≡ map.insert (paths_of m) p (path_state e)
     paths_insert e is = read_insert (slice_cmp nat_cmp) string_bytes path_state nat_list_cmp_total (slice_cmp-IsAntisymmetric nat_cmp-IsAntisymmetric) m.entries n.entries p w updated_text e is
 
     -- a path that was taken out
     pub paths_remove : w ≡ None → paths_of n ≡ map.remove (paths_of m) p
     paths_remove is = read_remove (slice_cmp nat_cmp) string_bytes path_state nat_list_cmp_total (slice_cmp-IsAntisymmetric nat_cmp-IsAntisymmetric) m.entries n.entries p w updated_text is
 
-  module _ (m n : BTreeMap (String A) PathEntry) (p : List ℕ) (e w : PathEntry) (found : get_by_text m p ≡ Some e)
+  module _ (m n : BTreeMap (String A) HeldPath) (p : List ℕ) (e w : HeldPath) (found : get_by_text m p ≡ Some e)
       (updates : UpdatesBy string_cmp (λ k. slice_cmp nat_cmp p (string_bytes k)) m n (Some w)) where
-    -- the entry of a path that was changed to another state
+    -- the state of a path that was changed to another state
     pub paths_changed : (s : PathState) → path_state w ≡ s → paths_of n ≡ map.insert (paths_of m) p s
     paths_changed s is = paths_insert m n p (Some w) updates w refl ∙ ap (map.insert (paths_of m) p) is
 
-    -- an entry whose state stayed
+    -- a path whose state stayed
     pub paths_stay : path_state w ≡ path_state e → paths_of n ≡ paths_of m
     paths_stay is = paths_changed (path_state e) is ∙ insert_same nat_list_cmp_total (slice_cmp-IsAntisymmetric nat_cmp-IsAntisymmetric) (paths_of m) p (path_state e) (path_found m p e found)
 
@@ -147,5 +147,5 @@ pub kept_len : {T : Type 0} (bytes_of : T → List ℕ) (m : BTreeMap Stamp (Kep
 kept_len bytes_of m ordered = len_read stamp_cmp (λ (k : Stamp). k) (bytes_in bytes_of) stamp_total m.entries ordered
 
 -- as many paths are held as the map has entries
-pub paths_len : {A : Type 0} (m : BTreeMap (String A) PathEntry) → IsOrdered string_cmp m → map.len (paths_of m) ≡ btree_map_len m
+pub paths_len : {A : Type 0} (m : BTreeMap (String A) HeldPath) → IsOrdered string_cmp m → map.len (paths_of m) ≡ btree_map_len m
 paths_len m ordered = len_read (slice_cmp nat_cmp) string_bytes path_state nat_list_cmp_total m.entries ordered

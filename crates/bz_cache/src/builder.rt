@@ -9,6 +9,7 @@ use std::alloc::Global;
 use std::marker::{Model, PhantomData};
 
 /// How a cache is made.
+#[derive(Drop)]
 pub struct CacheBuilder<T: Version + Drop> {
     reload: bool,
     versions: PhantomData<T>,
@@ -36,17 +37,11 @@ impl<T: Version + Drop> FileCache<T> {
 
 impl<T: Version + Drop> CacheBuilder<T> {
     /// Whether the cache looks at a held path anew. Else it answers by the version that it has.
-    pub fn enable_auto_reload(self, enable: bool) -> Self
+    pub fn enable_auto_reload(mut self, enable: bool) -> Self
         ensures { result ≡ enable }
     {
-        let CacheBuilder {
-            reload: _,
-            versions,
-        } = self;
-        CacheBuilder {
-            reload: enable,
-            versions,
-        }
+        self.reload = enable;
+        self
     }
 
     /// A cache that keeps nothing.
@@ -54,10 +49,6 @@ impl<T: Version + Drop> CacheBuilder<T> {
         ensures new { result ≡ new_cache self }
         ensures consistent { Consistent T.test result }
     {
-        let CacheBuilder {
-            reload,
-            versions: _,
-        } = self;
-        FileCache::empty(alloc, reload)
+        FileCache::empty(alloc, self.reload)
     }
 }

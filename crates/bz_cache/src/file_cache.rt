@@ -20,17 +20,18 @@ use std::collections::BTreeMap;
 use std::marker::Model;
 use std::rc::Rc;
 
-mod entries;
 mod lookup;
 mod paths;
+mod versions;
 
-use entries::KeptVersion;
-use paths::PathEntry;
+use paths::HeldPath;
+use versions::KeptVersion;
 
 /// Parsed files, kept by their stamps, each with the number of paths that name it, and these paths.
+#[derive(Drop)]
 pub struct FileCache<T: Version + Drop> {
-    entries: BTreeMap<Stamp, KeptVersion<T>>,
-    paths: BTreeMap<String, PathEntry>,
+    versions: BTreeMap<Stamp, KeptVersion<T>>,
+    paths: BTreeMap<String, HeldPath>,
     reload: bool,
 }
 
@@ -44,20 +45,10 @@ impl<T: Version + Drop> Model for FileCache<T> {
     ghost use Rattle.bz_cache.specs.Counts.{HasCounts};
     ghost use Rattle.bz_cache.specs.Store.{kept_of, counted_of, paths_of};
 
-    ghost view = { λ a. record { reload = a.reload; kept = kept_of T.bytes_of a.entries; paths = paths_of a.paths } };
+    ghost view = { λ a. record { reload = a.reload; kept = kept_of T.bytes_of a.versions; paths = paths_of a.paths } };
 
     // The count of a kept version is that of the paths that name its stamp.
-    ghost invariant = { λ a. Consistent T.test (record { reload = a.reload; kept = kept_of T.bytes_of a.entries; paths = paths_of a.paths }) × HasCounts (paths_of a.paths) (counted_of T.bytes_of a.entries) };
-}
-
-impl<T: Version + Drop> Drop for FileCache<T> {
-    fn drop(self) {
-        let FileCache {
-            entries: _,
-            paths: _,
-            reload: _,
-        } = self;
-    }
+    ghost invariant = { λ a. Consistent T.test (record { reload = a.reload; kept = kept_of T.bytes_of a.versions; paths = paths_of a.paths }) × HasCounts (paths_of a.paths) (counted_of T.bytes_of a.versions) };
 }
 
 impl<T: Version + Drop> FileCache<T> {
@@ -67,7 +58,7 @@ impl<T: Version + Drop> FileCache<T> {
         ensures consistent { Consistent T.test result }
     {
         FileCache {
-            entries: BTreeMap::new(alloc),
+            versions: BTreeMap::new(alloc),
             paths: BTreeMap::new(alloc),
             reload,
         }
@@ -78,7 +69,7 @@ impl<T: Version + Drop> FileCache<T> {
         ensures kept { result ≡ is_some (map.get self.now.kept stamp.now) }
         ensures consistent { Consistent T.test self.now }
     {
-        entries::is_kept(&self.entries, stamp)
+        versions::is_kept(&self.versions, stamp)
     }
 
     /// Keeps a held path at its current version, also where its file changes. None: the path isn't held.
@@ -116,7 +107,7 @@ impl<T: Version + Drop> FileCache<T> {
         ensures unheld { is_held self.old path.now ≡ false → (result ≡ false) × (self.new ≡ self.old) }
     {
         match paths::remove(&mut self.paths, path) {
-            Some(entry) => entries::release(&mut self.entries, entry),
+            Some(held) => versions::release(&mut self.versions, held),
             None => false,
         }
     }
@@ -125,7 +116,7 @@ impl<T: Version + Drop> FileCache<T> {
     pub fn entry_count(&self) -> usize
         ensures { result ≡ map.len self.now.kept }
     {
-        entries::len(&self.entries)
+        versions::len(&self.versions)
     }
 
     /// How many paths are held.
@@ -151,7 +142,7 @@ impl<T: Version + Drop> FileCache<T> {
         requires { IsSome (map.get self.now.kept stamp.now) }
         ensures { map.get self.now.kept stamp.now ≡ Some (T.bytes_of result.now) }
     {
-        entries::get(&self.entries, stamp)
+        versions::get(&self.versions, stamp)
     }
 
     // The kept version with the stamp, with one owner more.
@@ -160,7 +151,7 @@ impl<T: Version + Drop> FileCache<T> {
         ensures ok { IfOk result (λ version. map.get self.now.kept stamp.now ≡ Some (T.bytes_of version.value)) }
         ensures memory { IsOkUnless result Error.OutOfMemory }
     {
-        entries::share(&self.entries, stamp)
+        versions::share(&self.versions, stamp)
     }
 
     // Makes the kept version with the stamp the path's current one.
@@ -179,7 +170,7 @@ impl<T: Version + Drop> FileCache<T> {
         }
         // No count is greater than that of the paths, so one more fits.
         let _paths = paths::len(&self.paths);
-        entries::raise(&mut self.entries, &stamp);
+        versions::raise(&mut self.versions, &stamp);
         Ok(())
     }
 
@@ -198,9 +189,9 @@ impl<T: Version + Drop> FileCache<T> {
         ensures err { OnErr result (self.new ≡ self.old) }
         ensures memory { IsOkUnless result Error.OutOfMemory }
     {
-        entries::insert(&mut self.entries, stamp, version)?;
+        versions::insert(&mut self.versions, stamp, version)?;
         if let Err(error) = paths::update(&mut self.paths, alloc, path, stamp) {
-            entries::remove(&mut self.entries, &stamp);
+            versions::remove(&mut self.versions, &stamp);
             return Err(error);
         }
         Ok(())

@@ -15,7 +15,7 @@ use std::collections::BTreeMap;
 
 /// What is known of a held path.
 #[derive(Drop)]
-pub struct PathEntry {
+pub struct HeldPath {
     /// The stamp that it was last seen with.
     pub current: Stamp,
     /// Whether it stays at that stamp.
@@ -25,18 +25,18 @@ pub struct PathEntry {
 }
 
 /// The path's current stamp, and whether it is pinned.
-pub fn get(paths: &BTreeMap<String, PathEntry>, path: &str) -> Option<(Stamp, bool)>
+pub fn get(paths: &BTreeMap<String, HeldPath>, path: &str) -> Option<(Stamp, bool)>
     ensures { result ≡ option_map (λ e. (e.current, e.pinned)) (map.get (paths_of paths.now) path.now) }
 {
     match paths.get(path) {
-        Some(entry) => Some((entry.current, entry.pinned)),
+        Some(held) => Some((held.current, held.pinned)),
         None => None,
     }
 }
 
 /// Makes the stamp the path's current one, and unpins the path.
 pub fn update(
-    paths: &mut BTreeMap<String, PathEntry>,
+    paths: &mut BTreeMap<String, HeldPath>,
     alloc: Global,
     path: &str,
     stamp: Stamp,
@@ -47,13 +47,13 @@ pub fn update(
     ensures sure { (e : PathState) → map.get (paths_of paths.old) path.now ≡ Some e → stamp_eq e.current stamp ≡ true → IsOk result }
 {
     match paths.get_mut(path) {
-        Some(entry) => replace(entry, stamp),
+        Some(held) => replace(held, stamp),
         None => insert(paths, alloc, path, stamp),
     }
 }
 
 fn insert(
-    paths: &mut BTreeMap<String, PathEntry>,
+    paths: &mut BTreeMap<String, HeldPath>,
     alloc: Global,
     path: &str,
     stamp: Stamp,
@@ -63,28 +63,28 @@ fn insert(
     ensures memory { IsOkUnless result Error.OutOfMemory }
 {
     let name = String::from_str(alloc, path)?;
-    let entry = PathEntry {
+    let held = HeldPath {
         current: stamp,
         pinned: false,
         earlier: Vec::new(alloc),
     };
-    paths.insert(name, entry)?;
+    paths.insert(name, held)?;
     Ok(())
 }
 
-fn replace(entry: &mut PathEntry, stamp: Stamp) -> Result<()>
-    ensures ok { OnOk result (path_state entry.new ≡ moved stamp (Some (path_state entry.old))) }
-    ensures err { OnErr result (path_state entry.new ≡ path_state entry.old) }
+fn replace(held: &mut HeldPath, stamp: Stamp) -> Result<()>
+    ensures ok { OnOk result (path_state held.new ≡ moved stamp (Some (path_state held.old))) }
+    ensures err { OnErr result (path_state held.new ≡ path_state held.old) }
     ensures memory { IsOkUnless result Error.OutOfMemory }
-    ensures sure { stamp_eq entry.old.current stamp ≡ true → IsOk result }
+    ensures sure { stamp_eq held.old.current stamp ≡ true → IsOk result }
 {
-    if entry.current == stamp {
-        entry.pinned = false;
+    if held.current == stamp {
+        held.pinned = false;
         return Ok(());
     }
-    remember(&mut entry.earlier, entry.current)?;
-    entry.current = stamp;
-    entry.pinned = false;
+    remember(&mut held.earlier, held.current)?;
+    held.current = stamp;
+    held.pinned = false;
     Ok(())
 }
 
@@ -100,42 +100,42 @@ fn remember(earlier: &mut Vec<Stamp>, stamp: Stamp) -> Result<()>
 }
 
 /// Pins a held path, or unpins it.
-pub fn set_pinned(paths: &mut BTreeMap<String, PathEntry>, path: &str, pinned: bool) -> Option<()>
+pub fn set_pinned(paths: &mut BTreeMap<String, HeldPath>, path: &str, pinned: bool) -> Option<()>
     ensures some { is_some result ≡ is_some (map.get (paths_of paths.old) path.now) }
     ensures paths { paths_of paths.new ≡ with_pinned pinned (paths_of paths.old) path.now }
 {
-    let entry = paths.get_mut(path)?;
-    entry.pinned = pinned;
+    let held = paths.get_mut(path)?;
+    held.pinned = pinned;
     Some(())
 }
 
 /// Forgets a path, and returns what was known of it.
-pub fn remove(paths: &mut BTreeMap<String, PathEntry>, path: &str) -> Option<PathEntry>
-    ensures entry { option_map path_state result ≡ map.get (paths_of paths.old) path.now }
+pub fn remove(paths: &mut BTreeMap<String, HeldPath>, path: &str) -> Option<HeldPath>
+    ensures value { option_map path_state result ≡ map.get (paths_of paths.old) path.now }
     ensures paths { paths_of paths.new ≡ map.remove (paths_of paths.old) path.now }
 {
     paths.remove(path)
 }
 
 /// Whether the path names the stamp.
-pub fn path_names(paths: &BTreeMap<String, PathEntry>, path: &str, stamp: &Stamp) -> bool
+pub fn path_names(paths: &BTreeMap<String, HeldPath>, path: &str, stamp: &Stamp) -> bool
     ensures { result ≡ names_at (map.get (paths_of paths.now) path.now) stamp.now }
 {
     match paths.get(path) {
-        Some(entry) => names(entry, stamp),
+        Some(held) => names(held, stamp),
         None => false,
     }
 }
 
-/// Whether a path with this entry names the stamp.
-pub fn names(entry: &PathEntry, stamp: &Stamp) -> bool
-    ensures { result ≡ names (path_state entry.now) stamp.now }
+/// Whether a path that is held so names the stamp.
+pub fn names(held: &HeldPath, stamp: &Stamp) -> bool
+    ensures { result ≡ names (path_state held.now) stamp.now }
 {
-    entry.current == *stamp || entry.earlier.contains(stamp)
+    held.current == *stamp || held.earlier.contains(stamp)
 }
 
 /// How many paths are held.
-pub fn len(paths: &BTreeMap<String, PathEntry>) -> usize
+pub fn len(paths: &BTreeMap<String, HeldPath>) -> usize
     ensures count { result ≡ map.len (paths_of paths.now) }
     ensures small { result < 2 ^ 63 }
 {

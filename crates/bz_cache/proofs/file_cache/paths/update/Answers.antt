@@ -10,21 +10,21 @@ use Rattle.bz_cache.proofs.file_cache.paths.update.Goals as goal
 pub returns-in-Some-clause-ok : goal.returns-in-Some-clause-ok
 returns-in-Some-clause-ok c =
     let found = sym c.get_mut.ensures.value ∙ ap option_copied_mut c.in-Some.is in
-    let updates = (c.get_mut.follows.holds c.replace.new.entry).3 (ap is_some found) in
+    let updates = (c.get_mut.follows.holds c.replace.new.held).3 (ap is_some found) in
     rw (path_found c.args.paths.now c.args.path.now _ found) (
-    on_ok_weaker c.replace.result (paths_changed c.args.paths.now (c.get_mut.follows.lender c.replace.new.entry) c.args.path.now _ _ found updates _) c.replace.ensures.ok
+    on_ok_weaker c.replace.result (paths_changed c.args.paths.now (c.get_mut.follows.lender c.replace.new.held) c.args.path.now _ _ found updates _) c.replace.ensures.ok
     )
 
 pub returns-in-Some-clause-err : goal.returns-in-Some-clause-err
 returns-in-Some-clause-err c =
     let found = sym c.get_mut.ensures.value ∙ ap option_copied_mut c.in-Some.is in
-    let updates = (c.get_mut.follows.holds c.replace.new.entry).3 (ap is_some found) in
-    on_err_weaker c.replace.result (paths_stay c.args.paths.now (c.get_mut.follows.lender c.replace.new.entry) c.args.path.now _ _ found updates) c.replace.ensures.err
+    let updates = (c.get_mut.follows.holds c.replace.new.held).3 (ap is_some found) in
+    on_err_weaker c.replace.result (paths_stay c.args.paths.now (c.get_mut.follows.lender c.replace.new.held) c.args.path.now _ _ found updates) c.replace.ensures.err
 
 pub returns-in-Some-clause-sure : goal.returns-in-Some-clause-sure
 returns-in-Some-clause-sure c = λ e held same.
     let found = sym c.get_mut.ensures.value ∙ ap option_copied_mut c.in-Some.is in
-    let is : e ≡ path_state c.in-Some.entry.now = cc (path_found c.args.paths.now c.args.path.now _ found, held) in
+    let is : e ≡ path_state c.in-Some.held.now = cc (path_found c.args.paths.now c.args.path.now _ found, held) in
     c.replace.ensures.sure (subst (λ (s : PathState). stamp_eq s.current c.args.stamp ≡ true) is same)
 
 pub returns-in-None-clause-ok : goal.returns-in-None-clause-ok
