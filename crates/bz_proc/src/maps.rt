@@ -7,7 +7,7 @@ ghost use Rattle.std.specs.Prelude.{◌≡◌, ◌<◌, nat_le, Some, length, ma
 ghost use Rattle.std.specs.List.{prefix_len};
 ghost use Rattle.bz_base.specs.Line.{all_lines};
 ghost use Rattle.bz_base.specs.declared.error.Error.{Error};
-ghost use Rattle.bz_proc.specs.Maps.{if_begins, mapping_in, mapping_of, mappings_of, maps_in, name_of, owner_in, said_in, IsMapsRefusal};
+ghost use Rattle.bz_proc.specs.Maps.{if_begins, mapping_of, mappings_of, maps_in, name_of, owner_in, said_in, IsMapsRefusal};
 ghost use Rattle.bz_proc.specs.declared.maps.MapsEntry.{MapsEntry};
 
 use bz_base::{Addr, Error, Pid, Result, first_line};
@@ -117,27 +117,17 @@ fn said(alloc: Global, pid: Pid, line: &[u8]) -> Result<Option<MapsEntry>>
     if line.is_empty() {
         return Ok(None);
     }
-    let entry = entry(alloc, pid, line)?;
-    Ok(Some(entry))
-}
-
-/// The mapping that a line tells.
-fn entry(alloc: Global, pid: Pid, line: &[u8]) -> Result<MapsEntry>
-    requires { IsUtf8 line.now }
-    ensures ok { IfOk result (λ entry. mapping_in pid line.now ≡ Some (mapping_of entry)) }
-    ensures refusal { IfErr result (IsMapsRefusal (mapping_in pid line.now)) }
-{
     let Some(told) = mapping_line(line) else {
         return Err(Error::InvalidData);
     };
     // What follows the spaces of a line in UTF-8 is UTF-8.
     let text = unsafe { std::str::from_utf8_unchecked(told.text) };
     let path_name = path_name(alloc, pid, told.start, told.end, text)?;
-    Ok(MapsEntry {
+    Ok(Some(MapsEntry {
         range: told.start..told.end,
         offset: told.offset,
         path_name,
-    })
+    }))
 }
 
 /// The place of the mapping that answers for an address: the first that ends above it, if that begins

@@ -99,7 +99,7 @@ fn utf8_len(bytes: &[u8]) -> usize
     }
 }
 
-/// Whether a character begins at a place, as a zero byte is one.
+/// Whether a character begins at a place. A zero byte is a character too.
 fn is_boundary(strings: &[u8], place: usize) -> bool
     requires { place < length strings.now }
     ensures { (result ≡ true) ↔ IsCharBoundary strings.now place }

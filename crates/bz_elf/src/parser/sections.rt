@@ -15,8 +15,8 @@ use super::parts::lies;
 use crate::types::{Part, Section, SymbolTable};
 use bz_base::{u32_at, u64_at};
 
-/// Where the symbols and their names lie; without a symbol table, none lie nowhere. None: the table
-/// isn't one, or its strings aren't there.
+/// Where the symbols and their names lie. A file without a symbol table has no symbols. None: the
+/// table isn't one, or its strings aren't there.
 pub(crate) fn symbols_in(bytes: &[u8]) -> Option<SymbolTable>
     requires { TablesLie bytes.now }
     ensures table { IfSome result (IsSymbolTable bytes.now) }
