@@ -9,7 +9,7 @@ use Rattle.bz_breakpad_lines.specs.Form.{Piece, Form, Value, IsPiece, Spells, so
 use Rattle.bz_breakpad_lines.specs.Form.Piece.{Tag, Mark, Separator, ModuleSeparator, Gap, Word, Hex, Decimal}
 use Rattle.bz_breakpad_lines.specs.Form.Form.{End, Name, SeparatorText, Many, ◌·◌}
 use Rattle.bz_breakpad_lines.proofs.Bytes.{blank_no_hex, blank_no_decimal, other_way, begins_narrower, begins_either}
-use Rattle.bz_breakpad_lines.proofs.Pieces.{goes_on, sep_begins}
+use Rattle.bz_breakpad_lines.proofs.Pieces.{goes_on, separator_begins}
 use Rattle.bz_breakpad_lines.proofs.Turns.{no_solid}
 
 -- what may stand after a text of the form
@@ -19,10 +19,10 @@ Follows (p · f) rest = Follows f rest
 Follows _ rest = rest ≡ []
 
 -- its texts begin with a blank
-abbrev pub sep_first : Form → Bool
-sep_first (Separator · f) = true
-sep_first (ModuleSeparator · f) = true
-sep_first _ = false
+abbrev pub separator_first : Form → Bool
+separator_first (Separator · f) = true
+separator_first (ModuleSeparator · f) = true
+separator_first _ = false
 
 -- its texts begin with a space
 abbrev pub space_first : Form → Bool
@@ -33,7 +33,7 @@ space_first _ = false
 abbrev pub blank_first : Form → Bool
 blank_first End = true
 blank_first SeparatorText = true
-blank_first (Many f) = sep_first f
+blank_first (Many f) = separator_first f
 blank_first (Separator · f) = true
 blank_first (ModuleSeparator · f) = true
 blank_first _ = false
@@ -72,7 +72,7 @@ before Decimal f = blank_first f
 -- each piece may stand where it stands
 abbrev pub is_set : Form → Bool
 is_set (p · f) = before p f && is_set f
-is_set (Many f) = sep_first f && (closed f && is_set f)
+is_set (Many f) = separator_first f && (closed f && is_set f)
 is_set _ = true
 
 pub at_end : (f : Form) → Follows f []
@@ -119,25 +119,25 @@ space_begins : (run rest : List ℕ) → IsPiece ModuleSeparator run tt → begi
 space_begins [] rest is = absurd (false≢true is.passes)
 space_begins (b ∷ run) rest is = rw is.passes refl
 
-msep_begins : (run rest : List ℕ) → IsPiece ModuleSeparator run tt → begins_with is_blank (run ++ rest) ≡ true
-msep_begins [] rest is = absurd (false≢true is.passes)
-msep_begins (b ∷ run) rest is = is.bytes.0
+module_separator_begins : (run rest : List ℕ) → IsPiece ModuleSeparator run tt → begins_with is_blank (run ++ rest) ≡ true
+module_separator_begins [] rest is = absurd (false≢true is.passes)
+module_separator_begins (b ∷ run) rest is = is.bytes.0
 
-pub sep_front : (f : Form) → sep_first f ≡ true → (front rest : List ℕ) (value : Value f) → Spells f front value → begins_with is_blank (front ++ rest) ≡ true
-sep_front (Separator · f) first front rest value is = rw (is.whole, append_assoc is.front is.back rest) (sep_begins is.front (is.back ++ rest) is.front_is)
-sep_front (ModuleSeparator · f) first front rest value is = rw (is.whole, append_assoc is.front is.back rest) (msep_begins is.front (is.back ++ rest) is.front_is)
-sep_front _ first front rest value is = absurd (false≢true first)
+pub separator_front : (f : Form) → separator_first f ≡ true → (front rest : List ℕ) (value : Value f) → Spells f front value → begins_with is_blank (front ++ rest) ≡ true
+separator_front (Separator · f) first front rest value is = rw (is.whole, append_assoc is.front is.back rest) (separator_begins is.front (is.back ++ rest) is.front_is)
+separator_front (ModuleSeparator · f) first front rest value is = rw (is.whole, append_assoc is.front is.back rest) (module_separator_begins is.front (is.back ++ rest) is.front_is)
+separator_front _ first front rest value is = absurd (false≢true first)
 
 blank_front : (f : Form) → blank_first f ≡ true → (front rest : List ℕ) (value : Value f) → Spells f front value → Follows f rest →
     begins_with is_solid (front ++ rest) ≡ false
 blank_front End first front rest value is follows = rw is follows
 blank_front SeparatorText first front rest value is follows =
-    no_solid (front ++ rest) (rw (is.whole, append_assoc is.sep is.more rest) (sep_begins is.sep (is.more ++ rest) is.sep_is))
+    no_solid (front ++ rest) (rw (is.whole, append_assoc is.separator is.more rest) (separator_begins is.separator (is.more ++ rest) is.separator_is))
 blank_front (Many f) first front rest [] is follows = absurd (omega (arith, is.0))
 blank_front (Many f) first front rest (v ∷ values) is follows =
-    no_solid (front ++ rest) (rw (is.1.2, append_assoc is.1.0 is.1.1 rest) (sep_front f first is.1.0 (is.1.1 ++ rest) v is.1.3))
-blank_front (Separator · f) first front rest value is follows = no_solid (front ++ rest) (sep_front (Separator · f) refl front rest value is)
-blank_front (ModuleSeparator · f) first front rest value is follows = no_solid (front ++ rest) (sep_front (ModuleSeparator · f) refl front rest value is)
+    no_solid (front ++ rest) (rw (is.1.2, append_assoc is.1.0 is.1.1 rest) (separator_front f first is.1.0 (is.1.1 ++ rest) v is.1.3))
+blank_front (Separator · f) first front rest value is follows = no_solid (front ++ rest) (separator_front (Separator · f) refl front rest value is)
+blank_front (ModuleSeparator · f) first front rest value is follows = no_solid (front ++ rest) (separator_front (ModuleSeparator · f) refl front rest value is)
 blank_front _ first front rest value is follows = absurd (false≢true first)
 
 mark_front : (b : ℕ) (front rest : List ℕ) → not (is_blank b) ≡ true → IsPiece (Mark b) front tt → begins_with is_blank rest ≡ false → begins_with is_blank (front ++ rest) ≡ false

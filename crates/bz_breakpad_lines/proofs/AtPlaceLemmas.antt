@@ -16,7 +16,7 @@ use Rattle.bz_breakpad_lines.specs.Line.{line_front, line_in, source_line}
 use Rattle.bz_breakpad_lines.specs.Reads.{◌>>=◌, form_at, piece_at, reads}
 use Rattle.bz_breakpad_lines.specs.Records.{LINE}
 use Rattle.bz_breakpad_lines.specs.Table.{SourceLine}
-use Rattle.bz_breakpad_lines.proofs.Apart.{sep_front}
+use Rattle.bz_breakpad_lines.proofs.Apart.{separator_front}
 use Rattle.bz_breakpad_lines.proofs.Bytes.{blank_no_hex}
 use Rattle.bz_breakpad_lines.proofs.ChoiceLaws.{body_found}
 use Rattle.bz_breakpad_lines.proofs.FormLaws.{form_found}
@@ -63,7 +63,7 @@ start_in_front text line is =
     ∙ ap (λ t. t ++ drop n text) (cut.whole ∙ ap (λ t. t ++ cut.ends) spelled.whole)
     ∙ append_assoc (spelled.front ++ spelled.back) cut.ends (drop n text)
     ∙ append_assoc spelled.front spelled.back more in
-    let stops = no_digit (spelled.back ++ more) (sep_front (Separator · Hex 8 · Separator · Decimal · Separator · Decimal · End) refl spelled.back more spelled.others spelled.back_is) in
+    let stops = no_digit (spelled.back ++ more) (separator_front (Separator · Hex 8 · Separator · Decimal · Separator · Decimal · End) refl spelled.back more spelled.others spelled.back_is) in
     let start : spelled.tells ≡ line.start = ap (λ (v : Value LINE). v.0) (sym spelled.valued) ∙ ap (λ (l : SourceLine). l.start) value.2 in (
       spelled.back ++ more,
       ap (piece_at (Hex 16)) whole ∙ piece_again (Hex 16) spelled.front (spelled.back ++ more) spelled.tells spelled.front_is stops ∙ ap (λ s. Some (s, spelled.back ++ more)) start,

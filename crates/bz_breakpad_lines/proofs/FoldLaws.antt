@@ -8,7 +8,7 @@ use Rattle.bz_breakpad_lines.specs.Reads.{◌>>=◌}
 use Rattle.bz_breakpad_lines.specs.Says.{module_of}
 use Rattle.bz_breakpad_lines.specs.Grammar.{IsNoModule}
 use Rattle.bz_breakpad_lines.specs.Reader.{Reading, with_record, next_read, lines_read}
-use Rattle.bz_breakpad_lines.specs.Walk.{Context, Record, context_after, white_allowed_after, record_at, after_white}
+use Rattle.bz_breakpad_lines.specs.Contexts.{Context, Record, context_after, white_allowed_after, record_at, after_white}
 use Rattle.bz_breakpad_lines.proofs.Turns.{bind_some, map_some}
 use Rattle.bz_breakpad_lines.proofs.Walks.{walk}
 

@@ -8,17 +8,17 @@ use Rattle.bz_base.specs.Byte.{is_blank, begins_with}
 use Rattle.bz_breakpad_lines.specs.Form.{Form, Value, told, IsSeparatorText, Spells}
 use Rattle.bz_breakpad_lines.specs.Form.Form.{End, Name, SeparatorText, Many, ◌·◌}
 use Rattle.bz_breakpad_lines.specs.Reads.{◌>>=◌, piece_at, name_at, many_at, reads, complete, form_at, IsReadExactly}
-use Rattle.bz_breakpad_lines.proofs.Apart.{Follows, is_set, before, closed, sep_first, at_end, closed_follows, sep_front, apart}
-use Rattle.bz_breakpad_lines.proofs.Pieces.{piece_found, piece_again, sep_begins}
+use Rattle.bz_breakpad_lines.proofs.Apart.{Follows, is_set, before, closed, separator_first, at_end, closed_follows, separator_front, apart}
+use Rattle.bz_breakpad_lines.proofs.Pieces.{piece_found, piece_again, separator_begins}
 use Rattle.bz_breakpad_lines.proofs.Turns.{bind_some, map_some, many_found, many_again}
 
 -- what was read stands at the front, and the rest after it
 abbrev Found : (f : Form) → List ℕ → Value f × List ℕ → Type 0
 Found f text read = (front : List ℕ) × Spells f front read.0 × (text ≡ front ++ read.1)
 
-begins_sep_text : (text : List ℕ) → begins_with is_blank text ≡ true → IsSeparatorText text
-begins_sep_text [] begins = absurd (false≢true begins)
-begins_sep_text (b ∷ text) begins = record { sep = b ∷ []; more = text; whole = refl; sep_is = record { bytes = (begins, tt); passes = refl; tells = refl } }
+begins_separator_text : (text : List ℕ) → begins_with is_blank text ≡ true → IsSeparatorText text
+begins_separator_text [] begins = absurd (false≢true begins)
+begins_separator_text (b ∷ text) begins = record { separator = b ∷ []; more = text; whole = refl; separator_is = record { bytes = (begins, tt); passes = refl; tells = refl } }
 
 name_found : (text : List ℕ) (read : List ℕ × List ℕ) → name_at text ≡ Some read → Found Name text read
 unfolding name_at
@@ -33,7 +33,7 @@ found End text read is = ([], refl, ap (λ r. r.1) (same_Some (tt, text) read is
 found Name text read is = name_found text read is
 found SeparatorText text read is =
     let parts = cond_some (begins_with is_blank text) (tt, []) read is in
-    subst (λ r. Found SeparatorText text r) parts.1 (text, begins_sep_text text parts.0, sym (append-nil text))
+    subst (λ r. Found SeparatorText text r) parts.1 (text, begins_separator_text text parts.0, sym (append-nil text))
 found (Many f) text read is =
     let values = map_some (λ vs. (vs, [])) (many_at (reads f) text) read is in
     subst (λ r. Found (Many f) text r) values.2
@@ -68,14 +68,14 @@ again End sets front rest value is follows = rw is refl
 again Name sets front rest value is follows =
     rw (follows, append-nil front, is.1) (name_again front is.0.front (is_utf8-from_IsUtf8 front is.0.utf8))
 again SeparatorText sets front rest value is follows =
-    rw (is.whole, append_assoc is.sep is.more rest, sep_begins is.sep (is.more ++ rest) is.sep_is, follows) refl
+    rw (is.whole, append_assoc is.separator is.more rest, separator_begins is.separator (is.more ++ rest) is.separator_is, follows) refl
 again (Many f) sets front rest values is follows =
-    let parts = and_parts (sep_first f) (closed f && is_set f) sets in
+    let parts = and_parts (separator_first f) (closed f && is_set f) sets in
     let inner = and_parts (closed f) (is_set f) parts.1 in
     rw (follows, append-nil front)
     (ap (option_map (λ vs. (vs, [])))
     (many_again (Spells f) (reads f)
-    (λ x y v sp. sep_front f parts.0 x y v sp)
+    (λ x y v sp. separator_front f parts.0 x y v sp)
     (λ x y v sp stops. again f inner.1 x y v sp (closed_follows f inner.0 y stops))
     values front is.1 is.0))
 again (p · f) sets front rest value is follows =
@@ -114,8 +114,8 @@ some_blank [] begins = absurd (false≢true begins)
 some_blank (b ∷ text) begins = omega arith
 
 -- a form that begins with a blank takes something
-pub shorter : (f : Form) → sep_first f ≡ true → (text : List ℕ) (read : Value f × List ℕ) → reads f text ≡ Some read → length read.1 < length text
+pub shorter : (f : Form) → separator_first f ≡ true → (text : List ℕ) (read : Value f × List ℕ) → reads f text ≡ Some read → length read.1 < length text
 shorter f first text read is =
     let at = found f text read is in
-    let some = some_blank at.0 (rw (append-nil at.0) at (sep_front f first at.0 [] read.0 at.1)) in
+    let some = some_blank at.0 (rw (append-nil at.0) at (separator_front f first at.0 [] read.0 at.1)) in
     omega (arith, ap length at.2, length-append at.0 read.1)

@@ -10,8 +10,8 @@ use Rattle.bz_breakpad_lines.specs.Reads.{◌>>=◌}
 use Rattle.bz_breakpad_lines.specs.Reader.{Reading, nothing_read, lines_read, table_read, reading_in, counted_in}
 use Rattle.bz_breakpad_lines.specs.Says.{table_of}
 use Rattle.bz_breakpad_lines.specs.Table.{Table}
-use Rattle.bz_breakpad_lines.specs.Walk.{Record}
-use Rattle.bz_breakpad_lines.specs.Walk.Context.{Outside}
+use Rattle.bz_breakpad_lines.specs.Contexts.{Record}
+use Rattle.bz_breakpad_lines.specs.Contexts.Context.{Outside}
 use Rattle.bz_breakpad_lines.proofs.FoldLaws.{folded, Follow, AreFolded, fold_found, fold_again}
 use Rattle.bz_breakpad_lines.proofs.RoleLaws.{roles_exactly}
 use Rattle.bz_breakpad_lines.proofs.TableLaws.{table_folded, folded_count}

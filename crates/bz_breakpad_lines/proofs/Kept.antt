@@ -3,7 +3,7 @@ use Rattle.std.proofs.Common.{◌≡◌, ℕ, ◌<◌, true, false, nat_eq, List
 use Rattle.std.proofs.lemmas.Bool.{eqb-true, true≢false}
 use Rattle.bz_breakpad_lines.specs.Form.{Form, Value}
 use Rattle.bz_breakpad_lines.specs.Reads.{joined, many_at, reads}
-use Rattle.bz_breakpad_lines.proofs.Apart.{sep_first}
+use Rattle.bz_breakpad_lines.proofs.Apart.{separator_first}
 use Rattle.bz_breakpad_lines.proofs.FormLaws.{shorter}
 use Rattle.bz_breakpad_lines.proofs.Turns.{many_step, many_none}
 
@@ -32,7 +32,7 @@ pub some_left : (rest : List ℕ) → false ≡ nat_eq (length rest) 0 → 0 < l
 some_left [] is = absurd (true≢false (sym is))
 some_left (b ∷ rest) is = omega arith
 
-module _ (f : Form) (first : sep_first f ≡ true) (text : List ℕ) (kept : List (Value f)) where
+module _ (f : Form) (first : separator_first f ≡ true) (text : List ℕ) (kept : List (Value f)) where
   -- one more, and others after it
   pub kept_step : (a : Value f) (rest : List ℕ) → Some (a, rest) ≡ reads f text → 0 < length rest →
       kept_then (kept ++ a ∷ []) (many_at (reads f) rest) ≡ kept_then kept (many_at (reads f) text)

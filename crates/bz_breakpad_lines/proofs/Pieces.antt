@@ -63,9 +63,9 @@ mark_found b (c ∷ text) = by (nat_eq c b && begins_with is_blank text) refl wh
       )
 
 -- a separator begins with a blank, whatever follows
-pub sep_begins : (sep rest : List ℕ) → IsSeparator sep → begins_with is_blank (sep ++ rest) ≡ true
-sep_begins [] rest is = absurd (false≢true is.passes)
-sep_begins (b ∷ sep) rest is = is.bytes.0
+pub separator_begins : (separator rest : List ℕ) → IsSeparator separator → begins_with is_blank (separator ++ rest) ≡ true
+separator_begins [] rest is = absurd (false≢true is.passes)
+separator_begins (b ∷ separator) rest is = is.bytes.0
 
 -- nothing is passed over where another byte stands
 mark_none : (b : ℕ) (rest : List ℕ) → begins_with (goes_on (Mark b)) rest ≡ false → mark_at b rest ≡ rest
@@ -77,14 +77,14 @@ begins_first : (f g : ℕ → Bool) (text : List ℕ) → begins_with (λ b. f b
 begins_first f g [] stops = refl
 begins_first f g (b ∷ text) stops = (or_parts (f b) (g b) stops).0
 
-mark_some : (b : ℕ) (sep rest : List ℕ) → IsSeparator sep → begins_with (goes_on (Mark b)) rest ≡ false → mark_at b (b ∷ (sep ++ rest)) ≡ rest
+mark_some : (b : ℕ) (separator rest : List ℕ) → IsSeparator separator → begins_with (goes_on (Mark b)) rest ≡ false → mark_at b (b ∷ (separator ++ rest)) ≡ rest
 unfolding mark_at
-mark_some b sep rest is stops =
+mark_some b separator rest is stops =
     rw (
       eq-eqb b b refl,
-      sep_begins sep rest is,
-      run_len is_blank sep rest is.bytes (begins_first is_blank (λ c. nat_eq c b) rest stops),
-      drop-append_seam sep rest,
+      separator_begins separator rest is,
+      run_len is_blank separator rest is.bytes (begins_first is_blank (λ c. nat_eq c b) rest stops),
+      drop-append_seam separator rest,
     ) refl
 
 mark_again : (b : ℕ) (front rest : List ℕ) → IsPiece (Mark b) front tt → begins_with (goes_on (Mark b)) rest ≡ false → mark_at b (front ++ rest) ≡ rest

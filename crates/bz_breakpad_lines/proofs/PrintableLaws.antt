@@ -20,9 +20,9 @@ use Rattle.bz_breakpad_lines.specs.Kinds.{InnerRecord, inlinees_in, inner_of, to
 use Rattle.bz_breakpad_lines.specs.Kinds.InnerRecord.{Line, Inline, InnerOrigin}
 use Rattle.bz_breakpad_lines.specs.Says.{file_of, functions_of, inlinees_of, line_of, module_first, module_of, origin_of, inner_records, public_of, table_of, function_with}
 use Rattle.bz_breakpad_lines.specs.Table.{Named, Table}
-use Rattle.bz_breakpad_lines.specs.Walk.{Context, Record, IsBodyOf}
-use Rattle.bz_breakpad_lines.specs.Walk.Context.{Outside, InFunc, InCfi}
-use Rattle.bz_breakpad_lines.specs.Walk.Record.{Top, OfFunc, OfCfi}
+use Rattle.bz_breakpad_lines.specs.Contexts.{Context, Record, IsBodyOf}
+use Rattle.bz_breakpad_lines.specs.Contexts.Context.{Outside, InFunc, InCfi}
+use Rattle.bz_breakpad_lines.specs.Contexts.Record.{Top, OfFunc, OfCfi}
 use Rattle.bz_breakpad_lines.specs.Written.{FormFits, OneFits, PieceFits, RecordFits, is_within_line}
 use Rattle.bz_breakpad_lines.proofs.PrintedLaws.{all_append}
 use Rattle.bz_breakpad_lines.proofs.NameLemmas.{AllAbove, Ascend, ascend_with}

@@ -13,9 +13,9 @@ use Rattle.bz_breakpad_lines.specs.Records.{INNER}
 use Rattle.bz_breakpad_lines.specs.Kinds.{as_module, inner_of}
 use Rattle.bz_breakpad_lines.specs.Says.{file_of, functions_of, inlinees_of, line_of, module_first, origin_of, inner_records, public_of, table_of, with_inner}
 use Rattle.bz_breakpad_lines.specs.Table.{Function, Inlinee, Named, PublicSymbol, SourceLine, Table}
-use Rattle.bz_breakpad_lines.specs.Walk.{Context, Record}
-use Rattle.bz_breakpad_lines.specs.Walk.Context.{Outside, InFunc}
-use Rattle.bz_breakpad_lines.specs.Walk.Record.{Top, OfFunc, OfCfi}
+use Rattle.bz_breakpad_lines.specs.Contexts.{Context, Record}
+use Rattle.bz_breakpad_lines.specs.Contexts.Context.{Outside, InFunc}
+use Rattle.bz_breakpad_lines.specs.Contexts.Record.{Top, OfFunc, OfCfi}
 use Rattle.bz_breakpad_lines.specs.Written.{RecordFits, record_text}
 use Rattle.bz_base.specs.Line.{ended}
 use Rattle.bz_base.specs.Number.{digits_at}

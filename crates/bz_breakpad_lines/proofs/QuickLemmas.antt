@@ -26,9 +26,9 @@ use Rattle.bz_breakpad_lines.specs.declared.record.InlineCall.{InlineCall}
 use Rattle.bz_breakpad_lines.specs.declared.record.InnerLine.TheVariants as inners
 use Rattle.bz_breakpad_lines.specs.declared.record.Range.{Range}
 use Rattle.bz_breakpad_lines.specs.declared.record.TopLine.TheVariants as tops
-use Rattle.bz_breakpad_lines.specs.Walk.{Context, Record, body_record}
-use Rattle.bz_breakpad_lines.specs.Walk.Context.{InCfi, InFunc, Outside}
-use Rattle.bz_breakpad_lines.specs.Walk.Record.{OfCfi, OfFunc, Top}
+use Rattle.bz_breakpad_lines.specs.Contexts.{Context, Record, body_record}
+use Rattle.bz_breakpad_lines.specs.Contexts.Context.{InCfi, InFunc, Outside}
+use Rattle.bz_breakpad_lines.specs.Contexts.Record.{OfCfi, OfFunc, Top}
 use Rattle.bz_breakpad_lines.proofs.Apart.{hex_begins, hex_no_blank, other_than}
 use Rattle.bz_breakpad_lines.proofs.AsciiLemmas.{before_feed, none_of, plain_utf8}
 use Rattle.bz_breakpad_lines.proofs.ChoiceLaws.{body_again}
@@ -122,7 +122,7 @@ none_in byte other no_digit (Mark b · f) clean text v is =
     rw is.whole (both byte is.front is.back
     (elim is.front_is [
       | inl none ↦ rw none refl
-      | inr (sep, whole, sep_is) ↦ rw whole (or_from _ _ clean.0 (no_blank byte other sep sep_is.bytes))
+      | inr (separator, whole, separator_is) ↦ rw whole (or_from _ _ clean.0 (no_blank byte other separator separator_is.bytes))
     ])
     (none_in byte other no_digit f clean.1 is.back is.others is.back_is))
 none_in byte other no_digit (Separator · f) clean text v is =
@@ -371,7 +371,7 @@ cfi_found text more tail rest is_tag ascii =
     (made_of (Tag (codes "STACK CFI") · End) SeparatorText tt (refl, tt) (refl, tt) text (codes "STACK CFI") end rest tt tt
     (front.2 ∙ ap (λ t. t ++ more) front.1 ∙ ap (λ t. codes "STACK CFI " ++ t) ascii.cut)
     (record { front = codes "STACK CFI"; back = []; whole = refl; tells = tt; others = tt; front_is = refl; back_is = refl; valued = refl })
-    (record { sep = space ∷ []; more = tail; whole = refl; sep_is = record { bytes = (refl, tt); passes = refl; tells = refl } })
+    (record { separator = space ∷ []; more = tail; whole = refl; separator_is = record { bytes = (refl, tt); passes = refl; tells = refl } })
     (none_of is_plain line_feed refl tail ascii.bytes) (none_of is_plain carriage_return refl tail ascii.bytes))
 
 module _ (c : Context) (text : List ℕ) (r : Record) (rest : List ℕ) (p : IsQuick c text r rest) where

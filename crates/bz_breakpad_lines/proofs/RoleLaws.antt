@@ -4,9 +4,9 @@ use Rattle.bz_breakpad_lines.specs.Grammar.{Role, allows_white, under_owner, Are
 use Rattle.bz_breakpad_lines.specs.Grammar.Role.{Blank, Is}
 use Rattle.bz_breakpad_lines.specs.Choice.{One}
 use Rattle.bz_breakpad_lines.specs.Records.{INNER}
-use Rattle.bz_breakpad_lines.specs.Walk.{Context, Record, context_after, white_allowed_after, IsBodyOf, IsRecord}
-use Rattle.bz_breakpad_lines.specs.Walk.Context.{Outside, InFunc, InCfi}
-use Rattle.bz_breakpad_lines.specs.Walk.Record.{Top, OfFunc, OfCfi}
+use Rattle.bz_breakpad_lines.specs.Contexts.{Context, Record, context_after, white_allowed_after, IsBodyOf, IsRecord}
+use Rattle.bz_breakpad_lines.specs.Contexts.Context.{Outside, InFunc, InCfi}
+use Rattle.bz_breakpad_lines.specs.Contexts.Record.{Top, OfFunc, OfCfi}
 use Rattle.bz_breakpad_lines.proofs.Walks.{Walks}
 
 -- a record of a function stands under one

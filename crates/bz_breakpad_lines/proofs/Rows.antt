@@ -5,7 +5,7 @@ use Rattle.bz_base.specs.Number.{digits_at}
 use Rattle.bz_breakpad_lines.specs.Choice.{body_at}
 use Rattle.bz_breakpad_lines.specs.Reads.{run_at, mark_at, piece_at, name_at, turns_at, many_at}
 use Rattle.bz_breakpad_lines.specs.Reader.{table_in, counted_in, reading_in}
-use Rattle.bz_breakpad_lines.specs.Walk.{record_at, after_white}
+use Rattle.bz_breakpad_lines.specs.Contexts.{record_at, after_white}
 use lib.Utf8.{encode}
 
 -- a line record after a blank line is one of the FUNC record before it

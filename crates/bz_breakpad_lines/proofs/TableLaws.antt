@@ -11,8 +11,8 @@ use Rattle.bz_breakpad_lines.specs.Kinds.{TopRecord, InnerRecord, top_of, inner_
 use Rattle.bz_breakpad_lines.specs.Kinds.TopRecord.{Module, Info, File, Origin, Public, Func, StackWin, StackCfiInit}
 use Rattle.bz_breakpad_lines.specs.Says.{module_of, file_of, origin_of, public_of, line_of, inlinees_of, inner_records, with_inner, function_with, functions_of, module_first, table_of}
 use Rattle.bz_breakpad_lines.specs.Table.{SourceLine, Inlinee, Function, Named, PublicSymbol}
-use Rattle.bz_breakpad_lines.specs.Walk.{Record}
-use Rattle.bz_breakpad_lines.specs.Walk.Record.{Top, OfFunc, OfCfi}
+use Rattle.bz_breakpad_lines.specs.Contexts.{Record}
+use Rattle.bz_breakpad_lines.specs.Contexts.Record.{Top, OfFunc, OfCfi}
 use Rattle.bz_breakpad_lines.proofs.FoldLaws.{folded, Follow}
 
 -- the function with these lines and inlined calls

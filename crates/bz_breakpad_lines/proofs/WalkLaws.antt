@@ -12,9 +12,9 @@ use Rattle.bz_breakpad_lines.specs.Form.{AllPass}
 use Rattle.bz_breakpad_lines.specs.Reads.{◌>>=◌, form_at, piece_at, run_at}
 use Rattle.bz_breakpad_lines.specs.Choice.{One, one_at, body_at}
 use Rattle.bz_breakpad_lines.specs.Records.{TOP, INNER, STACK_CFI}
-use Rattle.bz_breakpad_lines.specs.Walk.{Context, Record, context_after, white_allowed_after, IsUnder, IsBodyOf, IsRecord, body_record, under_at, IsText, or_record, record_at, after_white}
-use Rattle.bz_breakpad_lines.specs.Walk.Context.{Outside, InFunc, InCfi}
-use Rattle.bz_breakpad_lines.specs.Walk.Record.{Top, OfFunc, OfCfi}
+use Rattle.bz_breakpad_lines.specs.Contexts.{Context, Record, context_after, white_allowed_after, IsUnder, IsBodyOf, IsRecord, body_record, under_at, IsText, or_record, record_at, after_white}
+use Rattle.bz_breakpad_lines.specs.Contexts.Context.{Outside, InFunc, InCfi}
+use Rattle.bz_breakpad_lines.specs.Contexts.Record.{Top, OfFunc, OfCfi}
 use Rattle.bz_breakpad_lines.proofs.ChoiceLaws.{one_found, one_again, body_found, body_again}
 use Rattle.bz_breakpad_lines.proofs.FormLaws.{form_found, form_again}
 use Rattle.bz_breakpad_lines.proofs.Runs.{front_passes, run_len}

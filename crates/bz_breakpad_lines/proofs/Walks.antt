@@ -3,7 +3,7 @@ use Rattle.std.specs.Prelude.{◌≡◌, ◌↔◌, ℕ, Bool, true, ◌&&◌, �
 use Rattle.bz_breakpad_lines.specs.Byte.{is_white, is_nothing}
 use Rattle.bz_breakpad_lines.specs.Form.{AllPass}
 use Rattle.bz_breakpad_lines.specs.Reads.{◌>>=◌}
-use Rattle.bz_breakpad_lines.specs.Walk.{Context, Record, context_after, white_allowed_after, IsRecord, IsText, record_at, after_white}
+use Rattle.bz_breakpad_lines.specs.Contexts.{Context, Record, context_after, white_allowed_after, IsRecord, IsText, record_at, after_white}
 
 -- a line that is read, and the lines after it
 pub record IsRead (c : Context) (white_allowed : Bool) (line : List ℕ) (Rest : Context → Bool → List Record → Type 0) (records : List Record) : Type 0 where

@@ -19,9 +19,9 @@ use Rattle.bz_breakpad_lines.specs.Grammar.{Accepted, AreRoles, IsNoModule, IsRe
 use Rattle.bz_breakpad_lines.specs.Grammar.Role.{Is}
 use Rattle.bz_breakpad_lines.specs.Records.{TOP, INNER, STACK_CFI}
 use Rattle.bz_breakpad_lines.specs.Says.{table_of}
-use Rattle.bz_breakpad_lines.specs.Walk.{Context, Record, IsBodyOf, IsUnder, context_after}
-use Rattle.bz_breakpad_lines.specs.Walk.Context.{Outside, InFunc, InCfi}
-use Rattle.bz_breakpad_lines.specs.Walk.Record.{Top, OfFunc, OfCfi}
+use Rattle.bz_breakpad_lines.specs.Contexts.{Context, Record, IsBodyOf, IsUnder, context_after}
+use Rattle.bz_breakpad_lines.specs.Contexts.Context.{Outside, InFunc, InCfi}
+use Rattle.bz_breakpad_lines.specs.Contexts.Record.{Top, OfFunc, OfCfi}
 use Rattle.bz_breakpad_lines.specs.Written.{FormFits, OneFits, PieceFits, RecordFits, first_told, form_text, is_within_line, one_text, piece_text, record_text, records_text, rest_told}
 use Rattle.bz_breakpad_lines.proofs.RoleLaws.{context_kept}
 use Rattle.bz_breakpad_lines.proofs.StartLemmas.{digit_byte}
@@ -126,7 +126,7 @@ in_turn f each (v ∷ values) fit = (form_text f v, flat_map (form_text f) value
 pub spelled : (f : Form) → is_plain f ≡ true → (v : Value f) → FormFits f v → Spells f (form_text f v) v
 spelled End plain v fits = refl
 spelled Name plain v fits = (fits.name_is, refl)
-spelled SeparatorText plain v fits = record { sep = 32 ∷ []; more = 45 ∷ []; whole = refl; sep_is = record { bytes = (refl, tt); passes = refl; tells = refl } }
+spelled SeparatorText plain v fits = record { separator = 32 ∷ []; more = 45 ∷ []; whole = refl; separator_is = record { bytes = (refl, tt); passes = refl; tells = refl } }
 spelled (Many f) plain values fits = (fits.0, in_turn f (spelled f plain) values fits.1)
 spelled (p · f) plain v fits =
     let parts = and_parts (is_plain_piece p) (is_plain f) plain in

@@ -87,7 +87,7 @@ IsSeparator text = IsRun is_blank some_bytes nothing text tt
 -- the text is the piece, and tells the value
 abbrev pub IsPiece : (p : Piece) → List ℕ → Tell p → Type 0
 IsPiece (Tag tag) text value = text ≡ tag
-IsPiece (Mark b) text value = (text ≡ []) ⊎ ((sep : List ℕ) × (text ≡ b ∷ sep) × IsSeparator sep)
+IsPiece (Mark b) text value = (text ≡ []) ⊎ ((separator : List ℕ) × (text ≡ b ∷ separator) × IsSeparator separator)
 IsPiece Separator text value = IsSeparator text
 IsPiece ModuleSeparator text value = IsRun is_blank (begins_with is_space) nothing text value
 IsPiece Gap text value = IsRun is_blank anything nothing text value
@@ -101,10 +101,10 @@ pub record IsName (text : List ℕ) : Type 0 where
   pub front : begins_with is_blank text ≡ false
 
 pub record IsSeparatorText (text : List ℕ) : Type 0 where
-  pub sep : List ℕ
+  pub separator : List ℕ
   pub more : List ℕ
-  pub whole : text ≡ sep ++ more
-  pub sep_is : IsSeparator sep
+  pub whole : text ≡ separator ++ more
+  pub separator_is : IsSeparator separator
 
 -- a text that is a text of P for each of the values, one after another
 abbrev pub InTurn : {A : Type 0} → (List ℕ → A → Type 0) → List ℕ → List A → Type 0

@@ -7,9 +7,9 @@ use Rattle.bz_breakpad_lines.specs.Byte.{is_white}
 use Rattle.bz_breakpad_lines.specs.Form.{AllPass}
 use Rattle.bz_breakpad_lines.specs.Says.{module_of, table_of}
 use Rattle.bz_breakpad_lines.specs.Table.{Table}
-use Rattle.bz_breakpad_lines.specs.Walk.{Context, Record, context_of, IsText, IsRecord}
-use Rattle.bz_breakpad_lines.specs.Walk.Context.{Outside}
-use Rattle.bz_breakpad_lines.specs.Walk.Record.{Top, OfFunc, OfCfi}
+use Rattle.bz_breakpad_lines.specs.Contexts.{Context, Record, context_of, IsText, IsRecord}
+use Rattle.bz_breakpad_lines.specs.Contexts.Context.{Outside}
+use Rattle.bz_breakpad_lines.specs.Contexts.Record.{Top, OfFunc, OfCfi}
 
 -- what a line is
 pub data Role : Type 0 where

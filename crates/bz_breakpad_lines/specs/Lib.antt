@@ -1,6 +1,7 @@
 pub mod Byte
 pub mod Calls
 pub mod Choice
+pub mod Contexts
 pub mod Form
 pub mod Grammar
 pub mod Kinds
@@ -17,5 +18,4 @@ pub mod Says
 pub mod Stops
 pub mod Table
 pub mod Told
-pub mod Walk
 pub mod Written

@@ -6,8 +6,8 @@ use Rattle.bz_breakpad_lines.specs.Choice.{One}
 use Rattle.bz_breakpad_lines.specs.Kinds.{as_module, as_info, as_file, as_origin, as_public, as_func, as_line, as_inline}
 use Rattle.bz_breakpad_lines.specs.Records.{INNER}
 use Rattle.bz_breakpad_lines.specs.Table.{SourceLine, Inlinee, Function, PublicSymbol, Table}
-use Rattle.bz_breakpad_lines.specs.Walk.{Record}
-use Rattle.bz_breakpad_lines.specs.Walk.Record.{Top, OfFunc}
+use Rattle.bz_breakpad_lines.specs.Contexts.{Record}
+use Rattle.bz_breakpad_lines.specs.Contexts.Record.{Top, OfFunc}
 use Rattle.bz_breakpad_lines.specs.Written.{RecordFits, records_text}
 
 abbrev pub info_record : Record

@@ -6,7 +6,7 @@ use Rattle.bz_breakpad_lines.specs.Byte.{is_nothing, is_plain, is_white}
 use Rattle.bz_breakpad_lines.specs.Choice.{body_at}
 use Rattle.bz_breakpad_lines.specs.Form.{AllPass, Form, InTurn, Value, Spells}
 use Rattle.bz_breakpad_lines.specs.Form.Form.{◌·◌}
-use Rattle.bz_breakpad_lines.specs.Walk.{Context, Record, body_record}
+use Rattle.bz_breakpad_lines.specs.Contexts.{Context, Record, body_record}
 
 -- the text begins with such a line, which is this record in the context, and the rest comes after it
 pub record IsQuick (c : Context) (text : List ℕ) (r : Record) (rest : List ℕ) : Type 0 where

@@ -9,9 +9,9 @@ use Rattle.bz_breakpad_lines.specs.Kinds.TopRecord.{Func}
 use Rattle.bz_breakpad_lines.specs.Says.{module_of, file_of, origin_of, public_of, with_inner}
 use Rattle.bz_breakpad_lines.specs.Names.{with_names}
 use Rattle.bz_breakpad_lines.specs.Table.{Function, PublicSymbol, Table}
-use Rattle.bz_breakpad_lines.specs.Walk.{Context, Record, context_after, white_allowed_after, record_at, after_white}
-use Rattle.bz_breakpad_lines.specs.Walk.Context.{Outside}
-use Rattle.bz_breakpad_lines.specs.Walk.Record.{Top, OfFunc, OfCfi}
+use Rattle.bz_breakpad_lines.specs.Contexts.{Context, Record, context_after, white_allowed_after, record_at, after_white}
+use Rattle.bz_breakpad_lines.specs.Contexts.Context.{Outside}
+use Rattle.bz_breakpad_lines.specs.Contexts.Record.{Top, OfFunc, OfCfi}
 
 -- what has been read: the functions whose records are at their end, the one whose records are being read, the other
 -- records, and how many records there were

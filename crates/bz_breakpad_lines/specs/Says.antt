@@ -6,8 +6,8 @@ use Rattle.bz_breakpad_lines.specs.Kinds.TopRecord.{Module, File, Origin, Public
 use Rattle.bz_breakpad_lines.specs.Kinds.InnerRecord.{Line, Inline, InnerOrigin}
 use Rattle.bz_breakpad_lines.specs.Names.{names_in}
 use Rattle.bz_breakpad_lines.specs.Table.{SourceLine, Inlinee, Function, Named, PublicSymbol, Table}
-use Rattle.bz_breakpad_lines.specs.Walk.{Record}
-use Rattle.bz_breakpad_lines.specs.Walk.Record.{Top, OfFunc, OfCfi}
+use Rattle.bz_breakpad_lines.specs.Contexts.{Record}
+use Rattle.bz_breakpad_lines.specs.Contexts.Record.{Top, OfFunc, OfCfi}
 
 -- the name in a MODULE record
 abbrev pub module_in : TopRecord → Option (List ℕ)

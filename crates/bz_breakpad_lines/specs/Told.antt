@@ -12,9 +12,9 @@ use Rattle.bz_breakpad_lines.specs.Table.{Function, Inlinee, PublicSymbol}
 use Rattle.bz_breakpad_lines.specs.declared.record.PublicLine.{PublicLine}
 use Rattle.bz_breakpad_lines.specs.declared.record.InnerLine.{InnerLine}
 use Rattle.bz_breakpad_lines.specs.declared.record.InnerLine.TheVariants as inners
-use Rattle.bz_breakpad_lines.specs.Walk as Walk
-use Rattle.bz_breakpad_lines.specs.Walk.{Record}
-use Rattle.bz_breakpad_lines.specs.Walk.Record.{Top, OfFunc, OfCfi}
+use Rattle.bz_breakpad_lines.specs.Contexts as told
+use Rattle.bz_breakpad_lines.specs.Contexts.{Record}
+use Rattle.bz_breakpad_lines.specs.Contexts.Record.{Top, OfFunc, OfCfi}
 use Rattle.bz_breakpad_lines.specs.declared.record.Context.{Context}
 use Rattle.bz_breakpad_lines.specs.declared.record.Context.TheVariants as contexts
 use Rattle.bz_breakpad_lines.specs.declared.record.RecordLine.{RecordLine}
@@ -99,10 +99,10 @@ inner_told (inners.Code l) ranges = as_line (line_told l)
 inner_told (inners.Inline call) ranges = as_inline (inline_told call ranges)
 inner_told (inners.Origin id name) ranges = as_inner_origin (id, name.now)
 
-abbrev pub context_told : Context → Walk.Context
-context_told contexts.Outside = Walk.Context.Outside
-context_told contexts.InFunc = Walk.Context.InFunc
-context_told contexts.InCfi = Walk.Context.InCfi
+abbrev pub context_told : Context → told.Context
+context_told contexts.Outside = told.Context.Outside
+context_told contexts.InFunc = told.Context.InFunc
+context_told contexts.InCfi = told.Context.InCfi
 
 abbrev pub record_told : RecordLine → List Range → Record
 record_told (lines.Top top) ranges = Top (top_told top)

@@ -11,8 +11,8 @@ use Rattle.bz_breakpad_lines.specs.Form.{Piece, Form, Tell, With, Value, AllPass
 use Rattle.bz_breakpad_lines.specs.Form.Piece.{Tag, Mark, Separator, ModuleSeparator, Gap, Word, Hex, Decimal}
 use Rattle.bz_breakpad_lines.specs.Form.Form.{End, Name, SeparatorText, Many, ◌·◌}
 use Rattle.bz_breakpad_lines.specs.Records.{TOP, INNER, STACK_CFI}
-use Rattle.bz_breakpad_lines.specs.Walk.{Record}
-use Rattle.bz_breakpad_lines.specs.Walk.Record.{Top, OfFunc, OfCfi}
+use Rattle.bz_breakpad_lines.specs.Contexts.{Record}
+use Rattle.bz_breakpad_lines.specs.Contexts.Record.{Top, OfFunc, OfCfi}
 
 -- what the first piece tells, and what the rest of the form does
 abbrev pub first_told : (p : Piece) → (A : Type 0) → With p A → Tell p

@@ -2,11 +2,11 @@
 
 ghost use Rattle.std.specs.Prelude.{◌<◌, length, IfSome};
 ghost use Rattle.bz_breakpad_lines.specs.Byte.{is_plain};
+ghost use Rattle.bz_breakpad_lines.specs.Contexts.{Context};
+ghost use Rattle.bz_breakpad_lines.specs.Contexts.Context.{InCfi};
+ghost use Rattle.bz_breakpad_lines.specs.Contexts.Record.{OfCfi, Top};
 ghost use Rattle.bz_breakpad_lines.specs.Quick.{IsAsciiLine, IsQuick};
 ghost use Rattle.bz_breakpad_lines.specs.Told.{top_told};
-ghost use Rattle.bz_breakpad_lines.specs.Walk.{Context};
-ghost use Rattle.bz_breakpad_lines.specs.Walk.Context.{InCfi};
-ghost use Rattle.bz_breakpad_lines.specs.Walk.Record.{OfCfi, Top};
 ghost use Rattle.bz_breakpad_lines.specs.declared.record.TopLine.TheVariants as tops;
 
 use crate::field::{begins_blank, tag};

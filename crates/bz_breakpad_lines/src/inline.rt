@@ -2,13 +2,13 @@
 
 ghost use Rattle.std.specs.Prelude.{◌≡◌, ◌<◌, ◌∷◌, Some, length, IfSome, IfOk};
 ghost use Rattle.bz_base.specs.Byte.{line_feed};
+ghost use Rattle.bz_breakpad_lines.specs.Contexts.Context.{InFunc};
+ghost use Rattle.bz_breakpad_lines.specs.Contexts.Record.{OfFunc};
 ghost use Rattle.bz_breakpad_lines.specs.Quick.{AreInTurn, IsQuick};
 ghost use Rattle.bz_breakpad_lines.specs.Reads.{reads};
 ghost use Rattle.bz_breakpad_lines.specs.Records.{CALL, RANGE};
 ghost use Rattle.bz_breakpad_lines.specs.Stops.{AreStops};
 ghost use Rattle.bz_breakpad_lines.specs.Told.{call_told, inner_told, range_told, ranges_told};
-ghost use Rattle.bz_breakpad_lines.specs.Walk.Context.{InFunc};
-ghost use Rattle.bz_breakpad_lines.specs.Walk.Record.{OfFunc};
 ghost use Rattle.bz_breakpad_lines.specs.declared.record.InnerLine.TheVariants as inners;
 
 use crate::field::tag;

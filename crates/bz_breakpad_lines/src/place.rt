@@ -3,9 +3,9 @@
 ghost use Rattle.std.specs.Prelude.{◌≡◌, ◌≤◌, List, length, is_some, ◌&&◌};
 ghost use Rattle.std.specs.List.{prefix_len};
 ghost use Rattle.bz_breakpad_lines.specs.Byte.{is_nothing, is_white};
+ghost use Rattle.bz_breakpad_lines.specs.Contexts.{after_white, context_after, white_allowed_after};
 ghost use Rattle.bz_breakpad_lines.specs.Says.{module_of};
 ghost use Rattle.bz_breakpad_lines.specs.Told.{context_told, record_told};
-ghost use Rattle.bz_breakpad_lines.specs.Walk.{after_white, context_after, white_allowed_after};
 ghost use Rattle.bz_breakpad_lines.specs.declared.record.Range.{Range};
 
 use crate::record::{Context, RecordLine, TopLine};
@@ -44,7 +44,7 @@ impl RecordLine<'_> {
 }
 
 /// The line without the white space at its front, where that may stand.
-#[tactic(auto, unfolding(crate::specs::Walk::after_white))]
+#[tactic(auto, unfolding(crate::specs::Contexts::after_white))]
 pub fn after_white(white_allowed: bool, line: &[u8]) -> &[u8]
     ensures text { result.now ≡ after_white white_allowed line.now }
     ensures within { length result.now ≤ length line.now }

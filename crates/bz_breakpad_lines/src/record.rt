@@ -5,7 +5,7 @@ ghost use Rattle.bz_breakpad_lines.specs.Choice.{one_at};
 ghost use Rattle.bz_breakpad_lines.specs.Reads.{form_at, many_at, reads};
 ghost use Rattle.bz_breakpad_lines.specs.Records.{CALL, FILE, FUNC, INFO, INLINE, INLINE_ORIGIN, INNER, INNER_ORIGIN, LINE, MODULE, PUBLIC, RANGE, STACK_CFI, STACK_CFI_INIT, STACK_WIN, TOP};
 ghost use Rattle.bz_breakpad_lines.specs.Told.{call_told, context_told, func_told, inline_told, inner_told, line_told, public_told, range_told, ranges_told, record_told, top_told};
-ghost use Rattle.bz_breakpad_lines.specs.Walk.{body_record, under_at};
+ghost use Rattle.bz_breakpad_lines.specs.Contexts.{body_record, under_at};
 
 use crate::field::{
     decimal_field, end, gap, hex_field, marked, module_separator, name, separator, separator_text,

@@ -6,8 +6,8 @@ use Rattle.bz_breakpad_lines.specs.Grammar.{records_of}
 use Rattle.bz_breakpad_lines.specs.Reads.{◌>>=◌}
 use Rattle.bz_breakpad_lines.specs.Reader.{Reading, lines_read, next_read, nothing_read, with_record}
 use Rattle.bz_breakpad_lines.specs.Says.{module_of}
-use Rattle.bz_breakpad_lines.specs.Walk.{Context, Record, context_after, white_allowed_after, record_at, after_white}
-use Rattle.bz_breakpad_lines.specs.Walk.Context.{Outside}
+use Rattle.bz_breakpad_lines.specs.Contexts.{Context, Record, context_after, white_allowed_after, record_at, after_white}
+use Rattle.bz_breakpad_lines.specs.Contexts.Context.{Outside}
 use Rattle.bz_breakpad_lines.proofs.FoldLaws.{Follow, fold_found, fold_again}
 use Rattle.bz_breakpad_lines.proofs.RoleLaws.{roles_exactly}
 use Rattle.bz_breakpad_lines.proofs.WalkLaws.{walked_exactly}

@@ -14,7 +14,7 @@ use Rattle.bz_breakpad_lines.specs.Records.{CALL, INLINE, RANGE}
 use Rattle.bz_breakpad_lines.specs.Told.{call_told, inline_told, inlinee_told, inlinees_told}
 use Rattle.bz_breakpad_lines.specs.declared.record.InlineCall.{InlineCall}
 use Rattle.bz_breakpad_lines.specs.declared.record.Range.{Range}
-use Rattle.bz_breakpad_lines.proofs.Apart.{sep_front}
+use Rattle.bz_breakpad_lines.proofs.Apart.{separator_front}
 use Rattle.bz_breakpad_lines.proofs.FormLaws.{again}
 use Rattle.bz_breakpad_table.proofs.PlaceLemmas.{body_stands}
 use Rattle.bz_breakpad_lines.proofs.QuickLemmas.{AreFields, lift_told, with_end}
@@ -61,7 +61,7 @@ parts_of _ g are text value is = absurd are
 ranges_begin : (back after : List ℕ) (ranges : Value (Many RANGE)) → Spells (Many RANGE) back ranges → begins_with is_solid (back ++ after) ≡ false
 ranges_begin back after [] is = absurd (omega (arith, is.0))
 ranges_begin back after (r ∷ ranges) is =
-    no_solid (back ++ after) (rw (is.1.2, append_assoc is.1.0 is.1.1 after) (sep_front RANGE refl is.1.0 (is.1.1 ++ after) r is.1.3))
+    no_solid (back ++ after) (rw (is.1.2, append_assoc is.1.0 is.1.1 after) (separator_front RANGE refl is.1.0 (is.1.1 ++ after) r is.1.3))
 
 -- the call at the front of an INLINE record
 abbrev call_of : Value INLINE → Value CALL

@@ -5,8 +5,8 @@ use Rattle.bz_breakpad_lines.specs.Line.{line_in, source_line}
 use Rattle.bz_breakpad_lines.specs.QuickLine.{IsOnRun, IsQuickLine}
 use Rattle.bz_breakpad_lines.specs.Reader.{with_record}
 use Rattle.bz_breakpad_lines.specs.Told.{context_told}
-use Rattle.bz_breakpad_lines.specs.Walk.Context.{InFunc}
-use Rattle.bz_breakpad_lines.specs.Walk.Record.{OfFunc}
+use Rattle.bz_breakpad_lines.specs.Contexts.Context.{InFunc}
+use Rattle.bz_breakpad_lines.specs.Contexts.Record.{OfFunc}
 use Rattle.bz_breakpad_table.specs.Walked.{IsMidway, running}
 use Rattle.bz_breakpad_lines.specs.declared.line.QuickLine.{QuickLine}
 use Rattle.bz_breakpad_lines.specs.declared.on_run.RunLine.{RunLine}

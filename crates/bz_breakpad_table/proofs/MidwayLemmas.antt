@@ -7,7 +7,7 @@ use Rattle.bz_breakpad_lines.specs.Line.{line_front}
 use Rattle.bz_breakpad_lines.specs.Reader.{Reading, lines_read, nothing_read, reading_in}
 use Rattle.bz_breakpad_lines.specs.Reads.{◌>>=◌}
 use Rattle.bz_breakpad_lines.specs.Told.{context_told}
-use Rattle.bz_breakpad_lines.specs.Walk.Context.{Outside}
+use Rattle.bz_breakpad_lines.specs.Contexts.Context.{Outside}
 use Rattle.bz_breakpad_table.specs.Walked.{HasRead, IsLineAt, IsMidway, IsStep, IsWalked, lines_on}
 use Rattle.bz_breakpad_table.specs.declared.walk.Walk.{Walk}
 use Rattle.bz_breakpad_lines.proofs.LineFrontLemmas.{line_front_of}

@@ -10,9 +10,9 @@ use Rattle.bz_breakpad_lines.specs.Line.{EndsWith, source_line}
 use Rattle.bz_breakpad_lines.specs.Reads.{◌>>=◌, form_at}
 use Rattle.bz_breakpad_lines.specs.Records.{TOP, INNER, MODULE, FILE, INLINE_ORIGIN, PUBLIC, FUNC, LINE, INNER_ORIGIN}
 use Rattle.bz_breakpad_lines.specs.Told.{InnerStands, inner_told, line_told, public_told, func_told, top_name, top_told}
-use Rattle.bz_breakpad_lines.specs.Walk.{Context, IsBodyOf, body_record}
-use Rattle.bz_breakpad_lines.specs.Walk.Context.{Outside, InFunc, InCfi}
-use Rattle.bz_breakpad_lines.specs.Walk.Record.{Top, OfFunc}
+use Rattle.bz_breakpad_lines.specs.Contexts.{Context, IsBodyOf, body_record}
+use Rattle.bz_breakpad_lines.specs.Contexts.Context.{Outside, InFunc, InCfi}
+use Rattle.bz_breakpad_lines.specs.Contexts.Record.{Top, OfFunc}
 use Rattle.bz_breakpad_lines.specs.declared.record.InnerLine.{InnerLine}
 use Rattle.bz_breakpad_lines.specs.declared.record.InnerLine.TheVariants as inners
 use Rattle.bz_breakpad_lines.specs.declared.record.Range.{Range}

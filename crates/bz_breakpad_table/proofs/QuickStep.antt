@@ -10,7 +10,7 @@ use Rattle.bz_breakpad_lines.specs.Quick.{IsQuick}
 use Rattle.bz_breakpad_lines.specs.Reader.{Reading, lines_read, with_record}
 use Rattle.bz_breakpad_lines.specs.Says.{module_of}
 use Rattle.bz_breakpad_lines.specs.Told.{context_told}
-use Rattle.bz_breakpad_lines.specs.Walk.{Context, Record, context_after, white_allowed_after, record_at, after_white}
+use Rattle.bz_breakpad_lines.specs.Contexts.{Context, Record, context_after, white_allowed_after, record_at, after_white}
 use Rattle.bz_breakpad_table.specs.Walked.{IsMidway, IsStep}
 use Rattle.bz_breakpad_table.specs.declared.walk.Walk.{Walk}
 use Rattle.bz_breakpad_table.proofs.MidwayLemmas.{line_stands, midway_on}

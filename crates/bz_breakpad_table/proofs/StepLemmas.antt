@@ -12,7 +12,7 @@ use Rattle.bz_breakpad_table.specs.Kept.{IsRecordAt}
 use Rattle.bz_breakpad_lines.specs.Line.{line_front}
 use Rattle.bz_breakpad_lines.specs.Reader.{Reading, lines_read, with_record}
 use Rattle.bz_breakpad_lines.specs.Says.{module_of}
-use Rattle.bz_breakpad_lines.specs.Walk.{Context, Record, body_record, context_after, white_allowed_after, record_at, after_white}
+use Rattle.bz_breakpad_lines.specs.Contexts.{Context, Record, body_record, context_after, white_allowed_after, record_at, after_white}
 use Rattle.bz_breakpad_table.specs.Walked.{IsLineAt}
 
 -- the rest of a line is the line of the rest

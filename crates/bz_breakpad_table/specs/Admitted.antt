@@ -5,8 +5,8 @@ use Rattle.bz_breakpad_lines.specs.Byte.{is_nothing}
 use Rattle.bz_breakpad_lines.specs.Grammar.{Role, AreRoles, IsNoModule, records_of}
 use Rattle.bz_breakpad_lines.specs.Reads.{◌>>=◌}
 use Rattle.bz_breakpad_lines.specs.Says.{module_of}
-use Rattle.bz_breakpad_lines.specs.Walk.{Context, Record, context_after, white_allowed_after, record_at, after_white}
-use Rattle.bz_breakpad_lines.specs.Walk.Context.{Outside}
+use Rattle.bz_breakpad_lines.specs.Contexts.{Context, Record, context_after, white_allowed_after, record_at, after_white}
+use Rattle.bz_breakpad_lines.specs.Contexts.Context.{Outside}
 
 -- the lines are admitted: each has a role after those before it, and a MODULE record is the first record or there is none
 pub record AreAdmitted (lines : List (List ℕ)) : Type 0 where

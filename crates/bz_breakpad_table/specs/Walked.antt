@@ -8,7 +8,7 @@ use Rattle.bz_breakpad_lines.specs.Line.{line_front}
 use Rattle.bz_breakpad_lines.specs.Reader.{Reading, lines_read, reading_in, table_read}
 use Rattle.bz_breakpad_lines.specs.Reads.{◌>>=◌}
 use Rattle.bz_breakpad_lines.specs.Told.{context_told}
-use Rattle.bz_breakpad_lines.specs.Walk.Context.{InFunc}
+use Rattle.bz_breakpad_lines.specs.Contexts.Context.{InFunc}
 use Rattle.bz_breakpad_lines.specs.declared.start_text.StartText.{StartText}
 use Rattle.bz_breakpad_table.specs.declared.standing.LinesSoFar.TheVariants as sofar
 use Rattle.bz_breakpad_table.specs.declared.walk.Walk.{Walk}

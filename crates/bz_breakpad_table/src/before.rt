@@ -3,9 +3,9 @@
 
 ghost use Rattle.std.specs.Prelude.{◌≡◌, List, ◌&&◌, Some, is_some, option_map, IfOk, IfSome};
 ghost use Rattle.bz_breakpad_lines.specs.Choice.{body_at};
+ghost use Rattle.bz_breakpad_lines.specs.Contexts.{body_record, record_at};
 ghost use Rattle.bz_breakpad_lines.specs.Says.{module_of};
 ghost use Rattle.bz_breakpad_lines.specs.Told.{context_told, record_told};
-ghost use Rattle.bz_breakpad_lines.specs.Walk.{body_record, record_at};
 ghost use Rattle.bz_breakpad_lines.specs.declared.record.Range.{Range};
 ghost use Rattle.bz_breakpad_table.specs.Admitted.{after_line, after_record, at_front};
 ghost use Rattle.bz_breakpad_table.specs.Told.{before_told};
@@ -75,7 +75,7 @@ impl Before {
 
 /// The record of a line that isn't blank, of which this is left after white space, and its body. The
 /// ranges of an INLINE record stand beside it.
-#[tactic(auto, unfolding(bz_breakpad_lines::specs::Walk::record_at))]
+#[tactic(auto, unfolding(bz_breakpad_lines::specs::Contexts::record_at))]
 pub fn record_in<'a>(
     ranges: &mut Vec<Range>,
     context: Context,

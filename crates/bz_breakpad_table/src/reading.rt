@@ -5,8 +5,8 @@ ghost use Rattle.bz_breakpad_lines.specs.Line.{EndsWith};
 ghost use Rattle.bz_breakpad_lines.specs.Reader.{Reading, nothing_read, with_record};
 ghost use Rattle.bz_breakpad_lines.specs.Table.{PublicSymbol};
 ghost use Rattle.bz_breakpad_lines.specs.Told.{InnerStands, inner_told, public_symbol, record_told, top_name, top_told};
-ghost use Rattle.bz_breakpad_lines.specs.Walk.{Context, body_record};
-ghost use Rattle.bz_breakpad_lines.specs.Walk.Record.{OfFunc, Top};
+ghost use Rattle.bz_breakpad_lines.specs.Contexts.{Context, body_record};
+ghost use Rattle.bz_breakpad_lines.specs.Contexts.Record.{OfFunc, Top};
 ghost use Rattle.bz_breakpad_table.specs.Kept.{IsNameAt, IsRecordAt, IsSoFar, PublicsSoFar};
 
 use crate::functions::FunctionsReading;

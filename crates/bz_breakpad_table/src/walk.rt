@@ -6,8 +6,8 @@ ghost use Rattle.bz_base.specs.declared.error.Error.{Error};
 ghost use Rattle.bz_breakpad_lines.specs.Reader.{Reading, nothing_read, reading_in};
 ghost use Rattle.bz_breakpad_lines.specs.Stops.{AreStops};
 ghost use Rattle.bz_breakpad_lines.specs.Told.{context_told};
-ghost use Rattle.bz_breakpad_lines.specs.Walk.{Context};
-ghost use Rattle.bz_breakpad_lines.specs.Walk.Context.{InFunc, Outside};
+ghost use Rattle.bz_breakpad_lines.specs.Contexts.{Context};
+ghost use Rattle.bz_breakpad_lines.specs.Contexts.Context.{InFunc, Outside};
 ghost use Rattle.bz_breakpad_table.specs.Refusal.{Refuses};
 ghost use Rattle.bz_breakpad_table.specs.Walked.{GoesOn, IsLineAt, IsMidway, IsRefused, IsStep, IsWalked};
 

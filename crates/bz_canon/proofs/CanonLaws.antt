@@ -18,7 +18,7 @@ use Rattle.bz_breakpad.specs.Places.{Placed, by_line, by_seen, calls_around, cal
 use Rattle.bz_breakpad.specs.Plain.{any_between, by_function, by_place, by_public, by_records, function_at, plain, public_at, public_symbol_at}
 use Rattle.bz_breakpad_lines.specs.Printed.{FunctionFits, IsPrintable, inlinee_one, line_one, printed, public_record}
 use Rattle.bz_breakpad_lines.specs.Table.{Function, Inlinee, PublicSymbol, SourceLine, Table}
-use Rattle.bz_breakpad_lines.specs.Walk.Record.{OfFunc}
+use Rattle.bz_breakpad_lines.specs.Contexts.Record.{OfFunc}
 use Rattle.bz_breakpad_lines.specs.Written.{RecordFits}
 use Rattle.bz_breakpad_lines.proofs.GrammarLaws.{accepted_again}
 use Rattle.bz_breakpad_lines.proofs.PrintableLaws.{accepted_printable}

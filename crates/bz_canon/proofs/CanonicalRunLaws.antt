@@ -20,7 +20,7 @@ use Rattle.bz_breakpad_lines.specs.Printed.{line_one}
 use Rattle.bz_breakpad_lines.specs.Reads.{◌>>=◌, form_at}
 use Rattle.bz_breakpad_lines.specs.Records.{LINE}
 use Rattle.bz_breakpad_lines.specs.Table.{SourceLine}
-use Rattle.bz_breakpad_lines.specs.Walk.Record.{OfFunc}
+use Rattle.bz_breakpad_lines.specs.Contexts.Record.{OfFunc}
 use Rattle.bz_breakpad_lines.specs.Written.{form_text, record_text}
 use Rattle.bz_base.proofs.LineLemmas.{all_found}
 use Rattle.bz_breakpad_lines.proofs.ChoiceLaws.{body_found}

@@ -13,8 +13,8 @@ use Rattle.bz_breakpad_lines.specs.Form.Piece.{ModuleSeparator, Separator, Tag, 
 use Rattle.bz_breakpad_lines.specs.Grammar.{IsFile}
 use Rattle.bz_breakpad_lines.specs.Printed.{FunctionFits, IsPrintable, func_record, function_records, inlinee_one, line_one}
 use Rattle.bz_breakpad_lines.specs.Records.{MODULE}
-use Rattle.bz_breakpad_lines.specs.Walk.Context.{Outside}
-use Rattle.bz_breakpad_lines.specs.Walk.Record.{Top, OfFunc}
+use Rattle.bz_breakpad_lines.specs.Contexts.Context.{Outside}
+use Rattle.bz_breakpad_lines.specs.Contexts.Record.{Top, OfFunc}
 use Rattle.bz_breakpad_lines.specs.Written.{IsLineName, is_within_line, record_text}
 use Rattle.bz_breakpad_lines.proofs.AsciiLemmas.{plain_utf8}
 use Rattle.bz_breakpad_lines.proofs.PrintedLaws.{after_module, headed_accepted}

@@ -14,8 +14,8 @@ use Rattle.bz_breakpad.specs.Listed.{files_in, files_of, origins_in, origins_of,
 use Rattle.bz_breakpad_lines.specs.Printed.{file_record, func_record, function_records, inlinee_one, line_one, module_records, origin_record, public_record, table_records}
 use Rattle.bz_breakpad_lines.specs.Reader.{table_in}
 use Rattle.bz_breakpad_lines.specs.Table.{Function, Inlinee, PublicSymbol, SourceLine, Table}
-use Rattle.bz_breakpad_lines.specs.Walk.{Record}
-use Rattle.bz_breakpad_lines.specs.Walk.Record.{OfFunc}
+use Rattle.bz_breakpad_lines.specs.Contexts.{Record}
+use Rattle.bz_breakpad_lines.specs.Contexts.Record.{OfFunc}
 use Rattle.bz_breakpad_lines.specs.Written.{record_text, records_text}
 use Rattle.bz_canon.specs.Canon.{canon, canon_function}
 use Rattle.bz_canon.specs.Parts.{canon_functions, functions_text, lines_of, named_line, named_lines}

@@ -5,7 +5,7 @@ use Rattle.bz_base.specs.Line.{ended}
 use Rattle.bz_breakpad.specs.InOrder.{functions_in_order}
 use Rattle.bz_breakpad_lines.specs.Printed.{function_records}
 use Rattle.bz_breakpad_lines.specs.Table.{Function}
-use Rattle.bz_breakpad_lines.specs.Walk.{Record}
+use Rattle.bz_breakpad_lines.specs.Contexts.{Record}
 use Rattle.bz_breakpad_lines.specs.Written.{record_text, records_text}
 use Rattle.bz_canon.specs.Canon.{canon_function}
 

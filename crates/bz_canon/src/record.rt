@@ -6,9 +6,9 @@ ghost use Rattle.bz_base.specs.Line.{ended};
 ghost use Rattle.bz_base.specs.declared.error.Error.{Error};
 ghost use Rattle.bz_breakpad.specs.Lent.{kept_inlinee};
 ghost use Rattle.bz_breakpad.specs.Listed.{lent_public};
+ghost use Rattle.bz_breakpad_lines.specs.Contexts.Record.{OfFunc};
 ghost use Rattle.bz_breakpad_lines.specs.Printed.{func_record, inlinee_one, line_one, module_records, public_record};
 ghost use Rattle.bz_breakpad_lines.specs.Told.{line_seen};
-ghost use Rattle.bz_breakpad_lines.specs.Walk.Record.{OfFunc};
 ghost use Rattle.bz_breakpad_lines.specs.Written.{record_text, records_text};
 ghost use Rattle.bz_canon.specs.Parts.{named_line};
 

@@ -16,7 +16,7 @@ use Rattle.bz_breakpad_lines.specs.Printed.{FunctionFits, IsPrintable, file_reco
 use Rattle.bz_breakpad_lines.specs.Reader.{Reading, reading_in, table_in, table_read}
 use Rattle.bz_breakpad_lines.specs.Reads.{◌>>=◌}
 use Rattle.bz_breakpad_lines.specs.Table.{SourceLine, Inlinee, Function, Table}
-use Rattle.bz_breakpad_lines.specs.Walk.Record.{OfFunc}
+use Rattle.bz_breakpad_lines.specs.Contexts.Record.{OfFunc}
 use Rattle.bz_breakpad_lines.specs.Written.{RecordFits}
 use Rattle.bz_breakpad_lines.proofs.GrammarLaws.{accepted_found}
 use Rattle.bz_breakpad_lines.proofs.PrintableLaws.{accepted_printable}

@@ -1,7 +1,7 @@
 use Rattle.std.proofs.Common.{◌≡◌, ◌+◌, Some, sym, ap, ◌∙◌, arith}
 use Rattle.std.proofs.lemmas.List.{take_rest}
 use Rattle.bz_breakpad_lines.specs.Stops.{number_between}
-use Rattle.bz_breakpad_lines.specs.Walk.Context.{Outside}
+use Rattle.bz_breakpad_lines.specs.Contexts.Context.{Outside}
 use Rattle.bz_breakpad_lines.proofs.AsciiLemmas.{plain_utf8}
 use Rattle.bz_breakpad_lines.proofs.QuickLemmas.{func_found, quick_shorter}
 use Rattle.bz_breakpad_lines.proofs.func.func_line.Goals as goal

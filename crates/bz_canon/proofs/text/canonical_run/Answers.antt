@@ -1,6 +1,6 @@
 use Rattle.std.proofs.Common.{sym, ap, ◌∙◌}
 use Rattle.bz_breakpad_lines.specs.Printed.{line_one}
-use Rattle.bz_breakpad_lines.specs.Walk.Record.{OfFunc}
+use Rattle.bz_breakpad_lines.specs.Contexts.Record.{OfFunc}
 use Rattle.bz_canon.specs.Parts.{lines_of}
 use Rattle.bz_canon.proofs.CanonicalRunLaws.{run_again}
 use Rattle.bz_canon.proofs.text.canonical_run.Goals as goal

@@ -1,7 +1,7 @@
 use Rattle.std.proofs.Common.{◌≡◌, ◌++◌, map, take}
 use Rattle.bz_breakpad.specs.Lent.{kept_inlinee}
 use Rattle.bz_breakpad_lines.specs.Printed.{inlinee_one}
-use Rattle.bz_breakpad_lines.specs.Walk.Record.{OfFunc}
+use Rattle.bz_breakpad_lines.specs.Contexts.Record.{OfFunc}
 use Rattle.bz_canon.specs.Parts.{lines_of}
 use Rattle.bz_canon.proofs.text.push_inlinees.Given as goal
 

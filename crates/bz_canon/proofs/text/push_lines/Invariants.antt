@@ -1,7 +1,7 @@
 use Rattle.std.proofs.Common.{◌≡◌, ◌++◌, map, take}
 use Rattle.bz_breakpad_lines.specs.Printed.{line_one}
 use Rattle.bz_breakpad_lines.specs.Told.{line_seen}
-use Rattle.bz_breakpad_lines.specs.Walk.Record.{OfFunc}
+use Rattle.bz_breakpad_lines.specs.Contexts.Record.{OfFunc}
 use Rattle.bz_canon.specs.Parts.{lines_of}
 use Rattle.bz_canon.proofs.text.push_lines.Given as goal
 

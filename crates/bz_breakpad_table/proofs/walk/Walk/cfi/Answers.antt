@@ -1,7 +1,7 @@
 use Rattle.std.proofs.Common.{◌≡◌, refl, ap}
 use Rattle.bz_breakpad_lines.specs.Told.{context_told}
-use Rattle.bz_breakpad_lines.specs.Walk.Context.{InCfi}
-use Rattle.bz_breakpad_lines.specs.Walk.Record.{OfCfi}
+use Rattle.bz_breakpad_lines.specs.Contexts.Context.{InCfi}
+use Rattle.bz_breakpad_lines.specs.Contexts.Record.{OfCfi}
 use Rattle.bz_breakpad_table.proofs.KeptLemmas.{with_functions}
 use Rattle.bz_breakpad_table.proofs.QuickStep.{quick_on}
 use Rattle.bz_breakpad_lines.proofs.QuickLemmas.{quick_shorter}

@@ -1,6 +1,6 @@
 use Rattle.std.proofs.Common.{◌-◌, length, refl, arith}
 use Rattle.bz_breakpad_lines.specs.Told.{context_told, top_told}
-use Rattle.bz_breakpad_lines.specs.Walk.Record.{Top}
+use Rattle.bz_breakpad_lines.specs.Contexts.Record.{Top}
 use Rattle.bz_breakpad_lines.specs.declared.record.TopLine.TheVariants as tops
 use Rattle.bz_breakpad_table.proofs.KeptLemmas.{with_functions}
 use Rattle.bz_breakpad_table.proofs.NameEnds.{top_named}

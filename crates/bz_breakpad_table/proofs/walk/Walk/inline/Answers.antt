@@ -1,7 +1,7 @@
 use Rattle.std.proofs.Common.{◌≡◌, ◌-◌, length, refl, ap}
 use Rattle.bz_breakpad_lines.specs.Told.{context_told, inner_told}
-use Rattle.bz_breakpad_lines.specs.Walk.Context.{InFunc}
-use Rattle.bz_breakpad_lines.specs.Walk.Record.{OfFunc}
+use Rattle.bz_breakpad_lines.specs.Contexts.Context.{InFunc}
+use Rattle.bz_breakpad_lines.specs.Contexts.Record.{OfFunc}
 use Rattle.bz_breakpad_lines.specs.declared.record.InnerLine.TheVariants as inners
 use Rattle.bz_breakpad_table.proofs.KeptLemmas.{with_functions}
 use Rattle.bz_breakpad_table.proofs.FunctionLemmas.{told_said}

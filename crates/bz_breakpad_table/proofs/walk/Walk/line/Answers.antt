@@ -4,7 +4,7 @@ use Rattle.bz_breakpad_lines.specs.Choice.{body_at}
 use Rattle.bz_breakpad_lines.specs.Reader.{with_record}
 use Rattle.bz_breakpad_lines.specs.Says.{module_of}
 use Rattle.bz_breakpad_lines.specs.Told.{context_told, record_told}
-use Rattle.bz_breakpad_lines.specs.Walk.{body_record, record_at, after_white}
+use Rattle.bz_breakpad_lines.specs.Contexts.{body_record, record_at, after_white}
 use Rattle.bz_breakpad_table.proofs.StepLemmas.{text_stands, record_read, step_read}
 use Rattle.bz_breakpad_table.proofs.walk.Walk.line.Goals as goal
 

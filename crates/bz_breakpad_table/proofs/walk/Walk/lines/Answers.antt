@@ -1,7 +1,7 @@
 use Rattle.std.proofs.Common.{◌≡◌, refl, ap}
 use Rattle.std.proofs.lemmas.List.{take_rest}
 use Rattle.bz_breakpad_lines.specs.Told.{context_told}
-use Rattle.bz_breakpad_lines.specs.Walk.Context.{InFunc}
+use Rattle.bz_breakpad_lines.specs.Contexts.Context.{InFunc}
 use Rattle.bz_breakpad_table.proofs.KeptLemmas.{with_functions}
 use Rattle.bz_breakpad_table.proofs.LineRecordLemmas.{line_on}
 use Rattle.bz_breakpad_table.proofs.walk.Walk.lines.Goals as goal
