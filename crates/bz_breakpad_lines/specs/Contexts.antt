@@ -1,5 +1,5 @@
--- What a line is, which depends on the record before it: after "Line records", "INLINE records" and "STACK CFI records" of
--- docs/symbol_files.md among Breakpad's sources.
+-- What a line is, which depends on the record before it.
+-- This is after "Line records", "INLINE records" and "STACK CFI records" of docs/symbol_files.md among Breakpad's sources.
 use Rattle.std.specs.Prelude.{◌≡◌, ℕ, Bool, true, false, List, [], ◌++◌, drop, Option, Some, None, option_map}
 use Rattle.std.specs.List.{prefix_len}
 use Rattle.bz_base.specs.Byte.{begins_with}
@@ -17,7 +17,7 @@ pub data Context : Type 0 where
   InFunc : Context
   InCfi : Context
 
--- a record of a file
+-- the record that a line is
 pub data Record : Type 0 where
   Top : One TOP → Record  -- a record that stands by itself
   OfFunc : One INNER → Record  -- an inner record, which belongs to a FUNC record
@@ -49,7 +49,7 @@ IsUnder InFunc body (OfFunc one) = SpellsOne INNER body one
 IsUnder InCfi body OfCfi = Spells STACK_CFI body tt
 IsUnder _ body _ = ⊥
 
--- the record of a body: one of its context, where the body has such a form, and else one that stands by itself
+-- the record of a body: one under its context, where it has such a form, and else one that stands by itself
 abbrev pub IsBodyOf : Context → List ℕ → Record → Type 0
 IsBodyOf c body (Top one) = ((r : Record) → IsUnder c body r → ⊥) × SpellsOne TOP body one
 IsBodyOf c body r = IsUnder c body r
@@ -69,7 +69,7 @@ abbrev pub or_record : Option Record → Option Record → Option Record
 or_record (Some r) other = Some r
 or_record None other = other
 
--- the record that stands under the one that the context names, where the body has the form of such a one
+-- the record that the body is under the one that the context names, if it has such a form
 abbrev pub under_at : Context → List ℕ → Option Record
 under_at Outside body = None
 under_at InFunc body = option_map OfFunc (one_at INNER body)

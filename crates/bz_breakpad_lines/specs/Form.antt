@@ -1,4 +1,5 @@
--- The form of a line: pieces side by side, and what ends it. A form says which texts have it, and what each of them tells.
+-- The form of a line: pieces side by side, and what ends it.
+-- A form says which texts have it, and what each of them tells.
 use Rattle.std.specs.Prelude.{◌≡◌, ℕ, Bool, true, false, not, ◌&&◌, nat_lt, ◌⊎◌, List, [], ◌∷◌, ◌++◌, length, ◌<◌, IsUtf8}
 use Rattle.bz_base.specs.Byte.{is_blank, begins_with}
 use Rattle.bz_base.specs.Number.{IsHex, IsDecimal}

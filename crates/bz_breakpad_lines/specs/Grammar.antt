@@ -1,5 +1,6 @@
 -- Which bytes are a Breakpad file, and what it says: each line is blank, or a record by itself, or one under another.
--- After docs/symbol_files.md among Breakpad's sources; where blank lines and white space may stand is this crate's choice.
+-- It is after docs/symbol_files.md among Breakpad's sources.
+-- Where blank lines and white space may stand is this crate's choice.
 use Rattle.std.specs.Prelude.{◌≡◌, ℕ, ◌<◌, Bool, true, false, List, [], ◌∷◌, length, drop, Option, Some, None}
 use Rattle.std.specs.List.{AllByRecursion, filter_map}
 use Rattle.bz_base.specs.Line.{AreEnded}
@@ -16,8 +17,8 @@ pub data Role : Type 0 where
   Blank : Role
   Is : Record → Role
 
--- white space may stand before a line where the line before it is blank, or a record by itself; the roles of the lines
--- before are listed with the last of them first
+-- white space may stand before a line where the line before it is blank, or a record by itself;
+-- of the lines before, the last one's role stands first
 abbrev pub allows_white : List Role → Bool
 allows_white [] = false
 allows_white (Blank ∷ before) = true
@@ -39,8 +40,7 @@ pub record IsRecordLine (before : List Role) (line : List ℕ) (r : Record) : Ty
   pub text_is : IsText (allows_white before) line text
   pub record_is : IsRecord (under_owner before) text r
 
--- the line has the role, after lines of these roles: a blank one has only white space, and stands where white space may stand before
--- a line
+-- the line has the role, after lines of these roles: a blank one has only white space, and stands where that may stand
 abbrev pub IsRole : List Role → List ℕ → Role → Type 0
 IsRole before line Blank = (allows_white before ≡ true) × AllPass is_white line
 IsRole before line (Is r) = IsRecordLine before line r
@@ -62,8 +62,8 @@ records_of roles = filter_map record_of roles
 abbrev pub IsNoModule : Record → Type 0
 IsNoModule r = module_of r ≡ None
 
--- the bytes are a Breakpad file of one line at least, with a MODULE record at its first line or nowhere; the table is
--- what it says, and so many of its lines are records
+-- the bytes are a Breakpad file of one line at least, in which a MODULE record is the first record or there is none;
+-- the table is what it says, and so many of its lines are records
 pub record Accepted (bytes : List ℕ) (table : Table) (count : ℕ) : Type 0 where
   pub lines : List (List ℕ)
   pub roles : List Role

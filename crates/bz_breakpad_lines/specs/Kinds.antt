@@ -1,4 +1,5 @@
--- The kinds of record in a Breakpad file, and what a record of each kind says, after docs/symbol_files.md among Breakpad's sources.
+-- The kinds of record in a Breakpad file, and what a record of each kind says.
+-- They are after docs/symbol_files.md among Breakpad's sources.
 use Rattle.std.specs.Prelude.{ℕ, List, [], map}
 use mathlib.Core.Logic.{inl, inr}
 use Rattle.bz_breakpad_lines.specs.Choice.{One}
@@ -44,10 +45,17 @@ function_in (start, (size, (parameter_size, name))) = record {
 -- the inlined calls of an INLINE record
 abbrev pub inlinees_in : Value INLINE → List Inlinee
 inlinees_in (depth, (call_line, (call_file, (origin, ranges)))) =
-    map (λ range. record { depth = depth; start = range.0; size = range.1.0; call_line = call_line; call_file = call_file; origin = origin }) ranges
+    map (λ range. record {
+      depth = depth;
+      start = range.0;
+      size = range.1.0;
+      call_line = call_line;
+      call_file = call_file;
+      origin = origin;
+    }) ranges
 
--- The forms of a choice have no names of their own: a line is of the first of them, or of one of the others. Here alone each gets its
--- name, in the order of TOP and of INNER.
+-- The forms of a choice have no names of their own: a line is of the first of them, or of one of the others.
+-- Here alone each gets its name, in the order of TOP and of INNER.
 
 -- the record by itself that a line tells
 abbrev pub top_of : One TOP → TopRecord

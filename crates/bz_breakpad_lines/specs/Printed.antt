@@ -1,5 +1,5 @@
--- The plainest text of a table: its module, its names by ascending ids, its PUBLIC records, and its functions, each with its
--- inlined calls and its lines.
+-- The plainest text of a table: its module, its names by ascending ids, its PUBLIC records, and its functions.
+-- Each function has its inlined calls and then its lines.
 use Rattle.std.specs.Prelude.{ℕ, ◌<◌, List, [], ◌∷◌, ◌++◌, map, flat_map, Option, Some, None}
 use Rattle.std.specs.List.{AllByRecursion}
 use Rattle.bz_breakpad_lines.specs.Choice.{One}
@@ -46,7 +46,10 @@ function_records f = func_record f ∷ map OfFunc (function_ones f)
 
 abbrev pub table_records : Table → List Record
 table_records t =
-    module_records t.«module» ++ (map file_record t.files ++ (map origin_record t.origins ++ (map public_record t.publics ++ flat_map function_records t.functions)))
+    module_records t.«module» ++
+    (map file_record t.files ++
+    (map origin_record t.origins ++
+    (map public_record t.publics ++ flat_map function_records t.functions)))
 
 -- a file has one record at least
 abbrev pub or_info : List Record → List Record

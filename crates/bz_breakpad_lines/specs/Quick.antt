@@ -1,4 +1,5 @@
--- A line that is read quickly, by loads of many bytes: no white space stands before it and no carriage return in it, so that its body is the whole line.
+-- Lines that are read quickly, by loads of many bytes.
+-- No white space stands before such a line and no carriage return in it, so its body is the whole line.
 use Rattle.std.specs.Prelude.{◌≡◌, false, ℕ, List, ◌∷◌, ◌++◌, Some}
 use Rattle.bz_base.specs.Byte.{line_feed, HasNo, begins_with}
 use Rattle.bz_base.specs.Line.{ended}

@@ -12,10 +12,18 @@ use Rattle.bz_breakpad_lines.specs.declared.start_text.StartText.{StartText}
 
 -- what the fields tell that end there
 abbrev pub line_between : List ℕ → ℕ → LineEnds → Value LINE
-line_between text start ends =
-    (number_between 16 text 0 start, (number_between 16 text (start + 1) ends.size, (number_between 10 text (ends.size + 1) ends.line, (number_between 10 text (ends.line + 1) ends.file, tt))))
+line_between text start ends = (
+  number_between 16 text 0 start,
+  (
+    number_between 16 text (start + 1) ends.size,
+    (
+      number_between 10 text (ends.size + 1) ends.line,
+      (number_between 10 text (ends.line + 1) ends.file, tt),
+    ),
+  ),
+)
 
--- the text begins with a line record; with its line feed it has this length, and the text of its start may be known
+-- the text begins with a line record: its length with its line feed, and perhaps the text of its start, are these
 pub record IsQuickLine (text : List ℕ) (found : QuickLine) : Type 0 where
   pub value : Value LINE
   pub form : IsFormLine LINE text value (drop found.len text)

@@ -1,5 +1,5 @@
--- The table of a Breakpad file, read from its front line by line. That it is the table of the grammar is a law of this
--- crate.
+-- The table of a Breakpad file, read from its front line by line.
+-- That it is the table of the grammar is a law of this crate.
 use Rattle.std.specs.Prelude.{ℕ, ◌+◌, Bool, false, ◌&&◌, nat_lt, List, [], ◌∷◌, ◌++◌, Option, Some, None, is_some, option_map, if◌then◌else◌}
 use Rattle.bz_base.specs.Line.{ended_lines}
 use Rattle.bz_breakpad_lines.specs.Byte.{is_nothing}
@@ -13,8 +13,8 @@ use Rattle.bz_breakpad_lines.specs.Contexts.{Context, Record, context_after, whi
 use Rattle.bz_breakpad_lines.specs.Contexts.Context.{Outside}
 use Rattle.bz_breakpad_lines.specs.Contexts.Record.{Top, OfFunc, OfCfi}
 
--- what has been read: the functions whose records are at their end, the one whose records are being read, the other
--- records, and how many records there were
+-- what has been read: the functions whose records are at their end, the one whose records are being read,
+-- the other records, and how many records there were
 pub record Reading : Type 0 where
   pub «module» : Option (List ℕ)
   pub closed : List Function

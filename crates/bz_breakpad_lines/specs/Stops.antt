@@ -18,7 +18,8 @@ pub record AreStops (text : List ℕ) (stops : Stops) : Type 0 where
 
 -- one to so many digits of a base stand from a place of the text to another, and a byte ends them
 abbrev pub AreDigits : ℕ → ℕ → List ℕ → ℕ → ℕ → Type 0
-AreDigits base most text from end = (from < end) × (end ≤ from + most) × (end < length text) × (digits_len base (drop from text) + from ≡ end)
+AreDigits base most text from end =
+    (from < end) × (end ≤ from + most) × (end < length text) × (digits_len base (drop from text) + from ≡ end)
 
 -- the number that they spell
 abbrev pub number_between : ℕ → List ℕ → ℕ → ℕ → ℕ

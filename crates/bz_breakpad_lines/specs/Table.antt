@@ -1,4 +1,5 @@
--- What a Breakpad file says, in the terms of docs/symbol_files.md among Breakpad's sources. Addresses are relative to the module's base, sizes are in bytes.
+-- What a Breakpad file says, in the terms of docs/symbol_files.md among Breakpad's sources.
+-- Addresses are relative to the module's base, and sizes are in bytes.
 use Rattle.std.specs.Prelude.{ℕ, List, Option}
 
 -- a line record: where its code starts, the code's size, the line of the source, and the id of its file
@@ -8,8 +9,8 @@ pub record SourceLine : Type 0 where
   pub line : ℕ
   pub file : ℕ
 
--- a range of code where a call was inlined: how many calls it lies inside, where it starts, its size, the line and the
--- file's id of the call, and the id of the name of what was called
+-- a range of code where a call was inlined: how many calls it lies inside, where it starts, and its size;
+-- then the call's line, the id of the call's file, and the id of the called function's name
 pub record Inlinee : Type 0 where
   pub depth : ℕ
   pub start : ℕ
@@ -18,8 +19,8 @@ pub record Inlinee : Type 0 where
   pub call_file : ℕ
   pub origin : ℕ
 
--- a function: where it starts, its size, the size of its parameters, its name, and its lines and inlined calls in the
--- order of the file
+-- a function: where it starts, its size, the size of its parameters, and its name;
+-- then its lines and its inlined calls, in the order of the file
 pub record Function : Type 0 where
   pub start : ℕ
   pub size : ℕ
@@ -39,8 +40,8 @@ pub record PublicSymbol : Type 0 where
   pub parameter_size : ℕ
   pub name : List ℕ
 
--- the module's name, the functions in the order of the file, the names of files and of inlined functions by their ids,
--- of which each has the last record's, and the PUBLIC records in the order of the file
+-- the module's name, the functions, the names of files and of inlined functions by their ids, and the PUBLIC records;
+-- functions and PUBLIC records stand in the order of the file, and an id has the name in its last record
 pub record Table : Type 0 where
   pub «module» : Option (List ℕ)
   pub functions : List Function

@@ -1,5 +1,5 @@
--- How a record is written in the plainest way: one space where blanks must stand and none where they may, numbers without
--- leading zeros and in lower case, and a dash for a word or a text that isn't kept.
+-- How a record is written in the plainest way: one space where blanks must stand, and none where they may.
+-- Numbers are in lower case, without leading zeros, and a dash stands for a word or a text that isn't kept.
 use Rattle.std.specs.Prelude.{ℕ, ◌<◌, ◌≤◌, ◌^◌, Bool, false, not, ◌==◌, ◌||◌, List, [], ◌∷◌, ◌++◌, map, length, flat_map, decimal}
 use mathlib.Core.Logic.{inl, inr}
 use Rattle.std.specs.Fmt.{digits}
@@ -14,7 +14,7 @@ use Rattle.bz_breakpad_lines.specs.Records.{TOP, INNER, STACK_CFI}
 use Rattle.bz_breakpad_lines.specs.Contexts.{Record}
 use Rattle.bz_breakpad_lines.specs.Contexts.Record.{Top, OfFunc, OfCfi}
 
--- what the first piece tells, and what the rest of the form does
+-- what the first piece tells
 abbrev pub first_told : (p : Piece) → (A : Type 0) → With p A → Tell p
 first_told (Tag t) A value = tt
 first_told (Mark b) A value = tt
@@ -25,6 +25,7 @@ first_told Word A value = tt
 first_told (Hex most) A value = value.0
 first_told Decimal A value = value.0
 
+-- what the rest of the form tells
 abbrev pub rest_told : (p : Piece) → (A : Type 0) → With p A → A
 rest_told (Tag t) A value = value
 rest_told (Mark b) A value = value
