@@ -179,16 +179,9 @@ fn call_from(bytes: &[u8], place: usize) -> Option<InlineCall>
         return None;
     }
     let text = &bytes[place..];
-    match call_line(text) {
-        Some((call, _after)) => Some(call),
-        None => any_call(text),
+    if let Some((call, _after)) = call_line(text) {
+        return Some(call);
     }
-}
-
-/// The call of the INLINE record that the text begins with.
-fn any_call(text: &[u8]) -> Option<InlineCall>
-    ensures { option_map call_told result ≡ call_in text.now }
-{
     let (call, _after) = call_front(text)?;
     Some(call)
 }

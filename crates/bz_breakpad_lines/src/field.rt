@@ -39,6 +39,7 @@ fn blank_len(text: &[u8]) -> usize
     text.iter().take_while(|b| is_blank(**b)).count()
 }
 
+/// Whether a space or a tab stands in front.
 pub fn begins_blank(text: &[u8]) -> bool
     ensures { result ≡ begins_with is_blank text.now }
 {
@@ -91,18 +92,12 @@ pub fn marked(text: &[u8], byte: u8) -> &[u8]
     }
 }
 
-fn is_word_byte(byte: u8) -> bool
-    ensures { result ≡ is_word_byte byte }
-{
-    byte != b' '
-}
-
 /// How many bytes that are no spaces stand in front.
 fn word_len(text: &[u8]) -> usize
     ensures value { result ≡ prefix_len is_word_byte text.now }
     ensures within { result ≤ length text.now }
 {
-    text.iter().take_while(|b| is_word_byte(**b)).count()
+    text.iter().take_while(|b| **b != b' ').count()
 }
 
 /// The text after a word, if the text begins with one.

@@ -2,10 +2,12 @@
 
 ghost use Rattle.std.specs.Prelude.{◌≡◌, option_map, IfOk};
 ghost use Rattle.bz_breakpad_lines.specs.Choice.{one_at};
-ghost use Rattle.bz_breakpad_lines.specs.Reads.{form_at, many_at, reads};
-ghost use Rattle.bz_breakpad_lines.specs.Records.{CALL, FILE, FUNC, INFO, INLINE, INLINE_ORIGIN, INNER, INNER_ORIGIN, LINE, MODULE, PUBLIC, RANGE, STACK_CFI, STACK_CFI_INIT, STACK_WIN, TOP};
-ghost use Rattle.bz_breakpad_lines.specs.Told.{call_told, context_told, func_told, inline_told, inner_told, line_told, public_told, range_told, ranges_told, record_told, top_told};
 ghost use Rattle.bz_breakpad_lines.specs.Contexts.{body_record, under_at};
+ghost use Rattle.bz_breakpad_lines.specs.Form.Form.{◌·◌, Name, SeparatorText};
+ghost use Rattle.bz_breakpad_lines.specs.Form.Piece.{Decimal, Separator, Tag};
+ghost use Rattle.bz_breakpad_lines.specs.Reads.{form_at, many_at, reads};
+ghost use Rattle.bz_breakpad_lines.specs.Records.{CALL, FUNC, INLINE, INNER, INNER_ORIGIN, LINE, MODULE, PUBLIC, RANGE, TOP};
+ghost use Rattle.bz_breakpad_lines.specs.Told.{call_told, context_told, func_told, inline_told, inner_told, line_told, public_told, range_told, ranges_told, record_told, top_told};
 
 use crate::field::{
     decimal_field, end, gap, hex_field, marked, module_separator, name, separator, separator_text,
@@ -73,11 +75,12 @@ pub fn code_line(line: &[u8]) -> Option<SourceLine>
     })
 }
 
-/// The id and the path of a FILE record.
-fn file(line: &[u8]) -> Option<(u32, &str)>
-    ensures { option_map (λ f. (f.0, f.1.now)) result ≡ form_at FILE line.now }
+/// The id and the name in a record whose tag this is: a FILE or an INLINE_ORIGIN record.
+#[inline(always)]
+fn named_record<'a>(line: &'a [u8], kind: &[u8]) -> Option<(u32, &'a str)>
+    ensures { option_map (λ f. (f.0, f.1.now)) result ≡ form_at (Tag kind.now · Separator · Decimal · Separator · Name) line.now }
 {
-    let (id, rest) = decimal_field(separator(tag(line, b"FILE")?)?)?;
+    let (id, rest) = decimal_field(separator(tag(line, kind)?)?)?;
     Some((id, name(separator(rest)?)?))
 }
 
@@ -197,31 +200,12 @@ fn public_line(line: &[u8]) -> Option<PublicLine<'_>>
     })
 }
 
-/// The id and the name of an INLINE_ORIGIN record.
-fn inline_origin(line: &[u8]) -> Option<(u32, &str)>
-    ensures { option_map (λ f. (f.0, f.1.now)) result ≡ form_at INLINE_ORIGIN line.now }
+/// That the line is a record whose tag this is, and of whose text nothing is kept.
+#[inline(always)]
+fn text_record(line: &[u8], kind: &[u8]) -> Option<()>
+    ensures { option_map (λ _. tt) result ≡ form_at (Tag kind.now · SeparatorText) line.now }
 {
-    let (id, rest) = decimal_field(separator(tag(line, b"INLINE_ORIGIN")?)?)?;
-    Some((id, name(separator(rest)?)?))
-}
-
-/// An INFO record.
-fn info(line: &[u8]) -> Option<()>
-    ensures { option_map (λ _. tt) result ≡ form_at INFO line.now }
-{
-    separator_text(tag(line, b"INFO")?)
-}
-
-fn stack_win(line: &[u8]) -> Option<()>
-    ensures { option_map (λ _. tt) result ≡ form_at STACK_WIN line.now }
-{
-    separator_text(tag(line, b"STACK WIN")?)
-}
-
-fn stack_cfi_init(line: &[u8]) -> Option<()>
-    ensures { option_map (λ _. tt) result ≡ form_at STACK_CFI_INIT line.now }
-{
-    separator_text(tag(line, b"STACK CFI INIT")?)
+    separator_text(tag(line, kind)?)
 }
 
 /// A record that stands by itself.
@@ -252,13 +236,13 @@ pub fn top_body(body: &[u8]) -> Option<TopLine<'_>>
     if let Some(name) = module_name(body) {
         return Some(TopLine::Module(name));
     }
-    if info(body).is_some() {
+    if text_record(body, b"INFO").is_some() {
         return Some(TopLine::Info);
     }
-    if let Some((id, path)) = file(body) {
+    if let Some((id, path)) = named_record(body, b"FILE") {
         return Some(TopLine::File(id, path));
     }
-    if let Some((id, name)) = inline_origin(body) {
+    if let Some((id, name)) = named_record(body, b"INLINE_ORIGIN") {
         return Some(TopLine::InlineOrigin(id, name));
     }
     if let Some(public) = public_line(body) {
@@ -267,10 +251,10 @@ pub fn top_body(body: &[u8]) -> Option<TopLine<'_>>
     if let Some(func) = func(body) {
         return Some(TopLine::Func(func));
     }
-    if stack_win(body).is_some() {
+    if text_record(body, b"STACK WIN").is_some() {
         return Some(TopLine::StackWin);
     }
-    if stack_cfi_init(body).is_some() {
+    if text_record(body, b"STACK CFI INIT").is_some() {
         return Some(TopLine::StackCfiInit);
     }
     None
@@ -322,7 +306,7 @@ pub enum Context {
     InCfi,
 }
 
-/// A record of a file.
+/// The record that a line is.
 #[derive(Drop)]
 pub enum RecordLine<'a> {
     /// A record that stands by itself.
@@ -331,12 +315,6 @@ pub enum RecordLine<'a> {
     OfFunc(InnerLine<'a>),
     /// A STACK CFI record, which belongs to a STACK CFI INIT record.
     OfCfi,
-}
-
-fn stack_cfi(line: &[u8]) -> Option<()>
-    ensures { option_map (λ _. tt) result ≡ form_at STACK_CFI line.now }
-{
-    separator_text(tag(line, b"STACK CFI")?)
 }
 
 /// The record that the body is under the one that the context names.
@@ -353,7 +331,7 @@ fn under<'a>(
             Some(inner) => Ok(Some(RecordLine::OfFunc(inner))),
             None => Ok(None),
         },
-        Context::InCfi => match stack_cfi(body) {
+        Context::InCfi => match text_record(body, b"STACK CFI") {
             Some(()) => Ok(Some(RecordLine::OfCfi)),
             None => Ok(None),
         },
