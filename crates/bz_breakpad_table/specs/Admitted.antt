@@ -1,4 +1,5 @@
--- Which lines are admitted in a Breakpad file, one after the other. Its records stand in the order of Breakpad's docs/symbol_files.md.
+-- Which lines are admitted in a Breakpad file, one after the other.
+-- Its records stand in the order of Breakpad's docs/symbol_files.md.
 use Rattle.std.specs.Prelude.{ℕ, ◌+◌, Bool, true, false, ◌&&◌, List, [], ◌∷◌, drop, Option, Some, None, is_some, if◌then◌else◌}
 use Rattle.std.specs.List.{AllByRecursion}
 use Rattle.bz_breakpad_lines.specs.Byte.{is_nothing}
@@ -8,14 +9,14 @@ use Rattle.bz_breakpad_lines.specs.Says.{module_of}
 use Rattle.bz_breakpad_lines.specs.Contexts.{Context, Record, context_after, white_allowed_after, record_at, after_white}
 use Rattle.bz_breakpad_lines.specs.Contexts.Context.{Outside}
 
--- the lines are admitted: each has a role after those before it, and a MODULE record is the first record or there is none
+-- the lines are admitted: each has a role after those before it, and MODULE is the first record or absent
 pub record AreAdmitted (lines : List (List ℕ)) : Type 0 where
   pub roles : List Role
   pub are_roles : AreRoles [] lines roles
   pub module_first : AllByRecursion IsNoModule (drop 1 (records_of roles))
 
--- what lines tell of the next one: the record under which it may stand, whether white space may stand before it, and whether
--- a record is among them
+-- what lines tell of the next one: the record under which it may stand, whether white space may stand before it,
+-- and whether a record is among them
 pub record Before : Type 0 where
   pub context : Context
   pub white_allowed : Bool
@@ -47,4 +48,5 @@ or_refused number (Some after) later = later after
 -- the number of the first line that isn't admitted, where the lines are numbered from this one
 abbrev pub refused_from : Before → ℕ → List (List ℕ) → Option ℕ
 refused_from before number [] = None
-refused_from before number (line ∷ lines) = or_refused number (after_line before line) (λ after. refused_from after (number + 1) lines)
+refused_from before number (line ∷ lines) =
+    or_refused number (after_line before line) (λ after. refused_from after (number + 1) lines)

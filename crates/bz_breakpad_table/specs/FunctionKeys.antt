@@ -7,7 +7,8 @@ use Rattle.bz_breakpad_table.specs.declared.types.KeptFunction.{KeptFunction}
 -- the keys of functions in their order, of which the first has this index
 abbrev pub keys_from : ℕ → List KeptFunction → List FunctionKey
 keys_from index [] = []
-keys_from index (f ∷ functions) = record { start = f.start; size = f.size; index = index } ∷ keys_from (index + 1) functions
+keys_from index (f ∷ functions) =
+    record { start = f.start; size = f.size; index = index } ∷ keys_from (index + 1) functions
 
 -- the keys are those of the functions, in the order of start and size
 pub record AreSortedKeys (functions : List KeptFunction) (keys : List FunctionKey) : Type 0 where

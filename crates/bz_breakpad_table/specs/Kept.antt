@@ -49,7 +49,14 @@ pub record IsTextAt (bytes : List ℕ) (part : Part) : Type 0 where
 abbrev pub kept_call : List ℕ → CallRange → Inlinee
 kept_call bytes c =
     let call = call_read bytes c.place in
-    record { depth = c.depth; start = call_start c; size = c.size; call_line = call.1.0; call_file = call.1.1.0; origin = call.1.1.1.0 }
+    record {
+      depth = c.depth;
+      start = call_start c;
+      size = c.size;
+      call_line = call.1.0;
+      call_file = call.1.1.0;
+      origin = call.1.1.1.0;
+    }
 
 -- the line records that begin at these places
 abbrev pub kept_lines : List ℕ → List ℕ → List SourceLine

@@ -1,4 +1,5 @@
--- Runs: texts whose lines are line records (Breakpad's docs/symbol_files.md), of which each starts after the one before it.
+-- Runs: texts whose lines are line records (Breakpad's docs/symbol_files.md).
+-- Each record of a run starts after the one before it.
 use Rattle.std.specs.Prelude.{◌≡◌, ◌<◌, ◌≤◌, ◌-◌, ℕ, List, [], ◌∷◌, ◌++◌, length, take, drop, map, slice_index, IsSome}
 use Rattle.std.specs.List.{AllByRecursion, filter_map}
 use Rattle.bz_base.specs.Byte.{line_feed}

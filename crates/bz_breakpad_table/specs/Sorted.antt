@@ -1,4 +1,5 @@
--- What is kept of a file stands for its table: its functions, their keys in the order of start, size and file, and the keys' starts.
+-- What is kept of a file stands for its table: the functions, their keys in order, and the keys' starts.
+-- Keys stand by start, then by size, then as in the file.
 use Rattle.std.specs.Prelude.{◌≡◌, ℕ, List, length, map, Some, option_map}
 use Rattle.bz_breakpad_table.specs.FunctionKeys.{AreSortedKeys}
 use Rattle.bz_breakpad_table.specs.Kept.{AreNested, TableFits, kept_functions, kept_names, kept_public, text_at}
@@ -10,8 +11,8 @@ use Rattle.bz_breakpad_table.specs.declared.types.FunctionKey.{FunctionKey}
 use Rattle.bz_breakpad_table.specs.declared.types.FunctionTable.{FunctionTable}
 use Rattle.bz_breakpad_table.specs.declared.types.KeptTable.{KeptTable}
 
--- the names, functions and PUBLIC records are the table's, the keys are those of the functions in order, and every part is one
--- of the bytes
+-- the names, functions and PUBLIC records are the table's, and the keys are those of the functions in order;
+-- every part is one of the bytes
 pub record StandsFor (bytes : List ℕ) (table : Table) (kept : KeptTable) : Type 0 where
   pub module_is : option_map (text_at bytes) kept.«module» ≡ table.«module»
   pub count : length table.functions ≡ length kept.code.functions.items
