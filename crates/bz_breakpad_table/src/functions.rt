@@ -83,9 +83,9 @@ impl FunctionsReading {
     }
 
     /// Begins a function, where the one before is at its end.
-    pub fn begin(&mut self, func: &FuncLine<'_>, name: Part) -> Result<(), AllocError>
-        ensures { OnOk result ((bytes : List ℕ) (closed : List Function) → IsNameAt bytes name func.now.name.now → FunctionsSoFar bytes self.old closed None →
-            FunctionsSoFar bytes self.new closed (Some (function_told func.now))) }
+    pub fn begin(&mut self, func: &FuncLine<'_>, name: Part)
+        ensures { (bytes : List ℕ) (closed : List Function) → IsNameAt bytes name func.now.name.now → FunctionsSoFar bytes self.old closed None →
+            FunctionsSoFar bytes self.new closed (Some (function_told func.now)) }
     {
         self.current = Some(KeptFunction {
             start: func.start,
@@ -98,7 +98,6 @@ impl FunctionsReading {
         self.lines = LinesSoFar::Empty;
         self.listed.clear();
         self.calls.clear();
-        Ok(())
     }
 
     /// Keeps the line record at a place in the bytes, if it is read quickly.
@@ -140,8 +139,7 @@ impl FunctionsReading {
             FunctionsSoFar bytes self.old closed current →
             FunctionsSoFar bytes self.new closed (option_map (λ f. with_inner f (Inline (inlinees_told call.now ranges.now) ∷ [])) current)) }
     {
-        keep_ranges(&mut self.calls, call.depth, ranges, place)?;
-        Ok(())
+        keep_ranges(&mut self.calls, call.depth, ranges, place)
     }
 }
 

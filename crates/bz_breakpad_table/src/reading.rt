@@ -1,12 +1,12 @@
 //! What has been read of a file so far, and one line more.
 
 ghost use Rattle.std.specs.Prelude.{◌≡◌, ◌+◌, ◌∷◌, ◌++◌, [], ℕ, List, length, Some, IfSome, IfOk, OnOk};
+ghost use Rattle.bz_breakpad_lines.specs.Contexts.{Context, body_record};
+ghost use Rattle.bz_breakpad_lines.specs.Contexts.Record.{OfFunc, Top};
 ghost use Rattle.bz_breakpad_lines.specs.Line.{EndsWith};
 ghost use Rattle.bz_breakpad_lines.specs.Reader.{Reading, nothing_read, with_record};
 ghost use Rattle.bz_breakpad_lines.specs.Table.{PublicSymbol};
 ghost use Rattle.bz_breakpad_lines.specs.Told.{InnerStands, inner_told, public_symbol, record_told, top_name, top_told};
-ghost use Rattle.bz_breakpad_lines.specs.Contexts.{Context, body_record};
-ghost use Rattle.bz_breakpad_lines.specs.Contexts.Record.{OfFunc, Top};
 ghost use Rattle.bz_breakpad_table.specs.Kept.{IsNameAt, IsRecordAt, IsSoFar, PublicsSoFar};
 
 use crate::functions::FunctionsReading;
@@ -60,7 +60,7 @@ impl KeptReading {
                 &public,
                 name_part(public.name, end)?,
             )?,
-            TopLine::Func(func) => self.functions.begin(&func, name_part(func.name, end)?)?,
+            TopLine::Func(func) => self.functions.begin(&func, name_part(func.name, end)?),
             TopLine::Info => {}
             TopLine::StackWin => {}
             TopLine::StackCfiInit => {}
@@ -82,11 +82,10 @@ impl KeptReading {
             IsSoFar bytes.now self.new (with_record reading (OfFunc (inner_told inner.entry ranges.now)))) }
     {
         match inner {
-            InnerLine::Code(_) => self.functions.list(bytes, start)?,
-            InnerLine::Inline(call) => self.functions.inline(&call, ranges, start)?,
-            InnerLine::Origin(id, name) => self.origins.insert(id, name_part(name, end)?)?,
+            InnerLine::Code(_) => self.functions.list(bytes, start),
+            InnerLine::Inline(call) => self.functions.inline(&call, ranges, start),
+            InnerLine::Origin(id, name) => self.origins.insert(id, name_part(name, end)?),
         }
-        Ok(())
     }
 
     /// Keeps a record whose body stands at a place in the bytes, with the ranges of an INLINE record.
@@ -103,11 +102,10 @@ impl KeptReading {
             IsSoFar bytes.now self.new (with_record reading (record_told found.entry ranges.now))) }
     {
         match found {
-            RecordLine::Top(top) => self.top(top, end)?,
-            RecordLine::OfFunc(inner) => self.inner(bytes, inner, ranges, start, end)?,
-            RecordLine::OfCfi => {}
+            RecordLine::Top(top) => self.top(top, end),
+            RecordLine::OfFunc(inner) => self.inner(bytes, inner, ranges, start, end),
+            RecordLine::OfCfi => Ok(()),
         }
-        Ok(())
     }
 }
 

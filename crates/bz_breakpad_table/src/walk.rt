@@ -3,11 +3,11 @@
 
 ghost use Rattle.std.specs.Prelude.{◌≡◌, ◌<◌, ◌≤◌, ◌+◌, ◌^◌, ℕ, List, false, length, IfSome, IfNone, IfOk, IfErr, OnOk};
 ghost use Rattle.bz_base.specs.declared.error.Error.{Error};
+ghost use Rattle.bz_breakpad_lines.specs.Contexts.{Context};
+ghost use Rattle.bz_breakpad_lines.specs.Contexts.Context.{InFunc, Outside};
 ghost use Rattle.bz_breakpad_lines.specs.Reader.{Reading, nothing_read, reading_in};
 ghost use Rattle.bz_breakpad_lines.specs.Stops.{AreStops};
 ghost use Rattle.bz_breakpad_lines.specs.Told.{context_told};
-ghost use Rattle.bz_breakpad_lines.specs.Contexts.{Context};
-ghost use Rattle.bz_breakpad_lines.specs.Contexts.Context.{InFunc, Outside};
 ghost use Rattle.bz_breakpad_table.specs.Refusal.{Refuses};
 ghost use Rattle.bz_breakpad_table.specs.Walked.{GoesOn, IsLineAt, IsMidway, IsRefused, IsStep, IsWalked};
 
@@ -130,7 +130,7 @@ impl Walk {
         // A line feed stands between the name and the rest.
         let name = name_part(func.name, text.len() - after.len() - 1)?;
         self.kept.functions.close()?;
-        self.kept.functions.begin(&func, name)?;
+        self.kept.functions.begin(&func, name);
         self.context = Context::InFunc;
         self.white_allowed = true;
         self.count += 1;

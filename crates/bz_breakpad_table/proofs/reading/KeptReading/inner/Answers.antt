@@ -1,4 +1,5 @@
 use Rattle.std.proofs.Common.{[], ◌∷◌, map, refl, sym, append-nil}
+use Rattle.std.proofs.lemmas.Result.{on_ok_weaker}
 use Rattle.bz_breakpad_table.specs.Kept.{kept_call}
 use Rattle.bz_breakpad_lines.specs.Line.{source_line}
 use Rattle.bz_breakpad_lines.specs.Kinds.InnerRecord.{InnerOrigin}
@@ -7,16 +8,24 @@ use Rattle.bz_breakpad_table.proofs.FunctionLemmas.{told_said, same_so_far}
 use Rattle.bz_breakpad_table.proofs.KeptLemmas.{names_so_far, with_functions}
 use Rattle.bz_breakpad_table.proofs.reading.KeptReading.inner.Goals as goal
 
-pub returns-in_ok-list-in-Code : goal.returns-in_ok-list-in-Code
-returns-in_ok-list-in-Code c body reading stands end inner is =
-    rw c.in-Code.is (with_functions is (c.in_ok-list-in-Code.ensures reading.closed reading.current (source_line (line_told c.in-Code.field-0)) (rw c.in-Code.is at inner) is.functions))
+pub returns-in-Code : goal.returns-in-Code
+returns-in-Code c =
+    on_ok_weaker c.list.result
+    (λ kept body reading stands end inner is.
+    rw c.in-Code.is (with_functions is (kept reading.closed reading.current (source_line (line_told c.in-Code.field-0)) (rw c.in-Code.is at inner) is.functions)))
+    c.list.ensures
 
-pub returns-in_ok-inline-in-Inline : goal.returns-in_ok-inline-in-Inline
-returns-in_ok-inline-in-Inline c body reading stands end inner is =
-    rw (c.in-Inline.is, told_said c.in-Inline.call c.args.ranges.now) (with_functions is (c.in_ok-inline-in-Inline.ensures c.args.bytes.now reading.closed reading.current (rw c.in-Inline.is at inner) is.functions))
+pub returns-in-Inline : goal.returns-in-Inline
+returns-in-Inline c =
+    on_ok_weaker c.inline.result
+    (λ kept body reading stands end inner is.
+    rw (c.in-Inline.is, told_said c.in-Inline.call c.args.ranges.now) (with_functions is (kept c.args.bytes.now reading.closed reading.current (rw c.in-Inline.is at inner) is.functions)))
+    c.inline.ensures
 
-pub returns-in_ok-insert-in-Origin : goal.returns-in_ok-insert-in-Origin
-returns-in_ok-insert-in-Origin c body reading stands end inner is =
+pub returns-in_ok-name_part-in-Origin : goal.returns-in_ok-name_part-in-Origin
+returns-in_ok-name_part-in-Origin c =
+    on_ok_weaker c.insert.result
+    (λ inserted body reading stands end inner is.
     let bytes = c.args.bytes.now in
     let functions = c.args.self.now.functions in
     let named = c.in_ok-name_part-in-Origin.ensures bytes body c.args.start stands end (rw c.in-Origin.is at inner) in
@@ -29,6 +38,7 @@ returns-in_ok-insert-in-Origin c body reading stands end inner is =
       files = is.files;
       origins =
           names_so_far bytes c.args.self.now.origins c.insert.new.self c.in-Origin.id c.in_ok-name_part-in-Origin.field-0 c.in-Origin.name.now reading.origins
-          c.in_ok-insert-in-Origin.ensures named is.origins;
+          inserted named is.origins;
       publics = is.publics;
-    })
+    }))
+    c.insert.ensures

@@ -50,11 +50,11 @@ returns-in_ok-keep_public-in-Public c bytes body start reading stands end ends i
       publics = c.in_ok-keep_public-in-Public.ensures bytes reading.publics named is.publics;
     })
 
-pub returns-in_ok-begin-in-Func : goal.returns-in_ok-begin-in-Func
-returns-in_ok-begin-in-Func c bytes body start reading stands end ends is =
+pub returns-in_ok-name_part-in-Func : goal.returns-in_ok-name_part-in-Func
+returns-in_ok-name_part-in-Func c bytes body start reading stands end ends is =
     let named = c.in_ok-name_part-in-Func.ensures bytes body start stands end (rw c.in-Func.is at ends) in
     let closed = c.in_ok-close.ensures bytes reading.closed reading.current is.functions in
-    rw c.in-Func.is (with_functions is (c.in_ok-begin-in-Func.ensures bytes _ named closed))
+    rw c.in-Func.is (with_functions is (c.begin.ensures bytes _ named closed))
 
 pub returns-in-Info : goal.returns-in-Info
 returns-in-Info c bytes body start reading stands end ends is =

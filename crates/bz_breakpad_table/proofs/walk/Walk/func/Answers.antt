@@ -23,4 +23,4 @@ returns-clause-ok c =
     let named =
     c.in_ok-name.ensures bytes p.line (length bytes - length rest) stands (omega (arith, m.within, long)) (top_named context p.line func p.reads) in
     let closed = c.in_ok-close.ensures bytes m.reading.closed m.reading.current so_far.functions in
-    quick_on context rest (Top (top_told func)) after p bytes c.args.self.now _ m refl refl refl refl refl (with_functions so_far (c.in_ok-begin.ensures bytes _ named closed))
+    quick_on context rest (Top (top_told func)) after p bytes c.args.self.now _ m refl refl refl refl refl (with_functions so_far (c.begin.ensures bytes _ named closed))
