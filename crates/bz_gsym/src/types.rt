@@ -3,7 +3,7 @@
 use crate::format::GSYM_MAX_UUID_SIZE;
 
 /// The head of a file.
-#[derive(Clone, Copy, Debug)]
+#[derive(Clone, Copy)]
 pub struct Header {
     /// The number that the file begins with.
     pub magic: u32,
@@ -35,7 +35,7 @@ pub struct FileInfo {
 }
 
 /// The data of a symbol.
-#[derive(Debug, Drop)]
+#[derive(Drop)]
 pub struct AddrInfo<'a> {
     /// The symbol's size, in bytes.
     pub size: u32,
@@ -46,7 +46,7 @@ pub struct AddrInfo<'a> {
 }
 
 /// A data entry of a symbol.
-#[derive(Debug, Drop)]
+#[derive(Drop)]
 pub struct AddrData<'a> {
     /// What the entry is.
     pub typ: u32,
@@ -55,7 +55,7 @@ pub struct AddrData<'a> {
 }
 
 /// A function around an address: a node of an inline tree that has the address inside.
-#[derive(Clone, Copy, Debug, PartialEq, Eq)]
+#[derive(Clone, Copy, PartialEq, Eq)]
 pub struct InlineFrame {
     /// The place of its name in the string table. It isn't 0.
     pub name: u32,
