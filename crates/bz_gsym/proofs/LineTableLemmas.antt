@@ -1,12 +1,12 @@
 -- The operators of a line table, one after another, and the states that they come to.
 use Rattle.std.proofs.Common.{◌≡◌, ℕ, ℤ, zero, suc, ◌-◌, ◌<◌, ◌≤◌, Bool, true, false, cond, List, [], ◌∷◌, length, drop, Option, Some, None, IfNone, IfSome, option_map, unwrap_or, nat_lt, nat_eq, refl, sym, ap, ◌∙◌, arith}
-use Rattle.std.specs.Option.{option_and_then}
+use Rattle.std.specs.Option.{option_and, option_and_then}
 use Rattle.std.specs.List.{slice_index}
-use Rattle.std.proofs.lemmas.Bool.{le-ltb, lt-ltb, ltb-true, ltb-false, ne_eqb}
+use Rattle.std.proofs.lemmas.Bool.{le-ltb, lt-ltb, ne_eqb}
 use Rattle.std.proofs.lemmas.Option.{none-some, same_Some}
 use Rattle.bz_base.specs.Cursor.{Reading, byte_at, with_first, with_rest}
 use Rattle.bz_base.specs.Leb128.{leb_at, low_bits, signed, sleb_at, uleb_at, unsigned}
-use Rattle.bz_gsym.specs.LineTable.{State, behind_delta, followed, is_above, operated, operator_at, sought, special, states, states_within, with_file, further, lines_on, advance_line, advance_pc, end_sequence, first_special, set_file}
+use Rattle.bz_gsym.specs.LineTable.{State, behind_delta, followed, operated, operator_at, sought, special, states, states_within, with_file, further, lines_on, advance_line, advance_pc, end_sequence, first_special, set_file}
 use Rattle.bz_gsym.specs.declared.linetab.LineTableHeader.{LineTableHeader}
 use Rattle.bz_gsym.specs.declared.linetab.LineTableRow.{LineTableRow}
 use Rattle.bz_gsym.specs.declared.linetab.RunResult.{RunResult}
@@ -205,18 +205,7 @@ module _ (header : LineTableHeader) where
     pub at_none : None ≡ operator_at header now left → next ≡ now → option_map (λ row. next) last ≡ sought addr last now (states header now left)
     at_none is same = rw same (sym (by_operator None is))
 
--- what is known at a row
-module _ (addr : ℕ) (row : LineTableRow) (last : Option LineTableRow) where
-  above_by : (b : Bool) (found : Option LineTableRow) → is_above addr row ≡ b → Some found ≡ cond b (Some last) None → (addr < row.addr) × (found ≡ last)
-  above_by true found is known = (ltb-true addr row.addr is, same_Some found last known)
-  above_by false found is known = absurd (none-some found (sym known))
-
-  pub above : (found : Option LineTableRow) → Some found ≡ cond (is_above addr row) (Some last) None → (addr < row.addr) × (found ≡ last)
-  above found known = above_by (is_above addr row) found refl known
-
-  below_by : (b : Bool) → is_above addr row ≡ b → None ≡ cond b (Some last) None → row.addr ≤ addr
-  below_by true is unknown = absurd (none-some last unknown)
-  below_by false is unknown = ltb-false addr row.addr is
-
-  pub below : None ≡ cond (is_above addr row) (Some last) None → row.addr ≤ addr
-  below unknown = below_by (is_above addr row) refl unknown
+-- a state in place of a row that is there
+pub and_there : (last : Option LineTableRow) (now : LineTableRow) → option_and last (Some now) ≡ option_map (λ row. now) last
+and_there None now = refl
+and_there (Some row) now = refl

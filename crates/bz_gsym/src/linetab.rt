@@ -1,8 +1,8 @@
 //! The line table of a symbol.
 
-ghost use Rattle.std.specs.Prelude.{◌≡◌, ◌+◌, ◌<◌, ◌/◌, ◌%◌, ◌+ℤ◌, ◌≤◌, pos, drop, false, length, option_map, Some, None, if◌then◌else◌, IfNone, IfSome, IsTrue};
+ghost use Rattle.std.specs.Prelude.{◌≡◌, ◌+◌, ◌<◌, ◌/◌, ◌%◌, ◌+ℤ◌, ◌≤◌, pos, drop, false, length, option_map, Some, None, IfNone, IfSome, IsTrue};
 ghost use Rattle.bz_base.specs.Cursor.{with_rest};
-ghost use Rattle.bz_gsym.specs.LineTable.{behind_delta, first_state, header_at, is_above, line_in, low_half, operated, operator_at, picked, sought, special, states, wrapped};
+ghost use Rattle.bz_gsym.specs.LineTable.{behind_delta, first_state, header_at, line_in, low_half, operated, operator_at, picked, sought, special, states, wrapped};
 ghost use Rattle.bz_gsym.specs.declared.linetab.RunResult.TheVariants.{NewRow};
 
 use crate::format::{ADVANCE_LINE, ADVANCE_PC, END_SEQUENCE, FIRST_SPECIAL, SET_FILE};
@@ -76,8 +76,8 @@ impl LineTableRow {
 }
 
 /// Runs the operator in front of `ops`: the row takes the operator's state, and the cursor goes past
-/// it. None: no operator is left, its operand is missing, or the range of a special one is below one;
-/// then the row is unchanged, and the cursor stands after the operator's byte, if there was one.
+/// it. None: no operator is left, its operand is missing, or the range of a special one is below one.
+/// Then the row is unchanged, and the cursor stands after the operator's byte, if there was one.
 #[tactic(auto, unfolding(crate::specs::LineTable::operator_at))]
 pub fn run_op(
     row: &mut LineTableRow,
@@ -146,8 +146,8 @@ fn special(row: LineTableRow, header: &LineTableHeader, past: u8) -> Option<Line
     })
 }
 
-/// The number in front of a special operator as address delta and line delta, where one line delta
-/// more than `above` goes with each address delta.
+/// The address delta of the special operator that lies so far past the first one, and how far its line
+/// delta lies above the least. One line delta more than `above` goes with each address delta.
 fn deltas(past: u8, above: u64) -> (u8, u8)
     ensures addr { result.0 ≡ past / (above + 1) }
     ensures line { result.1 ≡ past % (above + 1) }
@@ -203,8 +203,8 @@ fn picked(
             RunResult::End => break,
             RunResult::Ok => {}
             RunResult::NewRow => {
-                if let Some(found) = known_at(row, last, addr) {
-                    return found;
+                if addr < row.addr {
+                    return last;
                 }
                 if run_rows(&mut row, header, ops, addr) {
                     return Some(row);
@@ -213,30 +213,8 @@ fn picked(
             }
         }
     }
-    at_end(last, row)
-}
-
-/// What is known at a row: where it lies above the address, the row before it answers, if there is one.
-#[inline(always)]
-fn known_at(
-    row: LineTableRow,
-    last: Option<LineTableRow>,
-    addr: Addr,
-) -> Option<Option<LineTableRow>>
-    ensures { result ≡ (if is_above addr row then Some last else None) }
-{
-    if addr < row.addr {
-        return Some(last);
-    }
-    None
-}
-
-/// What is known at the table's end: its state, if there was a row.
-#[inline(always)]
-fn at_end(last: Option<LineTableRow>, state: LineTableRow) -> Option<LineTableRow>
-    ensures { result ≡ option_map (λ row. state) last }
-{
-    last.and(Some(state))
+    // At the table's end its state answers, if there was a row.
+    last.and(Some(row))
 }
 
 /// Goes on from a row by the special operators in front. Whether the next one's row lies above the
