@@ -11,8 +11,8 @@ abbrev pub gsym_version : ℕ
 gsym_version = 1
 
 -- how many bytes there are for the build id, at the end of the head
-abbrev pub max_uuid_size : ℕ
-max_uuid_size = 20
+abbrev pub gsym_max_uuid_size : ℕ
+gsym_max_uuid_size = 20
 
 -- the head: each field at its place, with its width in bytes
 abbrev pub header_of : List ℕ → Header
@@ -25,5 +25,5 @@ header_of bytes = record {
   num_addrs = number_at 4 bytes 16;
   strtab_offset = number_at 4 bytes 20;
   strtab_size = number_at 4 bytes 24;
-  uuid = take max_uuid_size (drop 28 bytes);
+  uuid = take gsym_max_uuid_size (drop 28 bytes);
 }

@@ -5,7 +5,7 @@ use Rattle.std.specs.List.{repeat}
 use Rattle.bz_base.specs.Byte.{zero_byte}
 use Rattle.bz_base.specs.Cursor.{padding}
 use Rattle.bz_gsym.specs.Entries.{entry_head_len, inline_tree, line_table}
-use Rattle.bz_gsym.specs.Header.{gsym_magic, gsym_version, max_uuid_size}
+use Rattle.bz_gsym.specs.Header.{gsym_magic, gsym_version, gsym_max_uuid_size}
 use Rattle.bz_gsym.specs.InlineTree.{no_children, no_ranges}
 use Rattle.bz_gsym.specs.LineTable.{advance_line, advance_pc, end_sequence, set_file}
 use Rattle.bz_gsym.specs.Tables.{data_place_len, file_count_len, file_entry_len, header_len}
@@ -42,7 +42,7 @@ entry_bytes typ text = word 4 typ ++ (word 4 (length text) ++ text)
 abbrev pub numbers_bytes : ℕ → ℕ → ℕ → ℕ → ℕ → ℕ → List ℕ
 numbers_bytes offset size name flag file line = one_range ∷ uleb offset ++ (uleb size ++ flag ∷ (word 4 name ++ (uleb file ++ uleb line)))
 
--- a row by its numbers, and the address and the line before it: its file, how many lines further, and how far the address lies on
+-- a row by its numbers, and the address and line before it: its file, how many lines further, and how far the address lies on
 abbrev pub row_numbers : ℕ → ℕ → ℕ → ℕ → ℕ → List ℕ
 row_numbers addr line to_addr to_file to_line =
     set_file ∷ uleb to_file ++ (advance_line ∷ sleb (pos to_line -ℤ pos line) ++ advance_pc ∷ uleb (to_addr - addr))
@@ -122,7 +122,7 @@ string_bytes t = zero_byte ∷ flat_map stored t.texts
 abbrev pub head_bytes : ℕ → ℕ → ℕ → List ℕ
 head_bytes count strings_at strings_len =
     word 4 gsym_magic ++ (word 2 gsym_version ++ (addr_off_size ∷ uuid_size ∷ (word 8 base_address
-    ++ (word 4 count ++ (word 4 strings_at ++ (word 4 strings_len ++ zeros max_uuid_size))))))
+    ++ (word 4 count ++ (word 4 strings_at ++ (word 4 strings_len ++ zeros gsym_max_uuid_size))))))
 
 -- where the string table stands: behind the head, a start and a data place for each function, the file count, and the files
 abbrev pub strings_place : List Code → Tables → ℕ
@@ -133,7 +133,8 @@ strings_place codes t =
 abbrev pub table_bytes : List Code → Tables → List ℕ → List ℕ
 table_bytes codes t places =
     flat_map (λ (c : Code). word addr_off_size c.start) codes
-    ++ (flat_map (word data_place_len) places ++ (word file_count_len (suc (length t.sources)) ++ (zeros file_entry_len ++ flat_map (file_bytes t) t.sources)))
+    ++ (flat_map (word data_place_len) places ++ (word file_count_len (suc (length t.sources))
+    ++ (zeros file_entry_len ++ flat_map (file_bytes t) t.sources)))
 
 -- the whole file
 abbrev pub laid_out : List Code → Tables → List ℕ
