@@ -89,8 +89,8 @@ both None later = None
 both (Some earlier) None = None
 both (Some earlier) (Some later) = Some (earlier ++ later)
 
--- the frames at an address of siblings that are read, outermost first, where their offsets count from a base: each node that
--- matches, and those that do among its children. None: a node that is read isn't sound
+-- the frames at an address of siblings that are read, outermost first, where their offsets count from a base. Each node that
+-- matches gives its own, and those of its children. None: a node that is read isn't sound
 abbrev pub frames : ℕ → ℕ → Nodes → Option (List Frame)
 frames addr base Ended = Some []
 frames addr base (Node head children siblings) =

@@ -1,5 +1,5 @@
--- What a symbol's data entries say of an address, and how a line table's state and the frames of an inline tree are joined to a
--- name, a place in the source code and the calls that were inlined there.
+-- What a symbol's data entries say of an address. A line table's state and the frames of an inline tree are joined to a name, a
+-- place in the source code and inlined calls.
 use Rattle.std.specs.Prelude.{ℕ, ◌==◌, ◌&&◌, Bool, false, is_none, if◌then◌else◌, List, [], ◌∷◌, length, Option, Some, None, option_map, slice_get}
 use Rattle.bz_base.specs.Answer.{Call, Site}
 use Rattle.bz_base.specs.SeenFrom as base
@@ -13,7 +13,7 @@ use Rattle.bz_gsym.specs.Strings.{string_at}
 use Rattle.bz_gsym.specs.Tables.{files, strings}
 use Rattle.bz_gsym.specs.declared.linetab.LineTableRow.{LineTableRow}
 
--- what the data entries of a symbol say of an address: the state of a line table that answers for it, and the functions around it
+-- what a symbol's data entries say of an address: the state of a line table that answers for it, and the functions around it
 pub record Told : Type 0 where
   pub row : Option LineTableRow
   pub frames : List Frame
@@ -49,8 +49,8 @@ abbrev pub told_of : FindSymOpts → ℕ → ℕ → List Entry → Option Told
 told_of asked.Basic start addr entries = Some nothing_told
 told_of opts start addr entries = told_after opts start addr nothing_told entries
 
--- a line of the source file of an index, which has a directory even if that is empty; none if there is no such file, or a text of
--- it isn't in the format
+-- a line of the source file of an index, which has a directory even if that is empty. None: there is no such file, or a
+-- text of it isn't in the format
 abbrev pub site_in : List ℕ → ℕ → ℕ → Option Site
 site_in bytes index line = do
   file ← slice_get (files bytes) index

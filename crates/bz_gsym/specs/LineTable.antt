@@ -18,7 +18,7 @@ low_half number = unsigned_abs (int_rem_euclid number (pos (2 ^ 32)))
 abbrev pub wrapped : ℕ → ℕ
 wrapped addr = addr % 2 ^ 64
 
--- the head of a table, and the bytes of the operators: least and greatest line delta, and the first line; none if a number is
+-- the head of a table, and the bytes of the operators: least and greatest line delta, and the first line. None: a number is
 -- missing
 abbrev pub header_at : List ℕ → Option (LineTableHeader × List ℕ)
 header_at bytes = do
@@ -72,8 +72,8 @@ special header row past =
     if int_lt (range header) (pos 1) then None
     else Some (further (lines_on row (header.min_delta +ℤ pos (past % count))) (past / count))
 
--- what an operator does: what it comes to, the state, and the bytes behind its operand; none if the operand is
--- missing, or the range of a special one is below one
+-- what an operator does: what it comes to, the state, and the bytes behind its operand. None: the operand is missing, or the
+-- range of a special one is below one
 abbrev pub operated : LineTableHeader → LineTableRow → ℕ → List ℕ → Option ((RunResult × LineTableRow) × List ℕ)
 operated header row operator bytes =
     if operator == end_sequence then Some ((results.End, row), bytes)
@@ -103,8 +103,7 @@ abbrev pub states_within : ℕ → LineTableHeader → LineTableRow → List ℕ
 states_within zero header row bytes = []
 states_within (suc most) header row bytes = followed (states_within most header) (operator_at header row bytes)
 
--- the states that the operators come to, one after another, up to the table's end: to the operator that ends it, or the first
--- that does nothing
+-- the states that the operators come to, one after another, up to the one that ends the table, or the first that does nothing
 unfoldable pub states : LineTableHeader → LineTableRow → List ℕ → List State
 states header row bytes = states_within (length bytes) header row bytes
 
@@ -120,8 +119,8 @@ is_above addr row = nat_lt addr row.addr
 abbrev pub end_state : List State → Option LineTableRow
 end_state list = if list_any (λ state. state.is_row) list then last_or None (map (λ state. state.at) list) else None
 
--- the state that answers for an address: where some row lies above it the row before the first of those, if there is one; else
--- the last state, if there is a row
+-- the state that answers for an address. Where some row lies above it, this is the row before the first of those, if there is
+-- one. Else it is the last state, if there is a row
 abbrev pub picked : ℕ → List State → Option LineTableRow
 picked addr list =
     if list_any (is_above addr) (rows list) then last_or None (before_first (is_above addr) (rows list)) else end_state list

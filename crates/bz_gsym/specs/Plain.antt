@@ -21,8 +21,8 @@ use Rattle.bz_gsym.specs.Tables.{starts, data_places, strings}
 abbrev pub symbols : List ℕ → List (ℕ × ℕ)
 symbols bytes = zip (starts bytes) (data_places bytes)
 
--- the symbol that is to be tried at a distance from the base, as if all were of one size: the first of those that start there,
--- else the last of those with the nearest start below
+-- the symbol that is to be tried at a distance from the base, as if all were of one size. It is the first of those that start
+-- there, else the last of those with the nearest start below
 abbrev pub nearest_start : List ℕ → ℕ → Option (ℕ × ℕ)
 nearest_start bytes distance = candidate (λ (symbol : ℕ × ℕ). symbol.0) (λ symbol. 0) distance (symbols bytes)
 
@@ -36,8 +36,8 @@ nearest_symbol bytes addr =
     let base : ℕ = (header_of bytes).base_address in
     if nat_lt addr base then None else option_map (based base) (nearest_start bytes (addr - base))
 
--- a symbol reaches an address from its start on: one of size 0 each address, up to the next start; another one those before
--- its end, if that fits 64 bits
+-- a symbol reaches addresses from its start on. One of size 0 reaches all up to the next start; another one those before its
+-- end, if that fits 64 bits
 abbrev pub reaches : ℕ → ℕ → ℕ → Bool
 reaches start size addr = size == 0 || inside start size addr
 
@@ -72,7 +72,7 @@ abbrev pub tried : List ℕ → FindSymOpts → ℕ → Option (ℕ × ℕ) → 
 tried bytes opts addr None = Ok (Err reasons.UnknownAddr)
 tried bytes opts addr (Some symbol) = answer_of bytes opts addr symbol.0 (info_at bytes symbol.1)
 
--- the symbol at an address as far as the options ask, or why there is none; or a refusal, where what is asked of it isn't in the
--- format
+-- the symbol at an address as far as the options ask, or why there is none. It is refused where what is asked of it isn't in
+-- the format
 abbrev pub plain : List ℕ → FindSymOpts → ℕ → Result (Result Resolved Reason) Error
 plain bytes opts addr = tried bytes opts addr (nearest_symbol bytes addr)

@@ -5,8 +5,8 @@ use Rattle.bz_base.specs.declared.error.Error.TheVariants as errors
 use Rattle.bz_base.specs.declared.types.FindSymOpts.{FindSymOpts}
 use Rattle.bz_base.specs.declared.types.FindSymOpts.TheVariants as asked
 
--- an address is refused by these alone: what is asked of it isn't in the format; or memory ran out, and inlined calls alone
--- take some
+-- an address is refused by these alone: what is asked of it isn't in the format, or memory ran out. Inlined calls alone take
+-- memory
 abbrev pub IsAnswerRefusal : FindSymOpts → Error → Type 0
 IsAnswerRefusal opts errors.InvalidData = Unit {0}
 IsAnswerRefusal opts errors.OutOfMemory = opts ≡ asked.CodeInfoAndInlined

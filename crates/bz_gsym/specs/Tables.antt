@@ -84,8 +84,8 @@ pub record AreStarts (bytes : List ℕ) (size count : ℕ) : Type 0 where
   pub within : header_len + count * size ≤ length bytes
   pub ascend : NeverDescends (numbers_at size count bytes header_len)
 
--- the bytes are a GSYM file: the files, and so each table before them, end in the bytes, as the string table does, and the
--- starts never descend
+-- the bytes are a GSYM file: the files, and so each table before them, end in the bytes, as the string table does. The starts
+-- never descend
 pub record IsGsym (bytes : List ℕ) : Type 0 where
   pub magic : (header_of bytes).magic ≡ gsym_magic
   pub version : (header_of bytes).version ≡ gsym_version
@@ -109,8 +109,8 @@ is_gsym bytes =
     let h : Header = header_of bytes in
     (h.magic == gsym_magic && h.version == gsym_version) && ((nat_le (files_end bytes) (length bytes) && nat_le (strings_end h) (length bytes)) && never_descends (starts bytes))
 
--- the symbol of this index, at this address, is to be tried at an address: none below the base address, and from there on that
--- of the first start which equals the distance from the base, else of the last one below it
+-- the symbol of this index, at this address, is to be tried at an address that doesn't lie below the base address. Its start is the
+-- first one that equals the distance from the base, or else the last one below it
 pub record IsTried (bytes : List ℕ) (addr index at : ℕ) : Type 0 where
   pub start : ℕ
   pub from : (header_of bytes).base_address ≤ addr

@@ -25,10 +25,11 @@ use std::alloc::Global;
 pub struct InlineInfo;
 
 impl InlineInfo {
-    /// The frames at `lookup_addr` of the tree that the bytes of a data entry begin with: the nodes that have it inside, together
-    /// with all nodes around them, outermost first. The root's offsets count from `base_addr`, the symbol's address.
-    /// InvalidData: the tree isn't whole, or a node that is read has a range past 64 bits or a call file past 32 bits; the
-    /// nodes that are read are the root and the children of those that have the address inside.
+    /// The frames at `lookup_addr` of the tree that the bytes of a data entry begin with, outermost first.
+    /// A node has a frame if it and all nodes around it have the address inside, unless its name is 0.
+    /// The root's offsets count from `base_addr`, the symbol's address.
+    /// InvalidData: the tree isn't whole, or a node that is read has a range past 64 bits or a call file
+    /// past 32 bits. The root is read, and so are the children of nodes that have the address inside.
     #[inline(never)]
     pub fn parse_inline_stack(
         alloc: Global,
@@ -40,10 +41,10 @@ impl InlineInfo {
         ensures refusal { IfErr result (Refuses (frames_at lookup_addr base_addr bytes.now)) }
     {
         let mut cursor = Cursor::new(bytes);
-        let mut frames = Vec::new(alloc);
         let Some(root) = visit(&mut cursor, Level::Read(base_addr), lookup_addr) else {
             return Err(Error::InvalidData);
         };
+        let mut frames = Vec::new(alloc);
         let Some(found) = root else {
             return Ok(frames);
         };
@@ -56,8 +57,8 @@ impl InlineInfo {
     }
 }
 
-/// Keeps the frames at an address of the siblings in front, which are taken so, and of all below them.
-/// InvalidData: they aren't whole, or a node that is read isn't sound.
+/// Keeps the frames at an address of the siblings in front and of all below them. `siblings` tells how
+/// the former are taken. InvalidData: they aren't whole, or a node that is read isn't sound.
 #[inline(always)]
 fn keep_inside(
     alloc: Global,
@@ -86,8 +87,8 @@ fn keep_inside(
     }
 }
 
-/// Keeps what a node among these siblings gave. What is taken next: its children, if it has some, and
-/// else its further siblings.
+/// Keeps what a node among these siblings gave. The answer tells how the next nodes are taken: its
+/// children, if it has some, or else its further siblings.
 #[inline(always)]
 fn keep(
     frames: &mut Vec<InlineFrame>,
@@ -159,7 +160,7 @@ fn read_node(cursor: &mut Cursor<'_>, count: u64, base: u64, addr: u64) -> Optio
 {
     let span = read_ranges(cursor, count, base, addr)?;
     let tail = tail(cursor)?;
-    if tail.call_file > 4294967295 {
+    if tail.call_file > u32::MAX as u64 {
         return None;
     }
     Some(Visit {
@@ -181,7 +182,7 @@ fn frame(tail: &Tail, matches: bool) -> Option<InlineFrame>
     Some(InlineFrame {
         name: tail.name,
         call_file: tail.call_file as u32,
-        call_line: tail.call_line.min(4294967295) as u32,
+        call_line: tail.call_line.min(u32::MAX as u64) as u32,
     })
 }
 

@@ -52,7 +52,7 @@ pub fn line_states_go_on()
 {}
 
 /// The state that is picked for an address from a line table's finished list is known at the first row
-/// above the address, over whatever bytes its operators are.
+/// above it. So it is over whatever bytes the operators are.
 pub fn lines_are_known_early()
     ensures { (header : LineTableHeader) (row : LineTableRow) (operators : List ℕ) (addr : ℕ) →
         sought addr None row (states header row operators) ≡ picked addr (states header row operators) }
@@ -70,8 +70,8 @@ pub fn frames_are_the_trees()
     ensures all { (addr base : ℕ) (bytes : List ℕ) (tree : Nodes) → IsTree bytes tree → frames_at addr base bytes ≡ frames addr base tree }
 {}
 
-/// What is seen from outside inlined calls: the symbol has the first call's site, each call the one of
-/// the call inside it, and the innermost call the line.
+/// What is seen from outside inlined calls. The symbol has the first call's site, each call that of the
+/// call inside it, and the innermost call the line.
 pub fn calls_are_rotated()
     ensures { (bytes : List ℕ) (row : LineTableRow) (calls : List Frame) (seen : Site × List Call) →
         (seen_from bytes row calls ≡ Some seen) ↔ IsSeen bytes row calls seen }

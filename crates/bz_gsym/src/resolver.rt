@@ -37,7 +37,7 @@ impl Model for GsymResolver {
 }
 
 impl GsymResolver {
-    /// Reads the file at the path.
+    /// Reads the file at the path. InvalidData: it isn't a GSYM file.
     pub fn open<F: Files>(alloc: Global, files: &mut F, path: &str) -> Result<GsymResolver>
         ensures answer { Told (in_view (F.worlds files.old)) (λ world. Comes (λ r. r.bytes) (opened (entry_at world path.now)) result) }
         ensures path { IfOk result (λ r. r.path ≡ Some path.now) }
@@ -57,7 +57,7 @@ impl GsymResolver {
         })
     }
 
-    /// Takes a copy of the bytes of a file.
+    /// Takes a copy of the bytes of a GSYM file. InvalidData: they aren't one.
     pub fn with_data(alloc: Global, bytes: &[u8]) -> Result<GsymResolver>
         ensures ok { IfOk result (λ r. r ≡ record { bytes = bytes.now; path = None }) }
         ensures accepted { IfOk result (λ r. IsGsym bytes.now) }
