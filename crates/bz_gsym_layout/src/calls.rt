@@ -12,21 +12,25 @@ ghost use Rattle.bz_gsym_layout.specs.declared.error.LayoutError.{LayoutError};
 ghost use Rattle.bz_gsym_layout.specs.declared.plan.Node.{Node};
 
 use crate::error::Result;
-use crate::format::{ONE_RANGE, SIBLINGS_END, SOME_CHILDREN};
+use crate::format::{ONE_RANGE, SOME_CHILDREN};
 use crate::leb::push_unsigned;
 use crate::plan::Node;
 use crate::words::{push_low_word, push_zeros};
-use bz_gsym::format::NO_CHILDREN;
+use bz_gsym::format::{NO_CHILDREN, NO_RANGES};
 use std::alloc::Global;
 
-/// Where the code of a node lies, and what it says: its offset from a base, its size, the place of its
-/// name, and the index of the file and the line that it is called at.
+/// The numbers of a node.
 #[derive(Clone, Copy)]
 pub(crate) struct Numbers {
+    /// How far behind a base its code begins.
     pub offset: u64,
+    /// How many bytes its code has.
     pub size: u64,
+    /// The place of its name in the string table.
     pub name: u64,
+    /// The index of the file that it is called in.
     pub file: u64,
+    /// The line that it is called at.
     pub line: u32,
 }
 
@@ -61,7 +65,7 @@ fn end_lists(out: &mut Vec<u8>, outer: &mut Vec<u64>, innermost: u64, depth: usi
 {
     let mut base = innermost;
     while outer.len() > depth {
-        out.push(SIBLINGS_END)?;
+        out.push(NO_RANGES as u8)?;
         let last = outer.len() - 1;
         base = outer[last];
         outer.truncate(last);
@@ -74,7 +78,7 @@ fn end_all(out: &mut Vec<u8>, outer: usize) -> Result<()>
     ensures ok { OnOk result (out.new.items ≡ out.old.items ++ zeros (suc outer)) }
     ensures memory { IsOkUnless result LayoutError.OutOfMemory }
 {
-    out.push(SIBLINGS_END)?;
+    out.push(NO_RANGES as u8)?;
     push_zeros(out, outer)
 }
 

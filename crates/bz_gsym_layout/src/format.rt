@@ -1,7 +1,5 @@
 //! The numbers that a file is written with, where the format leaves a choice.
 
-use bz_gsym::format::NO_RANGES;
-
 /// The size of a start in the address table, in bytes.
 pub(crate) const ADDR_OFF_SIZE: u8 = 8;
 
@@ -10,9 +8,6 @@ pub(crate) const UUID_SIZE: u8 = 0;
 
 /// The address that the starts of the address table count from.
 pub(crate) const BASE_ADDRESS: u64 = 0;
-
-/// The byte that ends each text of the string table.
-pub(crate) const TEXT_END: u8 = 0;
 
 /// The least line delta of a special operator, none of which is written.
 pub(crate) const MIN_DELTA: u8 = 0;
@@ -25,9 +20,6 @@ pub(crate) const FIRST_LINE: u8 = 0;
 
 /// How many ranges each node of an inline tree has.
 pub(crate) const ONE_RANGE: u8 = 1;
-
-/// The byte that ends siblings in an inline tree: the count of no ranges.
-pub(crate) const SIBLINGS_END: u8 = NO_RANGES as u8;
 
 /// The flag of a node of an inline tree that has children.
 pub(crate) const SOME_CHILDREN: u8 = 1;

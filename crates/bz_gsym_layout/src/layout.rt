@@ -13,12 +13,11 @@ ghost use Rattle.bz_gsym_layout.specs.declared.error.LayoutError.{LayoutError};
 ghost use Rattle.bz_gsym_layout.specs.declared.plan.Function.{Function};
 
 use crate::error::{LayoutError, Result};
-use crate::format::TEXT_END;
 use crate::function::{push_function, usual_function_len};
 use crate::plan::{Function, Plan};
 use crate::tables::{
-    TextPlaces, further, place_texts, push_files, push_head, push_places, push_starts, push_texts,
-    strings_place,
+    TEXT_END, TextPlaces, further, place_texts, push_files, push_head, push_places, push_starts,
+    push_texts, strings_place,
 };
 use crate::words::{push_low_word, push_zeros};
 use bz_gsym::format::FILE_ENTRY_LEN;
@@ -116,11 +115,8 @@ fn put_front(out: &mut Vec<u8>, front: &[u8])
     overwrite(out, front);
 }
 
-/// The bytes of a GSYM file of version 1 that a plan is laid out in.
-///
-/// # Errors
-///
-/// TooLarge: the file would have more bytes than 32 bits count. OutOfMemory: memory ran out.
+/// The bytes of a GSYM file of version 1 that a plan is laid out in. TooLarge: they would be more than
+/// 32 bits count. OutOfMemory: memory ran out.
 pub fn write(alloc: Global, plan: &Plan<'_>) -> Result<Vec<u8>>
     requires { IsPlan plan.now }
     ensures ok { IfOk result (λ bytes. (bytes.items ≡ layout (codes_of plan.now)) × (length bytes.items < 2 ^ 32)) }

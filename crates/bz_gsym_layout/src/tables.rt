@@ -11,7 +11,7 @@ ghost use Rattle.bz_gsym_layout.specs.Places.{text_places};
 ghost use Rattle.bz_gsym_layout.specs.declared.error.LayoutError.{LayoutError};
 
 use crate::error::{LayoutError, Result};
-use crate::format::{ADDR_OFF_SIZE, BASE_ADDRESS, TEXT_END, UUID_SIZE};
+use crate::format::{ADDR_OFF_SIZE, BASE_ADDRESS, UUID_SIZE};
 use crate::plan::{Function, SourceFile};
 use crate::words::{push_long, push_low_word, push_short, push_word, push_zeros};
 use bz_gsym::format::{
@@ -19,6 +19,9 @@ use bz_gsym::format::{
     HEADER_LEN,
 };
 use std::alloc::Global;
+
+/// The byte that ends each text of the string table.
+pub(crate) const TEXT_END: u8 = 0;
 
 /// How many bytes a function has in the tables: its start and its data place.
 const SYMBOL_LEN: u64 = ADDR_OFF_SIZE as u64 + DATA_PLACE_LEN as u64;
@@ -71,8 +74,8 @@ fn times(number: u64, count: u64) -> Result<u64>
     }
 }
 
-/// Where the string table stands in a file of so many functions and source files: behind the head,
-/// a start and a data place for each function, the file count, and the files.
+/// Where the string table stands in a file of so many functions and source files. In front of it lie the
+/// head, a start and a data place for each function, the file count, and the files.
 pub(crate) fn strings_place(functions: usize, sources: usize) -> Result<u64>
     ensures place { IfOk result (λ place. place ≡ header_len + addr_off_size * functions + data_place_len * functions + file_count_len + file_entry_len * suc sources) }
     ensures memory { IsOkUnless result LayoutError.OutOfMemory }
