@@ -23,7 +23,7 @@ pub fn numbers_are_read()
 {}
 
 /// The bytes of functions that can be laid out are a GSYM file, whose plain answer at each address is
-/// that of the functions; each inline entry has a tree.
+/// that of the functions. Each inline entry has a tree.
 pub fn layouts_answer_as_planned()
     ensures format { (codes : List Code) → AllByRecursion IsLayable codes → StartsAscend codes → length (layout codes) < 2 ^ 32 → IsGsym (layout codes) }
     ensures answers { (codes : List Code) → AllByRecursion IsLayable codes → length (layout codes) < 2 ^ 32 → (addr : ℕ) →

@@ -1,4 +1,4 @@
-//! What is to be laid out: functions with their rows and the calls that were inlined into them, which
+//! What is to be laid out: functions with their rows and the calls that were inlined into them. They
 //! refer to texts and source files by their indexes. Rows and calls, of which there are many, have
 //! indexes of 32 bits. Addresses are relative to the module's base, which is the file's base address 0.
 
