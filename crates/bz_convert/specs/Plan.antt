@@ -1,5 +1,5 @@
--- What of a Breakpad file is laid out: each function with its rows and the calls that were inlined into it, in texts. The choice is this
--- repository's own, so that the GSYM file answers alike (`Alike`).
+-- What of a Breakpad file is laid out: each function with its rows and the calls that were inlined into it, in texts. The choice
+-- is this repository's own, so that the GSYM file answers alike (`Alike`).
 use Rattle.std.specs.Prelude.{ℕ, ◌+◌, Bool, ◌==◌, ◌&&◌, not, nat_le, nat_lt, List, [], ◌∷◌, map, Option, None, option_map, unwrap_or, if◌then◌else◌}
 use Rattle.std.specs.List.{filter, list_any}
 use Rattle.bz_base.specs.Path.{split}

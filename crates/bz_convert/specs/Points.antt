@@ -22,8 +22,8 @@ point_within start end addr = if nat_le start addr && nat_lt addr end then recor
 abbrev pub IsOf : Function → ℕ → Type 0
 IsOf f addr = (f.start ≤ addr) × (addr < f.start + f.size)
 
--- addresses of the function in their order, with its start, and with those where a record of it starts, has its second address,
--- or has ended
+-- addresses of the function in their order: with its start, and with those where a record starts, has its second address, or has
+-- ended
 pub record ArePoints (f : Function) (points : List ℕ) : Type 0 where
   pub ascend : (i j p q : ℕ) → i ≤ j → slice_get points i ≡ Some p → slice_get points j ≡ Some q → p ≤ q
   pub within : (p : ℕ) → In points p → IsOf f p

@@ -26,11 +26,8 @@ pub struct RowsAndCalls {
 }
 
 /// The rows and inlined calls of a function of the file that the ids are of. Functions go by start and
-/// size; the one before it starts there, if there is one.
-///
-/// # Errors
-///
-/// The first fault of the function. OutOfMemory: memory ran out.
+/// size; the one before it starts there, if there is one. OutOfMemory: memory ran out. Any other refusal
+/// is the first fault of the function.
 pub fn rows_and_calls(
     alloc: Global,
     ids: &CleanIds<'_>,

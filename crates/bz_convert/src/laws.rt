@@ -22,7 +22,7 @@ ghost use Rattle.bz_gsym_layout.specs.Planned.{planned};
 use bz_gsym_layout::laws::layouts_answer_as_planned;
 
 /// The plan of a file without a fault can be laid out. Where a function answers in the file, the plan
-/// answers as that file does, with lines and inlined calls; at every other address it knows nothing.
+/// answers as that file does, with lines and inlined calls. At every other address it knows nothing.
 pub fn plans_answer_alike()
     ensures layable { (bytes : List ℕ) (table : Table) → table_in bytes ≡ Some table → fault_in table ≡ None → AllByRecursion IsLayable (plan table) }
     ensures ascend { (table : Table) → StartsAscend (plan table) }
@@ -30,9 +30,9 @@ pub fn plans_answer_alike()
         AnswersAlike (breakpad.function_at addr table.functions) (breakpad.plain table asked.CodeInfoAndInlined addr) (planned (plan table) addr) }
 {}
 
-/// The bytes of a converted file are a GSYM file, which answers at each address where a function
-/// answers in the Breakpad file as that file does, with lines and inlined calls; at every other address
-/// it knows nothing. Each function with calls has an inline tree.
+/// The bytes of a converted file are a GSYM file. Where a function answers in the Breakpad file, it
+/// answers as that file does, with lines and inlined calls. At every other address it knows nothing. Each
+/// function with calls has an inline tree.
 pub fn conversions_answer_alike()
     ensures format { (bytes : List ℕ) (table : Table) → table_in bytes ≡ Some table → fault_in table ≡ None → length (layout (plan table)) < 2 ^ 32 → IsGsym (layout (plan table)) }
     ensures answers { (bytes : List ℕ) (table : Table) → table_in bytes ≡ Some table → fault_in table ≡ None → length (layout (plan table)) < 2 ^ 32 → (addr : ℕ) →
