@@ -1,5 +1,5 @@
 -- Where an address lies in a function: the line record that answers for it, the calls around it, and the place that they tell.
--- The records are those of Breakpad's docs/symbol_files.md; a line record answers by the rule of bz_base's `Nearest`.
+-- The records are those of Breakpad's docs/symbol_files.md. Which line record answers is told by `Nearest` of bz_search.
 use Rattle.std.specs.Prelude.{ℕ, List, [], Option, Some, None, option_map, Result, Ok, Err}
 use Rattle.bz_base.specs.Answer.{Site, Call}
 use Rattle.bz_base.specs.Chain.{around, chain, inner}
@@ -41,8 +41,7 @@ abbrev pub inlinee_at : ℕ → ℕ → List Inlinee → Option Inlinee
 inlinee_at depth addr inlinees =
     around (λ i. i.depth) (λ i. i.start) (λ i. i.size) addr (inner (λ i. i.depth) (λ i. i.start) depth addr inlinees)
 
--- a line of the file of an id, whose name is cut into directory and file; none if no record has the id, or its name has no
--- component
+-- a line of the file of an id, whose name is cut into directory and file; none where the name isn't known or has no component
 abbrev pub site_in : Table → ℕ → ℕ → Option Site
 site_in table file line = option_map (λ cut. record { dir = cut.0; file = cut.1; line = Some line; column = None }) (name_for file table.files >>= split)
 

@@ -120,8 +120,8 @@ impl<'a> Function<'a> {
         Ok(lines)
     }
 
-    /// The text of its line records, if they stand in the file as in their order: one after another, each
-    /// starting after the one before it. The last line may have its end or not.
+    /// The text of its line records, if they stand in the file one after another, each starting after the
+    /// one before it. The last line may have its end or not.
     pub fn line_text(&self) -> Option<&'a [u8]>
         ensures { IfSome result (λ text. IsTextOfLines text.now (lines_in_order self.now)) }
     {

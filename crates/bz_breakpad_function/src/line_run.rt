@@ -93,8 +93,8 @@ fn line_in_front(text: &[u8], len: usize, hints: Cuts, addr: Addr) -> Option<Sou
     only_line(rest, len, addr)
 }
 
-/// Where the line record for an address is likely to stand in a run, as if each byte of code took as
-/// many bytes of text.
+/// Where the line record for an address is likely to stand in a run. Each byte of code is taken to need
+/// as many bytes of text.
 #[derive(Clone, Copy)]
 pub struct Guess {
     /// The run, in the file's bytes.
@@ -136,8 +136,8 @@ impl Guess {
         (self.run.to as usize).saturating_sub(1)
     }
 
-    /// Where its run is to be cut for the address: at the line after a place a little before the guess,
-    /// and then as far from there as that line's start is from the address.
+    /// Where its run is to be cut for the address. The first place is the line after a place a little
+    /// before the guess. The second lies as far from there as that line's start lies from the address.
     pub fn cuts(&self, bytes: &[u8], addr: Addr) -> Cuts {
         match bytes.get(self.run.from as usize..) {
             Some(text) => self.cuts_in(text, addr),
@@ -189,7 +189,8 @@ fn cut_if_near(text: &[u8], len: usize, place: usize) -> usize {
 }
 
 /// Where so many bytes of the text are cut in two behind a line feed: by the hint if that is such a
-/// place, and else near their middle, or behind their first line. None if they have one line at most.
+/// place. Else they are cut near their middle, or behind their first line. None if they have one line at
+/// most.
 #[inline(always)]
 fn cut_by(text: &[u8], len: usize, hint: usize) -> Option<usize>
     requires { len ≤ length text.now }

@@ -1,7 +1,7 @@
 //! Where an address lies in the source code: the line record that answers for it, and the calls
 //! that were inlined around it.
 
-ghost use Rattle.std.specs.Prelude.{◌≡◌, ◌<◌, ◌∷◌, List, length, map, option_map, slice_range, Some, IfOk, IfErr, IfSome};
+ghost use Rattle.std.specs.Prelude.{◌≡◌, ◌<◌, ◌∷◌, List, length, map, option_map, slice_range, IfOk, IfErr, IfSome};
 ghost use Rattle.std.specs.Cow.{cow_str_bytes};
 ghost use Rattle.bz_base.specs.Answer.{Call, Gives, call_of, site_of};
 ghost use Rattle.bz_base.specs.Lent.{IsLentCall, IsLentPlace, IsLentText};
@@ -10,7 +10,6 @@ ghost use Rattle.bz_base.specs.declared.types.FindSymOpts.{FindSymOpts};
 ghost use Rattle.bz_breakpad_function.specs.Lent.{IsLentPlaced, placed_seen};
 ghost use Rattle.bz_breakpad_function.specs.Places.{by_seen, calls_asked, calls_around, line_at, nowhere, placed_at, seen_from, seen_outside, site_in, IsAnswerRefusal};
 ghost use Rattle.bz_breakpad_lines.specs.Table.{Table};
-ghost use Rattle.bz_breakpad_lines.specs.Table as tables;
 ghost use Rattle.bz_breakpad_lines.specs.Told.{line_seen};
 ghost use Rattle.bz_breakpad_table.specs.Kept.{AreCallsAt, NamesFit, kept_call, function_seen};
 ghost use Rattle.bz_breakpad_table.specs.Search.{IsFunction};
@@ -56,35 +55,11 @@ pub fn placed_at<'f>(
     if matches!(opts, FindSymOpts::Basic) {
         return Ok(nowhere(alloc));
     }
-    match line_of(bytes, &kept.code, function, hints, addr) {
-        Some(line) => placed_on_line(alloc, bytes, kept, opts, function, addr, line),
-        None => Ok(nowhere(alloc)),
-    }
-}
-
-/// Where the address lies, of the line record that answers for it.
-fn placed_on_line<'f>(
-    alloc: Global,
-    bytes: &'f [u8],
-    kept: &'f KeptTable,
-    opts: &FindSymOpts,
-    function: &KeptFunction,
-    addr: Addr,
-    line: SourceLine,
-) -> Result<Placed<'f>>
-    requires function { IsFunction bytes.now kept.now.code function.now }
-    requires stands { (table : Table) × StandsFor bytes.now table kept.now }
-    ensures placed { (table : Table) → StandsFor bytes.now table kept.now →
-        Gives placed_seen (by_seen (seen_from table (calls_asked opts.now addr (function_seen bytes.now kept.now.code function.now).inlinees) (line_seen line))) result }
-    ensures lent { IfOk result IsLentPlaced }
-    ensures refusal { IfErr result IsAnswerRefusal }
-    ensures memory { IfErr result (WantsMemory (opts.now ≡ FindSymOpts.CodeInfoAndInlined)) }
-{
-    let calls = calls_asked(alloc, bytes, &kept.code, opts, function, addr)?;
-    let Some(site) = site_in(bytes, kept, line.file, line.line) else {
-        return Err(Error::InvalidInput);
+    let Some(line) = line_of(bytes, &kept.code, function, hints, addr) else {
+        return Ok(nowhere(alloc));
     };
-    seen_outside_all(alloc, bytes, kept, &calls, site)
+    let calls = calls_asked(alloc, bytes, &kept.code, opts, function, addr)?;
+    seen_from(alloc, bytes, kept, &calls, line)
 }
 
 /// No place.
@@ -187,23 +162,25 @@ fn lent(dir: Option<&str>) -> Option<CowStr<'_>>
     }
 }
 
-/// A place inside calls, seen from outside them.
-fn seen_outside_all<'f>(
+/// Where the code of a line record lies, seen from outside the calls around it.
+fn seen_from<'f>(
     alloc: Global,
     bytes: &'f [u8],
     kept: &'f KeptTable,
     calls: &[&CallRange],
-    inner: CodeInfo<'f>,
+    line: SourceLine,
 ) -> Result<Placed<'f>>
     requires files { NamesFit bytes.now kept.now.files }
     requires origins { NamesFit bytes.now kept.now.origins }
-    requires lent { IsLentPlace inner }
-    ensures placed { (table : Table) (line : tables.SourceLine) → StandsFor bytes.now table kept.now → Some (site_of inner.entry) ≡ site_in table line.file line.line →
-        Gives placed_seen (by_seen (seen_from table (map (λ call. kept_call bytes.now call.now) calls.now) line)) result }
+    ensures placed { (table : Table) → StandsFor bytes.now table kept.now →
+        Gives placed_seen (by_seen (seen_from table (map (λ call. kept_call bytes.now call.now) calls.now) (line_seen line))) result }
     ensures lent { IfOk result IsLentPlaced }
     ensures refusal { IfErr result IsAnswerRefusal }
     ensures memory { IfErr result (WantsMemory (0 < length calls.now)) }
 {
+    let Some(inner) = site_in(bytes, kept, line.file, line.line) else {
+        return Err(Error::InvalidInput);
+    };
     let mut site = inner;
     let mut inlined = Vec::with_capacity(alloc, calls.len())?;
     let mut left = calls.len();
