@@ -28,7 +28,7 @@ ghost use Rattle.bz_breakpad_table.specs.Refusal.{Refuses};
 ghost use Rattle.bz_breakpad_table.specs.Sorted.{IsKept, StandsFor};
 
 use crate::find::{Searched, function_index};
-use crate::found::FoundRecord;
+use crate::found::{FoundAddr, FoundRecord};
 use crate::inspect::{SymInfo, each_info, infos_named};
 use crate::lookups::{FoundAddrs, answer_from};
 use crate::publics::{lend_public, lend_publics};
@@ -272,7 +272,7 @@ impl SymbolFile {
     }
 
     /// The answers to addresses whose records were found, in their order, each the file's answer at
-    /// that address alone; an address that is refused is an ignored error. Addresses are relative to the
+    /// that address alone. An address that is refused is an ignored error. Addresses are relative to the
     /// module's base. Nothing is searched for among functions and PUBLIC records.
     pub fn answers_by(
         &self,
@@ -311,19 +311,16 @@ impl SymbolFile {
         ensures refusal { IfErr result IsAnswerRefusal }
         ensures memory { IfErr result (WantsMemory (opts.now ≡ FindSymOpts.CodeInfoAndInlined)) }
     {
-        answer_from(
-            alloc,
-            self.bytes.as_slice(),
-            &self.table,
-            opts,
-            found,
-            Cuts::unknown(),
+        let at = FoundAddr {
             addr,
-        )
+            found,
+            hints: Cuts::unknown(),
+        };
+        answer_from(alloc, self.bytes.as_slice(), &self.table, opts, &at)
     }
 
-    /// The answers to the addresses, in their order, each the file's answer at that address alone;
-    /// an address that is refused is an ignored error. Addresses are relative to the module's base.
+    /// The answers to the addresses, in their order, each the file's answer at that address alone.
+    /// An address that is refused is an ignored error. Addresses are relative to the module's base.
     pub fn answer_batch<L: Ledger>(
         &self,
         alloc: Global,
@@ -378,15 +375,12 @@ impl SymbolFile {
         ensures memory { IfErr result (WantsMemory (opts.now ≡ FindSymOpts.CodeInfoAndInlined)) }
     {
         let found = self.searched().record_at(addr, steps);
-        symbol_from(
-            alloc,
-            self.bytes.as_slice(),
-            &self.table,
-            opts,
-            found,
-            Cuts::unknown(),
+        let at = FoundAddr {
             addr,
-        )
+            found,
+            hints: Cuts::unknown(),
+        };
+        symbol_from(alloc, self.bytes.as_slice(), &self.table, opts, &at)
     }
 
     /// What is told of the functions of a name, in their order.

@@ -115,7 +115,7 @@ impl Searched<'_> {
         records
     }
 
-    /// The PUBLIC record that answers for an address for which no function does, from the places that
+    /// The PUBLIC record that answers for an address for which no function does. The places are those that
     /// searches among the starts of functions and PUBLIC records found.
     fn public_record(
         &self,
@@ -185,7 +185,7 @@ pub(crate) fn function_index(kept: &KeptTable, place: Option<usize>, addr: Addr)
     }
 }
 
-/// Whether a function starts at an address or past it, and not above the one for which a search among
+/// Whether a function starts between two addresses, or at one of them. For the second one a search among
 /// the functions' starts found the place.
 pub(crate) fn starts_between(code: &FunctionTable, from: u64, place: Option<usize>) -> bool
     requires within { IfSome place (λ p. p < length (starts_of code.now)) }

@@ -3,6 +3,9 @@
 ghost use Rattle.std.specs.Prelude.{◌≡◌};
 ghost use Rattle.bz_breakpad.specs.Found.{is_public};
 
+use bz_base::Addr;
+use bz_breakpad_function::Cuts;
+
 /// Which record of a Breakpad file answers for an address.
 #[derive(Clone, Copy)]
 pub enum FoundRecord {
@@ -24,4 +27,12 @@ impl FoundRecord {
             FoundRecord::Function(_) | FoundRecord::Absent => false,
         }
     }
+}
+
+/// An address, the record that was found for it, and hints for `placed_at` there.
+#[derive(Drop)]
+pub(crate) struct FoundAddr {
+    pub addr: Addr,
+    pub found: FoundRecord,
+    pub hints: Cuts,
 }

@@ -57,8 +57,8 @@ pub fn nearest_function()
         IsNearestCovering (λ f. f.start) (λ f. f.size) functions addr answer → answer ≡ function_at addr functions }
 {}
 
-/// What is seen from outside all calls has their sites and names, each moved by one: the code lies
-/// at the outermost call, each call at the next one, and the innermost at the line.
+/// What is seen from outside all calls has their sites and names, each moved by one. The code lies at
+/// the outermost call, each call at the next one, and the innermost at the line.
 pub fn calls_are_rotated()
     ensures { (table : Table) (calls : List tables.Inlinee) (line : tables.SourceLine) (seen : Site × List Call) →
         (seen_from table calls line ≡ Some seen) ↔ IsSeen table calls line seen }

@@ -14,7 +14,7 @@ ghost use Rattle.bz_breakpad.specs.Resolver.{marked};
 ghost use Rattle.bz_breakpad.specs.Stands.{OfTableIn, StandsForSuch};
 ghost use Rattle.bz_breakpad_function.specs.Places.{IsAnswerRefusal};
 
-use crate::found::FoundRecord;
+use crate::found::{FoundAddr, FoundRecord};
 use crate::symbol::symbol_from;
 use bz_base::{Addr, Error, FindSymOpts, Reason, ResolvedSym, Result, Sym, Symbolized, in_batch};
 use bz_breakpad_function::{Cuts, Guess};
@@ -74,19 +74,16 @@ impl<'f, 'b> FoundAddrs<'f, 'b> {
         ensures refusal { IfErr result IsAnswerRefusal }
         ensures memory { IfErr result (WantsMemory (opts.now ≡ FindSymOpts.CodeInfoAndInlined)) }
     {
-        answer_from(
-            alloc,
-            self.bytes,
-            self.kept,
-            opts,
-            self.found[index],
+        let at = FoundAddr {
+            addr: self.addrs[index],
+            found: self.found[index],
             hints,
-            self.addrs[index],
-        )
+        };
+        answer_from(alloc, self.bytes, self.kept, opts, &at)
     }
 
     /// Hints for the answers from an index on. What lies far is touched for all of them together: the
-    /// keys, then the functions, then the text near each one's line record, its name and its calls.
+    /// functions first, and then what the answers read of each.
     fn hints(&self, from: usize) -> [Cuts; TOGETHER] {
         let indices = self.function_indices(from);
         let functions = self.functions(&indices);
@@ -232,8 +229,8 @@ struct Touched {
 }
 
 impl Touched {
-    /// Whether the function has a name, the first of its inlined calls, if it has some, lies in no other,
-    /// and its line records are text to the end of a line.
+    /// Whether the function has a name, and line records that are text to the end of a line. The first of
+    /// its inlined calls, if it has some, must lie in no other.
     fn is_usual(&self) -> bool {
         let named = match self.name {
             Some(first) => first != b'\n',
@@ -255,24 +252,23 @@ impl Touched {
     }
 }
 
-/// The answer at an address, from the record that was found for it. The hints are for `placed_at`.
+/// The answer at an address, from the record that was found for it.
 pub(crate) fn answer_from<'a>(
     alloc: Global,
     bytes: &'a [u8],
     kept: &'a KeptTable,
     opts: &FindSymOpts,
-    found: FoundRecord,
-    hints: Cuts,
-    addr: Addr,
+    at: &FoundAddr,
 ) -> Result<Symbolized<'a>>
-    requires { StandsForSuch bytes.now kept.now (λ table. IsRecordFor table addr found) }
-    ensures answer { OfTableIn bytes.now kept.now (λ table. IsRecordFor table addr found → Gives reading (plain table opts.now addr) result) }
+    requires { StandsForSuch bytes.now kept.now (λ table. IsRecordFor table at.now.addr at.now.found) }
+    ensures answer { OfTableIn bytes.now kept.now (λ table. IsRecordFor table at.now.addr at.now.found →
+        Gives reading (plain table opts.now at.now.addr) result) }
     ensures lent { IfOk result IsLent }
     ensures refusal { IfErr result IsAnswerRefusal }
     ensures memory { IfErr result (WantsMemory (opts.now ≡ FindSymOpts.CodeInfoAndInlined)) }
 {
-    match symbol_from(alloc, bytes, kept, opts, found, hints, addr) {
-        Ok(symbol) => Ok(answer_of(symbol, found, addr)),
+    match symbol_from(alloc, bytes, kept, opts, at) {
+        Ok(symbol) => Ok(answer_of(symbol, at.found, at.addr)),
         Err(error) => Err(error),
     }
 }

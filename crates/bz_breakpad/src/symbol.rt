@@ -16,36 +16,33 @@ ghost use Rattle.bz_breakpad_function.specs.Places.{IsAnswerRefusal};
 ghost use Rattle.bz_breakpad_lines.specs.Table.{Table};
 ghost use Rattle.bz_breakpad_table.specs.Kept.{IsTextAt, function_seen, kept_public, text_at};
 
-use crate::found::FoundRecord;
-use bz_base::{Addr, FindSymOpts, Reason, ResolvedSym, Result, SrcLang};
-use bz_breakpad_function::{Cuts, Placed, placed_at};
+use crate::found::{FoundAddr, FoundRecord};
+use bz_base::{FindSymOpts, Reason, ResolvedSym, Result, SrcLang};
+use bz_breakpad_function::{Placed, placed_at};
 use bz_breakpad_table::{KeptFunction, KeptPublic, KeptTable, text_of};
 use std::alloc::Global;
 
-/// The symbol at an address, from the record that was found for it, or why there is none. The hints are
-/// for `placed_at`.
+/// The symbol at an address, from the record that was found for it, or why there is none.
 #[inline(always)]
 pub(crate) fn symbol_from<'a>(
     alloc: Global,
     bytes: &'a [u8],
     kept: &'a KeptTable,
     opts: &FindSymOpts,
-    found: FoundRecord,
-    hints: Cuts,
-    addr: Addr,
+    at: &FoundAddr,
 ) -> Result<std::result::Result<ResolvedSym<'a>, Reason>>
-    requires { StandsForSuch bytes.now kept.now (λ table. IsRecordFor table addr found) }
-    ensures answer { OfTableIn bytes.now kept.now (λ table. IsRecordFor table addr found →
-        MayGive found_of (λ answer. answer ≡ found_in (plain table opts.now addr)) result) }
-    ensures starts { IfOk result (λ found. StartsBefore addr (found_of found)) }
-    ensures lent { IfOk result (λ found. IfOk found IsLentResolved) }
+    requires { StandsForSuch bytes.now kept.now (λ table. IsRecordFor table at.now.addr at.now.found) }
+    ensures answer { OfTableIn bytes.now kept.now (λ table. IsRecordFor table at.now.addr at.now.found →
+        MayGive found_of (λ answer. answer ≡ found_in (plain table opts.now at.now.addr)) result) }
+    ensures starts { IfOk result (λ symbol. StartsBefore at.now.addr (found_of symbol)) }
+    ensures lent { IfOk result (λ symbol. IfOk symbol IsLentResolved) }
     ensures refusal { IfErr result IsAnswerRefusal }
     ensures memory { IfErr result (WantsMemory (opts.now ≡ FindSymOpts.CodeInfoAndInlined)) }
 {
-    match found {
+    match at.found {
         FoundRecord::Function(index) => {
             let function = &kept.code.functions[index as usize];
-            match placed_at(alloc, bytes, kept, opts, function, hints, addr) {
+            match placed_at(alloc, bytes, kept, opts, function, at.hints, at.addr) {
                 Ok(placed) => Ok(Ok(function_symbol(bytes, kept, function, placed))),
                 Err(error) => Err(error),
             }

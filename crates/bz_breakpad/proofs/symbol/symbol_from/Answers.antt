@@ -10,32 +10,32 @@ use Rattle.bz_breakpad.proofs.symbol.symbol_from.Goals as goal
 pub returns-in-Ok-clause-answer : goal.returns-in-Ok-clause-answer
 returns-in-Ok-clause-answer c table stands record_is =
     let f = function_seen c.args.bytes.now c.args.kept.now.code c.index-function.result.now in
-    ap (λ s. Ok (Ok s)) (c.function_symbol.ensures.symbol table c.args.addr (sym stands.module_is))
+    ap (λ s. Ok (Ok s)) (c.function_symbol.ensures.symbol table c.args.at.now.addr (sym stands.module_is))
     ∙ sym (ap found_in
-    (function_answers c.args.bytes.now table c.args.kept.now stands c.args.addr c.in-Function.index (subst (IsRecordFor table c.args.addr) c.in-Function.is record_is) c.index-function.result.now c.index-function.ensures c.args.opts.now
-    ∙ ap (by_place table f c.args.addr) (c.in-Ok.ensures.placed table stands)))
+    (function_answers c.args.bytes.now table c.args.kept.now stands c.args.at.now.addr c.in-Function.index (subst (IsRecordFor table c.args.at.now.addr) c.in-Function.is record_is) c.index-function.result.now c.index-function.ensures c.args.opts.now
+    ∙ ap (by_place table f c.args.at.now.addr) (c.in-Ok.ensures.placed table stands)))
 
 pub returns-in-Ok-clause-starts : goal.returns-in-Ok-clause-starts
 returns-in-Ok-clause-starts c =
     let at = c.requires in
     rw c.function_symbol.ensures.start
-    (function_below c.args.bytes.now at.0 c.args.kept.now at.1 c.args.addr c.in-Function.index (subst (IsRecordFor at.0 c.args.addr) c.in-Function.is at.2) c.index-function.result.now c.index-function.ensures)
+    (function_below c.args.bytes.now at.0 c.args.kept.now at.1 c.args.at.now.addr c.in-Function.index (subst (IsRecordFor at.0 c.args.at.now.addr) c.in-Function.is at.2) c.index-function.result.now c.index-function.ensures)
 
 pub returns-in-Err-clause-answer : goal.returns-in-Err-clause-answer
 returns-in-Err-clause-answer c table stands record_is =
     let f = function_seen c.args.bytes.now c.args.kept.now.code c.index-function.result.now in
-    found_refused table f c.args.addr _ _ c.in-Err.error
-    (function_answers c.args.bytes.now table c.args.kept.now stands c.args.addr c.in-Function.index (subst (IsRecordFor table c.args.addr) c.in-Function.is record_is) c.index-function.result.now c.index-function.ensures c.args.opts.now)
+    found_refused table f c.args.at.now.addr _ _ c.in-Err.error
+    (function_answers c.args.bytes.now table c.args.kept.now stands c.args.at.now.addr c.in-Function.index (subst (IsRecordFor table c.args.at.now.addr) c.in-Function.is record_is) c.index-function.result.now c.index-function.ensures c.args.opts.now)
     (c.in-Err.ensures.placed table stands) c.in-Err.ensures.refusal
 
 pub returns-in-Public-clause-answer : goal.returns-in-Public-clause-answer
 returns-in-Public-clause-answer c table stands record_is =
-    ap (λ s. Ok (Ok s)) (c.public_symbol.ensures.symbol table c.args.addr (sym stands.module_is))
+    ap (λ s. Ok (Ok s)) (c.public_symbol.ensures.symbol table c.args.at.now.addr (sym stands.module_is))
     ∙ sym (ap found_in
-    (public_answers c.args.bytes.now table c.args.kept.now stands c.args.addr c.in-Public.index (subst (IsRecordFor table c.args.addr) c.in-Public.is record_is) c.index-public.result.now c.index-public.ensures c.args.opts.now))
+    (public_answers c.args.bytes.now table c.args.kept.now stands c.args.at.now.addr c.in-Public.index (subst (IsRecordFor table c.args.at.now.addr) c.in-Public.is record_is) c.index-public.result.now c.index-public.ensures c.args.opts.now))
 
 pub returns-in-Public-clause-starts : goal.returns-in-Public-clause-starts
 returns-in-Public-clause-starts c =
     let at = c.requires in
     rw c.public_symbol.ensures.start
-    (public_starts c.args.bytes.now at.0 c.args.kept.now at.1 c.args.addr c.in-Public.index (subst (IsRecordFor at.0 c.args.addr) c.in-Public.is at.2) c.index-public.result.now c.index-public.ensures)
+    (public_starts c.args.bytes.now at.0 c.args.kept.now at.1 c.args.at.now.addr c.in-Public.index (subst (IsRecordFor at.0 c.args.at.now.addr) c.in-Public.is at.2) c.index-public.result.now c.index-public.ensures)
