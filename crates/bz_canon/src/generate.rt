@@ -71,8 +71,8 @@ fn push_line_record(text: &mut String, start: u64, size: &str, line: u64) -> Res
     Ok(())
 }
 
-/// So many addresses among the functions and a little past the last one, by the numbers after the
-/// seed, each of which is made of the one before it.
+/// So many addresses among the functions and a little past the last one. They come of the numbers after
+/// the seed, each made of the one before it.
 pub fn gen_addrs(alloc: Global, seed: u64, functions: u64, addresses: u64) -> Result<Vec<u64>>
     requires seed { seed < 2147483648 }
     requires functions { functions ≤ 100000 }

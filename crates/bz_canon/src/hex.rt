@@ -9,7 +9,7 @@ use crate::piece::ROOM;
 /// Writes a number's hexadecimal digits, in lower case and without leading zeros, before a place, and
 /// tells where they begin.
 ///
-/// The digits are written in a fixed number of turns, leading zeros too: a processor can't foresee the
+/// The digits are written in a fixed number of turns, leading zeros too. A processor can't foresee the
 /// end of a loop over those that count.
 #[inline(always)]
 pub(crate) fn put_hex(number: u64, room: &mut [u8; ROOM], end: usize) -> usize
