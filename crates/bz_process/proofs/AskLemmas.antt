@@ -31,7 +31,7 @@ use Rattle.bz_process.specs.ProcessAsk.{AddsAmong, AddsIn, AsksAddress, AsksAll,
 use Rattle.bz_process.specs.ProcessCall.{Reaches, TakesStep, UnlessFailed}
 use Rattle.bz_process.specs.Asked.{Asked}
 use Rattle.bz_process.specs.Caches.{ProcessCaches}
-use Rattle.bz_process.specs.Terms.{Kept, Terms}
+use Rattle.bz_process.specs.Terms.{KeptToAnswer, Terms}
 use Rattle.bz_process.specs.Untold.{SaysNoFault, SomeAtAddress, SomeAtAddresses, SomeByAsked, SomeByOwner, SomeBySaid, Unfailing, as_read}
 use Rattle.bz_process.proofs.UntoldLemmas.{gives_self, some_last}
 use Rattle.bz_process.proofs.ProcessLemmas.{looked_both, reaches_both, reaches_same, stays, stays_both, still, unlooked, wants_memory}
@@ -320,7 +320,7 @@ split_at_next addrs i lt = ap (λ (rest : List ℕ). take i addrs ++ rest) (sym 
 
 module _ {R X : Type 0} (files : Ghosts X) (terms : Terms R) where
   -- something was said for an address of a mapping of this
-  pub in_named : (mapping : Mapping) (name : PathName) (named : Option Name) (addr : ℕ) (said : Said) (result : Result Symbolized Error) (old now : Kept R) (before after : X) →
+  pub in_named : (mapping : Mapping) (name : PathName) (named : Option Name) (addr : ℕ) (said : Said) (result : Result Symbolized Error) (old now : KeptToAnswer R) (before after : X) →
       named ≡ Some (name_of name) → UnlessFailed result (IsSaid terms.test terms.translates terms.finds terms.opts mapping name addr old.answers now.answers said) → SaysNoFault said →
       SomeBySaid terms.asked (as_read reading result) old.caches now.caches mapping addr (name_of name) said →
       TakesStep files terms.asked.own reading (by_said terms.asked mapping addr (name_of name) said) result old.caches now.caches before after →
@@ -345,7 +345,7 @@ module _ {R X : Type 0} (files : Ghosts X) (terms : Terms R) where
 
   module _ (mappings : List Mapping) where
     -- an address that no mapping has
-    pub unmapped : (addr : ℕ) (kept : Kept R) (at : X) → owner_of mappings addr ≡ None → AsksAddress files terms mappings addr (Ok (symbolized.Unknown reasons.Unmapped)) kept kept at at
+    pub unmapped : (addr : ℕ) (kept : KeptToAnswer R) (at : X) → owner_of mappings addr ≡ None → AsksAddress files terms mappings addr (Ok (symbolized.Unknown reasons.Unmapped)) kept kept at at
     unmapped addr kept at none = record {
       said = None;
       allowed = subst (λ (o : Option Mapping). IsSaidBy terms.test terms.translates terms.finds terms.opts o addr kept.answers kept.answers None) (sym none) refl;
@@ -362,11 +362,11 @@ module _ {R X : Type 0} (files : Ghosts X) (terms : Terms R) where
         by_added (inl was) = inl was
         by_added (inr added) = inr (record { addr = addr; there = (0, omega arith, refl); mapping = mapping; owner = owner; name = added.0; named = added.1; same = added.2; allowed = added.3 })
 
-    pub front_none : (given : Vec Symbolized Global) (kept : Kept R) (at : X) → given.items ≡ [] → AsksFront files terms mappings [] given kept kept at at
+    pub front_none : (given : Vec Symbolized Global) (kept : KeptToAnswer R) (at : X) → given.items ≡ [] → AsksFront files terms mappings [] given kept kept at at
     front_none given kept at is =
         record { front = []; addrs_are = refl; allowed = λ n a kept. kept; some = (ap (map reading) is, refl); step = step_none files terms.asked mappings given kept.caches at is; keeps = λ n a kept. kept; adds = λ n a kept. inl kept }
 
-    pub front_more : (addrs : List ℕ) (addr : ℕ) (given more : Vec Symbolized Global) (result : Result Symbolized Error) (entry : Symbolized) (old mid now : Kept R) (before middle after : X) →
+    pub front_more : (addrs : List ℕ) (addr : ℕ) (given more : Vec Symbolized Global) (result : Result Symbolized Error) (entry : Symbolized) (old mid now : KeptToAnswer R) (before middle after : X) →
         AsksFront files terms mappings addrs given old mid before middle → AsksAddress files terms mappings addr result mid now middle after →
         Keeps mid.answers now.answers → AddsAmong terms.test mappings (addr ∷ []) mid.answers now.answers →
         ((expected : Result Answer Error) → Gives reading expected result → reading entry ≡ in_batch expected) →
@@ -389,7 +389,7 @@ module _ {R X : Type 0} (files : Ghosts X) (terms : Terms R) where
     }
 
     -- all were asked
-    pub all_done : (addrs : List ℕ) (given : Vec Symbolized Global) (old now : Kept R) (before after : X) →
+    pub all_done : (addrs : List ℕ) (given : Vec Symbolized Global) (old now : KeptToAnswer R) (before after : X) →
         AsksFront files terms mappings addrs given old now before after → AsksAll files terms mappings addrs (Ok given) old now before after
     all_done addrs given old now before after front =
         let all : map (λ (item : ℕ × Said). item.0) front.front ++ [] ≡ addrs = append-nil _ ∙ front.addrs_are in
@@ -405,7 +405,7 @@ module _ {R X : Type 0} (files : Ghosts X) (terms : Terms R) where
         }
 
     -- the next address failed
-    pub all_fail : (addrs : List ℕ) (addr : ℕ) (rest whole : List ℕ) (given : Vec Symbolized Global) (result : Result Symbolized Error) (e : Error) (old mid now : Kept R) (before middle after : X) →
+    pub all_fail : (addrs : List ℕ) (addr : ℕ) (rest whole : List ℕ) (given : Vec Symbolized Global) (result : Result Symbolized Error) (e : Error) (old mid now : KeptToAnswer R) (before middle after : X) →
         addrs ++ (addr ∷ rest) ≡ whole →
         AsksFront files terms mappings addrs given old mid before middle → AsksAddress files terms mappings addr result mid now middle after →
         Keeps mid.answers now.answers → AddsAmong terms.test mappings (addr ∷ []) mid.answers now.answers →
@@ -432,7 +432,7 @@ module _ {R X : Type 0} (files : Ghosts X) (terms : Terms R) where
     }
 
     -- memory ran out for the answer of the next address
-    pub all_stop : (addrs : List ℕ) (addr : ℕ) (rest whole : List ℕ) (given : Vec Symbolized Global) (result : Result Symbolized Error) (entry : Symbolized) (old mid now : Kept R) (before middle after : X) →
+    pub all_stop : (addrs : List ℕ) (addr : ℕ) (rest whole : List ℕ) (given : Vec Symbolized Global) (result : Result Symbolized Error) (entry : Symbolized) (old mid now : KeptToAnswer R) (before middle after : X) →
         addrs ++ (addr ∷ rest) ≡ whole →
         AsksFront files terms mappings addrs given old mid before middle → AsksAddress files terms mappings addr result mid now middle after →
         Keeps mid.answers now.answers → AddsAmong terms.test mappings (addr ∷ []) mid.answers now.answers →
@@ -464,7 +464,7 @@ module _ {R X : Type 0} (files : Ghosts X) (terms : Terms R) where
         }
 
     -- memory ran out before any address was asked
-    pub none_asked : (addrs : List ℕ) (kept : Kept R) (at : X) → AsksAll files terms mappings addrs (Err errors.OutOfMemory) kept kept at at
+    pub none_asked : (addrs : List ℕ) (kept : KeptToAnswer R) (at : X) → AsksAll files terms mappings addrs (Err errors.OutOfMemory) kept kept at at
     none_asked addrs kept at = record {
       front = [];
       rest = addrs;

@@ -20,7 +20,7 @@ use Rattle.bz_process.specs.Process.{at_address, at_addresses, gives, pid_cmp, u
 use Rattle.bz_process.specs.ProcessAsk.{AddsAmong, AsksAddress, AsksAll, next_of, readings}
 use Rattle.bz_process.specs.ProcessCall.{TakesStep, UnlessFailed}
 use Rattle.bz_process.specs.Caches.{ProcessCaches}
-use Rattle.bz_process.specs.Terms.{Kept, Terms}
+use Rattle.bz_process.specs.Terms.{KeptToAnswer, Terms}
 use Rattle.bz_process.specs.Untold.{SomeBatch}
 use Rattle.bz_process.proofs.AskLemmas.{unless}
 use Rattle.bz_process.proofs.ProcessLemmas.{in_order, opened_by, reaches_same, refused, stays, still, unlooked, wants_memory}
@@ -128,12 +128,12 @@ module _ {R X : Type 0} (files : Ghosts X) (terms : Terms R) (maps : List (Pid �
   own_maps = value_at pid_cmp maps terms.asked.pid
 
   -- its mappings were looked for
-  abbrev Finds : Result (List Mapping) Error → Kept R → X → X → Type 0
+  abbrev Finds : Result (List Mapping) Error → KeptToAnswer R → X → X → Type 0
   Finds result old before after = TakesStep files terms.asked.own (λ (k : List Mapping). k) (some_mappings terms.asked.pid own_maps) result old.caches old.caches before after
 
   module _ (addrs : List ℕ) where
     -- the mappings, and then the addresses
-    pub asks_mapped : (mappings : List Mapping) (result : Result (Vec Symbolized Global) Error) (old now : Kept R) (before middle after : X) →
+    pub asks_mapped : (mappings : List Mapping) (result : Result (Vec Symbolized Global) Error) (old now : KeptToAnswer R) (before middle after : X) →
         Finds (Ok mappings) old before middle → AreUsed terms.asked.pid own_maps mappings → AsksAll files terms mappings addrs result old now middle after →
         Keeps old.answers now.answers → AsksBatch files terms maps addrs result old now before after
     asks_mapped mappings result old now before middle after one used all keeps = record {
@@ -153,7 +153,7 @@ module _ {R X : Type 0} (files : Ghosts X) (terms : Terms R) (maps : List (Pid �
     }
 
     -- the mappings are refused
-    pub asks_unmapped : (e : Error) (old : Kept R) (before after : X) → Finds (Err e) old before after → LacksMappings own_maps e → AsksBatch files terms maps addrs (Err e) old old before after
+    pub asks_unmapped : (e : Error) (old : KeptToAnswer R) (before after : X) → Finds (Err e) old before after → LacksMappings own_maps e → AsksBatch files terms maps addrs (Err e) old old before after
     asks_unmapped e old before after one lacks = record {
       mappings = [];
       mapped = λ world seen. tt;
@@ -171,7 +171,7 @@ module _ {R X : Type 0} (files : Ghosts X) (terms : Terms R) (maps : List (Pid �
 
   module _ (addr : ℕ) where
     -- the mappings, and then the address
-    pub asks_mapped_at : (mappings : List Mapping) (result : Result Symbolized Error) (old now : Kept R) (before middle after : X) →
+    pub asks_mapped_at : (mappings : List Mapping) (result : Result Symbolized Error) (old now : KeptToAnswer R) (before middle after : X) →
         Finds (Ok mappings) old before middle → AreUsed terms.asked.pid own_maps mappings → AsksAddress files terms mappings addr result old now middle after →
         Keeps old.answers now.answers → AddsAmong terms.test mappings (addr ∷ []) old.answers now.answers → AsksSingle files terms maps addr result old now before after
     asks_mapped_at mappings result old now before middle after one used asks keeps adds = record {
@@ -189,7 +189,7 @@ module _ {R X : Type 0} (files : Ghosts X) (terms : Terms R) (maps : List (Pid �
     }
 
     -- the mappings are refused
-    pub asks_unmapped_at : (e : Error) (old : Kept R) (before after : X) → Finds (Err e) old before after → LacksMappings own_maps e → AsksSingle files terms maps addr (Err e) old old before after
+    pub asks_unmapped_at : (e : Error) (old : KeptToAnswer R) (before after : X) → Finds (Err e) old before after → LacksMappings own_maps e → AsksSingle files terms maps addr (Err e) old old before after
     asks_unmapped_at e old before after one lacks = record {
       mappings = [];
       mapped = λ world seen. unread _ e (one.told world seen).answer;

@@ -50,7 +50,7 @@ pins_perf_map path world kept = record {
   opens = count_of (will_open (with_pin false kept.perf_maps path) path (entry_at world path));
 }
 
--- where its perf map is asked for, the process is remembered, and the perf map is pinned at the path that is kept beside its id
+-- where its perf map is asked for, the process is remembered. The perf map is then pinned at the path kept beside the id
 abbrev pub caches_perf_map : Bool → Pid → ℕ → Step (Unit {0})
 caches_perf_map false pid own = gives tt
 caches_perf_map true pid own = and_then (remember pid own) (λ known. pins_perf_map known.perf_map)

@@ -64,8 +64,8 @@ pub record TakesWhole {A B X : Type 0} (files : Ghosts X) (own : ℕ) (reading :
   pub looked : Looked files before after (Faulted result)
 
 -- such a step of the perf maps and of what is remembered of processes, beside any ELF files
-abbrev pub KeepsWhole : {X : Type 0} → Ghosts X → ℕ → Step (Unit {0}) → Result (Unit {0}) Error → PerfMaps → PerfMaps → X → X → Type 0
-KeepsWhole files own expected result old now before after =
+abbrev pub StepsPerfMapsWhole : {X : Type 0} → Ghosts X → ℕ → Step (Unit {0}) → Result (Unit {0}) Error → PerfMaps → PerfMaps → X → X → Type 0
+StepsPerfMapsWhole files own expected result old now before after =
     (elf : Cache) → TakesWhole files own (λ (done : Unit {0}). done) expected result (caches elf old) (caches elf now) before after
 
 -- the mappings of this process alone may be others, and only where they are asked for
@@ -75,7 +75,7 @@ pub record MayKeep (asked : Caching) (old now : KeptMappings) : Type 0 where
   pub some : asked.vmas ≡ true → AreOfText asked.pid mappings
   pub kept : now ≡ cond asked.vmas (with_mappings asked.pid old mappings) old
 
--- the process is known, and is remembered; its perf map is pinned at the version of a look, or as it is held; nothing else has
+-- the process is known and is remembered. Its perf map is pinned at the version of a look, or as it is held. Nothing else has
 -- changed
 pub record PinsKnown (pid : Pid) (own : ℕ) (in_view : Option World) (old now : ProcessCaches) : Type 0 where
   pub known : Remembered
@@ -90,8 +90,8 @@ MayPin true pid own in_view old now = PinsKnown pid own in_view old now
 
 -- all that caching a process promises
 pub record CachesProcess {D R X : Type 0} (files : Ghosts X) (asked : Caching) (result : Result (Unit {0}) Error) (old now : KeptProcesses D R) (before after : X) : Type 0 where
-  -- beside any ELF files: where it is told what lies at each path, it is answered or refused by that, and an answer leaves these
-  -- perf maps and ids; whatever is told, looks, ids and pins lead to them; and the files are only looked at
+  -- beside any ELF files: where it is told what lies at each path, that answers or refuses. An answer leaves these perf maps and ids.
+  -- Whatever is told, looks, ids and pins lead to them. The files are only looked at
   pub step : (elf : Cache) → TakesWhole files asked.own (λ (done : Unit {0}). done) (caches_process asked) result (caches_of elf old) (caches_of elf now) before after
   -- an answer leaves these mappings
   pub mappings : Told (in_view (files.worlds before)) (λ world. OnOk result (now.mappings ≡ mappings_after asked world old.mappings))

@@ -21,7 +21,7 @@ use Rattle.bz_process.specs.ProcessAsk.{AddsAmong, IsSaidAt, SaidInTurn, come_to
 use Rattle.bz_process.specs.ProcessCall.{TakesStep, UnlessFailed}
 use Rattle.bz_process.specs.Asked.{Asked}
 use Rattle.bz_process.specs.Caches.{ProcessCaches}
-use Rattle.bz_process.specs.Terms.{Kept, Terms}
+use Rattle.bz_process.specs.Terms.{KeptToAnswer, Terms}
 use Rattle.bz_process.specs.Untold.{SaysNoFault, SomeAtAddress, SomeBatch, as_read}
 
 -- what a text at a path tells
@@ -80,7 +80,8 @@ UsesMappings Follows pid kept mappings result old now answers answers_now = (Are
 abbrev pub asks_process : Asked → Option (List Mapping) → List (ℕ × Said) → Step (List Answer)
 asks_process asked kept items = and_then (some_mappings asked.pid kept) (λ mappings. at_addresses asked mappings items)
 
--- a process was asked: by these mappings, of a front of the addresses something allowed was said, of all where the call is answered
+-- a process was asked by these mappings: something allowed was said for a front of the addresses, and for all where the call is
+-- answered
 pub record AsksProcess {A R X : Type 0} (files : Ghosts X) (reading : A → List Answer) (test : Test R) (translates : Translates R) (finds : Finds R) (opts : FindSymOpts)
     (asked : Asked) (kept : Option (List Mapping)) (addrs : List ℕ) (result : Result A Error) (old now : ProcessCaches) (answers answers_now : Answers R) (before after : X) : Type 0 where
   pub mappings : List Mapping
@@ -92,8 +93,8 @@ pub record AsksProcess {A R X : Type 0} (files : Ghosts X) (reading : A → List
   pub addrs_are : map (λ item. item.0) front ++ rest ≡ addrs
   pub all : OnOk result (rest ≡ [])
   pub allowed : SaidInTurn test translates finds opts mappings front answers answers_now
-  -- whatever is told, the mappings are the kept ones, or else those of some text, and each answer is by some version that a look
-  -- gave, or refused as a look is; a failure ends the batch, and no address after it is asked
+  -- whatever is told, the mappings are the kept ones, or else those of some text. Each answer is by some version that a look gave,
+  -- or refused as a look is. A failure ends the batch, and no address after it is asked
   pub used : UsesMappings (SomeBatch (in_view (files.worlds before)) reading asked mappings front rest result old now) asked.pid kept mappings result old now answers answers_now
   -- kept answers stay, and others are added for owners of the addresses alone that were come to
   pub keeps : Keeps answers answers_now
@@ -114,8 +115,8 @@ pub record AsksProcessAt {A R X : Type 0} (files : Ghosts X) (reading : A → An
   pub said : Said
   pub allowed : UnlessFailed result (IsSaidAt test translates finds opts mappings addr answers answers_now said)
   pub faultless : SaysNoFault said
-  -- whatever is told, the mappings are the kept ones, or else those of some text, and the answer is by some version that a look
-  -- gave, or refused as a look is
+  -- whatever is told, the mappings are the kept ones, or else those of some text. The answer is by some version that a look gave,
+  -- or refused as a look is
   pub used : UsesMappings (SomeAtAddress asked (as_read reading result) old now mappings (addr, said)) asked.pid kept mappings result old now answers answers_now
   pub keeps : Keeps answers answers_now
   pub adds : AddsAmong test mappings (addr ∷ []) answers answers_now
@@ -124,13 +125,13 @@ pub record AsksProcessAt {A R X : Type 0} (files : Ghosts X) (reading : A → An
 -- a call under these terms, where these mappings are kept of processes
 module _ {R X : Type 0} (files : Ghosts X) (terms : Terms R) (mappings : List (Pid × List Mapping)) where
   -- its process was asked for a batch of addresses
-  abbrev pub AsksBatch : List ℕ → Result (Vec Symbolized) Error → Kept R → Kept R → X → X → Type 0
+  abbrev pub AsksBatch : List ℕ → Result (Vec Symbolized) Error → KeptToAnswer R → KeptToAnswer R → X → X → Type 0
   AsksBatch addrs result old now before after =
       AsksProcess files readings terms.test terms.translates terms.finds terms.opts terms.asked (value_at pid_cmp mappings terms.asked.pid) addrs result
       old.caches now.caches old.answers now.answers before after
 
   -- for an address alone
-  abbrev pub AsksSingle : ℕ → Result Symbolized Error → Kept R → Kept R → X → X → Type 0
+  abbrev pub AsksSingle : ℕ → Result Symbolized Error → KeptToAnswer R → KeptToAnswer R → X → X → Type 0
   AsksSingle addr result old now before after =
       AsksProcessAt files reading terms.test terms.translates terms.finds terms.opts terms.asked (value_at pid_cmp mappings terms.asked.pid) addr result
       old.caches now.caches old.answers now.answers before after

@@ -83,7 +83,7 @@ of_perf_map asked path world kept = record {
 abbrev pub offset_in : Mapping → ℕ → Option ℕ
 offset_in mapping addr = fitting (addr - mapping.start + mapping.offset)
 
--- what an ELF file says of an address as its symbol table has it, if there is one; the module is the path that names it
+-- what an ELF file says of an address as its symbol table has it, if there is one. The module is the path that names the file
 abbrev pub elf_by_table : List ℕ → List ℕ → Option ℕ → Answer
 elf_by_table «module» bytes None = Unknown reasons.InvalidFileOffset
 elf_by_table «module» bytes (Some addr) = resolution.answer_at addr (elf_plain.plain (Some «module») bytes addr)
@@ -150,8 +150,8 @@ by_owner asked addr said (Some mapping) = by_mapping asked mapping addr said map
 abbrev pub at_address : Asked → List Mapping → ℕ × Said → Step Answer
 at_address asked mappings item = by_owner asked item.0 item.1 (owner_of mappings item.0)
 
--- what addresses give one after another, each by what those before it left: their answers, where a refused address is an ignored
--- error, what is left, and how many files are read at most
+-- what addresses give one after another, each by what those before it left. A refused address is an ignored error among the
+-- answers; so many files are read at most
 pub record Batched : Type 0 where
   pub answers : List Answer
   pub left : ProcessCaches

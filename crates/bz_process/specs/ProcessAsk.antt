@@ -18,7 +18,7 @@ use Rattle.bz_process.specs.Member.{Member, as_member}
 use Rattle.bz_process.specs.Process.{Said, Step, at_address, at_addresses, by_mapping, unsaid}
 use Rattle.bz_process.specs.ProcessCall.{TakesStep, UnlessFailed}
 use Rattle.bz_process.specs.Caches.{ProcessCaches}
-use Rattle.bz_process.specs.Terms.{Kept, Terms}
+use Rattle.bz_process.specs.Terms.{KeptToAnswer, Terms}
 use Rattle.bz_process.specs.Untold.{SaysNoFault, SomeAtAddress, SomeAtAddresses, SomeBatch, SomeByMapping, as_read}
 
 -- something allowed was said, and the step is the one that is expected then; after a failure nothing needs to have been said.
@@ -86,28 +86,28 @@ abbrev pub readings : Vec Symbolized → List Answer
 readings answers = map reading answers.items
 
 module _ {R X : Type 0} (files : Ghosts X) (terms : Terms R) where
-  -- an address of this mapping was asked, which is of what has this name, or of nothing
-  abbrev pub AsksNamed : Mapping → Option Name → ℕ → Result Symbolized Error → Kept R → Kept R → X → X → Type 0
+  -- an address of a mapping was asked, where this name is given to what the mapping is of, or none is
+  abbrev pub AsksNamed : Mapping → Option Name → ℕ → Result Symbolized Error → KeptToAnswer R → KeptToAnswer R → X → X → Type 0
   AsksNamed mapping name addr result old now before after =
       AsksOne files terms.asked.own reading
       (IsSaidIn terms.test terms.translates terms.finds terms.opts mapping name addr old.answers now.answers)
       (λ said. SomeByMapping terms.asked (as_read reading result) old.caches now.caches mapping addr said name)
       (λ said. by_mapping terms.asked mapping addr said name) result old.caches now.caches before after
 
-  abbrev pub AsksMapping : Mapping → ℕ → Result Symbolized Error → Kept R → Kept R → X → X → Type 0
+  abbrev pub AsksMapping : Mapping → ℕ → Result Symbolized Error → KeptToAnswer R → KeptToAnswer R → X → X → Type 0
   AsksMapping mapping addr result old now before after = AsksNamed mapping mapping.name addr result old now before after
 
   -- an address was asked, by the mappings of its process
-  abbrev pub AsksAddress : List Mapping → ℕ → Result Symbolized Error → Kept R → Kept R → X → X → Type 0
+  abbrev pub AsksAddress : List Mapping → ℕ → Result Symbolized Error → KeptToAnswer R → KeptToAnswer R → X → X → Type 0
   AsksAddress mappings addr result old now before after =
       AsksOne files terms.asked.own reading
       (IsSaidAt terms.test terms.translates terms.finds terms.opts mappings addr old.answers now.answers)
       (λ said. SomeAtAddress terms.asked (as_read reading result) old.caches now.caches mappings (addr, said))
       (λ said. at_address terms.asked mappings (addr, said)) result old.caches now.caches before after
 
-  -- addresses were asked one after another: of a front of them something allowed was said, of all where the call is answered; and
-  -- the step is that of the addresses that were come to, where no resolver is in charge of the next one
-  pub record AsksAll (mappings : List Mapping) (addrs : List ℕ) (result : Result (Vec Symbolized) Error) (old now : Kept R) (before after : X) : Type 0 where
+  -- addresses were asked one after another: something allowed was said for a front of them, and for all where the call is answered.
+  -- The step is that of the front and of the next address, as where no resolver is in charge of that one
+  pub record AsksAll (mappings : List Mapping) (addrs : List ℕ) (result : Result (Vec Symbolized) Error) (old now : KeptToAnswer R) (before after : X) : Type 0 where
     pub front : List (ℕ × Said)
     pub rest : List ℕ
     pub addrs_are : map (λ item. item.0) front ++ rest ≡ addrs
@@ -119,7 +119,7 @@ module _ {R X : Type 0} (files : Ghosts X) (terms : Terms R) where
     pub step : TakesStep files terms.asked.own readings (at_addresses terms.asked mappings (front ++ map unsaid (next_of rest))) result old.caches now.caches before after
 
   -- these addresses were asked and answered, and something allowed was said for each
-  pub record AsksFront (mappings : List Mapping) (addrs : List ℕ) (given : Vec Symbolized) (old now : Kept R) (before after : X) : Type 0 where
+  pub record AsksFront (mappings : List Mapping) (addrs : List ℕ) (given : Vec Symbolized) (old now : KeptToAnswer R) (before after : X) : Type 0 where
     pub front : List (ℕ × Said)
     pub addrs_are : map (λ item. item.0) front ≡ addrs
     pub allowed : SaidInTurn terms.test terms.translates terms.finds terms.opts mappings front old.answers now.answers

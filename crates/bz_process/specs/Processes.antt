@@ -1,7 +1,8 @@
 -- What is kept to answer for processes, beside the ELF files, and what a call on a process promises.
 use Rattle.std.specs.Prelude.{◌≡◌, ℕ, Bool, true, false, List, [], map, Option, Result, IsErrOf, refl}
+use Rattle.std.specs.Global.{Vec}
 use Rattle.std.specs.Coded.{Coded, code_by, coded×, coded_list, coded_option}
-use Rattle.bz_base.specs.Answer.{Answer}
+use Rattle.bz_base.specs.Answer.{Answer, reading}
 use Rattle.bz_base.specs.InputKind.{AddressKind, InProcess, InTable, InFile}
 use Rattle.bz_base.specs.contracts.pid.Pid as pids
 use Rattle.bz_base.specs.declared.error.Error.{Error}
@@ -10,6 +11,7 @@ use Rattle.bz_base.specs.declared.pid.Pid.{Pid}
 use Rattle.bz_base.specs.declared.resolve.Symbolize.{Ghosts as Finds}
 use Rattle.bz_base.specs.declared.resolve.TranslateFileOffset.{Ghosts as Translates}
 use Rattle.bz_base.specs.declared.types.FindSymOpts.{FindSymOpts}
+use Rattle.bz_base.specs.declared.types.Symbolized.{Symbolized}
 use Rattle.bz_files.specs.declared.files.Files.{Ghosts}
 use Rattle.bz_cache.specs.Cache.{Cache, Consistent, coded_cache, new_cache}
 use Rattle.bz_cache.specs.InsertMap.{value_at}
@@ -22,9 +24,10 @@ use Rattle.bz_process.specs.Caches.{ProcessCaches}
 use Rattle.bz_process.specs.Dispatch.{Answers, Test}
 use Rattle.bz_process.specs.Mapped.{AsksProcess, AsksProcessAt, asks_process, asks_process_at}
 use Rattle.bz_process.specs.Process.{pid_cmp, unsaid}
-use Rattle.bz_process.specs.ProcessAsk.{AreAllowed, GivesNone}
+use Rattle.bz_process.specs.ProcessAsk.{AreAllowed, GivesNone, readings}
 use Rattle.bz_process.specs.ProcessCall.{TakesStep}
 use Rattle.bz_process.specs.Remembered.{Remembered, coded_remembered}
+use Rattle.bz_process.specs.Terms.{Terms}
 use Rattle.bz_process.specs.contracts.mapped.Mapped as mappeds
 
 -- the perf maps, what is remembered of each process, the mappings that are kept, the dispatcher, and those of its answers that
@@ -95,3 +98,15 @@ pub record SymbolizesAddress {A D R X : Type 0} (files : Ghosts X) (reading : A 
   -- nothing else changes
   pub mappings : now.mappings ≡ old.mappings
   pub dispatcher : now.dispatcher ≡ old.dispatcher
+
+-- a call on a process under these terms
+module _ {D R X : Type 0} (files : Ghosts X) (terms : Terms R) where
+  -- all that a batch promises, read as plain data
+  abbrev pub PromisesBatch : AddressKind → List ℕ → Result (Vec Symbolized) Error → Cache → Cache → KeptProcesses D R → KeptProcesses D R → X → X → Type 0
+  PromisesBatch kind addrs result elf elf_now old now before after =
+      SymbolizesProcess files readings terms.test terms.translates terms.finds terms.opts terms.asked kind addrs result elf elf_now old now before after
+
+  -- all that a single address promises, read as plain data
+  abbrev pub PromisesSingle : AddressKind → ℕ → Result Symbolized Error → Cache → Cache → KeptProcesses D R → KeptProcesses D R → X → X → Type 0
+  PromisesSingle kind addr result elf elf_now old now before after =
+      SymbolizesAddress files reading terms.test terms.translates terms.finds terms.opts terms.asked kind addr result elf elf_now old now before after

@@ -1,4 +1,4 @@
--- What a call on a process leaves of what is kept, whatever it answers: versions that cohere, and each path and each process as it
+-- What a call on a process leaves of what is kept, whatever it answers. Versions cohere, and each path and each process is as it
 -- was, or as what lies there tells.
 use Rattle.std.specs.Prelude.{◌≡◌, ◌⊎◌, ℕ, List, Option, Some, None, Ok}
 use Rattle.std.specs.FinMap as map

@@ -21,8 +21,7 @@ abbrev pub unkept : World → Cache → List (List ℕ) → ℕ
 unkept world cache [] = 0
 unkept world cache (path ∷ later) = count_of (is_new cache (entry_at world path)) + unkept world cache later
 
--- the files that may have to be read: those of these paths whose present stamp isn't kept, and the status of a process of which
--- nothing is remembered
+-- how many files may have to be read: those at these paths whose present stamp isn't kept, and the status of an unknown process
 abbrev pub left_to_read : Pid → World → List (List ℕ) → List (List ℕ) → ProcessCaches → ℕ
 left_to_read pid world elf_paths perf_paths kept =
     unkept world kept.elf elf_paths + (unkept world kept.perf_maps perf_paths + count_of (not (is_some (value_at pid_cmp kept.ids pid))))
@@ -32,8 +31,7 @@ abbrev pub perf_path : Result Remembered Error → List (List ℕ)
 perf_path (Ok known) = known.perf_map ∷ []
 perf_path (Err e) = []
 
--- the files that a call may read once, where the files that are mapped lie at these paths: the text of the mappings where none are
--- kept, and those that are left to read
+-- how many files a call may read once: those left to read, mapped files being at these paths, and the mappings' text if it is read
 abbrev pub reads_once : Asked → World → List (List ℕ) → Option (List Mapping) → ProcessCaches → ℕ
 reads_once asked world paths known kept =
     count_of (not (is_some known)) + left_to_read asked.pid world paths (perf_path (remember asked.pid asked.own world kept).answer) kept
@@ -48,8 +46,8 @@ abbrev pub ignored : List Answer → ℕ
 ignored [] = 0
 ignored (answer ∷ later) = count_of (is_ignored answer) + ignored later
 
--- a file that was read and refused for its bytes may be read again: once for each address that is refused, or, where the call isn't
--- answered, for each address
+-- a file that was read and refused for its bytes may be read again, once for each address that is refused. Where the call isn't
+-- answered, it may be for each address
 abbrev pub reads_again : {A : Type 0} → (A → List Answer) → List ℕ → Result A Error → ℕ
 reads_again reading addrs (Ok given) = ignored (reading given)
 reads_again reading addrs (Err e) = length addrs

@@ -24,21 +24,21 @@ pub record Terms (R : Type 0) : Type 1 where
   pub asked : Asked
 
 -- what is kept to answer for processes: files, what is remembered of processes, and the answers of the dispatcher
-pub record Kept (R : Type 0) : Type 0 where
+pub record KeptToAnswer (R : Type 0) : Type 0 where
   pub caches : ProcessCaches
   pub answers : Answers R
 
 module _ {D R : Type 0} where
-  -- a question of the own process with this id, under a dispatcher and resolvers that may say so
+  -- a process is asked so, under a dispatcher and resolvers that may say what these tests allow
+  abbrev pub terms_by : Dispatches D R → Translates R → Finds R → D → FindSymOpts → Asked → Terms R
+  terms_by dispatches translates finds dispatcher opts asked =
+      record { test = dispatches.may_dispatch dispatcher; translates = translates; finds = finds; opts = opts; asked = asked }
+
+  -- a question of the own process with this id, under what is kept of a dispatcher
   abbrev pub terms_of : Dispatches D R → Translates R → Finds R → Answering D R → Question → ℕ → Terms R
-  terms_of dispatches translates finds answering question own = record {
-    test = dispatches.may_dispatch answering.dispatching.dispatch;
-    translates = translates;
-    finds = finds;
-    opts = question.opts.now;
-    asked = asked_of own question.query.now;
-  }
+  terms_of dispatches translates finds answering question own =
+      terms_by dispatches translates finds answering.dispatching.dispatch question.opts.now (asked_of own question.query.now)
 
   -- the ELF files beside what else answers
-  abbrev pub kept_by : Cache → Answering D R → Kept R
+  abbrev pub kept_by : Cache → Answering D R → KeptToAnswer R
   kept_by elf answering = record { caches = caches elf answering.perf_maps; answers = answering.dispatching.answers }

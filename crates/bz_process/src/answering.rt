@@ -112,8 +112,8 @@ impl<D: ProcessDispatch + Drop> Answering<D> {
         }
     }
 
-    // The answer to an address of a mapping: by the resolver that is in charge of its name, or else by the
-    // mapped file itself; without a name by the perf map.
+    // The answer to an address of a mapping. The resolver that is in charge of its name answers, or else the
+    // mapped file itself; without a name the perf map does.
     fn in_mapping<F: Files>(
         &mut self,
         elf: &mut FileCache<ElfFile>,

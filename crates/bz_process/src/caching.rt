@@ -12,7 +12,7 @@ ghost use Rattle.bz_proc.specs.MapsFile.{AreOfText, maps_path, maps_told};
 ghost use Rattle.bz_proc.specs.SystemText.{IsReadRefusal};
 ghost use Rattle.bz_process.specs.Caches.{ProcessCaches, caches};
 ghost use Rattle.bz_process.specs.Caching.{after_mappings, caches_perf_map, caches_process, caching_of, is_gone, mappings_after, perf_map_pinning, pins_perf_map, with_former, with_mappings, with_told};
-ghost use Rattle.bz_process.specs.CachingCall.{KeepsWhole, MayKeep, MayPin, PinsKnown, TakesWhole};
+ghost use Rattle.bz_process.specs.CachingCall.{MayKeep, MayPin, PinsKnown, StepsPerfMapsWhole, TakesWhole};
 ghost use Rattle.bz_process.specs.Process.{and_then, pid_cmp, remember};
 
 use crate::mapped::{Mapped, read_mapped};
@@ -43,7 +43,7 @@ pub(crate) fn cache_process<F: Files>(
     files: &mut F,
     request: &ProcessCaching,
 ) -> Result<()>
-    ensures step { KeepsWhole F.Files (F.pid files.old) (caches_process (caching_of (F.pid files.old) request.now)) result perf_maps.old perf_maps.new files.old files.new }
+    ensures step { StepsPerfMapsWhole F.Files (F.pid files.old) (caches_process (caching_of (F.pid files.old) request.now)) result perf_maps.old perf_maps.new files.old files.new }
     ensures mappings { Told (in_view (F.worlds files.old)) (λ world. OnOk result (mappings.new ≡ mappings_after (caching_of (F.pid files.old) request.now) world mappings.old)) }
     ensures some { OnOk result (MayKeep (caching_of (F.pid files.old) request.now) mappings.old mappings.new) }
     ensures pinned { (elf : Cache) → OnOk result (MayPin request.now.cache_perf_map request.now.pid (F.pid files.old) (in_view (F.worlds files.old)) (caches elf perf_maps.old) (caches elf perf_maps.new)) }
@@ -66,7 +66,7 @@ fn cache_mapped<F: Files>(
     files: &mut F,
     request: &ProcessCaching,
 ) -> Result<()>
-    ensures step { KeepsWhole F.Files (F.pid files.old) (after_mappings true request.now.pid (caches_perf_map request.now.cache_perf_map request.now.pid (F.pid files.old))) result perf_maps.old perf_maps.new files.old files.new }
+    ensures step { StepsPerfMapsWhole F.Files (F.pid files.old) (after_mappings true request.now.pid (caches_perf_map request.now.cache_perf_map request.now.pid (F.pid files.old))) result perf_maps.old perf_maps.new files.old files.new }
     ensures mappings { Told (in_view (F.worlds files.old)) (λ world. OnOk result (mappings.new ≡ with_told request.now.pid mappings.old (maps_told request.now.pid (entry_at world (maps_path request.now.pid))))) }
     ensures some { OnOk result ((told : List Mapping) × AreOfText request.now.pid told × (mappings.new ≡ with_mappings request.now.pid mappings.old told)) }
     ensures pinned { (elf : Cache) → OnOk result (MayPin request.now.cache_perf_map request.now.pid (F.pid files.old) (in_view (F.worlds files.old)) (caches elf perf_maps.old) (caches elf perf_maps.new)) }
@@ -128,7 +128,7 @@ impl PerfMaps {
         files: &mut F,
         request: &ProcessCaching,
     ) -> Result<()>
-        ensures step { KeepsWhole F.Files (F.pid files.old) (caches_perf_map request.now.cache_perf_map request.now.pid (F.pid files.old)) result self.old self.new files.old files.new }
+        ensures step { StepsPerfMapsWhole F.Files (F.pid files.old) (caches_perf_map request.now.cache_perf_map request.now.pid (F.pid files.old)) result self.old self.new files.old files.new }
         ensures pinned { (elf : Cache) → OnOk result (MayPin request.now.cache_perf_map request.now.pid (F.pid files.old) (in_view (F.worlds files.old)) (caches elf self.old) (caches elf self.new)) }
         ensures refusal { IfErr result IsReadRefusal }
         ensures sure { request.now.cache_perf_map ≡ false → IsOk result }
@@ -142,7 +142,7 @@ impl PerfMaps {
 
     // Remembers a process and pins its perf map.
     fn pin<F: Files>(&mut self, alloc: Global, files: &mut F, pid: Pid) -> Result<()>
-        ensures step { KeepsWhole F.Files (F.pid files.old) (and_then (remember pid (F.pid files.old)) (λ known. pins_perf_map known.perf_map)) result self.old self.new files.old files.new }
+        ensures step { StepsPerfMapsWhole F.Files (F.pid files.old) (and_then (remember pid (F.pid files.old)) (λ known. pins_perf_map known.perf_map)) result self.old self.new files.old files.new }
         ensures pinned { (elf : Cache) → OnOk result (PinsKnown pid (F.pid files.old) (in_view (F.worlds files.old)) (caches elf self.old) (caches elf self.new)) }
         ensures refusal { IfErr result IsReadRefusal }
     {

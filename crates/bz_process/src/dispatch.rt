@@ -31,7 +31,7 @@ pub trait ProcessDispatch {
 
     /// The resolver for a member; none where the mapped file itself is to answer. It is asked once for
     /// each name of what is mapped. What it gave, a resolver or none, is kept for all mappings with an
-    /// equal name, in each process and whatever their addresses; a refusal isn't kept. It refuses a member by
+    /// equal name, in each process and whatever their addresses. A refusal isn't kept. It refuses a member by
     /// Unsupported, NotFound, PermissionDenied, InvalidInput, InvalidData or UnexpectedEof alone, or by
     /// OutOfMemory.
     fn dispatch(&self, alloc: Global, info: ProcessMemberInfo<'_>) -> Result<Option<Self::Resolver>>

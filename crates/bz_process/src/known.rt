@@ -37,7 +37,7 @@ impl Known {
         Ok(Known { id, perf_map })
     }
 
-    /// The same once more.
+    /// A further handle to the same.
     pub(crate) fn share(&self) -> Result<Known>
         ensures known { IfOk result (λ known. known ≡ self.now) }
         ensures memory { IsOkUnless result Error.OutOfMemory }

@@ -21,8 +21,8 @@ ghost use Rattle.bz_process.specs.declared.dispatch.ProcessMemberInfo.{ProcessMe
 use crate::dispatch::{ProcessDispatch, ProcessMemberInfo};
 use bz_files::Files;
 
-/// Whatever a call on a process answers, looks and remembered ids lead from what was kept of files and
-/// processes to what is kept; where the world is told, they are those that it tells.
+/// Whatever a call on a process answers, looks and remembered ids lead from what was kept to what is kept.
+/// Where the world is told, they are those that it tells.
 pub fn calls_are_looks<D: ProcessDispatch + Drop, F: Files, A>()
     ensures batch { (call : BatchCalled A F.Files D.may_dispatch D.Resolver.TranslateFileOffset D.Resolver.Symbolize) →
         SymbolizesBatch call → Reaches call.asked.own (view_before call) (caches_before call) (caches_after call) }
@@ -39,18 +39,17 @@ pub fn looks_stay_coherent()
         Agree worlds → Contains worlds world → Reaches own (Some world) old now → CohereWithAll old worlds → CohereWithAll now worlds }
 {}
 
-/// Each path is as it was or as after its look, each version that is kept anew lies at some path, and
-/// what is remembered of each process is what it was or what its present status tells. So it is after
-/// a call on a process, whatever it answers.
+/// After a call on a process, whatever it answers, each path is as it was or as after its look. Each
+/// version that is kept anew lies at some path. What is remembered of each process is what it was or what
+/// its present status tells.
 pub fn paths_are_as_looked()
     ensures { (own : ℕ) (world : World) (old now : ProcessCaches) → Reaches own (Some world) old now → AreLookedOver own world old now }
 {}
 
-/// With a dispatcher that gives no resolver and refuses nothing, where versions cohere with the world in
-/// view, every entry of a batch is answered by what is in view when the call begins, at its address alone,
-/// where a refusal is an ignored error; and so is an address that is asked alone. So entries stand alone,
-/// addresses in another order have their answers in that order, and an entry is the answer of the single
-/// call or folds its refusal.
+/// Take a dispatcher that gives no resolver and refuses nothing, and versions that cohere with the world in
+/// view. What is in view when the call begins then answers each address alone, in a batch and by itself.
+/// In a batch a refusal is an ignored error. So entries stand alone, and addresses in another order have
+/// their answers in that order. An entry is the answer of the single call or folds its refusal.
 pub fn entries_are_in_view<D: ProcessDispatch + Drop, F: Files, A>()
     ensures batch { (call : BatchCalled A F.Files D.may_dispatch D.Resolver.TranslateFileOffset D.Resolver.Symbolize) (world : World) →
         SymbolizesBatch call → GoesByView world call → IfOk call.result (λ answers. call.reading answers ≡ map (entry_in_view world call) call.input) }
@@ -60,10 +59,10 @@ pub fn entries_are_in_view<D: ProcessDispatch + Drop, F: Files, A>()
         CoheresIn world kept → (asks_process_at asked known (unsaid addr) world kept).answer ≡ process_in_view asked world kept known addr }
 {}
 
-/// Where the world is told, a call on a process reads no more files than were left to read: the text of
-/// the mappings where none are kept, the status of a process of which nothing is remembered, and each
-/// mapped file and perf map whose present stamp isn't kept, once; and in a batch one for each address that
-/// is refused. The paths are any that have those of the mapped files.
+/// Where the world is told, a call on a process reads no more files than were left to read, each once.
+/// These are the text of the mappings where none are kept, and the status of a process that isn't
+/// remembered. With them go each mapped file and perf map whose present stamp isn't kept. A batch may
+/// read one more for each address that is refused. The paths are any that have those of the mapped files.
 pub fn reads_are_few<D: ProcessDispatch + Drop, F: Files, A>()
     ensures batch { (call : BatchCalled A F.Files D.may_dispatch D.Resolver.TranslateFileOffset D.Resolver.Symbolize) (world : World) (paths : List (List ℕ)) →
         SymbolizesBatch call → view_before call ≡ Some world → CoverAddresses world paths call call.input →

@@ -1,5 +1,5 @@
-//! What the addresses of a process answer: by its mappings, the files that they name, the perf map of what
-//! was compiled at run time, and a dispatcher for what only the caller knows.
+//! What is answered for addresses of a process: by its mappings, the files that they name, and its perf map.
+//! A dispatcher answers for what only the caller knows.
 #![tactic(auto)]
 
 mod answering;

@@ -38,7 +38,7 @@ impl Model for Mapped {
 }
 
 impl Mapped {
-    /// The same once more.
+    /// A further handle to the same mappings.
     pub(crate) fn share(&self) -> Result<Mapped>
         ensures mapped { IfOk result (λ mapped. mapped ≡ self.now) }
         ensures memory { IsOkUnless result Error.OutOfMemory }
@@ -47,7 +47,7 @@ impl Mapped {
         Ok(Mapped { mappings })
     }
 
-    // The same, if there are any.
+    // These mappings, if there are any.
     fn if_some(self) -> Result<Mapped>
         ensures { result ≡ if_some self }
     {

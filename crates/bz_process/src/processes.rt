@@ -1,10 +1,10 @@
 //! All that is kept to answer for processes, beside the ELF files.
 
-ghost use Rattle.std.specs.Prelude.{◌≡◌, map};
-ghost use Rattle.bz_base.specs.Answer.{reading};
+ghost use Rattle.std.specs.Prelude.{◌≡◌};
 ghost use Rattle.bz_base.specs.InputKind.{address_kind, payload};
 ghost use Rattle.bz_process.specs.Asked.{asked_of};
-ghost use Rattle.bz_process.specs.Processes.{SymbolizesAddress, SymbolizesProcess, new_processes};
+ghost use Rattle.bz_process.specs.Processes.{PromisesBatch, PromisesSingle, new_processes};
+ghost use Rattle.bz_process.specs.Terms.{terms_by};
 
 use crate::answering::Answering;
 use crate::dispatch::ProcessDispatch;
@@ -76,7 +76,7 @@ impl<D: ProcessDispatch + Drop> Processes<D> {
         opts: &FindSymOpts,
         input: Input<&[Addr]>,
     ) -> Result<Vec<Symbolized<'static>>>
-        ensures { SymbolizesProcess F.Files (λ answers. map reading answers.items) (D.may_dispatch self.old.dispatcher) D.Resolver.TranslateFileOffset D.Resolver.Symbolize opts.now (asked_of (F.pid files.old) query.now) (address_kind input.entry) (payload input.entry).now result elf.old elf.new self.old self.new files.old files.new }
+        ensures { PromisesBatch F.Files (terms_by D.ProcessDispatch D.Resolver.TranslateFileOffset D.Resolver.Symbolize self.old.dispatcher opts.now (asked_of (F.pid files.old) query.now)) (address_kind input.entry) (payload input.entry).now result elf.old elf.new self.old self.new files.old files.new }
     {
         match input {
             Input::AbsAddr(addrs) => {
@@ -99,7 +99,7 @@ impl<D: ProcessDispatch + Drop> Processes<D> {
         opts: &FindSymOpts,
         input: Input<Addr>,
     ) -> Result<Symbolized<'static>>
-        ensures { SymbolizesAddress F.Files reading (D.may_dispatch self.old.dispatcher) D.Resolver.TranslateFileOffset D.Resolver.Symbolize opts.now (asked_of (F.pid files.old) query.now) (address_kind input) (payload input) result elf.old elf.new self.old self.new files.old files.new }
+        ensures { PromisesSingle F.Files (terms_by D.ProcessDispatch D.Resolver.TranslateFileOffset D.Resolver.Symbolize self.old.dispatcher opts.now (asked_of (F.pid files.old) query.now)) (address_kind input) (payload input) result elf.old elf.new self.old self.new files.old files.new }
     {
         match input {
             Input::AbsAddr(addr) => {

@@ -9,8 +9,8 @@ pub struct ProcessQuery {
     pub pid: Pid,
     /// Whether its perf map answers for addresses of mappings without a name.
     pub perf_map: bool,
-    /// Whether mapped files are looked at by the paths that stand for their mappings, which only a
-    /// privileged caller may read, and not by their own, at which another file may lie by now.
+    /// Whether mapped files are looked at by the paths that stand for their mappings. Only a privileged
+    /// caller may read these, but at a file's own path another file may lie by now.
     pub map_files: bool,
 }
 
