@@ -34,7 +34,7 @@ MayWantMemory (ElfVersion path bytes kind) opts = ⊥
 abbrev pub entry_by : Version → FindSymOpts → ℕ → Answer
 entry_by version opts addr = in_batch (single_by version opts addr)
 
--- whether addresses in their order are answered faster by a version; of a Breakpad file, what lies far is read together for some of them
+-- whether a version answers addresses faster in their order. A Breakpad file reads together what some of them need, in any order
 abbrev pub heeds_order : Version → Bool
 heeds_order (BreakpadVersion _) = false
 heeds_order (GsymVersion _) = true

@@ -45,8 +45,8 @@ gsym_batch opts bytes addrs = map (λ addr. in_batch (gsym_single opts bytes add
 abbrev pub gsym_answering : Answering
 gsym_answering = record { takes = is_in_table; serves = is_in_table; single = λ opts path bytes kind addr. gsym_single opts bytes addr }
 
--- an ELF source looks at its file first, whatever the kind of address; then it answers addresses as the symbol table has them,
--- and offsets in the file
+-- an ELF source looks at its file first, whatever the kind of address. Then it answers addresses as the symbol table has them, and
+-- offsets in the file
 abbrev pub is_in_elf : AddressKind → Bool
 is_in_elf InTable = true
 is_in_elf InFile = true

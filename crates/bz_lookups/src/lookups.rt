@@ -18,9 +18,9 @@ use std::marker::Model;
 use std::sync::ledger::Ledger;
 
 /// Addresses whose source was looked at, and which were searched for in it. Their answers are made one
-/// by one or some at a time, without a search, and lend their texts from
-/// the version that the look gave, which stays as long as this does, whatever becomes of the file and
-/// of the symbolizer. Contracts see the addresses, the version, and its answers.
+/// by one or some at a time, without a search. They lend their texts from the version that the look gave.
+/// It stays as long as this does, whatever becomes of the file and of the symbolizer. Contracts see the
+/// addresses, the version, and its answers.
 #[derive(Drop)]
 pub struct Lookups<'d> {
     held: Held<'d>,
