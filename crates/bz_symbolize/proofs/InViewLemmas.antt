@@ -53,8 +53,8 @@ module _ (test : List ℕ → Option Error) (cache : Cache) (world : World) (pat
     pub pinned_in_view : (pinning test cache path (entry_at world path)).0 ≡ unpinned_in_view test cache world path
     pinned_in_view = pinned_answer (look test (with_pin false cache path) path (entry_at world path)) ∙ by_fix (fixed (with_pin false cache path) path)
 
--- Where each kept version is in the format, a path is pinned where that is answered in view, also where the kept version isn't the
--- one in view; and where it is softened to an answer, so is what is answered.
+-- Where each kept version is in the format, a path is pinned where that is answered in view, also by a kept version that isn't the
+-- one in view. Where that is softened to an answer, so is the pinning.
 module _ (test : List ℕ → Option Error) (cache : Cache) (world : World) (path : List ℕ) (formed : (stamp : Stamp) (bytes : List ℕ) → map.get cache.kept stamp ≡ Some bytes → test bytes ≡ None)
     (softened : Result (Unit {0}) Error → Result (Unit {0}) Error) (soft : softened (Ok tt) ≡ Ok tt) where
   if_read : (stamp : Stamp) (bytes : List ℕ) (kept : Option (List ℕ)) → ((k : List ℕ) → kept ≡ Some k → test k ≡ None) → softened (finished (by_format bytes (test bytes))) ≡ Ok tt →

@@ -22,7 +22,7 @@ use Rattle.bz_symbolize.specs.Promise.{IsAnswerOf, IsVersionOf, AnswersView, Ans
 use Rattle.bz_symbolize.specs.State.{State, WellKept}
 use Rattle.bz_symbolize.specs.declared.source.Source.{Source}
 
--- what is to be shown of each source that is one file: that its cache can be put back and is well kept, and what its format means, as to a query
+-- what is to be shown of each source that is one file: its cache can be put back and is well kept, and what its format means to a query
 pub record IsFormatOf {B : Type 0} (query : Query B) (source : Source) (file : FileSource) : Type 0 where
   pub same : (s : State) → file.with_cache s (file.cache s) ≡ s
   pub formed : (bytes : List ℕ) → IsVersionOf source bytes → file.test bytes ≡ None

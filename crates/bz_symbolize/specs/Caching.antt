@@ -67,8 +67,8 @@ abbrev pub or_absent : Result (Unit {0}) Error → Result (Unit {0}) Error
 or_absent (Err errors.NotFound) = Ok tt
 or_absent answer = answer
 
--- the file in view at a path, as if that weren't pinned: one that is held and isn't looked at anew is pinned as it is, any other by
--- what lies there, which is absent, may not be read, or isn't in the format
+-- the file in view at a path, as if that weren't pinned. One that is held and isn't looked at anew is pinned as it is. Any other is
+-- refused where it is absent, may not be read, or isn't in the format
 abbrev pub unpinned_in_view : (List ℕ → Option Error) → Cache → World → List ℕ → Result (Unit {0}) Error
 unpinned_in_view test cache world path =
     cond (is_some (fixed (with_pin false cache path) path)) (Ok tt) (finished (bytes_of_view test (shown (entry_at world path))))
@@ -78,8 +78,8 @@ abbrev pub perf_map_in_view : Cache → World → Result Remembered Error → Re
 perf_map_in_view perf_maps world (Ok known) = or_absent (unpinned_in_view perf.format_test perf_maps world known.perf_map)
 perf_map_in_view perf_maps world (Err e) = Err e
 
--- which file in view refuses, if one does: the ELF file; or, of a process, as far as each is asked for, the text of its mappings,
--- then its status, unless it is remembered, and then its perf map
+-- which file in view refuses, if one does: the ELF file. Of a process it is the text of its mappings, then its status unless its id
+-- is remembered, then its perf map. Each of these is looked at as far as it is asked for
 abbrev pub caching_in_view : {D R : Type 0} → ToCache → ℕ → World → WholeState D R → Result (Unit {0}) Error
 caching_in_view (CacheElf path) own world whole = unpinned_in_view elf.format_test whole.files.elf world path
 caching_in_view (CacheProcess asked) own world whole =
@@ -101,8 +101,8 @@ pub record CachedTold {D R : Type 0} (expected : Cached D R) (result : Result (U
 
 -- all that a call on an ELF file does
 pub record CachesElf {D R X : Type 0} (files : Ghosts X) (path : List ℕ) (result : Result (Unit {0}) Error) (old now : WholeState D R) (before after : X) : Type 0 where
-  -- also where it isn't told what lies there, the path is pinned at the version of some look; one file at most is read, and none of
-  -- which the present version is kept
+  -- also where it isn't told what lies there, the path is pinned at the version of some look. One file at most is read, and none
+  -- whose present version is kept
   pub pins : PinsFile files elf.format_test path result old.files.elf now.files.elf before after
   -- nothing else changes
   pub rest : now ≡ record old { files = record old.files { elf = now.files.elf } }

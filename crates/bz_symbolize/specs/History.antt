@@ -15,10 +15,9 @@ use Rattle.bz_symbolize.specs.Sources.{form_of}
 use Rattle.bz_symbolize.specs.State.{State}
 use Rattle.bz_symbolize.specs.declared.source.Source.{Source}
 
--- a call of a symbolizer: a batch or a single address of some kind is asked of a source that is a file or bytes, where nothing
--- else that is asked matters to the state; or bytes are registered as those of the ELF file at a path. Any other call stands here as
--- its changes, one after another and all in its world, each of an ELF file or of a perf map: a look at a path; whether a path is
--- pinned, if it is held; or a path that is forgotten.
+-- a call of a symbolizer: a source that is a file or bytes is asked for addresses of some kind. Nothing else that is asked matters
+-- to the state. Or bytes are registered as those of the ELF file at a path. Any other call stands here as its changes, one after
+-- another and all in its world. Of an ELF file or a perf map, a path is looked at, pinned or unpinned if it is held, or forgotten.
 pub data Call : Type 0 where
   Symbolize : Source → AddressKind → Call
   Register : List ℕ → List ℕ → Call

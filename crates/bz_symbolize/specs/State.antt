@@ -10,8 +10,8 @@ use Rattle.bz_elf.specs.Format as elf
 use Rattle.bz_gsym.specs.Version as gsym
 use Rattle.bz_process.specs.Processes.{KeptProcesses, coded_processes, new_processes}
 
--- how a symbolizer is set: whether files are looked at anew, whether answers have places in the source code, and inlined
--- calls, whether names are demangled, and where debug files are looked for. The last two are kept and have no effect.
+-- how a symbolizer is set: whether files are looked at anew, and whether answers have places in the source code, and inlined calls.
+-- Whether names are demangled, and where debug files are looked for, is kept and has no effect.
 pub record Settings : Type 0 where
   pub reload : Bool
   pub code_info : Bool
@@ -49,8 +49,8 @@ new_state settings = record {
   elf = new_cache settings.reload;
 }
 
--- a cache of a symbolizer is well kept: a stamp is kept exactly while some path names it, every version is in the format,
--- and paths are looked at anew exactly where the settings say so
+-- a cache of a symbolizer is well kept: a stamp is kept exactly while some path names it, and every version is in the format. Paths
+-- are looked at anew exactly where the settings say so
 pub record IsWellKept (test : List ℕ → Option Error) (settings : Settings) (cache : Cache) : Type 0 where
   pub consistent : Consistent test cache
   pub reload : cache.reload ≡ settings.reload

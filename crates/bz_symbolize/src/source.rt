@@ -109,9 +109,9 @@ impl fmt::Debug for Elf {
     }
 }
 
-/// A process. It takes absolute addresses: those of its memory. What it has mapped there answers. Where a
-/// dispatcher gives no resolver, an address outside all mappings is `Unmapped`, one of `[vdso]`, `[stack]`
-/// and the like `Unsupported`, and one of a mapping without a name `UnknownAddr` where no perf map knows it.
+/// A process. It takes absolute addresses: those of its memory. What it has mapped there answers. An address
+/// outside all mappings is `Unmapped`. Where a dispatcher gives no resolver, one of `[vdso]`, `[stack]` and
+/// the like is `Unsupported`. One of a mapping without a name is `UnknownAddr` where no perf map knows it.
 #[derive(Drop)]
 pub struct Process {
     /// The process.
@@ -120,8 +120,8 @@ pub struct Process {
     pub debug_syms: bool,
     /// Whether its perf map answers for addresses of mappings without a name.
     pub perf_map: bool,
-    /// Whether mapped files are looked at by the paths that stand for their mappings, which only a
-    /// privileged caller may read, and not by their own, at which another file may lie by now.
+    /// Whether mapped files are looked at by the paths that stand for their mappings. Only a privileged
+    /// caller may read these, but at a file's own path another file may lie by now.
     pub map_files: bool,
     /// Whether the symbols of the vDSO are looked for. It has no effect: none are.
     pub vdso: bool,

@@ -79,15 +79,15 @@ impl<D: ProcessDispatch + Drop> Symbolizer<D> {
 
     /// The answers of the source to the addresses, in their order; an address that is refused is an
     /// ignored error. An empty batch looks at its file too. A call is refused by `Unsupported` where
-    /// the source doesn't take the kind of address, by `NotFound`, `PermissionDenied` and `ReadFault`
-    /// where its file is absent, may not be read or can't be, by the refusal of its format where its
-    /// bytes aren't in it, and by `OutOfMemory`. A refused call leaves the symbolizer as it was; where
-    /// memory ran out, the file may have been taken in, and where an ELF file is asked for addresses of
-    /// a process, which it refuses after the look, it has been.
+    /// the source doesn't take the kind of address. It is refused by `NotFound`, `PermissionDenied` and
+    /// `ReadFault` where its file is absent, may not be read or can't be. Bytes outside the format are
+    /// refused as the format says, and `OutOfMemory` may come. A refused call leaves the symbolizer as it
+    /// was, with two exceptions. Where memory ran out, the file may have been taken in. An ELF file that is
+    /// asked for addresses of a process is taken in, since it refuses them after the look.
     ///
     /// The file of a process is the text of its mappings. Where there are none, the call is refused by
     /// `UnexpectedEof`. A mapped file that can't be read refuses its addresses alone, but `ReadFault`
-    /// and `OutOfMemory` refuse the call, and what was looked at before stays looked at.
+    /// and `OutOfMemory` refuse the call. What was looked at before stays looked at.
     pub fn symbolize<F: Files>(
         &mut self,
         alloc: Global,
@@ -107,9 +107,9 @@ impl<D: ProcessDispatch + Drop> Symbolizer<D> {
         }
     }
 
-    /// The answer of the source to an address alone. Beside the refusals of a batch it may be that of
-    /// the address, as of one whose line record names no file; the file is then taken in as by an
-    /// answered call.
+    /// The answer of the source to an address alone. Beside the refusals of a batch its address may be
+    /// refused, as one is whose line record names no file. The file is then taken in as by an answered
+    /// call.
     pub fn symbolize_single<F: Files>(
         &mut self,
         alloc: Global,
@@ -129,10 +129,10 @@ impl<D: ProcessDispatch + Drop> Symbolizer<D> {
         }
     }
 
-    /// The same answers as `symbolize`, made one by one or some at a time: they lend their texts from the
-    /// version of the file that the call found, so that no list of them and no text of their own is in
-    /// memory. The addresses are searched for at this call, and the steps of this are counted; making the
-    /// answers searches no more. A process, whose answers are of many files, is refused by `Unsupported`.
+    /// The same answers as `symbolize`, made one by one or some at a time. They lend their texts from the
+    /// version of the file that the call found, so that they are never all in memory. The addresses are
+    /// searched for at this call, and its steps are counted; making the answers searches no more. A process,
+    /// whose answers are of many files, is refused by `Unsupported`.
     pub fn look_up<'d, F: Files, L: Ledger>(
         &mut self,
         alloc: Global,
@@ -180,10 +180,10 @@ impl<D: ProcessDispatch + Drop> Symbolizer<D> {
     /// Takes in the file of a resolver as the ELF file at the path, under the path's present stamp,
     /// without reading the file there. Sources at the path are then answered by the resolver's file,
     /// as long as the path is at that stamp and this stamp stays kept. It is refused by
-    /// `AlreadyExists` where the version in view is kept: where the path is held by a symbolizer that
-    /// doesn't look at files anew, and where a version with the present stamp is kept; by `NotFound`,
-    /// `PermissionDenied` and `ReadFault` as a look at the path is; and by `OutOfMemory`. After a
-    /// refusal the symbolizer is as before.
+    /// `AlreadyExists` where a version with the present stamp is kept, or where the path is held and isn't
+    /// looked at anew. It is refused by `NotFound`, `PermissionDenied` and
+    /// `ReadFault` as a look at the path is, and by `OutOfMemory`. After a refusal the symbolizer is as
+    /// before.
     pub fn register_elf_resolver<F: Files>(
         &mut self,
         alloc: Global,

@@ -14,18 +14,18 @@ use std::alloc::Global;
 
 impl<D: ProcessDispatch + Drop> Symbolizer<D> {
     /// Keeps what answers ahead of addresses, so that it answers also once its files have changed or are
-    /// gone: an ELF file, or of a process its mappings, id and perf map. The files that a process has
+    /// gone. It is an ELF file, or of a process its mappings, id and perf map. The files that a process has
     /// mapped aren't kept by that.
     ///
     /// An ELF file is looked at as if its path weren't pinned, and the path is pinned at the version
     /// that this look gives. A symbolizer that doesn't look at files anew pins a held path as it is. It
     /// is refused as the look is: by `NotFound`, `PermissionDenied`, `Unsupported` or `InvalidData`.
     ///
-    /// Of a process, where they are asked for, the mappings are read and kept; then its id is
-    /// remembered, for which its status is read unless it is remembered already; and then its perf map
-    /// is looked at as if it weren't pinned, and pinned. An absent perf map is no refusal: a version that
-    /// is held is pinned then. It is refused by the first of the three files that is absent
-    /// (`NotFound`), may not be read (`PermissionDenied`) or isn't in its format (`InvalidData`).
+    /// Of a process, where they are asked for, the mappings are read and kept. Then its id is remembered, for
+    /// which its status is read unless it is remembered already. Then its perf map is looked at as if it
+    /// weren't pinned, and pinned. An absent perf map is no refusal: a version that is held is pinned then.
+    /// It is refused by the first of the three files that is absent (`NotFound`), may not be read
+    /// (`PermissionDenied`) or isn't in its format (`InvalidData`).
     ///
     /// Either may be refused by `ReadFault` and `OutOfMemory` too. After a refusal, whichever it is, the
     /// symbolizer is as before.
@@ -41,10 +41,11 @@ impl<D: ProcessDispatch + Drop> Symbolizer<D> {
         }
     }
 
-    /// Forgets an ELF file: its path, pinned or not, with the versions that no other path names, and what
-    /// a dispatcher said of mapped files with this path, their own or the one that stands for the
-    /// mapping. Or forgets a process: its mappings, its id and its perf map. What a dispatcher said stays
-    /// then, as what it said of parts of the system always does. It is always answered, and takes no memory.
+    /// Forgets an ELF file: its path, pinned or not, with the versions that no other path names. What a
+    /// dispatcher said of mapped files with this path, their own or the one that stands for the mapping, is
+    /// forgotten too. Or forgets a process: its mappings, its id and its perf map. What a dispatcher said
+    /// stays then, as what it said of parts of the system always does. It is always answered, and takes no
+    /// memory.
     pub fn evict(&mut self, evict: &Evict) -> Result<()>
         ensures { Evicts (evict_read evict.now) result self.old self.new }
     {
