@@ -30,8 +30,8 @@ abbrev pub Sought : ℕ → Key → Option Found → Option FrameAnswer → Kept
 Sought cap key from (Some answer) before after = (after ≡ before) × (kept_after cap key from before ≡ before) × ((opts : FindSymOpts) (offset : ℕ) → by_source opts offset from ≡ reading_of answer)
 Sought cap key from None before after = (bytes : List ℕ) × (0 < cap) × (from ≡ Some (Holds bytes)) × (after ≡ keep cap key bytes before)
 
--- the file of a key was put in front, or there is none to put there, by what was found at its path, which is what the world in
--- view has, where that is told; a refusal leaves the store; one file at most is read
+-- the file of a key was put in front, or there is none to put there, by what was found at its path. That is what the world in view
+-- has, where it is told. A refusal leaves the store. One file at most is read
 pub record Seeks {X : Type 0} (files : Ghosts X) (key : Key) (result : Result (Option FrameAnswer) Error) (before after : Shelf) (old new : X) : Type 0 where
   pub found : Found
   pub told : Told (in_view (files.worlds old)) (λ world. found ≡ found_at world before.root key)
@@ -43,9 +43,8 @@ pub record Seeks {X : Type 0} (files : Ghosts X) (key : Key) (result : Result (O
   pub looked : Looked files old new (Faulted result)
   pub refusal : IfErr result IsFailure
 
--- the first frames were answered behind earlier answers, each by what was found for it, which is what the world in view has,
--- where that is told; after a refusal the store keeps what it keeps after some of the frames; no more files are read than there
--- are frames
+-- the first frames were answered behind earlier answers, each by what was found for it. That is what the world in view has, where
+-- it is told. After a refusal the store keeps what it keeps after some of the frames. No more files are read than there are frames
 pub record Visits {X A : Type 0} (files : Ghosts X) (opts : FindSymOpts) (frames : List Frame) (result : Result A Error) (earlier answers : List FrameReading) (before after : Shelf) (old new : X) : Type 0 where
   pub visits : List (Frame × Found)
   pub told : Told (in_view (files.worlds old)) (λ world. visits ≡ found_each world before.root (map (λ v. v.0) visits))
@@ -59,8 +58,8 @@ pub record Visits {X A : Type 0} (files : Ghosts X) (opts : FindSymOpts) (frames
   pub looked : Looked files old new (Faulted result)
   pub refusal : IfErr result IsFailure
 
--- told or not, each frame has the answer of the kept bytes of its file, else of what was found, which is what the world in view
--- has, where that is told; a refusal leaves what is kept after some of the frames, none skipped
+-- told or not, each frame has the answer of the kept bytes of its file, else of what was found. That is what the world in view has,
+-- where it is told. A refusal leaves what is kept after some of the frames, none skipped
 pub record OneByOne {X A : Type 0} (files : Ghosts X) (readings : A → List FrameReading) (opts : FindSymOpts) (frames : List Frame) (result : Result A Error) (before after : Shelf) (old new : X) : Type 0 where
   pub visits : List (Frame × Found)
   pub told : Told (in_view (files.worlds old)) (λ world. visits ≡ found_each world before.root (map (λ v. v.0) visits))

@@ -81,8 +81,8 @@ impl Store {
         Ok(answers)
     }
 
-    // Puts the answers to the first frames behind the answers: to all of a run, where their file is kept
-    // or can be, else to one. So the cache is asked once for a run, and the file's answers are one batch.
+    // Puts the answers to the first frames behind the answers: to a whole run where its file is or can be
+    // kept, else to one. So the cache is asked once for a run, and the file's answers are one batch.
     fn visit<F: Files>(
         &mut self,
         alloc: Global,
