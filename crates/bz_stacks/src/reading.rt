@@ -45,6 +45,7 @@ fn spelled_stack(alloc: Global, text: &[u8]) -> Result<Option<Stack>, AllocError
     stack_of_fields(alloc, fields.as_slice())
 }
 
+// The stack of a line's fields: addresses, one at least, and then the count.
 fn stack_of_fields(alloc: Global, fields: &[&[u8]]) -> Result<Option<Stack>, AllocError>
     ensures { IfOk result (λ stack. stack ≡ stack_by (map (λ field. field.now) fields.now)) }
 {
@@ -70,6 +71,7 @@ fn counted_stack(alloc: Global, front: &[&[u8]], last: &[u8]) -> Result<Option<S
     }
 }
 
+// A field as a count: decimal digits of a number of 32 bits.
 fn count(text: &[u8]) -> Option<u32>
     ensures { result ≡ count_in text.now }
 {
