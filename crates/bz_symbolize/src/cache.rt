@@ -129,8 +129,8 @@ impl Cache {
 impl fmt::Debug for Cache {
     fn fmt<W: fmt::Write>(&self, f: &mut fmt::Formatter<W>) -> fmt::Result {
         match self {
-            Cache::Elf(file) => write!(f, "{file:?}"),
-            Cache::Process(process) => write!(f, "{process:?}"),
+            Cache::Elf(file) => fmt::Debug::fmt(file, f),
+            Cache::Process(process) => fmt::Debug::fmt(process, f),
         }
     }
 }

@@ -102,8 +102,8 @@ impl Evict {
 impl fmt::Debug for Evict {
     fn fmt<W: fmt::Write>(&self, f: &mut fmt::Formatter<W>) -> fmt::Result {
         match self {
-            Evict::Elf(file) => write!(f, "{file:?}"),
-            Evict::Process(process) => write!(f, "{process:?}"),
+            Evict::Elf(file) => fmt::Debug::fmt(file, f),
+            Evict::Process(process) => fmt::Debug::fmt(process, f),
         }
     }
 }

@@ -172,8 +172,8 @@ pub enum Gsym<'d> {
 impl fmt::Debug for Gsym<'_> {
     fn fmt<W: fmt::Write>(&self, f: &mut fmt::Formatter<W>) -> fmt::Result {
         match self {
-            Gsym::Data(source) => write!(f, "{source:?}"),
-            Gsym::File(source) => write!(f, "{source:?}"),
+            Gsym::Data(source) => fmt::Debug::fmt(source, f),
+            Gsym::File(source) => fmt::Debug::fmt(source, f),
         }
     }
 }
@@ -213,10 +213,10 @@ impl Source<'_> {
 impl fmt::Debug for Source<'_> {
     fn fmt<W: fmt::Write>(&self, f: &mut fmt::Formatter<W>) -> fmt::Result {
         match self {
-            Source::Breakpad(source) => write!(f, "{source:?}"),
-            Source::Gsym(source) => write!(f, "{source:?}"),
-            Source::Elf(source) => write!(f, "{source:?}"),
-            Source::Process(source) => write!(f, "{source:?}"),
+            Source::Breakpad(source) => fmt::Debug::fmt(source, f),
+            Source::Gsym(source) => fmt::Debug::fmt(source, f),
+            Source::Elf(source) => fmt::Debug::fmt(source, f),
+            Source::Process(source) => fmt::Debug::fmt(source, f),
         }
     }
 }
