@@ -1,5 +1,4 @@
--- What is made of a file, and why nothing is: from what is opened and made to the words of products, and to the causes of
--- refusals.
+-- What is made of a file, and why nothing is.
 use Rattle.std.proofs.Common.{◌≡◌, ℕ, List, Option, Some, None, Result, Ok, Err, IfOk, IsOkUnless, refl, sym, ap, ◌∙◌, inl, inr}
 use Rattle.bz_base.specs.ErrorNames.{name_of}
 use Rattle.bz_base.specs.declared.error.Error.{Error}

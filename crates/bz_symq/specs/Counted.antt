@@ -20,8 +20,7 @@ abbrev pub AnswersInFew : FileTarget → AddressKind → Config → List ℕ →
 AnswersInFew file kind config addrs answers before after =
     (bytes : List ℕ) × IsBatch file kind config bytes addrs answers × StepsIn file bytes (length addrs) before after
 
--- a batch of so many addresses, answered or refused: no step was taken, or few in some bytes in the format of the file's source; of a
--- process none are counted
+-- a batch of a file's addresses took no step, or few in some bytes in its format; one of a process took none
 abbrev pub TakesFew : Target → ℕ → ℕ → ℕ → Type 0
 TakesFew (OneFile file) addrs before after =
     (after ≡ before) ⊎ ((bytes : List ℕ) × IsVersion file bytes × StepsIn file bytes addrs before after)

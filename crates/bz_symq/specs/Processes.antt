@@ -21,8 +21,7 @@ abbrev pub pid_of : ℕ → Pid
 pid_of zero = pids.Slf
 pid_of (suc n) = pids.Pid (record { value = suc n; ok = omega arith })
 
--- how it is asked, where the own one has this id: by its perf map too, and by the paths that stand for its mappings or by the
--- files' own, as the configuration says
+-- how it is asked, where the own one has this id: with its perf map, and as configured with the paths for its mappings
 abbrev pub asked_by : Config → ℕ → ℕ → Asked
 asked_by config number own = record { pid = pid_of number; own = own; perf_map = true; map_files = config.map_files }
 
@@ -30,8 +29,7 @@ asked_by config number own = record { pid = pid_of number; own = own; perf_map =
 abbrev pub nothing_kept : Config → ProcessCaches
 nothing_kept config = record { elf = new_cache config.reload; perf_maps = new_cache config.reload; ids = [] }
 
--- what it gives at addresses in it, one after another, where nothing is kept and no resolver is in charge: its answers or the
--- refusal, and how many files are read at most
+-- what it gives at addresses in it, one after another, where nothing is kept and no resolver is in charge
 abbrev pub process_batch : Config → ℕ → ℕ → List ℕ → World → Outcome (List Answer)
 process_batch config number own addrs world = asks_process (asked_by config number own) None (map unsaid addrs) world (nothing_kept config)
 
@@ -43,8 +41,7 @@ maps_of number world = entry_at world (maps_path (pid_of number))
 abbrev pub TellsMappings : ℕ → List ℕ → Type 0
 TellsMappings number text = (mapping : Mapping) × (later : List Mapping) × AreMappings (pid_of number) text (mapping ∷ later)
 
--- a text tells mappings, one at least, and the answers are those of the process by these, at each address in order, where a refused
--- address is an ignored error
+-- a text tells mappings, one at least, and by these the process answers each address in order, a refused one as an ignored error
 pub record IsProcessBatch (config : Config) (number own : ℕ) (world : World) (text addrs : List ℕ) (answers : List Answer) : Type 0 where
   pub tells : TellsMappings number text
   pub answers_are : answers ≡ (batched (asked_by config number own) (tells.0 ∷ tells.1) (map unsaid addrs) world (nothing_kept config)).answers

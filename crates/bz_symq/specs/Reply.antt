@@ -45,7 +45,7 @@ RepliesTo errors.OutOfMemory result = result ≡ Err errors.OutOfMemory
 RepliesTo refusal (Ok reply) = outcome_of reply ≡ refused refusal
 RepliesTo refusal (Err e) = e ≡ errors.OutOfMemory
 
--- where the input wasn't read to its end: one that is too long is named so, and a fault and want of memory stay what they are
+-- of an input that wasn't read to its end: one that is too long is named so, and a failure stays what it is
 abbrev pub RepliesUnread : ReadStop → Result Reply Error → Type 0
 RepliesUnread stops.TooLong (Ok reply) = outcome_of reply ≡ too_long
 RepliesUnread stops.TooLong (Err e) = ⊥
@@ -89,7 +89,7 @@ abbrev pub IsInputStatus : {A : Type 0} → Result A ℕ → Status → Type 0
 IsInputStatus (Err n) status = status ≡ statuses.Input
 IsInputStatus (Ok items) status = (status ≡ statuses.Done) ⊎ (status ≡ statuses.Refused)
 
--- a reply to the command was to be made, with what it sees of the input and the world in view, and the id of the own process
+-- a reply to the command was to be made, by what it sees of the input, the world in view, and the own process's id
 pub record RepliesToCommand (command : Command) (left : Option (List ℕ)) (seen : Option World) (own : ℕ) (result : Result Reply Error) : Type 0 where
   -- it is the outcome of the run
   pub reply : Told left (λ text. Told seen (λ world. Replies (run_outcome command text world own) result))

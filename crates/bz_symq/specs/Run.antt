@@ -51,8 +51,7 @@ pub record IsAnswerable (command : Command) (input : List ℕ) (world : World) :
   pub asks : Asks command input asking addrs
   pub answerable : HasAnswers asking world
 
--- the run was asked for addresses of a source that has answers: the texts of its plain answers at the addresses, in their
--- order, are what was written
+-- the run was asked for addresses of a source that has answers, and wrote the texts of its plain answers to them in order
 pub record IsDone (command : Command) (input : List ℕ) (world : World) (own : ℕ) (old : List ℕ) (new : Option (List ℕ)) : Type 0 where
   pub asking : Asking
   pub addrs : List ℕ
@@ -61,8 +60,7 @@ pub record IsDone (command : Command) (input : List ℕ) (world : World) (own : 
   pub answers_are : AnswersIn asking world own addrs answers
   pub written : new ≡ Some (old ++ answer_texts addrs answers)
 
--- the run was asked for addresses, and whatever the files tell, the texts of the plain answers of some bytes in the format of
--- its source, at the addresses, in their order, are what was written; of a process, those of some answers
+-- the run was asked for addresses, and wrote the texts of some answers to them in order, whatever the files tell
 pub record IsSomeDone (command : Command) (input old : List ℕ) (new : Option (List ℕ)) : Type 0 where
   pub asking : Asking
   pub addrs : List ℕ
@@ -169,22 +167,19 @@ pub record Fails {R W F : Type 0} (reads : input_trait.Ghosts R) (writes : outpu
 -- all that a run promises
 pub record Runs {R W F : Type 0} (reads : input_trait.Ghosts R) (writes : output_trait.Ghosts W) (looks : files_trait.Ghosts F) (command : Command) (ended : Status)
     (input_before input_after : R) (output_before output_after : W) (files_before files_after : F) : Type 0 where
-  -- what was written is the outcome's text, or a front of it where the run failed; and the run ends as the outcome, if it
-  -- doesn't fail
+  -- the run wrote the outcome's text and ended by its status, or it failed and wrote a front of that text
   pub ends : Told (seen_by command (reads.left input_before)) (λ text. Told (in_view (looks.worlds files_before)) (λ world. Told (writes.written output_before) (λ old.
       Ends (run_outcome command text world (looks.pid files_before)) old ended (writes.written output_after))))
   pub status : Told (seen_by command (reads.left input_before)) (λ text. Told (in_view (looks.worlds files_before)) (λ world.
       IsOrFails (run_outcome command text world (looks.pid files_before)).status ended))
-  -- status 0 means that the input was addresses of a source that has answers, and that these are what was written; or that a
-  -- product was asked for, which is what was written
+  -- status 0 means that the answers or the product that were asked for are what was written
   pub done : ended ≡ statuses.Done →
       Told (seen_by command (reads.left input_before)) (λ text. Told (in_view (looks.worlds files_before)) (λ world. Told (writes.written output_before) (λ old.
       IsDone command text world (looks.pid files_before) old (writes.written output_after) ⊎ IsMade command world old (writes.written output_after))))
   -- and whatever the files tell, that they are those of some bytes in the format of the source, or that some file makes it
   pub answered : ended ≡ statuses.Done → Told (seen_by command (reads.left input_before)) (λ text. Told (writes.written output_before) (λ old.
       IsSomeDone command text old (writes.written output_after) ⊎ IsSomeMade command old (writes.written output_after)))
-  -- status 1 means that the input was addresses of a source that has no answers, or that a product was asked for that can't be
-  -- made, and that the refusal is what was written
+  -- status 1 means that the source has no answers or the product can't be made, and that the refusal is what was written
   pub refused : ended ≡ statuses.Refused →
       Told (seen_by command (reads.left input_before)) (λ text. Told (in_view (looks.worlds files_before)) (λ world. Told (writes.written output_before) (λ old.
       IsRefused command text world old (writes.written output_after) ⊎ IsUnmade command world old (writes.written output_after))))
@@ -198,7 +193,7 @@ pub record Runs {R W F : Type 0} (reads : input_trait.Ghosts R) (writes : output
   -- a source that has none is refused, and a product that can't be made, unless something fails or memory runs out
   pub refuses : Told (seen_by command (reads.left input_before)) (λ text. Told (in_view (looks.worlds files_before)) (λ world.
       IsRefusable command text world ⊎ IsUnmakeable command world → IsOrFails statuses.Refused ended))
-  -- for a product no input is read; for a bad input no file is looked at, and for addresses of a kind that the target doesn't take
+  -- no input is read for a product, and no file is looked at for a bad input or for addresses that the target doesn't take
   pub unasked : (product : Product) → command ≡ Make product → input_after ≡ input_before
   pub unlooked : Told (reads.left input_before) (λ text. IsBadInput command text → files_after ≡ files_before)
   pub untaken : (asking : Asking) → command ≡ Batch asking → takes asking.target asking.kind ≡ false → files_after ≡ files_before
@@ -218,8 +213,7 @@ pub record Runs {R W F : Type 0} (reads : input_trait.Ghosts R) (writes : output
   pub process : Told (seen_by command (reads.left input_before)) (λ text. Told (in_view (looks.worlds files_before)) (λ world.
       (asking : Asking) (number : ℕ) (addrs : List ℕ) → Asks command text asking addrs → asking.target ≡ OneProcess number →
       looks.opens files_after ≤ looks.opens files_before + (process_batch asking.config number (looks.pid files_before) addrs world).opens))
-  -- one side at most failed, and files only before the output; a fault comes only where a call failed, and at any other status
-  -- none has
+  -- a fault comes exactly where a call failed, on one side at most, and of the files only before the output
   pub fails : Fails reads writes looks ended input_before input_after output_before output_after files_before files_after
   pub fault : ended ≡ statuses.Fault → (reads.faults input_after ≡ counted (reads.faults input_before))
       ⊎ ((writes.faults output_after ≡ counted (writes.faults output_before)) ⊎ (looks.faults files_after ≡ counted (looks.faults files_before)))

@@ -33,8 +33,7 @@ IsSourceOf (Gsym path) (sources.Gsym (gsyms.File source)) = string_bytes source.
 IsSourceOf (Elf path) (sources.Elf source) = string_bytes source.path ≡ path
 IsSourceOf _ _ = ⊥
 
--- the kinds of address for which it is looked at: a Breakpad file for offsets in it, a GSYM file for addresses in its table, and
--- an ELF file for all
+-- a Breakpad file is looked at for offsets in it, a GSYM file for addresses in its table, and an ELF file for all
 abbrev pub file_takes : FileTarget → AddressKind → Bool
 file_takes (Breakpad path) kind = is_in_file kind
 file_takes (Gsym path) kind = is_in_table kind
@@ -70,8 +69,7 @@ IsBatch (Breakpad path) kind config bytes addrs answers = IsBreakpadBatch (opts_
 IsBatch (Gsym path) kind config bytes addrs answers = IsGsymBatch (opts_in config) bytes addrs answers
 IsBatch (Elf path) kind config bytes addrs answers = IsElfBatch path bytes kind addrs answers
 
--- the bytes aren't in the source's format, and this is the refusal of such bytes: of ELF that of the first check that they fail;
--- or they are in the format of ELF, and refuse the kind of address
+-- this is the refusal of bytes that aren't in the source's format, or of ELF bytes for a kind of address that they don't answer
 abbrev pub IsRefusalOf : FileTarget → AddressKind → List ℕ → Error → Type 0
 IsRefusalOf (Breakpad path) kind bytes e = (e ≡ errors.InvalidInput) × ((table : Table) → IsFile bytes table → ⊥)
 IsRefusalOf (Gsym path) kind bytes e = (e ≡ errors.InvalidData) × ¬ (IsGsym bytes)
@@ -122,7 +120,7 @@ pub record HasAnswers (asking : Asking) (world : World) : Type 0 where
   pub served : serves asking.target asking.kind ≡ true
   pub there : IsThere asking.target world
 
--- the answers are those of the target in the world: of its file, or by the text of its mappings, where the own process has this id
+-- the target's answers in the world, where the own process has this id: those of its file, or by the text of its mappings
 abbrev pub AreAnswers : Target → AddressKind → Config → World → ℕ → List ℕ → List Answer → Type 0
 AreAnswers (OneFile file) kind config world own addrs answers = HasFile (λ bytes. IsBatch file kind config bytes addrs answers) (file_of file world)
 AreAnswers (OneProcess number) kind config world own addrs answers = HasFile (λ text. IsProcessBatch config number own world text addrs answers) (maps_of number world)
@@ -132,8 +130,7 @@ pub record AnswersIn (asking : Asking) (world : World) (own : ℕ) (addrs : List
   pub served : serves asking.target asking.kind ≡ true
   pub are : AreAnswers asking.target asking.kind asking.config world own addrs answers
 
--- whatever the files tell, the answers are those of some bytes in the format of the target's file; of a process, whose answers are of
--- many files, nothing is said then
+-- the answers are those of some bytes in the format of the target's file; of a process, which has many files, nothing is said
 abbrev pub AreSomeAnswers : Target → AddressKind → Config → List ℕ → List Answer → Type 0
 AreSomeAnswers (OneFile file) kind config addrs answers = (bytes : List ℕ) × IsBatch file kind config bytes addrs answers
 AreSomeAnswers (OneProcess number) kind config addrs answers = Unit {0}

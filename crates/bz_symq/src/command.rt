@@ -4,7 +4,7 @@ use bz_base::Input;
 use bz_requests::Config;
 
 /// A file that answers addresses, in words that are lent.
-#[derive(Clone, Copy, Debug)]
+#[derive(Clone, Copy)]
 pub enum FileTarget<'a> {
     /// The Breakpad file at a path.
     Breakpad(&'a str),
@@ -15,7 +15,7 @@ pub enum FileTarget<'a> {
 }
 
 /// What answers addresses, in words that are lent.
-#[derive(Clone, Copy, Debug)]
+#[derive(Clone, Copy)]
 pub enum Target<'a> {
     /// A file.
     File(FileTarget<'a>),
@@ -25,7 +25,7 @@ pub enum Target<'a> {
 
 /// One batch of the addresses on the input: what answers them, what they are relative to, and how it
 /// is asked.
-#[derive(Clone, Copy, Debug)]
+#[derive(Clone, Copy)]
 pub struct Batch<'a> {
     /// What answers the addresses.
     pub target: Target<'a>,
@@ -36,7 +36,7 @@ pub struct Batch<'a> {
 }
 
 /// A batch that a file is asked, in words that are lent.
-#[derive(Clone, Copy, Debug)]
+#[derive(Drop)]
 pub(crate) struct FileBatch<'a> {
     /// The file that answers the addresses.
     pub(crate) file: FileTarget<'a>,
@@ -47,7 +47,7 @@ pub(crate) struct FileBatch<'a> {
 }
 
 /// A batch that a process is asked.
-#[derive(Clone, Copy, Debug)]
+#[derive(Drop)]
 pub(crate) struct ProcessBatch {
     /// The id of the process; 0 stands for the own one.
     pub(crate) number: u32,
@@ -58,7 +58,7 @@ pub(crate) struct ProcessBatch {
 }
 
 /// What is made of one file, in words that are lent.
-#[derive(Clone, Copy, Debug)]
+#[derive(Drop)]
 pub enum Product<'a> {
     /// The GSYM bytes of the Breakpad file at a path.
     Converted(&'a str),
@@ -67,7 +67,7 @@ pub enum Product<'a> {
 }
 
 /// What a run is asked for.
-#[derive(Clone, Copy, Debug)]
+#[derive(Drop)]
 pub enum Command<'a> {
     /// The answers to the addresses of the input.
     Batch(Batch<'a>),

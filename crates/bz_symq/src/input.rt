@@ -17,7 +17,7 @@ const GREATEST_INPUT: usize = 16_777_216;
 const PIECE: usize = 16_384;
 
 /// Why the input wasn't read to its end.
-#[derive(Clone, Copy, Debug, PartialEq, Eq)]
+#[derive(Drop)]
 pub enum ReadStop {
     /// It is longer than any input.
     TooLong,

@@ -27,8 +27,8 @@ pub fn endings_have_causes()
     ensures refused { EndsOnlyWhere statuses.Refused (λ command input world own old new. IsRefused command input world old new ⊎ IsUnmade command world old new) }
 {}
 
-/// Where equal stamps have equal bytes in the world, each answer of a process is what is in view for its
-/// address alone, where a refusal is an ignored error. So answers don't depend on what else is asked.
+/// Each answer of a process is what is in view for its address alone, and a refusal is an ignored error.
+/// So answers don't depend on what else is asked. Equal stamps have to have equal bytes in the world.
 pub fn process_answers_stand_alone()
     ensures { (asking : Asking) (number own : ℕ) (addrs : List ℕ) (world : World) (answers : List Answer) → AgreeOn world world → asking.target ≡ OneProcess number → AnswersIn asking world own addrs answers →
         answers ≡ map (λ addr. in_batch (process_in_view (asked_by asking.config number own) world (nothing_kept asking.config) None addr)) addrs }

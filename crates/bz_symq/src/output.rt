@@ -93,8 +93,8 @@ fn write_owned<W: TextOut>(
     write_piece(output, &mut piece)
 }
 
-// Puts the text of the answer at the address of the next index to the end of a text. Where it wasn't
-// made, it is made together with some that follow.
+// Puts the text of the answer at the address of the next index to the end of a text. Past the texts that
+// were made ahead, it is made together with some that follow.
 fn push_next(
     alloc: Global,
     text: &mut String,
@@ -115,8 +115,8 @@ fn push_next(
     push_text(alloc, text, texts, lookups, index)
 }
 
-// Puts the text of the answer at the address of an index to the end of a text: as it was made, or
-// else it is made now.
+// Puts the text of the answer at the address of an index to the end of a text. Where it wasn't made
+// ahead, it is made now.
 fn push_text(
     alloc: Global,
     text: &mut String,

@@ -44,7 +44,7 @@ pub fn run_command<R: TextIn, W: TextOut, F: Files>(
     run_blank::<R, W, F, Brand>(alloc, command, input, output, files, Blank::new(1))
 }
 
-// The run, with a count that begins with it.
+// The run, with a count of steps that begins with it.
 fn run_blank<R: TextIn, W: TextOut, F: Files, L: Ledger>(
     alloc: Global,
     command: &Command<'_>,
@@ -62,7 +62,7 @@ fn run_blank<R: TextIn, W: TextOut, F: Files, L: Ledger>(
     run_counted(alloc, command, input, output, files, &mut steps)
 }
 
-/// The same, with a count of the steps of its searches.
+/// Runs the command as `run_command` does, and counts the steps of its searches.
 pub fn run_counted<R: TextIn, W: TextOut, F: Files, L: Ledger>(
     alloc: Global,
     command: &Command<'_>,
@@ -80,7 +80,7 @@ pub fn run_counted<R: TextIn, W: TextOut, F: Files, L: Ledger>(
     }
 }
 
-/// How a run without a reply ends: by a fault, or nothing else is left than want of memory.
+/// How a run without a reply ends: by `Fault` where reading failed, and else by `Memory`.
 pub fn failed(error: Error) -> Status
     ensures failure { (result ≡ Status.Fault) ⊎ (result ≡ Status.Memory) }
     ensures fault { (error ≡ Error.ReadFault) ↔ (result ≡ Status.Fault) }

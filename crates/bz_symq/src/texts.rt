@@ -1,5 +1,5 @@
-//! The texts of answers that are made together, in the order of their addresses where that is
-//! faster: what stands near each other in a file is read together then.
+//! The texts of answers that are made together. They are made in the order of their addresses where that
+//! is faster: what stands near each other in a file is read together then.
 
 ghost use Rattle.std.specs.Prelude.{◌≡◌, ◌<◌, ◌++◌, length, slice_get, slice_index, string_bytes, All, Some, OnOk, IfSome, IsOkUnless};
 ghost use Rattle.bz_base.specs.Answer.{Answer, reading};
@@ -14,8 +14,8 @@ use bz_canon::push_answer;
 use bz_symbolize::{Lookups, TOGETHER};
 use std::alloc::Global;
 
-/// How long the texts grow that are made at a time, in bytes. What is left then isn't made before it
-/// is written.
+/// How long the texts grow that are made ahead at a time, in bytes. What is left then is made as it is
+/// written.
 const ROOM: usize = 16_777_216;
 
 /// Behind texts that are longer than this, in bytes, answers are made one by one, so that long ones

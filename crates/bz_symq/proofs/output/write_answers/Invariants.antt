@@ -4,8 +4,7 @@ use Rattle.bz_symq.specs.Texts.{AreTexts}
 use Rattle.bz_symq.proofs.OutputLemmas.{HasWritten}
 use Rattle.bz_symq.proofs.output.write_answers.Given as goal
 
--- of the texts of all a front is written; the piece, and the texts of the answers that are left, are the rest; those that were
--- made are texts of answers
+-- a front of all texts is written, the rest is the piece and the texts of the answers left, and those made are right
 abbrev pub invariant-loop-index : goal.invariant-loop-index
 invariant-loop-index g l = record {
   written :
