@@ -12,7 +12,7 @@ usage = record { status = statuses.Usage; text = codes "usage: symq [OPTION] KIN
 
 -- the usage was to be written
 pub record Misused {R W F : Type 0} (writes : output_trait.Ghosts W) (ended : Status) (input_before input_after : R) (output_before output_after : W) (files_before files_after : F) : Type 0 where
-  -- it was, and the run ended by status 2; or a front of it, where writing failed, and a fault comes exactly where a call failed
+  -- it was, and the run ended by status 2, or writing failed after a front of it
   pub usage_written : Finishes writes usage ended output_before output_after
   -- neither the input nor a file is come to
   pub unread : input_after ≡ input_before

@@ -1,5 +1,4 @@
--- What a run over an input of stacks promises: what it writes and ends with, and what it does to its input, its output and the
--- files.
+-- What a run over an input of stacks promises: what it writes and ends with, and what it does to each side.
 use Rattle.std.specs.Prelude.{◌≡◌, ◌≢◌, ◌⊎◌, ℕ, ◌+◌, ◌<◌, ◌≤◌, List, [], ◌++◌, length, Option, Some}
 use Rattle.bz_base.specs.Answer.{Answer}
 use Rattle.bz_base.specs.InputKind.{InFile}
@@ -67,14 +66,12 @@ pub record IsRefused (path text : List ℕ) (world : World) (old : List ℕ) (ne
 -- all that a run over an input of stacks promises
 pub record RunsStacks {R W F : Type 0} (reads : input_trait.Ghosts R) (writes : output_trait.Ghosts W) (looks : files_trait.Ghosts F) (path : List ℕ) (config : Config) (ended : Status)
     (input_before input_after : R) (output_before output_after : W) (files_before files_after : F) : Type 0 where
-  -- what was written is the outcome's text, or a front of it where the run failed; and the run ends as the outcome, if it
-  -- doesn't fail
+  -- the run wrote the outcome's text and ended by its status, or it failed and wrote a front of that text
   pub ends : Told (reads.left input_before) (λ text. Told (in_view (looks.worlds files_before)) (λ world. Told (writes.written output_before) (λ old.
       Ends (stacks_outcome path config text world) old ended (writes.written output_after))))
   pub status : Told (reads.left input_before) (λ text. Told (in_view (looks.worlds files_before)) (λ world.
       IsOrFails (stacks_outcome path config text world).status ended))
-  -- status 0 means that the input was stacks, that a Breakpad file lies at the path, and that the stacks folded by its answers
-  -- are what was written
+  -- status 0 means that the input was stacks, and that these folded by the answers of the Breakpad file are what was written
   pub done : ended ≡ statuses.Done → Told (reads.left input_before) (λ text. Told (in_view (looks.worlds files_before)) (λ world.
       Told (writes.written output_before) (λ old. IsFolded path config text world old (writes.written output_after))))
   -- and whatever the files tell, that they are folded by the answers of some Breakpad file
@@ -105,8 +102,7 @@ pub record RunsStacks {R W F : Type 0} (reads : input_trait.Ghosts R) (writes : 
   -- one file at most is read, and where a run is done one was
   pub most : ReadsOne looks files_before files_after
   pub opened : Told (in_view (looks.worlds files_before)) (λ world. ended ≡ statuses.Done → looks.opens files_after ≡ counted (looks.opens files_before))
-  -- one side at most failed, and files only before the output; a fault comes only where a call failed, and at any other status
-  -- none has
+  -- a fault comes exactly where a call failed, on one side at most, and of the files only before the output
   pub fails : Fails reads writes looks ended input_before input_after output_before output_after files_before files_after
   pub fault : ended ≡ statuses.Fault → (reads.faults input_after ≡ counted (reads.faults input_before))
       ⊎ ((writes.faults output_after ≡ counted (writes.faults output_before)) ⊎ (looks.faults files_after ≡ counted (looks.faults files_before)))

@@ -15,10 +15,10 @@ use bz_symq::{Reply, Said, Status, finish};
 use std::alloc::Global;
 use std::borrow::CowStr;
 
-/// Puts the text of so many functions at a path in memory, asks a new symbolizer for so many addresses
-/// by the numbers after the seed, and writes what it counts of the answers: a line each for the
-/// functions, the addresses, how many are known and how many aren't, the inlined calls, and the sum of
-/// the offsets, in bytes. It ends by `Done`; by `Fault` where writing failed; or by `Memory`.
+/// Puts the text of so many functions at a path in memory. It asks a new symbolizer for so many addresses,
+/// by the numbers after the seed. It writes what it counts, a line each: functions, addresses, known and
+/// unknown answers, inlined calls, and the sum of the offsets in bytes. It ends by `Done`; by `Fault` where
+/// writing failed; or by `Memory`.
 pub fn generate<W: TextOut>(
     alloc: Global,
     config: Config,

@@ -76,7 +76,7 @@ fewest opens opened one rest reads few counts = omega (arith, few, counts)
 
 -- by what each request comes to, whatever requests are
 module _ {A : Type 0} (step : A → Kept → World → Step) where
-  -- these worlds are told; the requests that are left come to the rest of the text, and read no more than is left of what all may
+  -- worlds are told, in which the requests left come to the rest of the text, and read no more than is left of all reads
   pub record SoFar (text : List ℕ) (reads : ℕ) (state : Kept) (left : List A) (first written : Option (List ℕ)) (opens : ℕ) (told : Option (List World)) : Type 0 where
     pub world : World
     pub later : List World

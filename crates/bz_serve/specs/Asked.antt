@@ -31,7 +31,7 @@ abbrev pub asked_of : Asked → Result (List Request) Outcome
 asked_of (askeds.Requests requests) = Ok (map request_of requests.items)
 asked_of (askeds.Bad reply) = Err (outcome_of reply)
 
--- what a run comes to over a list of worlds, where the own process has this id: all its requests are answered, each in its world
+-- what a run comes to over a list of worlds, where the own process has this id: each request is answered in its world
 abbrev pub outcome_by : Config → List World → ℕ → Result (List Request) Outcome → Outcome
 outcome_by config worlds own (Ok requests) = served (run_text config requests worlds own)
 outcome_by config worlds own (Err bad) = bad

@@ -7,7 +7,7 @@ use Rattle.bz_requests.specs.Lines.{AreItems, items_in}
 use Rattle.bz_store.specs.Frames.{Frame, frame_of}
 use Rattle.bz_serve.specs.declared.frames.reading.FrameLine.{FrameLine}
 
--- a text is a frame: `MODULE ID ADDR`, of which the first two are UTF-8 text that may be empty, and the third spells the offset
+-- a text is a frame, `MODULE ID ADDR`: the first two are UTF-8 text that may be empty, and the third spells the offset
 pub record IsFrame (text : List ℕ) (frame : Frame) : Type 0 where
   pub addr : List ℕ
   pub are_fields : AreFields text (frame.file.0 ∷ frame.file.1 ∷ addr ∷ [])

@@ -49,8 +49,7 @@ pub record AreSomeAnswered (root : List ℕ) (opts : FindSymOpts) (text old : Li
 -- all that a run over an input of frames promises
 pub record RunsFrames {R W F : Type 0} (reads : input_trait.Ghosts R) (writes : output_trait.Ghosts W) (looks : files_trait.Ghosts F) (root : List ℕ) (opts : FindSymOpts) (ended : Status)
     (input_before input_after : R) (output_before output_after : W) (files_before files_after : F) : Type 0 where
-  -- what was written is the outcome's text, or a front of it where the run failed; and the run ends as the outcome, if it
-  -- doesn't fail
+  -- the run wrote the outcome's text and ended by its status, or it failed and wrote a front of that text
   pub ends : Told (reads.left input_before) (λ text. Told (in_view (looks.worlds files_before)) (λ world. Told (writes.written output_before) (λ old.
       Ends (frames_outcome world root opts text) old ended (writes.written output_after))))
   -- no status comes but 0, 3, 4 and 5: frames are never refused
@@ -83,8 +82,7 @@ pub record RunsFrames {R W F : Type 0} (reads : input_trait.Ghosts R) (writes : 
   -- where there is nothing to write, the output is left alone
   pub silent : Told (reads.left input_before) (λ text. Told (in_view (looks.worlds files_before)) (λ world.
       (frames_outcome world root opts text).text ≡ [] → output_after ≡ output_before))
-  -- one side at most failed, and files only before the output; a fault comes only where a call failed, and at any other status
-  -- none has
+  -- a fault comes exactly where a call failed, on one side at most, and of the files only before the output
   pub fails : Fails reads writes looks ended input_before input_after output_before output_after files_before files_after
   pub fault : ended ≡ statuses.Fault → (reads.faults input_after ≡ counted (reads.faults input_before))
       ⊎ ((writes.faults output_after ≡ counted (writes.faults output_before)) ⊎ (looks.faults files_after ≡ counted (looks.faults files_before)))

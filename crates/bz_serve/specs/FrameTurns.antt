@@ -18,8 +18,7 @@ use Rattle.bz_serve.specs.FrameReply.{AreFound, opens_by}
 use Rattle.bz_serve.specs.FrameRun.{NamesBad, frames_outcome}
 use Rattle.bz_serve.specs.FrameText.{frame_texts}
 
--- a reply that the run is done has the texts of what was found for the frames that the input asks for, in as many reads as that
--- takes
+-- a reply that the run is done has the texts of what was found for the input's frames, in as many reads as that takes
 pub record IsRunReply (root : List ℕ) (opts : FindSymOpts) (text said : List ℕ) (opens_before opens_after : ℕ) : Type 0 where
   pub frames : List Frame
   pub readings : List FrameReading
@@ -34,8 +33,7 @@ pub record RepliesToInput {R F : Type 0} (reads : input_trait.Ghosts R) (looks :
   pub reply : Told (reads.left input_before) (λ text. Told (in_view (looks.worlds files_before)) (λ world. Replies (frames_outcome world root opts text) result))
   pub status : IfOk result (λ given. (given.status ≡ statuses.Input) ⊎ (given.status ≡ statuses.Done))
   pub no_failure : IfOk result (λ given. IsNoFailure given.status)
-  -- and whatever the files tell, the texts are of what was found, in as many reads as that takes; and what is bad of an input is
-  -- named
+  -- and whatever the files tell, the texts are of what was found, and what is bad of an input is named
   pub answered : Told (reads.left input_before) (λ text. IfOk result (λ given.
       given.status ≡ statuses.Done → IsRunReply root opts text (text_of given.said) (looks.opens files_before) (looks.opens files_after)))
   pub named : Told (reads.left input_before) (λ text. IfOk result (λ given. given.status ≡ statuses.Input → NamesBad text (text_of given.said)))

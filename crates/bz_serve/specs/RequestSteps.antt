@@ -55,10 +55,13 @@ target_form map_files (Gsym path) = OneFile (gsym_file path)
 target_form map_files (Elf path) = OneFile (elf_file path)
 target_form map_files (Process number) = OneProcess (query_by map_files number)
 
--- a call of a symbolizer in its state and a world: what it answers, the state that it leaves, and how many files it reads at most
+-- a call of a symbolizer in its state and a world
 pub record Doing (B : Type 0) : Type 0 where
+  -- what it answers
   pub answer : Kept → World → Result B Error
+  -- the state that it leaves
   pub after : Kept → World → Kept
+  -- how many files it reads at most
   pub reads : Kept → World → ℕ
 
 -- a source that is a file or bytes is asked

@@ -36,8 +36,7 @@ pub record ReadsRequests {R : Type 0} (reads : input_trait.Ghosts R) (result : R
 -- all that a run over an input of requests promises
 pub record RunsRequests {R W F : Type 0} (reads : input_trait.Ghosts R) (writes : output_trait.Ghosts W) (looks : files_trait.Ghosts F) (config : Config) (ended : Status)
     (input_before input_after : R) (output_before output_after : W) (files_before files_after : F) : Type 0 where
-  -- what was written is the outcome's text, or a front of it where the run failed; and the run ends as the outcome, if it
-  -- doesn't fail
+  -- the run wrote the outcome's text and ended by its status, or it failed and wrote a front of that text
   pub ends : Told (reads.left input_before) (λ text. ToldWorlds (looks.worlds files_before) (λ worlds. Told (writes.written output_before) (λ old.
       Ends (outcome_by config worlds (looks.pid files_before) (asked_in text)) old ended (writes.written output_after))))
   -- status 0 means that the input was requests, and that the texts of their answers, each in its world, are what was written

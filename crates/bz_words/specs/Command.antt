@@ -14,20 +14,26 @@ use Rattle.bz_words.specs.declared.given.Job.TheVariants as made_jobs
 use Rattle.bz_words.specs.declared.given.Product as made_product
 use Rattle.bz_words.specs.declared.given.Product.TheVariants as made_products
 
--- what is made of one file, and written as it is: the GSYM bytes or the canonical text of the Breakpad file at a path
+-- what is made of one file, and written as it is
 pub data Product : Type 0 where
+  -- the GSYM bytes of the Breakpad file at a path
   Converted : Text → Product
+  -- the canonical text of the Breakpad file at a path
   Canonical : Text → Product
 
--- what is to be done: one batch, with the kind of address of its input; the requests of the input; the generated job, by seed,
--- functions and addresses; a product; the stacks of the input, over the Breakpad file at a path; the frames of the input, over the
--- store at one
+-- what is to be done
 pub data Job : Type 0 where
+  -- one batch of the addresses of the input, which are of a kind
   Batch : Target → AddressKind → Job
+  -- the requests of the input
   Serve : Job
+  -- the generated job, by seed, functions and addresses
   Generate : ℕ → ℕ → ℕ → Job
+  -- a product
   Make : Product → Job
+  -- the stacks of the input, over the Breakpad file at a path
   Stacks : Text → Job
+  -- the frames of the input, over the store at a path
   Frames : Text → Job
 
 pub record Command : Type 0 where

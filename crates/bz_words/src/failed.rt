@@ -18,7 +18,7 @@ use std::borrow::CowStr;
 const MOST_BYTES: u64 = 1_073_741_824;
 
 /// How many calls have failed on each side of a run.
-#[derive(Clone, Copy, Debug)]
+#[derive(Clone, Copy)]
 pub struct Failed {
     /// Reads of standard input.
     pub input: u64,

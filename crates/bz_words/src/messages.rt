@@ -60,9 +60,9 @@ static USES: [(&str, &str); 10] = [
 /// What standard error says of a run of these words that ended so, without the end of the last line.
 /// It says nothing of a run that is done or whose input is bad, of which standard output says it all. Of a
 /// refused run it says where the Breakpad file is refused that the words name, if that is read once more
-/// and is refused. Of a faulty command line it says what is wrong with it, in one line; of a failed run,
-/// which side failed, by the counts, and at which path if that is known; and that memory ran out. It reads
-/// one file at most, and only of a refused run.
+/// and is refused. Of a faulty command line it says what is wrong with it, in one line. Of a failed run it
+/// says which side failed, by the counts, and at which path if that is known. It says that memory ran out.
+/// It reads one file at most, and only of a refused run.
 pub fn message<F: Files>(
     alloc: Global,
     words: &[String],

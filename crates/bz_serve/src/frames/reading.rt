@@ -9,8 +9,8 @@ use bz_store::CrashFrame;
 use std::alloc::{AllocError, Global};
 
 /// The frames that the lines of the input say: one on each line, or none where it is empty. A line is
-/// a module's name, the module's id and an offset in the module, with one space between each two;
-/// name and id may be empty.
+/// a module's name, the module's id and an offset in the module, with one space between each two. Name
+/// and id may be empty.
 pub fn read_frames(alloc: Global, text: &[u8]) -> Result<Vec<CrashFrame>, BadInput>
     ensures ok { IfOk result (λ frames. frames_in text.now ≡ Ok (map frame_of frames.items)) }
     ensures line { (n : ℕ) → IsErrOf result (BadInput.Line n) → frames_in text.now ≡ Err n }
