@@ -132,7 +132,7 @@ fn end_within(line: &SourceLine, end: u64) -> u64
     line.addr.saturating_add(u64::from(line.size)).min(end)
 }
 
-/// A gap, or else the one from an address on up to the next line record. None begins at the start of the
+/// A gap, or else the one from an address on up to the next line record. No gap begins at the start of the
 /// function.
 fn gap_before(gap: Option<u64>, start: u64, reached: u64, next: u64) -> Option<u64>
     ensures { result ≡ (gap or gap_between start reached next) }

@@ -1,4 +1,5 @@
--- How many files a request reads at most, by what is kept of files and of processes.
+-- How many files a request reads at most. A file isn't read where its present stamp is kept.
+-- Of a process, mappings that are kept aren't read, nor is a status whose id is remembered.
 use Rattle.std.specs.Prelude.{ℕ, ◌+◌, Bool, true, false, cond, List, [], ◌∷◌, map, Option, Some, None, option_and_then, Result, Ok, Err}
 use Rattle.std.specs.List.{list_any}
 use Rattle.std.specs.Str.{bytes_eq}
@@ -39,7 +40,8 @@ abbrev pub told_paths : Asked → List ℕ → Result (List Mapping) Error → L
 told_paths asked addrs (Ok mappings) = mapped_paths asked addrs mappings
 told_paths asked addrs (Err e) = []
 
--- what addresses of a process may have read once: mappings, status, and each mapped file and perf map of an unkept stamp
+-- what addresses of a process may have read once: the text of its mappings, its status,
+-- and each mapped file and perf map whose present stamp isn't kept
 abbrev pub process_reads : Asked → Option (List Mapping) → List ℕ → World → ProcessCaches → ℕ
 process_reads asked known addrs world kept = reads_once asked world (told_paths asked addrs (some_mappings asked.pid known world kept).answer) known kept
 
@@ -48,7 +50,8 @@ abbrev pub batch_reads : Asked → Option (List Mapping) → List ℕ → World 
 batch_reads asked known addrs world kept =
     process_reads asked known addrs world kept + reads_again (λ answers. answers) addrs (asks_process asked known (map unsaid addrs) world kept).answer
 
--- what keeping a process may have read, as far as each is asked for: mappings, status, and a perf map of an unkept stamp
+-- what keeping a process may have read, as far as each is asked for: the text of its mappings, kept or not, its status,
+-- and its perf map if the present stamp isn't kept
 abbrev pub caching_reads : Caching → World → ProcessCaches → ℕ
 caching_reads asked world kept =
     count_of asked.vmas + cond asked.perf_map (left_to_read asked.pid world [] (perf_path (remember asked.pid asked.own world kept).answer) kept) 0

@@ -85,7 +85,8 @@ pub record Served {W F : Type 0} (writes : output_trait.Ghosts W) (looks : files
   pub output_faults : CountsFaults (writes.faults output_before) (writes.faults output_after) (StopsBy stops.Output result)
   pub looked : Looked looks files_before files_after (StopsBy stops.Files result)
 
--- requests were answered, each in its world, and their texts were written, or a front of them
+-- requests were answered, each in its world, and their texts were written, or a front of them;
+-- nothing is written where they are empty, and each may depend on the id of the own process
 pub record ServesAll {A W F : Type 0} (writes : output_trait.Ghosts W) (looks : files_trait.Ghosts F) (step : ℕ → A → Kept → World → Step) (requests : List A) (result : Result (Unit {0}) Stop)
     (old : Kept) (output_before output_after : W) (files_before files_after : F) : Type 0 where
   pub whole : ToldWorlds (looks.worlds files_before) (λ worlds. Told (writes.written output_before) (λ was.

@@ -81,13 +81,13 @@ impl<D: ProcessDispatch + Drop> Symbolizer<D> {
     /// ignored error. An empty batch looks at its file too. A call is refused by `Unsupported` where
     /// the source doesn't take the kind of address. It is refused by `NotFound`, `PermissionDenied` and
     /// `ReadFault` where its file is absent, may not be read or can't be. Bytes outside the format are
-    /// refused as the format says, and `OutOfMemory` may come. A refused call leaves the symbolizer as it
-    /// was, with two exceptions. Where memory ran out, the file may have been taken in. An ELF file that is
-    /// asked for addresses of a process is taken in, since it refuses them after the look.
+    /// refused as the format says, and `OutOfMemory` may come. A refused call on a file leaves the symbolizer
+    /// as it was, with two exceptions. Where memory ran out, the file may have been taken in. An ELF file
+    /// that is asked for addresses of a process is taken in, since it refuses them after the look.
     ///
     /// The file of a process is the text of its mappings. Where there are none, the call is refused by
     /// `UnexpectedEof`. A mapped file that can't be read refuses its addresses alone, but `ReadFault`
-    /// and `OutOfMemory` refuse the call. What was looked at before stays looked at.
+    /// and `OutOfMemory` refuse the call. What was looked at before such a refusal stays looked at.
     pub fn symbolize<F: Files>(
         &mut self,
         alloc: Global,
@@ -130,9 +130,9 @@ impl<D: ProcessDispatch + Drop> Symbolizer<D> {
     }
 
     /// The same answers as `symbolize`, made one by one or some at a time. They lend their texts from the
-    /// version of the file that the call found, so that they are never all in memory. The addresses are
-    /// searched for at this call, and its steps are counted; making the answers searches no more. A process,
-    /// whose answers are of many files, is refused by `Unsupported`.
+    /// version of the file that the call found. So neither a list of them nor texts of their own are in
+    /// memory. The addresses are searched for at this call, and its steps are counted. Making the answers
+    /// searches no more. A process, whose answers are of many files, is refused by `Unsupported`.
     pub fn look_up<'d, F: Files, L: Ledger>(
         &mut self,
         alloc: Global,
@@ -181,9 +181,8 @@ impl<D: ProcessDispatch + Drop> Symbolizer<D> {
     /// without reading the file there. Sources at the path are then answered by the resolver's file,
     /// as long as the path is at that stamp and this stamp stays kept. It is refused by
     /// `AlreadyExists` where a version with the present stamp is kept, or where the path is held and isn't
-    /// looked at anew. It is refused by `NotFound`, `PermissionDenied` and
-    /// `ReadFault` as a look at the path is, and by `OutOfMemory`. After a refusal the symbolizer is as
-    /// before.
+    /// looked at anew. It is refused by `NotFound`, `PermissionDenied` and `ReadFault` as a look at the path
+    /// is, and by `OutOfMemory`. After a refusal the symbolizer is as before.
     pub fn register_elf_resolver<F: Files>(
         &mut self,
         alloc: Global,

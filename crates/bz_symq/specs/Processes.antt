@@ -21,7 +21,8 @@ abbrev pub pid_of : ℕ → Pid
 pid_of zero = pids.Slf
 pid_of (suc n) = pids.Pid (record { value = suc n; ok = omega arith })
 
--- how it is asked, where the own one has this id: with its perf map, and as configured with the paths for its mappings
+-- how it is asked, where the own one has this id: with its perf map,
+-- and by the paths that stand for its mappings or by the files' own, as configured
 abbrev pub asked_by : Config → ℕ → ℕ → Asked
 asked_by config number own = record { pid = pid_of number; own = own; perf_map = true; map_files = config.map_files }
 

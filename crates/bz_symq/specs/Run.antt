@@ -60,7 +60,8 @@ pub record IsDone (command : Command) (input : List ℕ) (world : World) (own : 
   pub answers_are : AnswersIn asking world own addrs answers
   pub written : new ≡ Some (old ++ answer_texts addrs answers)
 
--- the run was asked for addresses, and wrote the texts of some answers to them in order, whatever the files tell
+-- whatever the files tell, the run was asked for addresses, and wrote the texts of answers to them in order:
+-- of a file the plain answers of some bytes in its format, of a process any
 pub record IsSomeDone (command : Command) (input old : List ℕ) (new : Option (List ℕ)) : Type 0 where
   pub asking : Asking
   pub addrs : List ℕ

@@ -69,7 +69,8 @@ IsBatch (Breakpad path) kind config bytes addrs answers = IsBreakpadBatch (opts_
 IsBatch (Gsym path) kind config bytes addrs answers = IsGsymBatch (opts_in config) bytes addrs answers
 IsBatch (Elf path) kind config bytes addrs answers = IsElfBatch path bytes kind addrs answers
 
--- this is the refusal of bytes that aren't in the source's format, or of ELF bytes for a kind of address that they don't answer
+-- this is the refusal of bytes that aren't in the source's format: of ELF bytes that of the first check that they fail;
+-- or it is that of ELF bytes for a kind of address that they don't answer
 abbrev pub IsRefusalOf : FileTarget → AddressKind → List ℕ → Error → Type 0
 IsRefusalOf (Breakpad path) kind bytes e = (e ≡ errors.InvalidInput) × ((table : Table) → IsFile bytes table → ⊥)
 IsRefusalOf (Gsym path) kind bytes e = (e ≡ errors.InvalidData) × ¬ (IsGsym bytes)

@@ -61,8 +61,8 @@ static USES: [(&str, &str); 10] = [
 /// It says nothing of a run that is done or whose input is bad, of which standard output says it all. Of a
 /// refused run it says where the Breakpad file is refused that the words name, if that is read once more
 /// and is refused. Of a faulty command line it says what is wrong with it, in one line. Of a failed run it
-/// says which side failed, by the counts, and at which path if that is known. It says that memory ran out.
-/// It reads one file at most, and only of a refused run.
+/// says which side failed, by the counts, and at which path if that is known. Where memory ran out it says
+/// that. It reads one file at most, and only of a refused run.
 pub fn message<F: Files>(
     alloc: Global,
     words: &[String],
