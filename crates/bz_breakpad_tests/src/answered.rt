@@ -7,8 +7,21 @@ use std::alloc::Global;
 use std::borrow::CowStr;
 use std::sync::ledger::Ledger;
 
+/// Whether this is answered at the address, in a batch and alone.
+pub(crate) fn is_answered<L: Ledger>(
+    alloc: Global,
+    file: &SymbolFile,
+    addr: u64,
+    opts: &FindSymOpts,
+    expected: &Answer,
+    steps: &mut Steps<L>,
+) -> bool {
+    is_answered_in_batch(alloc, file, addr, opts, expected, steps)
+        && is_answered_alone(alloc, file, addr, opts, expected, steps)
+}
+
 /// Whether this is answered at the address in a batch.
-pub(crate) fn is_answered_in_batch<L: Ledger>(
+fn is_answered_in_batch<L: Ledger>(
     alloc: Global,
     file: &SymbolFile,
     addr: u64,
@@ -23,7 +36,7 @@ pub(crate) fn is_answered_in_batch<L: Ledger>(
 }
 
 /// Whether this is answered alone. What a batch ignores is refused alone.
-pub(crate) fn is_answered_alone<L: Ledger>(
+fn is_answered_alone<L: Ledger>(
     alloc: Global,
     file: &SymbolFile,
     addr: u64,
@@ -56,11 +69,9 @@ fn is_answer(answer: &Symbolized<'_>, expected: &Answer) -> bool {
     match (answer, expected) {
         (Symbolized::Sym(symbol), Answer::Symbol(name, start, offset, size, module, public)) => {
             symbol.name.as_str() == *name
-                && symbol.addr == *start
-                && symbol.offset == *offset
-                && symbol.size == *size
                 && is_text(&symbol.module, module)
-                && symbol.public == *public
+                && (symbol.addr, symbol.offset, symbol.size, symbol.public)
+                    == (*start, *offset, *size, *public)
         }
         (Symbolized::Sym(symbol), Answer::Places(place, calls)) => {
             is_call(symbol.name.as_str(), &symbol.code_info, place)

@@ -4,8 +4,6 @@ use crate::fact::Answer::{Symbol, Unknown};
 use crate::fact::Fact::{Answer, Batch};
 use crate::fact::Row;
 use crate::files::{BAR, OVERLAPPING};
-use crate::holding::hold;
-use crate::read::Way;
 use bz_base::{FindSymOpts, Reason};
 use bz_breakpad::FoundRecord;
 
@@ -36,7 +34,7 @@ const BEYOND: &[u8] = b"PUBLIC 10 0 p\nFUNC ffffffffffffffff 10 0 f\n";
 const TOP: u64 = 0xffffffffffffffff;
 
 /// Answers by the nearest function, and nowhere else.
-const BY_FUNCTIONS: &[Row] = &[
+pub(crate) const BY_FUNCTIONS: &[Row] = &[
     (
         BAR,
         &[
@@ -120,13 +118,8 @@ const BY_FUNCTIONS: &[Row] = &[
     ),
 ];
 
-#[test]
-fn answers_by_the_nearest_function(rt: HostRuntime) {
-    assert!(rt; hold(rt.alloc(), BY_FUNCTIONS, &Way::Bytes));
-}
-
 /// Answers by PUBLIC records, after which no function starts.
-const BY_PUBLICS: &[Row] = &[
+pub(crate) const BY_PUBLICS: &[Row] = &[
     (
         PUBLICS,
         &[
@@ -184,13 +177,8 @@ const BY_PUBLICS: &[Row] = &[
     ),
 ];
 
-#[test]
-fn answers_by_public_records(rt: HostRuntime) {
-    assert!(rt; hold(rt.alloc(), BY_PUBLICS, &Way::Bytes));
-}
-
 /// Answers where a PUBLIC record is at a function's start, within it, behind it or before it.
-const BY_BOTH: &[Row] = &[
+pub(crate) const BY_BOTH: &[Row] = &[
     (
         SAME,
         &[
@@ -262,13 +250,8 @@ const BY_BOTH: &[Row] = &[
     ),
 ];
 
-#[test]
-fn answers_by_public_records_beside_functions(rt: HostRuntime) {
-    assert!(rt; hold(rt.alloc(), BY_BOTH, &Way::Bytes));
-}
-
 /// Functions, PUBLIC records and addresses with neither, together.
-const BATCHES: &[Row] = &[
+pub(crate) const BATCHES: &[Row] = &[
     (
         BAR,
         &[Batch(
@@ -306,8 +289,3 @@ const BATCHES: &[Row] = &[
         )],
     ),
 ];
-
-#[test]
-fn answers_functions_and_public_records_together(rt: HostRuntime) {
-    assert!(rt; hold(rt.alloc(), BATCHES, &Way::Bytes));
-}

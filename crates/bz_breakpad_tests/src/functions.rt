@@ -4,8 +4,6 @@ use crate::fact::Fact::{Function, Functions};
 use crate::fact::Row;
 use crate::fact::Told::{CallAtDepth, Calls, CallsAround, LineRecord, Lines, Nothing, Parts};
 use crate::files::{BAR, NESTED};
-use crate::holding::hold;
-use crate::read::Way;
 use bz_breakpad::{Inlinee, SourceLine};
 
 /// The line of NESTED at 0x1010.
@@ -36,7 +34,7 @@ const INNER: Inlinee = Inlinee {
     origin_id: 1,
 };
 
-const FOUND: &[Row] = &[
+pub(crate) const FOUND: &[Row] = &[
     (
         BAR,
         &[
@@ -57,11 +55,6 @@ const FOUND: &[Row] = &[
         ],
     ),
 ];
-
-#[test]
-fn finds_functions_lines_and_calls(rt: HostRuntime) {
-    assert!(rt; hold(rt.alloc(), FOUND, &Way::Bytes));
-}
 
 /// The ranges of calls of three depths, of which two are alike in depth and start.
 const INLINEES: &[Inlinee] = &[
@@ -108,7 +101,7 @@ const INLINEES: &[Inlinee] = &[
 ];
 
 /// Functions and lines in the order of start and size, and calls in the order of depth and start.
-const IN_ORDER: &[Row] = &[
+pub(crate) const IN_ORDER: &[Row] = &[
     (b"FUNC 10 8 0 a\nFUNC 20 8 0 b\n", &[Functions(&["a", "b"])]),
     (
         b"FUNC 30 10 0 c\nFUNC 10 20 0 b\nFUNC m 10 8 0 a\nFUNC 30 10 4 d\n",
@@ -139,8 +132,3 @@ const IN_ORDER: &[Row] = &[
         &[Function(0x1000, Calls(INLINEES))],
     ),
 ];
-
-#[test]
-fn functions_lines_and_calls_in_order(rt: HostRuntime) {
-    assert!(rt; hold(rt.alloc(), IN_ORDER, &Way::Bytes));
-}

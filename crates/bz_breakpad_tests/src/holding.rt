@@ -2,10 +2,10 @@
 
 ghost use Rattle.std.specs.Prelude.{◌≡◌, ◌<◌};
 
-use crate::answered::{is_answered_alone, is_answered_in_batch};
+use crate::answered::is_answered;
 use crate::fact::{ABSENT, Fact, Row};
 use crate::found::has_batch;
-use crate::named::{are_listed, has_file_ids, has_function_names, has_origin_ids, has_public};
+use crate::named::{are_listed, has_function_names, has_name, has_names, has_public};
 use crate::read::{Way, file_of, records_of};
 use crate::told::is_told;
 use crate::walked::is_walk;
@@ -63,42 +63,25 @@ fn shows<L: Ledger>(
     steps: &mut Steps<L>,
 ) -> bool {
     match fact {
-        Fact::Functions(names) => has_function_names(file, names, steps),
-        Fact::Function(addr, told) => is_told(alloc, file, *addr, told, steps),
-        Fact::Answer(addr, opts, answer) => {
-            is_answered_in_batch(alloc, file, *addr, opts, answer, steps)
-                && is_answered_alone(alloc, file, *addr, opts, answer, steps)
-        }
-        Fact::Batch(addrs, opts, records, answers) => {
-            has_batch(alloc, file, addrs, opts, records, answers, steps)
-        }
-        _ => holds_records(alloc, text, file, fact),
-    }
-}
-
-/// Whether the records in the file of the text are this; none of the facts that a search shows.
-fn holds_records(alloc: Global, text: &[u8], file: &SymbolFile, fact: &Fact) -> bool {
-    match fact {
         Fact::Records(count) => records_of(alloc, text) == Ok(*count),
         Fact::Counts(functions, files, publics) => {
-            file.function_count() == *functions
-                && file.file_count() == *files
-                && file.public_count() == *publics
+            (
+                file.function_count(),
+                file.file_count(),
+                file.public_count(),
+            ) == (*functions, *files, *publics)
         }
         Fact::Module(name) => file.module().unwrap_or(ABSENT) == *name,
-        Fact::Name(id, name, origin) => {
-            file.file(*id).unwrap_or(ABSENT) == *name
-                && file.origin(*id).unwrap_or(ABSENT) == *origin
-        }
-        Fact::Names(files, origins) => {
-            are_listed(file.files(alloc), files)
-                && has_file_ids(file, files)
-                && are_listed(file.origins(alloc), origins)
-                && has_origin_ids(file, origins)
-        }
+        Fact::Name(id, name, origin) => has_name(file, *id, name, origin),
+        Fact::Names(files, origins) => has_names(alloc, file, files, origins),
         Fact::Public(index, public) => has_public(file, *index, public),
         Fact::Publics(publics) => are_listed(file.publics(alloc), publics),
         Fact::Walk(last, infos) => is_walk(file, SymType::Undefined, last, infos, Ok(())),
-        _ => false,
+        Fact::Functions(names) => has_function_names(file, names, steps),
+        Fact::Function(addr, told) => is_told(alloc, file, *addr, told, steps),
+        Fact::Answer(addr, opts, answer) => is_answered(alloc, file, *addr, opts, answer, steps),
+        Fact::Batch(addrs, opts, records, answers) => {
+            has_batch(alloc, file, addrs, opts, records, answers, steps)
+        }
     }
 }

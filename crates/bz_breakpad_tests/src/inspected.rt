@@ -2,8 +2,6 @@
 
 use crate::fact::Fact::Walk;
 use crate::fact::Row;
-use crate::holding::hold;
-use crate::read::Way;
 use bz_base::SymType;
 use bz_breakpad::SymInfo;
 
@@ -57,15 +55,10 @@ const LAST: SymInfo<'static> = SymInfo {
 };
 
 /// Walks in the order of start, size and place in the file.
-const WALKS: &[Row] = &[(
+pub(crate) const WALKS: &[Row] = &[(
     TWINS,
     &[
         Walk("twin", &[OTHER, SHORT_TWIN]),
         Walk("none", &[OTHER, SHORT_TWIN, LONG_TWIN, LATE_TWIN, LAST]),
     ],
 )];
-
-#[test]
-fn walks_in_order_until_it_is_stopped(rt: HostRuntime) {
-    assert!(rt; hold(rt.alloc(), WALKS, &Way::Bytes));
-}

@@ -36,6 +36,8 @@ mod resolved;
 #[cfg(test)]
 mod resolvers;
 #[cfg(test)]
+mod tables;
+#[cfg(test)]
 mod texts;
 #[cfg(test)]
 mod told;

@@ -3,8 +3,6 @@
 use crate::fact::Fact::Function;
 use crate::fact::Row;
 use crate::fact::Told::Line;
-use crate::holding::hold;
-use crate::read::Way;
 
 /// 20 lines one after another, each with a gap after it.
 const RUN: &[u8] = b"\
@@ -46,70 +44,65 @@ const INTERRUPTED: &[u8] =
 const CARRIAGE_RETURNS: &[u8] =
     b"FUNC 1000 40 0 f\r\n1000 10 1 1\r\n1010 8 2 1\r\n1020 8 3 1\nINFO a record of more bytes than a load\n";
 
-const LINES: &[Row] = &[
+pub(crate) const LINES: &[Row] = &[
     (
         RUN,
         &[
-            Function(0xff8, Line(0xff8, None)),
-            Function(0x1000, Line(0x1000, Some(1001))),
-            Function(0x1007, Line(0x1007, Some(1001))),
-            Function(0x1008, Line(0x1008, None)),
-            Function(0x1010, Line(0x1010, Some(1002))),
-            Function(0x10a0, Line(0x10a0, Some(1011))),
-            Function(0x10a7, Line(0x10a7, Some(1011))),
-            Function(0x10af, Line(0x10af, None)),
-            Function(0x10b3, Line(0x10b3, Some(1012))),
-            Function(0x1130, Line(0x1130, Some(1020))),
-            Function(0x1137, Line(0x1137, Some(1020))),
-            Function(0x1138, Line(0x1138, None)),
+            Function(0xff8, Line(0xff8, 0)),
+            Function(0x1000, Line(0x1000, 1001)),
+            Function(0x1007, Line(0x1007, 1001)),
+            Function(0x1008, Line(0x1008, 0)),
+            Function(0x1010, Line(0x1010, 1002)),
+            Function(0x10a0, Line(0x10a0, 1011)),
+            Function(0x10a7, Line(0x10a7, 1011)),
+            Function(0x10af, Line(0x10af, 0)),
+            Function(0x10b3, Line(0x10b3, 1012)),
+            Function(0x1130, Line(0x1130, 1020)),
+            Function(0x1137, Line(0x1137, 1020)),
+            Function(0x1138, Line(0x1138, 0)),
         ],
     ),
     (
         DIGITS_GROW,
         &[
-            Function(0xfef, Line(0xfef, Some(1))),
-            Function(0xff0, Line(0xff0, Some(2))),
-            Function(0x1000, Line(0x1000, Some(3))),
-            Function(0x101f, Line(0x101f, Some(4))),
+            Function(0xfef, Line(0xfef, 1)),
+            Function(0xff0, Line(0xff0, 2)),
+            Function(0x1000, Line(0x1000, 3)),
+            Function(0x101f, Line(0x101f, 4)),
         ],
     ),
     (
         DISORDERED,
         &[
-            Function(0x1000, Line(0x1000, Some(1))),
-            Function(0x1014, Line(0x1014, Some(2))),
-            Function(0x1018, Line(0x1018, None)),
-            Function(0x1020, Line(0x1020, Some(3))),
+            Function(0x1000, Line(0x1000, 1)),
+            Function(0x1014, Line(0x1014, 2)),
+            Function(0x1018, Line(0x1018, 0)),
+            Function(0x1020, Line(0x1020, 3)),
         ],
     ),
     (
         EQUAL,
         &[
-            Function(0x1003, Line(0x1003, Some(1))),
-            Function(0x1010, Line(0x1010, Some(3))),
-            Function(0x1011, Line(0x1011, Some(2))),
-            Function(0x1020, Line(0x1020, Some(4))),
+            Function(0x1003, Line(0x1003, 1)),
+            Function(0x1010, Line(0x1010, 3)),
+            Function(0x1011, Line(0x1011, 2)),
+            Function(0x1020, Line(0x1020, 4)),
         ],
     ),
     (
         INTERRUPTED,
         &[
-            Function(0x1008, Line(0x1008, Some(1))),
-            Function(0x1010, Line(0x1010, Some(2))),
-            Function(0x1027, Line(0x1027, Some(3))),
+            Function(0x1008, Line(0x1008, 1)),
+            Function(0x1010, Line(0x1010, 2)),
+            Function(0x1027, Line(0x1027, 3)),
         ],
     ),
     (
         CARRIAGE_RETURNS,
         &[
-            Function(0x100f, Line(0x100f, Some(1))),
-            Function(0x1010, Line(0x1010, Some(2))),
-            Function(0x1020, Line(0x1020, Some(3))),
+            Function(0x100f, Line(0x100f, 1)),
+            Function(0x1010, Line(0x1010, 2)),
+            Function(0x1020, Line(0x1020, 3)),
         ],
     ),
 ];
-
-#[test]
-fn lines_of_runs_and_lists(rt: HostRuntime) {
-    assert!(rt; hold(rt.alloc(), LINES, &Way::Bytes));
-}

@@ -1,7 +1,9 @@
 //! The names of a file, and its PUBLIC records.
 
+use crate::fact::{ABSENT, Names};
 use bz_base::{Error, Steps};
 use bz_breakpad::{PublicSymbol, SymbolFile};
+use std::alloc::Global;
 use std::sync::ledger::Ledger;
 
 /// Whether these are listed.
@@ -15,8 +17,13 @@ pub(crate) fn are_listed<T: PartialEq + Drop>(
     }
 }
 
+/// Whether the file and the inlined function of the id have these names.
+pub(crate) fn has_name(file: &SymbolFile, id: u32, name: &str, origin: &str) -> bool {
+    file.file(id).unwrap_or(ABSENT) == name && file.origin(id).unwrap_or(ABSENT) == origin
+}
+
 /// Whether these are the ids of FILE records, in order.
-pub(crate) fn has_file_ids(file: &SymbolFile, expected: &[(u32, &str)]) -> bool {
+fn has_file_ids(file: &SymbolFile, expected: &[(u32, &str)]) -> bool {
     if file.file_count() != expected.len() {
         return false;
     }
@@ -29,7 +36,7 @@ pub(crate) fn has_file_ids(file: &SymbolFile, expected: &[(u32, &str)]) -> bool 
 }
 
 /// Whether these are the ids of INLINE_ORIGIN records, in order.
-pub(crate) fn has_origin_ids(file: &SymbolFile, expected: &[(u32, &str)]) -> bool {
+fn has_origin_ids(file: &SymbolFile, expected: &[(u32, &str)]) -> bool {
     if file.origin_count() != expected.len() {
         return false;
     }
@@ -39,6 +46,14 @@ pub(crate) fn has_origin_ids(file: &SymbolFile, expected: &[(u32, &str)]) -> boo
         }
     }
     true
+}
+
+/// Whether these are the names of FILE records and of INLINE_ORIGIN records, and their ids, in order.
+pub(crate) fn has_names(alloc: Global, file: &SymbolFile, files: &Names, origins: &Names) -> bool {
+    are_listed(file.files(alloc), files)
+        && has_file_ids(file, files)
+        && are_listed(file.origins(alloc), origins)
+        && has_origin_ids(file, origins)
 }
 
 /// Whether this is the PUBLIC record of the index.

@@ -2,8 +2,6 @@
 
 use crate::fact::Fact::{Counts, Module, Name, Names, Public, Publics};
 use crate::fact::{ABSENT, Row};
-use crate::holding::hold;
-use crate::read::Way;
 use bz_breakpad::PublicSymbol;
 
 const NAMED: &[u8] =
@@ -20,7 +18,7 @@ const REPEATED: &[u8] = b"FILE 0 a\nFILE 0 b\nFILE 2 c\nFILE 1 d\nFILE 1 e\nFILE
 const LAST: &[u8] = b"FILE 0 a\nFILE 4294967295 y\nFILE 4294967295 z\n";
 
 /// Names by ids, of PUBLIC records and of a module.
-const NAMES: &[Row] = &[(
+pub(crate) const NAMES: &[Row] = &[(
     NAMED,
     &[
         Name(0, ABSENT, ABSENT),
@@ -52,13 +50,8 @@ const NAMES: &[Row] = &[(
     ],
 )];
 
-#[test]
-fn names_by_ids(rt: HostRuntime) {
-    assert!(rt; hold(rt.alloc(), NAMES, &Way::Bytes));
-}
-
 /// Names of modules.
-const MODULES: &[Row] = &[
+pub(crate) const MODULES: &[Row] = &[
     (b"MODULE a b c \r\n", &[Module("")]),
     (b"MODULE  a \tb\t c \t d \r\r\n", &[Module("d ")]),
     (b"MODULE a\tb c d e\n", &[Module("e")]),
@@ -67,13 +60,8 @@ const MODULES: &[Row] = &[
     (b"INFO MODULE a b c d\n", &[Module(ABSENT)]),
 ];
 
-#[test]
-fn names_modules(rt: HostRuntime) {
-    assert!(rt; hold(rt.alloc(), MODULES, &Way::Bytes));
-}
-
 /// Names by ids in order, out of order and with a gap.
-const ONCE: &[Row] = &[
+pub(crate) const ONCE: &[Row] = &[
     (
         IN_ORDER,
         &[
@@ -106,13 +94,8 @@ const ONCE: &[Row] = &[
     ),
 ];
 
-#[test]
-fn names_by_ids_of_one_record(rt: HostRuntime) {
-    assert!(rt; hold(rt.alloc(), ONCE, &Way::Bytes));
-}
-
 /// Names by ids of several records, and by the last id.
-const AGAIN: &[Row] = &[
+pub(crate) const AGAIN: &[Row] = &[
     (
         REPEATED,
         &[
@@ -135,13 +118,8 @@ const AGAIN: &[Row] = &[
     ),
 ];
 
-#[test]
-fn names_by_the_last_record_of_an_id(rt: HostRuntime) {
-    assert!(rt; hold(rt.alloc(), AGAIN, &Way::Bytes));
-}
-
 /// Ids one after another, out of order, with gaps and repeated, and none.
-const IDS: &[Row] = &[
+pub(crate) const IDS: &[Row] = &[
     (
         b"FILE 0 a\nINLINE_ORIGIN 0 f\nFILE 1 b\nFILE 2 c\n",
         &[Names(&[(0, "a"), (1, "b"), (2, "c")], &[(0, "f")])],
@@ -160,13 +138,8 @@ const IDS: &[Row] = &[
     (b"FUNC 10 8 0 a\n", &[Names(&[], &[])]),
 ];
 
-#[test]
-fn lists_names_by_their_ids(rt: HostRuntime) {
-    assert!(rt; hold(rt.alloc(), IDS, &Way::Bytes));
-}
-
 /// PUBLIC records in order, out of order with some of one address, and none.
-const PUBLICS: &[Row] = &[
+pub(crate) const PUBLICS: &[Row] = &[
     (
         b"PUBLIC 10 0 a\nPUBLIC 20 4 b\n",
         &[Publics(&[
@@ -209,8 +182,3 @@ const PUBLICS: &[Row] = &[
     ),
     (b"FILE 1 a\n", &[Publics(&[])]),
 ];
-
-#[test]
-fn lists_public_records_by_their_addresses(rt: HostRuntime) {
-    assert!(rt; hold(rt.alloc(), PUBLICS, &Way::Bytes));
-}

@@ -4,8 +4,6 @@ use crate::fact::Answer::{Places, Symbol, Unknown};
 use crate::fact::Fact::Answer;
 use crate::fact::Row;
 use crate::files::{BAR, NESTED, USUAL};
-use crate::holding::hold;
-use crate::read::Way;
 use bz_base::{FindSymOpts, Reason};
 
 const UNKNOWN_FILE: &[u8] = b"FUNC 1000 10 0 f\n1000 10 5 9\n";
@@ -22,7 +20,7 @@ const GAP_OF_DEPTH: &[u8] =
 
 const BEYOND: &[u8] = b"FUNC 1 2 3 x\nffffffffffffffff 2 0 0\n";
 
-const CALLS: &[Row] = &[
+pub(crate) const CALLS: &[Row] = &[
     (
         BAR,
         &[
@@ -114,13 +112,8 @@ const CALLS: &[Row] = &[
     ),
 ];
 
-#[test]
-fn places_by_lines_and_calls(rt: HostRuntime) {
-    assert!(rt; hold(rt.alloc(), CALLS, &Way::Bytes));
-}
-
 /// Places that are refused where they are asked for, and there alone.
-const UNKNOWN: &[Row] = &[
+pub(crate) const UNKNOWN: &[Row] = &[
     (
         UNKNOWN_FILE,
         &[
@@ -158,13 +151,8 @@ const UNKNOWN: &[Row] = &[
     ),
 ];
 
-#[test]
-fn unknown_places_are_refused(rt: HostRuntime) {
-    assert!(rt; hold(rt.alloc(), UNKNOWN, &Way::Bytes));
-}
-
 /// Lines out of order, a depth without a call, and a line that ends past 64 bits.
-const FROM_LISTS: &[Row] = &[
+pub(crate) const FROM_LISTS: &[Row] = &[
     (
         DISORDERED,
         &[
@@ -217,8 +205,3 @@ const FROM_LISTS: &[Row] = &[
         )],
     ),
 ];
-
-#[test]
-fn places_by_records_out_of_order(rt: HostRuntime) {
-    assert!(rt; hold(rt.alloc(), FROM_LISTS, &Way::Bytes));
-}

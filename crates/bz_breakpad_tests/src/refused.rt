@@ -30,11 +30,6 @@ const NO_LINES: &[&[u8]] = &[
     b"MODULE Linux x86 xxxxxx\nFILE 0 foo.c\n",
 ];
 
-#[test]
-fn refuses_lines(rt: HostRuntime) {
-    assert!(rt; are_refused(rt.alloc(), NO_LINES));
-}
-
 const NO_NUMBERS: &[&[u8]] = &[
     b"FUNC 00000000000000001 2 3 x\n",
     b"FUNC 1 000000002 3 x\n",
@@ -70,11 +65,6 @@ const NO_NUMBERS: &[&[u8]] = &[
     b"FUNC 1 2 3 x\nINLINE 0 1 0 5 1 100000000\n",
     b"FUNC 1 2 3 x\nINLINE a 1 0 5 1 1\n",
 ];
-
-#[test]
-fn refuses_numbers(rt: HostRuntime) {
-    assert!(rt; are_refused(rt.alloc(), NO_NUMBERS));
-}
 
 const NO_FIELDS: &[&[u8]] = &[
     b"MODULE a b c\n",
@@ -116,11 +106,6 @@ const NO_FIELDS: &[&[u8]] = &[
     b"STACK CFI INIT a\nSTACK CFI\n",
 ];
 
-#[test]
-fn refuses_fields(rt: HostRuntime) {
-    assert!(rt; are_refused(rt.alloc(), NO_FIELDS));
-}
-
 const NO_TAGS: &[&[u8]] = &[
     b"MODUL a b c d\n",
     b"MODULEa b c d\n",
@@ -148,11 +133,6 @@ const NO_TAGS: &[&[u8]] = &[
     b"STACK CFI INIT a\nSTACK CFIb\n",
 ];
 
-#[test]
-fn refuses_tags(rt: HostRuntime) {
-    assert!(rt; are_refused(rt.alloc(), NO_TAGS));
-}
-
 const NO_UTF_8: &[&[u8]] = &[
     b"MODULE a b c \xff\n",
     b"FILE 1 \xff\n",
@@ -161,11 +141,6 @@ const NO_UTF_8: &[&[u8]] = &[
     b"FUNC 1 2 3 \xc0\x80\n",
     b"FUNC 1 2 3 x\nINLINE_ORIGIN 1 \x80\n",
 ];
-
-#[test]
-fn refuses_bytes_that_are_no_text(rt: HostRuntime) {
-    assert!(rt; are_refused(rt.alloc(), NO_UTF_8));
-}
 
 const NO_OWNERS: &[&[u8]] = &[
     b"1 1 1 1\n",
@@ -190,11 +165,6 @@ const NO_OWNERS: &[&[u8]] = &[
     b"STACK CFI INIT a\nSTACK CFI b\nMODULE a b c d\n",
     b"INFO a\n\nMODULE a b c d\n",
 ];
-
-#[test]
-fn refuses_records_without_owners(rt: HostRuntime) {
-    assert!(rt; are_refused(rt.alloc(), NO_OWNERS));
-}
 
 const NO_LINE_ENDS: &[&[u8]] = &[
     b"FUNC 1 2 3 x\ry\n",
@@ -227,7 +197,20 @@ const NO_LINE_ENDS: &[&[u8]] = &[
     b"FILE 1 a\n\x0cFILE 2 b\n",
 ];
 
+/// The texts, by what is wrong with them.
+const REFUSED: &[(&str, &[&[u8]])] = &[
+    ("lines", NO_LINES),
+    ("numbers", NO_NUMBERS),
+    ("fields", NO_FIELDS),
+    ("tags", NO_TAGS),
+    ("bytes that are no text", NO_UTF_8),
+    ("records without owners", NO_OWNERS),
+    ("line ends and white space", NO_LINE_ENDS),
+];
+
 #[test]
-fn refuses_line_ends_and_white_space(rt: HostRuntime) {
-    assert!(rt; are_refused(rt.alloc(), NO_LINE_ENDS));
+fn refuses_texts(rt: HostRuntime) {
+    for (wrong, texts) in REFUSED {
+        assert!(rt; are_refused(rt.alloc(), texts), "{wrong}");
+    }
 }

@@ -95,8 +95,7 @@ fn is_symbol(symbol: &ResolvedSym<'_>, expected: &Found) -> bool {
     match expected {
         Found::Symbol(place, start, size, module) => {
             is_call(symbol.name, &symbol.code_info, place)
-                && symbol.addr == *start
-                && symbol.size == *size
+                && (symbol.addr, symbol.size) == (*start, *size)
                 && symbol.lang == SrcLang::Unknown
                 && symbol.inlined.is_empty()
                 && symbol.module.unwrap_or("") == *module

@@ -3,10 +3,8 @@
 use crate::fact::Fact::{Counts, Records};
 use crate::fact::Row;
 use crate::files::{BAR, NESTED, USUAL};
-use crate::holding::hold;
-use crate::read::Way;
 
-const COUNTED: &[Row] = &[
+pub(crate) const COUNTED: &[Row] = &[
     (BAR, &[Records(5), Counts(1, 1, 1)]),
     (
         b"MODULE Linux x86 ffff0000 bar\r\nFILE 53 bar.c\r\nPUBLIC 1234 10 some public\r\nFUNC 1000 30 10 another func\r\n1000 30 7 53\r\n",
@@ -34,17 +32,7 @@ const COUNTED: &[Row] = &[
     (b"PUBLIC 10 0 p\n", &[Records(1), Counts(0, 0, 1)]),
 ];
 
-#[test]
-fn counts_records_of_bytes(rt: HostRuntime) {
-    assert!(rt; hold(rt.alloc(), COUNTED, &Way::Bytes));
-}
-
-#[test]
-fn counts_records_of_a_version(rt: HostRuntime) {
-    assert!(rt; hold(rt.alloc(), COUNTED, &Way::Version));
-}
-
-const NUMBERS: &[Row] = &[
+pub(crate) const NUMBERS: &[Row] = &[
     (
         b"FUNC 0000000000000001 00000002 00000003 x\n",
         &[Records(1)],
@@ -75,12 +63,7 @@ const NUMBERS: &[Row] = &[
     (b"FUNC 1 2 3 x\nFACE 1 2 3\n", &[Records(2)]),
 ];
 
-#[test]
-fn reads_numbers(rt: HostRuntime) {
-    assert!(rt; hold(rt.alloc(), NUMBERS, &Way::Bytes));
-}
-
-const SEPARATORS: &[Row] = &[
+pub(crate) const SEPARATORS: &[Row] = &[
     (b"MODULE  a  b  c  d\n", &[Records(1)]),
     (b"MODULE\ta \tb \tc \td\n", &[Records(1)]),
     (b"MODULE a\tb c\t d \t \n", &[Records(1)]),
@@ -113,12 +96,7 @@ const SEPARATORS: &[Row] = &[
     ),
 ];
 
-#[test]
-fn reads_separators(rt: HostRuntime) {
-    assert!(rt; hold(rt.alloc(), SEPARATORS, &Way::Bytes));
-}
-
-const NAMES: &[Row] = &[
+pub(crate) const NAMES: &[Row] = &[
     (b"PUBLIC m 1 2 m\n", &[Records(1)]),
     (b"PUBLIC 1 2 m\n", &[Records(1)]),
     (b"PUBLIC 1 2 \n", &[Records(1)]),
@@ -135,12 +113,7 @@ const NAMES: &[Row] = &[
     (b"STACK CFI INIT \xff\nSTACK CFI \xff\n", &[Records(2)]),
 ];
 
-#[test]
-fn reads_names(rt: HostRuntime) {
-    assert!(rt; hold(rt.alloc(), NAMES, &Way::Bytes));
-}
-
-const ROLES: &[Row] = &[
+pub(crate) const ROLES: &[Row] = &[
     (b"FUNC 1 2 3 x\nINLINE 0 1 0 5 1 1 2 2 3 3\n", &[Records(2)]),
     (b"STACK CFI INIT a\nSTACK WIN a\n\n", &[Records(2)]),
     (b"FUNC 1 2 3 x\nFUNC 1 2 3 y\n1 1 1 1\n", &[Records(3)]),
@@ -163,12 +136,7 @@ const ROLES: &[Row] = &[
     ),
 ];
 
-#[test]
-fn reads_records_in_their_roles(rt: HostRuntime) {
-    assert!(rt; hold(rt.alloc(), ROLES, &Way::Bytes));
-}
-
-const LINE_ENDS: &[Row] = &[
+pub(crate) const LINE_ENDS: &[Row] = &[
     (b"FILE 1 a\n\r\n\n \t\r \n", &[Records(1)]),
     (b"FUNC 1 2 3 x\r\r\r\n1 1 1 1\r\n", &[Records(2)]),
     (b"FUNC 1 2 3 x\n\n \n\r1 1 1 1\n", &[Records(2)]),
@@ -190,8 +158,3 @@ const LINE_ENDS: &[Row] = &[
         &[Records(6)],
     ),
 ];
-
-#[test]
-fn reads_line_ends_and_white_space(rt: HostRuntime) {
-    assert!(rt; hold(rt.alloc(), LINE_ENDS, &Way::Bytes));
-}

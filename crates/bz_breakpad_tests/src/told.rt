@@ -26,23 +26,25 @@ fn is_told_by(alloc: Global, function: &Function<'_>, told: &Told) -> bool {
         Told::Nothing => false,
         Told::Parts(name, start, size, parameter_size) => {
             function.name() == *name
-                && function.addr() == *start
-                && function.size() == *size
-                && function.parameter_size() == *parameter_size
+                && (function.addr(), function.size(), function.parameter_size())
+                    == (*start, *size, *parameter_size)
         }
-        Told::Line(addr, line) => match function.find_line(*addr) {
-            Some(found) => *line == Some(found.line),
-            None => *line == None,
-        },
+        Told::Line(addr, line) => line_at(function, *addr) == *line,
         Told::LineRecord(addr, line) => function.find_line(*addr) == *line,
         Told::Lines(lines) => has_lines(alloc, function, lines),
         Told::CallAtDepth(depth, addr, call) => {
             function.find_inlinee_at_depth(*depth, *addr) == *call
         }
         Told::CallsAround(addr, calls) => are_listed(function.find_inlinees(alloc, *addr), calls),
-        Told::Calls(calls) => {
-            are_listed(function.inlinees(alloc), calls) && are_calls(function, calls)
-        }
+        Told::Calls(calls) => has_calls(alloc, function, calls),
+    }
+}
+
+/// The line of the record that answers for the address, or 0.
+fn line_at(function: &Function<'_>, addr: u64) -> u32 {
+    match function.find_line(addr) {
+        Some(found) => found.line,
+        None => 0,
     }
 }
 
@@ -66,8 +68,8 @@ fn are_lines(function: &Function<'_>, lines: &[SourceLine], numbers: &[u32]) -> 
     true
 }
 
-/// Whether each call is the one at its index.
-fn are_calls(function: &Function<'_>, calls: &[Inlinee]) -> bool {
+/// Whether these are the calls, and each is the one at its index.
+fn has_calls(alloc: Global, function: &Function<'_>, calls: &[Inlinee]) -> bool {
     if function.inlinee_count() != calls.len() {
         return false;
     }
@@ -76,5 +78,5 @@ fn are_calls(function: &Function<'_>, calls: &[Inlinee]) -> bool {
             return false;
         }
     }
-    true
+    are_listed(function.inlinees(alloc), calls)
 }
