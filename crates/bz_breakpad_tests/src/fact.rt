@@ -46,8 +46,8 @@ pub(crate) enum Told {
     Nothing,
     /// Its name, its start, its size and the size of its parameters.
     Parts(&'static str, u64, u32, u32),
-    /// The line of the record that answers for an address, or 0 where none does.
-    Line(u64, u32),
+    /// The line of the record that answers for an address.
+    Line(u64, Option<u32>),
     /// The line record that answers for an address.
     LineRecord(u64, Option<SourceLine>),
     /// The lines of its line records, in the order of start and size.

@@ -40,11 +40,11 @@ fn is_told_by(alloc: Global, function: &Function<'_>, told: &Told) -> bool {
     }
 }
 
-/// The line of the record that answers for the address, or 0.
-fn line_at(function: &Function<'_>, addr: u64) -> u32 {
+/// The line of the record that answers for the address.
+fn line_at(function: &Function<'_>, addr: u64) -> Option<u32> {
     match function.find_line(addr) {
-        Some(found) => found.line,
-        None => 0,
+        Some(found) => Some(found.line),
+        None => None,
     }
 }
 
