@@ -13,14 +13,14 @@ use Rattle.bz_base.specs.declared.types.Reason.TheVariants as reasons
 use Rattle.bz_base.specs.declared.types.Symbolized.{Symbolized}
 use Rattle.bz_base.specs.declared.types.Symbolized.TheVariants as symbolized
 
--- a place in source code
+-- a site in source code
 pub record Site : Type 0 where
   pub dir : Option (List ℕ)
   pub file : List ℕ
   pub line : Option ℕ
   pub column : Option ℕ
 
--- an inlined call: the function's name, and the place in it
+-- an inlined call: the function's name, and the site in it
 pub record Call : Type 0 where
   pub name : List ℕ
   pub site : Option Site

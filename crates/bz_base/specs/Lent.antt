@@ -14,24 +14,24 @@ abbrev pub IsLentText : {A : Type 0} → CowStr A → Type 0
 IsLentText (texts.Borrowed text) = Unit {0}
 IsLentText (texts.Owned text) = ⊥
 
--- a place in source code whose texts are lent
-pub record IsLentPlace (place : CodeInfo) : Type 0 where
-  pub dir : IfSome place.dir IsLentText
-  pub file : IsLentText place.file
+-- a site in source code whose texts are lent
+pub record IsLentSite (site : CodeInfo) : Type 0 where
+  pub dir : IfSome site.dir IsLentText
+  pub file : IsLentText site.file
 
 pub record IsLentCall (call : InlinedFn) : Type 0 where
   pub name : IsLentText call.name
-  pub place : IfSome call.code_info IsLentPlace
+  pub site : IfSome call.code_info IsLentSite
 
 pub record IsLentSymbol (symbol : Sym) : Type 0 where
   pub name : IsLentText symbol.name
   pub «module» : IfSome symbol.«module» IsLentText
-  pub place : IfSome symbol.code_info IsLentPlace
+  pub site : IfSome symbol.code_info IsLentSite
   pub calls : AllByRecursion IsLentCall symbol.inlined.items
 
--- the places and calls of a table's symbol are lent, as its name always is
+-- the sites and calls of a table's symbol are lent, as its name always is
 pub record IsLentResolved (symbol : ResolvedSym) : Type 0 where
-  pub place : IfSome symbol.code_info IsLentPlace
+  pub site : IfSome symbol.code_info IsLentSite
   pub calls : AllByRecursion IsLentCall symbol.inlined.items
 
 -- all texts of the answer are lent

@@ -15,6 +15,7 @@ pub use Rattle.bz_search.specs.Span
 pub use Rattle.bz_search.specs.Starts
 pub use Rattle.bz_search.specs.Sweep
 pub mod Answer
+pub mod Bind
 pub mod ErrorNames
 pub mod InputKind
 pub mod Lent

@@ -12,6 +12,11 @@ abbrev pub found_of : Result ResolvedSym Reason → Result Resolved Reason
 found_of (Ok symbol) = Ok (resolved_of symbol)
 found_of (Err reason) = Err reason
 
+-- the plain data of an answer
+abbrev pub answer_seen : Result (Result ResolvedSym Reason) Error → Result (Result Resolved Reason) Error
+answer_seen (Ok found) = Ok (found_of found)
+answer_seen (Err e) = Err e
+
 -- a table's symbol as the symbol at an address, which lies so far past its start
 abbrev pub symbol_at : ℕ → Resolved → Symbol
 symbol_at addr r = record {

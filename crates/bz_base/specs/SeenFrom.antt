@@ -4,8 +4,8 @@ use Rattle.std.specs.Prelude.{◌≡◌, ℕ, List, [], ◌∷◌, ◌++◌, map
 use Rattle.bz_base.specs.Answer.{Call, Site}
 
 module _ {C : Type 0} (site : C → Option Site) (name : C → Option (List ℕ)) where
-  -- code that lies at a place, inside calls, seen from outside a further call: it lies at that call, and inside the call at the
-  -- place
+  -- code that lies at a site, inside calls, seen from outside a further call: it lies at that call, and inside the call at
+  -- the site
   abbrev pub seen_outside : C → Site × List Call → Option (Site × List Call)
   seen_outside call inner = option_and_then (λ text. option_map (λ at. (at, record { name = text; site = Some inner.0 } ∷ inner.1)) (site call)) (name call)
 

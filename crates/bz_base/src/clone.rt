@@ -4,7 +4,7 @@ ghost use Rattle.std.specs.Prelude.{◌≡◌, IfOk, IfSome, IsOkUnless, map, op
 ghost use Rattle.std.specs.Cow.{cow_str_bytes};
 ghost use Rattle.std.specs.List.{AllByRecursion};
 ghost use Rattle.bz_base.specs.Answer.{site_of, call_of, symbol_of, reading};
-ghost use Rattle.bz_base.specs.Lent.{IsLent, IsLentCall, IsLentPlace, IsLentSymbol, IsLentText};
+ghost use Rattle.bz_base.specs.Lent.{IsLent, IsLentCall, IsLentSite, IsLentSymbol, IsLentText};
 
 use crate::error::{Error, Result};
 use crate::types::{CodeInfo, InlinedFn, Sym, Symbolized};
@@ -12,10 +12,10 @@ use std::alloc::Global;
 use std::borrow::CowStr;
 
 impl<'a> CodeInfo<'a> {
-    /// The same place again: a borrowed text stays borrowed, and another is copied.
+    /// The same site again: a borrowed text stays borrowed, and another is copied.
     pub fn try_clone(&self, alloc: Global) -> Result<CodeInfo<'a>>
-        ensures same { IfOk result (λ place. site_of place ≡ site_of self.now) }
-        ensures lent { IsLentPlace self.now → IfOk result IsLentPlace }
+        ensures same { IfOk result (λ site. site_of site ≡ site_of self.now) }
+        ensures lent { IsLentSite self.now → IfOk result IsLentSite }
         ensures memory { IsOkUnless result Error.OutOfMemory }
     {
         let dir = option_again(alloc, &self.dir)?;
@@ -37,7 +37,7 @@ impl<'a> InlinedFn<'a> {
         ensures memory { IsOkUnless result Error.OutOfMemory }
     {
         let name = text_again(alloc, &self.name)?;
-        let code_info = place_again(alloc, &self.code_info)?;
+        let code_info = site_again(alloc, &self.code_info)?;
         Ok(InlinedFn { name, code_info })
     }
 }
@@ -51,7 +51,7 @@ impl<'a> Sym<'a> {
     {
         let name = text_again(alloc, &self.name)?;
         let module = option_again(alloc, &self.module)?;
-        let code_info = place_again(alloc, &self.code_info)?;
+        let code_info = site_again(alloc, &self.code_info)?;
         let inlined = calls_again(alloc, self.inlined.as_slice())?;
         Ok(Sym {
             name,
@@ -111,15 +111,15 @@ fn option_again<'a>(alloc: Global, text: &Option<CowStr<'a>>) -> Result<Option<C
     }
 }
 
-fn place_again<'a>(alloc: Global, place: &Option<CodeInfo<'a>>) -> Result<Option<CodeInfo<'a>>>
-    ensures same { IfOk result (λ again. option_map site_of again ≡ option_map site_of place.now) }
-    ensures lent { IfSome place.now IsLentPlace → IfOk result (λ again. IfSome again IsLentPlace) }
+fn site_again<'a>(alloc: Global, site: &Option<CodeInfo<'a>>) -> Result<Option<CodeInfo<'a>>>
+    ensures same { IfOk result (λ again. option_map site_of again ≡ option_map site_of site.now) }
+    ensures lent { IfSome site.now IsLentSite → IfOk result (λ again. IfSome again IsLentSite) }
     ensures memory { IsOkUnless result Error.OutOfMemory }
 {
-    match place {
-        Some(place) => {
-            let place = place.try_clone(alloc)?;
-            Ok(Some(place))
+    match site {
+        Some(site) => {
+            let site = site.try_clone(alloc)?;
+            Ok(Some(site))
         }
         None => Ok(None),
     }

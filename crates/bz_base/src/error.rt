@@ -29,7 +29,7 @@ pub enum ErrorKind {
     UnexpectedEof,
     /// There is a version already, where one was to be taken in.
     AlreadyExists,
-    /// Looking at a file failed: its count of faults rose.
+    /// Looking at a file failed, and the count of faults rose.
     ReadFault,
     /// Memory ran out.
     OutOfMemory,
@@ -54,7 +54,7 @@ pub enum Error {
     UnexpectedEof,
     /// There is a version already, where one was to be taken in.
     AlreadyExists,
-    /// Looking at a file failed: its count of faults rose.
+    /// Looking at a file failed, and the count of faults rose.
     ReadFault,
     /// Memory ran out.
     OutOfMemory,

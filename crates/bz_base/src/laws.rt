@@ -97,7 +97,7 @@ pub fn clones_keep_the_kind<T: Clone>()
 
 /// Answers and their parts are equal exactly where they read the same, whether borrowed or owned.
 pub fn answers_are_equal_by_reading()
-    ensures places { (a b : CodeInfo) → IsTrue (⟦<CodeInfo<'static> as PartialEq>⟧.eq a b) ↔ (site_of a ≡ site_of b) }
+    ensures sites { (a b : CodeInfo) → IsTrue (⟦<CodeInfo<'static> as PartialEq>⟧.eq a b) ↔ (site_of a ≡ site_of b) }
     ensures calls { (a b : InlinedFn) → IsTrue (⟦<InlinedFn<'static> as PartialEq>⟧.eq a b) ↔ (call_of a ≡ call_of b) }
     ensures symbols { (a b : Sym) → IsTrue (⟦<Sym<'static> as PartialEq>⟧.eq a b) ↔ (symbol_of a ≡ symbol_of b) }
     ensures resolved { (a b : ResolvedSym) → IsTrue (⟦<ResolvedSym<'static> as PartialEq>⟧.eq a b) ↔ (resolved_of a ≡ resolved_of b) }

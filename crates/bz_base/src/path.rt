@@ -1,4 +1,4 @@
-//! The path of a place in source code.
+//! The path of a site in source code.
 
 ghost use Rattle.std.specs.Prelude.{◌≡◌, true, Some, length, IfOk, IfNone, IsOk, IsOkUnless};
 ghost use Rattle.std.specs.Cow.{cow_str_bytes};

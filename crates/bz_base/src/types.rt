@@ -43,13 +43,13 @@ pub enum SrcLang {
 pub enum FindSymOpts {
     /// Nothing more.
     Basic,
-    /// The place in the source code too.
+    /// The site in source code too.
     CodeInfo,
-    /// The place in the source code and the inlined calls too.
+    /// The site in source code and the inlined calls too.
     CodeInfoAndInlined,
 }
 
-/// A place in source code.
+/// A site in source code.
 #[derive(Debug, PartialEq, Drop)]
 pub struct CodeInfo<'a> {
     /// The directory that the file's name is relative to.
@@ -67,7 +67,7 @@ pub struct CodeInfo<'a> {
 pub struct InlinedFn<'a> {
     /// The name of the function that was inlined.
     pub name: CowStr<'a>,
-    /// The place in that function.
+    /// The site in that function.
     pub code_info: Option<CodeInfo<'a>>,
 }
 
@@ -84,7 +84,7 @@ pub struct ResolvedSym<'a> {
     pub size: Option<usize>,
     /// The language that the name is from.
     pub lang: SrcLang,
-    /// The place in the symbol's own function: that of the address, or, with inlined calls, that of the
+    /// The site in the symbol's own function: that of the address, or, with inlined calls, that of the
     /// outermost call.
     pub code_info: Option<CodeInfo<'a>>,
     /// The calls that were inlined at the address, the outermost first.
@@ -104,7 +104,7 @@ pub struct Sym<'a> {
     pub offset: usize,
     /// The symbol's size, in bytes.
     pub size: Option<usize>,
-    /// The place in the symbol's own function: that of the address, or, with inlined calls, that of the
+    /// The site in the symbol's own function: that of the address, or, with inlined calls, that of the
     /// outermost call.
     pub code_info: Option<CodeInfo<'a>>,
     /// The calls that were inlined at the address, the outermost first.
@@ -142,9 +142,9 @@ pub enum Symbolized<'a> {
 }
 
 impl CodeInfo<'_> {
-    /// The same place, with texts of its own.
+    /// The same site, with texts of its own.
     pub fn into_owned(self, alloc: Global) -> Result<CodeInfo<'static>>
-        ensures ok { IfOk result (λ place. site_of place ≡ site_of self.entry) }
+        ensures ok { IfOk result (λ site. site_of site ≡ site_of self.entry) }
         ensures memory { IsOkUnless result Error.OutOfMemory }
     {
         let dir = owned_option(alloc, self.dir)?;
@@ -165,7 +165,7 @@ impl InlinedFn<'_> {
         ensures memory { IsOkUnless result Error.OutOfMemory }
     {
         let name = owned(alloc, self.name)?;
-        let code_info = owned_place(alloc, self.code_info)?;
+        let code_info = owned_site(alloc, self.code_info)?;
         Ok(InlinedFn { name, code_info })
     }
 }
@@ -198,7 +198,7 @@ impl Sym<'_> {
     {
         let name = owned(alloc, self.name)?;
         let module = owned_option(alloc, self.module)?;
-        let code_info = owned_place(alloc, self.code_info)?;
+        let code_info = owned_site(alloc, self.code_info)?;
         let inlined = owned_calls(alloc, self.inlined)?;
         Ok(Sym {
             name,
@@ -307,14 +307,14 @@ fn owned_option(alloc: Global, text: Option<CowStr<'_>>) -> Result<Option<CowStr
     }
 }
 
-fn owned_place(alloc: Global, place: Option<CodeInfo<'_>>) -> Result<Option<CodeInfo<'static>>>
-    ensures ok { IfOk result (λ own. option_map site_of own ≡ option_map site_of place.entry) }
+fn owned_site(alloc: Global, site: Option<CodeInfo<'_>>) -> Result<Option<CodeInfo<'static>>>
+    ensures ok { IfOk result (λ own. option_map site_of own ≡ option_map site_of site.entry) }
     ensures memory { IsOkUnless result Error.OutOfMemory }
 {
-    match place {
-        Some(place) => {
-            let place = place.into_owned(alloc)?;
-            Ok(Some(place))
+    match site {
+        Some(site) => {
+            let site = site.into_owned(alloc)?;
+            Ok(Some(site))
         }
         None => Ok(None),
     }

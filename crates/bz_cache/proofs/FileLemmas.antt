@@ -10,7 +10,7 @@ use Rattle.bz_files.specs.Looked.{Faulted, Looked, ReadsOne}
 use Rattle.bz_files.specs.World.{World, Entry, Denied, Present, Told, in_view, entry_at}
 use Rattle.bz_cache.specs.Cache.{Cache, Consistent}
 use Rattle.bz_cache.specs.Coherence.{Coherent}
-use Rattle.bz_cache.specs.Format.{Comes, FailsAs, MayFail}
+use Rattle.bz_cache.specs.Format.{GivesOrFaults, FailsAs, MayFail}
 use Rattle.bz_cache.specs.Look.{look, will_open, by_test, by_entry, by_fixed, Lends, Shares, Unanswered}
 use Rattle.bz_cache.specs.View.{fixed, by_fixed_view, shown, view}
 use Rattle.bz_cache.specs.FileCall.{Question, by_version, by_look, by_view, Leaves, CallsFile, FileTold, ByVersion, MayBeRefused}
@@ -18,7 +18,7 @@ use Rattle.bz_base.specs.Answer.{Gives}
 
 -- the answer of a call that a look refuses
 comes_refused : {A B : Type 0} (reading : A → B) (asked : Question B) (looked : Result (List ℕ) Error) (e : Error) →
-    FailsAs looked e → Comes reading (by_look asked looked) (Err e)
+    FailsAs looked e → GivesOrFaults reading (by_look asked looked) (Err e)
 comes_refused reading asked looked errors.ReadFault fails = tt
 comes_refused reading asked looked errors.OutOfMemory fails = tt
 comes_refused reading asked looked _ fails = rw fails refl

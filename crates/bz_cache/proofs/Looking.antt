@@ -7,7 +7,7 @@ use Rattle.bz_base.specs.declared.error.Error.{Error}
 use Rattle.bz_files.specs.declared.stamp.Stamp.{Stamp}
 use Rattle.bz_files.specs.World.{Entry, Present}
 use Rattle.bz_cache.specs.Cache.{Cache, PathState, Consistent, is_among, stamp_eq, current_of}
-use Rattle.bz_cache.specs.Format.{Comes}
+use Rattle.bz_cache.specs.Format.{GivesOrFaults}
 use Rattle.bz_cache.specs.Look.{moved, named, with_earlier, by_test, by_entry, IsUnmoved, IsSomeEntry}
 use Rattle.bz_cache.specs.View.{fixed, bytes_at}
 use Rattle.bz_cache.proofs.FiniteMaps.{get_inserted}
@@ -132,7 +132,7 @@ both_of (y, z) a b first second = cc (first, second)
 
 module _ (test : List ℕ → Option Error) (c new : Cache) (p : List ℕ) (there : Option Entry) where
   -- a look at what lies there is some look
-  pub some_taken : (r : Result Stamp Error) → Comes (bytes_at new) (by_entry test c p there).0 r → OnOk r (new ≡ (by_entry test c p there).1) → IfOk r (λ s. IsSomeEntry test c new p (bytes_at new s))
+  pub some_taken : (r : Result Stamp Error) → GivesOrFaults (bytes_at new) (by_entry test c p there).0 r → OnOk r (new ≡ (by_entry test c p there).1) → IfOk r (λ s. IsSomeEntry test c new p (bytes_at new s))
   some_taken (Ok s) answer left = (there, both_of _ _ _ answer left)
   some_taken (Err e) answer left = tt
 

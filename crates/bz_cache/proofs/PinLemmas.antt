@@ -10,7 +10,7 @@ use Rattle.bz_base.specs.declared.error.Error.TheVariants as errors
 use Rattle.bz_files.specs.World.{World, Entry, entry_at, in_view}
 use Rattle.bz_files.specs.declared.files.Files.{Ghosts}
 use Rattle.bz_cache.specs.Cache.{Cache, Paths, PathState, is_pinned, with_pin, with_pinned}
-use Rattle.bz_cache.specs.Format.{Comes, FailsAs}
+use Rattle.bz_cache.specs.Format.{GivesOrFaults, FailsAs}
 use Rattle.bz_cache.specs.Look.{look, IsUnmoved, Lends}
 use Rattle.bz_cache.proofs.FiniteMaps.{get_inserted, insert_same}
 use Rattle.bz_cache.proofs.Naming.{paths_apart}
@@ -72,7 +72,7 @@ module _ (c : Cache) (p : List ℕ) where
   fails_pinned (Ok v, now) _ fails = cc fails
   fails_pinned (Err x, now) _ fails = ap Err (cc fails)
 
-  pins_answer : (looked : Result (List ℕ) Error × Cache) (result : Result (Unit {0}) Error) → Sees looked.0 result → Comes (λ (done : Unit {0}). done) (pinned_by c p looked).0 result
+  pins_answer : (looked : Result (List ℕ) Error × Cache) (result : Result (Unit {0}) Error) → Sees looked.0 result → GivesOrFaults (λ (done : Unit {0}). done) (pinned_by c p looked).0 result
   pins_answer (Ok v, now) (Ok tt) is = refl
   pins_answer (Err e, now) (Ok tt) is = cc is.1
   pins_answer looked (Err e) is = fails_pinned looked e is

@@ -13,7 +13,7 @@ use Rattle.bz_files.specs.Looked.{Faulted, Looked, ReadsOne}
 use Rattle.bz_files.specs.World.{World, Entry, Told, in_view, entry_at}
 use Rattle.bz_files.specs.declared.files.Files.{Ghosts}
 use Rattle.bz_cache.specs.Cache.{Cache, Consistent}
-use Rattle.bz_cache.specs.Format.{Comes, MayFail}
+use Rattle.bz_cache.specs.Format.{GivesOrFaults, MayFail}
 use Rattle.bz_cache.specs.Look.{look, will_open, opens_after, IsKeptAt, IsSomeLook}
 use Rattle.bz_cache.specs.View.{View, Absent, Hidden, Shown, fixed, view}
 
@@ -74,7 +74,7 @@ Leaves _ old expected now = now ≡ expected
 pub record FileTold {A B : Type 0} (reading : A → B) (asked : Question B) (path : List ℕ) (result : Result A Error) (old now : Cache)
     (there : Option Entry) (before after : ℕ) : Type 0 where
   -- its answer, and what it leaves
-  pub answer : Comes reading (file_answer asked old path there) result
+  pub answer : GivesOrFaults reading (file_answer asked old path there) result
   pub state : Leaves result old (file_cache asked.test asked.taken old path there) now
   -- the file is read exactly where it has to be: by a call that is answered, and by no call else
   pub opened : OnOk result (after ≡ opens_after (file_opens asked.taken old path there) before)

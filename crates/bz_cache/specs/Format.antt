@@ -18,7 +18,7 @@ IsRefusalBy given errors.OutOfMemory = Unit {0}
 IsRefusalBy given e = given ≡ Some e
 
 -- the refusal is the one that is expected; but for a fault and want of memory, which may come anywhere. It is of a refusal
--- alone, where `Comes` is of a whole result.
+-- alone, where `GivesOrFaults` is of a whole result.
 abbrev pub FailsAs : {A : Type 0} → Result A Error → Error → Type 0
 FailsAs expected errors.ReadFault = Unit {0}
 FailsAs expected errors.OutOfMemory = Unit {0}
@@ -26,12 +26,12 @@ FailsAs expected e = expected ≡ Err e
 
 -- the answer reads as the expected one; but for a fault and want of memory, which may come anywhere. It is of calls that look
 -- at files, where `Gives` and `MayGive` are of calls that can't fault.
-abbrev pub Comes : {A B : Type 0} → (A → B) → Result B Error → Result A Error → Type 0
-Comes reading expected (Ok x) = expected ≡ Ok (reading x)
-Comes reading expected (Err e) = FailsAs expected e
+abbrev pub GivesOrFaults : {A B : Type 0} → (A → B) → Result B Error → Result A Error → Type 0
+GivesOrFaults reading expected (Ok x) = expected ≡ Ok (reading x)
+GivesOrFaults reading expected (Err e) = FailsAs expected e
 
 -- a look at a file that is told answers what lies there; a fault and want of memory may come anywhere. It is `IsAnswer` in the
--- refusals of a symbolizer, and compares with a file, where `Comes` compares with an expected result.
+-- refusals of a symbolizer, and compares with a file, where `GivesOrFaults` compares with an expected result.
 abbrev pub IsLookAnswer : {A : Type 0} → (A → Stamp → List ℕ → Type 0) → Option Entry → Result A Error → Type 0
 IsLookAnswer Shows there (Ok given) = (stamp : Stamp) × (bytes : List ℕ) × (there ≡ Some (Present stamp bytes)) × Shows given stamp bytes
 IsLookAnswer Shows there (Err errors.NotFound) = there ≡ None

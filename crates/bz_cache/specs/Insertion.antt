@@ -35,7 +35,7 @@ abbrev pub MayKeepOut : Cache → List ℕ → Error → Type 0
 MayKeepOut cache path errors.AlreadyExists = IsSome (fixed cache path) ⊎ ((stamp : Stamp) × IsSome (map.get cache.kept stamp))
 MayKeepOut cache path e = MayMiss e
 
--- what a version that was taken in leaves: the cache after its insertion where it is told what lies at the path; whatever is
+-- what a version that was taken in leaves: where it is told what lies at the path, the cache after its insertion. Whatever is
 -- told, a consistent cache after an insertion by something that may lie there
 pub record Inserts (test : List ℕ → Option Error) (old new : Cache) (path version : List ℕ) (in_view : Option World) : Type 0 where
   pub state : Told in_view (λ world. new ≡ (insertion old path version (entry_at world path)).1)

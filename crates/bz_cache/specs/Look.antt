@@ -71,14 +71,17 @@ IsSomeEntry test old new path bytes = (there : Option Entry) × (by_entry test o
 abbrev pub IsSomeLook : (List ℕ → Option Error) → Cache → Cache → List ℕ → List ℕ → Type 0
 IsSomeLook test old new path bytes = (there : Option Entry) × (look test old path there ≡ (Ok bytes, new))
 
--- what an answered look lends and leaves: the kept bytes of the path's current stamp, and the cache after a look at what
--- lies there where that is told; whatever is told, a consistent cache after some look, and for a fixed path the cache as it
--- was
+-- what an answered look lends and leaves
 pub record Lends (test : List ℕ → Option Error) (old new : Cache) (path bytes : List ℕ) (in_view : Option World) : Type 0 where
+  -- it lends the kept bytes of the path's current stamp
   pub kept : IsKeptAt test new path bytes
+  -- where it is told what lies at the path, it leaves the cache after a look at that
   pub state : Told in_view (λ world. new ≡ (look test old path (entry_at world path)).1)
+  -- whatever is told, it leaves the cache after some look
   pub some : IsSomeLook test old new path bytes
+  -- for a fixed path the cache stays as it was
   pub unchanged : IsSome (fixed old path) → new ≡ old
+  -- each stamp is kept exactly while some path names it, and each kept version is in the format
   pub consistent : Consistent test new
 
 -- a look that isn't answered leaves the cache, and is none at a fixed path

@@ -6,7 +6,7 @@ use Rattle.bz_files.specs.Looked.{Faulted, Looked}
 use Rattle.bz_files.specs.World.{World, Entry, Told, entry_at, in_view}
 use Rattle.bz_files.specs.declared.files.Files.{Ghosts}
 use Rattle.bz_cache.specs.Cache.{Cache, Consistent, with_pin}
-use Rattle.bz_cache.specs.Format.{Comes, FailsAs, MayFail}
+use Rattle.bz_cache.specs.Format.{GivesOrFaults, FailsAs, MayFail}
 use Rattle.bz_cache.specs.Look.{look, will_open, IsUnmoved, Lends}
 use Rattle.bz_cache.specs.Steps.{ReadsAt}
 use Rattle.bz_cache.specs.View.{fixed}
@@ -29,7 +29,7 @@ pub record IsLeft (expected : Option Entry → Result (Unit {0}) Error × Cache)
 -- all that pinning a path does
 pub record PinsFile {X : Type 0} (files : Ghosts X) (test : List ℕ → Option Error) (path : List ℕ) (result : Result (Unit {0}) Error) (old now : Cache) (before after : X) : Type 0 where
   -- where it is told what lies at the path, it is answered or refused by that
-  pub answer : Told (in_view (files.worlds before)) (λ world. Comes (λ (done : Unit {0}). done) (pinning test old path (entry_at world path)).0 result)
+  pub answer : Told (in_view (files.worlds before)) (λ world. GivesOrFaults (λ (done : Unit {0}). done) (pinning test old path (entry_at world path)).0 result)
   -- an answer leaves the path pinned at the version of a look; a refusal, whichever it is, changes nothing
   pub left : OnOk result (IsLeft (pinning test old path) path (in_view (files.worlds before)) now)
   pub err : OnErr result (now ≡ old)

@@ -6,7 +6,7 @@ ghost use Rattle.bz_cache.specs.Cache.{Cache, PathState, Consistent, new_cache, 
 ghost use Rattle.bz_cache.specs.Eviction.{evicted, evicts};
 ghost use Rattle.bz_files.specs.Looked.{Faulted, Looked};
 ghost use Rattle.bz_files.specs.World.{Present, Told, in_view, entry_at};
-ghost use Rattle.bz_cache.specs.Format.{Comes, MayFail};
+ghost use Rattle.bz_cache.specs.Format.{GivesOrFaults, MayFail};
 ghost use Rattle.bz_cache.specs.Insertion.{insertion, Inserts, MayKeepOut};
 ghost use Rattle.bz_cache.specs.Look.{named, look, by_entry, is_new, will_open, IsUnmoved, Lends, Shares};
 ghost use Rattle.bz_cache.specs.Steps.{LeavesCache, ReadsAt, ReadsFile};
@@ -205,13 +205,13 @@ impl<T: Version + Drop> FileCache<T> {
     ghost use Rattle.bz_cache.specs.contracts.file_cache.FileCache.{the_row};
 
     /// The version of the file at the path. A path that is pinned, or that is held where the cache
-    /// doesn't reload, answers by the version that it has; any other is looked at, and read where no
+    /// doesn't reload, answers by the version that it has. Any other is looked at, and read where no
     /// version with its stamp is kept. It is refused by `NotFound`, `PermissionDenied` and `ReadFault` as a
-    /// look is, by the refusal that the format gives to the file's bytes, and by `OutOfMemory`. After a
+    /// look is, by `OutOfMemory`, and by the refusal that the format gives to the file's bytes. After a
     /// refusal the cache is as before.
     pub fn entry<F: Files>(&mut self, alloc: Global, files: &mut F, path: &str) -> Result<&T>
         ensures* after { sem 𝓛 (follows_so (the_row T.row T.Version) (the_row T.row T.Version) self.entry.ghost_name none (λ _ _. ⊤) (λ n. MatchResult result (λ v. Lends T.test self.old n path.now (T.bytes_of v.now) (in_view (F.worlds files.old))) (λ _. n ≡ self.old))) }
-        ensures answer { Told (in_view (F.worlds files.old)) (λ w. Comes (λ v. T.bytes_of v.now) (look T.test self.old path.now (entry_at w path.now)).0 result) }
+        ensures answer { Told (in_view (F.worlds files.old)) (λ w. GivesOrFaults (λ v. T.bytes_of v.now) (look T.test self.old path.now (entry_at w path.now)).0 result) }
         ensures sure { IsSome (fixed self.old path.now) → IsOk result }
         ensures unseen { IsSome (fixed self.old path.now) → files.new ≡ files.old }
         // No memory is taken where the present stamp is the path's current one.
@@ -229,7 +229,7 @@ impl<T: Version + Drop> FileCache<T> {
     /// taken in.
     pub fn shared<F: Files>(&mut self, alloc: Global, files: &mut F, path: &str) -> Result<Rc<T>>
         ensures after { Shares (λ v. T.bytes_of v.value) T.test result self.old self.new path.now (in_view (F.worlds files.old)) }
-        ensures answer { Told (in_view (F.worlds files.old)) (λ w. Comes (λ v. T.bytes_of v.value) (look T.test self.old path.now (entry_at w path.now)).0 result) }
+        ensures answer { Told (in_view (F.worlds files.old)) (λ w. GivesOrFaults (λ v. T.bytes_of v.value) (look T.test self.old path.now (entry_at w path.now)).0 result) }
         ensures unseen { IsSome (fixed self.old path.now) → (files.new ≡ files.old) × (self.new ≡ self.old) }
         ensures reads { ReadsAt F.Files (will_open self.old path.now) path.now result files.old files.new }
         ensures files { Looked F.Files files.old files.new (Faulted result) }
@@ -240,11 +240,10 @@ impl<T: Version + Drop> FileCache<T> {
     }
 
     /// Takes in a version that the caller has, as that of the file at the path, under the file's
-    /// present stamp. The file isn't read. It is refused by `AlreadyExists` where the version in view
-    /// is kept: where the path is pinned, or held in a cache that doesn't reload, for which the file
-    /// isn't looked at either, and where a version with the present stamp is kept; by `NotFound`,
-    /// `PermissionDenied` and `ReadFault` as a look is; and by `OutOfMemory`. After a refusal the
-    /// cache is as before.
+    /// present stamp. The file isn't read, and not looked at where the path is pinned, or held in a cache
+    /// that doesn't reload. There, and where a version with the present stamp is kept, it is refused by
+    /// `AlreadyExists`. It is also refused by `NotFound`, `PermissionDenied` and `ReadFault` as a look is,
+    /// and by `OutOfMemory`. After a refusal the cache is as before.
     pub fn insert_value<F: Files>(
         &mut self,
         alloc: Global,
@@ -252,7 +251,7 @@ impl<T: Version + Drop> FileCache<T> {
         path: &str,
         value: Rc<T>,
     ) -> Result<()>
-        ensures answer { Told (in_view (F.worlds files.old)) (λ w. Comes (λ _. tt) (insertion self.old path.now (T.bytes_of value.value) (entry_at w path.now)).0 result) }
+        ensures answer { Told (in_view (F.worlds files.old)) (λ w. GivesOrFaults (λ _. tt) (insertion self.old path.now (T.bytes_of value.value) (entry_at w path.now)).0 result) }
         ensures after { OnOk result (Inserts T.test self.old self.new path.now (T.bytes_of value.value) (in_view (F.worlds files.old))) }
         ensures err { OnErr result (self.new ≡ self.old) }
         ensures fixed { IsSome (fixed self.old path.now) → IsErrOf result Error.AlreadyExists × (files.new ≡ files.old) }
@@ -275,7 +274,7 @@ impl<T: Version + Drop> FileCache<T> {
 
     // The stamp of the version that the path answers by.
     fn look<F: Files>(&mut self, alloc: Global, files: &mut F, path: &str) -> Result<Stamp>
-        ensures answer { Told (in_view (F.worlds files.old)) (λ w. Comes (bytes_at self.new) (look T.test self.old path.now (entry_at w path.now)).0 result) }
+        ensures answer { Told (in_view (F.worlds files.old)) (λ w. GivesOrFaults (bytes_at self.new) (look T.test self.old path.now (entry_at w path.now)).0 result) }
         ensures cache { LeavesCache T.test (look T.test self.old path.now) path.now result self.old self.new (in_view (F.worlds files.old)) }
         ensures fixed { IsSome (fixed self.old path.now) → IsOk result × (self.new ≡ self.old) × (files.new ≡ files.old) }
         ensures unmoved { Told (in_view (F.worlds files.old)) (λ w. IsUnmoved self.old path.now (entry_at w path.now) → IsOkUnless result Error.ReadFault) }
@@ -290,7 +289,7 @@ impl<T: Version + Drop> FileCache<T> {
 
     // The present stamp of a path that isn't fixed, whose version is taken in if it wasn't kept.
     fn refresh<F: Files>(&mut self, alloc: Global, files: &mut F, path: &str) -> Result<Stamp>
-        ensures answer { Told (in_view (F.worlds files.old)) (λ w. Comes (bytes_at self.new) (by_entry T.test self.old path.now (entry_at w path.now)).0 result) }
+        ensures answer { Told (in_view (F.worlds files.old)) (λ w. GivesOrFaults (bytes_at self.new) (by_entry T.test self.old path.now (entry_at w path.now)).0 result) }
         ensures cache { LeavesCache T.test (by_entry T.test self.old path.now) path.now result self.old self.new (in_view (F.worlds files.old)) }
         ensures unmoved { Told (in_view (F.worlds files.old)) (λ w. IsUnmoved self.old path.now (entry_at w path.now) → IsOkUnless result Error.ReadFault) }
         ensures files { ReadsFile F.Files (is_new self.old) path.now result files.old files.new }
@@ -312,7 +311,7 @@ impl<T: Version + Drop> FileCache<T> {
     // kept under that stamp.
     fn take_in(&mut self, alloc: Global, path: &str, read: StampedBytes) -> Result<Stamp>
         ensures stamp { IfOk result (λ stamp. stamp ≡ read.stamp) }
-        ensures answer { Comes (bytes_at self.new) (by_entry T.test self.old path.now (Some (Present read.stamp read.bytes.items))).0 result }
+        ensures answer { GivesOrFaults (bytes_at self.new) (by_entry T.test self.old path.now (Some (Present read.stamp read.bytes.items))).0 result }
         ensures state { OnOk result (self.new ≡ (by_entry T.test self.old path.now (Some (Present read.stamp read.bytes.items))).1) }
         ensures err { OnErr result (self.new ≡ self.old) }
         ensures current { IfOk result (λ stamp. current_of self.new path.now ≡ Some stamp) }

@@ -7,7 +7,7 @@ use Rattle.bz_base.specs.declared.error.Error.{Error}
 use Rattle.bz_base.specs.declared.error.Error.TheVariants as errors
 use Rattle.bz_base.specs.ZeroEnded.{IsString}
 use Rattle.bz_base.specs.Little.{number_at}
-use Rattle.bz_cache.specs.Format.{Comes, FailsAs, IsRefusalBy}
+use Rattle.bz_cache.specs.Format.{GivesOrFaults, FailsAs, IsRefusalBy}
 use Rattle.bz_files.specs.World.{Entry, Present}
 use Rattle.bz_files.specs.declared.stamp.Stamp.{Stamp}
 use Rattle.bz_elf.specs.Checks.{pn_xnum, has_head, has_names, has_program_headers, has_sections, has_strings, has_symbols, if_there, is_elf, is_supported, is_symbol_table, is_there, section_lies}
@@ -211,6 +211,6 @@ module _ (bytes read : List ℕ) (stamp : Stamp) (there : Option Entry) (is : th
   fails given e by = ap (unless_refused read) by
 
   pub opens : (path : List ℕ) (r : Result Resolver Error) → IfOk r (λ x. x ≡ record { bytes = read; path = path }) → IfOk r (λ x. IsElf read) →
-      IfErr r (IsRefusalBy (format_test read)) → Comes (λ (x : Resolver). x.bytes) (opened there) r
+      IfErr r (IsRefusalBy (format_test read)) → GivesOrFaults (λ (x : Resolver). x.bytes) (opened there) r
   opens path (Ok x) holds formed refused = opened_by ∙ ap (unless_refused read) (taken read formed) ∙ ap (λ (y : Resolver). Ok y.bytes) (sym holds)
   opens path (Err e) holds formed refused = subst (λ (r : Result (List ℕ) Error). FailsAs r e) (sym opened_by) (fails (format_test read) e refused)

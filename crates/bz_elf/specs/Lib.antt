@@ -8,7 +8,6 @@ pub mod Plain
 pub mod Profile
 pub mod Resolver
 pub mod Sections
-pub mod Seen
 pub mod Segments
 pub mod Symbols
 pub mod Version

@@ -2,7 +2,7 @@
 use Rattle.std.specs.Prelude.{ℕ, ◌+◌, ◌-◌, ◌==◌, ◌&&◌, nat_le, nat_lt, Bool, if◌then◌else◌, List, Option, Some, None, option_and_then}
 use Rattle.std.specs.List.{filter_map, find}
 use Rattle.bz_base.specs.Little.{number_at}
-use Rattle.bz_base.specs.Span.{last_address}
+use Rattle.bz_base.specs.Span.{fitting}
 use Rattle.bz_elf.specs.Head.{program_place, program_count}
 use Rattle.bz_elf.specs.Parts.{places}
 use Rattle.bz_elf.specs.declared.types.Segment.{Segment}
@@ -34,10 +34,6 @@ segments bytes = filter_map (loaded_at bytes) (places (program_place bytes) prog
 -- the segment holds the file's byte at an offset
 abbrev pub holds : ℕ → Segment → Bool
 holds offset segment = nat_le segment.offset offset && nat_lt (offset - segment.offset) segment.size
-
--- an address of 64 bits
-abbrev pub fitting : ℕ → Option ℕ
-fitting addr = if nat_le addr last_address then Some addr else None
 
 -- the address at which a segment has the byte at an offset that it holds
 abbrev pub addr_in : ℕ → Segment → Option ℕ

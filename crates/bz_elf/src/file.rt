@@ -3,13 +3,12 @@
 ghost use Rattle.std.specs.Prelude.{◌≡◌, None, Ok, Option, option_map, IfOk, IfErr};
 ghost use Rattle.bz_base.specs.Lent.{IsLentResolved};
 ghost use Rattle.bz_base.specs.Refusals.{IsFormatRefusal, MayRefuse};
-ghost use Rattle.bz_base.specs.Resolution.{MayGive, StartsBefore, found_of};
+ghost use Rattle.bz_base.specs.Resolution.{MayGive, StartsBefore, answer_seen, found_of};
 ghost use Rattle.bz_base.specs.declared.error.Error.{Error};
 ghost use Rattle.bz_cache.specs.Format.{IsRefusalBy};
 ghost use Rattle.bz_elf.specs.Format.{format_test};
 ghost use Rattle.bz_elf.specs.Plain.{plain, told_size};
 ghost use Rattle.bz_elf.specs.Profile.{IsElf};
-ghost use Rattle.bz_elf.specs.Seen.{answer_seen};
 ghost use Rattle.bz_elf.specs.Segments.{holds, segments, translated};
 ghost use Rattle.bz_elf.specs.Version.{format_refusals};
 

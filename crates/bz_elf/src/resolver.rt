@@ -2,13 +2,12 @@
 
 ghost use Rattle.std.specs.Prelude.{◌≡◌, None, Some, Ok, false, IfOk, IfErr, OnOk};
 ghost use Rattle.bz_base.specs.Refusals.{IsFormatRefusal, MayRefuse};
-ghost use Rattle.bz_base.specs.Resolution.{MayGive, StartsBefore, found_of};
-ghost use Rattle.bz_cache.specs.Format.{Comes, IsRefusalBy, MayFail};
+ghost use Rattle.bz_base.specs.Resolution.{MayGive, StartsBefore, answer_seen, found_of};
+ghost use Rattle.bz_cache.specs.Format.{GivesOrFaults, IsRefusalBy, MayFail};
 ghost use Rattle.bz_elf.specs.Format.{format_test};
 ghost use Rattle.bz_elf.specs.Plain.{plain};
 ghost use Rattle.bz_elf.specs.Profile.{IsElf};
 ghost use Rattle.bz_elf.specs.Resolver.{opened};
-ghost use Rattle.bz_elf.specs.Seen.{answer_seen};
 ghost use Rattle.bz_elf.specs.Segments.{segments, translated};
 ghost use Rattle.bz_files.specs.Count.{counted};
 ghost use Rattle.bz_files.specs.Looked.{Faulted, Looked, ReadsOne};
@@ -39,9 +38,10 @@ impl Model for ElfResolver {
 }
 
 impl ElfResolver {
-    /// Reads the file at the path.
+    /// Reads the file at the path. It is refused by `NotFound`, `PermissionDenied` and `ReadFault` as a
+    /// look is, by `Unsupported` and `InvalidData` as `from_bytes` is, and by `OutOfMemory`.
     pub fn open<F: Files>(alloc: Global, files: &mut F, path: &str) -> Result<ElfResolver>
-        ensures answer { Told (in_view (F.worlds files.old)) (λ world. Comes (λ r. r.bytes) (opened (entry_at world path.now)) result) }
+        ensures answer { Told (in_view (F.worlds files.old)) (λ world. GivesOrFaults (λ r. r.bytes) (opened (entry_at world path.now)) result) }
         ensures path { IfOk result (λ r. r.path ≡ path.now) }
         ensures accepted { IfOk result (λ r. IsElf r.bytes) }
         ensures opened { OnOk result (F.opens files.new ≡ counted (F.opens files.old)) }
@@ -54,7 +54,9 @@ impl ElfResolver {
         ElfResolver::from_bytes(alloc, path, bytes)
     }
 
-    /// Takes the bytes of a file. The path names the module, and isn't looked at.
+    /// Takes the bytes of a file. The path names the module, and isn't looked at. Unsupported: the file
+    /// hasn't 64 bits, or the greatest byte of its numbers is first. InvalidData: the bytes aren't a file
+    /// of the profile.
     pub fn from_bytes(alloc: Global, path: &str, bytes: Vec<u8>) -> Result<ElfResolver>
         ensures ok { IfOk result (λ r. r ≡ record { bytes = bytes.items; path = path.now }) }
         ensures accepted { IfOk result (λ r. IsElf bytes.items) }

@@ -16,7 +16,7 @@ pub enum FileError {
     NotFound,
     /// The file may not be read.
     Denied,
-    /// Looking failed: the count of faults rose by one.
+    /// Looking failed, and the count of faults rose.
     Fault,
     /// Memory ran out.
     OutOfMemory,
@@ -36,7 +36,8 @@ pub trait Files {
     /// The worlds to come, the first of them in view; none where nothing is told.
     ghost worlds: { Self → Option (List World) };
 
-    /// How many looks have failed. It rises by one at a fault, and at no other answer.
+    /// How many looks have failed. It rises by one at a fault, unless it is at its last value, and at no
+    /// other answer.
     ghost faults: { Self → ℕ };
 
     /// How many files were read.

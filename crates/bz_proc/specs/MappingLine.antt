@@ -3,6 +3,7 @@
 use Rattle.std.specs.Prelude.{◌≡◌, ℕ, ◌<◌, ◌≤◌, Bool, true, false, not, ◌==◌, ◌&&◌, nat_lt, nat_le, List, [], ◌∷◌, ◌++◌, length, drop, Option, Some, None, if◌then◌else◌}
 use Rattle.std.specs.Char.{is_digit}
 use Rattle.std.specs.List.{AllByRecursion, prefix_len}
+use Rattle.bz_base.specs.Bind.{◌>>=◌}
 use Rattle.bz_base.specs.Byte.{space, dash, begins_with}
 use Rattle.bz_base.specs.Number.{IsHex, hex_at}
 
@@ -94,12 +95,6 @@ pub record IsLine (line : List ℕ) (told : Line) : Type 0 where
   pub ordered : told.start ≤ told.past
 
 -- The same, read from the front. That it tells the same is a law of this crate.
-
--- what is read next, where the first was there
-infixl 10 ◌>>=◌
-abbrev pub ◌>>=◌ : {A B : Type 0} → Option A → (A → Option B) → Option B
-None >>= f = None
-(Some x) >>= f = f x
 
 -- the text after all bytes of the kind in front, where a fitting number of them stands there
 unfoldable pub after_run : (ℕ → Bool) → (ℕ → Bool) → List ℕ → Option (List ℕ)

@@ -4,12 +4,10 @@ use Rattle.std.proofs.Common.{subst}
 use Rattle.bz_base.specs.Answer.{Resolved}
 use Rattle.bz_base.specs.Nearest.{nearest_covering}
 use Rattle.bz_base.specs.Refusals.{IsFormatRefusal}
-use Rattle.bz_base.specs.Resolution.{found_of}
 use Rattle.bz_base.specs.declared.error.Error.{Error}
 use Rattle.bz_base.specs.declared.error.Error.TheVariants as errors
 use Rattle.bz_base.specs.declared.types.Reason.{Reason}
 use Rattle.bz_base.specs.declared.types.Reason.TheVariants as reasons
-use Rattle.bz_base.specs.declared.types.ResolvedSym.{ResolvedSym}
 use Rattle.bz_base.specs.declared.types.SrcLang.TheVariants as languages
 use Rattle.bz_proc.specs.PerfLine.{PerfFunction}
 use Rattle.bz_proc.specs.PerfLines.{ArePerfLines, perf_functions_in, perf_lines}
@@ -63,8 +61,3 @@ found (Some f) = Ok (resolved f)
 -- the function at an address is the nearest one that covers it
 abbrev pub plain : List ℕ → ℕ → Result Resolved Reason
 plain bytes addr = found (nearest_covering (λ f. f.start) (λ f. f.size) addr (functions bytes))
-
--- an answer of this crate as plain data
-abbrev pub answer_seen : Result (Result ResolvedSym Reason) Error → Result (Result Resolved Reason) Error
-answer_seen (Ok found) = Ok (found_of found)
-answer_seen (Err e) = Err e

@@ -1,4 +1,4 @@
--- The id by which a process names itself. The line `NStgid` of `/proc/PID/status` has the ids of the process in the namespaces
+-- The id by which a process knows itself. The line `NStgid` of `/proc/PID/status` has the ids of the process in the namespaces
 -- around it, and its own last: see proc_pid_status(5) of the Linux manual pages, a part of proc(5).
 use Rattle.std.specs.Prelude.{◌≡◌, ◌⊎◌, ℕ, ◌-◌, ◌<◌, ◌≤◌, Bool, true, false, ◌==◌, ◌&&◌, ◌||◌, nat_eq, nat_lt, nat_le, List, [], ◌∷◌, ◌++◌, length, take, drop, codes, Option, Some, None, option_map, if◌then◌else◌}
 use Rattle.std.specs.Char.{is_digit}

@@ -30,7 +30,7 @@ pub struct EntryPath {
 pub enum PathName {
     /// A file.
     Path(EntryPath),
-    /// A part of the system, as `[vdso]` or `[stack]`.
+    /// Anything else, by the text that names it: mostly a part of the system, as `[vdso]` or `[stack]`.
     Component(String),
 }
 

@@ -3,16 +3,16 @@
 ghost use Rattle.std.specs.Prelude.{◌≡◌, List, None, Ok, Some, false, IfOk, IfErr, IsOkUnless, OnOk, string_bytes};
 ghost use Rattle.bz_base.specs.Lent.{IsLentResolved};
 ghost use Rattle.bz_base.specs.Refusals.{MayRefuse};
-ghost use Rattle.bz_base.specs.Resolution.{MayGive, StartsBefore, found_of};
+ghost use Rattle.bz_base.specs.Resolution.{MayGive, StartsBefore, answer_seen, found_of};
 ghost use Rattle.bz_base.specs.declared.error.Error.{Error};
-ghost use Rattle.bz_cache.specs.Format.{Comes, IsRefusalBy};
+ghost use Rattle.bz_cache.specs.Format.{GivesOrFaults, IsRefusalBy};
 ghost use Rattle.bz_files.specs.Count.{counted};
 ghost use Rattle.bz_files.specs.Looked.{Faulted, Looked, ReadsOne};
 ghost use Rattle.bz_files.specs.World.{Told, entry_at, has_file, in_view};
 ghost use Rattle.bz_proc.specs.PerfId.{IsOfStatus, ns_tgid_of, status_path};
 ghost use Rattle.bz_proc.specs.PerfLine.{PerfFunction};
 ghost use Rattle.bz_proc.specs.PerfLines.{perf_functions_in};
-ghost use Rattle.bz_proc.specs.PerfMap.{IsPerfMap, answer_seen, format_refusals, format_test, plain};
+ghost use Rattle.bz_proc.specs.PerfMap.{IsPerfMap, format_refusals, format_test, plain};
 ghost use Rattle.bz_proc.specs.PerfPath.{perf_map_path};
 ghost use Rattle.bz_proc.specs.SystemText.{IsReadRefusal};
 
@@ -79,7 +79,7 @@ impl PerfMap {
     /// own. NotFound, PermissionDenied: there is no status that may be read. InvalidData: it isn't one.
     /// ReadFault: reading it failed.
     pub fn ns_tgid<F: Files>(alloc: Global, files: &mut F, pid: Pid) -> Result<u32>
-        ensures answer { Told (in_view (F.worlds files.old)) (λ world. Comes (λ id. id) (ns_tgid_of pid (F.pid files.old) (entry_at world (status_path pid))) result) }
+        ensures answer { Told (in_view (F.worlds files.old)) (λ world. GivesOrFaults (λ id. id) (ns_tgid_of pid (F.pid files.old) (entry_at world (status_path pid))) result) }
         ensures opened { OnOk result (F.opens files.new ≡ counted (F.opens files.old)) }
         ensures spared { Told (in_view (F.worlds files.old)) (λ world. has_file (entry_at world (status_path pid)) ≡ false → F.opens files.new ≡ F.opens files.old) }
         ensures most { ReadsOne F.Files files.old files.new }

@@ -1,4 +1,4 @@
-//! The id by which a process names itself.
+//! The id by which a process knows itself.
 
 ghost use Rattle.std.specs.Prelude.{◌≡◌, ◌≤◌, None, Some, length, not, option_map, IfOk, IfErr};
 ghost use Rattle.std.specs.List.{suffix_len};
@@ -13,7 +13,7 @@ const LABEL: &[u8] = b"NStgid:";
 /// A form feed.
 pub(crate) const FORM_FEED: u8 = b'\x0c';
 
-/// The id by which the process names itself, as the text of its status tells it: the last word behind
+/// The id by which the process knows itself, as the text of its status tells it: the last word behind
 /// `NStgid:` in the first line that begins so. There is none where no line does. InvalidData: the text
 /// isn't UTF-8, or that word isn't a number of 32 bits.
 pub fn parse_ns_tgid(status: &[u8]) -> Result<Option<u32>>

@@ -8,7 +8,7 @@ use Rattle.std.proofs.lemmas.Slice.Eq.{starts_is}
 use Rattle.bz_base.specs.Number.{IsHex, hex_at, whole}
 use Rattle.bz_base.proofs.NumberLemmas.{number_whole_found, number_whole_again}
 use Rattle.bz_requests.specs.Addresses.{IsAddress, address_in, digits_in, each_address_in}
-use Rattle.bz_requests.specs.Lines.{Agrees}
+use Rattle.bz_requests.specs.Lines.{ReadsAsSpelled}
 use Rattle.bz_requests.proofs.OptionLemmas.{map_some, then_some}
 
 module _ (text : List ℕ) where
@@ -65,5 +65,5 @@ addresses_again (text ∷ texts) [] each = absurd each
 addresses_again (text ∷ texts) (addr ∷ addrs) each = rw (address_again text addr each.0, addresses_again texts addrs each.1) refl
 
 -- so reader and relation agree
-pub address_agrees : Agrees address_in IsAddress
+pub address_agrees : ReadsAsSpelled address_in IsAddress
 address_agrees b content addr = (address_found (b ∷ content) addr, address_again (b ∷ content) addr)

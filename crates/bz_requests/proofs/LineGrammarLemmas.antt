@@ -8,7 +8,7 @@ use Rattle.std.proofs.lemmas.Slice.Eq.{ends_is}
 use Rattle.bz_base.specs.Byte.{carriage_return}
 use Rattle.bz_base.specs.Line.{AreLines, all_lines}
 use Rattle.bz_base.proofs.LineLemmas.{all_found, all_again}
-use Rattle.bz_requests.specs.Lines.{Agrees, IsContent, Says, IsWellFormed, AreItems, IsFirstBad, content_of, said_in, in_front, with_said, read_lines, items_in}
+use Rattle.bz_requests.specs.Lines.{ReadsAsSpelled, IsContent, Says, IsWellFormed, AreItems, IsFirstBad, content_of, said_in, in_front, with_said, read_lines, items_in}
 
 -- Contents.
 
@@ -55,7 +55,7 @@ front_bad : {A : Type 0} (front : List A) (others : Result (List A) ℕ) (m : �
 front_bad front (Ok rest) m read = cc
 front_bad front (Err n) m read = read
 
-module _ {A : Type 0} (reads : List ℕ → Option A) (Spells : List ℕ → A → Type 0) (agrees : Agrees reads Spells) where
+module _ {A : Type 0} (reads : List ℕ → Option A) (Spells : List ℕ → A → Type 0) (agrees : ReadsAsSpelled reads Spells) where
   -- Lines.
 
   -- what is read of a line's content is what the line says

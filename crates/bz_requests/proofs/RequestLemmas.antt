@@ -8,7 +8,7 @@ use Rattle.std.proofs.lemmas.Str.{IsUtf8-from_is_utf8}
 use Rattle.bz_base.proofs.NumberLemmas.{decimal_whole_found, decimal_whole_again}
 use Rattle.bz_requests.specs.Addresses.{IsAddress, address_in, each_address_in}
 use Rattle.bz_requests.specs.Fields.{fields}
-use Rattle.bz_requests.specs.Lines.{Agrees}
+use Rattle.bz_requests.specs.Lines.{ReadsAsSpelled}
 use Rattle.bz_requests.proofs.AddressLemmas.{address_found, address_again, addresses_found, addresses_again}
 use Rattle.bz_requests.proofs.FieldLemmas.{are_fields, fields_are}
 use Rattle.bz_requests.proofs.OptionLemmas.{map_some, then_some}
@@ -163,5 +163,5 @@ unfolding request_in
 request_again text request is = ap request_by (fields_are text is.all is.are_fields) ∙ fields_again is.all request is.spelled
 
 -- so reader and relation agree
-pub request_agrees : Agrees request_in IsRequest
+pub request_agrees : ReadsAsSpelled request_in IsRequest
 request_agrees b content request = (request_found (b ∷ content) request, request_again (b ∷ content) request)

@@ -46,8 +46,8 @@ module _ {A : Type 0} (Spells : List ℕ → A → Type 0) where
   HasBadLine text = (n : ℕ) × IsFirstBad text n
 
 -- a reader reads what contents spell: of a content that isn't empty it reads an item exactly where the content spells it
-abbrev pub Agrees : {A : Type 0} → (List ℕ → Option A) → (List ℕ → A → Type 0) → Type 0
-Agrees {A} reads Spells = (b : ℕ) (content : List ℕ) (item : A) → (reads (b ∷ content) ≡ Some item) ↔ Spells (b ∷ content) item
+abbrev pub ReadsAsSpelled : {A : Type 0} → (List ℕ → Option A) → (List ℕ → A → Type 0) → Type 0
+ReadsAsSpelled {A} reads Spells = (b : ℕ) (content : List ℕ) (item : A) → (reads (b ∷ content) ≡ Some item) ↔ Spells (b ∷ content) item
 
 -- the line without the one carriage return that may end it
 abbrev pub content_of : List ℕ → List ℕ

@@ -119,3 +119,8 @@ module _ {X : Type 0} (depth start : X → ℕ) where
   pub inner_is : (records : List X) (at addr : ℕ) (x : X) → inner depth start at addr records ≡ Some x →
       (place : ℕ) × IsInner depth start records at addr place x
   inner_is records at addr x found = subst (Finds at addr records) found (inner_finds at addr records)
+
+  -- where none is given, none fits
+  pub inner_above : (records : List X) (at addr : ℕ) → inner depth start at addr records ≡ None →
+      (i : ℕ) (y : X) → slice_get records i ≡ Some y → depth y ≡ at → addr < start y
+  inner_above records at addr none = subst (Finds at addr records) none (inner_finds at addr records)

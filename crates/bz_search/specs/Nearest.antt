@@ -5,9 +5,9 @@ use Rattle.std.specs.List.{filter}
 use Rattle.bz_search.specs.Span.{covers}
 
 module _ {X : Type 0} (start size : X → ℕ) where
-  -- the record at a place is the one to try: no other start lies nearer below the address; of the records that start at
-  -- the address itself it is the smallest, and the first of equals; of those that start below it the largest, and the
-  -- last of equals
+  -- the record at a place is the one to try: no other start lies nearer below the address. Of the records that start at
+  -- the address itself it is the smallest, and the first of equals. Of those that start below it, it is the largest, and
+  -- the last of equals
   pub record IsCandidate (records : List X) (addr place : ℕ) (x : X) : Type 0 where
     pub there : slice_get records place ≡ Some x
     pub not_above : start x ≤ addr

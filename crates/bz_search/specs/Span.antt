@@ -1,9 +1,13 @@
 -- Whether a record with a start and a size in bytes covers an address.
-use Rattle.std.specs.Prelude.{◌≡◌, ◌⊎◌, ℕ, ◌+◌, ◌<◌, ◌≤◌, Bool, ◌==◌, nat_le, nat_lt, ◌&&◌, ◌||◌}
+use Rattle.std.specs.Prelude.{◌≡◌, ◌⊎◌, ℕ, ◌+◌, ◌<◌, ◌≤◌, Bool, ◌==◌, nat_le, nat_lt, ◌&&◌, ◌||◌, Option, Some, None, if◌then◌else◌}
 
 -- the greatest address
 abbrev pub last_address : ℕ
 last_address = 18446744073709551615
+
+-- an address, where it fits 64 bits
+abbrev pub fitting : ℕ → Option ℕ
+fitting addr = if nat_le addr last_address then Some addr else None
 
 -- the record has the address inside: it lies from the start on and before the end, and the end fits 64 bits
 abbrev pub inside : ℕ → ℕ → ℕ → Bool

@@ -11,12 +11,12 @@ use std::alloc::{AllocError, Global};
 /// How many depths there are, from 0 on.
 const DEPTHS: u64 = 4_294_967_296;
 
-/// A record with a depth, in records around it.
+/// A record with a depth, which may have no records around it.
 pub trait Nested: Spanned {
-    /// How many records are around it.
+    /// The depth, as the source has it; 0 is the outermost.
     ghost depth: { Self → ℕ };
 
-    /// How many records are around it.
+    /// The depth, as the source has it; 0 is the outermost.
     fn depth(&self) -> u32
         ensures { result ≡ depth self.now };
 }

@@ -1,6 +1,6 @@
 //! What holds of this crate's definitions.
 
-ghost use Rattle.std.specs.Prelude.{◌≡◌, ◌↔◌, ℕ, true, List, Option, Some, map, option_and_then, slice_get};
+ghost use Rattle.std.specs.Prelude.{◌≡◌, ◌↔◌, ℕ, ◌<◌, true, List, Option, Some, None, map, option_and_then, slice_get};
 ghost use Rattle.bz_search.specs.Chain.{IsInner, IsChainTo, inner, chain, depths};
 ghost use Rattle.bz_search.specs.Nearest.{IsCandidate, IsNearestCovering, IsTable, candidate, nearest_covering};
 ghost use Rattle.bz_search.specs.Sorting.{Ascends, sorted};
@@ -13,9 +13,11 @@ pub fn covers_is_exact()
 {}
 
 /// Over records of any kind with a start and a size, `candidate` gives the record that is to be tried,
-/// and with the test the nearest one if it covers the address; and what is nearest is what it gives.
+/// and none exactly where each starts above the address. With the test it gives the nearest one if it
+/// covers the address; and what is nearest is what it gives.
 pub fn nearest_is_exact<T>()
-    ensures tried { (start size : T → ℕ) (records : List T) (addr place : ℕ) (x : T) → IsCandidate start size records addr place x → candidate start size addr records ≡ Some x }
+    ensures tried { (start size : T → ℕ) (records : List T) (addr : ℕ) (x : T) → (candidate start size addr records ≡ Some x) ↔ ((place : ℕ) × IsCandidate start size records addr place x) }
+    ensures none { (start size : T → ℕ) (records : List T) (addr : ℕ) → (candidate start size addr records ≡ None) ↔ ((i : ℕ) (y : T) → slice_get records i ≡ Some y → addr < start y) }
     ensures is { (start size : T → ℕ) (records : List T) (addr : ℕ) → IsNearestCovering start size records addr (nearest_covering start size addr records) }
     ensures only { (start size : T → ℕ) (records : List T) (addr : ℕ) (answer : Option T) → IsNearestCovering start size records addr answer → answer ≡ nearest_covering start size addr records }
 {}
@@ -36,10 +38,10 @@ pub fn sorted_tables_are_one<T>()
     ensures again { (first second : T → ℕ) (records : List T) → Ascends first second records → sorted first second records ≡ records }
 {}
 
-/// At a depth the search gives the record with the nearest start not above an address, and what lies
-/// nearest is what it gives.
+/// At a depth the search gives the record with the nearest start not above an address, and none exactly
+/// where each of that depth starts above it. The chain has those around the address, depth by depth.
 pub fn inner_is_exact<T>()
-    ensures is { (depth start : T → ℕ) (records : List T) (at addr : ℕ) (x : T) → inner depth start at addr records ≡ Some x → (place : ℕ) × IsInner depth start records at addr place x }
-    ensures only { (depth start : T → ℕ) (records : List T) (at addr place : ℕ) (x : T) → IsInner depth start records at addr place x → inner depth start at addr records ≡ Some x }
+    ensures tried { (depth start : T → ℕ) (records : List T) (at addr : ℕ) (x : T) → (inner depth start at addr records ≡ Some x) ↔ ((place : ℕ) × IsInner depth start records at addr place x) }
+    ensures none { (depth start : T → ℕ) (records : List T) (at addr : ℕ) → (inner depth start at addr records ≡ None) ↔ ((i : ℕ) (y : T) → slice_get records i ≡ Some y → depth y ≡ at → addr < start y) }
     ensures chain { (depth start size : T → ℕ) (records : List T) (addr : ℕ) → IsChainTo depth start size depths records addr 0 (chain depth start size records addr) }
 {}

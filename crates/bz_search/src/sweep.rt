@@ -14,8 +14,8 @@ use std::alloc::{AllocError, Global};
 use std::sync::ledger::Ledger;
 
 /// For each address of the batch the place that `nearest` gives for it, by a pass along the starts
-/// or by a search for each, whichever has the lesser bound. Want of memory also where there are so
-/// many starts that a place can't be kept in four bytes.
+/// or by a search for each, whichever has the lesser bound. Want of memory also from 2^32 starts on,
+/// since places are kept in four bytes.
 pub fn nearest_each<L: Ledger>(
     alloc: Global,
     table: &Starts,
@@ -29,7 +29,7 @@ pub fn nearest_each<L: Ledger>(
     ensures searched { (p : ℕ) → 2 * (2 * length table.now + 1) < 2 ^ (p + 1) → steps.new - steps.old ≤ length addrs.now * p }
 {
     let count = table.len();
-    if count >= u32::MAX as usize {
+    if count > u32::MAX as usize {
         return Err(AllocError);
     }
     let most = most_probes(count);

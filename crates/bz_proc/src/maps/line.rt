@@ -18,15 +18,15 @@ const MOST_INODE_DIGITS: usize = 20;
 
 /// What a line of mappings tells.
 #[derive(Drop)]
-pub struct MappingLine<'a> {
+pub(super) struct MappingLine<'a> {
     /// The first address.
-    pub(crate) start: Addr,
+    pub start: Addr,
     /// The address after the last one.
-    pub(crate) end: Addr,
+    pub end: Addr,
     /// The offset of the first byte in the file.
-    pub(crate) offset: u64,
+    pub offset: u64,
     /// What stands after the other fields.
-    pub(crate) text: &'a [u8],
+    pub text: &'a [u8],
 }
 
 /// The addresses that begin a line, and the text after them.
@@ -41,7 +41,7 @@ struct AddressRange<'a> {
 }
 
 /// What the line tells, if it is one of a mapping.
-pub fn mapping_line(line: &[u8]) -> Option<MappingLine<'_>>
+pub(super) fn mapping_line(line: &[u8]) -> Option<MappingLine<'_>>
     ensures { option_map line_of result ≡ line_in line.now }
 {
     let range = address_range(line)?;

@@ -2,7 +2,7 @@
 
 ghost use Rattle.std.specs.Prelude.{◌≡◌, false, string_bytes, IfOk, IfErr, IsOkUnless, OnOk};
 ghost use Rattle.bz_base.specs.declared.error.Error.{Error};
-ghost use Rattle.bz_cache.specs.Format.{Comes};
+ghost use Rattle.bz_cache.specs.Format.{GivesOrFaults};
 ghost use Rattle.bz_files.specs.Count.{counted};
 ghost use Rattle.bz_files.specs.Looked.{Faulted, Looked, ReadsOne};
 ghost use Rattle.bz_files.specs.World.{Told, entry_at, has_file, in_view};
@@ -16,7 +16,7 @@ use std::alloc::Global;
 
 /// The id by which a process knows itself, where the own process has the id `own`.
 pub(crate) fn ns_tgid_of<F: Files>(alloc: Global, files: &mut F, pid: Pid, own: u32) -> Result<u32>
-    ensures answer { Told (in_view (F.worlds files.old)) (λ world. Comes (λ id. id) (ns_tgid_of pid own (entry_at world (status_path pid))) result) }
+    ensures answer { Told (in_view (F.worlds files.old)) (λ world. GivesOrFaults (λ id. id) (ns_tgid_of pid own (entry_at world (status_path pid))) result) }
     ensures opened { OnOk result (F.opens files.new ≡ counted (F.opens files.old)) }
     ensures spared { Told (in_view (F.worlds files.old)) (λ world. has_file (entry_at world (status_path pid)) ≡ false → F.opens files.new ≡ F.opens files.old) }
     ensures most { ReadsOne F.Files files.old files.new }

@@ -5,11 +5,11 @@ use Rattle.bz_base.proofs.EqualityLemmas.{pairs_agree, options_agree, lists_agre
 use Rattle.bz_base.specs.declared.types.Symbolized.TheVariants as symbolized
 use Rattle.bz_base.proofs.laws.answers_are_equal_by_reading.Goals as goal
 
-pub returns-clause-places : goal.returns-clause-places
-returns-clause-places c = search rules
+pub returns-clause-sites : goal.returns-clause-sites
+returns-clause-sites c = search rules
 
 pub returns-clause-calls : goal.returns-clause-calls
-returns-clause-calls c a b = search (options_agree _ site_of (returns-clause-places c) a.code_info b.code_info, rules)
+returns-clause-calls c a b = search (options_agree _ site_of (returns-clause-sites c) a.code_info b.code_info, rules)
 
 pub returns-clause-symbols : goal.returns-clause-symbols
 returns-clause-symbols c a b =
@@ -19,7 +19,7 @@ returns-clause-symbols c a b =
     (pairs_agree _ _ (search rules)
     (pairs_agree _ _ (search rules)
     (pairs_agree _ _ (sizes_agree a.size b.size)
-    (pairs_agree _ _ (options_agree _ site_of (returns-clause-places c) a.code_info b.code_info)
+    (pairs_agree _ _ (options_agree _ site_of (returns-clause-sites c) a.code_info b.code_info)
     (pairs_agree _ _ (lists_agree _ call_of (returns-clause-calls c) a.inlined.items b.inlined.items)
     (search rules))))))))
 
@@ -31,7 +31,7 @@ returns-clause-resolved c a b =
     (pairs_agree _ _ (search rules)
     (pairs_agree _ _ (sizes_agree a.size b.size)
     (pairs_agree _ _ (search rules)
-    (pairs_agree _ _ (options_agree _ site_of (returns-clause-places c) a.code_info b.code_info)
+    (pairs_agree _ _ (options_agree _ site_of (returns-clause-sites c) a.code_info b.code_info)
     (lists_agree _ call_of (returns-clause-calls c) a.inlined.items b.inlined.items)))))))
 
 pub returns-clause-answers : goal.returns-clause-answers
