@@ -6,7 +6,7 @@ use Rattle.std.proofs.lemmas.Bool.{or_from, false_from_ne_true, eqb-true, false�
 use Rattle.std.proofs.lemmas.List.{take-append-drop}
 use Rattle.std.proofs.lemmas.Str.{IsUtf8-from_ascii}
 use Rattle.bz_base.specs.Byte.{line_feed, is_blank, HasNo, begins_with}
-use Rattle.bz_breakpad_lines.specs.Byte.{is_plain}
+use Rattle.bz_breakpad_lines.specs.Byte.{is_ascii_in_line}
 use Rattle.bz_breakpad_lines.specs.Form.{AllPass}
 use Rattle.bz_breakpad_lines.specs.Quick.{IsAsciiLine}
 use Rattle.bz_breakpad_lines.proofs.FieldLemmas.{byte_at}
@@ -29,23 +29,23 @@ module _ (p : ℕ → Bool) where
       or_from _ _ (false_from_ne_true (nat_eq b byte) (λ same. false≢true (sym fails ∙ ap p (sym (eqb-true b byte same)) ∙ all.0)))
       (none_of byte fails text all.1)
 
-plain_ascii : (b : ℕ) → is_plain b ≡ true → b < 128
+plain_ascii : (b : ℕ) → is_ascii_in_line b ≡ true → b < 128
 plain_ascii b plain = grind arith
 
-all_ascii : (name : List ℕ) → AllPass is_plain name → IsAscii name
+all_ascii : (name : List ℕ) → AllPass is_ascii_in_line name → IsAscii name
 all_ascii [] all i = omega arith
 all_ascii (b ∷ name) all zero = plain_ascii b all.0
 all_ascii (b ∷ name) all (suc i) = all_ascii name all.1 i
 
 -- a name in ASCII is a text
-pub plain_utf8 : (name : List ℕ) → AllPass is_plain name → IsUtf8 name
+pub plain_utf8 : (name : List ℕ) → AllPass is_ascii_in_line name → IsUtf8 name
 plain_utf8 name all = IsUtf8-from_ascii name (all_ascii name all)
 
 -- a line in ASCII stands in front where a line feed ends it
-pub line_in_front : (text : List ℕ) (n : ℕ) → n ≤ prefix_len is_plain text → n < length text → slice_index text n ≡ line_feed → IsAsciiLine text (take n text) (drop (n + 1) text)
+pub line_in_front : (text : List ℕ) (n : ℕ) → n ≤ prefix_len is_ascii_in_line text → n < length text → slice_index text n ≡ line_feed → IsAsciiLine text (take n text) (drop (n + 1) text)
 line_in_front text n plain within ends = record {
   cut = sym (take-append-drop n text) ∙ ap (λ rest. take n text ++ rest) (byte_at n line_feed text within ends);
-  bytes = run_passes is_plain n text plain;
+  bytes = run_passes is_ascii_in_line n text plain;
 }
 
 -- what begins with no blank still doesn't with a line feed after it

@@ -4,6 +4,7 @@ use Rattle.std.specs.List.{prefix_len}
 use Rattle.std.specs.Prelude.{slice_index}
 use Rattle.std.proofs.lemmas.Bool.{false≢true, cases_lt}
 use Rattle.std.proofs.lemmas.List.{take-append-drop, drop_all}
+use Rattle.bz_base.specs.Bind.{◌>>=◌}
 use Rattle.bz_base.specs.Byte.{begins_with, is_blank, line_feed}
 use Rattle.bz_base.specs.Number.{digits_at}
 use Rattle.bz_breakpad_lines.specs.Byte.{is_hex}
@@ -13,7 +14,7 @@ use Rattle.bz_breakpad_lines.specs.Form.Form.{End, ◌·◌}
 use Rattle.bz_breakpad_lines.specs.Form.Piece.{Separator, Hex, Decimal}
 use Rattle.bz_breakpad_lines.specs.LineStarts.{ReadsLine, line_read, no_line}
 use Rattle.bz_breakpad_lines.specs.Line.{line_front, line_in, source_line}
-use Rattle.bz_breakpad_lines.specs.Reads.{◌>>=◌, form_at, piece_at, reads}
+use Rattle.bz_breakpad_lines.specs.Reads.{form_at, piece_at, reads}
 use Rattle.bz_breakpad_lines.specs.Records.{LINE}
 use Rattle.bz_breakpad_lines.specs.Table.{SourceLine}
 use Rattle.bz_breakpad_lines.proofs.Apart.{separator_front}

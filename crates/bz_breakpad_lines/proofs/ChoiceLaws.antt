@@ -6,12 +6,13 @@ use Rattle.std.proofs.lemmas.Bool.{lt-ltb, eq-eqb, and_parts, not-true, false≢
 use Rattle.std.proofs.lemmas.List.{take-append-drop}
 use Rattle.std.proofs.lemmas.Option.{cond_some, same_Some, none-some}
 use Rattle.std.proofs.Math.Seq.{take-append_seam, drop-append_seam}
+use Rattle.bz_base.specs.Bind.{◌>>=◌}
 use Rattle.bz_base.specs.Byte.{begins_with}
 use Rattle.bz_breakpad_lines.specs.Byte.{is_hex, is_carriage_return}
 use Rattle.bz_breakpad_lines.specs.Form.{Form, Value, AllPass, IsPiece, Spells}
 use Rattle.bz_breakpad_lines.specs.Form.Piece.{Tag, Hex}
 use Rattle.bz_breakpad_lines.specs.Form.Form.{◌·◌}
-use Rattle.bz_breakpad_lines.specs.Reads.{◌>>=◌, form_at}
+use Rattle.bz_breakpad_lines.specs.Reads.{form_at}
 use Rattle.bz_breakpad_lines.specs.Choice.{One, SpellsOne, or_else, one_at, IsBody, body_at, AreReadExactly}
 use Rattle.bz_breakpad_lines.proofs.Apart.{is_set}
 use Rattle.bz_breakpad_lines.proofs.FormLaws.{form_found, form_again}

@@ -3,8 +3,8 @@ use Rattle.std.proofs.Common.{◌≡◌, ℕ, ◌+◌, Bool, true, false, cond, 
 use Rattle.std.specs.List.{AllByRecursion}
 use Rattle.std.proofs.lemmas.Bool.{and_right, lt-ltb, true≢false}
 use Rattle.std.proofs.lemmas.Option.{same_Some, none-some}
+use Rattle.bz_base.specs.Bind.{◌>>=◌}
 use Rattle.bz_breakpad_lines.specs.Byte.{is_nothing}
-use Rattle.bz_breakpad_lines.specs.Reads.{◌>>=◌}
 use Rattle.bz_breakpad_lines.specs.Says.{module_of}
 use Rattle.bz_breakpad_lines.specs.Grammar.{IsNoModule}
 use Rattle.bz_breakpad_lines.specs.Reader.{Reading, with_record, next_read, lines_read}

@@ -4,10 +4,11 @@ use Rattle.std.specs.Str.{is_utf8}
 use Rattle.std.proofs.lemmas.Bool.{and_parts, not-true, false≢true}
 use Rattle.std.proofs.lemmas.Option.{cond_some, same_Some, none-some}
 use Rattle.std.proofs.lemmas.Str.{IsUtf8-from_is_utf8, is_utf8-from_IsUtf8}
+use Rattle.bz_base.specs.Bind.{◌>>=◌}
 use Rattle.bz_base.specs.Byte.{is_blank, begins_with}
 use Rattle.bz_breakpad_lines.specs.Form.{Form, Value, told, IsSeparatorText, Spells}
 use Rattle.bz_breakpad_lines.specs.Form.Form.{End, Name, SeparatorText, Many, ◌·◌}
-use Rattle.bz_breakpad_lines.specs.Reads.{◌>>=◌, piece_at, name_at, many_at, reads, complete, form_at, IsReadExactly}
+use Rattle.bz_breakpad_lines.specs.Reads.{piece_at, name_at, many_at, reads, complete, form_at, IsReadExactly}
 use Rattle.bz_breakpad_lines.proofs.Apart.{Follows, is_set, before, closed, separator_first, at_end, closed_follows, separator_front, apart}
 use Rattle.bz_breakpad_lines.proofs.Pieces.{piece_found, piece_again, separator_begins}
 use Rattle.bz_breakpad_lines.proofs.Turns.{bind_some, map_some, many_found, many_again}

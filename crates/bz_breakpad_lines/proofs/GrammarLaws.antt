@@ -2,11 +2,11 @@
 use Rattle.std.proofs.Common.{◌≡◌, ℕ, ◌<◌, false, List, [], ◌∷◌, length, Some, option_map, refl, sym, ap, subst, ◌∙◌, arith, length-append}
 use Rattle.std.specs.List.{flat_map}
 use Rattle.std.proofs.lemmas.Option.{none-some}
+use Rattle.bz_base.specs.Bind.{◌>>=◌}
 use Rattle.bz_base.specs.Byte.{line_feed}
 use Rattle.bz_base.specs.Line.{ended, AreEnded, ended_lines}
 use Rattle.bz_base.proofs.LineLemmas.{ended_found, ended_again}
 use Rattle.bz_breakpad_lines.specs.Grammar.{Role, AreRoles, Accepted, records_of}
-use Rattle.bz_breakpad_lines.specs.Reads.{◌>>=◌}
 use Rattle.bz_breakpad_lines.specs.Reader.{Reading, nothing_read, lines_read, table_read, reading_in, counted_in}
 use Rattle.bz_breakpad_lines.specs.Says.{table_of}
 use Rattle.bz_breakpad_lines.specs.Table.{Table}

@@ -9,7 +9,7 @@ use Rattle.std.proofs.lemmas.List.Folds.{list_any-append}
 use Rattle.bz_base.specs.Byte.{tab, line_feed, carriage_return, is_blank, space, HasNo, begins_with}
 use Rattle.bz_base.specs.Number.{IsNumber, digits_at}
 use Rattle.bz_base.proofs.ByteLemmas.{HasNo-digits}
-use Rattle.bz_breakpad_lines.specs.Byte.{is_carriage_return, is_nothing, is_plain, is_white}
+use Rattle.bz_breakpad_lines.specs.Byte.{is_carriage_return, is_nothing, is_ascii_in_line, is_white}
 use Rattle.bz_breakpad_lines.specs.Choice.{body_at}
 use Rattle.bz_breakpad_lines.specs.Form.{AllPass, Form, InTurn, Piece, Tell, With, told, Value, Spells}
 use Rattle.bz_breakpad_lines.specs.Form.Form.{End, Many, Name, SeparatorText, ◌·◌}
@@ -359,7 +359,7 @@ func_found c text fields rest func start size parameter_size is_tag is_start bef
     quick_func c text rest (func_told func)
     (composed FUNC_FIELDS Name tt (refl, (refl, tt)) (refl, (refl, tt)) text func.name.now rest value func.name.now fields_are
     (record { utf8 = plain_utf8 func.name.now name.bytes; front = front }, refl)
-    (none_of is_plain line_feed refl func.name.now name.bytes) (none_of is_plain carriage_return refl func.name.now name.bytes))
+    (none_of is_ascii_in_line line_feed refl func.name.now name.bytes) (none_of is_ascii_in_line carriage_return refl func.name.now name.bytes))
 
 -- the tag of a STACK CFI record, a text in ASCII and a line feed
 pub cfi_found : (text more tail rest : List ℕ) → Some (tt, more) ≡ piece_at (Tag (codes "STACK CFI ")) text → IsAsciiLine more tail rest →
@@ -372,7 +372,7 @@ cfi_found text more tail rest is_tag ascii =
     (front.2 ∙ ap (λ t. t ++ more) front.1 ∙ ap (λ t. codes "STACK CFI " ++ t) ascii.cut)
     (record { front = codes "STACK CFI"; back = []; whole = refl; tells = tt; others = tt; front_is = refl; back_is = refl; valued = refl })
     (record { separator = space ∷ []; more = tail; whole = refl; separator_is = record { bytes = (refl, tt); passes = refl; tells = refl } })
-    (none_of is_plain line_feed refl tail ascii.bytes) (none_of is_plain carriage_return refl tail ascii.bytes))
+    (none_of is_ascii_in_line line_feed refl tail ascii.bytes) (none_of is_ascii_in_line carriage_return refl tail ascii.bytes))
 
 module _ (c : Context) (text : List ℕ) (r : Record) (rest : List ℕ) (p : IsQuick c text r rest) where
   -- the text is its line, a line feed and the rest after them

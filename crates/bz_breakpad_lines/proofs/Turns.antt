@@ -2,10 +2,11 @@
 use Rattle.std.proofs.Common.{◌≡◌, ℕ, zero, suc, ◌<◌, ◌≤◌, true, false, List, [], ◌∷◌, ◌++◌, length, Option, Some, None, option_map, refl, ap, subst, ◌∙◌, arith, append-nil, length-append}
 use Rattle.std.proofs.lemmas.Bool.{false≢true}
 use Rattle.std.proofs.lemmas.Option.{none-some, same_Some}
+use Rattle.bz_base.specs.Bind.{◌>>=◌}
 use Rattle.bz_base.specs.Byte.{is_blank, begins_with}
 use Rattle.bz_breakpad_lines.specs.Byte.{is_solid}
 use Rattle.bz_breakpad_lines.specs.Form.{InTurn}
-use Rattle.bz_breakpad_lines.specs.Reads.{◌>>=◌, joined, turns_at, many_at}
+use Rattle.bz_breakpad_lines.specs.Reads.{joined, turns_at, many_at}
 
 -- where the second of two readings gives something, the first did
 pub bind_some : {A B : Type 0} (o : Option A) (f : A → Option B) (y : B) → (o >>= f) ≡ Some y → (x : A) × (o ≡ Some x) × (f x ≡ Some y)

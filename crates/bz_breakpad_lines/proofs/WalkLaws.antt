@@ -5,11 +5,12 @@ use Rattle.std.proofs.lemmas.Bool.{and_parts, and_right, cond_both, false≢true
 use Rattle.std.proofs.lemmas.List.{take-append-drop}
 use Rattle.std.proofs.lemmas.Option.{same_Some, none-some}
 use Rattle.std.proofs.Math.Seq.{drop-append_seam}
+use Rattle.bz_base.specs.Bind.{◌>>=◌}
 use Rattle.bz_base.specs.Byte.{begins_with}
 use Rattle.bz_base.specs.Number.{digits_at}
 use Rattle.bz_breakpad_lines.specs.Byte.{is_white, is_nothing}
 use Rattle.bz_breakpad_lines.specs.Form.{AllPass}
-use Rattle.bz_breakpad_lines.specs.Reads.{◌>>=◌, form_at, piece_at, run_at}
+use Rattle.bz_breakpad_lines.specs.Reads.{form_at, piece_at, run_at}
 use Rattle.bz_breakpad_lines.specs.Choice.{One, one_at, body_at}
 use Rattle.bz_breakpad_lines.specs.Records.{TOP, INNER, STACK_CFI}
 use Rattle.bz_breakpad_lines.specs.Contexts.{Context, Record, context_after, white_allowed_after, IsUnder, IsBodyOf, IsRecord, body_record, under_at, IsText, or_record, record_at, after_white}

@@ -1,8 +1,8 @@
 -- The walk over a file's lines, from one record to the next.
 use Rattle.std.specs.Prelude.{◌≡◌, ◌↔◌, ℕ, Bool, true, ◌&&◌, ◌⊎◌, List, [], ◌∷◌, Option, Some, option_map, if◌then◌else◌}
+use Rattle.bz_base.specs.Bind.{◌>>=◌}
 use Rattle.bz_breakpad_lines.specs.Byte.{is_white, is_nothing}
 use Rattle.bz_breakpad_lines.specs.Form.{AllPass}
-use Rattle.bz_breakpad_lines.specs.Reads.{◌>>=◌}
 use Rattle.bz_breakpad_lines.specs.Contexts.{Context, Record, context_after, white_allowed_after, IsRecord, IsText, record_at, after_white}
 
 -- a line that is read, and the lines after it

@@ -28,8 +28,8 @@ abbrev pub is_white : ℕ → Bool
 is_white b = is_blank b || b == carriage_return
 
 -- a byte in ASCII that ends no line
-abbrev pub is_plain : ℕ → Bool
-is_plain b = is_ascii b && not (b == line_feed || b == carriage_return)
+abbrev pub is_ascii_in_line : ℕ → Bool
+is_ascii_in_line b = is_ascii b && not (b == line_feed || b == carriage_return)
 
 abbrev pub is_carriage_return : ℕ → Bool
 is_carriage_return b = b == carriage_return

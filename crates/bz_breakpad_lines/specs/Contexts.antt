@@ -2,10 +2,11 @@
 -- This is after "Line records", "INLINE records" and "STACK CFI records" of docs/symbol_files.md among Breakpad's sources.
 use Rattle.std.specs.Prelude.{◌≡◌, ℕ, Bool, true, false, List, [], ◌++◌, drop, Option, Some, None, option_map}
 use Rattle.std.specs.List.{prefix_len}
+use Rattle.bz_base.specs.Bind.{◌>>=◌}
 use Rattle.bz_base.specs.Byte.{begins_with}
 use Rattle.bz_breakpad_lines.specs.Byte.{is_white}
 use Rattle.bz_breakpad_lines.specs.Form.{AllPass, Spells}
-use Rattle.bz_breakpad_lines.specs.Reads.{◌>>=◌, form_at}
+use Rattle.bz_breakpad_lines.specs.Reads.{form_at}
 use Rattle.bz_breakpad_lines.specs.Choice.{One, SpellsOne, one_at, IsBody, body_at}
 use Rattle.bz_breakpad_lines.specs.Kinds.{TopRecord, top_of}
 use Rattle.bz_breakpad_lines.specs.Kinds.TopRecord.{Func, StackCfiInit}

@@ -1,10 +1,11 @@
 -- The line record that begins at a place in a text ("Line records" of docs/symbol_files.md among Breakpad's sources).
 use Rattle.std.specs.Prelude.{◌≡◌, ◌++◌, ℕ, not, ◌==◌, List, take, Option, option_map}
 use Rattle.std.specs.List.{prefix_len}
+use Rattle.bz_base.specs.Bind.{◌>>=◌}
 use Rattle.bz_base.specs.Byte.{line_feed}
 use Rattle.bz_breakpad_lines.specs.Choice.{body_at}
 use Rattle.bz_breakpad_lines.specs.Form.{Value}
-use Rattle.bz_breakpad_lines.specs.Reads.{◌>>=◌, form_at}
+use Rattle.bz_breakpad_lines.specs.Reads.{form_at}
 use Rattle.bz_breakpad_lines.specs.Records.{LINE}
 use Rattle.bz_breakpad_lines.specs.Table.{SourceLine}
 

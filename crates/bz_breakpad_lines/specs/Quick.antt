@@ -3,7 +3,7 @@
 use Rattle.std.specs.Prelude.{◌≡◌, false, ℕ, List, ◌∷◌, ◌++◌, Some}
 use Rattle.bz_base.specs.Byte.{line_feed, HasNo, begins_with}
 use Rattle.bz_base.specs.Line.{ended}
-use Rattle.bz_breakpad_lines.specs.Byte.{is_nothing, is_plain, is_white}
+use Rattle.bz_breakpad_lines.specs.Byte.{is_nothing, is_ascii_in_line, is_white}
 use Rattle.bz_breakpad_lines.specs.Choice.{body_at}
 use Rattle.bz_breakpad_lines.specs.Form.{AllPass, Form, InTurn, Value, Spells}
 use Rattle.bz_breakpad_lines.specs.Form.Form.{◌·◌}
@@ -41,4 +41,4 @@ pub record AreInTurn (f : Form) (text : List ℕ) (values : List (Value f)) (res
 -- the text begins with a line in ASCII, and the rest comes after its line feed
 pub record IsAsciiLine (text line rest : List ℕ) : Type 0 where
   pub cut : text ≡ line ++ line_feed ∷ rest
-  pub bytes : AllPass is_plain line
+  pub bytes : AllPass is_ascii_in_line line

@@ -1,9 +1,9 @@
 -- The table of a Breakpad file, read from its front line by line.
 -- That it is the table of the grammar is a law of this crate.
 use Rattle.std.specs.Prelude.{ℕ, ◌+◌, Bool, false, ◌&&◌, nat_lt, List, [], ◌∷◌, ◌++◌, Option, Some, None, is_some, option_map, if◌then◌else◌}
+use Rattle.bz_base.specs.Bind.{◌>>=◌}
 use Rattle.bz_base.specs.Line.{ended_lines}
 use Rattle.bz_breakpad_lines.specs.Byte.{is_nothing}
-use Rattle.bz_breakpad_lines.specs.Reads.{◌>>=◌}
 use Rattle.bz_breakpad_lines.specs.Kinds.{TopRecord, top_of, inner_of}
 use Rattle.bz_breakpad_lines.specs.Kinds.TopRecord.{Func}
 use Rattle.bz_breakpad_lines.specs.Says.{module_of, file_of, origin_of, public_of, with_inner}

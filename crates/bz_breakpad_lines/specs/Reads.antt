@@ -2,18 +2,13 @@
 use Rattle.std.specs.Prelude.{◌≡◌, ◌↔◌, ℕ, zero, suc, Bool, not, ◌==◌, ◌&&◌, nat_eq, List, [], ◌∷◌, length, take, drop, Option, Some, None, option_map, if◌then◌else◌}
 use Rattle.std.specs.List.{prefix_len, starts_with}
 use Rattle.std.specs.Str.{is_utf8}
+use Rattle.bz_base.specs.Bind.{◌>>=◌}
 use Rattle.bz_base.specs.Byte.{is_blank, begins_with}
 use Rattle.bz_base.specs.Number.{hex_at, decimal_at}
 use Rattle.bz_breakpad_lines.specs.Byte.{is_space, is_word_byte}
 use Rattle.bz_breakpad_lines.specs.Form.{Piece, Form, Tell, told, Value, some_bytes, anything, is_word, greatest, nothing, Spells}
 use Rattle.bz_breakpad_lines.specs.Form.Piece.{Tag, Mark, Separator, ModuleSeparator, Gap, Word, Hex, Decimal}
 use Rattle.bz_breakpad_lines.specs.Form.Form.{End, Name, SeparatorText, Many, ◌·◌}
-
--- what is read next, where the first was there
-infixl 10 ◌>>=◌
-abbrev pub ◌>>=◌ : {A B : Type 0} → Option A → (A → Option B) → Option B
-None >>= f = None
-(Some x) >>= f = f x
 
 -- the longest run of such bytes at the front, if it passes as a whole, and the text after it
 unfoldable pub run_at : {A : Type 0} → (ℕ → Bool) → (List ℕ → Bool) → (List ℕ → A) → List ℕ → Option (A × List ℕ)

@@ -5,7 +5,7 @@ ghost use Rattle.std.specs.List.{list_all, prefix_len};
 ghost use Rattle.bz_base.specs.Byte.{begins_with, is_blank};
 ghost use Rattle.bz_breakpad_lines.specs.Byte.{is_carriage_return, is_word_byte};
 ghost use Rattle.bz_breakpad_lines.specs.Choice.{body_at};
-ghost use Rattle.bz_breakpad_lines.specs.Form.Form.{SeparatorText};
+ghost use Rattle.bz_breakpad_lines.specs.Form.Form.{◌·◌, End, Name, SeparatorText};
 ghost use Rattle.bz_breakpad_lines.specs.Form.Piece.{Tag, Mark, Separator, ModuleSeparator, Gap, Word, Hex, Decimal};
 ghost use Rattle.bz_breakpad_lines.specs.Reads.{piece_at, name_at, end_at, reads};
 
@@ -133,6 +133,23 @@ pub fn decimal_field(text: &[u8]) -> Option<(u32, &[u8])>
     Some((value as u32, rest))
 }
 
+/// The decimal field after a separator: its number, and the text after it.
+#[inline(always)]
+pub fn next_decimal(text: &[u8]) -> Option<(u32, &[u8])>
+    ensures { option_map (λ read. ((read.0, tt), read.1.now)) result ≡ reads (Separator · Decimal · End) text.now }
+{
+    decimal_field(separator(text)?)
+}
+
+/// The size after a separator, of one to eight hexadecimal digits, and the text after it.
+#[inline(always)]
+pub fn next_size(text: &[u8]) -> Option<(u32, &[u8])>
+    ensures { option_map (λ read. ((read.0, tt), read.1.now)) result ≡ reads (Separator · Hex 8 · End) text.now }
+{
+    let (size, rest) = hex_field(separator(text)?, 8)?;
+    Some((size as u32, rest))
+}
+
 /// The whole text, if it is a name.
 #[tactic(auto, unfolding(crate::specs::Reads::name_at))]
 pub fn name(text: &[u8]) -> Option<&str>
@@ -145,6 +162,14 @@ pub fn name(text: &[u8]) -> Option<&str>
         Ok(name) => Some(name),
         Err(_) => None,
     }
+}
+
+/// The whole text after a separator, if it is a name.
+#[inline(always)]
+pub fn next_name(text: &[u8]) -> Option<&str>
+    ensures { option_map (λ name. (name.now, [])) result ≡ reads (Separator · Name) text.now }
+{
+    name(separator(text)?)
 }
 
 /// That nothing is left.

@@ -1,7 +1,7 @@
 //! FUNC and STACK CFI records, the quick way.
 
 ghost use Rattle.std.specs.Prelude.{◌<◌, length, IfSome};
-ghost use Rattle.bz_breakpad_lines.specs.Byte.{is_plain};
+ghost use Rattle.bz_breakpad_lines.specs.Byte.{is_ascii_in_line};
 ghost use Rattle.bz_breakpad_lines.specs.Contexts.{Context};
 ghost use Rattle.bz_breakpad_lines.specs.Contexts.Context.{InCfi};
 ghost use Rattle.bz_breakpad_lines.specs.Contexts.Record.{OfCfi, Top};
@@ -57,7 +57,7 @@ pub fn cfi_line(text: &[u8]) -> Option<&[u8]>
 fn ascii_line(text: &[u8]) -> Option<(&[u8], &[u8])>
     ensures { IfSome result (λ read. IsAsciiLine text.now read.0.now read.1.now) }
 {
-    let len = run_len::<PlainBytes>(text);
+    let len = run_len::<AsciiBytes>(text);
     if len == text.len() || text[len] != b'\n' {
         return None;
     }
@@ -65,10 +65,10 @@ fn ascii_line(text: &[u8]) -> Option<(&[u8], &[u8])>
 }
 
 /// The test of the bytes in ASCII that end no line.
-struct PlainBytes;
+struct AsciiBytes;
 
-impl ByteTest for PlainBytes {
-    ghost passes = { is_plain };
+impl ByteTest for AsciiBytes {
+    ghost passes = { is_ascii_in_line };
 
     #[inline(always)]
     fn stops(text: &[u8]) -> u64 {

@@ -10,8 +10,8 @@ ghost use Rattle.bz_breakpad_lines.specs.Records.{CALL, FUNC, INLINE, INNER, INN
 ghost use Rattle.bz_breakpad_lines.specs.Told.{call_told, context_told, func_told, inline_told, inner_told, line_told, public_told, range_told, ranges_told, record_told, top_told};
 
 use crate::field::{
-    decimal_field, end, gap, hex_field, marked, module_separator, name, separator, separator_text,
-    tag, word,
+    decimal_field, end, gap, hex_field, marked, module_separator, name, next_decimal, next_name,
+    next_size, separator, separator_text, tag, word,
 };
 use std::alloc::AllocError;
 
@@ -47,14 +47,13 @@ fn func(line: &[u8]) -> Option<FuncLine<'_>>
 {
     let rest = separator(tag(line, b"FUNC")?)?;
     let (start, rest) = hex_field(marked(rest, b'm'), 16)?;
-    let (size, rest) = hex_field(separator(rest)?, 8)?;
-    let (parameter_size, rest) = hex_field(separator(rest)?, 8)?;
-    let name = name(separator(rest)?)?;
+    let (size, rest) = next_size(rest)?;
+    let (parameter_size, rest) = next_size(rest)?;
     Some(FuncLine {
         start,
-        size: size as u32,
-        parameter_size: parameter_size as u32,
-        name,
+        size,
+        parameter_size,
+        name: next_name(rest)?,
     })
 }
 
@@ -63,13 +62,13 @@ pub fn code_line(line: &[u8]) -> Option<SourceLine>
     ensures { option_map line_told result ≡ form_at LINE line.now }
 {
     let (addr, rest) = hex_field(line, 16)?;
-    let (size, rest) = hex_field(separator(rest)?, 8)?;
-    let (line, rest) = decimal_field(separator(rest)?)?;
-    let (file, rest) = decimal_field(separator(rest)?)?;
+    let (size, rest) = next_size(rest)?;
+    let (line, rest) = next_decimal(rest)?;
+    let (file, rest) = next_decimal(rest)?;
     end(rest)?;
     Some(SourceLine {
         addr,
-        size: size as u32,
+        size,
         line,
         file,
     })
@@ -80,8 +79,8 @@ pub fn code_line(line: &[u8]) -> Option<SourceLine>
 fn named_record<'a>(line: &'a [u8], kind: &[u8]) -> Option<(u32, &'a str)>
     ensures { option_map (λ f. (f.0, f.1.now)) result ≡ form_at (Tag kind.now · Separator · Decimal · Separator · Name) line.now }
 {
-    let (id, rest) = decimal_field(separator(tag(line, kind)?)?)?;
-    Some((id, name(separator(rest)?)?))
+    let (id, rest) = next_decimal(tag(line, kind)?)?;
+    Some((id, next_name(rest)?))
 }
 
 /// The name in a MODULE record.
@@ -121,9 +120,9 @@ pub fn call_front(line: &[u8]) -> Option<(InlineCall, &[u8])>
     ensures { option_map (λ read. (call_told read.0, read.1.now)) result ≡ reads CALL line.now }
 {
     let (depth, rest) = decimal_field(gap(tag(line, b"INLINE ")?))?;
-    let (line, rest) = decimal_field(separator(rest)?)?;
-    let (file, rest) = decimal_field(separator(rest)?)?;
-    let (origin, rest) = decimal_field(separator(rest)?)?;
+    let (line, rest) = next_decimal(rest)?;
+    let (file, rest) = next_decimal(rest)?;
+    let (origin, rest) = next_decimal(rest)?;
     Some((
         InlineCall {
             depth,
@@ -140,8 +139,7 @@ fn range_front(text: &[u8]) -> Option<(Range, &[u8])>
     ensures { option_map (λ read. (range_told read.0, read.1.now)) result ≡ reads RANGE text.now }
 {
     let (addr, rest) = hex_field(separator(text)?, 16)?;
-    let (size, rest) = hex_field(separator(rest)?, 8)?;
-    let size = size as u32;
+    let (size, rest) = next_size(rest)?;
     Some((Range { addr, size }, rest))
 }
 
@@ -190,13 +188,11 @@ fn public_line(line: &[u8]) -> Option<PublicLine<'_>>
 {
     let rest = separator(tag(line, b"PUBLIC")?)?;
     let (addr, rest) = hex_field(marked(rest, b'm'), 16)?;
-    let (parameter_size, rest) = hex_field(separator(rest)?, 8)?;
-    let parameter_size = parameter_size as u32;
-    let name = name(separator(rest)?)?;
+    let (parameter_size, rest) = next_size(rest)?;
     Some(PublicLine {
         addr,
         parameter_size,
-        name,
+        name: next_name(rest)?,
     })
 }
 
@@ -265,7 +261,7 @@ fn inner_origin(line: &[u8]) -> Option<(u32, &str)>
     ensures { option_map (λ f. (f.0, f.1.now)) result ≡ form_at INNER_ORIGIN line.now }
 {
     let (id, rest) = decimal_field(gap(tag(line, b"INLINE_ORIGIN ")?))?;
-    Some((id, name(separator(rest)?)?))
+    Some((id, next_name(rest)?))
 }
 
 /// An inner record: one that belongs to a FUNC record.
