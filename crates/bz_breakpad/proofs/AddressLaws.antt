@@ -6,8 +6,8 @@ use Rattle.bz_base.specs.declared.error.Error.{Error}
 use Rattle.bz_base.specs.declared.types.FindSymOpts.{FindSymOpts}
 use Rattle.bz_base.specs.declared.types.Reason.TheVariants as reasons
 use Rattle.bz_base.proofs.NearestLemmas.{nearest_covering_is}
-use Rattle.bz_breakpad.specs.Plain.{any_between, by_function, by_place, by_public, by_records, function_at, plain, public_at, public_symbol_at, symbol_at}
-use Rattle.bz_breakpad_function.specs.Places.{Placed, placed_at}
+use Rattle.bz_breakpad.specs.Plain.{any_between, by_function, by_location, by_public, by_records, function_at, plain, public_at, public_symbol_at, symbol_at}
+use Rattle.bz_breakpad_function.specs.Locations.{Location, location_at}
 use Rattle.bz_breakpad_lines.specs.Table.{Function, PublicSymbol, Table}
 use Rattle.bz_breakpad.proofs.PublicLemmas.{public_one}
 
@@ -23,11 +23,11 @@ public_below addr publics p found = (public_one addr publics p found).below
 -- a symbol's start and offset make up the address
 pub known_at : (table : Table) (opts : FindSymOpts) (addr : ℕ) (s : Symbol) → plain table opts addr ≡ Ok (Known s) → s.addr + s.offset ≡ addr
 known_at table opts addr s is = by_list table.functions table.publics is where
-  by_placed : (f : Function) → f.start ≤ addr → (placed : Result Placed Error) → by_place table f addr placed ≡ Ok (Known s) → s.addr + s.offset ≡ addr
-  by_placed f below (Ok placed) is =
-      let same : symbol_at table f addr placed ≡ s = cc in
+  with_location : (f : Function) → f.start ≤ addr → (location : Result Location Error) → by_location table f addr location ≡ Ok (Known s) → s.addr + s.offset ≡ addr
+  with_location f below (Ok location) is =
+      let same : symbol_at table f addr location ≡ s = cc in
       subst (λ (s : Symbol). s.addr + s.offset ≡ addr) same (omega (arith, below))
-  by_placed f below (Err e) is = cc
+  with_location f below (Err e) is = cc
 
   by_clear : (p : PublicSymbol) → p.start ≤ addr → (between : Bool) → cond {A = Answer} between (Unknown reasons.UnknownAddr) (Known (public_symbol_at table p addr)) ≡ Known s → s.addr + s.offset ≡ addr
   by_clear p below true is = cc
@@ -41,7 +41,7 @@ known_at table opts addr s is = by_list table.functions table.publics is where
 
   by_found : (functions : List Function) (o : Option Function) → function_at addr functions ≡ o → by_function table opts addr o ≡ Ok (Known s) → s.addr + s.offset ≡ addr
   by_found functions None found is = by_one (public_at addr table.publics) refl (cc)
-  by_found functions (Some f) found is = by_placed f (starts_below addr functions f found) (placed_at table opts f addr) is
+  by_found functions (Some f) found is = with_location f (starts_below addr functions f found) (location_at table opts f addr) is
 
   by_list : (functions : List Function) (publics : List PublicSymbol) → by_records table opts addr functions publics ≡ Ok (Known s) → s.addr + s.offset ≡ addr
   by_list [] [] is = cc

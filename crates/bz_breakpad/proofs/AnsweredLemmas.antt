@@ -9,27 +9,27 @@ use Rattle.bz_base.specs.declared.types.FindSymOpts.{FindSymOpts}
 use Rattle.bz_base.specs.declared.types.Reason.TheVariants as reasons
 use Rattle.bz_breakpad.specs.Found.{IsFunctionFor, IsPublicFor}
 use Rattle.bz_breakpad_table.specs.Kept.{IsNested, kept_public, function_seen}
-use Rattle.bz_breakpad.specs.Plain.{any_between, by_place, by_public, plain, public_at, public_symbol_at}
-use Rattle.bz_breakpad_function.specs.Places.{Placed, placed_at}
+use Rattle.bz_breakpad.specs.Plain.{any_between, by_location, by_public, plain, public_at, public_symbol_at}
+use Rattle.bz_breakpad_function.specs.Locations.{Location, location_at}
 use Rattle.bz_breakpad_table.specs.Sorted.{StandsFor}
 use Rattle.bz_breakpad_lines.specs.Table.{Function, PublicSymbol, Table}
 use Rattle.bz_breakpad_table.specs.declared.types.KeptFunction.{KeptFunction}
 use Rattle.bz_breakpad_table.specs.declared.types.KeptPublic.{KeptPublic}
 use Rattle.bz_breakpad_table.specs.declared.types.KeptTable.{KeptTable}
 use Rattle.bz_breakpad.proofs.AddressLaws.{public_below, starts_below}
-use Rattle.bz_breakpad_function.proofs.AsKept.{placed_same}
+use Rattle.bz_breakpad_function.proofs.AsKept.{location_same}
 use Rattle.bz_breakpad_function.proofs.IndexedLemmas.{nested_there}
 use Rattle.bz_breakpad_function.proofs.IndexedLemmas.{some_of}
 use Rattle.bz_breakpad.proofs.PlainLemmas.{plain-some}
 
 module _ (table : Table) (f k : Function) (is : IsNested f k) (addr : ℕ) where
-  placing : (p : Result Placed Error) → by_place table f addr p ≡ by_place table k addr p
-  placing (Ok placed) = ap (λ g. by_place table g addr (Ok placed)) (sym is.same)
-  placing (Err e) = refl
+  locating : (p : Result Location Error) → by_location table f addr p ≡ by_location table k addr p
+  locating (Ok location) = ap (λ g. by_location table g addr (Ok location)) (sym is.same)
+  locating (Err e) = refl
 
   -- a function whose records are in order answers as in the order of the file
-  answer_same : (opts : FindSymOpts) → by_place table f addr (placed_at table opts f addr) ≡ by_place table k addr (placed_at table opts k addr)
-  answer_same opts = ap (by_place table f addr) (placed_same table f k is addr opts) ∙ placing (placed_at table opts k addr)
+  answer_same : (opts : FindSymOpts) → by_location table f addr (location_at table opts f addr) ≡ by_location table k addr (location_at table opts k addr)
+  answer_same opts = ap (by_location table f addr) (location_same table f k is addr opts) ∙ locating (location_at table opts k addr)
 
 -- a PUBLIC record that answers starts at or below the address
 answers_below : (table : Table) (addr : ℕ) (s : Symbol) → by_public table addr (public_at addr table.publics) ≡ Known s → s.addr ≤ addr
@@ -56,7 +56,7 @@ module _ (bytes : List ℕ) (table : Table) (kept : KeptTable) (stands : StandsF
 
       -- the answer is by it
       pub function_answers : (opts : FindSymOpts) →
-          plain table opts addr ≡ by_place table (function_seen bytes kept.code f) addr (placed_at table opts (function_seen bytes kept.code f) addr)
+          plain table opts addr ≡ by_location table (function_seen bytes kept.code f) addr (location_at table opts (function_seen bytes kept.code f) addr)
       function_answers opts =
           let some : 0 < length table.functions + length table.publics = omega (arith, slice_get_within table.functions index is.function is.there) in
           plain-some table opts addr (Some is.function) some (sym is.answers)

@@ -8,10 +8,10 @@ use Rattle.bz_base.specs.declared.error.Error.{Error}
 use Rattle.bz_base.specs.declared.error.Error.TheVariants as errors
 use Rattle.bz_base.specs.declared.types.FindSymOpts.{FindSymOpts}
 use Rattle.bz_base.specs.declared.types.Reason.{Reason}
-use Rattle.bz_breakpad_function.specs.Lent.{placed_seen}
+use Rattle.bz_breakpad_function.specs.Lent.{location_seen}
 use Rattle.bz_breakpad.specs.Found.{IsRecordFor, IsUnanswered, is_public}
-use Rattle.bz_breakpad.specs.Plain.{by_function, by_place, by_records, function_at, plain}
-use Rattle.bz_breakpad_function.specs.Places.{Placed, placed_at, IsAnswerRefusal}
+use Rattle.bz_breakpad.specs.Plain.{by_function, by_location, by_records, function_at, plain}
+use Rattle.bz_breakpad_function.specs.Locations.{Location, location_at, IsAnswerRefusal}
 use Rattle.bz_breakpad.specs.Resolver.{found_in, marked, resolved_in, unmarked}
 use Rattle.bz_breakpad_lines.specs.Table.{Function, PublicSymbol, Table}
 use Rattle.bz_breakpad.specs.declared.found.FoundRecord.{FoundRecord}
@@ -20,11 +20,11 @@ use Rattle.bz_breakpad.proofs.AddressLaws.{known_at}
 use Rattle.bz_breakpad.proofs.PlainLemmas.{plain-some}
 
 -- where a place is refused, what is found is
-pub found_refused : (table : Table) (f : Function) (addr : ℕ) (expected : Result Answer Error) (placed : Result Placed Error) (e : Error) →
-    expected ≡ by_place table f addr placed → Gives placed_seen placed (Err e) → IsAnswerRefusal e → MayGive found_of (λ answer. answer ≡ found_in expected) (Err e)
-found_refused table f addr expected placed errors.InvalidInput is gives refusal = sym (ap found_in (is ∙ ap (by_place table f addr) gives))
-found_refused table f addr expected placed errors.OutOfMemory is gives refusal = tt
-found_refused table f addr expected placed _ is gives refusal = absurd refusal
+pub found_refused : (table : Table) (f : Function) (addr : ℕ) (expected : Result Answer Error) (location : Result Location Error) (e : Error) →
+    expected ≡ by_location table f addr location → Gives location_seen location (Err e) → IsAnswerRefusal e → MayGive found_of (λ answer. answer ≡ found_in expected) (Err e)
+found_refused table f addr expected location errors.InvalidInput is gives refusal = sym (ap found_in (is ∙ ap (by_location table f addr) gives))
+found_refused table f addr expected location errors.OutOfMemory is gives refusal = tt
+found_refused table f addr expected location _ is gives refusal = absurd refusal
 
 -- what is found becomes the plain answer at the address, but for the mark of a PUBLIC record
 pub found_plain : (table : Table) (opts : FindSymOpts) (addr : ℕ) (found : Result Resolved Reason) → found_in (plain table opts addr) ≡ Ok found →
@@ -49,9 +49,9 @@ found_marked table opts addr given answer is gives =
       marked_as public (Ok a) = Ok (marked public a)
       marked_as public (Err e) = Err e
 
-      by_placed : (f : Function) (placed : Result Placed Error) → by_place table f addr placed ≡ marked_as false (unmarked (by_place table f addr placed))
-      by_placed f (Ok placed) = refl
-      by_placed f (Err e) = refl
+      with_location : (f : Function) (location : Result Location Error) → by_location table f addr location ≡ marked_as false (unmarked (by_location table f addr location))
+      with_location f (Ok location) = refl
+      with_location f (Err e) = refl
 
       by_none : IsUnanswered table addr → by_function table opts addr None ≡ marked_as false (unmarked (by_function table opts addr None))
       by_none is = subst (λ (a : Answer). Ok a ≡ marked_as false (unmarked (Ok a))) (sym is.no_public) refl
@@ -67,7 +67,7 @@ found_marked table opts addr given answer is gives =
       mark_is (records.Function index) is =
           let some : 0 < length table.functions + length table.publics = omega (arith, slice_get_within table.functions index is.function is.there) in
           let by = plain-some table opts addr (Some is.function) some (sym is.answers) in
-          subst (λ (a : Result Answer Error). a ≡ marked_as false (unmarked a)) (sym by) (by_placed is.function (placed_at table opts is.function addr))
+          subst (λ (a : Result Answer Error). a ≡ marked_as false (unmarked a)) (sym by) (with_location is.function (location_at table opts is.function addr))
       mark_is (records.Public index) is =
           let some : 0 < length table.functions + length table.publics = omega (arith, slice_get_within table.publics index is.public is.there) in
           let by = plain-some table opts addr None some (sym is.no_function) ∙ ap Ok is.answers in

@@ -9,4 +9,5 @@ pub mod InspectLemmas
 pub mod KeyLemmas
 pub mod PlainLemmas
 pub mod ProbeLemmas
+pub mod PublicLaws
 pub mod PublicLemmas

@@ -9,7 +9,7 @@ pub use Rattle.bz_breakpad_table.specs.Refusal
 pub use Rattle.bz_breakpad_function.specs.InOrder
 pub use Rattle.bz_breakpad_function.specs.Indexed
 pub use Rattle.bz_breakpad_function.specs.Lent
-pub use Rattle.bz_breakpad_function.specs.Places
+pub use Rattle.bz_breakpad_function.specs.Locations
 pub mod Found
 pub mod Inspect
 pub mod Listed

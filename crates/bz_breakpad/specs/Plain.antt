@@ -1,5 +1,5 @@
 -- The plain answer of a table at an address, field by field, and the answers to a batch of addresses.
-use Rattle.std.specs.Prelude.{ℕ, ◌-◌, nat_le, ◌&&◌, Bool, true, false, if◌then◌else◌, List, [], ◌∷◌, map, Option, Some, None, Result, Ok, Err}
+use Rattle.std.specs.Prelude.{◌≡◌, ℕ, ◌-◌, ◌≤◌, nat_le, ◌&&◌, Bool, true, false, if◌then◌else◌, List, [], ◌∷◌, map, Option, Some, None, Result, Ok, Err, slice_get}
 use Rattle.std.specs.List.{list_any}
 use Rattle.bz_base.specs.Answer.{Symbol, Answer, in_batch}
 use Rattle.bz_base.specs.Answer.Answer.{Known, Unknown}
@@ -8,11 +8,18 @@ use Rattle.bz_base.specs.declared.error.Error.{Error}
 use Rattle.bz_base.specs.declared.types.FindSymOpts.{FindSymOpts}
 use Rattle.bz_base.specs.declared.types.Reason.TheVariants as reasons
 use Rattle.bz_breakpad_lines.specs.Table.{Function, PublicSymbol, Table}
-use Rattle.bz_breakpad_function.specs.Places.{Placed, placed_at}
+use Rattle.bz_breakpad_function.specs.Locations.{Location, location_at}
 
 -- the function that answers for the address
 abbrev pub function_at : ℕ → List Function → Option Function
 function_at addr functions = nearest_covering (λ f. f.start) (λ f. f.size) addr functions
+
+-- the PUBLIC record at a place answers for the address: no other starts nearer below it, and of equal starts it is the first
+pub record IsNearestPublic (publics : List PublicSymbol) (addr place : ℕ) (p : PublicSymbol) : Type 0 where
+  pub there : slice_get publics place ≡ Some p
+  pub not_above : p.start ≤ addr
+  pub closest : (i : ℕ) (q : PublicSymbol) → slice_get publics i ≡ Some q → q.start ≤ addr → q.start ≤ p.start
+  pub first : (i : ℕ) (q : PublicSymbol) → slice_get publics i ≡ Some q → q.start ≡ p.start → place ≤ i
 
 -- of a PUBLIC record and the one found among those after it, the one that starts nearer below the address, and of equals the
 -- first
@@ -30,15 +37,15 @@ abbrev pub any_between : ℕ → ℕ → List ℕ → Bool
 any_between from to starts = list_any (λ s. nat_le from s && nat_le s to) starts
 
 -- the function as the symbol at the address, which lies there in the source code
-abbrev pub symbol_at : Table → Function → ℕ → Placed → Symbol
-symbol_at table f addr placed = record {
+abbrev pub symbol_at : Table → Function → ℕ → Location → Symbol
+symbol_at table f addr location = record {
   name = f.name;
   «module» = table.«module»;
   addr = f.start;
   offset = addr - f.start;
   size = Some f.size;
-  site = placed.site;
-  calls = placed.calls;
+  site = location.site;
+  calls = location.calls;
   public = false;
 }
 
@@ -56,9 +63,9 @@ public_symbol_at table p addr = record {
 }
 
 -- the symbol, or the refusal of the address
-abbrev pub by_place : Table → Function → ℕ → Result Placed Error → Result Answer Error
-by_place table f addr (Ok placed) = Ok (Known (symbol_at table f addr placed))
-by_place table f addr (Err e) = Err e
+abbrev pub by_location : Table → Function → ℕ → Result Location Error → Result Answer Error
+by_location table f addr (Ok location) = Ok (Known (symbol_at table f addr location))
+by_location table f addr (Err e) = Err e
 
 -- where no function answers: a PUBLIC record does, if no function starts from it on up to the address
 abbrev pub by_public : Table → ℕ → Option PublicSymbol → Answer
@@ -67,7 +74,7 @@ by_public table addr (Some p) = if any_between p.start addr (map (λ f. f.start)
 
 abbrev pub by_function : Table → FindSymOpts → ℕ → Option Function → Result Answer Error
 by_function table opts addr None = Ok (by_public table addr (public_at addr table.publics))
-by_function table opts addr (Some f) = by_place table f addr (placed_at table opts f addr)
+by_function table opts addr (Some f) = by_location table f addr (location_at table opts f addr)
 
 -- where there are no functions and PUBLIC records at all
 abbrev pub by_records : Table → FindSymOpts → ℕ → List Function → List PublicSymbol → Result Answer Error

@@ -19,7 +19,7 @@ ghost use Rattle.bz_breakpad.specs.Resolver.{IsPlain};
 ghost use Rattle.bz_breakpad.specs.Searched.{IsSearched};
 ghost use Rattle.bz_breakpad_function.specs.InOrder.{functions_in_order};
 ghost use Rattle.bz_breakpad_function.specs.Indexed.{function_in, functions_in};
-ghost use Rattle.bz_breakpad_function.specs.Places.{IsAnswerRefusal};
+ghost use Rattle.bz_breakpad_function.specs.Locations.{IsAnswerRefusal};
 ghost use Rattle.bz_breakpad_lines.specs.Grammar.{Accepted, IsFile};
 ghost use Rattle.bz_breakpad_lines.specs.Names.{name_for};
 ghost use Rattle.bz_breakpad_lines.specs.Reader.{counted_in, table_in};
@@ -74,8 +74,7 @@ pub struct SymbolParser;
 
 impl SymbolParser {
     /// Reads a Breakpad file, and tells how many records it has. InvalidInput: it is no Breakpad file.
-    /// OutOfMemory: memory ran out, or the file is longer than 4 GiB, past which places in it can't be
-    /// kept.
+    /// OutOfMemory: memory ran out, or the file has 4 GiB or more, and places that far can't be kept.
     pub fn run(alloc: Global, bytes: Vec<u8>) -> Result<(SymbolFile, u64)>
         ensures ok { IfOk result (λ read. read.0 ≡ bytes.items) }
         ensures accepted { IfOk result (λ read. (table : Table) × (counted_in bytes.items ≡ Some (table, read.1)) × Accepted bytes.items table read.1) }
@@ -94,7 +93,7 @@ impl SymbolParser {
 
 impl SymbolFile {
     /// Reads a Breakpad file. InvalidInput: it is no Breakpad file. OutOfMemory: memory ran out, or the
-    /// file is longer than 4 GiB, past which places in it can't be kept.
+    /// file has 4 GiB or more, and places that far can't be kept.
     pub fn from_bytes(alloc: Global, bytes: Vec<u8>) -> Result<SymbolFile>
         ensures ok { IfOk result (λ file. file ≡ bytes.items) }
         ensures accepted { IfOk result (λ file. (table : Table) × (table_in bytes.items ≡ Some table) × IsFile bytes.items table) }

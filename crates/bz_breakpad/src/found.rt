@@ -29,7 +29,7 @@ impl FoundRecord {
     }
 }
 
-/// An address, the record that was found for it, and hints for `placed_at` there.
+/// An address, the record that was found for it, and hints for `location_at` there.
 #[derive(Drop)]
 pub(crate) struct FoundAddr {
     pub addr: Addr,

@@ -1,6 +1,6 @@
 //! What holds of this crate's definitions.
 
-ghost use Rattle.std.specs.Prelude.{◌≡◌, ◌↔◌, ◌+◌, ℕ, List, Option, Some, Ok, Result, IsTrue};
+ghost use Rattle.std.specs.Prelude.{◌≡◌, ◌↔◌, ◌+◌, ◌<◌, ℕ, List, Option, None, Some, Ok, Result, IsTrue, slice_get};
 ghost use Rattle.bz_base.specs.Answer.{Call, Resolved, Site, Symbol};
 ghost use Rattle.bz_base.specs.Answer.Answer.{Known};
 ghost use Rattle.bz_base.specs.Nearest.{IsNearestCovering};
@@ -10,12 +10,12 @@ ghost use Rattle.bz_base.specs.declared.types.Reason.{Reason};
 ghost use Rattle.bz_base.specs.declared.types.SymType.{SymType};
 ghost use Rattle.bz_breakpad.specs.Inspect.{info_of};
 ghost use Rattle.bz_breakpad.specs.Listed.{lent_public};
-ghost use Rattle.bz_breakpad.specs.Plain.{function_at, plain};
+ghost use Rattle.bz_breakpad.specs.Plain.{IsNearestPublic, function_at, plain, public_at};
 ghost use Rattle.bz_breakpad.specs.Resolver.{found_in, unmarked};
 ghost use Rattle.bz_breakpad.specs.declared.inspect.FindAddrOpts.{FindAddrOpts};
 ghost use Rattle.bz_breakpad.specs.declared.inspect.SymInfo.{SymInfo};
 ghost use Rattle.bz_breakpad.specs.declared.types.PublicSymbol.{PublicSymbol};
-ghost use Rattle.bz_breakpad_function.specs.Places.{IsSeen, seen_from};
+ghost use Rattle.bz_breakpad_function.specs.Locations.{IsSeen, seen_from};
 ghost use Rattle.bz_breakpad_function.specs.declared.types.Inlinee.{Inlinee};
 ghost use Rattle.bz_breakpad_lines.specs.Table.{Function, Table};
 ghost use Rattle.bz_breakpad_lines.specs.Table as tables;
@@ -55,6 +55,15 @@ pub fn nearest_function()
         IsNearestCovering (λ f. f.start) (λ f. f.size) functions addr (function_at addr functions) }
     ensures only { (functions : List Function) (addr : ℕ) (answer : Option Function) →
         IsNearestCovering (λ f. f.start) (λ f. f.size) functions addr answer → answer ≡ function_at addr functions }
+{}
+
+/// The PUBLIC record that answers for an address is the nearest one, and the first of those that start
+/// there. There is none exactly where each starts above the address.
+pub fn nearest_public()
+    ensures is { (publics : List tables.PublicSymbol) (addr : ℕ) (p : tables.PublicSymbol) →
+        (public_at addr publics ≡ Some p) ↔ ((place : ℕ) × IsNearestPublic publics addr place p) }
+    ensures none { (publics : List tables.PublicSymbol) (addr : ℕ) →
+        (public_at addr publics ≡ None) ↔ ((i : ℕ) (q : tables.PublicSymbol) → slice_get publics i ≡ Some q → addr < q.start) }
 {}
 
 /// What is seen from outside all calls has their sites and names, each moved by one. The code lies at

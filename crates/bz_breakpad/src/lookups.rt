@@ -12,7 +12,7 @@ ghost use Rattle.bz_breakpad.specs.Found.{AreRecordsFor, IsRecordFor, is_public}
 ghost use Rattle.bz_breakpad.specs.Plain.{batch, plain};
 ghost use Rattle.bz_breakpad.specs.Resolver.{marked};
 ghost use Rattle.bz_breakpad.specs.Stands.{OfTableIn, StandsForSuch};
-ghost use Rattle.bz_breakpad_function.specs.Places.{IsAnswerRefusal};
+ghost use Rattle.bz_breakpad_function.specs.Locations.{IsAnswerRefusal};
 
 use crate::found::{FoundAddr, FoundRecord};
 use crate::symbol::symbol_from;
@@ -57,7 +57,7 @@ impl<'f, 'b> FoundAddrs<'f, 'b> {
         Ok(answers)
     }
 
-    /// The answer at the address of an index, with hints for `placed_at`.
+    /// The answer at the address of an index, with hints for `location_at`.
     fn answer_at(
         &self,
         alloc: Global,
@@ -200,7 +200,7 @@ struct Seed {
     guess: Guess,
     /// Where the function's name begins.
     name: usize,
-    /// Where its inlined calls begin.
+    /// Where its inlined calls begin in the table of all of them, even if it has none.
     inlinees: usize,
 }
 
@@ -220,7 +220,7 @@ impl Seed {
 struct Touched {
     /// The first byte of the function's name.
     name: Option<u8>,
-    /// The depth of its first inlined call.
+    /// The depth of its first inlined call. Where it has none, another function's stands there, or none.
     depth: Option<u32>,
     /// The byte where its line record is likely to stand.
     line: Option<u8>,
@@ -229,8 +229,9 @@ struct Touched {
 }
 
 impl Touched {
-    /// Whether the function has a name, and line records that are text to the end of a line. The first of
-    /// its inlined calls, if it has some, must lie in no other.
+    /// Whether the function has a name, and line records that are text to the end of a line. The inlined
+    /// call where its own begin, if one stands there, must lie in no other. No test is skipped where another
+    /// fails, so that all that was read is waited for together.
     fn is_usual(&self) -> bool {
         let named = match self.name {
             Some(first) => first != b'\n',

@@ -8,11 +8,11 @@ ghost use Rattle.bz_base.specs.declared.types.FindSymOpts.{FindSymOpts};
 ghost use Rattle.bz_breakpad.specs.Inspect.{infos_in, told_of};
 ghost use Rattle.bz_breakpad.specs.Resolver.{IsPlain, opened};
 ghost use Rattle.bz_breakpad.specs.Version.{format_test};
-ghost use Rattle.bz_breakpad_function.specs.Places.{IsAnswerRefusal};
+ghost use Rattle.bz_breakpad_function.specs.Locations.{IsAnswerRefusal};
 ghost use Rattle.bz_breakpad_lines.specs.Grammar.{IsFile};
 ghost use Rattle.bz_breakpad_lines.specs.Reader.{table_in};
 ghost use Rattle.bz_breakpad_lines.specs.Table.{Table};
-ghost use Rattle.bz_cache.specs.Format.{Comes, MayFail};
+ghost use Rattle.bz_cache.specs.Format.{GivesOrFaults, MayFail};
 ghost use Rattle.bz_files.specs.Count.{counted};
 ghost use Rattle.bz_files.specs.Looked.{Faulted, Looked, ReadsOne};
 ghost use Rattle.bz_files.specs.World.{Told, entry_at, has_file, in_view};
@@ -47,7 +47,7 @@ impl BreakpadResolver {
     /// Reads the file at the path. It is refused by `NotFound`, `PermissionDenied` and `ReadFault` as a
     /// look is, by `InvalidInput` where the file is no Breakpad file, and by `OutOfMemory`.
     pub fn open<F: Files>(alloc: Global, files: &mut F, path: &str) -> Result<BreakpadResolver>
-        ensures answer { Told (in_view (F.worlds files.old)) (λ world. Comes (λ r. r.bytes) (opened (entry_at world path.now)) result) }
+        ensures answer { Told (in_view (F.worlds files.old)) (λ world. GivesOrFaults (λ r. r.bytes) (opened (entry_at world path.now)) result) }
         ensures path { IfOk result (λ r. r.path ≡ path.now) }
         ensures accepted { IfOk result (λ r. (table : Table) × (table_in r.bytes ≡ Some table) × IsFile r.bytes table) }
         ensures opened { OnOk result (F.opens files.new ≡ counted (F.opens files.old)) }

@@ -11,14 +11,14 @@ ghost use Rattle.bz_breakpad.specs.Found.{IsRecordFor};
 ghost use Rattle.bz_breakpad.specs.Plain.{plain, public_symbol_at, symbol_at};
 ghost use Rattle.bz_breakpad.specs.Resolver.{found_in, resolved_in};
 ghost use Rattle.bz_breakpad.specs.Stands.{OfItsTable, OfTableIn, StandsForSuch};
-ghost use Rattle.bz_breakpad_function.specs.Lent.{IsLentPlaced, placed_seen};
-ghost use Rattle.bz_breakpad_function.specs.Places.{IsAnswerRefusal};
+ghost use Rattle.bz_breakpad_function.specs.Lent.{IsLentLocation, location_seen};
+ghost use Rattle.bz_breakpad_function.specs.Locations.{IsAnswerRefusal};
 ghost use Rattle.bz_breakpad_lines.specs.Table.{Table};
 ghost use Rattle.bz_breakpad_table.specs.Kept.{IsTextAt, function_seen, kept_public, text_at};
 
 use crate::found::{FoundAddr, FoundRecord};
 use bz_base::{FindSymOpts, Reason, ResolvedSym, Result, SrcLang};
-use bz_breakpad_function::{Placed, placed_at};
+use bz_breakpad_function::{Location, location_at};
 use bz_breakpad_table::{KeptFunction, KeptPublic, KeptTable, text_of};
 use std::alloc::Global;
 
@@ -42,8 +42,8 @@ pub(crate) fn symbol_from<'a>(
     match at.found {
         FoundRecord::Function(index) => {
             let function = &kept.code.functions[index as usize];
-            match placed_at(alloc, bytes, kept, opts, function, at.hints, at.addr) {
-                Ok(placed) => Ok(Ok(function_symbol(bytes, kept, function, placed))),
+            match location_at(alloc, bytes, kept, opts, function, at.hints, at.addr) {
+                Ok(location) => Ok(Ok(function_symbol(bytes, kept, function, location))),
                 Err(error) => Err(error),
             }
         }
@@ -72,13 +72,13 @@ fn function_symbol<'a>(
     bytes: &'a [u8],
     kept: &'a KeptTable,
     function: &'a KeptFunction,
-    placed: Placed<'a>,
+    location: Location<'a>,
 ) -> ResolvedSym<'a>
     requires module_fits { IfSome kept.now.«module» (IsTextAt bytes.now) }
     requires name_fits { IsTextAt bytes.now function.now.name }
-    requires lent { IsLentPlaced placed }
+    requires lent { IsLentLocation location }
     ensures symbol { (read : Table) (addr : ℕ) → read.«module» ≡ option_map (text_at bytes.now) kept.now.«module» →
-        resolved_of result ≡ resolved_in (symbol_at read (function_seen bytes.now kept.now.code function.now) addr (placed_seen placed.entry)) }
+        resolved_of result ≡ resolved_in (symbol_at read (function_seen bytes.now kept.now.code function.now) addr (location_seen location.entry)) }
     ensures start { result.addr ≡ function.now.start }
     ensures lent { IsLentResolved result }
 {
@@ -88,8 +88,8 @@ fn function_symbol<'a>(
         addr: function.start,
         size: Some(function.size as usize),
         lang: SrcLang::Unknown,
-        code_info: placed.code_info,
-        inlined: placed.inlined,
+        code_info: location.code_info,
+        inlined: location.inlined,
     }
 }
 

@@ -6,7 +6,7 @@ use Rattle.bz_base.specs.declared.types.FindSymOpts.TheVariants as asked
 use Rattle.bz_base.proofs.ChainLemmas.{chain_through, step_seen}
 use Rattle.bz_base.proofs.ViewLemmas.{covering_of_table}
 use Rattle.bz_breakpad_table.specs.Kept.{IsNested}
-use Rattle.bz_breakpad_function.specs.Places.{by_line, calls_around, calls_asked, inlinee_at, line_at, placed_at}
+use Rattle.bz_breakpad_function.specs.Locations.{by_line, calls_around, calls_asked, inlinee_at, line_at, location_at}
 use Rattle.bz_breakpad_lines.specs.Table.{Function, Inlinee, SourceLine, Table}
 
 map_same : (xs : List Inlinee) → map (λ i. i) xs ≡ xs
@@ -46,7 +46,7 @@ module _ (table : Table) (f k : Function) (is : IsNested f k) (addr : ℕ) where
   on_line opts (Some line) = rw (asked_same opts) refl
 
   -- so the place is the same
-  pub placed_same : (opts : FindSymOpts) → placed_at table opts f addr ≡ placed_at table opts k addr
-  placed_same asked.Basic = refl
-  placed_same asked.CodeInfo = on_line asked.CodeInfo (line_at addr f.lines) ∙ ap (by_line table asked.CodeInfo k addr) (sym (line_same f k is addr))
-  placed_same asked.CodeInfoAndInlined = on_line asked.CodeInfoAndInlined (line_at addr f.lines) ∙ ap (by_line table asked.CodeInfoAndInlined k addr) (sym (line_same f k is addr))
+  pub location_same : (opts : FindSymOpts) → location_at table opts f addr ≡ location_at table opts k addr
+  location_same asked.Basic = refl
+  location_same asked.CodeInfo = on_line asked.CodeInfo (line_at addr f.lines) ∙ ap (by_line table asked.CodeInfo k addr) (sym (line_same f k is addr))
+  location_same asked.CodeInfoAndInlined = on_line asked.CodeInfoAndInlined (line_at addr f.lines) ∙ ap (by_line table asked.CodeInfoAndInlined k addr) (sym (line_same f k is addr))

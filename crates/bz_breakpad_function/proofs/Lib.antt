@@ -2,6 +2,6 @@ pub mod AsKept
 pub mod InOrderLemmas
 pub mod IndexedLemmas
 pub mod LineSearchLemmas
-pub mod PlacedLemmas
+pub mod LocationLemmas
 pub mod RunFrontLemmas
 pub mod RunWalkLemmas

@@ -5,6 +5,7 @@ use Rattle.std.specs.Prelude.{slice_index, unwrap_or}
 use Rattle.std.proofs.lemmas.Bool.{eqb-true}
 use Rattle.std.proofs.lemmas.List.{drop-drop, get_or-drop, get_or-take, length-take-le, take_all, take-take}
 use Rattle.std.proofs.lemmas.List.Sums.{prefix_len_stops}
+use Rattle.bz_base.specs.Bind.{◌>>=◌}
 use Rattle.bz_base.specs.Byte.{line_feed}
 use Rattle.bz_base.specs.Line.{all_lines, begins_line}
 use Rattle.bz_breakpad_lines.specs.Choice.{body_at}
@@ -13,7 +14,7 @@ use Rattle.bz_breakpad_table.specs.Kept.{IsRunAt, text_at}
 use Rattle.bz_breakpad_table.specs.LineRun.{IsCut, IsLineRun, IsRunFront}
 use Rattle.bz_breakpad_table.specs.declared.types.Part.{Part}
 use Rattle.bz_breakpad_lines.specs.LineStarts.{line_start, no_line}
-use Rattle.bz_breakpad_lines.specs.Reads.{◌>>=◌, form_at}
+use Rattle.bz_breakpad_lines.specs.Reads.{form_at}
 use Rattle.bz_breakpad_lines.specs.Records.{LINE}
 use Rattle.bz_breakpad_lines.specs.Table.{SourceLine}
 use Rattle.bz_breakpad_lines.proofs.LaneLemmas.{front_from}

@@ -1,4 +1,4 @@
 pub mod InOrder
 pub mod Indexed
 pub mod Lent
-pub mod Places
+pub mod Locations

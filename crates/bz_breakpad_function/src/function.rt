@@ -7,7 +7,7 @@ ghost use Rattle.bz_base.specs.declared.error.Error.{Error};
 ghost use Rattle.bz_breakpad_function.specs.InOrder.{IsTextOfLines, calls_in_order, lines_in_order};
 ghost use Rattle.bz_breakpad_function.specs.Indexed.{function_in, functions_in};
 ghost use Rattle.bz_breakpad_function.specs.Lent.{kept_inlinee};
-ghost use Rattle.bz_breakpad_function.specs.Places.{calls_around, inlinee_at, line_at};
+ghost use Rattle.bz_breakpad_function.specs.Locations.{calls_around, inlinee_at, line_at};
 ghost use Rattle.bz_breakpad_lines.specs.Reader.{table_in};
 ghost use Rattle.bz_breakpad_lines.specs.Table.{Table};
 ghost use Rattle.bz_breakpad_lines.specs.Told.{line_seen};
@@ -18,7 +18,7 @@ ghost use Rattle.bz_breakpad_table.specs.declared.types.CallRange.{CallRange};
 
 use crate::calls::inlinee_of;
 use crate::line_run::Cuts;
-use crate::places::{calls_around, inlinees_of, line_of};
+use crate::locations::{calls_around, inlinees_of, line_of};
 use crate::types::Inlinee;
 use crate::walks::{
     all_inlinees, all_lines, inlinee_at_index, line_at_index, line_count, line_text,

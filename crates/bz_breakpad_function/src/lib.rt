@@ -5,11 +5,11 @@ mod calls;
 mod function;
 mod line_run;
 mod lines;
-mod places;
+mod locations;
 mod types;
 mod walks;
 
 pub use function::Function;
 pub use line_run::{Cuts, Guess};
-pub use places::{Placed, placed_at};
+pub use locations::{Location, location_at};
 pub use types::Inlinee;

@@ -93,8 +93,8 @@ fn line_in_front(text: &[u8], len: usize, hints: Cuts, addr: Addr) -> Option<Sou
     only_line(rest, len, addr)
 }
 
-/// Where the line record for an address is likely to stand in a run. Each byte of code is taken to need
-/// as many bytes of text.
+/// Where the line record for an address is likely to stand in a run: each byte of code is taken to need
+/// equally many bytes of text.
 #[derive(Clone, Copy)]
 pub struct Guess {
     /// The run, in the file's bytes.

@@ -1,9 +1,9 @@
 -- Lines are admitted exactly where they are passed one after the other.
 use Rattle.std.proofs.Common.{◌≡◌, ℕ, suc, ◌+◌, ◌&&◌, nat_lt, Bool, true, false, cond, List, [], ◌∷◌, ◌++◌, length, Option, Some, None, is_some, refl, sym, ap, subst, ◌∙◌, arith}
 use Rattle.std.proofs.lemmas.Bool.{false≢true, lt-ltb, true≢false}
+use Rattle.bz_base.specs.Bind.{◌>>=◌}
 use Rattle.bz_breakpad_lines.specs.Byte.{is_nothing}
 use Rattle.bz_breakpad_lines.specs.Grammar.{records_of}
-use Rattle.bz_breakpad_lines.specs.Reads.{◌>>=◌}
 use Rattle.bz_breakpad_lines.specs.Reader.{Reading, lines_read, next_read, nothing_read, with_record}
 use Rattle.bz_breakpad_lines.specs.Says.{module_of}
 use Rattle.bz_breakpad_lines.specs.Contexts.{Context, Record, context_after, white_allowed_after, record_at, after_white}

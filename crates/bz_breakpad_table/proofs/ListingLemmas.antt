@@ -5,6 +5,7 @@ use Rattle.std.proofs.lemmas.Bool.{false≢true}
 use Rattle.std.proofs.lemmas.List.{drop-drop, length-take-le, map-append, take-append-drop}
 use Rattle.std.proofs.lemmas.List.Elements.{filter_map-append}
 use Rattle.std.proofs.Math.Seq.{drop-append_seam}
+use Rattle.bz_base.specs.Bind.{◌>>=◌}
 use Rattle.bz_base.specs.Byte.{line_feed, HasNo}
 use Rattle.bz_base.specs.Line.{all_lines, before_ended, ended, ended_lines}
 use Rattle.bz_base.proofs.ListLemmas.{all_and_one}
@@ -14,7 +15,7 @@ use Rattle.bz_breakpad_lines.specs.LineStarts.{ReadsLine}
 use Rattle.bz_breakpad_lines.specs.Line.{line_front, line_in, source_line}
 use Rattle.bz_breakpad_table.specs.LineKeys.{line_key, places_of}
 use Rattle.bz_breakpad_table.specs.LineRun.{lines_in}
-use Rattle.bz_breakpad_lines.specs.Reads.{◌>>=◌, form_at}
+use Rattle.bz_breakpad_lines.specs.Reads.{form_at}
 use Rattle.bz_breakpad_lines.specs.Records.{LINE}
 use Rattle.bz_breakpad_lines.specs.Table.{SourceLine}
 use Rattle.bz_breakpad_table.specs.declared.standing.LinesSoFar.{LinesSoFar}

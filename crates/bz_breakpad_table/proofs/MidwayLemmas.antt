@@ -1,11 +1,11 @@
 -- The walk over all lines: what is read of the rest is what is read of the bytes.
 use Rattle.std.proofs.Common.{◌≡◌, ℕ, ◌+◌, ◌-◌, ◌<◌, ◌≤◌, false, List, [], ◌∷◌, ◌++◌, length, drop, Option, Some, None, option_map, refl, sym, ap, ◌∙◌, arith, length-append}
 use Rattle.std.proofs.Math.Seq.{drop-drop, drop-append_seam}
+use Rattle.bz_base.specs.Bind.{◌>>=◌}
 use Rattle.bz_base.specs.Byte.{line_feed, HasNo}
 use Rattle.bz_base.specs.Line.{ended, ended_lines}
 use Rattle.bz_breakpad_lines.specs.Line.{line_front}
 use Rattle.bz_breakpad_lines.specs.Reader.{Reading, lines_read, nothing_read, reading_in}
-use Rattle.bz_breakpad_lines.specs.Reads.{◌>>=◌}
 use Rattle.bz_breakpad_lines.specs.Told.{context_told}
 use Rattle.bz_breakpad_lines.specs.Contexts.Context.{Outside}
 use Rattle.bz_breakpad_table.specs.Walked.{HasRead, IsLineAt, IsMidway, IsStep, IsWalked, lines_on}

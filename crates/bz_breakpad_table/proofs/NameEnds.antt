@@ -1,13 +1,14 @@
 -- The name of a record stands at the end of its body.
 use Rattle.std.proofs.Common.{◌≡◌, ℕ, List, [], ◌++◌, Option, Some, None, option_map, IfSome, refl, sym, ap, ◌∙◌, append_assoc}
 use Rattle.std.proofs.lemmas.Option.{none-some, same_Some}
+use Rattle.bz_base.specs.Bind.{◌>>=◌}
 use Rattle.bz_breakpad_lines.specs.Choice.{SpellsOne}
 use Rattle.bz_breakpad_lines.specs.Form.{Piece, Form, Tell, With, Value, told, Spells}
 use Rattle.bz_breakpad_lines.specs.Form.Piece.{Tag, Mark, Separator, ModuleSeparator, Gap, Word, Hex, Decimal}
 use Rattle.bz_breakpad_lines.specs.Form.Form.{End, Name, SeparatorText, Many, ◌·◌}
 use Rattle.bz_breakpad_table.specs.Kept.{IsRecordAt}
 use Rattle.bz_breakpad_lines.specs.Line.{EndsWith, source_line}
-use Rattle.bz_breakpad_lines.specs.Reads.{◌>>=◌, form_at}
+use Rattle.bz_breakpad_lines.specs.Reads.{form_at}
 use Rattle.bz_breakpad_lines.specs.Records.{TOP, INNER, MODULE, FILE, INLINE_ORIGIN, PUBLIC, FUNC, LINE, INNER_ORIGIN}
 use Rattle.bz_breakpad_lines.specs.Told.{InnerStands, inner_told, line_told, public_told, func_told, top_name, top_told}
 use Rattle.bz_breakpad_lines.specs.Contexts.{Context, IsBodyOf, body_record}

@@ -4,6 +4,7 @@ use Rattle.std.specs.List.{AllByRecursion, cons_option, filter_map}
 use Rattle.std.proofs.lemmas.List.{drop-drop, map-append}
 use Rattle.std.proofs.lemmas.List.Elements.{filter_map-append}
 use Rattle.std.proofs.Math.Seq.{take-add, take-append_seam}
+use Rattle.bz_base.specs.Bind.{◌>>=◌}
 use Rattle.bz_base.specs.Byte.{line_feed}
 use Rattle.bz_base.specs.Line.{all_lines, ended}
 use Rattle.bz_base.proofs.LineLemmas.{all_lines-next}
@@ -13,7 +14,7 @@ use Rattle.bz_breakpad_lines.specs.Line.{line_front, line_in, source_line}
 use Rattle.bz_breakpad_table.specs.LineRun.{AreLineRecords, lines_in, starts_in}
 use Rattle.bz_breakpad_lines.specs.LineStarts.{AscendTo, IsStartText}
 use Rattle.bz_breakpad_lines.specs.QuickLine.{IsQuickLine}
-use Rattle.bz_breakpad_lines.specs.Reads.{◌>>=◌, form_at}
+use Rattle.bz_breakpad_lines.specs.Reads.{form_at}
 use Rattle.bz_breakpad_lines.specs.Records.{LINE}
 use Rattle.bz_breakpad_lines.specs.Table.{SourceLine}
 use Rattle.bz_breakpad_lines.specs.declared.line.QuickLine.{QuickLine}

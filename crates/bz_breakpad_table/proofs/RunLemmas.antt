@@ -6,6 +6,7 @@ use Rattle.std.proofs.lemmas.Bool.{cases_lt, le-ltb, lt-ltb, ne_eqb, le-leb, lt-
 use Rattle.std.proofs.lemmas.List.{length-map, map-append}
 use Rattle.std.proofs.lemmas.List.Elements.{filter_map-append}
 use Rattle.std.proofs.Math.ListN.{get_or-append}
+use Rattle.bz_base.specs.Bind.{◌>>=◌}
 use Rattle.bz_base.specs.Byte.{line_feed}
 use Rattle.bz_base.specs.Line.{all_lines, begins_line}
 use Rattle.bz_base.specs.Nearest.{candidate, comes_first, first_of, if_covers, nearest_covering}
@@ -15,7 +16,7 @@ use Rattle.bz_breakpad_lines.specs.Choice.{body_at}
 use Rattle.bz_breakpad_lines.specs.Line.{line_front, line_in, source_line}
 use Rattle.bz_breakpad_table.specs.LineRun.{AreLineRecords, IsCut, IsLineRun, lines_in, starts_in}
 use Rattle.bz_breakpad_lines.specs.LineStarts.{StrictlyAscends, line_read, line_start}
-use Rattle.bz_breakpad_lines.specs.Reads.{◌>>=◌, form_at}
+use Rattle.bz_breakpad_lines.specs.Reads.{form_at}
 use Rattle.bz_breakpad_lines.specs.Records.{LINE}
 use Rattle.bz_breakpad_lines.specs.Table.{SourceLine}
 use Rattle.bz_breakpad_lines.proofs.AtPlaceLemmas.{read_there}

@@ -1,10 +1,10 @@
 -- Which lines are admitted in a Breakpad file, one after the other.
--- Its records stand in the order of Breakpad's docs/symbol_files.md.
+-- As in Breakpad's docs/symbol_files.md, a MODULE record is the first record, if there is one.
 use Rattle.std.specs.Prelude.{ℕ, ◌+◌, Bool, true, false, ◌&&◌, List, [], ◌∷◌, drop, Option, Some, None, is_some, if◌then◌else◌}
 use Rattle.std.specs.List.{AllByRecursion}
+use Rattle.bz_base.specs.Bind.{◌>>=◌}
 use Rattle.bz_breakpad_lines.specs.Byte.{is_nothing}
 use Rattle.bz_breakpad_lines.specs.Grammar.{Role, AreRoles, IsNoModule, records_of}
-use Rattle.bz_breakpad_lines.specs.Reads.{◌>>=◌}
 use Rattle.bz_breakpad_lines.specs.Says.{module_of}
 use Rattle.bz_breakpad_lines.specs.Contexts.{Context, Record, context_after, white_allowed_after, record_at, after_white}
 use Rattle.bz_breakpad_lines.specs.Contexts.Context.{Outside}

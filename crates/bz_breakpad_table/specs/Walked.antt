@@ -1,12 +1,12 @@
 -- The code's walk, at the end of a line, and the step that it makes over one line.
 use Rattle.std.specs.Prelude.{◌≡◌, ◌≤◌, ◌+◌, ◌-◌, ℕ, false, List, ◌∷◌, length, drop, Option, Some, None}
+use Rattle.bz_base.specs.Bind.{◌>>=◌}
 use Rattle.bz_base.specs.Line.{ended_lines}
 use Rattle.bz_base.specs.declared.error.Error.{Error}
 use Rattle.bz_base.specs.declared.error.Error.TheVariants as errors
 use Rattle.bz_breakpad_table.specs.Kept.{IsNestedTable, IsSoFar, TableFits, kept_table}
 use Rattle.bz_breakpad_lines.specs.Line.{line_front}
 use Rattle.bz_breakpad_lines.specs.Reader.{Reading, lines_read, reading_in, table_read}
-use Rattle.bz_breakpad_lines.specs.Reads.{◌>>=◌}
 use Rattle.bz_breakpad_lines.specs.Told.{context_told}
 use Rattle.bz_breakpad_lines.specs.Contexts.Context.{InFunc}
 use Rattle.bz_breakpad_lines.specs.declared.start_text.StartText.{StartText}
@@ -19,7 +19,7 @@ pub record IsLineAt (bytes : List ℕ) (start : ℕ) (line : List ℕ) : Type 0 
   pub within : start ≤ length bytes
   pub line_is : line_front (drop start bytes) ≡ line
 
--- the walk has read this
+-- what the walk has read is this reading
 pub record IsWalked (bytes : List ℕ) (walk : Walk) (reading : Reading) : Type 0 where
   pub so_far : IsSoFar bytes walk.kept reading
   pub count_is : walk.count ≡ reading.count

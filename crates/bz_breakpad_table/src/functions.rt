@@ -100,7 +100,7 @@ impl FunctionsReading {
         self.calls.clear();
     }
 
-    /// Keeps the line record at a place in the bytes, if it is read quickly.
+    /// Keeps the line record at a place in the bytes, which was read quickly.
     #[inline(always)]
     pub fn line(&mut self, bytes: &[u8], place: usize, line: QuickLine) -> Result<(), AllocError>
         requires { place + line.len ≤ length bytes.now }
@@ -219,8 +219,8 @@ fn list_run(keys: &mut Vec<LineKey>, bytes: &[u8], run: Part) -> Result<(), Allo
     Ok(())
 }
 
-/// Keeps an inlined call for each of the ranges of the INLINE record at a place. Places past 4 GiB
-/// can't be kept.
+/// Keeps an inlined call for each of the ranges of the INLINE record at a place. Want of memory also
+/// where the place is 4 GiB or more, which can't be kept.
 fn keep_ranges(
     calls: &mut Vec<CallRange>,
     depth: u32,

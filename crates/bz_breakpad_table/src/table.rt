@@ -31,8 +31,8 @@ pub struct FileRead {
     pub count: u64,
 }
 
-/// Reads a Breakpad file. OutOfMemory: memory ran out, or the file is longer than 4 GiB, past which
-/// places in it can't be kept.
+/// Reads a Breakpad file. InvalidInput: the bytes aren't one. OutOfMemory: memory ran out, or the file
+/// has 4 GiB or more, and places that far can't be kept.
 pub fn read_table(alloc: Global, bytes: &[u8]) -> Result<FileRead>
     ensures kept { IfOk result (λ read. IsKept bytes.now read.table read.starts read.publics) }
     ensures accepted { IfOk result (λ read. (table : Table) × (counted_in bytes.now ≡ Some (table, read.count)) × Accepted bytes.now table read.count) }

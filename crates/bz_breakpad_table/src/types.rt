@@ -16,7 +16,7 @@ pub struct Part {
 }
 
 impl Part {
-    /// The part between two places. Places past 4 GiB can't be kept.
+    /// The part between two places. Want of memory: a place of 4 GiB or more can't be kept.
     #[inline(always)]
     pub fn new(from: usize, to: usize) -> Result<Part, AllocError>
         ensures from { IfOk result (λ part. part.from ≡ from) }

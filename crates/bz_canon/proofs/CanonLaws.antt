@@ -14,8 +14,8 @@ use Rattle.bz_base.specs.declared.types.FindSymOpts.TheVariants as asked
 use Rattle.bz_base.proofs.ChainLemmas.{chain_through}
 use Rattle.bz_base.proofs.ViewLemmas.{covering_of_table, covering_seen}
 use Rattle.bz_breakpad_lines.specs.Grammar.{IsFile}
-use Rattle.bz_breakpad.specs.Places.{Placed, by_line, by_seen, calls_around, calls_asked, line_at, placed_at, seen_from}
-use Rattle.bz_breakpad.specs.Plain.{any_between, by_function, by_place, by_public, by_records, function_at, plain, public_at, public_symbol_at}
+use Rattle.bz_breakpad.specs.Locations.{Location, by_line, by_seen, calls_around, calls_asked, line_at, location_at, seen_from}
+use Rattle.bz_breakpad.specs.Plain.{any_between, by_function, by_location, by_public, by_records, function_at, plain, public_at, public_symbol_at}
 use Rattle.bz_breakpad_lines.specs.Printed.{FunctionFits, IsPrintable, inlinee_one, line_one, printed, public_record}
 use Rattle.bz_breakpad_lines.specs.Table.{Function, Inlinee, PublicSymbol, SourceLine, Table}
 use Rattle.bz_breakpad_lines.specs.Contexts.Record.{OfFunc}
@@ -100,14 +100,14 @@ module _ (t : Table) (opts : FindSymOpts) (addr : ℕ) where
     on_line : (o : FindSymOpts) → by_line (canon t) o (canon_function f) addr (line_at addr (canon_function f).lines) ≡ by_line t o f addr (line_at addr f.lines)
     on_line o = by_line_same o (line_at addr (canon_function f).lines) ∙ ap (by_line t o f addr) lines_same
 
-    placed_same : (o : FindSymOpts) → placed_at (canon t) o (canon_function f) addr ≡ placed_at t o f addr
-    placed_same asked.Basic = refl
-    placed_same asked.CodeInfo = on_line asked.CodeInfo
-    placed_same asked.CodeInfoAndInlined = on_line asked.CodeInfoAndInlined
+    location_same : (o : FindSymOpts) → location_at (canon t) o (canon_function f) addr ≡ location_at t o f addr
+    location_same asked.Basic = refl
+    location_same asked.CodeInfo = on_line asked.CodeInfo
+    location_same asked.CodeInfoAndInlined = on_line asked.CodeInfoAndInlined
 
-    by_place_same : (p : Result Placed Error) → by_place (canon t) (canon_function f) addr p ≡ by_place t f addr p
-    by_place_same (Ok placed) = refl
-    by_place_same (Err e) = refl
+    by_location_same : (p : Result Location Error) → by_location (canon t) (canon_function f) addr p ≡ by_location t f addr p
+    by_location_same (Ok location) = refl
+    by_location_same (Err e) = refl
 
   -- the same PUBLIC record is found, and the same functions start between
   publics_same : public_at addr (canon t).publics ≡ public_at addr t.publics
@@ -130,7 +130,7 @@ module _ (t : Table) (opts : FindSymOpts) (addr : ℕ) where
 
   by_function_same : (o : Option Function) → by_function (canon t) opts addr (option_map canon_function o) ≡ by_function t opts addr o
   by_function_same None = ap Ok (by_public_same (public_at addr (canon t).publics) ∙ ap (by_public t addr) publics_same)
-  by_function_same (Some f) = by_place_same f (placed_at (canon t) opts (canon_function f) addr) ∙ ap (by_place t f addr) (placed_same f opts)
+  by_function_same (Some f) = by_location_same f (location_at (canon t) opts (canon_function f) addr) ∙ ap (by_location t f addr) (location_same f opts)
 
   function_same : (fs : List Function) → function_at addr (sorted (λ f. f.start) (λ f. f.size) (map canon_function fs)) ≡ option_map canon_function (function_at addr fs)
   function_same fs =

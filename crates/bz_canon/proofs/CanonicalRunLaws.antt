@@ -7,6 +7,7 @@ use Rattle.std.specs.Str.Parse.{AllDigits, digits_value, digits_value_after}
 use Rattle.std.proofs.lemmas.Bool.{agree_below_at, and_parts, or_parts, true≢false, false≢true, not-true, lt-ltb, ltb-true, leb-true, eqb-true, eq-eqb, ne_eqb}
 use Rattle.std.proofs.lemmas.Fmt.{decimal-digits_value}
 use Rattle.std.proofs.lemmas.Str.Parse.{numerals_by_value, tells_digits}
+use Rattle.bz_base.specs.Bind.{◌>>=◌}
 use Rattle.bz_base.specs.Byte.{HasNo, begins_with, carriage_return, is_blank, line_feed, space}
 use Rattle.bz_base.specs.Line.{all_lines, ended, unended}
 use Rattle.bz_base.specs.Number.{IsNumber, IsDecimal}
@@ -17,7 +18,7 @@ use Rattle.bz_breakpad_lines.specs.Form.Piece.{Separator, Hex, Decimal}
 use Rattle.bz_breakpad_lines.specs.Form.Form.{End, ◌·◌}
 use Rattle.bz_breakpad_lines.specs.Line.{line_front, line_in, source_line}
 use Rattle.bz_breakpad_lines.specs.Printed.{line_one}
-use Rattle.bz_breakpad_lines.specs.Reads.{◌>>=◌, form_at}
+use Rattle.bz_breakpad_lines.specs.Reads.{form_at}
 use Rattle.bz_breakpad_lines.specs.Records.{LINE}
 use Rattle.bz_breakpad_lines.specs.Table.{SourceLine}
 use Rattle.bz_breakpad_lines.specs.Contexts.Record.{OfFunc}

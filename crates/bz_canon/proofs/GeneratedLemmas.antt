@@ -6,7 +6,7 @@ use Rattle.std.specs.List.{AllByRecursion, flat_map}
 use Rattle.std.specs.Str.Parse.{AllDigits}
 use Rattle.std.proofs.lemmas.Bool.{agree_below_at, lt-ltb}
 use Rattle.bz_base.specs.Line.{ended}
-use Rattle.bz_breakpad_lines.specs.Byte.{is_plain, is_word_byte}
+use Rattle.bz_breakpad_lines.specs.Byte.{is_ascii_in_line, is_word_byte}
 use Rattle.bz_breakpad_lines.specs.Form.{AllPass, Form, IsPiece, IsSeparator, Piece, Spells, Tell, Value, told}
 use Rattle.bz_breakpad_lines.specs.Form.Form.{Name, ◌·◌}
 use Rattle.bz_breakpad_lines.specs.Form.Piece.{ModuleSeparator, Separator, Tag, Word}
@@ -38,7 +38,7 @@ one_space : IsSeparator (codes " ")
 one_space = record { bytes = (refl, tt); passes = refl; tells = refl }
 
 gen_name : IsLineName (codes "gen")
-gen_name = record { name_is = record { utf8 = plain_utf8 (codes "gen") (all_from is_plain (codes "gen") refl); front = refl }; within = all_from is_within_line (codes "gen") refl }
+gen_name = record { name_is = record { utf8 = plain_utf8 (codes "gen") (all_from is_ascii_in_line (codes "gen") refl); front = refl }; within = all_from is_within_line (codes "gen") refl }
 
 -- the module's line has the form of a MODULE record
 module_spelled : Spells MODULE module_line (codes "gen")
@@ -111,20 +111,20 @@ text_is functions = ap (λ t. codes "MODULE Linux x86_64 0 gen\nFILE 0 gen.c\nIN
 
 -- The table fits a file.
 
-digit_plain : (b : ℕ) → digit_value b < 16 → is_plain b ≡ true
+digit_plain : (b : ℕ) → digit_value b < 16 → is_ascii_in_line b ≡ true
 digit_plain b small =
-    let agree = agree_below_at (λ c. not (nat_lt (digit_value c) 16) || is_plain c) (λ c. true) 256 b refl (digit_byte b small) in
+    let agree = agree_below_at (λ c. not (nat_lt (digit_value c) 16) || is_ascii_in_line c) (λ c. true) 256 b refl (digit_byte b small) in
     rw (lt-ltb (digit_value b) 16 small) at agree
 
-digits_plain : (text : List ℕ) → AllDigits 10 text → AllPass is_plain text
+digits_plain : (text : List ℕ) → AllDigits 10 text → AllPass is_ascii_in_line text
 digits_plain [] all = tt
 digits_plain (b ∷ text) all = (digit_plain b (omega (arith, all.0)), digits_plain text all.1)
 
 file_name : IsLineName (codes "gen.c")
-file_name = record { name_is = record { utf8 = plain_utf8 (codes "gen.c") (all_from is_plain (codes "gen.c") refl); front = refl }; within = all_from is_within_line (codes "gen.c") refl }
+file_name = record { name_is = record { utf8 = plain_utf8 (codes "gen.c") (all_from is_ascii_in_line (codes "gen.c") refl); front = refl }; within = all_from is_within_line (codes "gen.c") refl }
 
 origin_name : IsLineName (codes "g")
-origin_name = record { name_is = record { utf8 = plain_utf8 (codes "g") (all_from is_plain (codes "g") refl); front = refl }; within = all_from is_within_line (codes "g") refl }
+origin_name = record { name_is = record { utf8 = plain_utf8 (codes "g") (all_from is_ascii_in_line (codes "g") refl); front = refl }; within = all_from is_within_line (codes "g") refl }
 
 function_name : (i : ℕ) → i ≤ 100000 → IsLineName (codes "f" ++ decimal i)
 function_name i small =

@@ -24,9 +24,9 @@ line_text None = []
 line_text (Some line) = codes ":" ++ decimal line
 
 -- WHERE: the joined path and the line
-abbrev pub place_text : Option Site → List ℕ
-place_text None = codes "-"
-place_text (Some site) = path_text site.dir site.file ++ line_text site.line
+abbrev pub site_text : Option Site → List ℕ
+site_text None = codes "-"
+site_text (Some site) = path_text site.dir site.file ++ line_text site.line
 
 -- how a line ends; that of a PUBLIC record's symbol says so first
 abbrev pub line_end : Bool → List ℕ
@@ -35,7 +35,7 @@ line_end false = codes "\n"
 
 -- at WHERE, and the line's end
 abbrev pub end_text : Option Site → Bool → List ℕ
-end_text site public = codes " at " ++ (place_text site ++ line_end public)
+end_text site public = codes " at " ++ (site_text site ++ line_end public)
 
 -- +0xOFFSET start 0xSTART size 0xSIZE module, with a dash for a size that isn't known
 abbrev pub numbers_text : Symbol → List ℕ

@@ -6,7 +6,7 @@ use Rattle.bz_base.specs.Byte.{line_feed, space}
 abbrev pub zero_digit : ℕ
 zero_digit = 48
 
--- white space: what stands between fields, and ends lines
+-- the space and all bytes below it: those among them that a line record has stand between fields, or end lines
 abbrev pub is_gap : ℕ → Bool
 is_gap b = nat_le b space
 
@@ -14,7 +14,7 @@ is_gap b = nat_le b space
 abbrev pub is_lower : ℕ → Bool
 is_lower b = not (bit_and b 32 == 0) || b == line_feed
 
--- a byte that is too much: a space or a zero between white space and a digit
+-- a byte that is too much: a space or a zero behind such a byte and before one that is above the space
 abbrev pub is_excess : ℕ → ℕ → ℕ → Bool
 is_excess before b after = is_gap before && (b == space || b == zero_digit) && not (is_gap after)
 

@@ -6,7 +6,7 @@ ghost use Rattle.std.specs.Str.{IsUtf8};
 ghost use Rattle.bz_base.specs.Answer.{site_of, call_of, symbol_of, reading};
 ghost use Rattle.bz_base.specs.Answer.Answer.{Unknown};
 ghost use Rattle.bz_base.specs.Path.{begins_with_slash, last_byte, path_text, slash_after};
-ghost use Rattle.bz_canon.specs.AnswerText.{hex, size_text, module_text, line_text, place_text, end_text, line_end, numbers_text, call_text, calls_text, symbol_text, result_text, answer_text};
+ghost use Rattle.bz_canon.specs.AnswerText.{hex, size_text, module_text, line_text, site_text, end_text, line_end, numbers_text, call_text, calls_text, symbol_text, result_text, answer_text};
 
 use crate::piece::Piece;
 use crate::text_piece::{push_piece, put_hex_after, put_str};
@@ -153,7 +153,7 @@ fn line_end(public: bool) -> &'static str
 
 // The joined path and the line, and the end of the answer's line.
 fn push_site(text: &mut String, site: &CodeInfo<'_>, public: bool) -> Result<()>
-    ensures ok { OnOk result (string_bytes text.new ≡ string_bytes text.old ++ (place_text (Some (site_of site.now)) ++ line_end public)) }
+    ensures ok { OnOk result (string_bytes text.new ≡ string_bytes text.old ++ (site_text (Some (site_of site.now)) ++ line_end public)) }
     ensures memory { IsOkUnless result Error.OutOfMemory }
 {
     push_path(text, &site.dir, site.file.as_str())?;

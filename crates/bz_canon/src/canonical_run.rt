@@ -54,7 +54,7 @@ fn shows_canonical(text: &[u8]) -> bool
     (excess | uppers(text)) == 0
 }
 
-/// A bit for each of the first 32 bytes that is white space.
+/// A bit for each of the first 32 bytes that is a space or below it.
 #[inline(always)]
 fn gaps(text: &[u8]) -> u64
     requires { 32 ≤ length text.now }
@@ -65,7 +65,7 @@ fn gaps(text: &[u8]) -> u64
         .to_bitmask()
 }
 
-/// A bit for each of the first 32 bytes that is none.
+/// A bit for each of the first 32 bytes that is above the space.
 #[inline(always)]
 fn solids(text: &[u8]) -> u64
     requires { 32 ≤ length text.now }

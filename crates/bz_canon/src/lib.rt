@@ -14,5 +14,4 @@ mod text_piece;
 
 pub use answer::{answer_text, push_answer};
 pub use generate::{gen_addrs, gen_text};
-pub use piece::Piece;
 pub use text::canonical;

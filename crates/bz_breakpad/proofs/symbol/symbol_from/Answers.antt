@@ -1,6 +1,6 @@
 use Rattle.std.proofs.Common.{Ok, ap, sym, subst, ◌∙◌}
 use Rattle.bz_breakpad.specs.Found.{IsRecordFor}
-use Rattle.bz_breakpad.specs.Plain.{by_place}
+use Rattle.bz_breakpad.specs.Plain.{by_location}
 use Rattle.bz_breakpad.specs.Resolver.{found_in}
 use Rattle.bz_breakpad_table.specs.Kept.{function_seen}
 use Rattle.bz_breakpad.proofs.AnsweredLemmas.{function_answers, function_below, public_answers, public_starts}
@@ -13,7 +13,7 @@ returns-in-Ok-clause-answer c table stands record_is =
     ap (λ s. Ok (Ok s)) (c.function_symbol.ensures.symbol table c.args.at.now.addr (sym stands.module_is))
     ∙ sym (ap found_in
     (function_answers c.args.bytes.now table c.args.kept.now stands c.args.at.now.addr c.in-Function.index (subst (IsRecordFor table c.args.at.now.addr) c.in-Function.is record_is) c.index-function.result.now c.index-function.ensures c.args.opts.now
-    ∙ ap (by_place table f c.args.at.now.addr) (c.in-Ok.ensures.placed table stands)))
+    ∙ ap (by_location table f c.args.at.now.addr) (c.in-Ok.ensures.location table stands)))
 
 pub returns-in-Ok-clause-starts : goal.returns-in-Ok-clause-starts
 returns-in-Ok-clause-starts c =
@@ -26,7 +26,7 @@ returns-in-Err-clause-answer c table stands record_is =
     let f = function_seen c.args.bytes.now c.args.kept.now.code c.index-function.result.now in
     found_refused table f c.args.at.now.addr _ _ c.in-Err.error
     (function_answers c.args.bytes.now table c.args.kept.now stands c.args.at.now.addr c.in-Function.index (subst (IsRecordFor table c.args.at.now.addr) c.in-Function.is record_is) c.index-function.result.now c.index-function.ensures c.args.opts.now)
-    (c.in-Err.ensures.placed table stands) c.in-Err.ensures.refusal
+    (c.in-Err.ensures.location table stands) c.in-Err.ensures.refusal
 
 pub returns-in-Public-clause-answer : goal.returns-in-Public-clause-answer
 returns-in-Public-clause-answer c table stands record_is =

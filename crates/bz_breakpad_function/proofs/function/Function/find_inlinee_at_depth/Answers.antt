@@ -2,11 +2,11 @@ use Rattle.std.proofs.Common.{ap, subst, sym, ◌∙◌}
 use Rattle.std.specs.List.{slice_range}
 use Rattle.bz_base.specs.Nearest.{IsTable}
 use Rattle.bz_breakpad_table.specs.CallRanges.{call_start}
-use Rattle.bz_breakpad_function.specs.Places.{inlinee_at}
+use Rattle.bz_breakpad_function.specs.Locations.{inlinee_at}
 use Rattle.bz_breakpad_lines.specs.Table.{Function}
 use Rattle.bz_breakpad_table.specs.declared.types.CallRange.{CallRange}
 use Rattle.bz_breakpad_function.proofs.AsKept.{inlinee_same}
-use Rattle.bz_breakpad_function.proofs.PlacedLemmas.{inlinee_through}
+use Rattle.bz_breakpad_function.proofs.LocationLemmas.{inlinee_through}
 use Rattle.bz_breakpad_function.proofs.function.Function.find_inlinee_at_depth.Goals as goal
 
 pub returns : goal.returns

@@ -2,7 +2,7 @@ use Rattle.std.proofs.Common.{List, map, sym, ap, ◌∙◌}
 use Rattle.std.specs.Borrow.{Bor}
 use Rattle.std.proofs.lemmas.Result.{IfOk-weaker}
 use Rattle.bz_breakpad_table.specs.Kept.{kept_call}
-use Rattle.bz_breakpad_function.specs.Places.{calls_around}
+use Rattle.bz_breakpad_function.specs.Locations.{calls_around}
 use Rattle.bz_breakpad_lines.specs.Table.{Function}
 use Rattle.bz_breakpad_table.specs.declared.types.CallRange.{CallRange}
 use Rattle.bz_breakpad_function.proofs.AsKept.{calls_same}

@@ -1,5 +1,5 @@
 use Rattle.std.proofs.Common.{ap, ◌∙◌}
-use Rattle.bz_breakpad_function.specs.Places.{line_at}
+use Rattle.bz_breakpad_function.specs.Locations.{line_at}
 use Rattle.bz_breakpad_lines.specs.Table.{Function}
 use Rattle.bz_breakpad_function.proofs.AsKept.{line_same}
 use Rattle.bz_breakpad_function.proofs.function.Function.find_line.Goals as goal

@@ -11,7 +11,7 @@ use Rattle.bz_base.proofs.ViewLemmas.{table_itself, table_seen}
 use Rattle.bz_breakpad_table.specs.CallRanges.{call_start}
 use Rattle.bz_breakpad_table.specs.Kept.{kept_call}
 use Rattle.bz_breakpad_function.specs.Lent.{kept_inlinee}
-use Rattle.bz_breakpad_function.specs.Places.{by_line, by_seen, calls_around, calls_asked, inlinee_at, line_at, placed_at, seen_from}
+use Rattle.bz_breakpad_function.specs.Locations.{by_line, by_seen, calls_around, calls_asked, inlinee_at, line_at, location_at, seen_from}
 use Rattle.bz_breakpad_lines.specs.Table.{Function, Inlinee, SourceLine, Table}
 use Rattle.bz_breakpad_table.specs.declared.types.CallRange.{CallRange}
 use Rattle.bz_breakpad_function.specs.declared.types.Inlinee.{Inlinee as KeptInlinee}
@@ -42,10 +42,10 @@ module _ (bytes : List ℕ) (standing table : List CallRange) (is : IsTable (λ 
       ∙ step_seen (λ (i : Inlinee). i.depth) (λ i. i.start) (λ i. i.size) (kept_call bytes) (map (kept_call bytes) standing) table seen addr depth
 
 -- where more than the symbol is asked for, the line record that answers is seen from outside the calls that are asked for
-pub placed_by_line : (table : Table) (opts : FindSymOpts) (f : Function) (addr : ℕ) (line : SourceLine) (calls : List Inlinee) → opts ≢ asked.Basic →
-    Some line ≡ line_at addr f.lines → calls ≡ calls_asked opts addr f.inlinees → placed_at table opts f addr ≡ by_seen (seen_from table calls line)
-placed_by_line table asked.Basic f addr line calls more is are = absurd (more refl)
-placed_by_line table asked.CodeInfo f addr line calls more is are =
+pub location_by_line : (table : Table) (opts : FindSymOpts) (f : Function) (addr : ℕ) (line : SourceLine) (calls : List Inlinee) → opts ≢ asked.Basic →
+    Some line ≡ line_at addr f.lines → calls ≡ calls_asked opts addr f.inlinees → location_at table opts f addr ≡ by_seen (seen_from table calls line)
+location_by_line table asked.Basic f addr line calls more is are = absurd (more refl)
+location_by_line table asked.CodeInfo f addr line calls more is are =
     ap (by_line table asked.CodeInfo f addr) (sym is) ∙ ap (λ calls. by_seen (seen_from table calls line)) (sym are)
-placed_by_line table asked.CodeInfoAndInlined f addr line calls more is are =
+location_by_line table asked.CodeInfoAndInlined f addr line calls more is are =
     ap (by_line table asked.CodeInfoAndInlined f addr) (sym is) ∙ ap (λ calls. by_seen (seen_from table calls line)) (sym are)

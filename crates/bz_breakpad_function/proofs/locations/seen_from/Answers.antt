@@ -6,17 +6,17 @@ use Rattle.bz_base.specs.Lent.{IsLentCall}
 use Rattle.bz_base.proofs.ListLemmas.{all_and_one, all_reversed, map_reversed, reverse_one}
 use Rattle.bz_base.proofs.SeenLemmas.{line_unknown, seen_none, seen_step}
 use Rattle.bz_breakpad_table.specs.Kept.{kept_call}
-use Rattle.bz_breakpad_function.specs.Places.{by_seen}
+use Rattle.bz_breakpad_function.specs.Locations.{by_seen}
 use Rattle.bz_breakpad_table.specs.declared.types.CallRange.{CallRange}
-use Rattle.bz_breakpad_function.proofs.places.seen_from.Goals as goal
+use Rattle.bz_breakpad_function.proofs.locations.seen_from.Goals as goal
 
-pub returns-in_default-clause-placed : goal.returns-in_default-clause-placed
-returns-in_default-clause-placed c table stands =
+pub returns-in_default-clause-location : goal.returns-in_default-clause-location
+returns-in_default-clause-location c table stands =
     let calls = map (λ (call : Bor CallRange). kept_call c.args.bytes.now call.now) c.args.calls.now in
     ap by_seen (line_unknown _ _ _ calls (c.in_default.ensures.site table stands))
 
-pub returns-in_default-seen_outside-clause-placed : goal.returns-in_default-seen_outside-clause-placed
-returns-in_default-seen_outside-clause-placed c table stands =
+pub returns-in_default-seen_outside-clause-location : goal.returns-in_default-seen_outside-clause-location
+returns-in_default-seen_outside-clause-location c table stands =
     let view = λ (call : Bor CallRange). kept_call c.args.bytes.now call.now in
     let calls = c.args.calls.now in
     let inlined = reverse (map call_of c.loop-left.inlined.items) in
@@ -36,12 +36,12 @@ loop-left-preserved c =
           seen_step _ _ _ view calls c.loop-left.left _ (site_of c.loop-left.site, inlined) (omega arith) c.loop-left.invariant.within (c.loop-left.invariant.seen table stands)
           ∙ sym (c.in-Some-seen_outside.ensures.seen table inlined stands)
           ∙ ap (λ (l : List Call). Some (site_of c.in-Some-seen_outside.outer, l)) (sym (ap (λ items. reverse (map call_of items)) c.in_ok-push.ensures.items ∙ reverse_one call_of old c.in-Some-seen_outside.call));
-      site = c.in-Some-seen_outside.ensures.lent_place;
+      site = c.in-Some-seen_outside.ensures.lent_site;
       calls = rw c.in_ok-push.ensures.items (all_and_one IsLentCall old c.in-Some-seen_outside.call c.loop-left.invariant.calls c.in-Some-seen_outside.ensures.lent_call);
     }
 
-pub returns-clause-placed : goal.returns-clause-placed
-returns-clause-placed c table stands =
+pub returns-clause-location : goal.returns-clause-location
+returns-clause-location c table stands =
     let items = c.loop-left.inlined.items in
     let ended : c.loop-left.left ≡ 0 = omega arith in
     let seen = rw ended at (c.loop-left.invariant.seen table stands) in

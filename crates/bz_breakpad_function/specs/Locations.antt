@@ -1,7 +1,8 @@
--- Where an address lies in a function: the line record that answers for it, the calls around it, and the place that they tell.
+-- Where an address lies in a function: the line record that answers for it, the calls around it, and the site that they tell.
 -- The records are those of Breakpad's docs/symbol_files.md. Which line record answers is told by `Nearest` of bz_search.
 use Rattle.std.specs.Prelude.{ℕ, List, [], Option, Some, None, option_map, Result, Ok, Err}
 use Rattle.bz_base.specs.Answer.{Site, Call}
+use Rattle.bz_base.specs.Bind.{◌>>=◌}
 use Rattle.bz_base.specs.Chain.{around, chain, inner}
 use Rattle.bz_base.specs.Nearest.{nearest_covering}
 use Rattle.bz_base.specs.Path.{split}
@@ -11,16 +12,15 @@ use Rattle.bz_base.specs.declared.error.Error.TheVariants as errors
 use Rattle.bz_base.specs.declared.types.FindSymOpts.{FindSymOpts}
 use Rattle.bz_base.specs.declared.types.FindSymOpts.TheVariants as asked
 use Rattle.bz_breakpad_lines.specs.Names.{name_for}
-use Rattle.bz_breakpad_lines.specs.Reads.{◌>>=◌}
 use Rattle.bz_breakpad_lines.specs.Table.{SourceLine, Inlinee, Function, Table}
 
--- where an address lies in the source code: the place in the function, and the calls that were inlined there
-pub record Placed : Type 0 where
+-- where an address lies in the source code: the site in the function, and the calls that were inlined there
+pub record Location : Type 0 where
   pub site : Option Site
   pub calls : List Call
 
--- where no place is known
-abbrev pub nowhere : Placed
+-- where no site is known
+abbrev pub nowhere : Location
 nowhere = record { site = None; calls = [] }
 
 -- the line record that answers for the address
@@ -53,7 +53,7 @@ call_site table call = site_in table call.call_file call.call_line
 abbrev pub call_name : Table → Inlinee → Option (List ℕ)
 call_name table call = name_for call.origin table.origins
 
--- code that lies at a place, inside calls, seen from outside a further call
+-- code that lies at a site, inside calls, seen from outside a further call
 abbrev pub seen_outside : Table → Inlinee → Site × List Call → Option (Site × List Call)
 seen_outside table = base.seen_outside (call_site table) (call_name table)
 
@@ -66,19 +66,19 @@ abbrev pub IsSeen : Table → List Inlinee → SourceLine → Site × List Call 
 IsSeen table calls line = base.IsSeen (call_site table) (call_name table) (site_in table line.file line.line) calls
 
 -- what isn't known refuses the address
-abbrev pub by_seen : Option (Site × List Call) → Result Placed Error
+abbrev pub by_seen : Option (Site × List Call) → Result Location Error
 by_seen None = Err errors.InvalidInput
 by_seen (Some seen) = Ok (record { site = Some seen.0; calls = seen.1 })
 
--- where no line record answers, no place is known, and no call
-abbrev pub by_line : Table → FindSymOpts → Function → ℕ → Option SourceLine → Result Placed Error
+-- where no line record answers, no site is known, and no call
+abbrev pub by_line : Table → FindSymOpts → Function → ℕ → Option SourceLine → Result Location Error
 by_line table opts f addr None = Ok nowhere
 by_line table opts f addr (Some line) = by_seen (seen_from table (calls_asked opts addr f.inlinees) line)
 
 -- where the address lies, as far as it is asked for, or its refusal
-abbrev pub placed_at : Table → FindSymOpts → Function → ℕ → Result Placed Error
-placed_at table asked.Basic f addr = Ok nowhere
-placed_at table opts f addr = by_line table opts f addr (line_at addr f.lines)
+abbrev pub location_at : Table → FindSymOpts → Function → ℕ → Result Location Error
+location_at table asked.Basic f addr = Ok nowhere
+location_at table opts f addr = by_line table opts f addr (line_at addr f.lines)
 
 -- an answer is refused by these alone
 abbrev pub IsAnswerRefusal : Error → Type 0

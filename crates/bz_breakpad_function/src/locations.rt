@@ -4,11 +4,11 @@
 ghost use Rattle.std.specs.Prelude.{◌≡◌, ◌<◌, ◌∷◌, List, length, map, option_map, slice_range, IfOk, IfErr, IfSome};
 ghost use Rattle.std.specs.Cow.{cow_str_bytes};
 ghost use Rattle.bz_base.specs.Answer.{Call, Gives, call_of, site_of};
-ghost use Rattle.bz_base.specs.Lent.{IsLentCall, IsLentPlace, IsLentText};
+ghost use Rattle.bz_base.specs.Lent.{IsLentCall, IsLentSite, IsLentText};
 ghost use Rattle.bz_base.specs.Refusals.{WantsMemory};
 ghost use Rattle.bz_base.specs.declared.types.FindSymOpts.{FindSymOpts};
-ghost use Rattle.bz_breakpad_function.specs.Lent.{IsLentPlaced, placed_seen};
-ghost use Rattle.bz_breakpad_function.specs.Places.{by_seen, calls_asked, calls_around, line_at, nowhere, placed_at, seen_from, seen_outside, site_in, IsAnswerRefusal};
+ghost use Rattle.bz_breakpad_function.specs.Lent.{IsLentLocation, location_seen};
+ghost use Rattle.bz_breakpad_function.specs.Locations.{by_seen, calls_asked, calls_around, line_at, nowhere, location_at, seen_from, seen_outside, site_in, IsAnswerRefusal};
 ghost use Rattle.bz_breakpad_lines.specs.Table.{Table};
 ghost use Rattle.bz_breakpad_lines.specs.Told.{line_seen};
 ghost use Rattle.bz_breakpad_table.specs.Kept.{AreCallsAt, NamesFit, kept_call, function_seen};
@@ -27,15 +27,15 @@ use std::sync::ledger::Blank;
 
 /// Where an address lies in the source code.
 #[derive(Drop)]
-pub struct Placed<'f> {
-    /// The place in the function, if one is known.
+pub struct Location<'f> {
+    /// The site in the function, if one is known.
     pub code_info: Option<CodeInfo<'f>>,
     /// The calls that were inlined there, the outermost first.
     pub inlined: Vec<InlinedFn<'f>>,
 }
 
 /// Where the address lies, as far as the options ask for it. It is the same whatever the hints are.
-pub fn placed_at<'f>(
+pub fn location_at<'f>(
     alloc: Global,
     bytes: &'f [u8],
     kept: &'f KeptTable,
@@ -43,12 +43,12 @@ pub fn placed_at<'f>(
     function: &KeptFunction,
     hints: Cuts,
     addr: Addr,
-) -> Result<Placed<'f>>
+) -> Result<Location<'f>>
     requires function { IsFunction bytes.now kept.now.code function.now }
     requires stands { (table : Table) × StandsFor bytes.now table kept.now }
-    ensures placed { (table : Table) → StandsFor bytes.now table kept.now →
-        Gives placed_seen (placed_at table opts.now (function_seen bytes.now kept.now.code function.now) addr) result }
-    ensures lent { IfOk result IsLentPlaced }
+    ensures location { (table : Table) → StandsFor bytes.now table kept.now →
+        Gives location_seen (location_at table opts.now (function_seen bytes.now kept.now.code function.now) addr) result }
+    ensures lent { IfOk result IsLentLocation }
     ensures refusal { IfErr result IsAnswerRefusal }
     ensures memory { IfErr result (WantsMemory (opts.now ≡ FindSymOpts.CodeInfoAndInlined)) }
 {
@@ -62,12 +62,12 @@ pub fn placed_at<'f>(
     seen_from(alloc, bytes, kept, &calls, line)
 }
 
-/// No place.
-fn nowhere<'f>(alloc: Global) -> Placed<'f>
-    ensures placed { placed_seen result ≡ nowhere }
-    ensures lent { IsLentPlaced result }
+/// No site, and no call.
+fn nowhere<'f>(alloc: Global) -> Location<'f>
+    ensures location { location_seen result ≡ nowhere }
+    ensures lent { IsLentLocation result }
 {
-    Placed {
+    Location {
         code_info: None,
         inlined: Vec::new(alloc),
     }
@@ -140,7 +140,7 @@ pub(crate) fn inlinees_of<'f>(code: &'f FunctionTable, function: &KeptFunction) 
 fn site_in<'f>(bytes: &'f [u8], kept: &'f KeptTable, file: u32, line: u32) -> Option<CodeInfo<'f>>
     requires { NamesFit bytes.now kept.now.files }
     ensures site { (table : Table) → StandsFor bytes.now table kept.now → option_map site_of result ≡ site_in table file line }
-    ensures lent { IfSome result IsLentPlace }
+    ensures lent { IfSome result IsLentSite }
 {
     let (dir, file) = split_source(name_of(bytes, &kept.files, file)?)?;
     Some(CodeInfo {
@@ -169,12 +169,12 @@ fn seen_from<'f>(
     kept: &'f KeptTable,
     calls: &[&CallRange],
     line: SourceLine,
-) -> Result<Placed<'f>>
+) -> Result<Location<'f>>
     requires files { NamesFit bytes.now kept.now.files }
     requires origins { NamesFit bytes.now kept.now.origins }
-    ensures placed { (table : Table) → StandsFor bytes.now table kept.now →
-        Gives placed_seen (by_seen (seen_from table (map (λ call. kept_call bytes.now call.now) calls.now) (line_seen line))) result }
-    ensures lent { IfOk result IsLentPlaced }
+    ensures location { (table : Table) → StandsFor bytes.now table kept.now →
+        Gives location_seen (by_seen (seen_from table (map (λ call. kept_call bytes.now call.now) calls.now) (line_seen line))) result }
+    ensures lent { IfOk result IsLentLocation }
     ensures refusal { IfErr result IsAnswerRefusal }
     ensures memory { IfErr result (WantsMemory (0 < length calls.now)) }
 {
@@ -194,13 +194,13 @@ fn seen_from<'f>(
     }
     // The innermost call came first.
     inlined.reverse();
-    Ok(Placed {
+    Ok(Location {
         code_info: Some(site),
         inlined,
     })
 }
 
-/// Code at a place inside a call, seen from outside it: the call with the place, and where the call
+/// Code at a site inside a call, seen from outside it: the call with the site, and where the call
 /// stands. None if a name isn't known.
 fn seen_outside<'f>(
     bytes: &'f [u8],
@@ -210,11 +210,11 @@ fn seen_outside<'f>(
 ) -> Option<(InlinedFn<'f>, CodeInfo<'f>)>
     requires files { NamesFit bytes.now kept.now.files }
     requires origins { NamesFit bytes.now kept.now.origins }
-    requires lent { IsLentPlace inner }
+    requires lent { IsLentSite inner }
     ensures seen { (table : Table) (calls : List Call) → StandsFor bytes.now table kept.now →
         option_map (λ seen. (site_of seen.1, call_of seen.0 ∷ calls)) result ≡ seen_outside table (kept_call bytes.now range.now) (site_of inner.entry, calls) }
     ensures lent_call { IfSome result (λ seen. IsLentCall seen.0) }
-    ensures lent_place { IfSome result (λ seen. IsLentPlace seen.1) }
+    ensures lent_site { IfSome result (λ seen. IsLentSite seen.1) }
 {
     let record = call_at(bytes, range.place as usize);
     let name = name_of(bytes, &kept.origins, record.origin)?;

@@ -1,4 +1,4 @@
-use Rattle.bz_breakpad_function.proofs.places.line_of.Given as goal
+use Rattle.bz_breakpad_function.proofs.locations.line_of.Given as goal
 
 -- the count is kept in the name of the blank that it is made of
 abbrev pub ghosts-line_covering : goal.ghosts-line_covering

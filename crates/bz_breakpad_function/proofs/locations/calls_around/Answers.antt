@@ -4,8 +4,8 @@ use Rattle.std.proofs.lemmas.Result.{IfOk-weaker}
 use Rattle.bz_base.specs.Nearest.{IsTable}
 use Rattle.bz_breakpad_table.specs.CallRanges.{call_start}
 use Rattle.bz_breakpad_table.specs.declared.types.CallRange.{CallRange}
-use Rattle.bz_breakpad_function.proofs.PlacedLemmas.{calls_through}
-use Rattle.bz_breakpad_function.proofs.places.calls_around.Goals as goal
+use Rattle.bz_breakpad_function.proofs.LocationLemmas.{calls_through}
+use Rattle.bz_breakpad_function.proofs.locations.calls_around.Goals as goal
 
 pub returns : goal.returns
 returns c =
