@@ -7,10 +7,10 @@ use Rattle.std.proofs.lemmas.Bool.{le-leb, lt-leb, false_from_ne_true}
 use Rattle.std.proofs.lemmas.Str.{IsUtf8-from_is_utf8, is_utf8-from_IsUtf8}
 use Rattle.bz_base.specs.ZeroEnded.{zero_ended}
 use Rattle.bz_base.specs.Little.{number_at}
-use Rattle.bz_base.specs.Span.{last_address}
+use Rattle.bz_base.specs.Span.{fitting, last_address}
 use Rattle.bz_gsym.specs.Header.{header_of}
 use Rattle.bz_gsym.specs.Strings.{checked, string_at}
-use Rattle.bz_gsym.specs.Tables.{address_at, data_places, data_table, file_at, file_count_place, file_table, files, fitting, header_len, is_address_size, starts}
+use Rattle.bz_gsym.specs.Tables.{address_at, data_places, data_table, file_at, file_count_place, file_table, files, header_len, is_address_size, starts}
 use Rattle.bz_gsym.specs.declared.types.Header.{Header}
 use Rattle.bz_gsym.proofs.StartLemmas.{no_starts, start_in, starts_are}
 use Rattle.bz_gsym.proofs.TableLemmas.{entry_at, no_entry_table}

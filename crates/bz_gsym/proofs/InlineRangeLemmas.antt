@@ -2,8 +2,9 @@
 use Rattle.std.proofs.Common.{◌≡◌, ℕ, suc, ◌+◌, ◌-◌, ◌<◌, ◌≤◌, inl, inr, true, false, not, ◌||◌, List, Bool, cond, Option, Some, None, option_map, nat_le, nat_eq, refl, ap, ◌∙◌, arith}
 use Rattle.std.proofs.lemmas.Bool.{ne_eqb, eq-eqb, cases_eq, lt-leb, le-leb}
 use Rattle.bz_gsym.specs.InlineTree.{Head, last_index, fits, has_inside, all_fit, some_has_inside, first_start, is_sound, matches, children_base}
+use Rattle.bz_base.specs.Bind.{◌>>=◌}
 use Rattle.bz_base.specs.Leb128.{uleb_at}
-use Rattle.bz_gsym.specs.InlineReader.{◌>>=◌, range_at, before, ranges_at, Tail, tail_at, head_of, filled_at, head_at, there}
+use Rattle.bz_gsym.specs.InlineReader.{range_at, before, ranges_at, Tail, tail_at, head_of, filled_at, head_at, there}
 use Rattle.bz_gsym.specs.declared.inline.node.Level.{Level}
 use Rattle.bz_gsym.specs.declared.inline.node.Level.TheVariants.{PassedOver, Read}
 use Rattle.bz_gsym.specs.InlineWalk.{Visit, visit, visit_next, visit_at, passed_at, node_at}

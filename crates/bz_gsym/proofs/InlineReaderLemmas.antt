@@ -2,11 +2,12 @@
 use Rattle.std.proofs.Common.{◌≡◌, ℕ, zero, suc, ◌<◌, ◌≤◌, true, false, List, length, Bool, cond, Option, Some, None, option_map, nat_eq, refl, ap, ◌∙◌, arith}
 use Rattle.std.proofs.lemmas.Option.{none-some, same_Some}
 use Rattle.bz_gsym.specs.InlineTree.{Head, Nodes}
+use Rattle.bz_base.specs.Bind.{◌>>=◌}
 use Rattle.bz_base.specs.Cursor.{byte_at, word_at}
 use Rattle.bz_base.specs.Leb128.{uleb_at}
 use Rattle.bz_base.proofs.PieceOfBytesLemmas.{map_some}
 use Rattle.bz_gsym.proofs.InlinePieceLemmas.{byte-shorter, uleb-shorter, word-shorter}
-use Rattle.bz_gsym.specs.InlineReader.{◌>>=◌, range_at, before, ranges_at, Tail, tail_at, filled_at, there, head_at, node_before, children_by, node_by, nodes_within, nodes_at}
+use Rattle.bz_gsym.specs.InlineReader.{range_at, before, ranges_at, Tail, tail_at, filled_at, there, head_at, node_before, children_by, node_by, nodes_within, nodes_at}
 
 -- where the second of two readings gives something, the first did
 pub bind_then : {A B C : Type 0} (o : Option A) (f : A → Option B) (y : B) → (o >>= f) ≡ Some y →

@@ -2,9 +2,10 @@
 use Rattle.std.proofs.Common.{◌≡◌, ℕ, zero, suc, true, false, List, [], ◌++◌, length, Bool, Option, Some, None, option_map, refl, sym, ap, subst, ◌∙◌, append_assoc}
 use Rattle.std.proofs.lemmas.Bool.{true≢false, false≢true}
 use Rattle.std.proofs.lemmas.Option.{none-some, same_Some}
+use Rattle.bz_base.specs.Bind.{◌>>=◌}
 use Rattle.bz_base.specs.Cursor.{IsInFront}
 use Rattle.bz_base.proofs.PieceOfBytesLemmas.{map_some}
-use Rattle.bz_gsym.specs.InlineReader.{◌>>=◌, head_at, node_before, children_by, node_by, nodes_within, nodes_at, root_by, tree_at, frames_at}
+use Rattle.bz_gsym.specs.InlineReader.{head_at, node_before, children_by, node_by, nodes_within, nodes_at, root_by, tree_at, frames_at}
 use Rattle.bz_gsym.specs.InlineSpelling.{AreNodes, IsRoot, IsTree}
 use Rattle.bz_gsym.specs.InlineTree.{Head, Nodes, Frame, frames}
 use Rattle.bz_gsym.specs.InlineTree.Nodes.{Ended, Node}

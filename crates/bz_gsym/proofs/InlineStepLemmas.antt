@@ -2,12 +2,13 @@
 use Rattle.std.proofs.Common.{◌≡◌, ℕ, true, false, List, [], ◌∷◌, ◌++◌, Bool, cond, Option, Some, None, option_map, refl, sym, ap, ◌∙◌, append_assoc}
 use Rattle.std.proofs.lemmas.Bool.{false≢true, not-true, not-false}
 use Rattle.std.proofs.lemmas.List.{append-nil}
+use Rattle.bz_base.specs.Bind.{◌>>=◌}
 use Rattle.bz_gsym.specs.InlineTree.{Head, Nodes, Frame, matches, children_base, frame_of, with_frame, both, frames}
 use Rattle.bz_gsym.specs.InlineTree.Nodes.{Ended, Node}
-use Rattle.bz_gsym.specs.InlineReader.{◌>>=◌, head_at, node_before, children_by, node_by, root_by, nodes_at, tree_at, frames_at}
+use Rattle.bz_gsym.specs.InlineReader.{head_at, node_before, children_by, node_by, root_by, nodes_at, tree_at, frames_at}
 use Rattle.bz_gsym.specs.declared.inline.node.Level.{Level}
 use Rattle.bz_gsym.specs.declared.inline.node.Level.TheVariants.{PassedOver, Read}
-use Rattle.bz_gsym.specs.InlineWalk.{Visit, is_refused, own_frame, inner_level, visit_next, visit_at, level_frames, open_frames, opened, walked, walked_root}
+use Rattle.bz_gsym.specs.InlineWalk.{Visit, is_refused, own_frame, inner_level, visit_next, visit_at, level_frames, open_frames, entered, walked, walked_root}
 use Rattle.bz_gsym.proofs.InlineReaderLemmas.{nodes_at-step}
 
 both_nothing : {A : Type 0} (o : Option (List A)) → both (Some []) o ≡ o
@@ -96,7 +97,7 @@ module _ (addr : ℕ) (level : Level) (levels : List Level) where
 
     sound_node : is_refused level head ≡ false → (has : Bool) (bytes : List ℕ) →
         ((children_by nodes_at has bytes >>= (λ c. option_map (node_before head c.0) (nodes_at c.1))) >>= rest)
-        ≡ option_map (with_frame (own_frame addr level head)) (open_frames addr (opened (cond has (Some (inner_level addr level head)) None) (level ∷ levels)) bytes)
+        ≡ option_map (with_frame (own_frame addr level head)) (open_frames addr (entered (cond has (Some (inner_level addr level head)) None) (level ∷ levels)) bytes)
     sound_node sound true bytes = sound_parent sound (nodes_at bytes)
     sound_node sound false bytes =
         sound_siblings sound Ended (nodes_at bytes)
@@ -145,7 +146,7 @@ module _ (addr base : ℕ) where
 
     sound_root_by : is_refused (Read base) head ≡ false → (has : Bool) (bytes : List ℕ) →
         (option_map (λ (c : Nodes × List ℕ). Node head c.0 Ended) (children_by nodes_at has bytes) >>= frames addr base)
-        ≡ option_map (with_frame (own_frame addr (Read base) head)) (open_frames addr (opened (cond has (Some (inner_level addr (Read base) head)) None) []) bytes)
+        ≡ option_map (with_frame (own_frame addr (Read base) head)) (open_frames addr (entered (cond has (Some (inner_level addr (Read base) head)) None) []) bytes)
     sound_root_by sound true bytes = sound_root_parent sound (nodes_at bytes)
     sound_root_by sound false bytes =
         sound_root sound Ended

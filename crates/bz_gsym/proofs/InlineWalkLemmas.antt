@@ -2,10 +2,11 @@
 use Rattle.std.proofs.Common.{◌≡◌, ℕ, List, [], ◌∷◌, ◌++◌, Option, Some, None, option_map, refl, sym, ap, ◌∙◌, append_assoc, reverse, length, ◌<◌, arith}
 use Rattle.std.proofs.lemmas.List.{append-nil, reverse-append}
 use Rattle.std.proofs.lemmas.Option.{same_Some}
+use Rattle.bz_base.specs.Bind.{◌>>=◌}
 use Rattle.bz_base.proofs.PieceOfBytesLemmas.{map_some}
-use Rattle.bz_gsym.specs.InlineReader.{◌>>=◌, head_at, frames_at}
+use Rattle.bz_gsym.specs.InlineReader.{head_at, frames_at}
 use Rattle.bz_gsym.specs.InlineTree.{Head, Frame, with_frame}
-use Rattle.bz_gsym.specs.InlineWalk.{Visit, visit, visit_next, visit_at, open_frames, opened, walked, walked_root, after_front}
+use Rattle.bz_gsym.specs.InlineWalk.{Visit, visit, visit_next, visit_at, open_frames, entered, walked, walked_root, after_front}
 use Rattle.bz_gsym.specs.declared.inline.node.Level.{Level}
 use Rattle.bz_gsym.specs.declared.inline.node.Level.TheVariants.{Read}
 use Rattle.bz_gsym.proofs.InlineReaderLemmas.{bind_then, head_at-shorter}
@@ -26,10 +27,10 @@ with_in_front (Some f) (Some xs) = refl
 module _ (addr : ℕ) (level : Level) (levels : List Level) (front : List Frame) (bytes after : List ℕ) where
   pub walk-node : (found : Visit) → visit_at addr level bytes ≡ Some (Some found, after) →
       after_front front (open_frames addr (level ∷ levels) bytes)
-      ≡ after_front (front ++ with_frame found.frame []) (open_frames addr (opened found.inside (level ∷ levels)) after)
+      ≡ after_front (front ++ with_frame found.frame []) (open_frames addr (entered found.inside (level ∷ levels)) after)
   walk-node found is =
       ap (after_front front) (open_frames-step addr level levels bytes ∙ ap (λ o. o >>= walked addr level levels) is)
-      ∙ after_front-with front found.frame (open_frames addr (opened found.inside (level ∷ levels)) after)
+      ∙ after_front-with front found.frame (open_frames addr (entered found.inside (level ∷ levels)) after)
 
   pub walk-end : visit_at addr level bytes ≡ Some (None, after) →
       after_front front (open_frames addr (level ∷ levels) bytes) ≡ after_front front (open_frames addr levels after)
@@ -42,9 +43,9 @@ walk-missing addr level levels front bytes is = ap (after_front front) (open_fra
 -- how a walk begins
 module _ (addr base : ℕ) (bytes after : List ℕ) where
   root-node : (found : Visit) → visit_at addr (Read base) bytes ≡ Some (Some found, after) →
-      frames_at addr base bytes ≡ after_front (with_frame found.frame []) (open_frames addr (opened found.inside []) after)
+      frames_at addr base bytes ≡ after_front (with_frame found.frame []) (open_frames addr (entered found.inside []) after)
   root-node found is =
-      frames_at-step addr base bytes ∙ ap (λ o. o >>= walked_root addr) is ∙ with_in_front found.frame (open_frames addr (opened found.inside []) after)
+      frames_at-step addr base bytes ∙ ap (λ o. o >>= walked_root addr) is ∙ with_in_front found.frame (open_frames addr (entered found.inside []) after)
 
   pub root-end : visit_at addr (Read base) bytes ≡ Some (None, after) → frames_at addr base bytes ≡ Some []
   root-end is = frames_at-step addr base bytes ∙ ap (λ o. o >>= walked_root addr) is
@@ -56,14 +57,14 @@ root-missing addr base bytes is = frames_at-step addr base bytes ∙ ap (λ o. o
 pub root-alone : (addr base : ℕ) (bytes after : List ℕ) (found : Visit) → visit_at addr (Read base) bytes ≡ Some (Some found, after) → found.inside ≡ None →
     frames_at addr base bytes ≡ Some (with_frame found.frame [])
 root-alone addr base bytes after found is alone =
-    root-node addr base bytes after found is ∙ ap (λ inside. after_front (with_frame found.frame []) (open_frames addr (opened inside []) after)) alone
+    root-node addr base bytes after found is ∙ ap (λ inside. after_front (with_frame found.frame []) (open_frames addr (entered inside []) after)) alone
     ∙ ap (λ frames. Some frames) (append-nil (with_frame found.frame []))
 
 -- where it has some, they are walked behind its frame
 pub root-inside : (addr base : ℕ) (bytes after : List ℕ) (found : Visit) → visit_at addr (Read base) bytes ≡ Some (Some found, after) → (children : Level) → found.inside ≡ Some children →
     (front : List Frame) → front ≡ with_frame found.frame [] → frames_at addr base bytes ≡ after_front front (open_frames addr (children ∷ []) after)
 root-inside addr base bytes after found is children inside front same =
-    root-node addr base bytes after found is ∙ ap (λ inside. after_front (with_frame found.frame []) (open_frames addr (opened inside []) after)) inside
+    root-node addr base bytes after found is ∙ ap (λ inside. after_front (with_frame found.frame []) (open_frames addr (entered inside []) after)) inside
     ∙ ap (λ frames. after_front frames (open_frames addr (children ∷ []) after)) (sym same)
 
 -- the innermost of the outer siblings stand last in the list of the code
@@ -82,7 +83,7 @@ module _ (addr : ℕ) (level : Level) (outer : List Level) (front : List Frame) 
 
   module _ (after : List ℕ) where
     pub turn-node : (found : Visit) (next : Level) (around : List Level) (more : List Frame) → visit_at addr level bytes ≡ Some (Some found, after) →
-        next ∷ around ≡ opened found.inside (level ∷ outer) → more ≡ front ++ with_frame found.frame [] →
+        next ∷ around ≡ entered found.inside (level ∷ outer) → more ≡ front ++ with_frame found.frame [] →
         after_front more (open_frames addr (next ∷ around) after) ≡ whole
     turn-node found next around more is inside grown =
         ap (λ levels. after_front more (open_frames addr levels after)) inside

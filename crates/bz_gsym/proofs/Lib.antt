@@ -11,7 +11,7 @@ pub mod InlineStepLemmas
 pub mod InlineWalkLemmas
 pub mod LineTableLaws
 pub mod LineTableLemmas
-pub mod PlainTextLemmas
+pub mod AsciiLemmas
 pub mod ShortLemmas
 pub mod StartLemmas
 pub mod SymbolLemmas

@@ -14,8 +14,8 @@ use Rattle.bz_base.specs.declared.types.FindSymOpts.{FindSymOpts}
 use Rattle.bz_base.specs.declared.types.Reason.TheVariants as reasons
 use Rattle.bz_base.specs.Little.{number_at}
 use Rattle.bz_base.proofs.TableLemmas.{record_at, start_at, table_candidate}
-use Rattle.bz_gsym.specs.Joining.{Placed}
-use Rattle.bz_gsym.specs.Plain.{plain, answer_of, based, placed_of, symbol_at, nearest_start, nearest_symbol, reaches, symbols, tried}
+use Rattle.bz_gsym.specs.Joining.{Location}
+use Rattle.bz_gsym.specs.Plain.{plain, answer_of, based, location_of, symbol_at, nearest_start, nearest_symbol, reaches, symbols, tried}
 use Rattle.bz_gsym.specs.Entries.{Info, info_at}
 use Rattle.bz_gsym.specs.Header.{header_of}
 use Rattle.bz_gsym.specs.Refusal.{Refuses}
@@ -117,12 +117,12 @@ module _ (bytes : List ℕ) (addr : ℕ) (formed : IsGsym bytes) where
       not_reached short = sym (by_info opts (Some info) given ∙ rw short refl)
 
       -- one that does answers by what its data say
-      pub reached : reaches at info.size addr ≡ true → (placed : Option Placed) → placed_of bytes opts addr at info ≡ placed →
-          symbol_at at info.size placed ≡ plain bytes opts addr
-      reached far placed is = sym (by_info opts (Some info) given ∙ rw far (ap (symbol_at at info.size) is))
+      pub reached : reaches at info.size addr ≡ true → (location : Option Location) → location_of bytes opts addr at info ≡ location →
+          symbol_at at info.size location ≡ plain bytes opts addr
+      reached far location is = sym (by_info opts (Some info) given ∙ rw far (ap (symbol_at at info.size) is))
 
       -- and is refused where they are
-      pub refused : reaches at info.size addr ≡ true → (e : Error) → Refuses (placed_of bytes opts addr at info) e →
+      pub refused : reaches at info.size addr ≡ true → (e : Error) → Refuses (location_of bytes opts addr at info) e →
           MayGive found_of (λ answer. answer ≡ plain bytes opts addr) (Err e)
       refused far errors.InvalidData none = reached far None none
       refused far errors.OutOfMemory none = tt

@@ -1,9 +1,10 @@
 -- What the ranges of a node (llvm::gsym::InlineInfo) say of an address, from the first on.
 use Rattle.std.specs.Prelude.{ℕ, Bool, false, ◌||◌, ◌==◌, nat_le, List, Option, Some, None, option_map, if◌then◌else◌}
+use Rattle.bz_base.specs.Bind.{◌>>=◌}
 use Rattle.bz_gsym.specs.InlineTree.{last_index, all_fit, some_has_inside, first_start, frame_by}
 use Rattle.bz_gsym.specs.declared.inline.node.Level.TheVariants.{PassedOver, Read}
 use Rattle.bz_gsym.specs.InlineWalk.{Visit}
-use Rattle.bz_gsym.specs.InlineReader.{◌>>=◌, ranges_at, Tail, tail_at}
+use Rattle.bz_gsym.specs.InlineReader.{ranges_at, Tail, tail_at}
 
 -- whether the address lies in one, and where the first one starts
 abbrev pub Span : Type 0

@@ -1,15 +1,10 @@
 -- The inline tree of a data entry's bytes, read from their front (llvm::gsym::InlineInfo), and the frames that it gives.
 use Rattle.std.specs.Prelude.{ℕ, zero, suc, Bool, true, false, not, ◌==◌, List, [], ◌∷◌, length, Option, Some, None, option_map, if◌then◌else◌}
+use Rattle.bz_base.specs.Bind.{◌>>=◌}
 use Rattle.bz_base.specs.Cursor.{byte_at, word_at}
 use Rattle.bz_base.specs.Leb128.{uleb_at}
 use Rattle.bz_gsym.specs.InlineTree.{Head, Nodes, Frame, frames, no_children, no_ranges}
 use Rattle.bz_gsym.specs.InlineTree.Nodes.{Ended, Node}
-
--- what is read next, where the first was there
-infixl 10 ◌>>=◌
-abbrev pub ◌>>=◌ : {A B : Type 0} → Option A → (A → Option B) → Option B
-None >>= f = None
-(Some x) >>= f = f x
 
 -- a range: offset and size
 unfoldable pub range_at : List ℕ → Option ((ℕ × ℕ) × List ℕ)

@@ -1,10 +1,11 @@
 -- The frames of an inline tree as a walk over the bytes meets them, with a list of the nodes that are open. Of each
 -- it is held how its siblings are taken.
 use Rattle.std.specs.Prelude.{ℕ, Bool, false, not, List, [], ◌∷◌, ◌++◌, Option, Some, None, option_map, if◌then◌else◌}
+use Rattle.bz_base.specs.Bind.{◌>>=◌}
 use Rattle.bz_gsym.specs.InlineTree.{Head, Nodes, Frame, is_sound, matches, children_base, frame_of, with_frame, both, frames}
 use Rattle.bz_gsym.specs.declared.inline.node.Level.{Level}
 use Rattle.bz_gsym.specs.declared.inline.node.Level.TheVariants.{PassedOver, Read}
-use Rattle.bz_gsym.specs.InlineReader.{◌>>=◌, filled_at, head_at, nodes_at}
+use Rattle.bz_gsym.specs.InlineReader.{filled_at, head_at, nodes_at}
 
 -- what a node gives: its frame, if it has one, and how its children are taken, if it has some
 pub record Visit : Type 0 where
@@ -63,21 +64,21 @@ open_frames addr (level ∷ levels) bytes =
     nodes_at bytes >>= (λ nodes. both (level_frames addr level nodes.0) (open_frames addr levels nodes.1))
 
 -- the open siblings inside a node
-abbrev pub opened : Option Level → List Level → List Level
-opened None levels = levels
-opened (Some level) levels = level ∷ levels
+abbrev pub entered : Option Level → List Level → List Level
+entered None levels = levels
+entered (Some level) levels = level ∷ levels
 
 -- the frames of what is left once the next node gave this
 abbrev pub walked : ℕ → Level → List Level → Option Visit × List ℕ → Option (List Frame)
 walked addr level levels (None, bytes) = open_frames addr levels bytes
 walked addr level levels (Some found, bytes) =
-    option_map (with_frame found.frame) (open_frames addr (opened found.inside (level ∷ levels)) bytes)
+    option_map (with_frame found.frame) (open_frames addr (entered found.inside (level ∷ levels)) bytes)
 
 -- the frames of the whole once the root gave this
 abbrev pub walked_root : ℕ → Option Visit × List ℕ → Option (List Frame)
 walked_root addr (None, bytes) = Some []
 walked_root addr (Some found, bytes) =
-    option_map (with_frame found.frame) (open_frames addr (opened found.inside []) bytes)
+    option_map (with_frame found.frame) (open_frames addr (entered found.inside []) bytes)
 
 -- the frames so far, and those of what is left
 abbrev pub after_front : List Frame → Option (List Frame) → Option (List Frame)

@@ -2,9 +2,9 @@
 use Rattle.std.specs.Prelude.{ℕ, zero, suc, ℤ, pos, ◌+◌, ◌-◌, ◌/◌, ◌%◌, ◌^◌, ◌+ℤ◌, ◌-ℤ◌, ◌==◌, nat_lt, int_lt, unsigned_abs, Bool, true, false, if◌then◌else◌, List, [], ◌∷◌, length, map, Option, Some, None, option_map, unwrap_or}
 use Rattle.std.specs.Int.{int_rem_euclid}
 use Rattle.std.specs.List.{before_first, filter, last_or, list_any}
+use Rattle.bz_base.specs.Bind.{◌>>=◌}
 use Rattle.bz_base.specs.Cursor.{byte_at}
 use Rattle.bz_base.specs.Leb128.{sleb_at, uleb_at}
-use Rattle.bz_gsym.specs.InlineReader.{◌>>=◌}
 use Rattle.bz_gsym.specs.declared.linetab.LineTableHeader.{LineTableHeader}
 use Rattle.bz_gsym.specs.declared.linetab.LineTableRow.{LineTableRow}
 use Rattle.bz_gsym.specs.declared.linetab.RunResult.{RunResult}
@@ -120,7 +120,7 @@ abbrev pub end_state : List State → Option LineTableRow
 end_state list = if list_any (λ state. state.is_row) list then last_or None (map (λ state. state.at) list) else None
 
 -- the state that answers for an address. Where some row lies above it, this is the row before the first of those, if there is
--- one. Else it is the last state, if there is a row
+-- one. Where none does, it is the last state, if there is a row
 abbrev pub picked : ℕ → List State → Option LineTableRow
 picked addr list =
     if list_any (is_above addr) (rows list) then last_or None (before_first (is_above addr) (rows list)) else end_state list

@@ -2,6 +2,7 @@
 use Rattle.std.specs.Prelude.{ℕ, ◌+◌, ◌-◌, ◌==◌, ◌||◌, nat_lt, Bool, if◌then◌else◌, List, Option, Some, None, option_map, Result, Ok, Err}
 use Rattle.std.specs.List.{zip}
 use Rattle.bz_base.specs.Answer.{Resolved}
+use Rattle.bz_base.specs.Bind.{◌>>=◌}
 use Rattle.bz_base.specs.Nearest.{candidate}
 use Rattle.bz_base.specs.Span.{inside}
 use Rattle.bz_base.specs.declared.error.Error.{Error}
@@ -12,8 +13,7 @@ use Rattle.bz_base.specs.declared.types.Reason.TheVariants as reasons
 use Rattle.bz_base.specs.declared.types.SrcLang.TheVariants as languages
 use Rattle.bz_gsym.specs.Entries.{Info, entries_in, info_at}
 use Rattle.bz_gsym.specs.Header.{header_of}
-use Rattle.bz_gsym.specs.InlineReader.{◌>>=◌}
-use Rattle.bz_gsym.specs.Joining.{Placed, placed_by, told_of}
+use Rattle.bz_gsym.specs.Joining.{Location, location_by, facts_of}
 use Rattle.bz_gsym.specs.Strings.{string_at}
 use Rattle.bz_gsym.specs.Tables.{starts, data_places, strings}
 
@@ -41,31 +41,31 @@ nearest_symbol bytes addr =
 abbrev pub reaches : ℕ → ℕ → ℕ → Bool
 reaches start size addr = size == 0 || inside start size addr
 
--- a symbol at its place; without one it is refused
-abbrev pub symbol_at : ℕ → ℕ → Option Placed → Result (Result Resolved Reason) Error
+-- a symbol with its location; without one it is refused
+abbrev pub symbol_at : ℕ → ℕ → Option Location → Result (Result Resolved Reason) Error
 symbol_at start size None = Err errors.InvalidData
-symbol_at start size (Some placed) = Ok (Ok (record {
-  name = placed.name;
+symbol_at start size (Some location) = Ok (Ok (record {
+  name = location.name;
   «module» = None;
   addr = start;
   size = Some size;
   lang = languages.Unknown;
-  site = placed.site;
-  calls = placed.calls;
+  site = location.site;
+  calls = location.calls;
 }))
 
 -- the name of a symbol's data, and what its entries say; each refuses the address if it isn't in the format
-abbrev pub placed_of : List ℕ → FindSymOpts → ℕ → ℕ → Info → Option Placed
-placed_of bytes opts addr start info = do
+abbrev pub location_of : List ℕ → FindSymOpts → ℕ → ℕ → Info → Option Location
+location_of bytes opts addr start info = do
   name ← string_at (strings bytes) info.name
-  told ← told_of opts start addr (entries_in info.rest)
-  placed_by bytes name told.row told.frames
+  facts ← facts_of opts start addr (entries_in info.rest)
+  location_by bytes name facts.row facts.frames
 
 -- what a symbol with this start and data says of an address from the start on; without data it is refused
 abbrev pub answer_of : List ℕ → FindSymOpts → ℕ → ℕ → Option Info → Result (Result Resolved Reason) Error
 answer_of bytes opts addr start None = Err errors.InvalidData
 answer_of bytes opts addr start (Some info) =
-    if reaches start info.size addr then symbol_at start info.size (placed_of bytes opts addr start info) else Ok (Err reasons.UnknownAddr)
+    if reaches start info.size addr then symbol_at start info.size (location_of bytes opts addr start info) else Ok (Err reasons.UnknownAddr)
 
 -- what the symbol that is to be tried says, if there is one
 abbrev pub tried : List ℕ → FindSymOpts → ℕ → Option (ℕ × ℕ) → Result (Result Resolved Reason) Error

@@ -7,8 +7,8 @@ use Rattle.bz_base.specs.Byte.{zero_byte}
 use Rattle.bz_base.specs.ZeroEnded.{zero_ended}
 
 -- a byte of a text in ASCII
-abbrev pub is_plain : ℕ → Bool
-is_plain byte = nat_lt zero_byte byte && is_ascii byte
+abbrev pub is_nonzero_ascii : ℕ → Bool
+is_nonzero_ascii byte = nat_lt zero_byte byte && is_ascii byte
 
 -- a text, if it is UTF-8
 abbrev pub checked : List ℕ → Option (List ℕ)

@@ -4,7 +4,7 @@ use Rattle.std.specs.Prelude.{◌≡◌, ℕ, ◌+◌, ◌-◌, ◌*◌, ◌≤�
 use Rattle.std.specs.List.{list_all, range_with_len}
 use Rattle.bz_base.specs.Cursor.{padding}
 use Rattle.bz_base.specs.Little.{number_at, numbers_at}
-use Rattle.bz_base.specs.Span.{last_address}
+use Rattle.bz_base.specs.Span.{fitting}
 use Rattle.bz_base.specs.Starts.{IsFound, NeverDescends}
 use Rattle.bz_gsym.specs.Header.{gsym_magic, gsym_version, header_of}
 use Rattle.bz_gsym.specs.declared.types.FileInfo.{FileInfo}
@@ -127,10 +127,6 @@ IsNearest bytes addr (Some symbol) = IsTried bytes addr symbol.0 symbol.1
 abbrev pub IsIndex : List ℕ → ℕ → Option ℕ → Type 0
 IsIndex bytes addr None = IsNearest bytes addr None
 IsIndex bytes addr (Some index) = (at : ℕ) × IsTried bytes addr index at
-
--- an address of 64 bits
-abbrev pub fitting : ℕ → Option ℕ
-fitting addr = if nat_le addr last_address then Some addr else None
 
 -- the address of a symbol: base address plus start, if that fits 64 bits
 abbrev pub address_at : List ℕ → ℕ → Option ℕ

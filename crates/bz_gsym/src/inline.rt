@@ -6,7 +6,7 @@ ghost use Rattle.bz_gsym.specs.InlineRanges.{read_at};
 ghost use Rattle.bz_gsym.specs.InlineReader.{frames_at};
 ghost use Rattle.bz_gsym.specs.InlineSeen.{visit_seen};
 ghost use Rattle.bz_gsym.specs.InlineTree.{frame_by, with_frame};
-ghost use Rattle.bz_gsym.specs.InlineWalk.{after_front, open_frames, opened, passed_at, visit_at};
+ghost use Rattle.bz_gsym.specs.InlineWalk.{after_front, open_frames, entered, passed_at, visit_at};
 ghost use Rattle.bz_gsym.specs.Refusal.{Refuses};
 ghost use Rattle.bz_gsym.specs.Seen.{frame_seen, frames_seen};
 ghost use Rattle.bz_gsym.specs.declared.inline.node.Level.TheVariants.{PassedOver, Read};
@@ -29,7 +29,8 @@ impl InlineInfo {
     /// A node has a frame if it and all nodes around it have the address inside, unless its name is 0.
     /// The root's offsets count from `base_addr`, the symbol's address.
     /// InvalidData: the tree isn't whole, or a node that is read has a range past 64 bits or a call file
-    /// past 32 bits. The root is read, and so are the children of nodes that have the address inside.
+    /// past 32 bits. The root is read, and so are the children of each node that is read and has the
+    /// address inside.
     #[inline(never)]
     pub fn parse_inline_stack(
         alloc: Global,
@@ -97,7 +98,7 @@ fn keep(
     found: Visit,
 ) -> Result<Level>
     ensures frames { OnOk result (frames_seen frames.new.items ≡ frames_seen frames.old.items ++ with_frame (option_map frame_seen found.frame) []) }
-    ensures outer { IfOk result (λ next. next ∷ reverse outer.new.items ≡ opened found.inside (siblings ∷ reverse outer.old.items)) }
+    ensures outer { IfOk result (λ next. next ∷ reverse outer.new.items ≡ entered found.inside (siblings ∷ reverse outer.old.items)) }
     ensures memory { IsOkUnless result Error.OutOfMemory }
 {
     keep_frame(frames, found.frame)?;

@@ -3,7 +3,7 @@
 ghost use Rattle.std.specs.Prelude.{◌≡◌, false, Some, None, IfOk, IfErr, OnOk};
 ghost use Rattle.bz_base.specs.Lent.{IsLentResolved};
 ghost use Rattle.bz_base.specs.Resolution.{MayGive, StartsBefore, found_of};
-ghost use Rattle.bz_cache.specs.Format.{Comes, IsRefusalBy, MayFail};
+ghost use Rattle.bz_cache.specs.Format.{GivesOrFaults, IsRefusalBy, MayFail};
 ghost use Rattle.bz_files.specs.Count.{counted};
 ghost use Rattle.bz_files.specs.Looked.{Faulted, Looked, ReadsOne};
 ghost use Rattle.bz_files.specs.World.{Told, entry_at, has_file, in_view};
@@ -37,9 +37,10 @@ impl Model for GsymResolver {
 }
 
 impl GsymResolver {
-    /// Reads the file at the path. InvalidData: it isn't a GSYM file.
+    /// Reads the file at the path. It is refused by `NotFound`, `PermissionDenied` and `ReadFault` as a
+    /// look is, by `InvalidData` where it is no GSYM file, and by `OutOfMemory`.
     pub fn open<F: Files>(alloc: Global, files: &mut F, path: &str) -> Result<GsymResolver>
-        ensures answer { Told (in_view (F.worlds files.old)) (λ world. Comes (λ r. r.bytes) (opened (entry_at world path.now)) result) }
+        ensures answer { Told (in_view (F.worlds files.old)) (λ world. GivesOrFaults (λ r. r.bytes) (opened (entry_at world path.now)) result) }
         ensures path { IfOk result (λ r. r.path ≡ Some path.now) }
         ensures accepted { IfOk result (λ r. IsGsym r.bytes) }
         ensures opened { OnOk result (F.opens files.new ≡ counted (F.opens files.old)) }

@@ -6,8 +6,8 @@ ghost use Rattle.bz_base.specs.Resolution.{MayGive, StartsBefore, found_of};
 ghost use Rattle.bz_gsym.specs.Plain.{plain, reaches};
 ghost use Rattle.bz_gsym.specs.Refusal.{IsAnswerRefusal};
 
+use crate::locations::location_of;
 use crate::parser::GsymContext;
-use crate::places::placed_of;
 use bz_base::{Addr, Error, FindSymOpts, Reason, ResolvedSym, Result, SrcLang, inside};
 use std::alloc::Global;
 
@@ -34,15 +34,15 @@ impl<'a> GsymContext<'a> {
         if !reaches(start, info.size, addr) {
             return Ok(Err(Reason::UnknownAddr));
         }
-        let placed = placed_of(self, alloc, opts, addr, start, &info)?;
+        let location = location_of(self, alloc, opts, addr, start, &info)?;
         Ok(Ok(ResolvedSym {
-            name: placed.name,
+            name: location.name,
             module: None,
             addr: start,
             size: Some(info.size as usize),
             lang: SrcLang::Unknown,
-            code_info: placed.code_info,
-            inlined: placed.inlined,
+            code_info: location.code_info,
+            inlined: location.inlined,
         }))
     }
 }

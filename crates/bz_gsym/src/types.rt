@@ -21,7 +21,7 @@ pub struct Header {
     pub strtab_offset: u32,
     /// The size of the string table, in bytes.
     pub strtab_size: u32,
-    /// The build id, filled up with zeros. It isn't looked at.
+    /// The bytes that the head has for the build id, whatever they are. They aren't looked at.
     pub uuid: [u8; GSYM_MAX_UUID_SIZE],
 }
 
@@ -48,7 +48,7 @@ pub struct AddrInfo<'a> {
 /// A data entry of a symbol.
 #[derive(Drop)]
 pub struct AddrData<'a> {
-    /// What the entry is.
+    /// The entry's type: one of the `INFO_TYPE` constants, or another one.
     pub typ: u32,
     /// The bytes of the entry.
     pub bytes: &'a [u8],

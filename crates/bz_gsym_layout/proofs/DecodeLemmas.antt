@@ -5,17 +5,17 @@ use Rattle.std.specs.List.{AllByRecursion}
 use Rattle.std.proofs.lemmas.Bool.{le-ltb, ne_eqb}
 use Rattle.std.proofs.lemmas.Bool.Decides.{nat_tests}
 use Rattle.bz_base.specs.Answer.{Call as InnerCall, Site}
+use Rattle.bz_base.specs.Bind.{◌>>=◌}
 use Rattle.bz_base.specs.Nearest.{candidate}
 use Rattle.bz_base.specs.Span.{inside, last_address}
 use Rattle.bz_base.specs.declared.types.FindSymOpts.TheVariants as asked
 use Rattle.bz_base.specs.declared.types.Reason.TheVariants as reasons
 use Rattle.bz_gsym.specs.Entries.{Info, entries_in, entry_head_len, info_at, inline_tree, line_table}
 use Rattle.bz_gsym.specs.Header.{header_of}
-use Rattle.bz_gsym.specs.InlineReader.{◌>>=◌}
 use Rattle.bz_gsym.specs.InlineTree.{Frame}
-use Rattle.bz_gsym.specs.Joining.{Placed, Told, nothing_told, placed_by, seen_from, site_in, told_after, told_of, told_with}
+use Rattle.bz_gsym.specs.Joining.{Location, Facts, no_facts, location_by, seen_from, site_in, facts_after, facts_of, facts_with}
 use Rattle.bz_gsym.specs.Plain as gsym
-use Rattle.bz_gsym.specs.Plain.{based, nearest_start, nearest_symbol, placed_of, plain, symbols, tried}
+use Rattle.bz_gsym.specs.Plain.{based, nearest_start, nearest_symbol, location_of, plain, symbols, tried}
 use Rattle.bz_gsym.specs.Strings.{string_at}
 use Rattle.bz_gsym.specs.Tables.{strings}
 use Rattle.bz_gsym.specs.declared.linetab.LineTableRow.{LineTableRow}
@@ -116,56 +116,56 @@ module _ (bytes : List ℕ) (t : Tables) where
     and_false false = refl
 
     tree_told : (row : Option LineTableRow) →
-        told_with asked.CodeInfoAndInlined c.start addr (record { row = row; frames = [] }) (record { typ = inline_tree; text = tree_bytes t c })
+        facts_with asked.CodeInfoAndInlined c.start addr (record { row = row; frames = [] }) (record { typ = inline_tree; text = tree_bytes t c })
         ≡ Some (record { row = row; frames = root_frame t c reads.root ∷ map (frame t) calls })
     tree_told row = rw (and_false (is_none row), tree_read t c reads.root addr low high) refl
 
-    lines_told : told_with asked.CodeInfoAndInlined c.start addr nothing_told (record { typ = line_table; text = line_table_bytes t c.start c.rows })
+    lines_give_facts : facts_with asked.CodeInfoAndInlined c.start addr no_facts (record { typ = line_table; text = line_table_bytes t c.start c.rows })
         ≡ Some (record { row = state; frames = [] })
-    lines_told = rw (line_read t c.start addr c.rows reads.rows) refl
+    lines_give_facts = rw (line_read t c.start addr c.rows reads.rows) refl
 
-    abbrev told_lines : Told
-    told_lines = record { row = state; frames = [] }
+    abbrev line_facts : Facts
+    line_facts = record { row = state; frames = [] }
 
     -- what the entries tell, one after another
     lines_front : (rest : List ℕ) (rows : List (ℕ × Line)) → rows ≡ c.rows →
-        told_after asked.CodeInfoAndInlined c.start addr nothing_told (entries_in (line_entry t c.start rows ++ rest))
-        ≡ told_after asked.CodeInfoAndInlined c.start addr told_lines (entries_in rest)
+        facts_after asked.CodeInfoAndInlined c.start addr no_facts (entries_in (line_entry t c.start rows ++ rest))
+        ≡ facts_after asked.CodeInfoAndInlined c.start addr line_facts (entries_in rest)
     lines_front rest [] is =
-        ap (λ (rows : List (ℕ × Line)). told_after asked.CodeInfoAndInlined c.start addr (record { row = option_map (state_of t zero_header) (row_at addr None rows); frames = [] }) (entries_in rest)) is
+        ap (λ (rows : List (ℕ × Line)). facts_after asked.CodeInfoAndInlined c.start addr (record { row = option_map (state_of t zero_header) (row_at addr None rows); frames = [] }) (entries_in rest)) is
     lines_front rest (r ∷ rows) is =
         let text : List ℕ = line_table_bytes t c.start c.rows in
         let short : length text < 2 ^ 32 = subst (λ rs. length (line_table_bytes t c.start rs) < 2 ^ 32) is (subst (ShortLines c.start) (sym is) reads.short_lines) in
         let same : line_entry t c.start (r ∷ rows) ≡ entry_bytes line_table text = ap (λ rs. entry_bytes line_table (line_table_bytes t c.start rs)) is in
-        ap (λ l. told_after asked.CodeInfoAndInlined c.start addr nothing_told (entries_in (l ++ rest))) same
-        ∙ ap (told_after asked.CodeInfoAndInlined c.start addr nothing_told) (entry_front line_table text rest (λ none. omega arith) (omega arith) short)
-        ∙ ap (λ o. o >>= (λ more. told_after asked.CodeInfoAndInlined c.start addr more (entries_in rest))) lines_told
+        ap (λ l. facts_after asked.CodeInfoAndInlined c.start addr no_facts (entries_in (l ++ rest))) same
+        ∙ ap (facts_after asked.CodeInfoAndInlined c.start addr no_facts) (entry_front line_table text rest (λ none. omega arith) (omega arith) short)
+        ∙ ap (λ o. o >>= (λ more. facts_after asked.CodeInfoAndInlined c.start addr more (entries_in rest))) lines_give_facts
 
     tree_front : (row : Option LineTableRow) (after : List ℕ) (forest : Forest Called) → forest ≡ c.calls →
-        told_after asked.CodeInfoAndInlined c.start addr (record { row = row; frames = [] }) (entries_in (inline_entry t c forest ++ (zeros entry_head_len ++ after)))
+        facts_after asked.CodeInfoAndInlined c.start addr (record { row = row; frames = [] }) (entries_in (inline_entry t c forest ++ (zeros entry_head_len ++ after)))
         ≡ Some (record { row = row; frames = frames_by forest })
     tree_front row after NoCalls is = rw (entries_end after) refl
     tree_front row after (Call call within later) is =
         rw (entry_front inline_tree (tree_bytes t c) (zeros entry_head_len ++ after) (λ none. omega arith) (omega arith) (subst (ShortTree c) (sym is) reads.short_tree), entries_end after, tree_told row) refl
 
-    told_is : (after : List ℕ) →
-        told_of asked.CodeInfoAndInlined c.start addr (entries_in (line_entry t c.start c.rows ++ (inline_entry t c c.calls ++ (zeros entry_head_len ++ after))))
+    facts_are : (after : List ℕ) →
+        facts_of asked.CodeInfoAndInlined c.start addr (entries_in (line_entry t c.start c.rows ++ (inline_entry t c c.calls ++ (zeros entry_head_len ++ after))))
         ≡ Some (record { row = state; frames = frames_by c.calls })
-    told_is after = lines_front (inline_entry t c c.calls ++ (zeros entry_head_len ++ after)) c.rows refl ∙ tree_front state after c.calls refl
+    facts_are after = lines_front (inline_entry t c c.calls ++ (zeros entry_head_len ++ after)) c.rows refl ∙ tree_front state after c.calls refl
 
     -- and how it is joined
     abbrev place : Option (Site × List InnerCall)
-    place = answers.placed row calls
+    place = answers.location row calls
 
-    abbrev placed_from : Option (Site × List InnerCall) → Placed
-    placed_from None = record { name = c.name; site = None; calls = [] }
-    placed_from (Some at) = record { name = c.name; site = Some at.0; calls = at.1 }
+    abbrev location_from : Option (Site × List InnerCall) → Location
+    location_from None = record { name = c.name; site = None; calls = [] }
+    location_from (Some at) = record { name = c.name; site = Some at.0; calls = at.1 }
 
     calls_read : AllByRecursion CallReads calls
     calls_read = all_in (λ call. call.start) (λ call. call.size) CallReads addr c.calls reads.call_sites
 
     joined_by : (forest : Forest Called) → forest ≡ c.calls → (r : Option (ℕ × Line)) → IfSome r RowReads →
-        placed_by bytes c.name (option_map (state_of t zero_header) r) (frames_by forest) ≡ Some (placed_from (answers.placed r calls))
+        location_by bytes c.name (option_map (state_of t zero_header) r) (frames_by forest) ≡ Some (location_from (answers.location r calls))
     joined_by NoCalls is None here = refl
     joined_by NoCalls is (Some r) here =
         let none : calls ≡ [] = ap (calls_in (λ (call : Called). call.start) (λ call. call.size) addr) (sym is) in
@@ -173,16 +173,16 @@ module _ (bytes : List ℕ) (t : Tables) where
     joined_by (Call call within later) is None here = refl
     joined_by (Call call within later) is (Some r) here = rw (reads.name, seen_reads calls r calls_read here) refl
 
-    joined : placed_by bytes c.name state (frames_by c.calls) ≡ Some (placed_from place)
+    joined : location_by bytes c.name state (frames_by c.calls) ≡ Some (location_from place)
     joined = joined_by c.calls refl row (row_among RowReads addr None c.rows tt reads.row_sites)
 
-    symbol_from : (p : Option (Site × List InnerCall)) → gsym.symbol_at c.start c.size (Some (placed_from p)) ≡ Ok (Ok (answers.symbol_by c p))
+    symbol_from : (p : Option (Site × List InnerCall)) → gsym.symbol_at c.start c.size (Some (location_from p)) ≡ Ok (Ok (answers.symbol_by c p))
     symbol_from None = refl
     symbol_from (Some at) = refl
 
     -- a function's data gives what the plan answers
-    pub code_answers : (after : List ℕ) → gsym.symbol_at c.start c.size (placed_of bytes asked.CodeInfoAndInlined addr c.start (info_of t c after)) ≡ Ok (Ok (symbol_at addr c))
-    code_answers after = rw (reads.name, told_is after, joined) (symbol_from place)
+    pub code_answers : (after : List ℕ) → gsym.symbol_at c.start c.size (location_of bytes asked.CodeInfoAndInlined addr c.start (info_of t c after)) ≡ Ok (Ok (symbol_at addr c))
+    code_answers after = rw (reads.name, facts_are after, joined) (symbol_from place)
 
   -- bytes that hold a plan: each function at its data place
   pub record Holds (codes : List Code) : Type 0 where
@@ -219,7 +219,7 @@ module _ (bytes : List ℕ) (t : Tables) where
       from = (candidate_is (λ (q : ℕ × Code). q.1.start) (λ q. 0) addr holds.places p found).1.not_above
 
       by_inside : (b : Bool) → inside p.1.start p.1.size addr ≡ b →
-          cond b (gsym.symbol_at p.1.start p.1.size (placed_of bytes asked.CodeInfoAndInlined addr p.1.start (info_of t p.1 (holds.infos p there).0))) (Ok (Err reasons.UnknownAddr))
+          cond b (gsym.symbol_at p.1.start p.1.size (location_of bytes asked.CodeInfoAndInlined addr p.1.start (info_of t p.1 (holds.infos p there).0))) (Ok (Err reasons.UnknownAddr))
           ≡ cond b (Ok (Ok (symbol_at addr p.1))) (Ok (Err reasons.UnknownAddr))
       by_inside false is = refl
       by_inside true is =

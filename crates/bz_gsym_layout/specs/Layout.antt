@@ -16,7 +16,7 @@ use Rattle.bz_gsym_layout.specs.Nesting.Forest.{NoCalls, Call}
 use Rattle.bz_gsym_layout.specs.Numbering.{index_of, place_from, same_source, sources_in, stored, texts_in}
 use Rattle.bz_gsym_layout.specs.Plan.{Called, Code, Line, Source}
 
--- a number in so many bytes, the least first
+-- the low bytes of a number, so many of them, the least first; what doesn't fit is dropped
 abbrev pub word : ℕ → ℕ → List ℕ
 word zero number = []
 word (suc width) number = number % 256 ∷ word width (number / 256)
@@ -74,7 +74,7 @@ module _ (t : Tables) where
   abbrev pub line_table_bytes : ℕ → List (ℕ × Line) → List ℕ
   line_table_bytes start rows = min_delta ∷ max_delta ∷ first_line ∷ rows_bytes start first_line rows
 
-  -- and by the text of its name
+  -- a node up to its children, by its numbers and the text of its name
   abbrev pub node_bytes : ℕ → ℕ → List ℕ → ℕ → ℕ → ℕ → List ℕ
   node_bytes offset size name flag file line = numbers_bytes offset size (text_place name) flag file line
 

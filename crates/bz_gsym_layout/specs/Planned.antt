@@ -22,16 +22,16 @@ seen line (c ∷ calls) =
     (site_of c.at, record { name = c.name; site = Some inner.0 } ∷ inner.1)
 
 -- where an address lies, by the row that answers there and the calls around it
-abbrev pub placed : Option (ℕ × Line) → List Called → Option (Site × List Call)
-placed None calls = None
-placed (Some row) calls = Some (seen row.1 calls)
+abbrev pub location : Option (ℕ × Line) → List Called → Option (Site × List Call)
+location None calls = None
+location (Some row) calls = Some (seen row.1 calls)
 
 abbrev pub symbol_by : Code → Option (Site × List Call) → Resolved
 symbol_by c None = record { name = c.name; «module» = None; addr = c.start; size = Some c.size; lang = languages.Unknown; site = None; calls = [] }
 symbol_by c (Some place) = record { name = c.name; «module» = None; addr = c.start; size = Some c.size; lang = languages.Unknown; site = Some place.0; calls = place.1 }
 
 abbrev pub symbol_at : ℕ → Code → Resolved
-symbol_at addr c = symbol_by c (placed (row_at addr None c.rows) (calls_in (λ call. call.start) (λ call. call.size) addr c.calls))
+symbol_at addr c = symbol_by c (location (row_at addr None c.rows) (calls_in (λ call. call.start) (λ call. call.size) addr c.calls))
 
 abbrev pub by_code : ℕ → Option Code → Result (Result Resolved Reason) Error
 by_code addr None = Ok (Err reasons.UnknownAddr)

@@ -21,7 +21,7 @@ use std::alloc::Global;
 
 /// The numbers of a node.
 #[derive(Clone, Copy)]
-pub(crate) struct Numbers {
+pub(crate) struct NodeNumbers {
     /// How far behind a base its code begins.
     pub offset: u64,
     /// How many bytes its code has.
@@ -35,7 +35,7 @@ pub(crate) struct Numbers {
 }
 
 /// Writes a node up to its children.
-pub(crate) fn push_numbers(out: &mut Vec<u8>, node: Numbers, has_children: bool) -> Result<()>
+pub(crate) fn push_numbers(out: &mut Vec<u8>, node: NodeNumbers, has_children: bool) -> Result<()>
     ensures ok { OnOk result (out.new.items ≡ out.old.items ++ numbers_bytes node.offset node.size node.name (if has_children then some_children else no_children) node.file node.line) }
     ensures memory { IsOkUnless result LayoutError.OutOfMemory }
 {
@@ -114,7 +114,7 @@ fn push_call(
     ensures memory { IsOkUnless result LayoutError.OutOfMemory }
 {
     let base = end_lists(out, outer, innermost, node.depth as usize)?;
-    let numbers = Numbers {
+    let numbers = NodeNumbers {
         offset: node.start - base,
         size: node.size as u64,
         name,

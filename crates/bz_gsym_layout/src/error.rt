@@ -8,8 +8,11 @@ use std::alloc::{AllocError, AllocFailed};
 /// Why a plan isn't laid out.
 #[derive(Clone, Copy, Debug, PartialEq, Eq)]
 pub enum LayoutError {
-    /// The file would have so many bytes, which is more than 32 bits count.
-    TooLarge { bytes: u64 },
+    /// The file would be longer than 32 bits count.
+    TooLarge {
+        /// How many bytes it would have.
+        bytes: u64,
+    },
     /// Memory ran out, or the file would have more bytes than 64 bits count.
     OutOfMemory,
 }

@@ -10,7 +10,7 @@ ghost use Rattle.bz_gsym_layout.specs.Pass.{IsCodeOf};
 ghost use Rattle.bz_gsym_layout.specs.RowPass.{AreRowsOf, AreSourced};
 ghost use Rattle.bz_gsym_layout.specs.declared.error.LayoutError.{LayoutError};
 
-use crate::calls::{Numbers, push_calls, push_numbers};
+use crate::calls::{NodeNumbers, push_calls, push_numbers};
 use crate::error::Result;
 use crate::format::{NO_FILE, NO_LINE, ROOT_OFFSET};
 use crate::plan::{Function, Row};
@@ -85,7 +85,7 @@ fn push_inline_entry(
         return Ok(());
     }
     let mut text = Vec::with_capacity(alloc, function.calls.len().saturating_mul(CALL_LEN))?;
-    let root = Numbers {
+    let root = NodeNumbers {
         offset: ROOT_OFFSET,
         size: u64::from(function.size),
         name: places[function.name],

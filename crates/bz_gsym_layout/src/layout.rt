@@ -116,7 +116,7 @@ fn put_front(out: &mut Vec<u8>, front: &[u8])
 }
 
 /// The bytes of a GSYM file of version 1 that a plan is laid out in. TooLarge: they would be more than
-/// 32 bits count. OutOfMemory: memory ran out.
+/// 32 bits count. OutOfMemory: memory ran out, or they would be more than 64 bits count.
 pub fn write(alloc: Global, plan: &Plan<'_>) -> Result<Vec<u8>>
     requires { IsPlan plan.now }
     ensures ok { IfOk result (λ bytes. (bytes.items ≡ layout (codes_of plan.now)) × (length bytes.items < 2 ^ 32)) }

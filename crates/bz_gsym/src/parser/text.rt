@@ -1,7 +1,7 @@
 //! The texts of a string table.
 
 ghost use Rattle.std.specs.Prelude.{◌≡◌, option_map};
-ghost use Rattle.bz_gsym.specs.Strings.{is_plain, string_at};
+ghost use Rattle.bz_gsym.specs.Strings.{is_nonzero_ascii, string_at};
 
 use bz_base::{ByteTest, run_len, text_before_zero};
 use std::simd::prelude::*;
@@ -15,7 +15,7 @@ pub(crate) fn text_at(table: &[u8], place: usize) -> Option<&str>
         return None;
     }
     let bytes = &table[place..];
-    let len = run_len::<PlainBytes>(bytes);
+    let len = run_len::<AsciiBytes>(bytes);
     if len < bytes.len() && bytes[len] == 0 {
         // ASCII is UTF-8.
         return Some(unsafe { std::str::from_utf8_unchecked(&bytes[..len]) });
@@ -37,10 +37,10 @@ fn checked_text(bytes: &[u8]) -> Option<&str>
 }
 
 /// The test of the bytes of a text in ASCII.
-struct PlainBytes;
+struct AsciiBytes;
 
-impl ByteTest for PlainBytes {
-    ghost passes = { is_plain };
+impl ByteTest for AsciiBytes {
+    ghost passes = { is_nonzero_ascii };
 
     #[inline(always)]
     fn stops(text: &[u8]) -> u64 {

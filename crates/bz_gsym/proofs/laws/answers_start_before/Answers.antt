@@ -5,18 +5,18 @@ use Rattle.bz_base.specs.declared.types.FindSymOpts.{FindSymOpts}
 use Rattle.bz_base.proofs.NearestLemmas.{candidate_is}
 use Rattle.bz_gsym.specs.Entries.{Info, info_at}
 use Rattle.bz_gsym.specs.Header.{header_of}
-use Rattle.bz_gsym.specs.Joining.{Placed}
-use Rattle.bz_gsym.specs.Plain.{answer_of, based, nearest_start, nearest_symbol, placed_of, reaches, symbol_at, symbols, tried}
+use Rattle.bz_gsym.specs.Joining.{Location}
+use Rattle.bz_gsym.specs.Plain.{answer_of, based, nearest_start, nearest_symbol, location_of, reaches, symbol_at, symbols, tried}
 use Rattle.bz_gsym.proofs.laws.answers_start_before.Goals as goal
 
 -- a symbol at its place starts where it was said to
-placed_start : (start size : ℕ) (placed : Option Placed) (r : Resolved) → symbol_at start size placed ≡ Ok (Ok r) → r.addr ≡ start
-placed_start start size None r is = cc
-placed_start start size (Some placed) r is = cc
+location_start : (start size : ℕ) (location : Option Location) (r : Resolved) → symbol_at start size location ≡ Ok (Ok r) → r.addr ≡ start
+location_start start size None r is = cc
+location_start start size (Some location) r is = cc
 
 reached_start : (bytes : List ℕ) (opts : FindSymOpts) (addr start : ℕ) (info : Info) (b : Bool) → reaches start info.size addr ≡ b → (r : Resolved) →
     answer_of bytes opts addr start (Some info) ≡ Ok (Ok r) → r.addr ≡ start
-reached_start bytes opts addr start info true is r given = placed_start start info.size (placed_of bytes opts addr start info) r (rw is at given)
+reached_start bytes opts addr start info true is r given = location_start start info.size (location_of bytes opts addr start info) r (rw is at given)
 reached_start bytes opts addr start info false is r given = let none = rw is at given in cc
 
 told_start : (bytes : List ℕ) (opts : FindSymOpts) (addr start : ℕ) (info : Option Info) (r : Resolved) → answer_of bytes opts addr start info ≡ Ok (Ok r) → r.addr ≡ start

@@ -1,5 +1,6 @@
 use Rattle.std.proofs.Common.{◌≡◌, ◌-◌, false}
-use Rattle.bz_gsym.specs.InlineReader.{◌>>=◌, ranges_at}
+use Rattle.bz_base.specs.Bind.{◌>>=◌}
+use Rattle.bz_gsym.specs.InlineReader.{ranges_at}
 use Rattle.bz_gsym.specs.InlineRanges.{span_from}
 use Rattle.bz_gsym.proofs.inline.reader.read_ranges.Given as goal
 

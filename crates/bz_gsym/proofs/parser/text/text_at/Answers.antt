@@ -3,7 +3,7 @@ use Rattle.std.specs.Option.{option_and_then}
 use Rattle.std.proofs.lemmas.List.{take_rest}
 use Rattle.bz_base.specs.ZeroEnded.{zero_ended}
 use Rattle.bz_gsym.specs.Strings.{checked}
-use Rattle.bz_gsym.proofs.PlainTextLemmas.{plain_string, plain_utf8}
+use Rattle.bz_gsym.proofs.AsciiLemmas.{plain_string, plain_utf8}
 use Rattle.bz_gsym.proofs.parser.text.text_at.Goals as goal
 
 pub from_utf8_unchecked-requires : goal.from_utf8_unchecked-requires

@@ -2,18 +2,18 @@
 
 ghost use Rattle.std.specs.Prelude.{◌≡◌, ◌<◌, ◌∷◌, List, length, option_map, Some, IfOk, IfErr, IfSome};
 ghost use Rattle.bz_base.specs.Answer.{Call, call_of, site_of};
-ghost use Rattle.bz_base.specs.Lent.{IsLentCall, IsLentPlace};
+ghost use Rattle.bz_base.specs.Lent.{IsLentCall, IsLentSite};
 ghost use Rattle.bz_base.specs.Refusals.{WantsMemory};
 ghost use Rattle.bz_base.specs.declared.types.FindSymOpts.{FindSymOpts};
-ghost use Rattle.bz_gsym.specs.Joining.{at_site, placed_by, seen_from, seen_outside, site_in};
-ghost use Rattle.bz_gsym.specs.JoiningSeen.{IsLentPlaced, line_seen, placed_seen, told_seen};
-ghost use Rattle.bz_gsym.specs.Plain.{placed_of};
+ghost use Rattle.bz_gsym.specs.Joining.{at_site, location_by, seen_from, seen_outside, site_in};
+ghost use Rattle.bz_gsym.specs.JoiningSeen.{IsLentLocation, line_seen, location_seen, facts_seen};
+ghost use Rattle.bz_gsym.specs.Plain.{location_of};
 ghost use Rattle.bz_gsym.specs.Refusal.{Refuses};
 ghost use Rattle.bz_gsym.specs.Seen.{frame_seen, frames_seen, info_seen};
 ghost use Rattle.bz_gsym.specs.Strings.{string_at};
 ghost use Rattle.bz_gsym.specs.Tables.{strings};
 
-use crate::entries::{Told, told_of};
+use crate::entries::{Facts, facts_of};
 use crate::linetab::LineTableRow;
 use crate::parser::GsymContext;
 use crate::types::{AddrInfo, InlineFrame};
@@ -23,10 +23,10 @@ use std::borrow::CowStr;
 
 /// The name that a symbol has at an address, and where that lies in the source code.
 #[derive(Drop)]
-pub(crate) struct Placed<'a> {
+pub(crate) struct Location<'a> {
     /// The name.
     pub name: &'a str,
-    /// The place in the function of that name, if one is known.
+    /// The site in the function of that name, if one is known.
     pub code_info: Option<CodeInfo<'a>>,
     /// The calls that were inlined there, the outermost first.
     pub inlined: Vec<InlinedFn<'a>>,
@@ -40,51 +40,51 @@ struct SourceLine<'a> {
     line: u32,
 }
 
-/// The name and the place of an address in a symbol that begins at `start`, as far as they are asked
+/// The name and the site of an address in a symbol that begins at `start`, as far as they are asked
 /// for. InvalidData: the name, or what is asked for, isn't in the format.
-pub(crate) fn placed_of<'a>(
+pub(crate) fn location_of<'a>(
     context: &GsymContext<'a>,
     alloc: Global,
     opts: &FindSymOpts,
     addr: Addr,
     start: Addr,
     info: &AddrInfo<'a>,
-) -> Result<Placed<'a>>
-    ensures ok { IfOk result (λ placed. placed_of context.now opts.now addr start (info_seen info.now) ≡ Some (placed_seen placed)) }
-    ensures lent { IfOk result IsLentPlaced }
-    ensures refusal { IfErr result (Refuses (placed_of context.now opts.now addr start (info_seen info.now))) }
+) -> Result<Location<'a>>
+    ensures ok { IfOk result (λ location. location_of context.now opts.now addr start (info_seen info.now) ≡ Some (location_seen location)) }
+    ensures lent { IfOk result IsLentLocation }
+    ensures refusal { IfErr result (Refuses (location_of context.now opts.now addr start (info_seen info.now))) }
     ensures memory { IfErr result (WantsMemory (opts.now ≡ FindSymOpts.CodeInfoAndInlined)) }
 {
     let Some(name) = context.get_str(info.name as usize) else {
         return Err(Error::InvalidData);
     };
-    let told = told_of(alloc, opts, start, addr, info.bytes)?;
-    placed_by(context, alloc, info.name, name, &told)
+    let facts = facts_of(alloc, opts, start, addr, info.bytes)?;
+    location_by(context, alloc, info.name, name, &facts)
 }
 
-/// The name and the place by what is told of the address. Without a line nothing is known beside the
+/// The name and the site by what is told of the address. Without a line nothing is known beside the
 /// symbol's own name, which stands at a place of the string table.
-fn placed_by<'a>(
+fn location_by<'a>(
     context: &GsymContext<'a>,
     alloc: Global,
     own: u32,
     name: &'a str,
-    told: &Told,
-) -> Result<Placed<'a>>
+    facts: &Facts,
+) -> Result<Location<'a>>
     requires { string_at (strings context.now) own ≡ Some name.now }
-    ensures ok { IfOk result (λ placed. placed_by context.now name.now (told_seen told.now).row (told_seen told.now).frames ≡ Some (placed_seen placed)) }
-    ensures lent { IfOk result IsLentPlaced }
-    ensures refusal { IfErr result (Refuses (placed_by context.now name.now (told_seen told.now).row (told_seen told.now).frames)) }
-    ensures memory { IfErr result (WantsMemory (0 < length told.now.frames.items)) }
+    ensures ok { IfOk result (λ location. location_by context.now name.now (facts_seen facts.now).row (facts_seen facts.now).frames ≡ Some (location_seen location)) }
+    ensures lent { IfOk result IsLentLocation }
+    ensures refusal { IfErr result (Refuses (location_by context.now name.now (facts_seen facts.now).row (facts_seen facts.now).frames)) }
+    ensures memory { IfErr result (WantsMemory (0 < length facts.now.frames.items)) }
 {
-    let Some(row) = told.row else {
-        return Ok(Placed {
+    let Some(row) = facts.row else {
+        return Ok(Location {
             name,
             code_info: None,
             inlined: Vec::new(alloc),
         });
     };
-    let Some((first, calls)) = told.frames.split_first() else {
+    let Some((first, calls)) = facts.frames.split_first() else {
         return seen_from(context, alloc, name, row, &[]);
     };
     let Some(name) = name_at(context, own, name, first.name) else {
@@ -112,9 +112,9 @@ fn seen_from<'a>(
     name: &'a str,
     row: LineTableRow,
     calls: &[InlineFrame],
-) -> Result<Placed<'a>>
-    ensures ok { IfOk result (λ placed. option_map (at_site name.now) (seen_from context.now row (frames_seen calls.now)) ≡ Some (placed_seen placed)) }
-    ensures lent { IfOk result IsLentPlaced }
+) -> Result<Location<'a>>
+    ensures ok { IfOk result (λ location. option_map (at_site name.now) (seen_from context.now row (frames_seen calls.now)) ≡ Some (location_seen location)) }
+    ensures lent { IfOk result IsLentLocation }
     ensures refusal { IfErr result (Refuses (seen_from context.now row (frames_seen calls.now))) }
     ensures memory { IfErr result (WantsMemory (0 < length calls.now)) }
 {
@@ -133,7 +133,7 @@ fn seen_from<'a>(
     }
     // The innermost call came first.
     inlined.reverse();
-    Ok(Placed {
+    Ok(Location {
         name,
         code_info: Some(code_info(site)),
         inlined,
@@ -175,11 +175,11 @@ fn site_in<'a>(context: &GsymContext<'a>, file: u32, line: u32) -> Option<Source
     })
 }
 
-/// A line of a source file as a place.
+/// A line of a source file as a site.
 #[inline(always)]
 fn code_info(at: SourceLine<'_>) -> CodeInfo<'_>
     ensures place { site_of result ≡ line_seen at.entry }
-    ensures lent { IsLentPlace result }
+    ensures lent { IsLentSite result }
 {
     CodeInfo {
         dir: Some(CowStr::Borrowed(at.dir)),

@@ -7,7 +7,7 @@ use Rattle.bz_base.proofs.SeenLemmas.{line_unknown, seen_none, seen_step}
 use Rattle.bz_gsym.specs.Joining.{at_site}
 use Rattle.bz_gsym.specs.JoiningSeen.{line_seen}
 use Rattle.bz_gsym.specs.Seen.{frame_seen, frames_seen}
-use Rattle.bz_gsym.proofs.places.seen_from.Goals as goal
+use Rattle.bz_gsym.proofs.locations.seen_from.Goals as goal
 
 pub returns-in_default-clause-refusal : goal.returns-in_default-clause-refusal
 returns-in_default-clause-refusal c = line_unknown _ _ _ (frames_seen c.args.calls.now) c.in_default.ensures

@@ -6,7 +6,7 @@ use Rattle.bz_base.specs.Lent.{IsLentCall}
 use Rattle.bz_gsym.specs.Joining.{seen_from}
 use Rattle.bz_gsym.specs.JoiningSeen.{line_seen}
 use Rattle.bz_gsym.specs.Seen.{frame_seen}
-use Rattle.bz_gsym.proofs.places.seen_from.Given as goal
+use Rattle.bz_gsym.proofs.locations.seen_from.Given as goal
 
 -- the place and the calls so far are what is seen from outside the calls that were taken, of which the innermost came first
 abbrev pub invariant-loop-left : goal.invariant-loop-left
