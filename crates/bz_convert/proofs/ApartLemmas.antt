@@ -11,7 +11,7 @@ use Rattle.bz_base.proofs.ViewLemmas.{covering_of_table}
 use Rattle.bz_base.specs.Nearest.{candidate, comes_first, first_of, if_covers}
 use Rattle.bz_base.specs.Span.{covers}
 use Rattle.bz_breakpad_function.specs.InOrder.{lines_in_order}
-use Rattle.bz_breakpad_function.specs.Places.{line_at}
+use Rattle.bz_breakpad_function.specs.Locations.{line_at}
 use Rattle.bz_breakpad_lines.specs.Table.{SourceLine, Function}
 use Rattle.bz_breakpad_lines.specs.Told.{line_seen}
 use Rattle.bz_breakpad_lines.specs.declared.record.SourceLine.{SourceLine as KeptLine}

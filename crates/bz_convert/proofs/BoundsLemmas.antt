@@ -8,13 +8,13 @@ use Rattle.std.specs.Str.{IsUtf8}
 use Rattle.std.proofs.lemmas.List.{length-append, take_at, drop_at}
 use Rattle.std.proofs.lemmas.Map.Entries.{place_from_lookup}
 use Rattle.std.proofs.lemmas.Str.{IsCharBoundary-after_ascii, IsCharBoundary-before_ascii, IsUtf8-append, IsUtf8-drop, IsUtf8-take}
+use Rattle.bz_base.specs.Bind.{◌>>=◌}
 use Rattle.bz_base.specs.Path.{AreDead, IsDirectory, IsLastLive, IsSplit, root, begins_with_slash, slash, split}
 use Rattle.bz_bytes.proofs.SplitLemmas.{split_found}
 use Rattle.bz_breakpad_lines.specs.Grammar.{IsFile}
 use Rattle.bz_breakpad_lines.specs.Names.{name_for}
 use Rattle.bz_breakpad_lines.specs.Printed.{FunctionFits, IsPrintable, file_record, inlinee_one, line_one, origin_record}
 use Rattle.bz_breakpad_lines.specs.Reader.{Reading, reading_in, table_in, table_read}
-use Rattle.bz_breakpad_lines.specs.Reads.{◌>>=◌}
 use Rattle.bz_breakpad_lines.specs.Table.{SourceLine, Inlinee, Function, Table}
 use Rattle.bz_breakpad_lines.specs.Contexts.Record.{OfFunc}
 use Rattle.bz_breakpad_lines.specs.Written.{RecordFits}

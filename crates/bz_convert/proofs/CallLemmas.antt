@@ -5,7 +5,7 @@ use Rattle.std.specs.List.{filter, list_any, slice_get}
 use Rattle.std.proofs.lemmas.Bool.{and_parts, cases_lt, eq-eqb, eqb-true, leb-true, lt-ltb, ne_eqb, true≢false}
 use Rattle.bz_base.specs.Nearest.{IsTable}
 use Rattle.bz_base.specs.Span.{inside, last_address}
-use Rattle.bz_breakpad_function.specs.Places.{calls_around}
+use Rattle.bz_breakpad_function.specs.Locations.{calls_around}
 use Rattle.bz_breakpad_lines.specs.Table.{Inlinee, Function}
 use Rattle.bz_search.proofs.SortingLaws.{sorted_table}
 use Rattle.bz_convert.specs.Bounds.{In}

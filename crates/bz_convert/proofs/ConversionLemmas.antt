@@ -6,7 +6,7 @@ use Rattle.std.proofs.lemmas.Bool.{and_parts, leb-true}
 use Rattle.std.proofs.lemmas.Option.{slice_get-map}
 use Rattle.bz_base.specs.Span.{last_address}
 use Rattle.bz_breakpad_function.specs.InOrder.{ordered_functions}
-use Rattle.bz_breakpad_function.specs.Places.{line_at}
+use Rattle.bz_breakpad_function.specs.Locations.{line_at}
 use Rattle.bz_breakpad_lines.specs.Table.{Inlinee, Function, Table}
 use Rattle.bz_breakpad_lines.proofs.Turns.{map_some}
 use Rattle.bz_search.proofs.SortingLaws.{sorted_table}

@@ -8,7 +8,7 @@ use Rattle.std.proofs.lemmas.Option.{none-some, same_Some}
 use Rattle.bz_base.specs.Chain.{around, chain, chain_from, fits, inner, inner_of, link}
 use Rattle.bz_search.proofs.InnerLemmas.{Finds, inner_finds}
 use Rattle.bz_breakpad_lines.specs.Table.{Inlinee}
-use Rattle.bz_breakpad_function.specs.Places.{calls_around}
+use Rattle.bz_breakpad_function.specs.Locations.{calls_around}
 use Rattle.bz_convert.specs.Bounds.{In}
 use Rattle.bz_convert.specs.Plan.{distinct_calls, same_call}
 

@@ -7,7 +7,7 @@ use Rattle.std.proofs.lemmas.Bool.{le-leb, ltb-true, ne_eqb}
 use Rattle.std.proofs.lemmas.Grind.{flat_map-append}
 use Rattle.bz_base.specs.Span.{last_address}
 use Rattle.bz_breakpad_lines.specs.Names.{name_for}
-use Rattle.bz_breakpad_function.specs.Places.{line_at}
+use Rattle.bz_breakpad_function.specs.Locations.{line_at}
 use Rattle.bz_breakpad_lines.specs.Table.{SourceLine, Inlinee, Function, Table}
 use Rattle.bz_convert.specs.Fault.{has_zero}
 use Rattle.bz_convert.specs.Bounds.{AreBounded, In, IsBounded}

@@ -7,6 +7,7 @@ use Rattle.std.proofs.lemmas.Bool.Decides.{nat_tests}
 use Rattle.std.proofs.lemmas.List.{map-append}
 use Rattle.std.proofs.lemmas.Option.{none-some, same_Some}
 use Rattle.bz_base.specs.Answer.{Call as Inner, Site}
+use Rattle.bz_base.specs.Bind.{◌>>=◌}
 use Rattle.bz_base.specs.Nearest.{IsTable, candidate, if_covers, nearest_covering}
 use Rattle.bz_base.specs.Path.{begins_with_slash, path_text, split}
 use Rattle.bz_base.specs.Span.{covers, inside, last_address}
@@ -15,10 +16,9 @@ use Rattle.bz_base.specs.declared.types.Reason.TheVariants as reasons
 use Rattle.bz_search.proofs.NearestLemmas.{candidate_is}
 use Rattle.bz_breakpad_lines.specs.Names.{name_for}
 use Rattle.bz_breakpad.specs.Plain as breakpad
-use Rattle.bz_breakpad.specs.Plain.{by_function, by_place, by_records, function_at}
+use Rattle.bz_breakpad.specs.Plain.{by_function, by_location, by_records, function_at}
 use Rattle.bz_breakpad_function.specs.InOrder.{ordered_functions}
-use Rattle.bz_breakpad_function.specs.Places.{by_line, by_seen, calls_around, line_at, placed_at, seen_from, seen_outside, site_in}
-use Rattle.bz_breakpad_lines.specs.Reads.{◌>>=◌}
+use Rattle.bz_breakpad_function.specs.Locations.{by_line, by_seen, calls_around, line_at, location_at, seen_from, seen_outside, site_in}
 use Rattle.bz_breakpad_lines.specs.Table.{SourceLine, Inlinee, Function, PublicSymbol, Table}
 use Rattle.bz_convert.specs.Alike.{AnswersAlike, IsAlike, KnowAlike, joined, joined_call}
 use Rattle.bz_convert.specs.Bounds.{AreBounded, In}
@@ -27,7 +27,7 @@ use Rattle.bz_gsym_layout.specs.Nesting.{Forest, calls_in, map_forest, nested}
 use Rattle.bz_gsym_layout.specs.Nesting.Forest.{NoCalls, Call}
 use Rattle.bz_convert.specs.Plan.{called, calls_by, changes, code_of, distinct_calls, has_size, is_checked, line_of, located, plan, same_line, sized_calls, source_by}
 use Rattle.bz_gsym_layout.specs.Plan.{Called, Code, Line, no_source}
-use Rattle.bz_gsym_layout.specs.Planned.{by_code, placed, planned, seen, site_of, symbol_at, symbol_by}
+use Rattle.bz_gsym_layout.specs.Planned.{by_code, location, planned, seen, site_of, symbol_at, symbol_by}
 use Rattle.bz_convert.specs.Rows.{rows_from}
 use Rattle.bz_gsym_layout.specs.Rows.{row_at}
 use Rattle.bz_convert.proofs.CallLemmas.{is_table, tree_around}
@@ -211,7 +211,7 @@ module _ (table : Table) where
 
     -- the function answers alike
     by_row : (r : Option (ℕ × SourceLine)) → row ≡ r → (o : Option SourceLine) → line_at addr f.lines ≡ o → option_map (λ (x : ℕ × SourceLine). x.1) r ≡ o →
-        KnowAlike (by_place table f addr (by_line table asked.CodeInfoAndInlined f addr o)) (Ok (Ok (symbol_by (code_of table f) (placed (option_map (λ (x : ℕ × SourceLine). (x.0, line_of table x.1)) r) code_calls))))
+        KnowAlike (by_location table f addr (by_line table asked.CodeInfoAndInlined f addr o)) (Ok (Ok (symbol_by (code_of table f) (location (option_map (λ (x : ℕ × SourceLine). (x.0, line_of table x.1)) r) code_calls))))
     by_row None is None at same = record { name = refl; addr = refl; size = refl; «module» = refl; site = refl; calls = refl }
     by_row None is (Some l) at same = absurd (none-some l same)
     by_row (Some x) is None at same = absurd (none-some x.1 (sym same))
@@ -223,14 +223,14 @@ module _ (table : Table) where
         let here : IsAlike (breakpad.symbol_at table f addr (record { site = Some alike.found.0; calls = alike.found.1 })) (symbol_by (code_of table f) (Some (seen (line_of table l) (map (called table) around)))) =
         record { name = refl; addr = refl; size = refl; «module» = refl; site = ap Some alike.place; calls = alike.others } in
         let P : Option (Site × List Inner) → SourceLine → List Called → Type 0 =
-        λ o m cs. KnowAlike (by_place table f addr (by_seen o)) (Ok (Ok (symbol_by (code_of table f) (Some (seen (line_of table m) cs))))) in
+        λ o m cs. KnowAlike (by_location table f addr (by_seen o)) (Ok (Ok (symbol_by (code_of table f) (Some (seen (line_of table m) cs))))) in
         subst (λ o. P o x.1 code_calls) (sym alike.known)
         (subst (λ m. P (Some alike.found) m code_calls) (sym e)
         (subst (λ cs. P (Some alike.found) l cs) (sym (calls_are x (changes f) is refl)) here))
 
-    pub code_alike : KnowAlike (by_place table f addr (placed_at table asked.CodeInfoAndInlined f addr)) (Ok (Ok (symbol_at addr (code_of table f))))
+    pub code_alike : KnowAlike (by_location table f addr (location_at table asked.CodeInfoAndInlined f addr)) (Ok (Ok (symbol_at addr (code_of table f))))
     code_alike =
-        subst (λ r. KnowAlike (by_place table f addr (placed_at table asked.CodeInfoAndInlined f addr)) (Ok (Ok (symbol_by (code_of table f) (placed r code_calls))))) (sym code_row_is)
+        subst (λ r. KnowAlike (by_location table f addr (location_at table asked.CodeInfoAndInlined f addr)) (Ok (Ok (symbol_by (code_of table f) (location r code_calls))))) (sym code_row_is)
         (by_row row refl (line_at addr f.lines) refl row_is)
 
   -- the whole file

@@ -1,5 +1,4 @@
--- The rows of a function are those at the points where a line record starts, has its second address, or ends: between them the same
--- record answers.
+-- The rows of a function are those at its points: between points the same record answers.
 use Rattle.std.proofs.Common.{◌≡◌, ◌⊎◌, inl, inr, ℕ, zero, suc, ◌+◌, ◌-◌, ◌<◌, ◌≤◌, ◌&&◌, Bool, true, false, cond, List, [], ◌∷◌, ◌++◌, Option, Some, None, refl, sym, ap, subst, ◌∙◌, arith, append_assoc, append-nil}
 use Rattle.std.specs.Prelude.{is_none, is_some}
 use Rattle.std.specs.List.{slice_get}

@@ -9,7 +9,7 @@ use Rattle.std.proofs.lemmas.Option.{none-some, same_Some, slice_get-map}
 use Rattle.bz_base.specs.Nearest.{IsTable}
 use Rattle.bz_base.specs.Span.{last_address}
 use Rattle.bz_breakpad_function.specs.InOrder.{lines_in_order}
-use Rattle.bz_breakpad_function.specs.Places.{line_at}
+use Rattle.bz_breakpad_function.specs.Locations.{line_at}
 use Rattle.bz_breakpad_lines.specs.Table.{SourceLine, Function}
 use Rattle.bz_breakpad_lines.specs.Told.{line_seen}
 use Rattle.bz_breakpad_lines.specs.declared.record.SourceLine.{SourceLine as KeptLine}

@@ -5,7 +5,7 @@ use Rattle.std.specs.List.{find, list_any}
 use Rattle.bz_base.specs.Byte.{zero_byte}
 use Rattle.bz_base.specs.Span.{inside}
 use Rattle.bz_breakpad_function.specs.InOrder.{calls_in_order, lines_in_order, ordered_functions}
-use Rattle.bz_breakpad_function.specs.Places.{line_at}
+use Rattle.bz_breakpad_function.specs.Locations.{line_at}
 use Rattle.bz_breakpad_lines.specs.Names.{name_for}
 use Rattle.bz_breakpad_lines.specs.Table.{Inlinee, Function, SourceLine, Table}
 use Rattle.bz_convert.specs.Plan.{code_of, has_size, is_checked, located, same_call}
@@ -20,6 +20,7 @@ abbrev pub ◌or◌ : {A : Type 0} → Option A → Option A → Option A
 None or other = other
 (Some fault) or other = Some fault
 
+-- a fault, if a test passes
 abbrev pub only_if : {A : Type 0} → Bool → Option A → Option A
 only_if test o = if test then o else None
 
@@ -56,7 +57,7 @@ not_nested f = option_map (λ i. NotNested f.start i.depth i.start) (find (λ i.
 abbrev pub overlap : Function → Option ConvertError
 overlap f = option_map (λ i. Overlap f.start i.depth i.start) (find (overlaps f) (calls_in_order f))
 
--- of line records and inlined calls of a function that starts there
+-- the first id that names nothing, among the line records or inlined calls of a function that starts at func
 module _ (table : Table) (func : ℕ) where
   abbrev pub line_file_fault : List SourceLine → Option ConvertError
   line_file_fault lines = option_map (λ l. NoFile func l.file) (find (λ l. is_none (located table l.file)) lines)
@@ -79,7 +80,7 @@ no_origin table f = origin_fault table f.start (calls_in_order f)
 abbrev pub has_zero : List ℕ → Bool
 has_zero text = list_any (λ b. b == zero_byte) text
 
--- of the texts that are laid out for the function
+-- a zero byte in a text that is laid out for the function
 abbrev pub zero_in : Table → Function → Option ConvertError
 zero_in table f = if list_any has_zero (texts_of (code_of table f)) then Some (ZeroByte f.start) else None
 

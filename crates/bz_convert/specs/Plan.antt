@@ -2,13 +2,13 @@
 -- is this repository's own, so that the GSYM file answers alike (`Alike`).
 use Rattle.std.specs.Prelude.{ℕ, ◌+◌, Bool, ◌==◌, ◌&&◌, not, nat_le, nat_lt, List, [], ◌∷◌, map, Option, None, option_map, unwrap_or, if◌then◌else◌}
 use Rattle.std.specs.List.{filter, list_any}
+use Rattle.bz_base.specs.Bind.{◌>>=◌}
 use Rattle.bz_base.specs.Path.{split}
 use Rattle.bz_base.specs.Sorting.{sorted}
 use Rattle.bz_base.specs.Span.{last_address}
 use Rattle.bz_breakpad_function.specs.InOrder.{ordered_functions}
-use Rattle.bz_breakpad_function.specs.Places.{line_at}
+use Rattle.bz_breakpad_function.specs.Locations.{line_at}
 use Rattle.bz_breakpad_lines.specs.Names.{name_for}
-use Rattle.bz_breakpad_lines.specs.Reads.{◌>>=◌}
 use Rattle.bz_breakpad_lines.specs.Table.{SourceLine, Inlinee, Function, Table}
 use Rattle.bz_convert.specs.Rows.{rows_from}
 use Rattle.bz_gsym_layout.specs.Nesting.{Forest, map_forest, nested}

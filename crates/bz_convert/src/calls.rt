@@ -1,17 +1,16 @@
 //! Whether inlined calls are nested and apart.
 
-ghost use Rattle.std.specs.Prelude.{◌≡◌, ◌+◌, map, option_map, IfOk, IsOkUnless};
+ghost use Rattle.std.specs.Prelude.{◌≡◌, ◌+◌, map, option_map, IfOk};
 ghost use Rattle.std.specs.List.{find};
-ghost use Rattle.bz_base.specs.declared.error.Error.{Error};
 ghost use Rattle.bz_breakpad.specs.Lent.{kept_inlinee};
 ghost use Rattle.bz_breakpad_function.specs.InOrder.{calls_in_order};
 ghost use Rattle.bz_convert.specs.Fault.{is_over, lies_inside, not_nested, overlap, ◌or◌};
 ghost use Rattle.bz_convert.specs.Reach.{AreByDepth, AreReaches, reach_after};
 
 use crate::error::ConvertError;
-use bz_base::{Nested, Result, Spanned, inner_in, inside};
+use bz_base::{Nested, Spanned, inner_in, inside};
 use bz_breakpad::{Function, Inlinee};
-use std::alloc::Global;
+use std::alloc::{AllocError, Global};
 
 /// How far an inlined call and those of its depth in front of it reach.
 #[derive(Clone, Copy)]
@@ -51,10 +50,9 @@ pub(crate) fn calls_fault(
     alloc: Global,
     function: &Function<'_>,
     calls: &[Inlinee],
-) -> Result<Option<ConvertError>>
+) -> Result<Option<ConvertError>, AllocError>
     requires { map kept_inlinee calls.now ≡ calls_in_order function.now }
-    ensures fault { IfOk result (λ fault. fault ≡ (not_nested function.now or overlap function.now)) }
-    ensures memory { IsOkUnless result Error.OutOfMemory }
+    ensures { IfOk result (λ fault. fault ≡ (not_nested function.now or overlap function.now)) }
 {
     let reaches = reaches_of(alloc, calls)?;
     if let Some(fault) = not_nested(function, &reaches, calls) {
@@ -88,10 +86,9 @@ fn reach_after(last: Option<Reach>, call: &Inlinee) -> Reach
 }
 
 /// How far calls reach that stand by depth and start.
-fn reaches_of(alloc: Global, calls: &[Inlinee]) -> Result<Vec<Reach>>
+fn reaches_of(alloc: Global, calls: &[Inlinee]) -> Result<Vec<Reach>, AllocError>
     requires { AreByDepth (map kept_inlinee calls.now) }
-    ensures reaches { IfOk result (λ reaches. AreReaches (map kept_inlinee calls.now) reaches.items) }
-    ensures memory { IsOkUnless result Error.OutOfMemory }
+    ensures { IfOk result (λ reaches. AreReaches (map kept_inlinee calls.now) reaches.items) }
 {
     let mut reaches = Vec::with_capacity(alloc, calls.len())?;
     let mut last = None;

@@ -1,7 +1,6 @@
 //! Which ids of a file are known to name texts without a zero byte.
 
-ghost use Rattle.std.specs.Prelude.{◌≡◌, ℕ, true, is_none, Some, slice_get, unwrap_or, [], IfOk, IsOkUnless};
-ghost use Rattle.bz_base.specs.declared.error.Error.{Error};
+ghost use Rattle.std.specs.Prelude.{◌≡◌, ℕ, true, is_none, Some, slice_get, unwrap_or, [], IfOk};
 ghost use Rattle.bz_breakpad_lines.specs.Names.{name_for};
 ghost use Rattle.bz_breakpad_lines.specs.Reader.{table_in};
 ghost use Rattle.bz_breakpad_lines.specs.Table.{Table};
@@ -10,9 +9,8 @@ ghost use Rattle.bz_convert.specs.Ids.{AreClean, IsCleanFile, IsCleanOrigin, fil
 ghost use Rattle.bz_convert.specs.Plan.{located};
 
 use crate::ids::{file_has_zero, has_zero, located};
-use bz_base::Result;
 use bz_breakpad::SymbolFile;
-use std::alloc::Global;
+use std::alloc::{AllocError, Global};
 use std::marker::Model;
 
 /// A file, of whose ids some are known to name texts without a zero byte. Contracts see the file.
@@ -37,10 +35,9 @@ impl<'a> Model for CleanIds<'a> {
 }
 
 impl<'a> CleanIds<'a> {
-    /// The ids of a file, of which those up to their count are looked at.
-    pub fn new(alloc: Global, file: &'a SymbolFile) -> Result<CleanIds<'a>>
-        ensures ok { IfOk result (λ ids. ids ≡ file.now) }
-        ensures memory { IsOkUnless result Error.OutOfMemory }
+    /// The ids of a file, after a look at those from 0 on, as many as the file has.
+    pub fn new(alloc: Global, file: &'a SymbolFile) -> Result<CleanIds<'a>, AllocError>
+        ensures { IfOk result (λ ids. ids ≡ file.now) }
     {
         let files = clean_files(alloc, file)?;
         let origins = clean_origins(alloc, file)?;
@@ -55,60 +52,41 @@ impl<'a> CleanIds<'a> {
     pub(crate) fn lacks_file(&self, id: u32) -> bool
         ensures { (table : Table) → table_in self.now ≡ Some table → result ≡ is_none (located table id) }
     {
-        if is_set(&self.files, id) {
-            return false;
-        }
-        located(self.file, id).is_none()
+        !is_set(&self.files, id) && located(self.file, id).is_none()
     }
 
     /// Whether no origin of an id is known.
     pub(crate) fn lacks_origin(&self, id: u32) -> bool
         ensures { (table : Table) → table_in self.now ≡ Some table → result ≡ is_none (name_for id table.origins) }
     {
-        if is_set(&self.origins, id) {
-            return false;
-        }
-        self.file.origin(id).is_none()
+        !is_set(&self.origins, id) && self.file.origin(id).is_none()
     }
 
-    /// Whether directory or name of the file of an id hold a zero byte.
+    /// Whether the directory or name of an id's file holds a zero byte.
     pub(crate) fn file_has_zero(&self, id: u32) -> bool
         ensures { (table : Table) → table_in self.now ≡ Some table → result ≡ file_has_zero table id }
     {
-        if is_set(&self.files, id) {
-            return false;
-        }
-        file_has_zero(self.file, id)
+        !is_set(&self.files, id) && file_has_zero(self.file, id)
     }
 
     /// Whether the name of an origin holds a zero byte.
     pub(crate) fn origin_has_zero(&self, id: u32) -> bool
         ensures { (table : Table) → table_in self.now ≡ Some table → result ≡ has_zero (unwrap_or (name_for id table.origins) []) }
     {
-        if is_set(&self.origins, id) {
-            return false;
-        }
-        match self.file.origin(id) {
-            Some(name) => has_zero(name),
-            None => false,
-        }
+        !is_set(&self.origins, id) && self.file.origin(id).is_some_and(has_zero)
     }
 }
 
-/// Whether what is told of ids from 0 on holds of one.
+/// Whether the flag of an id is set, where the flags are those of the ids from 0 on.
 fn is_set(flags: &[bool], id: u32) -> bool
     ensures { result ≡ true → slice_get flags.now id ≡ Some true }
 {
-    match flags.get(id as usize) {
-        Some(flag) => *flag,
-        None => false,
-    }
+    flags.get(id as usize).copied().unwrap_or(false)
 }
 
 /// Which ids of FILE records, from 0 on, name a source file without a zero byte.
-fn clean_files(alloc: Global, file: &SymbolFile) -> Result<Vec<bool>>
-    ensures clean { IfOk result (λ flags. (table : Table) → table_in file.now ≡ Some table → (id : ℕ) → slice_get flags.items id ≡ Some true → IsCleanFile table id) }
-    ensures memory { IsOkUnless result Error.OutOfMemory }
+fn clean_files(alloc: Global, file: &SymbolFile) -> Result<Vec<bool>, AllocError>
+    ensures { IfOk result (λ flags. (table : Table) → table_in file.now ≡ Some table → (id : ℕ) → slice_get flags.items id ≡ Some true → IsCleanFile table id) }
 {
     let count = file.file_count().min(u32::MAX as usize) as u32;
     let mut flags = Vec::with_capacity(alloc, count as usize)?;
@@ -119,9 +97,8 @@ fn clean_files(alloc: Global, file: &SymbolFile) -> Result<Vec<bool>>
 }
 
 /// Which ids of INLINE_ORIGIN records, from 0 on, name a text without a zero byte.
-fn clean_origins(alloc: Global, file: &SymbolFile) -> Result<Vec<bool>>
-    ensures clean { IfOk result (λ flags. (table : Table) → table_in file.now ≡ Some table → (id : ℕ) → slice_get flags.items id ≡ Some true → IsCleanOrigin table id) }
-    ensures memory { IsOkUnless result Error.OutOfMemory }
+fn clean_origins(alloc: Global, file: &SymbolFile) -> Result<Vec<bool>, AllocError>
+    ensures { IfOk result (λ flags. (table : Table) → table_in file.now ≡ Some table → (id : ℕ) → slice_get flags.items id ≡ Some true → IsCleanOrigin table id) }
 {
     let count = file.origin_count().min(u32::MAX as usize) as u32;
     let mut flags = Vec::with_capacity(alloc, count as usize)?;
@@ -142,8 +119,5 @@ fn is_clean_file(file: &SymbolFile, id: u32) -> bool
 fn is_clean_origin(file: &SymbolFile, id: u32) -> bool
     ensures { result ≡ true → (table : Table) → table_in file.now ≡ Some table → IsCleanOrigin table id }
 {
-    match file.origin(id) {
-        Some(name) => !has_zero(name),
-        None => false,
-    }
+    file.origin(id).is_some_and(|name| !has_zero(name))
 }

@@ -7,8 +7,7 @@ ghost use Rattle.bz_convert.specs.declared.error.ConvertError.TheVariants.{OutOf
 use std::alloc::{AllocError, AllocFailed};
 use thiserror::Error;
 
-/// A refusal of a conversion, with the record that causes it. Addresses are relative to the module's
-/// base.
+/// A refusal of a conversion. Addresses are relative to the module's base.
 #[derive(Clone, Copy, Debug, PartialEq, Eq, Drop, Error)]
 pub enum ConvertError {
     /// A function has size 0.
@@ -31,7 +30,8 @@ pub enum ConvertError {
         /// The least such address of the function.
         addr: u64,
     },
-    /// An inlined call doesn't lie wholly inside its function, or inside a call of the depth before.
+    /// An inlined call of some size doesn't lie wholly inside its function, if its depth is 0. A deeper one
+    /// doesn't lie wholly inside a call of the depth before.
     #[error("the function at {func:#x} has a call of depth {depth} at {addr:#x} that isn't nested")]
     NotNested {
         /// Where the function starts.
@@ -51,7 +51,7 @@ pub enum ConvertError {
         /// Where the call's code starts.
         addr: u64,
     },
-    /// No FILE record has an id, or its name has no component.
+    /// No FILE record has an id that is asked for, or its name has no component.
     #[error("the function at {func:#x} asks for a file of id {id}")]
     NoFile {
         /// Where the function starts.
@@ -59,7 +59,7 @@ pub enum ConvertError {
         /// The id.
         id: u32,
     },
-    /// No INLINE_ORIGIN record has an id.
+    /// No INLINE_ORIGIN record has an id that is asked for.
     #[error("the function at {func:#x} asks for an origin of id {id}")]
     NoOrigin {
         /// Where the function starts.
@@ -67,7 +67,7 @@ pub enum ConvertError {
         /// The id.
         id: u32,
     },
-    /// A text holds a zero byte, which ends texts in a GSYM file.
+    /// A text that would be laid out holds a zero byte, which ends texts in a GSYM file.
     #[error("a text of the function at {func:#x} holds a zero byte")]
     ZeroByte {
         /// Where the function starts.
@@ -116,15 +116,6 @@ impl<T: Drop> From<AllocFailed<T>> for ConvertError {
     ghost from_gives = { λ _ e. e ≡ OutOfMemory };
 
     fn from(_failed: AllocFailed<T>) -> ConvertError {
-        ConvertError::OutOfMemory
-    }
-}
-
-/// The calls of other crates that a conversion makes fail only for want of memory.
-impl From<bz_base::Error> for ConvertError {
-    ghost from_gives = { λ _ e. e ≡ OutOfMemory };
-
-    fn from(_error: bz_base::Error) -> ConvertError {
         ConvertError::OutOfMemory
     }
 }

@@ -25,9 +25,9 @@ pub struct RowsAndCalls {
     pub calls: Vec<Inlinee>,
 }
 
-/// The rows and inlined calls of a function of the file that the ids are of. Functions go by start and
-/// size; the one before it starts there, if there is one. OutOfMemory: memory ran out. Any other refusal
-/// is the first fault of the function.
+/// The rows and inlined calls of a function of the file that the ids are of. `before` is where the function
+/// before it starts, by start and size, if there is one. OutOfMemory: memory ran out. Any other refusal is
+/// the first fault of the function.
 pub fn rows_and_calls(
     alloc: Global,
     ids: &CleanIds<'_>,
@@ -68,7 +68,8 @@ fn is_checked(function: &Function<'_>) -> bool
             .is_some()
 }
 
-/// The same of a function that has a size and whose end fits 64 bits.
+/// The rows and inlined calls of a function that has a size, and whose end fits 64 bits. OutOfMemory: memory
+/// ran out. Any other refusal is the first fault of the function, EqualStarts aside.
 fn checked_rows_and_calls(
     alloc: Global,
     ids: &CleanIds<'_>,
@@ -81,12 +82,16 @@ fn checked_rows_and_calls(
         (checked_fault table function.now or zero_in table function.now) ≡ Some e) }
 {
     let func = function.addr();
-    let lines = function.lines(alloc)?;
+    let Ok(lines) = function.lines(alloc) else {
+        return Err(ConvertError::OutOfMemory);
+    };
     let Walked { rows, gap } = walk_records(alloc, function, &lines)?;
     if let Some(addr) = gap {
         return Err(ConvertError::LineGap { func, addr });
     }
-    let calls = function.inlinees(alloc)?;
+    let Ok(calls) = function.inlinees(alloc) else {
+        return Err(ConvertError::OutOfMemory);
+    };
     if let Some(fault) = calls_fault(alloc, function, &calls)? {
         return Err(fault);
     }

@@ -98,27 +98,17 @@ fn origin_fault(ids: &CleanIds<'_>, func: u64, calls: &[Inlinee]) -> Option<Conv
 pub(crate) fn has_zero(text: &str) -> bool
     ensures { result ≡ has_zero text.now }
 {
-    for byte in text.as_bytes() {
-        if *byte == 0 {
-            return true;
-        }
-    }
-    false
+    text.as_bytes().contains(&0)
 }
 
-/// Whether directory or name of the file of an id hold a zero byte.
+/// Whether the directory or name of an id's file holds a zero byte.
 pub(crate) fn file_has_zero(file: &SymbolFile, id: u32) -> bool
     ensures { (table : Table) → table_in file.now ≡ Some table → result ≡ file_has_zero table id }
 {
     let Some((dir, name)) = located(file, id) else {
         return false;
     };
-    if let Some(dir) = dir {
-        if has_zero(dir) {
-            return true;
-        }
-    }
-    has_zero(name)
+    dir.is_some_and(has_zero) || has_zero(name)
 }
 
 /// Whether a text that is laid out for a function holds a zero byte: its name, or one of its rows or
@@ -168,7 +158,7 @@ fn calls_have_zero(ids: &CleanIds<'_>, calls: &[Inlinee]) -> bool
     false
 }
 
-/// Whether the name of an inlined call, or directory or name of its file, hold a zero byte.
+/// Whether the name of an inlined call, or the directory or name of its file, holds a zero byte.
 fn call_has_zero(ids: &CleanIds<'_>, call: &Inlinee) -> bool
     ensures { (table : Table) → table_in ids.now ≡ Some table → result ≡ call_has_zero table (kept_inlinee call.now) }
 {

@@ -1,9 +1,8 @@
 //! The rows of a function.
 
-ghost use Rattle.std.specs.Prelude.{◌≡◌, ◌<◌, ◌≤◌, ◌+◌, ◌++◌, ℕ, min, true, None, map, option_map, IfOk, IfSome, IsOkUnless, OnOk};
-ghost use Rattle.bz_base.specs.declared.error.Error.{Error};
+ghost use Rattle.std.specs.Prelude.{◌≡◌, ◌<◌, ◌≤◌, ◌+◌, ◌++◌, ℕ, min, true, None, map, option_map, IfOk, IfSome, OnOk};
 ghost use Rattle.bz_breakpad_function.specs.InOrder.{lines_in_order};
-ghost use Rattle.bz_breakpad_function.specs.Places.{line_at};
+ghost use Rattle.bz_breakpad_function.specs.Locations.{line_at};
 ghost use Rattle.bz_breakpad_lines.specs.Told.{line_seen};
 ghost use Rattle.bz_convert.specs.Apart.{LieApart, gap_between};
 ghost use Rattle.bz_convert.specs.Plan.{changes, is_checked, same_line};
@@ -11,9 +10,9 @@ ghost use Rattle.bz_convert.specs.Points.{ArePoints, gap_of, point_within, row_s
 ghost use Rattle.bz_convert.specs.Fault.{◌or◌};
 ghost use Rattle.bz_convert.specs.Rows.{gap_from, row_by, rows_from};
 
-use bz_base::{Result, Spanned, sort_table};
+use bz_base::{Spanned, sort_table};
 use bz_breakpad::{Function, SourceLine};
-use std::alloc::Global;
+use std::alloc::{AllocError, Global};
 
 /// An address of a function at which another line record may answer than at the one before.
 #[derive(Clone, Copy)]
@@ -51,17 +50,17 @@ pub(crate) struct Walked {
     pub gap: Option<u64>,
 }
 
-/// Walks over the addresses of a function whose end fits 64 bits, and which has these line records.
+/// Walks over the addresses of a function that has a size and these line records, and whose end fits 64
+/// bits.
 pub(crate) fn walk_records(
     alloc: Global,
     function: &Function<'_>,
     lines: &[SourceLine],
-) -> Result<Walked>
+) -> Result<Walked, AllocError>
     requires checked { is_checked function.now ≡ true }
     requires lines { map line_seen lines.now ≡ lines_in_order function.now }
     ensures rows { IfOk result (λ walked. map row_seen walked.rows.items ≡ changes function.now) }
     ensures gap { IfOk result (λ walked. walked.gap ≡ gap_from (λ addr. line_at addr function.now.lines) None function.now.start function.now.size) }
-    ensures memory { IsOkUnless result Error.OutOfMemory }
 {
     if lie_apart(lines) {
         return walk_apart(alloc, function, lines);
@@ -96,13 +95,16 @@ fn end_behind(line: &SourceLine, reached: u64) -> Option<u64>
 
 /// Walks over the addresses of a function whose line records lie apart: each has one row at most, and
 /// none answers between two of them.
-fn walk_apart(alloc: Global, function: &Function<'_>, lines: &[SourceLine]) -> Result<Walked>
+fn walk_apart(
+    alloc: Global,
+    function: &Function<'_>,
+    lines: &[SourceLine],
+) -> Result<Walked, AllocError>
     requires checked { is_checked function.now ≡ true }
     requires lines { map line_seen lines.now ≡ lines_in_order function.now }
     requires apart { LieApart 0 (map line_seen lines.now) }
     ensures rows { IfOk result (λ walked. map row_seen walked.rows.items ≡ changes function.now) }
     ensures gap { IfOk result (λ walked. walked.gap ≡ gap_from (λ addr. line_at addr function.now.lines) None function.now.start function.now.size) }
-    ensures memory { IsOkUnless result Error.OutOfMemory }
 {
     let start = function.addr();
     let end = start + u64::from(function.size());
@@ -144,12 +146,15 @@ fn gap_before(gap: Option<u64>, start: u64, reached: u64, next: u64) -> Option<u
 }
 
 /// Walks over the points of a function.
-fn walk_points(alloc: Global, function: &Function<'_>, points: &[Point]) -> Result<Walked>
+fn walk_points(
+    alloc: Global,
+    function: &Function<'_>,
+    points: &[Point],
+) -> Result<Walked, AllocError>
     ensures rows { IfOk result (λ walked. ArePoints function.now (map (λ p. p.addr) points.now) →
         map row_seen walked.rows.items ≡ rows_from same_line (λ addr. line_at addr function.now.lines) None function.now.start function.now.size) }
     ensures gap { IfOk result (λ walked. ArePoints function.now (map (λ p. p.addr) points.now) →
         walked.gap ≡ gap_from (λ addr. line_at addr function.now.lines) None function.now.start function.now.size) }
-    ensures memory { IsOkUnless result Error.OutOfMemory }
 {
     let mut rows = Vec::new(alloc);
     let mut gap = None;
@@ -185,9 +190,8 @@ fn push_row(
     addr: u64,
     before: Option<SourceLine>,
     line: Option<SourceLine>,
-) -> Result<()>
-    ensures ok { OnOk result (map row_seen rows.new.items ≡ map row_seen rows.old.items ++ row_by same_line addr (option_map line_seen before) (option_map line_seen line)) }
-    ensures memory { IsOkUnless result Error.OutOfMemory }
+) -> Result<(), AllocError>
+    ensures { OnOk result (map row_seen rows.new.items ≡ map row_seen rows.old.items ++ row_by same_line addr (option_map line_seen before) (option_map line_seen line)) }
 {
     let Some(line) = line else {
         return Ok(());
@@ -203,11 +207,14 @@ fn push_row(
 
 /// The points of a function, in the order of their addresses. They are its start, and of each line record
 /// the start, the address after it, and the end. One may stand there several times.
-fn points_of(alloc: Global, function: &Function<'_>, lines: &[SourceLine]) -> Result<Vec<Point>>
+fn points_of(
+    alloc: Global,
+    function: &Function<'_>,
+    lines: &[SourceLine],
+) -> Result<Vec<Point>, AllocError>
     requires checked { is_checked function.now ≡ true }
     requires lines { map line_seen lines.now ≡ lines_in_order function.now }
-    ensures points { IfOk result (λ points. ArePoints function.now (map (λ p. p.addr) points.items)) }
-    ensures memory { IsOkUnless result Error.OutOfMemory }
+    ensures { IfOk result (λ points. ArePoints function.now (map (λ p. p.addr) points.items)) }
 {
     let start = function.addr();
     let end = start + u64::from(function.size());
@@ -223,9 +230,14 @@ fn points_of(alloc: Global, function: &Function<'_>, lines: &[SourceLine]) -> Re
 }
 
 /// Adds the address so far behind another one as a point, if it lies in a function.
-fn push_point(points: &mut Vec<Point>, start: u64, end: u64, addr: u64, behind: u64) -> Result<()>
-    ensures ok { OnOk result (points.new.items ≡ points.old.items ++ point_within start end (addr + behind)) }
-    ensures memory { IsOkUnless result Error.OutOfMemory }
+fn push_point(
+    points: &mut Vec<Point>,
+    start: u64,
+    end: u64,
+    addr: u64,
+    behind: u64,
+) -> Result<(), AllocError>
+    ensures { OnOk result (points.new.items ≡ points.old.items ++ point_within start end (addr + behind)) }
 {
     if let Some(addr) = addr.checked_add(behind) {
         if start <= addr && addr < end {

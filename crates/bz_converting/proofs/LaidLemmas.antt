@@ -1,7 +1,7 @@
 -- The inlined calls that are laid out for a function are there only where there are rows.
 use Rattle.std.proofs.Common.{◌≡◌, ℕ, zero, suc, ◌<◌, Bool, true, false, cond, List, [], ◌∷◌, length, None, refl, sym, ap, ◌∙◌, arith}
 use Rattle.std.proofs.lemmas.List.{length-map}
-use Rattle.bz_breakpad_function.specs.Places.{line_at}
+use Rattle.bz_breakpad_function.specs.Locations.{line_at}
 use Rattle.bz_breakpad_lines.specs.Table.{Function, SourceLine}
 use Rattle.bz_convert.specs.Plan.{changes, is_checked, same_line, sized_calls}
 use Rattle.bz_convert.specs.RowsAndCalls.{AreRowsAndCalls}

@@ -1,5 +1,5 @@
--- The calls of a function in which none overlaps another: those that start alike and lie as deep say the same, so sorted ones stand
--- beside each other, and without repeats they are those of the plan.
+-- The calls of a function in which none overlaps another. Those that start alike and lie as deep say the same, so sorted ones
+-- stand beside each other. Without repeats they are those of the plan.
 use Rattle.std.proofs.Common.{◌≡◌, ◌⊎◌, inl, inr, ℕ, zero, suc, ◌<◌, ◌≤◌, Bool, true, false, cond, List, [], ◌∷◌, map, Option, Some, None, refl, sym, ap, subst, ◌∙◌, arith}
 use Rattle.std.specs.List.{AllByRecursion, filter, slice_get}
 use Rattle.std.proofs.lemmas.Bool.{cases_lt, eq-eqb, true≢false}
@@ -18,7 +18,7 @@ use Rattle.bz_convert.proofs.FaultLemmas.{any_none}
 use Rattle.bz_gsym_layout.proofs.MemberLemmas.{filter_to, member_of}
 use Rattle.bz_convert.proofs.MemberLemmas.{filter_from, from_table, pair_from, to_table, two_alike}
 use Rattle.bz_converting.specs.Laid.{AreApart}
-use Rattle.bz_converting.specs.Sized.{is_repeated, placed_calls, without_repeats}
+use Rattle.bz_converting.specs.Sized.{is_repeated, placed_inlinees, without_repeats}
 use Rattle.bz_converting.specs.declared.calls.PlacedCall.{PlacedCall}
 use Rattle.bz_search.proofs.SortingLaws.{sorted_ascends, sorted_table, table_sorted}
 
@@ -232,7 +232,7 @@ module _ (f : Function) (apart : AreApart f) where
       (λ z found. let from = from_sized z found in none_before (sorted start depth all) z (to_all z from.0 from.1))
 
   -- calls that are sorted, without repeats
-  pub placed_are : (old new : List PlacedCall) → IsTable (λ (p : PlacedCall). p.call.addr) (λ p. p.call.depth) old new → placed_calls old ≡ all → without_repeats None (placed_calls new) ≡ sized_calls f
+  pub placed_are : (old new : List PlacedCall) → IsTable (λ (p : PlacedCall). p.call.addr) (λ p. p.call.depth) old new → placed_inlinees old ≡ all → without_repeats None (placed_inlinees new) ≡ sized_calls f
   placed_are old new is seen =
       let view : PlacedCall → Inlinee = λ p. kept_inlinee p.call in
       let order : new ≡ sorted (λ p. start (view p)) (λ p. depth (view p)) old = table_sorted (λ p. start (view p)) (λ p. depth (view p)) old new is in

@@ -21,10 +21,11 @@ Refuses (TooLarge bytes) fault len = (fault ≡ None) × (bytes ≡ len) × (2 ^
 Refuses OutOfMemory fault len = Unit {0}
 Refuses refusal fault len = fault ≡ Some refusal
 
--- bytes that 32 bits count
+-- the bytes, if 32 bits count them; else the refusal that tells how many they are
 abbrev pub if_small : List ℕ → Result (List ℕ) ConvertError
 if_small bytes = if nat_lt (length bytes) (2 ^ 32) then Ok bytes else Err (TooLarge (length bytes))
 
+-- the refusal of the file's fault; without one, what its layout's bytes give
 abbrev pub unless_faulty : Option ConvertError → List ℕ → Result (List ℕ) ConvertError
 unless_faulty None bytes = if_small bytes
 unless_faulty (Some fault) bytes = Err fault

@@ -78,7 +78,7 @@ pub record IsNumbering (table : Table) (used : List (List ℕ)) (used_sources : 
 abbrev pub IsNumbered : Table → Numbering → Type 0
 IsNumbered table n = (texts : List (List ℕ)) × (sources : List Source) × IsNumbering table texts sources n
 
--- a call uses these texts and source files, behind those that were used before it
+-- these texts and source files are used, behind those that were used before
 abbrev pub Uses : Table → List (List ℕ) → List Source → Numbering → Numbering → Type 0
 Uses table more more_sources old new = (texts : List (List ℕ)) (sources : List Source) → IsNumbering table texts sources old → IsNumbering table (texts ++ more) (sources ++ more_sources) new
 

@@ -6,8 +6,8 @@ use Rattle.bz_convert.specs.Plan.{same_call}
 use Rattle.bz_converting.specs.declared.calls.PlacedCall.{PlacedCall}
 
 -- the calls, as the file says them
-abbrev pub placed_calls : List PlacedCall → List Inlinee
-placed_calls placed = map (λ p. kept_inlinee p.call) placed
+abbrev pub placed_inlinees : List PlacedCall → List Inlinee
+placed_inlinees placed = map (λ p. kept_inlinee p.call) placed
 
 -- a call says the same as the one before it
 abbrev pub is_repeated : Option Inlinee → Inlinee → Bool

@@ -1,9 +1,8 @@
 //! The inlined calls of a function, as a plan has them. One is an `Inlinee` of the file, a `PlacedCall`
 //! while calls are sorted, and a `Node` of the plan.
 
-ghost use Rattle.std.specs.Prelude.{◌≡◌, true, flat_map, map, option_map, None, Some, IfOk, IsOkUnless, OnOk};
+ghost use Rattle.std.specs.Prelude.{◌≡◌, true, flat_map, map, option_map, None, Some, IfOk, OnOk};
 ghost use Rattle.std.specs.List.{AllZip, filter};
-ghost use Rattle.bz_base.specs.declared.error.Error.{Error};
 ghost use Rattle.bz_breakpad.specs.Lent.{kept_inlinee};
 ghost use Rattle.bz_breakpad_function.specs.InOrder.{calls_in_order};
 ghost use Rattle.bz_breakpad_lines.specs.Reader.{table_in};
@@ -11,18 +10,18 @@ ghost use Rattle.bz_breakpad_lines.specs.Table.{Function, Table};
 ghost use Rattle.bz_convert.specs.Plan.{has_size, is_checked, sized_calls};
 ghost use Rattle.bz_convert.specs.RowsAndCalls.{AreRowsAndCalls};
 ghost use Rattle.bz_converting.specs.Laid.{AreApart, IsNodeFor, laid_calls, sources_of_call, texts_of_call};
-ghost use Rattle.bz_converting.specs.Numbered.{IsNumbered, Uses, listed_sources, listed_texts, origin_named};
-ghost use Rattle.bz_converting.specs.Sized.{is_repeated, placed_calls, without_repeats};
+ghost use Rattle.bz_converting.specs.Numbered.{IsNumbered, Uses, listed_sources, listed_texts};
+ghost use Rattle.bz_converting.specs.Sized.{is_repeated, placed_inlinees, without_repeats};
 
 use crate::numbering::Numbering;
-use bz_base::{Result, Spanned, sort_table};
+use bz_base::{Spanned, sort_table};
 use bz_breakpad::{Inlinee, SymbolFile};
 use bz_convert::RowsAndCalls;
 use bz_gsym_layout::Node;
-use std::alloc::Global;
+use std::alloc::{AllocError, Global};
 
-/// An inlined call of the file that is sorted by start and depth, as a plan has them. The file's go by
-/// depth and start.
+/// An inlined call of the file, which goes by depth and start there. A plan has calls by start and depth.
+/// `sort_table` goes by start and size, so the depth stands for the size here.
 #[derive(Clone, Copy)]
 pub(crate) struct PlacedCall {
     pub call: Inlinee,
@@ -43,9 +42,8 @@ impl Spanned for PlacedCall {
 }
 
 /// The inlined calls that are laid out for a function which has these rows and calls.
-pub(crate) fn calls_of(alloc: Global, found: &RowsAndCalls) -> Result<Vec<Inlinee>>
-    ensures calls { IfOk result (λ calls. (f : Function) → (is_checked f ≡ true → AreApart f) → AreRowsAndCalls f found.now → map kept_inlinee calls.items ≡ laid_calls f) }
-    ensures memory { IsOkUnless result Error.OutOfMemory }
+pub(crate) fn calls_of(alloc: Global, found: &RowsAndCalls) -> Result<Vec<Inlinee>, AllocError>
+    ensures { IfOk result (λ calls. (f : Function) → (is_checked f ≡ true → AreApart f) → AreRowsAndCalls f found.now → map kept_inlinee calls.items ≡ laid_calls f) }
 {
     if found.rows.is_empty() {
         return Ok(Vec::new(alloc));
@@ -54,9 +52,8 @@ pub(crate) fn calls_of(alloc: Global, found: &RowsAndCalls) -> Result<Vec<Inline
 }
 
 /// The inlined calls that have a size, each once, by start and depth.
-fn sized_calls(alloc: Global, calls: &[Inlinee]) -> Result<Vec<Inlinee>>
-    ensures calls { IfOk result (λ sized. (f : Function) → AreApart f → map kept_inlinee calls.now ≡ calls_in_order f → map kept_inlinee sized.items ≡ sized_calls f) }
-    ensures memory { IsOkUnless result Error.OutOfMemory }
+fn sized_calls(alloc: Global, calls: &[Inlinee]) -> Result<Vec<Inlinee>, AllocError>
+    ensures { IfOk result (λ sized. (f : Function) → AreApart f → map kept_inlinee calls.now ≡ calls_in_order f → map kept_inlinee sized.items ≡ sized_calls f) }
 {
     let mut placed = placed_calls(alloc, calls)?;
     sort_table(&mut placed)?;
@@ -64,9 +61,8 @@ fn sized_calls(alloc: Global, calls: &[Inlinee]) -> Result<Vec<Inlinee>>
 }
 
 /// The calls that have a size.
-fn placed_calls(alloc: Global, calls: &[Inlinee]) -> Result<Vec<PlacedCall>>
-    ensures calls { IfOk result (λ placed. placed_calls placed.items ≡ filter has_size (map kept_inlinee calls.now)) }
-    ensures memory { IsOkUnless result Error.OutOfMemory }
+fn placed_calls(alloc: Global, calls: &[Inlinee]) -> Result<Vec<PlacedCall>, AllocError>
+    ensures { IfOk result (λ placed. placed_inlinees placed.items ≡ filter has_size (map kept_inlinee calls.now)) }
 {
     let mut placed = Vec::with_capacity(alloc, calls.len())?;
     for call in calls {
@@ -78,9 +74,8 @@ fn placed_calls(alloc: Global, calls: &[Inlinee]) -> Result<Vec<PlacedCall>>
 }
 
 /// The calls without those that say the same as the one before.
-fn without_repeats(alloc: Global, placed: &[PlacedCall]) -> Result<Vec<Inlinee>>
-    ensures calls { IfOk result (λ calls. map kept_inlinee calls.items ≡ without_repeats None (placed_calls placed.now)) }
-    ensures memory { IsOkUnless result Error.OutOfMemory }
+fn without_repeats(alloc: Global, placed: &[PlacedCall]) -> Result<Vec<Inlinee>, AllocError>
+    ensures { IfOk result (λ calls. map kept_inlinee calls.items ≡ without_repeats None (placed_inlinees placed.now)) }
 {
     let mut calls = Vec::with_capacity(alloc, placed.len())?;
     let mut before = None;
@@ -104,12 +99,15 @@ fn is_repeated(before: Option<Inlinee>, call: &Inlinee) -> bool
 }
 
 /// The node of an inlined call.
-fn node_of<'a>(numbering: &mut Numbering<'a>, file: &'a SymbolFile, call: &Inlinee) -> Result<Node>
+fn node_of<'a>(
+    numbering: &mut Numbering<'a>,
+    file: &'a SymbolFile,
+    call: &Inlinee,
+) -> Result<Node, AllocError>
     ensures numbering { OnOk result ((table : Table) → table_in file.now ≡ Some table →
         Uses table (texts_of_call table (kept_inlinee call.now)) (sources_of_call table (kept_inlinee call.now)) numbering.old numbering.new) }
     ensures node { IfOk result (λ node. (table : Table) → table_in file.now ≡ Some table → IsNumbered table numbering.old →
         IsNodeFor table (listed_texts numbering.new.texts) (listed_sources numbering.new) (kept_inlinee call.now) node) }
-    ensures memory { IsOkUnless result Error.OutOfMemory }
 {
     let name = numbering.origin_text(file, call.origin_id)?;
     let source = numbering.file_source(file, call.call_file)?;
@@ -123,28 +121,17 @@ fn node_of<'a>(numbering: &mut Numbering<'a>, file: &'a SymbolFile, call: &Inlin
     })
 }
 
-/// The name of an origin; an empty one if it isn't known.
-pub(crate) fn name_of(file: &SymbolFile, origin: u32) -> &str
-    ensures { (table : Table) → table_in file.now ≡ Some table → result.now ≡ origin_named table origin }
-{
-    match file.origin(origin) {
-        Some(name) => name,
-        None => "",
-    }
-}
-
 /// The nodes of inlined calls.
 pub(crate) fn nodes_of<'a>(
     alloc: Global,
     numbering: &mut Numbering<'a>,
     file: &'a SymbolFile,
     calls: &[Inlinee],
-) -> Result<Vec<Node>>
+) -> Result<Vec<Node>, AllocError>
     ensures numbering { OnOk result ((table : Table) → table_in file.now ≡ Some table →
         Uses table (flat_map (texts_of_call table) (map kept_inlinee calls.now)) (flat_map (sources_of_call table) (map kept_inlinee calls.now)) numbering.old numbering.new) }
     ensures nodes { IfOk result (λ nodes. (table : Table) → table_in file.now ≡ Some table → IsNumbered table numbering.old →
         AllZip (IsNodeFor table (listed_texts numbering.new.texts) (listed_sources numbering.new)) (map kept_inlinee calls.now) nodes.items) }
-    ensures memory { IsOkUnless result Error.OutOfMemory }
 {
     let mut nodes = Vec::with_capacity(alloc, calls.len())?;
     for call in calls {

@@ -1,7 +1,6 @@
 //! A function, as a plan has it.
 
-ghost use Rattle.std.specs.Prelude.{◌≡◌, true, Some, IfOk, IsOkUnless, OnOk};
-ghost use Rattle.bz_base.specs.declared.error.Error.{Error};
+ghost use Rattle.std.specs.Prelude.{◌≡◌, true, Some, IfOk, OnOk};
 ghost use Rattle.bz_breakpad_lines.specs.Reader.{table_in};
 ghost use Rattle.bz_breakpad_lines.specs.Table.{Table};
 ghost use Rattle.bz_convert.specs.Plan.{is_checked};
@@ -12,27 +11,25 @@ ghost use Rattle.bz_converting.specs.Numbered.{IsNumbered, Uses, listed_sources,
 use crate::calls::{calls_of, nodes_of};
 use crate::numbering::Numbering;
 use crate::rows::rows_of;
-use bz_base::Result;
 use bz_breakpad::{Function, SymbolFile};
 use bz_convert::RowsAndCalls;
 use bz_gsym_layout::Function as PlannedFunction;
-use std::alloc::Global;
+use std::alloc::{AllocError, Global};
 
-/// A function of a file with its rows and inlined calls, whose texts and source files are numbered.
+/// The function of a plan for a function of the file, which has these rows and inlined calls.
 pub(crate) fn function_of<'a>(
     alloc: Global,
     numbering: &mut Numbering<'a>,
     file: &'a SymbolFile,
     function: &Function<'a>,
     found: &RowsAndCalls,
-) -> Result<PlannedFunction>
+) -> Result<PlannedFunction, AllocError>
     requires apart { is_checked function.now ≡ true → AreApart function.now }
     requires found { AreRowsAndCalls function.now found.now }
     ensures numbering { OnOk result ((table : Table) → table_in file.now ≡ Some table →
         Uses table (texts_used table function.now) (sources_used table function.now) numbering.old numbering.new) }
     ensures function { IfOk result (λ planned. (table : Table) → table_in file.now ≡ Some table → IsNumbered table numbering.old →
         IsFunctionFor table (listed_texts numbering.new.texts) (listed_sources numbering.new) function.now planned) }
-    ensures memory { IsOkUnless result Error.OutOfMemory }
 {
     let name = numbering.text(function.name())?;
     let rows = rows_of(alloc, numbering, file, &found.rows)?;

@@ -1,21 +1,17 @@
 //! Texts and source files, numbered where they are first used.
 
-ghost use Rattle.std.specs.Prelude.{◌≡◌, ◌∷◌, ℕ, [], Some, option_map, slice_get, unwrap_or, IfOk, IfSome, IsOkUnless, OnOk};
-ghost use Rattle.bz_base.specs.declared.error.Error.{Error};
+ghost use Rattle.std.specs.Prelude.{◌≡◌, ◌∷◌, ℕ, [], Some, option_map, slice_get, unwrap_or, IfOk, IfSome, OnOk};
 ghost use Rattle.bz_breakpad_lines.specs.Reader.{table_in};
 ghost use Rattle.bz_breakpad_lines.specs.Table.{Table};
 ghost use Rattle.bz_convert.specs.Ids.{lent_source};
 ghost use Rattle.bz_converting.specs.Numbered.{IsNumbered, IsNumbering, IsRemembered, Uses, listed_sources, listed_texts, origin_named, parts_of, source_named};
 
-use crate::calls::name_of;
-use crate::rows::source_of;
 use crate::sources::Sources;
 use crate::texts::Texts;
-use bz_base::{Error, Result};
 use bz_breakpad::SymbolFile;
-use bz_convert::Source;
+use bz_convert::{Source, located};
 use bz_gsym_layout::{Function, Plan, SourceFile};
-use std::alloc::Global;
+use std::alloc::{AllocError, Global};
 
 /// The texts and the source files that a plan lists.
 #[derive(Drop)]
@@ -29,10 +25,9 @@ pub(crate) struct Numbering<'a> {
 }
 
 impl<'a> Numbering<'a> {
-    /// Nothing is numbered of a file.
-    pub fn new(alloc: Global, file: &SymbolFile) -> Result<Numbering<'a>>
-        ensures numbering { IfOk result (λ numbering. (table : Table) → IsNumbering table [] [] numbering) }
-        ensures memory { IsOkUnless result Error.OutOfMemory }
+    /// The numbering in which nothing of a file is numbered.
+    pub fn new(alloc: Global, file: &SymbolFile) -> Result<Numbering<'a>, AllocError>
+        ensures { IfOk result (λ numbering. (table : Table) → IsNumbering table [] [] numbering) }
     {
         let files = none_known(alloc, file.file_count())?;
         let origins = none_known(alloc, file.origin_count())?;
@@ -44,20 +39,18 @@ impl<'a> Numbering<'a> {
         })
     }
 
-    /// The index of a text.
-    pub fn text(&mut self, text: &'a str) -> Result<usize>
+    /// The index of a text, which is listed if it wasn't used before.
+    pub fn text(&mut self, text: &'a str) -> Result<usize, AllocError>
         ensures numbering { OnOk result ((table : Table) → Uses table (text.now ∷ []) [] self.old self.new) }
         ensures index { IfOk result (λ index. (table : Table) → IsNumbered table self.old → slice_get (listed_texts self.new.texts) index ≡ Some text.now) }
-        ensures memory { IsOkUnless result Error.OutOfMemory }
     {
         self.texts.index_of(text)
     }
 
-    /// The index of a source file.
-    pub fn source(&mut self, source: Source<'a>) -> Result<usize>
+    /// The index of a source file, which is listed if it wasn't used before.
+    pub fn source(&mut self, source: Source<'a>) -> Result<usize, AllocError>
         ensures numbering { OnOk result ((table : Table) → Uses table (parts_of (lent_source source.entry)) (lent_source source.entry ∷ []) self.old self.new) }
         ensures index { IfOk result (λ index. (table : Table) → IsNumbered table self.old → slice_get (listed_sources self.new) index ≡ Some (lent_source source.entry)) }
-        ensures memory { IsOkUnless result Error.OutOfMemory }
     {
         let (dir, name) = source;
         let dir = self.texts.index_of(dir_text(dir))?;
@@ -66,10 +59,9 @@ impl<'a> Numbering<'a> {
     }
 
     /// The index of the source file of an id.
-    pub fn file_source(&mut self, file: &'a SymbolFile, id: u32) -> Result<u32>
+    pub fn file_source(&mut self, file: &'a SymbolFile, id: u32) -> Result<u32, AllocError>
         ensures numbering { OnOk result ((table : Table) → table_in file.now ≡ Some table → Uses table (parts_of (source_named table id)) (source_named table id ∷ []) self.old self.new) }
         ensures index { IfOk result (λ index. (table : Table) → table_in file.now ≡ Some table → IsNumbered table self.old → slice_get (listed_sources self.new) index ≡ Some (source_named table id)) }
-        ensures memory { IsOkUnless result Error.OutOfMemory }
     {
         if let Some(index) = known_at(&self.files, id) {
             return Ok(index);
@@ -81,10 +73,9 @@ impl<'a> Numbering<'a> {
     }
 
     /// The index of the text of an origin.
-    pub fn origin_text(&mut self, file: &'a SymbolFile, id: u32) -> Result<u32>
+    pub fn origin_text(&mut self, file: &'a SymbolFile, id: u32) -> Result<u32, AllocError>
         ensures numbering { OnOk result ((table : Table) → table_in file.now ≡ Some table → Uses table (origin_named table id ∷ []) [] self.old self.new) }
         ensures index { IfOk result (λ index. (table : Table) → table_in file.now ≡ Some table → IsNumbered table self.old → slice_get (listed_texts self.new.texts) index ≡ Some (origin_named table id)) }
-        ensures memory { IsOkUnless result Error.OutOfMemory }
     {
         if let Some(index) = known_at(&self.origins, id) {
             return Ok(index);
@@ -115,31 +106,37 @@ impl<'a> Numbering<'a> {
     }
 }
 
+/// The source file of an id; an empty one if it isn't known.
+fn source_of(file: &SymbolFile, id: u32) -> Source<'_>
+    ensures { (table : Table) → table_in file.now ≡ Some table → lent_source result ≡ source_named table id }
+{
+    located(file, id).unwrap_or((None, ""))
+}
+
+/// The name of an origin; an empty one if it isn't known.
+fn name_of(file: &SymbolFile, origin: u32) -> &str
+    ensures { (table : Table) → table_in file.now ≡ Some table → result.now ≡ origin_named table origin }
+{
+    file.origin(origin).unwrap_or("")
+}
+
 /// The text of a directory; that of none is empty.
 fn dir_text(dir: Option<&str>) -> &str
     ensures { result.now ≡ unwrap_or (option_map (λ dir. dir.now) dir.entry) [] }
 {
-    match dir {
-        Some(dir) => dir,
-        None => "",
-    }
+    dir.unwrap_or("")
 }
 
 /// An index in 32 bits. One that they don't count is told as want of memory.
-fn narrow(index: usize) -> Result<u32>
-    ensures ok { IfOk result (λ narrowed. narrowed ≡ index) }
-    ensures memory { IsOkUnless result Error.OutOfMemory }
+fn narrow(index: usize) -> Result<u32, AllocError>
+    ensures { IfOk result (λ narrowed. narrowed ≡ index) }
 {
-    if index > u32::MAX as usize {
-        return Err(Error::OutOfMemory);
-    }
-    Ok(index as u32)
+    u32::try_from(index).map_err(|_| AllocError)
 }
 
-/// So many ids whose indexes aren't known.
-fn none_known(alloc: Global, count: usize) -> Result<Vec<Option<u32>>>
-    ensures none { IfOk result (λ known. (id index : ℕ) → slice_get known.items id ≡ Some (Some index) → ⊥) }
-    ensures memory { IsOkUnless result Error.OutOfMemory }
+/// The indexes of so many ids, of which none is known.
+fn none_known(alloc: Global, count: usize) -> Result<Vec<Option<u32>>, AllocError>
+    ensures { IfOk result (λ known. (id index : ℕ) → slice_get known.items id ≡ Some (Some index) → ⊥) }
 {
     let mut known = Vec::with_capacity(alloc, count)?;
     for _id in 0..count {
@@ -152,10 +149,7 @@ fn none_known(alloc: Global, count: usize) -> Result<Vec<Option<u32>>>
 fn known_at(known: &[Option<u32>], id: u32) -> Option<u32>
     ensures { IfSome result (λ index. slice_get known.now id ≡ Some (Some index)) }
 {
-    match known.get(id as usize) {
-        Some(index) => *index,
-        None => None,
-    }
+    known.get(id as usize).copied().flatten()
 }
 
 /// Remembers the index of an id, if there is a place for it.

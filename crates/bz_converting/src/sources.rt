@@ -1,13 +1,11 @@
 //! Source files, each with the index that it is listed at.
 
-ghost use Rattle.std.specs.Prelude.{◌≡◌, ℕ, List, [], Some, slice_get, IfOk, IsOkUnless, OnOk};
-ghost use Rattle.bz_base.specs.declared.error.Error.{Error};
+ghost use Rattle.std.specs.Prelude.{◌≡◌, ℕ, List, [], Some, slice_get, IfOk, OnOk};
 ghost use Rattle.bz_converting.specs.Listed.{with_one};
 ghost use Rattle.bz_converting.specs.Numbered.{AreFiles, same_file};
 
-use bz_base::Result;
 use bz_gsym_layout::SourceFile;
-use std::alloc::Global;
+use std::alloc::{AllocError, Global};
 use std::collections::BTreeMap;
 
 /// Source files that were used, each listed where it was first used, by the indexes of the texts of its
@@ -32,11 +30,10 @@ impl Sources {
     }
 
     /// The index of a source file, which is listed if it wasn't used before.
-    pub fn index_of(&mut self, file: SourceFile) -> Result<usize>
+    pub fn index_of(&mut self, file: SourceFile) -> Result<usize, AllocError>
         ensures listed { OnOk result (AreFiles self.old → self.new.listed.items ≡ with_one same_file self.old.listed.items file) }
         ensures files { OnOk result (AreFiles self.old → AreFiles self.new) }
         ensures index { IfOk result (λ index. AreFiles self.old → slice_get self.new.listed.items index ≡ Some file) }
-        ensures memory { IsOkUnless result Error.OutOfMemory }
     {
         let key = (file.dir, file.name);
         if let Some(index) = self.indexes.get(&key) {

@@ -1,11 +1,9 @@
 //! Texts, each with the index that it is listed at.
 
-ghost use Rattle.std.specs.Prelude.{◌≡◌, ◌++◌, ◌∷◌, ℕ, List, [], Some, slice_get, IfOk, IsOkUnless, OnOk};
-ghost use Rattle.bz_base.specs.declared.error.Error.{Error};
+ghost use Rattle.std.specs.Prelude.{◌≡◌, ◌++◌, ◌∷◌, ℕ, List, [], Some, slice_get, IfOk, OnOk};
 ghost use Rattle.bz_converting.specs.Numbered.{AreTexts, listed_texts};
 
-use bz_base::Result;
-use std::alloc::Global;
+use std::alloc::{AllocError, Global};
 use std::collections::HashMap;
 
 /// Texts that were used, each listed where it was first used.
@@ -28,10 +26,9 @@ impl<'a> Texts<'a> {
     }
 
     /// The index of a text, which is listed if it wasn't used before.
-    pub fn index_of(&mut self, text: &'a str) -> Result<usize>
+    pub fn index_of(&mut self, text: &'a str) -> Result<usize, AllocError>
         ensures texts { OnOk result ((used : List (List ℕ)) → AreTexts used self.old → AreTexts (used ++ text.now ∷ []) self.new) }
         ensures index { IfOk result (λ index. (used : List (List ℕ)) → AreTexts used self.old → slice_get (listed_texts self.new) index ≡ Some text.now) }
-        ensures memory { IsOkUnless result Error.OutOfMemory }
     {
         if let Some(index) = self.indexes.get(&text) {
             return Ok(*index);

@@ -11,7 +11,7 @@ pub loop-point-preserved : goal.loop-point-preserved
 loop-point-preserved c =
     let s = c.loop-point in
     record {
-      rows = row_turn c.args.function.now c.args.points.now s.point-index no_point c.loop-point-test.true s.before c.find_line-line.result s.rows.items c.push_row.new.rows.items c.find_line-line.ensures c.in_ok-push_row.ensures.ok s.invariant.rows;
+      rows = row_turn c.args.function.now c.args.points.now s.point-index no_point c.loop-point-test.true s.before c.find_line-line.result s.rows.items c.push_row.new.rows.items c.find_line-line.ensures c.in_ok-push_row.ensures s.invariant.rows;
       gap = gap_turn c.args.function.now c.args.points.now s.point-index no_point c.loop-point-test.true s.before c.find_line-line.result s.gap c.first_gap-gap.result c.find_line-line.ensures c.first_gap-gap.ensures s.invariant.gap;
     }
 

@@ -1,5 +1,5 @@
 use Rattle.std.proofs.Common.{◌≡◌, ◌++◌, None, map, option_map, drop}
-use Rattle.bz_breakpad_function.specs.Places.{line_at}
+use Rattle.bz_breakpad_function.specs.Locations.{line_at}
 use Rattle.bz_breakpad_lines.specs.Told.{line_seen}
 use Rattle.bz_convert.specs.Fault.{◌or◌}
 use Rattle.bz_convert.specs.Plan.{same_line}

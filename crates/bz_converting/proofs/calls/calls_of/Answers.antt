@@ -5,11 +5,11 @@ use Rattle.bz_converting.proofs.LaidLemmas.{laid_checked, laid_some, some_rows}
 use Rattle.bz_converting.proofs.NumberingLemmas.{if_ok}
 use Rattle.bz_converting.proofs.calls.calls_of.Goals as goal
 
-pub returns-clause-calls : goal.returns-clause-calls
-returns-clause-calls c =
+pub returns : goal.returns
+returns c =
     if_ok c.sized_calls.result _ _
     (λ calls is f apart are.
     let some = some_rows f c.args.found.now are (λ none. grind (arith, none, c.is_empty.ensures, c.if-is_empty.false)) in
     let checked = laid_checked f some in
     is f (apart checked) (ap (map kept_inlinee) c.deref.ensures.value ∙ (are.calls ∙ ap (λ b. if b then calls_in_order f else []) checked)) ∙ laid_some f some)
-    c.sized_calls.ensures.calls
+    c.sized_calls.ensures

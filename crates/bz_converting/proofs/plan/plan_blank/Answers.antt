@@ -17,7 +17,7 @@ pub function_of-requires : goal.function_of-requires
 function_of-requires g c =
     let s = c.loop-index in
     let f = c.function-function.result in
-    let none : (table : Table) → table_in c.args.file.now ≡ Some table → fault_of table s.before f ≡ None = λ table read. c.in_ok-found.ensures.clean table (ap table_in c.in_ok-ids.ensures.ok ∙ read) in
+    let none : (table : Table) → table_in c.args.file.now ≡ Some table → fault_of table s.before f ≡ None = λ table read. c.in_ok-found.ensures.clean table (ap table_in c.in_ok-ids.ensures ∙ read) in
     record {
       apart = λ checked. calls_apart c.args.file.now c.function_count-index-end.result c.function_count-index-end.ensures.table s.before f none checked;
       found = c.in_ok-found.ensures.found;
@@ -28,7 +28,7 @@ loop-index-init g c = record {
   clean = λ table read. refl;
   collected = λ table read.
       none_yet table (texts_used table) (sources_used table) (λ n. IsFunctionFor table (listed_texts n.texts) (listed_sources n)) [] [] c.in_ok-numbering.numbering c.in_ok-functions.functions.items c.in_ok-functions.ensures.items
-      (c.in_ok-numbering.ensures.numbering table);
+      (c.in_ok-numbering.ensures table);
 }
 
 pub loop-index-preserved : goal.loop-index-preserved
@@ -38,7 +38,7 @@ loop-index-preserved g c =
       clean = λ table read.
           ap (λ a. first_fault table (Some a) (drop (s.index + 1) (ordered_functions table.functions))) c.addr.ensures
           ∙ turn_on c.args.file.now table read s.before s.index c.function-function.result c.function-function.ensures.function
-          (sym (c.in_ok-found.ensures.clean table (ap table_in c.in_ok-ids.ensures.ok ∙ read))) (s.invariant.clean table read);
+          (sym (c.in_ok-found.ensures.clean table (ap table_in c.in_ok-ids.ensures ∙ read))) (s.invariant.clean table read);
       collected = λ table read.
           collected_turn c.args.file.now table read s.numbering c.function_of.new.numbering s.index c.function-function.result c.function-function.ensures.function s.functions.items c.push.new.self.items
           c.in_ok-function_of.field-0 c.in_ok-push.ensures.items (s.invariant.collected table read) c.in_ok-function_of.ensures.numbering c.in_ok-function_of.ensures.function;
@@ -52,7 +52,7 @@ returns-in_err-found-clause-fault g c =
     rw (same.1, same.2) (λ other table read.
     let out =
     turn_out c.args.file.now c.function_count-index-end.result c.function_count-index-end.ensures.table s.before s.index c.function-function.result c.function-function.ensures.function e
-    (λ table read. sym (c.in_err-found.ensures.fault other table (ap table_in c.in_ok-ids.ensures.ok ∙ read))) s.invariant.clean in
+    (λ table read. sym (c.in_err-found.ensures.fault other table (ap table_in c.in_ok-ids.ensures ∙ read))) s.invariant.clean in
     fault_told (table_in c.args.file.now) (Some e) out table read)
 
 pub returns-clause-plan : goal.returns-clause-plan

@@ -8,7 +8,7 @@ use Rattle.bz_converting.proofs.SoFarLemmas.{SoFar}
 use Rattle.bz_gsym_layout.specs.Plan.{Source}
 use Rattle.bz_converting.proofs.rows.rows_of.Given as goal
 
--- the rows of the lines so far
-abbrev pub invariant-loop-line : goal.invariant-loop-line
-invariant-loop-line l = (table : Table) (texts : List (List ℕ)) (sources : List Source) → table_in l.file ≡ Some table → IsNumbering table texts sources l.fn.numbering →
-    SoFar table (texts_of_row table) (sources_of_row table) (λ n. IsRowFor table (listed_sources n)) texts sources l.numbering (map row_seen (take l.line-index l.lines)) l.rows.items
+-- the rows of the plan so far
+abbrev pub invariant-loop-line_row : goal.invariant-loop-line_row
+invariant-loop-line_row l = (table : Table) (texts : List (List ℕ)) (sources : List Source) → table_in l.file ≡ Some table → IsNumbering table texts sources l.fn.numbering →
+    SoFar table (texts_of_row table) (sources_of_row table) (λ n. IsRowFor table (listed_sources n)) texts sources l.numbering (map row_seen (take l.line_row-index l.line_rows)) l.rows.items

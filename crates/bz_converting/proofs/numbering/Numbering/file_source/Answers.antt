@@ -22,8 +22,8 @@ returns-clause-numbering c table read texts sources is =
     file_known table (texts ++ s.dir ∷ s.file ∷ []) (sources ++ s ∷ []) n new
     (subst (λ (r : Source). IsNumbering table (texts ++ r.dir ∷ r.file ∷ []) (sources ++ r ∷ []) n) named (c.in_ok-listed.ensures.numbering table texts sources is)) id index refl refl refl
     (remembers_all n.files.items c.remember.new.known n.files.len id index (subst (λ l. IsRemembered l c.remember.new.known id index) c.deref_mut.ensures.value c.remember.ensures))
-    (ap (slice_get (listed_sources n)) c.in_ok-index.ensures.ok ∙ c.in_ok-listed.ensures.index table (texts, sources, is) ∙ ap Some named)
+    (ap (slice_get (listed_sources n)) c.in_ok-index.ensures ∙ c.in_ok-listed.ensures.index table (texts, sources, is) ∙ ap Some named)
 
 pub returns-clause-index : goal.returns-clause-index
 returns-clause-index c table read has =
-    ap (slice_get (listed_sources c.source.new.self)) c.in_ok-index.ensures.ok ∙ c.in_ok-listed.ensures.index table has ∙ ap Some (c.source_of.ensures table read)
+    ap (slice_get (listed_sources c.source.new.self)) c.in_ok-index.ensures ∙ c.in_ok-listed.ensures.index table has ∙ ap Some (c.source_of.ensures table read)

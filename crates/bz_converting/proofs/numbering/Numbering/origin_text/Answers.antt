@@ -21,8 +21,8 @@ returns-clause-numbering c table read texts sources is =
     origin_known table (texts ++ origin_named table id ∷ []) (sources ++ []) n new
     (subst (λ (t : List ℕ). IsNumbering table (texts ++ t ∷ []) (sources ++ []) n) named (c.in_ok-listed.ensures.numbering table texts sources is)) id index refl refl refl
     (remembers_all n.origins.items c.remember.new.known n.origins.len id index (subst (λ l. IsRemembered l c.remember.new.known id index) c.deref_mut.ensures.value c.remember.ensures))
-    (ap (slice_get (listed_texts n.texts)) c.in_ok-index.ensures.ok ∙ c.in_ok-listed.ensures.index table (texts, sources, is) ∙ ap Some named)
+    (ap (slice_get (listed_texts n.texts)) c.in_ok-index.ensures ∙ c.in_ok-listed.ensures.index table (texts, sources, is) ∙ ap Some named)
 
 pub returns-clause-index : goal.returns-clause-index
 returns-clause-index c table read has =
-    ap (slice_get (listed_texts c.text.new.self.texts)) c.in_ok-index.ensures.ok ∙ c.in_ok-listed.ensures.index table has ∙ ap Some (c.name_of.ensures table read)
+    ap (slice_get (listed_texts c.text.new.self.texts)) c.in_ok-index.ensures ∙ c.in_ok-listed.ensures.index table has ∙ ap Some (c.name_of.ensures table read)
