@@ -18,7 +18,7 @@ use Rattle.bz_base.specs.declared.types.Symbolized.TheVariants as symbolized
 use Rattle.bz_files.specs.Looked.{Faulted, Looked}
 use Rattle.bz_files.specs.World.{World, Told, in_view}
 use Rattle.bz_files.specs.declared.files.Files.{Ghosts}
-use Rattle.bz_cache.specs.Format.{Comes}
+use Rattle.bz_cache.specs.Format.{GivesOrFaults}
 use Rattle.bz_elf.specs.Format as elf
 use Rattle.bz_proc.specs.Maps.{Mapping, Name, name_of, owner_of}
 use Rattle.bz_proc.specs.NameOrder.{name_order}
@@ -26,7 +26,7 @@ use Rattle.bz_proc.specs.PerfMap as perf
 use Rattle.bz_proc.specs.declared.maps.PathName.{PathName}
 use Rattle.bz_process.specs.Dispatch.{Adds, Answers, IsSaid, Keeps, Test, kept_for}
 use Rattle.bz_process.specs.Member.{as_member}
-use Rattle.bz_process.specs.Process.{Batched, Outcome, Said, at_address, at_addresses, batched, by_asked, by_mapping, by_owner, by_said, unsaid}
+use Rattle.bz_process.specs.Process.{Batched, StepOutcome, Said, at_address, at_addresses, batched, by_asked, by_mapping, by_owner, by_said, unsaid}
 use Rattle.bz_process.specs.ProcessAsk.{AddsAmong, AddsIn, AsksAddress, AsksAll, AsksFront, AsksNamed, IsAdded, IsSaidAt, IsSaidBy, IsSaidIn, SaidInTurn, next_of, readings}
 use Rattle.bz_process.specs.ProcessCall.{Reaches, TakesStep, UnlessFailed}
 use Rattle.bz_process.specs.Asked.{Asked}
@@ -72,7 +72,7 @@ says_no_fault errors.ReadFault none = none refl
 says_no_fault _ none = tt
 
 -- what comes of it is what it gives
-gives_comes : (result : Result Symbolized Error) (entry : Symbolized) (expected : Result Answer Error) → IfErr result (λ e. IsFailure e → IsErrOf {T = Symbolized} (Ok entry) e) → Comes reading expected result → Gives reading expected result
+gives_comes : (result : Result Symbolized Error) (entry : Symbolized) (expected : Result Answer Error) → IfErr result (λ e. IsFailure e → IsErrOf {T = Symbolized} (Ok entry) e) → GivesOrFaults reading expected result → Gives reading expected result
 gives_comes (Ok x) entry expected none is = is
 gives_comes (Err errors.ReadFault) entry expected none is = cc (none tt)
 gives_comes (Err errors.OutOfMemory) entry expected none is = tt
@@ -84,7 +84,7 @@ unfaulted (Err errors.ReadFault) entry none fault = cc (none tt)
 unfaulted (Err _) entry none fault = cc fault
 
 -- only a failure comes whatever is expected
-pub comes_failed : {A B : Type 0} (read : A → B) (expected : Result B Error) (e : Error) → IsFailure e → Comes read expected (Err e)
+pub comes_failed : {A B : Type 0} (read : A → B) (expected : Result B Error) (e : Error) → IsFailure e → GivesOrFaults read expected (Err e)
 comes_failed read expected errors.ReadFault is = tt
 comes_failed read expected errors.OutOfMemory is = tt
 comes_failed read expected _ is = absurd is
@@ -95,7 +95,7 @@ left_failed A errors.OutOfMemory P is = tt
 left_failed A _ P is = absurd is
 
 -- a refusal is what was said
-pub refused_so : {A B : Type 0} (read : A → B) (e : Error) → Comes read (Err e) (Err e)
+pub refused_so : {A B : Type 0} (read : A → B) (e : Error) → GivesOrFaults read (Err e) (Err e)
 refused_so read errors.ReadFault = tt
 refused_so read errors.OutOfMemory = tt
 refused_so read _ = refl
@@ -116,7 +116,7 @@ looked_ok files result entry middle after unfailed looked = record {
 module _ {X : Type 0} (files : Ghosts X) (asked : Asked) where
   -- something was said, and nothing was looked at
   pub says : (mapping : Mapping) (addr : ℕ) (name : Name) (given : Result Answer Error) (result : Result Symbolized Error) (kept : ProcessCaches) (at : X) →
-      Comes reading given result → (Faulted result → ⊥) → TakesStep files asked.own reading (by_said asked mapping addr name (Some given)) result kept kept at at
+      GivesOrFaults reading given result → (Faulted result → ⊥) → TakesStep files asked.own reading (by_said asked mapping addr name (Some given)) result kept kept at at
   says mapping addr name given result kept at is none = record {
     told = λ world seen. record { answer = is; left = unless result _ refl; opened = omega arith };
     reached = reaches_same asked.own _ kept;
@@ -149,7 +149,7 @@ module _ {X : Type 0} (files : Ghosts X) (asked : Asked) where
     abbrev B : List (ℕ × Said) → World → ProcessCaches → Batched
     B = batched asked mappings
 
-    abbrev O : ℕ × Said → World → ProcessCaches → Outcome Answer
+    abbrev O : ℕ × Said → World → ProcessCaches → StepOutcome Answer
     O = at_address asked mappings
 
     opens_split : (front : List (ℕ × Said)) (item : ℕ × Said) (more : List (ℕ × Said)) (world : World) (kept : ProcessCaches) →

@@ -12,7 +12,7 @@ use Rattle.bz_base.specs.declared.types.FindSymOpts.{FindSymOpts}
 use Rattle.bz_files.specs.World.{World, entry_at, has_file, in_view}
 use Rattle.bz_files.specs.declared.files.Files.{Ghosts}
 use Rattle.bz_cache.specs.Cache.{Cache}
-use Rattle.bz_cache.specs.Format.{Comes}
+use Rattle.bz_cache.specs.Format.{GivesOrFaults}
 use Rattle.bz_proc.specs.Maps.{Mapping, owner_of}
 use Rattle.bz_proc.specs.MapsFile.{maps_path, maps_told}
 use Rattle.bz_process.specs.Asked.{Asked}
@@ -104,7 +104,7 @@ module _ (asked : Asked) (world : World) (paths : List (List ℕ)) (start : Proc
 module _ {A D R X : Type 0} (files : Ghosts X) (test : Test R) (translates : Translates R) (finds : Finds R) (opts : FindSymOpts) (asked : Asked) (kind : AddressKind)
     (elf elf_now : Cache) (old now : KeptProcesses D R) (before after : X) (world : World) (paths : List (List ℕ)) (seen : in_view (files.worlds before) ≡ Some world) where
   -- the addresses that are refused
-  again_of : (reading : A → List Answer) (addrs : List ℕ) (result : Result A Error) (expected : Result (List Answer) Error) → Comes reading expected result → refused_in expected ≤ length addrs →
+  again_of : (reading : A → List Answer) (addrs : List ℕ) (result : Result A Error) (expected : Result (List Answer) Error) → GivesOrFaults reading expected result → refused_in expected ≤ length addrs →
       refused_in expected ≤ reads_again reading addrs result
   again_of reading addrs (Ok given) expected comes most = omega (arith, ap refused_in comes)
   again_of reading addrs (Err e) expected comes most = most

@@ -10,7 +10,7 @@ use Rattle.bz_files.specs.World.{World, Entry, Told, in_view, entry_at}
 use Rattle.bz_files.specs.declared.files.Files.{Ghosts}
 use Rattle.bz_files.specs.declared.stamp.Stamp.{Stamp}
 use Rattle.bz_cache.specs.Cache.{Cache, with_pin}
-use Rattle.bz_cache.specs.Format.{Comes, FailsAs, MayFail}
+use Rattle.bz_cache.specs.Format.{GivesOrFaults, FailsAs, MayFail}
 use Rattle.bz_cache.specs.InsertMap.{value_at, with_absent}
 use Rattle.bz_cache.specs.Look.{by_fixed, look, will_open}
 use Rattle.bz_cache.specs.View.{fixed}
@@ -21,9 +21,9 @@ use Rattle.bz_proc.specs.PerfLine.{PerfFunction}
 use Rattle.bz_proc.specs.PerfLines.{perf_functions_in}
 use Rattle.bz_proc.specs.SystemText.{IsReadRefusal}
 use Rattle.bz_process.specs.Caches.{ProcessCaches}
-use Rattle.bz_process.specs.Caching.{is_gone, perf_map_pinning, pins_perf_map, unless_gone}
+use Rattle.bz_process.specs.Caching.{is_absent, perf_map_pinning, pins_perf_map, pinned_if_absent}
 use Rattle.bz_process.specs.CachingCall.{CachingChange, Called, PinPerfMap, CachingReaches, HasWhole, IsCachedTold, PinsKnown, TakesWhole, after_caching, cached_so}
-use Rattle.bz_process.specs.Process.{Outcome, Step, and_then, followed, gives, pid_cmp}
+use Rattle.bz_process.specs.Process.{StepOutcome, Step, and_then, followed, gives, pid_cmp}
 use Rattle.bz_process.specs.ProcessCall.{Change, LookPerfMap, IsTold, Reaches, TakesStep, after_changes, changed}
 use Rattle.bz_process.specs.Remembered.{Remembered}
 use Rattle.bz_process.specs.Untold.{IsKnown, MayLackId}
@@ -72,16 +72,16 @@ left_of cache now path (Err e, left) is = let none : ◌≡◌ {A = Result (Unit
 
 module _ (cache : Cache) (path : List ℕ) where
   -- a perf map that is absent is pinned as it is held
-  gone_pinned : (pinned : Result (Unit {0}) Error × Cache) → pinned.0 ≡ Err errors.NotFound → unless_gone cache path pinned ≡ (Ok tt, with_pin true cache path)
-  gone_pinned (Ok tt, left) is = cc is
-  gone_pinned (Err e, left) is = let same : e ≡ errors.NotFound = cc is in rw same refl
+  absent_pinned : (pinned : Result (Unit {0}) Error × Cache) → pinned.0 ≡ Err errors.NotFound → pinned_if_absent cache path pinned ≡ (Ok tt, with_pin true cache path)
+  absent_pinned (Ok tt, left) is = cc is
+  absent_pinned (Err e, left) is = let same : e ≡ errors.NotFound = cc is in rw same refl
 
   -- another refusal stays
-  same_refusal : (e : Error) (left : Cache) → is_gone (Err e) ≡ false → (unless_gone cache path (Err e, left)).0 ≡ Err e
+  same_refusal : (e : Error) (left : Cache) → is_absent (Err e) ≡ false → (pinned_if_absent cache path (Err e, left)).0 ≡ Err e
   same_refusal errors.NotFound left stays = absurd (false≢true (sym stays))
   same_refusal _ left stays = refl
 
-  fails_pinned : (pinned : Result (Unit {0}) Error × Cache) (e : Error) → is_gone (Err e) ≡ false → FailsAs pinned.0 e → FailsAs (unless_gone cache path pinned).0 e
+  fails_pinned : (pinned : Result (Unit {0}) Error × Cache) (e : Error) → is_absent (Err e) ≡ false → FailsAs pinned.0 e → FailsAs (pinned_if_absent cache path pinned).0 e
   fails_pinned pinned errors.ReadFault stays fails = tt
   fails_pinned pinned errors.OutOfMemory stays fails = tt
   fails_pinned pinned errors.NotFound stays fails = absurd (false≢true (sym stays))
@@ -139,7 +139,7 @@ module _ {X : Type 0} (files : Ghosts X) (own : ℕ) where
         rw is (record { answer = two.answer; left = two.left; opened = omega (arith, two.opened, opened) })
 
     -- nothing is left of a step that is refused
-    told_back : (expected : Outcome D) (e : Error) (now left : ProcessCaches) (before after : ℕ) → HasWhole (λ (x : D). x) expected (Err e) now before after → HasWhole (λ (x : D). x) expected (Err e) left before after
+    told_back : (expected : StepOutcome D) (e : Error) (now left : ProcessCaches) (before after : ℕ) → HasWhole (λ (x : D). x) expected (Err e) now before after → HasWhole (λ (x : D). x) expected (Err e) left before after
     told_back expected e now left before after told = record { answer = told.answer; left = tt; opened = told.opened }
 
     -- a step, and another that is taken whole; where that is refused, the first is taken back
@@ -190,15 +190,15 @@ module _ {X : Type 0} (files : Ghosts X) (own : ℕ) where
     opened_at pinned did world seen = opened_by (will_open (with_pin false kept.perf_maps path) path (entry_at world path)) _ _ (did.reads.spared world seen) did.reads.most
 
     -- a perf map that is absent is pinned as it is held
-    pub pins_gone : (pinned : Result (Unit {0}) Error) → is_gone pinned ≡ true → Pins pinned → Whole_pins (Ok tt) (with_pin true mid path)
-    pins_gone (Ok tt) is did = absurd (false≢true is)
-    pins_gone (Err errors.NotFound) is did = rw did.err (record {
+    pub pins_absent : (pinned : Result (Unit {0}) Error) → is_absent pinned ≡ true → Pins pinned → Whole_pins (Ok tt) (with_pin true mid path)
+    pins_absent (Ok tt) is did = absurd (false≢true is)
+    pins_absent (Err errors.NotFound) is did = rw did.err (record {
       told = λ world seen.
-          let gone : perf_map_pinning kept.perf_maps path (entry_at world path) ≡ (Ok tt, with_pin true kept.perf_maps path) =
-          gone_pinned kept.perf_maps path (pinning perf.format_test kept.perf_maps path (entry_at world path)) (did.answer world seen) in
+          let pinned_anyway : perf_map_pinning kept.perf_maps path (entry_at world path) ≡ (Ok tt, with_pin true kept.perf_maps path) =
+          absent_pinned kept.perf_maps path (pinning perf.format_test kept.perf_maps path (entry_at world path)) (did.answer world seen) in
           record {
-            answer = ap (λ (x : Result (Unit {0}) Error × Cache). x.0) gone;
-            left = ap (λ (x : Result (Unit {0}) Error × Cache). record kept { perf_maps = x.1 }) (sym gone);
+            answer = ap (λ (x : Result (Unit {0}) Error × Cache). x.0) pinned_anyway;
+            left = ap (λ (x : Result (Unit {0}) Error × Cache). record kept { perf_maps = x.1 }) (sym pinned_anyway);
             opened = opened_at (Err errors.NotFound) did world seen;
           };
       err = tt;
@@ -206,15 +206,15 @@ module _ {X : Type 0} (files : Ghosts X) (own : ℕ) where
       perf_maps = record { consistent = λ well. consistent_pinned perf.format_test kept.perf_maps path true well; reload = refl };
       looked = unfaulting before after did.looked (λ is. cc is);
     })
-    pins_gone (Err _) is did = absurd (false≢true is)
+    pins_absent (Err _) is did = absurd (false≢true is)
 
     -- any other is pinned at the version of a look, or refused
-    pub pins_stays : (pinned : Result (Unit {0}) Error) → is_gone pinned ≡ false → Pins pinned → Whole_pins pinned mid
+    pub pins_stays : (pinned : Result (Unit {0}) Error) → is_absent pinned ≡ false → Pins pinned → Whole_pins pinned mid
     pins_stays (Ok tt) is did = record {
       told = λ world seen.
           let there : pinning perf.format_test kept.perf_maps path (entry_at world path) ≡ (Ok tt, mid) =
           subst (λ (o : Option Entry). pinning perf.format_test kept.perf_maps path o ≡ (Ok tt, mid)) (did.left.told world seen) did.left.leaves in
-          let pinned : perf_map_pinning kept.perf_maps path (entry_at world path) ≡ (Ok tt, mid) = ap (unless_gone kept.perf_maps path) there in
+          let pinned : perf_map_pinning kept.perf_maps path (entry_at world path) ≡ (Ok tt, mid) = ap (pinned_if_absent kept.perf_maps path) there in
           record {
             answer = ap (λ (x : Result (Unit {0}) Error × Cache). x.0) pinned;
             left = ap (λ (x : Result (Unit {0}) Error × Cache). record kept { perf_maps = x.1 }) (sym pinned);
@@ -275,24 +275,24 @@ module _ {X : Type 0} (files : Ghosts X) (path : List ℕ) (cache mid : Cache) (
   absent None none = refl
   absent (Some stamp) none = absurd (none refl)
 
-  as_held : (view : Option World) → Told view (λ world. Comes (λ (done : Unit {0}). done) (pinning perf.format_test cache path (entry_at world path)).0 (Err errors.NotFound)) →
+  as_held : (view : Option World) → Told view (λ world. GivesOrFaults (λ (done : Unit {0}). done) (pinning perf.format_test cache path (entry_at world path)).0 (Err errors.NotFound)) →
       (IsSome (fixed (with_pin false cache path) path) → ⊥) → Is_left view (with_pin true cache path)
-  as_held None told free = record { there = None; told = λ world seen. absurd (cc seen); leaves = gone_pinned cache path (pinning perf.format_test cache path None) (absent (fixed (with_pin false cache path) path) free) }
+  as_held None told free = record { there = None; told = λ world seen. absurd (cc seen); leaves = absent_pinned cache path (pinning perf.format_test cache path None) (absent (fixed (with_pin false cache path) path) free) }
   as_held (Some here) told free = record {
     there = entry_at here path;
     told = λ world seen. let same : here ≡ world = cc seen in ap (λ (w : World). entry_at w path) same;
-    leaves = gone_pinned cache path (pinning perf.format_test cache path (entry_at here path)) (told here refl);
+    leaves = absent_pinned cache path (pinning perf.format_test cache path (entry_at here path)) (told here refl);
   }
 
   -- whatever is told, a perf map that is absent is pinned as it is held
-  pub left_gone : (pinned : Result (Unit {0}) Error) → is_gone pinned ≡ true → Pins_file pinned → Is_left (in_view (files.worlds before)) (with_pin true mid path)
-  left_gone (Ok tt) is did = absurd (false≢true is)
-  left_gone (Err errors.NotFound) is did = rw did.err (as_held (in_view (files.worlds before)) did.answer (λ held. false≢true ((did.sure held).0)))
-  left_gone (Err _) is did = absurd (false≢true is)
+  pub left_absent : (pinned : Result (Unit {0}) Error) → is_absent pinned ≡ true → Pins_file pinned → Is_left (in_view (files.worlds before)) (with_pin true mid path)
+  left_absent (Ok tt) is did = absurd (false≢true is)
+  left_absent (Err errors.NotFound) is did = rw did.err (as_held (in_view (files.worlds before)) did.answer (λ held. false≢true ((did.sure held).0)))
+  left_absent (Err _) is did = absurd (false≢true is)
 
   -- any other at the version of a look
   pub left_stays : (pinned : Result (Unit {0}) Error) → Pins_file pinned → OnOk pinned (Is_left (in_view (files.worlds before)) mid)
-  left_stays (Ok tt) did = record { there = did.left.there; told = did.left.told; leaves = ap (unless_gone cache path) did.left.leaves }
+  left_stays (Ok tt) did = record { there = did.left.there; told = did.left.told; leaves = ap (pinned_if_absent cache path) did.left.leaves }
   left_stays (Err e) did = tt
 
 -- the perf map is pinned by what is remembered

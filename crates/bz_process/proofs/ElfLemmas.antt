@@ -2,7 +2,7 @@
 use Rattle.std.proofs.Common.{◌≡◌, ℕ, List, [], ◌∷◌, map, Option, Some, None, option_map, Result, Ok, Err, IfSome, refl, subst}
 use Rattle.std.specs.List.{AllByRecursion}
 use Rattle.bz_base.specs.Answer.{Resolved, call_of, resolved_of, site_of}
-use Rattle.bz_base.specs.Lent.{IsLentCall, IsLentPlace, IsLentResolved}
+use Rattle.bz_base.specs.Lent.{IsLentCall, IsLentSite, IsLentResolved}
 use Rattle.bz_base.specs.Nearest.{nearest_covering}
 use Rattle.bz_base.specs.declared.types.CodeInfo.{CodeInfo}
 use Rattle.bz_base.specs.declared.types.InlinedFn.{InlinedFn}
@@ -24,9 +24,9 @@ bare_in : (list : List Symbol) (addr : ℕ) → IsBare (answer_in None list addr
 bare_in [] addr = tt
 bare_in (symbol ∷ later) addr = found_bare (nearest_covering (λ s. s.start) (λ s. s.size) addr (symbol ∷ later))
 
-lent_place : (place : Option CodeInfo) → option_map site_of place ≡ None → IfSome place IsLentPlace
-lent_place None is = tt
-lent_place (Some place) is = cc
+lent_site : (place : Option CodeInfo) → option_map site_of place ≡ None → IfSome place IsLentSite
+lent_site None is = tt
+lent_site (Some place) is = cc
 
 lent_calls : (calls : List InlinedFn) → map call_of calls ≡ [] → AllByRecursion IsLentCall calls
 lent_calls [] is = tt
@@ -36,4 +36,4 @@ lent_calls (call ∷ later) is = cc
 pub lent_found : (bytes : List ℕ) (addr : ℕ) (symbol : ResolvedSym) → plain None bytes addr ≡ Ok (resolved_of symbol) → IsLentResolved symbol
 lent_found bytes addr symbol is =
     let bare : IsBare (Ok (resolved_of symbol)) = subst IsBare is (bare_in (symbols bytes) addr) in
-    record { place = lent_place symbol.code_info bare.0; calls = lent_calls symbol.inlined.items bare.1 }
+    record { site = lent_site symbol.code_info bare.0; calls = lent_calls symbol.inlined.items bare.1 }

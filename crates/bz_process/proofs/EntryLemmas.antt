@@ -10,7 +10,7 @@ use Rattle.bz_base.specs.declared.types.FindSymOpts.{FindSymOpts}
 use Rattle.bz_files.specs.World.{World, entry_at, in_view}
 use Rattle.bz_files.specs.declared.files.Files.{Ghosts}
 use Rattle.bz_cache.specs.Cache.{Cache}
-use Rattle.bz_cache.specs.Format.{Comes}
+use Rattle.bz_cache.specs.Format.{GivesOrFaults}
 use Rattle.bz_proc.specs.Maps.{Mapping}
 use Rattle.bz_proc.specs.MapsFile.{maps_path, maps_told}
 use Rattle.bz_process.specs.Asked.{Asked}
@@ -86,6 +86,6 @@ module _ {A D R X : Type 0} (files : Ghosts X) (test : Test R) (translates : Tra
       by_kind false not = cc (promised.untaken not).0
 
   pub single_in_view : (reading : A → Answer) (addr : ℕ) (result : Result A Error) → is_in_process kind ≡ true →
-      SymbolizesAddress files reading test translates finds opts asked kind addr result elf elf_now old now before after → Comes reading (process_in_view asked world (caches_of elf old) (kept_mappings old asked.pid) addr) result
+      SymbolizesAddress files reading test translates finds opts asked kind addr result elf elf_now old now before after → GivesOrFaults reading (process_in_view asked world (caches_of elf old) (kept_mappings old asked.pid) addr) result
   single_in_view reading addr result taken promised =
-      subst (λ (expected : Result Answer Error). Comes reading expected result) (alone_shown asked (kept_mappings old asked.pid) world (caches_of elf old) addr coheres) ((promised.exact none taken).told world seen).answer
+      subst (λ (expected : Result Answer Error). GivesOrFaults reading expected result) (alone_shown asked (kept_mappings old asked.pid) world (caches_of elf old) addr coheres) ((promised.exact none taken).told world seen).answer

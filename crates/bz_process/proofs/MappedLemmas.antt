@@ -7,7 +7,7 @@ use Rattle.bz_base.specs.declared.types.Symbolized.{Symbolized}
 use Rattle.bz_files.specs.Looked.{Faulted, Looked, ReadsOne}
 use Rattle.bz_files.specs.World.{Entry, World, Told, in_view, entry_at, has_file}
 use Rattle.bz_files.specs.declared.files.Files.{Ghosts}
-use Rattle.bz_cache.specs.Format.{Comes, FailsAs}
+use Rattle.bz_cache.specs.Format.{GivesOrFaults, FailsAs}
 use Rattle.bz_cache.specs.InsertMap.{value_at}
 use Rattle.bz_elf.specs.Format as elf
 use Rattle.bz_proc.specs.Maps.{Mapping}
@@ -28,7 +28,7 @@ use Rattle.bz_process.proofs.ProcessLemmas.{in_order, opened_by, reaches_same, r
 module _ {X : Type 0} (files : Ghosts X) (own : ℕ) where
   -- a text was looked at
   pub text_told : {A B : Type 0} (reads : A → B) (told : Option Entry → Result B Error) (path : List ℕ) (result : Result A Error) (kept : ProcessCaches) (before after : X) →
-      Told (in_view (files.worlds before)) (λ world. Comes reads (told (entry_at world path)) result) →
+      Told (in_view (files.worlds before)) (λ world. GivesOrFaults reads (told (entry_at world path)) result) →
       Told (in_view (files.worlds before)) (λ world. has_file (entry_at world path) ≡ false → files.opens after ≡ files.opens before) →
       ReadsOne files before after → Looked files before after (Faulted result) → TakesStep files own reads (of_text told path) result kept kept before after
   text_told reads told path result kept before after answer spared most looked = record {
@@ -60,7 +60,7 @@ module _ {X : Type 0} (files : Ghosts X) (own : ℕ) where
     looked = unlooked files own at (no_fault mappings result is);
   }
     where
-      comes_so : (mappings : List Mapping) (result : Result (List Mapping) Error) → result ≡ if_some mappings → Comes (λ (k : List Mapping). k) (if_some mappings) result
+      comes_so : (mappings : List Mapping) (result : Result (List Mapping) Error) → result ≡ if_some mappings → GivesOrFaults (λ (k : List Mapping). k) (if_some mappings) result
       comes_so [] result is = rw is refl
       comes_so (mapping ∷ later) result is = rw is refl
 

@@ -10,7 +10,7 @@ use Rattle.bz_files.specs.Looked.{Faulted, Looked, ReadsOne}
 use Rattle.bz_files.specs.World.{World, Entry, Told, in_view, entry_at, has_file}
 use Rattle.bz_files.specs.declared.files.Files.{Ghosts}
 use Rattle.bz_cache.specs.Cache.{Cache}
-use Rattle.bz_cache.specs.Format.{Comes, FailsAs}
+use Rattle.bz_cache.specs.Format.{GivesOrFaults, FailsAs}
 use Rattle.bz_cache.specs.InsertMap.{value_at, with_absent}
 use Rattle.bz_cache.specs.Look.{look}
 use Rattle.bz_elf.specs.Format as elf
@@ -19,7 +19,7 @@ use Rattle.bz_proc.specs.PerfPath.{perf_map_path}
 use Rattle.bz_proc.specs.PerfId.{ns_tgid_of, status_path}
 use Rattle.bz_base.specs.declared.pid.Pid.{Pid}
 use Rattle.bz_cache.specs.FileCall.{Question, CallsFile, FileTold, FileSome, Leaves, file_opens}
-use Rattle.bz_process.specs.Process.{Outcome, Step, and_then, followed, gives, unless_absent, or_unknown, of_elf, of_perf_map, count_of, pid_cmp, by_id, by_kept, remember, remembered}
+use Rattle.bz_process.specs.Process.{StepOutcome, Step, and_then, followed, gives, unless_absent, or_unknown, of_elf, of_perf_map, count_of, pid_cmp, by_id, by_kept, remember, remembered}
 use Rattle.bz_process.specs.ProcessCall.{Change, LookElf, LookPerfMap, Remember, changed, after_changes, IsTold, Reaches, LeavesUnlessFailed, HasOutcome, StaysKept, TakesStep, softened}
 use Rattle.bz_process.specs.Remembered.{Remembered}
 use Rattle.bz_process.specs.Caches.{ProcessCaches}
@@ -201,18 +201,18 @@ module _ {X : Type 0} (files : Ghosts X) (own : ℕ) where
         }
 
     -- what comes of a step that is refused
-    fails_next : (answer : Result B Error) (left : ProcessCaches) (opens : ℕ) (then : B → ProcessCaches → Outcome D) (e : Error) → FailsAs answer e → FailsAs (followed answer left opens then).answer e
+    fails_next : (answer : Result B Error) (left : ProcessCaches) (opens : ℕ) (then : B → ProcessCaches → StepOutcome D) (e : Error) → FailsAs answer e → FailsAs (followed answer left opens then).answer e
     fails_next answer left opens then errors.ReadFault fails = tt
     fails_next answer left opens then errors.OutOfMemory fails = tt
     fails_next answer left opens then _ fails = rw fails refl
 
-    leaves_next : (answer : Result B Error) (left now : ProcessCaches) (opens : ℕ) (then : B → ProcessCaches → Outcome D) (e : Error) → FailsAs answer e →
+    leaves_next : (answer : Result B Error) (left now : ProcessCaches) (opens : ℕ) (then : B → ProcessCaches → StepOutcome D) (e : Error) → FailsAs answer e →
         LeavesUnlessFailed {A = A} (Err e) left now → LeavesUnlessFailed {A = C} (Err e) (followed answer left opens then).left now
     leaves_next answer left now opens then errors.ReadFault fails is = tt
     leaves_next answer left now opens then errors.OutOfMemory fails is = tt
     leaves_next answer left now opens then _ fails is = rw fails is
 
-    opens_next : (answer : Result B Error) (left : ProcessCaches) (opens : ℕ) (then : B → ProcessCaches → Outcome D) (before after : ℕ) → after ≤ before + opens → after ≤ before + (followed answer left opens then).opens
+    opens_next : (answer : Result B Error) (left : ProcessCaches) (opens : ℕ) (then : B → ProcessCaches → StepOutcome D) (before after : ℕ) → after ≤ before + opens → after ≤ before + (followed answer left opens then).opens
     opens_next (Ok given) left opens then before after le = omega (arith, le)
     opens_next (Err e) left opens then before after le = le
 
@@ -235,7 +235,7 @@ module _ {X : Type 0} (files : Ghosts X) (own : ℕ) where
     }
 
   -- a step whose refusal by an absent file makes the address unknown
-  answer_softened : (answer : Result Answer Error) (result : Result Symbolized Error) → Comes reading answer result → Comes reading (or_unknown answer) (softened result)
+  answer_softened : (answer : Result Answer Error) (result : Result Symbolized Error) → GivesOrFaults reading answer result → GivesOrFaults reading (or_unknown answer) (softened result)
   answer_softened answer (Ok x) is = ap or_unknown is
   answer_softened answer (Err errors.NotFound) is = ap or_unknown is
   answer_softened answer (Err errors.ReadFault) is = tt

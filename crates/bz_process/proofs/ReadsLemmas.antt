@@ -24,7 +24,7 @@ use Rattle.bz_proc.specs.PerfMap as perf
 use Rattle.bz_proc.specs.Status.{ns_tgid_in}
 use Rattle.bz_process.specs.Asked.{Asked}
 use Rattle.bz_process.specs.Caches.{ProcessCaches}
-use Rattle.bz_process.specs.Process.{Outcome, Said, asks_elf, asks_perf_map, at_address, batched, by_asked, by_id, by_kept, by_mapping, by_owner, by_said, count_of, followed, of_elf, of_perf_map, offset_in, or_unknown, pid_cmp, remember, remembered}
+use Rattle.bz_process.specs.Process.{StepOutcome, Said, asks_elf, asks_perf_map, at_address, batched, by_asked, by_id, by_kept, by_mapping, by_owner, by_said, count_of, followed, of_elf, of_perf_map, offset_in, or_unknown, pid_cmp, remember, remembered}
 use Rattle.bz_process.specs.ProcessCall.{Reaches}
 use Rattle.bz_process.specs.Reads.{HasPath, ignored, is_ignored, left_to_read, unkept}
 use Rattle.bz_process.specs.Remembered.{Remembered}
@@ -159,8 +159,9 @@ module _ (world : World) (asked : Asked) (elf_paths perf_paths : List (List ℕ)
   abbrev left : ProcessCaches → ℕ
   left kept = left_to_read asked.pid world elf_paths perf_paths kept
 
-  -- a step reads no more than it takes from what is left to read, but for a file that it refuses; and no more than is left to read
-  record Takes (kept : ProcessCaches) (outcome : Outcome Answer) : Type 0 where
+  -- a step reads no more than it takes from what is left to read, but for a file that it refuses. It reads no more than is left to
+  -- read
+  record Takes (kept : ProcessCaches) (outcome : StepOutcome Answer) : Type 0 where
     taken : outcome.opens + left outcome.left ≤ left kept + count_of (is_refused outcome.answer)
     once : outcome.opens ≤ left kept
 
@@ -174,10 +175,10 @@ module _ (world : World) (asked : Asked) (elf_paths perf_paths : List (List ℕ)
     once = omega (arith, opens_one world elf.format_test elf_version.format_refusals kept.elf path elf_paths among);
   }
 
-  abbrev soft : Outcome Answer → Outcome Answer
+  abbrev soft : StepOutcome Answer → StepOutcome Answer
   soft outcome = record { answer = or_unknown outcome.answer; left = outcome.left; opens = outcome.opens }
 
-  abbrev next_look : ℕ → Remembered → ProcessCaches → Outcome Answer
+  abbrev next_look : ℕ → Remembered → ProcessCaches → StepOutcome Answer
   next_look addr known kept = of_perf_map (asks_perf_map addr) known.perf_map world kept
 
   -- a perf map is looked at, where some files were read before that are no more left to read
@@ -209,10 +210,10 @@ module _ (world : World) (asked : Asked) (elf_paths perf_paths : List (List ℕ)
   abbrev status : Option Entry
   status = entry_at world (status_path asked.pid)
 
-  abbrev by_told : ProcessCaches → Result ℕ Error → Outcome Remembered
+  abbrev by_told : ProcessCaches → Result ℕ Error → StepOutcome Remembered
   by_told kept told = by_id asked.pid asked.own (count_of (has_file status)) kept told
 
-  abbrev then_look : ℕ → Outcome Remembered → Outcome Answer
+  abbrev then_look : ℕ → StepOutcome Remembered → StepOutcome Answer
   then_look addr first = soft (followed first.answer first.left first.opens (next_look addr))
 
   abbrev unknown : Option Remembered → ℕ

@@ -3,7 +3,7 @@ use Rattle.std.specs.Prelude.{ℕ, Bool}
 use Rattle.bz_base.specs.declared.pid.Pid.{Pid}
 use Rattle.bz_process.specs.declared.query.ProcessQuery.{ProcessQuery}
 
--- which process, where the own one has this id. `perf_map`: its perf map answers for addresses of mappings without a name.
+-- which process is asked, and the id of the own one. `perf_map`: its perf map answers for addresses of mappings without a name.
 -- `map_files`: mapped files are looked at by the paths that stand for their mappings
 pub record Asked : Type 0 where
   pub pid : Pid

@@ -18,7 +18,7 @@ use Rattle.bz_process.specs.Mapped.{of_text}
 use Rattle.bz_process.specs.Process.{Step, and_then, count_of, gives, pid_cmp, remember}
 use Rattle.bz_process.specs.declared.caching.ProcessCaching.{ProcessCaching}
 
--- which process is cached, where the own one has this id; whether its mappings are; and whether its perf map is
+-- which process is cached, and the id of the own one; whether its mappings are kept, and whether its perf map is pinned
 pub record Caching : Type 0 where
   pub pid : Pid
   pub own : ℕ
@@ -30,18 +30,18 @@ abbrev pub caching_of : ℕ → ProcessCaching → Caching
 caching_of own request = record { pid = request.pid; own = own; vmas = request.cache_vmas; perf_map = request.cache_perf_map }
 
 -- an absent perf map is no refusal: a version that is held already is pinned then
-abbrev pub unless_gone : Cache → List ℕ → Result (Unit {0}) Error × Cache → Result (Unit {0}) Error × Cache
-unless_gone cache path (Err errors.NotFound, left) = (Ok tt, with_pin true cache path)
-unless_gone cache path (answer, left) = (answer, left)
+abbrev pub pinned_if_absent : Cache → List ℕ → Result (Unit {0}) Error × Cache → Result (Unit {0}) Error × Cache
+pinned_if_absent cache path (Err errors.NotFound, left) = (Ok tt, with_pin true cache path)
+pinned_if_absent cache path (answer, left) = (answer, left)
 
 -- whether a file is refused since it is absent
-abbrev pub is_gone : Result (Unit {0}) Error → Bool
-is_gone (Err errors.NotFound) = true
-is_gone _ = false
+abbrev pub is_absent : Result (Unit {0}) Error → Bool
+is_absent (Err errors.NotFound) = true
+is_absent _ = false
 
 -- a perf map is looked at as if it weren't pinned, and is pinned then
 abbrev pub perf_map_pinning : Cache → List ℕ → Option Entry → Result (Unit {0}) Error × Cache
-perf_map_pinning cache path there = unless_gone cache path (pinning perf.format_test cache path there)
+perf_map_pinning cache path there = pinned_if_absent cache path (pinning perf.format_test cache path there)
 
 abbrev pub pins_perf_map : List ℕ → Step (Unit {0})
 pins_perf_map path world kept = record {

@@ -7,7 +7,7 @@ use Rattle.bz_files.specs.Looked.{Faulted, Looked}
 use Rattle.bz_files.specs.World.{World, Told, in_view}
 use Rattle.bz_files.specs.declared.files.Files.{Ghosts}
 use Rattle.bz_cache.specs.Cache.{Cache, Consistent, with_pin}
-use Rattle.bz_cache.specs.Format.{Comes}
+use Rattle.bz_cache.specs.Format.{GivesOrFaults}
 use Rattle.bz_cache.specs.InsertMap.{value_at, with_absent}
 use Rattle.bz_cache.specs.Pinning.{IsLeft}
 use Rattle.bz_proc.specs.Maps.{Mapping}
@@ -16,7 +16,7 @@ use Rattle.bz_proc.specs.PerfMap as perf
 use Rattle.bz_proc.specs.SystemText.{IsReadRefusal}
 use Rattle.bz_process.specs.Caches.{ProcessCaches, caches}
 use Rattle.bz_process.specs.Caching.{Caching, KeptMappings, caches_process, mappings_after, perf_map_pinning, with_mappings}
-use Rattle.bz_process.specs.Process.{Outcome, Step, pid_cmp}
+use Rattle.bz_process.specs.Process.{StepOutcome, Step, pid_cmp}
 use Rattle.bz_process.specs.ProcessCall.{Change, IsTold, StaysKept, changed}
 use Rattle.bz_process.specs.Processes.{KeptProcesses, caches_of}
 use Rattle.bz_process.specs.Remembered.{Remembered}
@@ -47,9 +47,10 @@ pub record CachingReaches (own : ℕ) (in_view : Option World) (old now : Proces
   pub told : Told in_view (λ world. AllByRecursion (IsCachedTold own world) changes)
   pub leads : now ≡ after_caching changes old
 
--- such a step where it is told what lies at each path: its answer, what an answer leaves; and it reads no more files
-pub record HasWhole {A B : Type 0} (reading : A → B) (expected : Outcome B) (result : Result A Error) (now : ProcessCaches) (before after : ℕ) : Type 0 where
-  pub answer : Comes reading expected.answer result
+-- a step of caching where it is told what lies at each path: its answer, and what an answer leaves. It reads no more files than
+-- expected
+pub record HasWhole {A B : Type 0} (reading : A → B) (expected : StepOutcome B) (result : Result A Error) (now : ProcessCaches) (before after : ℕ) : Type 0 where
+  pub answer : GivesOrFaults reading expected.answer result
   pub left : OnOk result (now ≡ expected.left)
   pub opened : after ≤ before + expected.opens
 
@@ -90,8 +91,8 @@ MayPin true pid own in_view old now = PinsKnown pid own in_view old now
 
 -- all that caching a process promises
 pub record CachesProcess {D R X : Type 0} (files : Ghosts X) (asked : Caching) (result : Result (Unit {0}) Error) (old now : KeptProcesses D R) (before after : X) : Type 0 where
-  -- beside any ELF files: where it is told what lies at each path, that answers or refuses. An answer leaves these perf maps and ids.
-  -- Whatever is told, looks, ids and pins lead to them. The files are only looked at
+  -- beside any ELF files: where it is told what lies at each path, that answers or refuses. An answer leaves the expected perf maps
+  -- and ids. Whatever is told, looks, ids and pins lead to what is left. The files are only looked at
   pub step : (elf : Cache) → TakesWhole files asked.own (λ (done : Unit {0}). done) (caches_process asked) result (caches_of elf old) (caches_of elf now) before after
   -- an answer leaves these mappings
   pub mappings : Told (in_view (files.worlds before)) (λ world. OnOk result (now.mappings ≡ mappings_after asked world old.mappings))

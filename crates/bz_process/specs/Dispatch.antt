@@ -27,21 +27,21 @@ Answers R = List (PathName × Option R)
 abbrev pub kept_for : {R : Type 0} → Answers R → PathName → Option (Option R)
 kept_for answers name = value_at name_order answers name
 
--- what answered the call before is as it was
+-- each answer that was kept is still kept
 abbrev pub Keeps : {R : Type 0} → Answers R → Answers R → Type 0
 Keeps {R} old now = (name : PathName) (answer : Option R) → kept_for old name ≡ Some answer → kept_for now name ≡ Some answer
 
 -- what a resolver finds for an address starts there or before it; and it is refused as bytes are
-abbrev pub IsFound : ℕ → Result (Result Resolved Reason) Error → Type 0
-IsFound addr (Ok found) = StartsBefore addr found
-IsFound addr (Err e) = IsFormatRefusal e
+abbrev pub IsResolution : ℕ → Result (Result Resolved Reason) Error → Type 0
+IsResolution addr (Ok found) = StartsBefore addr found
+IsResolution addr (Err e) = IsFormatRefusal e
 
 -- what a resolver may say of an offset in the member, as its tests allow
 module _ {R : Type 0} (translates : Translates R) (finds : Finds R) (opts : FindSymOpts) (resolver : R) where
   abbrev pub MayFind : Result (Option ℕ) Error → Result Answer Error → Type 0
   MayFind (Err e) said = IsFormatRefusal e × (said ≡ Err e)
   MayFind (Ok None) said = said ≡ Ok (Unknown reasons.InvalidFileOffset)
-  MayFind (Ok (Some addr)) said = (found : Result (Result Resolved Reason) Error) × finds.may_find resolver opts addr found × IsFound addr found × (said ≡ as_answer addr found)
+  MayFind (Ok (Some addr)) said = (found : Result (Result Resolved Reason) Error) × finds.may_find resolver opts addr found × IsResolution addr found × (said ≡ as_answer addr found)
 
   abbrev pub MaySay : Option ℕ → Result Answer Error → Type 0
   MaySay None said = said ≡ Ok (Unknown reasons.InvalidFileOffset)
@@ -70,11 +70,6 @@ module _ {R : Type 0} (test : Test R) (translates : Translates R) (finds : Finds
   -- what is said for an address of a mapping with this name
   abbrev pub IsSaid : Mapping → PathName → ℕ → Answers R → Answers R → Said → Type 0
   IsSaid mapping name addr old now said = RefusesMember mapping name old said ⊎ SaysKept (offset_in mapping addr) (kept_for now name) said
-
--- an answer as plain data
-abbrev pub seen : Result Symbolized Error → Result Answer Error
-seen (Ok answer) = Ok (reading answer)
-seen (Err e) = Err e
 
 -- what was said, as plain data
 abbrev pub said_of : Result (Option Symbolized) Error → Said

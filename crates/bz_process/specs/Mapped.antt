@@ -33,6 +33,7 @@ abbrev pub if_some : List Mapping → Result (List Mapping) Error
 if_some [] = Err errors.UnexpectedEof
 if_some (mapping ∷ later) = Ok (mapping ∷ later)
 
+-- the mappings as a step, which is refused where there are none
 abbrev pub checked : List Mapping → Step (List Mapping)
 checked mappings world kept = record { answer = if_some mappings; left = kept; opens = 0 }
 
@@ -41,6 +42,7 @@ abbrev pub mappings_of : Pid → Option (List Mapping) → Step (List Mapping)
 mappings_of pid (Some mappings) = gives mappings
 mappings_of pid None = of_text (maps_told pid) (maps_path pid)
 
+-- the same, of which there are some
 abbrev pub some_mappings : Pid → Option (List Mapping) → Step (List Mapping)
 some_mappings pid kept = and_then (mappings_of pid kept) checked
 

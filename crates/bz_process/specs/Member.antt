@@ -5,7 +5,7 @@ use Rattle.bz_base.specs.declared.error.Error.TheVariants as errors
 use Rattle.bz_proc.specs.Maps.{Mapping, Name, name_of}
 use Rattle.bz_process.specs.declared.dispatch.ProcessMemberInfo.{ProcessMemberInfo}
 
--- what a process has mapped: where it begins and where it is past, and what it is
+-- what a process has mapped: its first address, the one past its last, and what it is
 pub record Member : Type 0 where
   pub start : ℕ
   pub past : ℕ

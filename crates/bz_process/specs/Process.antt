@@ -3,6 +3,7 @@ use Rattle.std.specs.Prelude.{ℕ, ◌+◌, ◌-◌, Bool, true, false, cond, Li
 use Rattle.std.specs.declared.cmp.Ordering.{Ordering}
 use Rattle.bz_base.specs.Answer.{Answer, Unknown, in_batch}
 use Rattle.bz_base.specs.Resolution as resolution
+use Rattle.bz_base.specs.Span.{fitting}
 use Rattle.bz_base.specs.declared.error.Error.{Error}
 use Rattle.bz_base.specs.declared.error.Error.TheVariants as errors
 use Rattle.bz_base.specs.declared.types.Reason.TheVariants as reasons
@@ -10,7 +11,7 @@ use Rattle.bz_files.specs.World.{World, entry_at, has_file}
 use Rattle.bz_cache.specs.InsertMap.{value_at, with_absent}
 use Rattle.bz_elf.specs.Format as elf
 use Rattle.bz_elf.specs.Plain as elf_plain
-use Rattle.bz_elf.specs.Segments.{fitting, segments, translated}
+use Rattle.bz_elf.specs.Segments.{segments, translated}
 use Rattle.bz_proc.specs.Maps.{Mapping, Name, File, Component, owner_of}
 use Rattle.bz_proc.specs.PerfMap as perf
 use Rattle.bz_proc.specs.PerfPath.{perf_map_path}
@@ -27,21 +28,21 @@ abbrev pub pid_cmp : Pid → Pid → Ordering
 pid_cmp = (pid_ord.ghosts).cmp
 
 -- what a step gives or how it is refused, what it leaves, and how many files it reads at most
-pub record Outcome (B : Type 0) : Type 0 where
+pub record StepOutcome (B : Type 0) : Type 0 where
   pub answer : Result B Error
   pub left : ProcessCaches
   pub opens : ℕ
 
 -- a step of a call in some world, by what is kept when it begins
 abbrev pub Step : Type 0 → Type 0
-Step B = World → ProcessCaches → Outcome B
+Step B = World → ProcessCaches → StepOutcome B
 
 -- nothing is looked at, and this is given
 abbrev pub gives : {B : Type 0} → B → Step B
 gives given world kept = record { answer = Ok given; left = kept; opens = 0 }
 
 -- what comes after a step with this result
-abbrev pub followed : {A B : Type 0} → Result A Error → ProcessCaches → ℕ → (A → ProcessCaches → Outcome B) → Outcome B
+abbrev pub followed : {A B : Type 0} → Result A Error → ProcessCaches → ℕ → (A → ProcessCaches → StepOutcome B) → StepOutcome B
 followed (Ok given) left opens next = record { answer = (next given left).answer; left = (next given left).left; opens = opens + (next given left).opens }
 followed (Err e) left opens next = record { answer = Err e; left = left; opens = opens }
 
@@ -59,7 +60,7 @@ or_unknown (Err e) = Err e
 abbrev pub unless_absent : Step Answer → Step Answer
 unless_absent step world kept = record { answer = or_unknown (step world kept).answer; left = (step world kept).left; opens = (step world kept).opens }
 
--- how many files are read
+-- 1 where this is so, and else 0
 abbrev pub count_of : Bool → ℕ
 count_of opened = cond opened 1 0
 
@@ -103,12 +104,12 @@ abbrev pub remembered : Pid → ℕ → ℕ → Remembered
 remembered pid own id = record { id = id; perf_map = perf_map_path pid own id }
 
 -- a process is remembered by the id that was told
-abbrev pub by_id : Pid → ℕ → ℕ → ProcessCaches → Result ℕ Error → Outcome Remembered
+abbrev pub by_id : Pid → ℕ → ℕ → ProcessCaches → Result ℕ Error → StepOutcome Remembered
 by_id pid own opens kept (Ok id) = record { answer = Ok (remembered pid own id); left = record kept { ids = with_absent pid_cmp kept.ids pid (remembered pid own id) }; opens = opens }
 by_id pid own opens kept (Err e) = record { answer = Err e; left = kept; opens = opens }
 
 -- what is remembered of a process; if nothing is, what its status tells, which is then remembered
-abbrev pub by_kept : Pid → ℕ → World → ProcessCaches → Option Remembered → Outcome Remembered
+abbrev pub by_kept : Pid → ℕ → World → ProcessCaches → Option Remembered → StepOutcome Remembered
 by_kept pid own world kept (Some known) = record { answer = Ok known; left = kept; opens = 0 }
 by_kept pid own world kept None = by_id pid own (count_of (has_file (entry_at world (status_path pid)))) kept (ns_tgid_of pid own (entry_at world (status_path pid)))
 
@@ -150,14 +151,16 @@ by_owner asked addr said (Some mapping) = by_mapping asked mapping addr said map
 abbrev pub at_address : Asked → List Mapping → ℕ × Said → Step Answer
 at_address asked mappings item = by_owner asked item.0 item.1 (owner_of mappings item.0)
 
--- what addresses give one after another, each by what those before it left. A refused address is an ignored error among the
--- answers; so many files are read at most
+-- what addresses give one after another, each by what those before it left
 pub record Batched : Type 0 where
+  -- one for each address. A refused address is an ignored error
   pub answers : List Answer
+  -- what is kept after the last
   pub left : ProcessCaches
+  -- how many files are read at most
   pub opens : ℕ
 
-abbrev pub with_first : Outcome Answer → Batched → Batched
+abbrev pub with_first : StepOutcome Answer → Batched → Batched
 with_first first rest = record { answers = in_batch first.answer ∷ rest.answers; left = rest.left; opens = first.opens + rest.opens }
 
 abbrev pub batched : Asked → List Mapping → List (ℕ × Said) → World → ProcessCaches → Batched

@@ -10,14 +10,14 @@ use Rattle.bz_files.specs.Looked.{Faulted, Looked}
 use Rattle.bz_files.specs.World.{World, Entry, Told, in_view, entry_at}
 use Rattle.bz_files.specs.declared.files.Files.{Ghosts}
 use Rattle.bz_cache.specs.Cache.{Cache, Consistent}
-use Rattle.bz_cache.specs.Format.{Comes}
+use Rattle.bz_cache.specs.Format.{GivesOrFaults}
 use Rattle.bz_cache.specs.InsertMap.{with_absent}
 use Rattle.bz_cache.specs.Look.{look}
 use Rattle.bz_elf.specs.Format as elf
 use Rattle.bz_proc.specs.PerfMap as perf
 use Rattle.bz_proc.specs.PerfId.{ns_tgid_of, status_path}
 use Rattle.bz_base.specs.declared.pid.Pid.{Pid}
-use Rattle.bz_process.specs.Process.{Outcome, Step, pid_cmp, remembered}
+use Rattle.bz_process.specs.Process.{StepOutcome, Step, pid_cmp, remembered}
 use Rattle.bz_process.specs.Remembered.{Remembered}
 use Rattle.bz_process.specs.Caches.{ProcessCaches, caches}
 use Rattle.bz_process.specs.declared.perf_maps.PerfMaps.{PerfMaps}
@@ -60,9 +60,9 @@ abbrev pub LeavesUnlessFailed : {A S : Type 0} → Result A Error → S → S �
 LeavesUnlessFailed result expected now = UnlessFailed result (now ≡ expected)
 
 -- a step where it is told what lies at each path
-pub record HasOutcome {A B : Type 0} (reading : A → B) (expected : Outcome B) (result : Result A Error) (now : ProcessCaches) (before after : ℕ) : Type 0 where
-  -- its answer, and what it leaves; and it reads no more files
-  pub answer : Comes reading expected.answer result
+pub record HasOutcome {A B : Type 0} (reading : A → B) (expected : StepOutcome B) (result : Result A Error) (now : ProcessCaches) (before after : ℕ) : Type 0 where
+  -- its answer, and what it leaves; and it reads no more files than expected
+  pub answer : GivesOrFaults reading expected.answer result
   pub left : LeavesUnlessFailed result expected.left now
   pub opened : after ≤ before + expected.opens
 

@@ -65,7 +65,7 @@ coded_processes {D} {R} d r =
     (λ p. record { perf_maps = p.0; ids = p.1.0; mappings = p.1.1.0; dispatcher = p.1.1.1.0; answers = p.1.1.1.1 })
     (λ _. refl)
 
--- a process takes its own addresses alone
+-- a process takes absolute addresses alone
 abbrev pub is_in_process : AddressKind → Bool
 is_in_process InProcess = true
 is_in_process InTable = false

@@ -21,7 +21,8 @@ abbrev pub unkept : World → Cache → List (List ℕ) → ℕ
 unkept world cache [] = 0
 unkept world cache (path ∷ later) = count_of (is_new cache (entry_at world path)) + unkept world cache later
 
--- how many files may have to be read: those at these paths whose present stamp isn't kept, and the status of an unknown process
+-- how many files may have to be read: those at these paths whose present stamp isn't kept. The status of a process that isn't
+-- remembered counts too
 abbrev pub left_to_read : Pid → World → List (List ℕ) → List (List ℕ) → ProcessCaches → ℕ
 left_to_read pid world elf_paths perf_paths kept =
     unkept world kept.elf elf_paths + (unkept world kept.perf_maps perf_paths + count_of (not (is_some (value_at pid_cmp kept.ids pid))))
@@ -31,11 +32,13 @@ abbrev pub perf_path : Result Remembered Error → List (List ℕ)
 perf_path (Ok known) = known.perf_map ∷ []
 perf_path (Err e) = []
 
--- how many files a call may read once: those left to read, mapped files being at these paths, and the mappings' text if it is read
+-- how many files a call may read once, where mapped files are at these paths: those left to read. The text of the mappings counts
+-- too, if none are known
 abbrev pub reads_once : Asked → World → List (List ℕ) → Option (List Mapping) → ProcessCaches → ℕ
 reads_once asked world paths known kept =
     count_of (not (is_some known)) + left_to_read asked.pid world paths (perf_path (remember asked.pid asked.own world kept).answer) kept
 
+-- the answer stands for an address that was refused
 abbrev pub is_ignored : Answer → Bool
 is_ignored (Known symbol) = false
 is_ignored (Unknown reasons.IgnoredError) = true

@@ -2,7 +2,7 @@
 use Rattle.std.specs.Prelude.{ℕ, List, refl}
 use Rattle.std.specs.Coded.{Coded, code_by, coded×, coded_ℕ, coded_list}
 
--- the id by which it names itself, and the path of its perf map
+-- the id by which it knows itself, and the path of its perf map
 pub record Remembered : Type 0 where
   pub id : ℕ
   pub perf_map : List ℕ

@@ -9,7 +9,7 @@ use Rattle.bz_process.specs.Caches.{ProcessCaches, caches}
 use Rattle.bz_process.specs.Dispatch.{Answers, Test}
 use Rattle.bz_process.specs.declared.answering.Answering.{Answering}
 use Rattle.bz_process.specs.declared.dispatch.ProcessDispatch.{Ghosts as Dispatches}
-use Rattle.bz_process.specs.declared.query.Question.{Question}
+use Rattle.bz_process.specs.declared.query.ProcessQuestion.{ProcessQuestion}
 
 -- what a call may say for an address, and what it asks
 pub record Terms (R : Type 0) : Type 1 where
@@ -34,8 +34,8 @@ module _ {D R : Type 0} where
   terms_by dispatches translates finds dispatcher opts asked =
       record { test = dispatches.may_dispatch dispatcher; translates = translates; finds = finds; opts = opts; asked = asked }
 
-  -- a question of the own process with this id, under what is kept of a dispatcher
-  abbrev pub terms_of : Dispatches D R → Translates R → Finds R → Answering D R → Question → ℕ → Terms R
+  -- a question, where the own process has this id, under what is kept of a dispatcher
+  abbrev pub terms_of : Dispatches D R → Translates R → Finds R → Answering D R → ProcessQuestion → ℕ → Terms R
   terms_of dispatches translates finds answering question own =
       terms_by dispatches translates finds answering.dispatching.dispatch question.opts.now (asked_of own question.query.now)
 

@@ -57,6 +57,7 @@ module _ (given : Result Answer Error) (old now : ProcessCaches) where
     pub refusal : IfErr given (MayLackId (value_at pid_cmp old.ids pid))
     pub unchanged : now ≡ old
 
+  -- the perf map of the process is looked at, or the process isn't known
   abbrev pub LooksAtPerfMap : Pid → ℕ → ℕ → Type 0
   LooksAtPerfMap pid own addr = LooksByKnown pid own addr ⊎ IsUnknown pid
 

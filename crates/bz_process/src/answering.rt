@@ -10,9 +10,9 @@ ghost use Rattle.bz_process.specs.Terms.{kept_by, terms_of};
 use crate::dispatch::ProcessDispatch;
 use crate::dispatching::Dispatching;
 use crate::mapped::{Mapped, some_mappings};
-use crate::mapped_file::named;
+use crate::mapped_file::answer_by_name;
 use crate::perf_maps::PerfMaps;
-use crate::query::Question;
+use crate::query::ProcessQuestion;
 use bz_base::{Addr, Pid, Reason, Result, Symbolized, in_batch};
 use bz_cache::{FileCache, InsertMap};
 use bz_elf::ElfFile;
@@ -38,7 +38,7 @@ impl<D: ProcessDispatch + Drop> Answering<D> {
         elf: &mut FileCache<ElfFile>,
         alloc: Global,
         files: &mut F,
-        question: &Question<'_>,
+        question: &ProcessQuestion<'_>,
         addrs: &[Addr],
     ) -> Result<Vec<Symbolized<'static>>>
         ensures asks { AsksBatch F.Files (terms_of D.ProcessDispatch D.Resolver.TranslateFileOffset D.Resolver.Symbolize self.old question.now (F.pid files.old)) mappings.old addrs.now result (kept_by elf.old self.old) (kept_by elf.new self.new) files.old files.new }
@@ -56,7 +56,7 @@ impl<D: ProcessDispatch + Drop> Answering<D> {
         elf: &mut FileCache<ElfFile>,
         alloc: Global,
         files: &mut F,
-        question: &Question<'_>,
+        question: &ProcessQuestion<'_>,
         addr: Addr,
     ) -> Result<Symbolized<'static>>
         ensures asks { AsksSingle F.Files (terms_of D.ProcessDispatch D.Resolver.TranslateFileOffset D.Resolver.Symbolize self.old question.now (F.pid files.old)) mappings.old addr result (kept_by elf.old self.old) (kept_by elf.new self.new) files.old files.new }
@@ -74,7 +74,7 @@ impl<D: ProcessDispatch + Drop> Answering<D> {
         elf: &mut FileCache<ElfFile>,
         alloc: Global,
         files: &mut F,
-        question: &Question<'_>,
+        question: &ProcessQuestion<'_>,
         mappings: &Mappings,
         addrs: &[Addr],
     ) -> Result<Vec<Symbolized<'static>>>
@@ -97,7 +97,7 @@ impl<D: ProcessDispatch + Drop> Answering<D> {
         elf: &mut FileCache<ElfFile>,
         alloc: Global,
         files: &mut F,
-        question: &Question<'_>,
+        question: &ProcessQuestion<'_>,
         mappings: &Mappings,
         addr: Addr,
     ) -> Result<Symbolized<'static>>
@@ -119,7 +119,7 @@ impl<D: ProcessDispatch + Drop> Answering<D> {
         elf: &mut FileCache<ElfFile>,
         alloc: Global,
         files: &mut F,
-        question: &Question<'_>,
+        question: &ProcessQuestion<'_>,
         entry: &MapsEntry,
         addr: Addr,
     ) -> Result<Symbolized<'static>>
@@ -129,12 +129,14 @@ impl<D: ProcessDispatch + Drop> Answering<D> {
         ensures dispatch { self.new.dispatching.dispatch ≡ self.old.dispatching.dispatch }
     {
         match &entry.path_name {
-            None => self.perf_maps.unnamed(alloc, files, question.query, addr),
+            None => self
+                .perf_maps
+                .answer_without_name(alloc, files, question.query, addr),
             Some(name) => match self
                 .dispatching
                 .say(alloc, question.opts, entry, name, addr)
             {
-                Ok(None) => named(elf, alloc, files, question.query, entry, name, addr),
+                Ok(None) => answer_by_name(elf, alloc, files, question.query, entry, name, addr),
                 Ok(Some(answer)) => Ok(answer),
                 Err(error) => Err(error),
             },

@@ -11,7 +11,7 @@ ghost use Rattle.bz_proc.specs.Maps.{Mapping};
 ghost use Rattle.bz_proc.specs.MapsFile.{AreOfText, maps_path, maps_told};
 ghost use Rattle.bz_proc.specs.SystemText.{IsReadRefusal};
 ghost use Rattle.bz_process.specs.Caches.{ProcessCaches, caches};
-ghost use Rattle.bz_process.specs.Caching.{after_mappings, caches_perf_map, caches_process, caching_of, is_gone, mappings_after, perf_map_pinning, pins_perf_map, with_former, with_mappings, with_told};
+ghost use Rattle.bz_process.specs.Caching.{after_mappings, caches_perf_map, caches_process, caching_of, is_absent, mappings_after, perf_map_pinning, pins_perf_map, with_former, with_mappings, with_told};
 ghost use Rattle.bz_process.specs.CachingCall.{MayKeep, MayPin, PinsKnown, StepsPerfMapsWhole, TakesWhole};
 ghost use Rattle.bz_process.specs.Process.{and_then, pid_cmp, remember};
 
@@ -188,7 +188,7 @@ fn pin_perf_map<F: Files>(
     ensures refusal { IfErr result IsReadRefusal }
 {
     let pinned = pin_file(cache, alloc, files, path);
-    if is_gone(&pinned) {
+    if is_absent(&pinned) {
         let _held = cache.pin(path);
         return Ok(());
     }
@@ -196,8 +196,8 @@ fn pin_perf_map<F: Files>(
 }
 
 // Whether a file is refused since it is absent.
-fn is_gone(answer: &Result<()>) -> bool
-    ensures { result ≡ is_gone answer.now }
+fn is_absent(answer: &Result<()>) -> bool
+    ensures { result ≡ is_absent answer.now }
 {
     match answer {
         Ok(()) => false,

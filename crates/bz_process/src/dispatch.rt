@@ -29,11 +29,11 @@ pub trait ProcessDispatch {
     /// beside that.
     ghost may_dispatch: { Self → Member → Result (Option Self.Resolver) Error → Type 0 };
 
-    /// The resolver for a member; none where the mapped file itself is to answer. It is asked once for
-    /// each name of what is mapped. What it gave, a resolver or none, is kept for all mappings with an
-    /// equal name, in each process and whatever their addresses. A refusal isn't kept. It refuses a member by
-    /// Unsupported, NotFound, PermissionDenied, InvalidInput, InvalidData or UnexpectedEof alone, or by
-    /// OutOfMemory.
+    /// The resolver for a member; none where the mapped file itself is to answer. It is asked where no
+    /// answer is kept for the name of what is mapped. What it gave, a resolver or none, is kept for all
+    /// mappings with an equal name, in each process and whatever their addresses. It stays until one of the
+    /// name's paths is forgotten. A refusal isn't kept. It refuses a member by Unsupported, NotFound,
+    /// PermissionDenied, InvalidInput, InvalidData or UnexpectedEof alone, or by OutOfMemory.
     fn dispatch(&self, alloc: Global, info: ProcessMemberInfo<'_>) -> Result<Option<Self::Resolver>>
         ensures answer { MayGive (λ given. given) (may_dispatch self.now (member_of info.entry)) result }
         ensures refusal { IfErr result MayRefuseMember };

@@ -6,10 +6,11 @@ ghost use Rattle.bz_base.specs.Refusals.{MayRefuse};
 ghost use Rattle.bz_base.specs.declared.error.Error.{Error};
 ghost use Rattle.bz_files.specs.Looked.{Faulted};
 ghost use Rattle.bz_proc.specs.Maps.{mapping_of, name_of};
-ghost use Rattle.bz_process.specs.Dispatch.{Adds, Asks, IsSaid, Keeps, MaySay, kept_for, said_of, seen};
+ghost use Rattle.bz_process.specs.Dispatch.{Adds, Asks, IsSaid, Keeps, MaySay, kept_for, said_of};
 ghost use Rattle.bz_process.specs.Member.{MayRefuseMember};
 ghost use Rattle.bz_process.specs.Process.{offset_in};
 ghost use Rattle.bz_process.specs.ProcessCall.{UnlessFailed};
+ghost use Rattle.bz_process.specs.Untold.{as_read};
 
 use crate::dispatch::{ProcessDispatch, ProcessMemberInfo};
 use crate::mapped_file::offset_in;
@@ -88,7 +89,7 @@ fn say_by<R: Resolve>(
     opts: &FindSymOpts,
     offset: Option<u64>,
 ) -> Result<Symbolized<'static>>
-    ensures said { UnlessFailed result (MaySay R.TranslateFileOffset R.Symbolize opts.now resolver.now offset (seen result)) }
+    ensures said { UnlessFailed result (MaySay R.TranslateFileOffset R.Symbolize opts.now resolver.now offset (as_read reading result)) }
     ensures refusal { IfErr result MayRefuse }
 {
     let Some(offset) = offset else {

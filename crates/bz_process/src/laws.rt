@@ -4,7 +4,7 @@ ghost use Rattle.std.specs.Prelude.{◌≡◌, ◌↔◌, ◌∷◌, [], ℕ, �
 ghost use Rattle.std.specs.List.{AllByRecursion};
 ghost use Rattle.bz_files.specs.Agreement.{Agree};
 ghost use Rattle.bz_files.specs.World.{World};
-ghost use Rattle.bz_cache.specs.Format.{Comes};
+ghost use Rattle.bz_cache.specs.Format.{GivesOrFaults};
 ghost use Rattle.bz_proc.specs.Maps.{Mapping};
 ghost use Rattle.bz_process.specs.Asked.{Asked};
 ghost use Rattle.bz_process.specs.Caches.{ProcessCaches};
@@ -54,7 +54,7 @@ pub fn entries_are_in_view<D: ProcessDispatch + Drop, F: Files, A>()
     ensures batch { (call : BatchCalled A F.Files D.may_dispatch D.Resolver.TranslateFileOffset D.Resolver.Symbolize) (world : World) →
         SymbolizesBatch call → GoesByView world call → IfOk call.result (λ answers. call.reading answers ≡ map (entry_in_view world call) call.input) }
     ensures single { (call : SingleCalled A F.Files D.may_dispatch D.Resolver.TranslateFileOffset D.Resolver.Symbolize) (world : World) →
-        SymbolizesSingle call → is_in_process call.kind ≡ true → GoesByView world call → Comes call.reading (answer_in_view world call call.input) call.result }
+        SymbolizesSingle call → is_in_process call.kind ≡ true → GoesByView world call → GivesOrFaults call.reading (answer_in_view world call call.input) call.result }
     ensures alone { (asked : Asked) (known : Option (List Mapping)) (world : World) (kept : ProcessCaches) (addr : ℕ) →
         CoheresIn world kept → (asks_process_at asked known (unsaid addr) world kept).answer ≡ process_in_view asked world kept known addr }
 {}

@@ -2,7 +2,7 @@
 
 ghost use Rattle.std.specs.Prelude.{◌≡◌, false, ℕ, List, IfErr, IfOk, IsOkUnless};
 ghost use Rattle.bz_base.specs.declared.error.Error.{Error};
-ghost use Rattle.bz_cache.specs.Format.{Comes};
+ghost use Rattle.bz_cache.specs.Format.{GivesOrFaults};
 ghost use Rattle.bz_cache.specs.InsertMap.{value_at};
 ghost use Rattle.bz_files.specs.Looked.{Faulted, Looked, ReadsOne};
 ghost use Rattle.bz_files.specs.World.{Told, entry_at, has_file, in_view};
@@ -114,7 +114,7 @@ pub(crate) fn read_mapped<F: Files>(alloc: Global, files: &mut F, pid: Pid) -> R
 
 // The mappings that the text tells.
 fn read_mappings<F: Files>(alloc: Global, files: &mut F, pid: Pid) -> Result<Mappings>
-    ensures answer { Told (in_view (F.worlds files.old)) (λ world. Comes (λ mappings. mappings) (maps_told pid (entry_at world (maps_path pid))) result) }
+    ensures answer { Told (in_view (F.worlds files.old)) (λ world. GivesOrFaults (λ mappings. mappings) (maps_told pid (entry_at world (maps_path pid))) result) }
     ensures spared { Told (in_view (F.worlds files.old)) (λ world. has_file (entry_at world (maps_path pid)) ≡ false → F.opens files.new ≡ F.opens files.old) }
     ensures most { ReadsOne F.Files files.old files.new }
     ensures files { Looked F.Files files.old files.new (Faulted result) }

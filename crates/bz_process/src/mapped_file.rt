@@ -26,7 +26,7 @@ use bz_proc::{EntryPath, MapsEntry, PathName};
 use std::alloc::Global;
 
 /// The answer to an address of a mapping with this name, where no resolver is in charge.
-pub(crate) fn named<F: Files>(
+pub(crate) fn answer_by_name<F: Files>(
     elf: &mut FileCache<ElfFile>,
     alloc: Global,
     files: &mut F,
@@ -111,8 +111,8 @@ fn loaded_at(file: &ElfFile, offset: Option<u64>) -> Result<Option<Addr>>
     }
 }
 
-/// What an ELF file says of an address as its symbol table has it, whose module is this path. The texts
-/// are lent.
+/// What an ELF file says of an address as its symbol table has it. A symbol's module is the path. It is
+/// always Ok, and the texts are lent.
 pub fn elf_answer_at<'a>(
     alloc: Global,
     file: &'a ElfFile,

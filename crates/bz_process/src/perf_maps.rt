@@ -5,7 +5,7 @@ ghost use Rattle.bz_base.specs.Answer.{reading};
 ghost use Rattle.bz_base.specs.Resolution as resolution;
 ghost use Rattle.bz_base.specs.declared.error.Error.{Error};
 ghost use Rattle.bz_cache.specs.Cache.{Cache};
-ghost use Rattle.bz_cache.specs.Format.{Comes};
+ghost use Rattle.bz_cache.specs.Format.{GivesOrFaults};
 ghost use Rattle.bz_cache.specs.InsertMap.{value_at, with_absent};
 ghost use Rattle.bz_cache.specs.FileCall.{CallsFile};
 ghost use Rattle.bz_files.specs.Looked.{Faulted, Looked, ReadsOne};
@@ -38,7 +38,7 @@ pub(crate) struct PerfMaps {
 
 impl PerfMaps {
     /// The answer to an address of a mapping without a name.
-    pub(crate) fn unnamed<F: Files>(
+    pub(crate) fn answer_without_name<F: Files>(
         &mut self,
         alloc: Global,
         files: &mut F,
@@ -66,7 +66,7 @@ impl PerfMaps {
         ensures step { StepsPerfMaps F.Files (F.pid files.old) reading (by_perf_map pid (F.pid files.old) addr) result self.old self.new files.old files.new }
         ensures some { (elf : Cache) → LooksSoftly (as_read reading result) (caches elf self.old) (caches elf self.new) pid (F.pid files.old) addr }
     {
-        unless_absent(self.look_in_perf_map(alloc, files, pid, addr))
+        softened(self.look_in_perf_map(alloc, files, pid, addr))
     }
 
     // The answer of the process's perf map.
@@ -122,7 +122,7 @@ impl PerfMaps {
 
 // What the status of a process tells to be remembered.
 fn read_known<F: Files>(alloc: Global, files: &mut F, pid: Pid) -> Result<Known>
-    ensures answer { Told (in_view (F.worlds files.old)) (λ world. Comes (λ known. known.id) (ns_tgid_of pid (F.pid files.old) (entry_at world (status_path pid))) result) }
+    ensures answer { Told (in_view (F.worlds files.old)) (λ world. GivesOrFaults (λ known. known.id) (ns_tgid_of pid (F.pid files.old) (entry_at world (status_path pid))) result) }
     ensures known { IfOk result (λ known. known ≡ remembered pid (F.pid files.old) known.id) }
     ensures some { IfOk result (λ known. IsOfStatus pid (F.pid files.old) known.id) }
     ensures refusal { IfErr result IsReadRefusal }
@@ -162,7 +162,7 @@ fn in_map(alloc: Global, map: &PerfMap, addr: Addr) -> Result<Symbolized<'static
 }
 
 // The answer, where a file that is absent makes the address unknown.
-fn unless_absent(answer: Result<Symbolized<'static>>) -> Result<Symbolized<'static>>
+fn softened(answer: Result<Symbolized<'static>>) -> Result<Symbolized<'static>>
     ensures { result ≡ softened answer.entry }
 {
     match answer {

@@ -11,7 +11,7 @@ use crate::dispatch::ProcessDispatch;
 use crate::dispatching::Dispatching;
 use crate::mapped::Mapped;
 use crate::perf_maps::PerfMaps;
-use crate::query::{ProcessQuery, Question};
+use crate::query::{ProcessQuery, ProcessQuestion};
 use bz_base::{Addr, Error, FindSymOpts, Input, Pid, Result, Symbolized};
 use bz_cache::{FileCache, InsertMap};
 use bz_elf::ElfFile;
@@ -42,7 +42,7 @@ impl<D: ProcessDispatch + Drop> Model for Processes<D> {
 }
 
 impl<D: ProcessDispatch + Drop> Processes<D> {
-    /// Keeps nothing. `reload` says whether perf maps are looked at anew at each call.
+    /// Nothing is kept yet. `reload` says whether perf maps are looked at anew at each call.
     pub fn new(alloc: Global, reload: bool, dispatch: D) -> Processes<D>
         ensures { result ≡ new_processes reload dispatch }
     {
@@ -80,7 +80,7 @@ impl<D: ProcessDispatch + Drop> Processes<D> {
     {
         match input {
             Input::AbsAddr(addrs) => {
-                let question = Question { query, opts };
+                let question = ProcessQuestion { query, opts };
                 self.answering
                     .ask_batch(&mut self.mappings, elf, alloc, files, &question, addrs)
             }
@@ -88,8 +88,11 @@ impl<D: ProcessDispatch + Drop> Processes<D> {
         }
     }
 
-    /// The answer to an address of a process alone, or its refusal. It is refused as a batch is, and then
-    /// by what is looked at for the address, or by the dispatcher or its resolver.
+    /// The answer to an address of a process alone, or its refusal. It is refused as a batch is, and then by
+    /// what is looked at for the address. NotFound, PermissionDenied, InvalidData, Unsupported: the mapped
+    /// file is absent, may not be read, or isn't an ELF file that is read. PermissionDenied, InvalidData: the
+    /// status or the perf map may not be read, or isn't in its format. A dispatcher refuses as `dispatch`
+    /// says, and a resolver by Unsupported, InvalidInput or InvalidData.
     pub fn symbolize_single<F: Files>(
         &mut self,
         elf: &mut FileCache<ElfFile>,
@@ -103,7 +106,7 @@ impl<D: ProcessDispatch + Drop> Processes<D> {
     {
         match input {
             Input::AbsAddr(addr) => {
-                let question = Question { query, opts };
+                let question = ProcessQuestion { query, opts };
                 self.answering
                     .ask_single(&mut self.mappings, elf, alloc, files, &question, addr)
             }

@@ -16,7 +16,7 @@ pub struct ProcessQuery {
 
 /// What a call asks: of which process and how, and what of each symbol.
 #[derive(Clone, Copy)]
-pub(crate) struct Question<'a> {
+pub(crate) struct ProcessQuestion<'a> {
     /// Of which process, and how.
     pub(crate) query: &'a ProcessQuery,
     /// What of each symbol.

@@ -16,7 +16,7 @@ use Rattle.bz_process.specs.Asked.{Asked, asked_of}
 use Rattle.bz_process.specs.Caches.{ProcessCaches}
 use Rattle.bz_process.specs.Dispatch.{Answers, Test}
 use Rattle.bz_process.specs.Mapped.{AsksProcess, RefusedUnmapped, UsesMappings}
-use Rattle.bz_process.specs.Process.{Outcome, Step}
+use Rattle.bz_process.specs.Process.{StepOutcome, Step}
 use Rattle.bz_process.specs.ProcessCall.{HasOutcome, TakesStep}
 use Rattle.bz_process.specs.Processes.{KeptProcesses, SymbolizesProcess}
 use Rattle.bz_process.specs.Untold.{as_read}
@@ -97,7 +97,7 @@ module _ {A B X : Type 0} (files : Ghosts X) (reading : A → B) (source : Sourc
 
 -- of a process
 module _ {A B : Type 0} (reading : A → B) where
-  outcome_read : (expected : Outcome B) (result : Result A Error) (now : ProcessCaches) (before after : ℕ) →
+  outcome_read : (expected : StepOutcome B) (result : Result A Error) (now : ProcessCaches) (before after : ℕ) →
       HasOutcome reading expected result now before after → HasOutcome as_is expected (as_read reading result) now before after
   outcome_read expected (Ok given) now before after outcome = record { answer = outcome.answer; left = outcome.left; opened = outcome.opened }
   outcome_read expected (Err e) now before after outcome = record { answer = outcome.answer; left = outcome.left; opened = outcome.opened }

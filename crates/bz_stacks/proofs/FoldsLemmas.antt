@@ -20,12 +20,12 @@ use Rattle.bz_symbolize.specs.State.{WellKept, WholeState, opts_of}
 use Rattle.bz_symbolize.specs.declared.source.Source.{Source}
 use Rattle.bz_symbolize.proofs.AskingLemmas.{batch_asked, batch_called}
 use Rattle.bz_stacks.specs.Fold.{Folds, IsFoldOf, addrs_of}
-use Rattle.bz_stacks.specs.Stack.{Taken}
+use Rattle.bz_stacks.specs.Stack.{CountedStack}
 use Rattle.bz_stacks.proofs.AnsweredLemmas.{as_is, batch_read, call_read}
 use Rattle.bz_stacks.proofs.FormLemmas.{of_process, on_process_by, unless_any_process}
 use Rattle.bz_stacks.proofs.UnaskedLemmas.{answer_count, unasked, untaken}
 
-module _ {D R X V : Type 0} (files : Ghosts X) (test : Test R) (translates : Translates R) (finds : Finds R) (source : Source) (kind : AddressKind) (stacks : List Taken) where
+module _ {D R X V : Type 0} (files : Ghosts X) (test : Test R) (translates : Translates R) (finds : Finds R) (source : Source) (kind : AddressKind) (stacks : List CountedStack) where
   -- by what a call gave, whatever it gives
   module _ {A : Type 0} (reading : A → List Answer) (answered : Result A Error) (result : Result (Vec ℕ V) Error) (old now : WholeState D R) (before after : X)
       (call : Symbolizes files reading source (batch_of kind (addrs_of stacks)) answered old.files now.files before after) (text : IsFoldOf stacks (as_read reading answered) result) where

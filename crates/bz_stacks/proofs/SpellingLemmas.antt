@@ -4,25 +4,25 @@ use Rattle.std.specs.List.{AllZip}
 use Rattle.bz_base.proofs.NumberLemmas.{decimal_whole_found, decimal_whole_again}
 use Rattle.bz_requests.specs.Addresses.{IsAddress, address_in, each_address_in}
 use Rattle.bz_requests.specs.Fields.{AreFields, fields}
-use Rattle.bz_requests.specs.Lines.{Agrees}
+use Rattle.bz_requests.specs.Lines.{ReadsAsSpelled}
 use Rattle.bz_requests.proofs.AddressLemmas.{address_found, address_again}
 use Rattle.bz_requests.proofs.FieldLemmas.{are_fields, fields_are}
 use Rattle.bz_requests.proofs.OptionLemmas.{map_some, then_some}
-use Rattle.bz_stacks.specs.Stack.{Taken}
+use Rattle.bz_stacks.specs.Stack.{CountedStack}
 use Rattle.bz_stacks.specs.Spelling.{IsCount, IsStack, count_in, counted_in, stack_by, stack_in, taken_by, with_addr}
 
 -- fields are addresses and then a count
-record IsCounted (all : List (List ℕ)) (stack : Taken) : Type 0 where
+record IsCounted (all : List (List ℕ)) (stack : CountedStack) : Type 0 where
   front : List (List ℕ)
   last : List ℕ
   whole : all ≡ front ++ last ∷ []
   addresses : AllZip IsAddress front stack.addrs
   count : IsCount last stack.count
 
-one_more : (field : List ℕ) (others : List (List ℕ)) (addr : ℕ) (stack : Taken) → IsAddress field addr → IsCounted others stack → IsCounted (field ∷ others) (with_addr addr stack)
+one_more : (field : List ℕ) (others : List (List ℕ)) (addr : ℕ) (stack : CountedStack) → IsAddress field addr → IsCounted others stack → IsCounted (field ∷ others) (with_addr addr stack)
 one_more field others addr stack is more = record { front = field ∷ more.front; last = more.last; whole = ap (λ l. field ∷ l) more.whole; addresses = (is, more.addresses); count = more.count }
 
-counted_found : (all : List (List ℕ)) (stack : Taken) → counted_in all ≡ Some stack → IsCounted all stack
+counted_found : (all : List (List ℕ)) (stack : CountedStack) → counted_in all ≡ Some stack → IsCounted all stack
 counted_found [] stack read = cc
 counted_found (last ∷ []) stack read =
     let count = map_some (λ count. record { addrs = []; count = count }) (count_in last) stack read in
@@ -44,7 +44,7 @@ counted_again (field ∷ front) last [] count each is = absurd each
 counted_again (field ∷ []) last (addr ∷ addrs) count each is = rw (address_again field addr each.0, counted_again [] last addrs count each.1 is) refl
 counted_again (field ∷ next ∷ front) last (addr ∷ addrs) count each is = rw (address_again field addr each.0, counted_again (next ∷ front) last addrs count each.1 is) refl
 
-by_found : (text : List ℕ) (all : List (List ℕ)) (stack : Taken) → fields text ≡ all → stack_by all ≡ Some stack → IsStack text stack
+by_found : (text : List ℕ) (all : List (List ℕ)) (stack : CountedStack) → fields text ≡ all → stack_by all ≡ Some stack → IsStack text stack
 by_found text [] stack are read = cc
 by_found text (last ∷ []) stack are read = cc
 by_found text (field ∷ next ∷ others) stack are read =
@@ -62,17 +62,17 @@ by_found text (field ∷ next ∷ others) stack are read =
     some_front [] last is = cc
     some_front (first ∷ front) last is = omega arith
 
-pub stack_found : (text : List ℕ) (stack : Taken) → stack_in text ≡ Some stack → IsStack text stack
+pub stack_found : (text : List ℕ) (stack : CountedStack) → stack_in text ≡ Some stack → IsStack text stack
 unfolding stack_in
 stack_found text stack read = by_found text (fields text) stack refl read
 
-pub stack_again : (text : List ℕ) (stack : Taken) → IsStack text stack → stack_in text ≡ Some stack
+pub stack_again : (text : List ℕ) (stack : CountedStack) → IsStack text stack → stack_in text ≡ Some stack
 unfolding stack_in
 stack_again text stack is =
     ap stack_by (fields_are text (is.front ++ is.last ∷ []) is.are_fields) ∙ many is.front is.last is.some ∙ counted_again is.front is.last stack.addrs stack.count is.addresses is.count
 
 -- so reader and relation agree
-pub stack_agrees : Agrees stack_in IsStack
+pub stack_agrees : ReadsAsSpelled stack_in IsStack
 stack_agrees b content stack = (stack_found (b ∷ content) stack, stack_again (b ∷ content) stack)
 
 -- What is read piece by piece is what is read.

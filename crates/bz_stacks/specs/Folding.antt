@@ -32,23 +32,23 @@ abbrev pub added : List ℕ → ℕ → Folding → Folding
 added path count f = record { sums = finite.insert f.sums path (sum_at path f.sums + count); stacks = f.stacks + 1 }
 
 -- a stack by the answers to its addresses, and its count
-abbrev pub Seen : Type 0
-Seen = List Answer × ℕ
+abbrev pub AnsweredStack : Type 0
+AnsweredStack = List Answer × ℕ
 
 -- stacks added one after the other
-abbrev pub added_all : List Seen → Folding → Folding
+abbrev pub added_all : List AnsweredStack → Folding → Folding
 added_all [] f = f
 added_all (seen ∷ later) f = added_all later (added (path_of seen.0) seen.1 f)
 
 -- the stack has this path
-abbrev pub has_path : List ℕ → Seen → Bool
+abbrev pub has_path : List ℕ → AnsweredStack → Bool
 has_path path seen = eq_by_cmp (slice_cmp nat_cmp) path (path_of seen.0)
 
 -- the sum of the counts of the stacks with this path
-abbrev pub sum_of : List ℕ → List Seen → ℕ
+abbrev pub sum_of : List ℕ → List AnsweredStack → ℕ
 sum_of path [] = 0
 sum_of path (seen ∷ later) = (if has_path path seen then seen.1 else 0) + sum_of path later
 
 -- the sums of stacks: each path that one of them has, with the sum of the counts of the stacks with that path
-abbrev pub sums_of : List Seen → Sums
+abbrev pub sums_of : List AnsweredStack → Sums
 sums_of all = finite.from_entries (map (λ seen. (path_of seen.0, sum_of (path_of seen.0) all)) all)

@@ -2,7 +2,7 @@
 use Rattle.std.specs.Prelude.{ℕ, List, [], ◌∷◌, ◌++◌, map, flat_map, decimal, Vec}
 use Rattle.std.specs.FinMap as finite
 use Rattle.bz_base.specs.Byte.{line_feed, space}
-use Rattle.bz_stacks.specs.Folding.{Seen, Sums, sums_of}
+use Rattle.bz_stacks.specs.Folding.{AnsweredStack, Sums, sums_of}
 
 -- the line of a path and its sum
 abbrev pub line_of : List ℕ × ℕ → List ℕ
@@ -13,7 +13,7 @@ abbrev pub text_of : Sums → List ℕ
 text_of sums = flat_map line_of (finite.entries sums)
 
 -- the text of stacks
-abbrev pub folded_text : List Seen → List ℕ
+abbrev pub folded_text : List AnsweredStack → List ℕ
 folded_text all = text_of (sums_of all)
 
 -- the lines of a map's entries

@@ -74,7 +74,8 @@ impl Folded {
         Ok(())
     }
 
-    /// The text: the line `PATH SUM` for each path, in the order of the paths' bytes.
+    /// The text: the line `PATH SUM` for each path, in the order of the paths' bytes. OutOfMemory: memory
+    /// ran out.
     pub fn text(&self, alloc: Global) -> Result<Vec<u8>>
         ensures ok { IfOk result (λ text. text.items ≡ text_of self.now.sums) }
         ensures memory { IsOkUnless result Error.OutOfMemory }

@@ -3,7 +3,7 @@
 ghost use Rattle.std.specs.Prelude.{◌≡◌, ℕ, Ok, Err, map, IfOk, IsErrOf};
 ghost use Rattle.bz_requests.specs.Addresses.{each_address_in};
 ghost use Rattle.bz_stacks.specs.Spelling.{count_in, stack_by, stack_in, stacks_in, taken_by};
-ghost use Rattle.bz_stacks.specs.Stack.{Taken};
+ghost use Rattle.bz_stacks.specs.Stack.{CountedStack};
 
 use crate::error::StackError;
 use crate::stack::Stack;
@@ -11,8 +11,9 @@ use bz_base::whole_decimal;
 use bz_requests::{BadInput, FromLine, each_address, fields, read_lines};
 use std::alloc::{AllocError, Global};
 
-/// The stacks that the lines of the input say: one on each line, or none where it is empty. A line is
-/// one or more addresses, the outermost first, and then a count, with one space between each two.
+/// The stacks that the lines of the input say: one on each line that isn't empty. Such a line is one or
+/// more addresses, the outermost first, and then a count below 2^32, with one space between each two.
+/// Line: the first line that is no stack. OutOfMemory: memory ran out.
 pub fn read_stacks(alloc: Global, text: &[u8]) -> Result<Vec<Stack>, StackError>
     ensures ok { IfOk result (λ stacks. stacks_in text.now ≡ Ok stacks.items) }
     ensures line { (n : ℕ) → IsErrOf result (StackError.Line n) → stacks_in text.now ≡ Err n }
@@ -25,7 +26,7 @@ pub fn read_stacks(alloc: Global, text: &[u8]) -> Result<Vec<Stack>, StackError>
 }
 
 impl FromLine for Stack {
-    ghost Data = { Taken };
+    ghost Data = { CountedStack };
 
     ghost data_of = { λ stack. stack };
 

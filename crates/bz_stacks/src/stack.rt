@@ -12,11 +12,11 @@ pub struct Stack {
 }
 
 impl Model for Stack {
-    ghost use Rattle.bz_stacks.specs.Stack.{Taken, coded_taken};
+    ghost use Rattle.bz_stacks.specs.Stack.{CountedStack, coded_counted_stack};
 
-    ghost Value = { Taken };
+    ghost Value = { CountedStack };
 
-    ghost coded = { coded_taken };
+    ghost coded = { coded_counted_stack };
 
     ghost view = { λ s. record { addrs = s.addrs.items; count = s.count } };
 }

@@ -17,10 +17,7 @@ use Rattle.bz_store.specs.Visits.{Found, State, by_table, found_at, visited}
 use Rattle.bz_store.specs.declared.frame.CrashFrame.{CrashFrame}
 use Rattle.bz_store.specs.declared.frame.FrameAnswer.{FrameAnswer}
 use Rattle.bz_store.proofs.Keeping.{key_is, key_itself}
-use Rattle.bz_store.proofs.Seeking.{answered_run, front_kept, unfaulted}
-
-abbrev pub AreOf : Key → List Frame → Type 0
-AreOf key frames = AllByRecursion (λ f. f.file ≡ key) frames
+use Rattle.bz_store.proofs.Seeking.{AreOf, answered_run, front_kept, unfaulted}
 
 -- the frames of a run are of its file
 pub run_of_file : (key : Key) (cs : List CrashFrame) → AreOf key (map frame_of (take (prefix_len (is_of key) cs) cs))

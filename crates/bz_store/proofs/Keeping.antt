@@ -10,13 +10,13 @@ use Rattle.lru.proofs.CallerLemmas.{Contains-lookup_entry}
 use Rattle.lru.specs.LruCache.{promoted}
 use Rattle.bz_store.specs.declared.frame.FileKey.{FileKey}
 use Rattle.bz_store.specs.Frames.{Key, key_eq, key_of}
-use Rattle.bz_store.specs.Shelf.{Kept, Shelf, keep, brought}
+use Rattle.bz_store.specs.Shelf.{ShelfFiles, Shelf, keep, brought}
 
-abbrev pub view : List (FileKey × List ℕ) → Kept
+abbrev pub view : List (FileKey × List ℕ) → ShelfFiles
 view es = map (λ entry. (key_of entry.0, entry.1)) es
 
 -- a store below a root
-abbrev pub shelf_of : List ℕ → ℕ → Kept → Shelf
+abbrev pub shelf_of : List ℕ → ℕ → ShelfFiles → Shelf
 shelf_of root cap files = record { root = root; cap = cap; files = files }
 
 and_both : (a b : Bool) → a && b ≡ true → (a ≡ true) × (b ≡ true)
@@ -112,12 +112,12 @@ front_view [] k bytes is = cc
 front_view (e ∷ es) k bytes is = sym (ap (option_map (λ (entry : FileKey × List ℕ). entry.1)) is)
 
 -- what was kept last stands in front
-pub kept_front : (cap : ℕ) (key : Key) (bytes : List ℕ) (kept : Kept) → 0 < cap → slice_get (map (λ (entry : Key × List ℕ). entry.1) (keep cap key bytes kept)) 0 ≡ Some bytes
+pub kept_front : (cap : ℕ) (key : Key) (bytes : List ℕ) (kept : ShelfFiles) → 0 < cap → slice_get (map (λ (entry : Key × List ℕ). entry.1) (keep cap key bytes kept)) 0 ≡ Some bytes
 kept_front zero key bytes kept some = absurd (omega arith)
 kept_front (suc n) key bytes kept some = refl
 
 -- stores with the same files below the same root
-pub same_shelf : (root : List ℕ) (cap : ℕ) (a b : Kept) → a ≡ b → shelf_of root cap a ≡ shelf_of root cap b
+pub same_shelf : (root : List ℕ) (cap : ℕ) (a b : ShelfFiles) → a ≡ b → shelf_of root cap a ≡ shelf_of root cap b
 same_shelf root cap a b same = ap (shelf_of root cap) same
 
 -- a key names its own file
@@ -129,12 +129,12 @@ pub key_itself : (key : Key) → key_eq key key ≡ true
 key_itself key = rw (same_bytes key.0, same_bytes key.1) refl
 
 -- a file that was kept is found, with its bytes
-pub lookup_kept : (cap : ℕ) (key : Key) (bytes : List ℕ) (kept : Kept) → 0 < cap → lookup (key_eq key) (keep cap key bytes kept) ≡ Some bytes
+pub lookup_kept : (cap : ℕ) (key : Key) (bytes : List ℕ) (kept : ShelfFiles) → 0 < cap → lookup (key_eq key) (keep cap key bytes kept) ≡ Some bytes
 lookup_kept zero key bytes kept room = absurd (omega arith)
 lookup_kept (suc n) key bytes kept room = ap (λ b. cond b (Some bytes) (lookup (key_eq key) (take n (remove_entry (key_eq key) kept)))) (key_itself key)
 
 -- to keep it once more changes nothing
-pub keep_twice : (cap : ℕ) (key : Key) (bytes : List ℕ) (kept : Kept) → keep cap key bytes (keep cap key bytes kept) ≡ keep cap key bytes kept
+pub keep_twice : (cap : ℕ) (key : Key) (bytes : List ℕ) (kept : ShelfFiles) → keep cap key bytes (keep cap key bytes kept) ≡ keep cap key bytes kept
 keep_twice zero key bytes kept = refl
 keep_twice (suc n) key bytes kept =
     let rest = take n (remove_entry (key_eq key) kept) in

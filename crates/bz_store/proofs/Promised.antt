@@ -9,7 +9,7 @@ use Rattle.bz_files.specs.World.{World, in_view}
 use Rattle.bz_files.specs.declared.files.Files.{Ghosts}
 use Rattle.bz_store.specs.Calls.{AnswersFrames, OneByOne, found_each, state, with_files}
 use Rattle.bz_store.specs.Frames.{Frame, FrameReading}
-use Rattle.bz_store.specs.Plain.{Agrees, answered, keys, keys_after, opens_after_all}
+use Rattle.bz_store.specs.Plain.{AreOfWorld, answered, keys, keys_after, opens_after_all}
 use Rattle.bz_store.specs.Shelf.{Shelf}
 use Rattle.bz_store.specs.Visits.{State, visited}
 use Rattle.bz_store.proofs.Plainly.{answers_on, keys_told, opens_told}
@@ -25,7 +25,7 @@ module _ {X A : Type 0} (files : Ghosts X) (readings : A → List FrameReading) 
       let seen : (world : World) → in_view (files.worlds old) ≡ Some world → each.visits ≡ found_each world before.root frames = λ world told. each.told world told ∙ ap (found_each world before.root) each.ok.0 in
       record {
         alone = λ world told agrees. ap (λ s. s.answers) end ∙ ap (λ vs. (visited before.cap opts vs start).answers) (seen world told) ∙ (answers_on world before.root before.cap opts frames start agrees).1;
-        agrees = λ world told agrees. subst (Agrees world before.root) (sym (ap (λ s. s.kept) end ∙ ap (λ vs. (visited before.cap opts vs start).kept) (seen world told))) (answers_on world before.root before.cap opts frames start agrees).0;
+        agrees = λ world told agrees. subst (AreOfWorld world before.root) (sym (ap (λ s. s.kept) end ∙ ap (λ vs. (visited before.cap opts vs start).kept) (seen world told))) (answers_on world before.root before.cap opts frames start agrees).0;
         kept = ap (λ s. keys s.kept) end ∙ keys_told before.cap opts each.visits before.files (files.opens old)
             ∙ ap₂ (λ fs rs. keys_after before.cap (answered fs rs) (keys before.files)) each.ok.0 (sym (ap (λ s. s.answers) end));
         err = λ world told agrees. tt;
@@ -42,7 +42,7 @@ module _ {X A : Type 0} (files : Ghosts X) (readings : A → List FrameReading) 
       let seen : (world : World) → in_view (files.worlds old) ≡ Some world → each.visits ≡ found_each world before.root (take n frames) = λ world told. each.told world told ∙ ap (found_each world before.root) each.err.1 in
       record {
         alone = λ world told agrees. tt;
-        agrees = λ world told agrees. subst (Agrees world before.root) (sym (each.err.2 ∙ ap (λ vs. (visited before.cap opts vs start).kept) (seen world told))) (answers_on world before.root before.cap opts (take n frames) start agrees).0;
+        agrees = λ world told agrees. subst (AreOfWorld world before.root) (sym (each.err.2 ∙ ap (λ vs. (visited before.cap opts vs start).kept) (seen world told))) (answers_on world before.root before.cap opts (take n frames) start agrees).0;
         kept = tt;
         err = λ world told agrees. (
           n,

@@ -19,7 +19,7 @@ use Rattle.bz_files.specs.World.{Told, World, in_view}
 use Rattle.bz_files.specs.declared.files.Files.{Ghosts}
 use Rattle.bz_store.specs.Calls.{Seeks, with_files}
 use Rattle.bz_store.specs.Frames.{Frame, FrameReading, Key, Known, is_good, key_eq, reading_of}
-use Rattle.bz_store.specs.Shelf.{Kept, Shelf, brought, keep}
+use Rattle.bz_store.specs.Shelf.{ShelfFiles, Shelf, brought, keep}
 use Rattle.bz_store.specs.Visits.{Found, Absent, Holds, by_source, by_table, found_at, is_opened, is_read, kept_after, source, stays, visit, visited}
 use Rattle.bz_store.specs.declared.frame.FrameAnswer.{FrameAnswer}
 use Rattle.bz_store.specs.declared.frame.FrameAnswer.TheVariants as answers
@@ -53,14 +53,14 @@ opened_one : (opened : Bool) (before after : ℕ) → after ≡ opens_after open
 opened_one false before after is = inl is
 opened_one true before after is = inr is
 
-pub placed : (before after : Shelf) (kept : Kept) → after ≡ with_files before kept → after ≡ with_files before after.files
+pub placed : (before after : Shelf) (kept : ShelfFiles) → after ≡ with_files before kept → after ≡ with_files before after.files
 placed before after kept is = is ∙ ap (with_files before) (sym (ap (λ s. s.files) is))
 
 -- where the file isn't kept, nothing is brought
 pub stayed : (before after : Shelf) (cap : ℕ) (key : Key) (o : Option (List ℕ)) → o ≡ None → after ≡ with_files before (brought cap key o before.files) → after ≡ before
 stayed before after cap key o none is = is ∙ ap (λ o. with_files before (brought cap key o before.files)) none
 
-module _ (kept : Kept) (key : Key) (found : Found) where
+module _ (kept : ShelfFiles) (key : Key) (found : Found) where
   -- what answers for a file, by its name and by what is kept
   pub source_bad : is_good key ≡ false → source kept key found ≡ None
   source_bad bad = rw bad refl
@@ -82,6 +82,10 @@ module _ (kept : Kept) (key : Key) (found : Found) where
     | false ↦ λ is. cc
   ]) is
 
+-- the frames are of the file
+abbrev pub AreOf : Key → List Frame → Type 0
+AreOf key frames = AllByRecursion (λ f. f.file ≡ key) frames
+
 module _ (cap : ℕ) (opts : FindSymOpts) (key : Key) (found : Found) (bytes : List ℕ) where
   -- the answer of the bytes for a frame
   abbrev pub known : Frame → FrameReading
@@ -90,12 +94,9 @@ module _ (cap : ℕ) (opts : FindSymOpts) (key : Key) (found : Found) (bytes : L
   abbrev pub each : List Frame → List (Frame × Found)
   each frames = map (λ f. (f, found)) frames
 
-  abbrev AreOf : List Frame → Type 0
-  AreOf frames = AllByRecursion (λ f. f.file ≡ key) frames
-
-  module _ (kept : Kept) (from : source kept key found ≡ Some (Holds bytes)) (stays_so : kept_after cap key (Some (Holds bytes)) kept ≡ kept) (closed : is_opened kept key found ≡ false) where
+  module _ (kept : ShelfFiles) (from : source kept key found ≡ Some (Holds bytes)) (stays_so : kept_after cap key (Some (Holds bytes)) kept ≡ kept) (closed : is_opened kept key found ≡ false) where
     -- frames of a file that answers and stays as it is
-    pub answered_all : (frames : List Frame) → AreOf frames → (answers : List FrameReading) (opens : ℕ) →
+    pub answered_all : (frames : List Frame) → AreOf key frames → (answers : List FrameReading) (opens : ℕ) →
         visited cap opts (each frames) (record { kept = kept; answers = answers; opens = opens }) ≡ record { kept = kept; answers = answers ++ map known frames; opens = opens }
     answered_all [] are answers opens = ap (λ l. record { kept = kept; answers = l; opens = opens }) (sym (append-nil answers))
     answered_all (f ∷ fs) are answers opens =
@@ -104,8 +105,8 @@ module _ (cap : ℕ) (opts : FindSymOpts) (key : Key) (found : Found) (bytes : L
         ap (visited cap opts (each fs)) one ∙ answered_all fs are.1 (answers ++ known f ∷ []) opens
         ∙ ap (λ l. record { kept = kept; answers = l; opens = opens }) (append_assoc answers (known f ∷ []) (map known fs))
 
-  module _ (before : Kept) (room : 0 < cap) (formed : is_some (table_in bytes) ≡ true) (from : source before key found ≡ Some (Holds bytes)) where
-    abbrev now : Kept
+  module _ (before : ShelfFiles) (room : 0 < cap) (formed : is_some (table_in bytes) ≡ true) (from : source before key found ≡ Some (Holds bytes)) where
+    abbrev now : ShelfFiles
     now = keep cap key bytes before
 
     -- a file that answers is kept
@@ -116,7 +117,7 @@ module _ (cap : ℕ) (opts : FindSymOpts) (key : Key) (found : Found) (bytes : L
     kept_still = ap (λ o. stays o (keep cap key bytes now) now) (there (table_in bytes) formed).1 ∙ keep_twice cap key bytes before
 
     -- frames of one file, the first of which brings it in front
-    pub answered_run : (f : Frame) (fs : List Frame) → f.file ≡ key → AreOf fs → (answers : List FrameReading) (opens : ℕ) →
+    pub answered_run : (f : Frame) (fs : List Frame) → f.file ≡ key → AreOf key fs → (answers : List FrameReading) (opens : ℕ) →
         visited cap opts (each (f ∷ fs)) (record { kept = before; answers = answers; opens = opens })
         ≡ record { kept = now; answers = answers ++ map known (f ∷ fs); opens = opens_after (is_opened before key found) opens }
     answered_run f fs is are answers opens =
@@ -131,9 +132,9 @@ module _ (cap : ℕ) (opts : FindSymOpts) (key : Key) (found : Found) (bytes : L
         ∙ ap (λ l. record { kept = now; answers = l; opens = count }) (append_assoc answers (known f ∷ []) (map known fs))
 
 -- what is in front after a file was kept are its bytes
-pub front_kept : (cap : ℕ) (key : Key) (bytes now : List ℕ) (before after : Kept) → 0 < cap → after ≡ keep cap key bytes before → slice_get (map (λ entry. entry.1) after) 0 ≡ Some now → now ≡ bytes
+pub front_kept : (cap : ℕ) (key : Key) (bytes now : List ℕ) (before after : ShelfFiles) → 0 < cap → after ≡ keep cap key bytes before → slice_get (map (λ entry. entry.1) after) 0 ≡ Some now → now ≡ bytes
 front_kept cap key bytes lent before after room is first =
-    some_same _ _ (sym first ∙ ap (λ (l : Kept). slice_get (map (λ entry. entry.1) l) 0) is ∙ kept_front cap key bytes before room)
+    some_same _ _ (sym first ∙ ap (λ (l : ShelfFiles). slice_get (map (λ entry. entry.1) l) 0) is ∙ kept_front cap key bytes before room)
 
 -- what is told of the world in view
 abbrev told_in : Option World → List ℕ → Key → Found

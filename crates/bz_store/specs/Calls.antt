@@ -8,13 +8,13 @@ use Rattle.bz_files.specs.Looked.{Faulted, Looked, ReadsOne}
 use Rattle.bz_files.specs.World.{Told, World, in_view}
 use Rattle.bz_files.specs.declared.files.Files.{Ghosts}
 use Rattle.bz_store.specs.Frames.{Key, Frame, FrameReading, reading_of}
-use Rattle.bz_store.specs.Plain.{Agrees, answer_in, answered, keys, keys_after, opens_after_all}
-use Rattle.bz_store.specs.Shelf.{Kept, Shelf, keep}
+use Rattle.bz_store.specs.Plain.{AreOfWorld, answer_in, answered, keys, keys_after, opens_after_all}
+use Rattle.bz_store.specs.Shelf.{ShelfFiles, Shelf, keep}
 use Rattle.bz_store.specs.Visits.{Found, Holds, State, by_source, found_at, is_opened, kept_after, source, visited}
 use Rattle.bz_store.specs.declared.frame.FrameAnswer.{FrameAnswer}
 
 -- a store with other files
-abbrev pub with_files : Shelf → Kept → Shelf
+abbrev pub with_files : Shelf → ShelfFiles → Shelf
 with_files shelf files = record shelf { files = files }
 
 -- a store's state, with what was answered and how many files were read
@@ -26,7 +26,7 @@ abbrev pub found_each : World → List ℕ → List Frame → List (Frame × Fou
 found_each world root frames = map (λ f. (f, found_at world root f.file)) frames
 
 -- nothing was put in front, and this is the answer at every offset; or else bytes were, which answer
-abbrev pub Sought : ℕ → Key → Option Found → Option FrameAnswer → Kept → Kept → Type 0
+abbrev pub Sought : ℕ → Key → Option Found → Option FrameAnswer → ShelfFiles → ShelfFiles → Type 0
 Sought cap key from (Some answer) before after = (after ≡ before) × (kept_after cap key from before ≡ before) × ((opts : FindSymOpts) (offset : ℕ) → by_source opts offset from ≡ reading_of answer)
 Sought cap key from None before after = (bytes : List ℕ) × (0 < cap) × (from ≡ Some (Holds bytes)) × (after ≡ keep cap key bytes before)
 
@@ -69,13 +69,13 @@ pub record OneByOne {X A : Type 0} (files : Ghosts X) (readings : A → List Fra
 -- the answers to frames
 pub record AnswersFrames {X A : Type 0} (files : Ghosts X) (readings : A → List FrameReading) (opts : FindSymOpts) (frames : List Frame) (result : Result A Error) (before after : Shelf) (old new : X) : Type 0 where
   -- where each kept file has the bytes that the world in view has at its path, frames are answered as without a cache
-  pub alone : Told (in_view (files.worlds old)) (λ world. Agrees world before.root before.files → IfOk result (λ a. readings a ≡ map (answer_in world before.root opts) frames))
+  pub alone : Told (in_view (files.worlds old)) (λ world. AreOfWorld world before.root before.files → IfOk result (λ a. readings a ≡ map (answer_in world before.root opts) frames))
   -- and kept files have these bytes afterwards, whatever is answered
-  pub agrees : Told (in_view (files.worlds old)) (λ world. Agrees world before.root before.files → Agrees world before.root after.files)
+  pub agrees : Told (in_view (files.worlds old)) (λ world. AreOfWorld world before.root before.files → AreOfWorld world before.root after.files)
   -- the keys of frames that their files answered are kept, in their order
   pub kept : IfOk result (λ a. keys after.files ≡ keys_after before.cap (answered frames (readings a)) (keys before.files))
   -- after a refusal, those of some of the frames, in their order, none skipped
-  pub err : Told (in_view (files.worlds old)) (λ world. Agrees world before.root before.files →
+  pub err : Told (in_view (files.worlds old)) (λ world. AreOfWorld world before.root before.files →
       OnErr result ((count : ℕ) × (keys after.files ≡ keys_after before.cap (answered (take count frames) (map (answer_in world before.root opts) (take count frames))) (keys before.files))))
   -- a file is read for each frame whose name is good, whose key isn't kept at that point, and whose path is present
   pub opens : Told (in_view (files.worlds old)) (λ world. IfOk result (λ a. files.opens new ≡ opens_after_all before.cap (found_each world before.root frames) (readings a) (keys before.files) (files.opens old)))

@@ -5,21 +5,22 @@ use Rattle.bz_base.specs.declared.types.FindSymOpts.{FindSymOpts}
 use Rattle.bz_cache.specs.Look.{opens_after}
 use Rattle.bz_files.specs.World.{World}
 use Rattle.bz_store.specs.Frames.{Key, Frame, FrameReading, Known, BadName, is_good, key_eq}
-use Rattle.bz_store.specs.Shelf.{Kept}
+use Rattle.bz_store.specs.Shelf.{ShelfFiles}
 use Rattle.bz_store.specs.Visits.{Found, Holds, by_found, found_at, is_read}
 
 -- the answer for a frame by a world alone
 abbrev pub answer_in : World → List ℕ → FindSymOpts → Frame → FrameReading
 answer_in world root opts frame = if is_good frame.file then by_found opts frame.offset (found_at world root frame.file) else BadName
 
--- each file that is kept has the bytes that the world has at its path
+-- a file that is kept has the bytes that the world has at its path
 abbrev pub IsOf : World → List ℕ → Key × List ℕ → Type 0
 IsOf world root entry = found_at world root entry.0 ≡ Holds entry.1
 
-abbrev pub Agrees : World → List ℕ → Kept → Type 0
-Agrees world root kept = AllByRecursion (IsOf world root) kept
+-- so has each of them
+abbrev pub AreOfWorld : World → List ℕ → ShelfFiles → Type 0
+AreOfWorld world root kept = AllByRecursion (IsOf world root) kept
 
-abbrev pub keys : Kept → List Key
+abbrev pub keys : ShelfFiles → List Key
 keys kept = map (λ entry. entry.0) kept
 
 -- the keys without one of them

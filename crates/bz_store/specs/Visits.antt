@@ -11,7 +11,7 @@ use Rattle.bz_cache.specs.Look.{opens_after}
 use Rattle.bz_files.specs.World as worlds
 use Rattle.bz_files.specs.World.{World, Entry, entry_at}
 use Rattle.bz_store.specs.Frames.{Key, Frame, FrameReading, Known, BadName, NoFile, Denied, BadFile, is_good, key_eq, symbol_path}
-use Rattle.bz_store.specs.Shelf.{Kept, keep}
+use Rattle.bz_store.specs.Shelf.{ShelfFiles, keep}
 
 -- what may be found at the path of a file: nothing, a file that may not be read, or bytes
 pub data Found : Type 0 where
@@ -40,7 +40,7 @@ by_found opts offset Barred = Denied
 by_found opts offset (Holds bytes) = by_table opts offset (table_in bytes)
 
 -- what answers for a file: nothing under a bad name, the kept bytes of a file that is kept, and else what is found
-abbrev pub source : Kept → Key → Found → Option Found
+abbrev pub source : ShelfFiles → Key → Found → Option Found
 source kept key found = if is_good key then Some (option_map_or Holds (lookup (key_eq key) kept) found) else None
 
 abbrev pub by_source : FindSymOpts → ℕ → Option Found → FrameReading
@@ -48,12 +48,12 @@ by_source opts offset None = BadName
 by_source opts offset (Some found) = by_found opts offset found
 
 -- the new ones are kept where bytes have a table
-abbrev pub stays : Option Table → Kept → Kept → Kept
+abbrev pub stays : Option Table → ShelfFiles → ShelfFiles → ShelfFiles
 stays None new old = old
 stays (Some table) new old = new
 
 -- a file that answers is kept
-abbrev pub kept_after : ℕ → Key → Option Found → Kept → Kept
+abbrev pub kept_after : ℕ → Key → Option Found → ShelfFiles → ShelfFiles
 kept_after cap key (Some (Holds bytes)) kept = stays (table_in bytes) (keep cap key bytes kept) kept
 kept_after cap key _ kept = kept
 
@@ -62,12 +62,12 @@ is_read (Holds bytes) = true
 is_read _ = false
 
 -- a file is read: its name is good, it isn't kept, and there are bytes
-abbrev pub is_opened : Kept → Key → Found → Bool
+abbrev pub is_opened : ShelfFiles → Key → Found → Bool
 is_opened kept key found = is_good key && (not (is_some (lookup (key_eq key) kept)) && is_read found)
 
 -- a store's state: what it keeps, what was answered so far, and how many files were read
 pub record State : Type 0 where
-  pub kept : Kept
+  pub kept : ShelfFiles
   pub answers : List FrameReading
   pub opens : ℕ
 

@@ -26,7 +26,8 @@ pub enum FoundFile {
     Holds(Vec<u8>),
 }
 
-/// What is found at the path of a symbol file, in a store that lies at the root.
+/// What is found at the path of a symbol file, in a store that lies at the root. ReadFault: reading
+/// failed. OutOfMemory: memory ran out.
 pub fn find_file<F: Files>(
     alloc: Global,
     files: &mut F,

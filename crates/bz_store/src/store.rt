@@ -40,8 +40,9 @@ impl Model for Store {
 }
 
 impl Store {
-    /// A store that lies at the root and keeps so many files at most, and at least one. It keeps none yet.
-    /// The symbol file of a module lies at ROOT/MODULE/ID/MODULE.sym.
+    /// A store that lies at the root and keeps no more files than its capacity, which is at least 1. It
+    /// keeps none yet. The symbol file of a module lies at ROOT/MODULE/ID/MODULE.sym. OutOfMemory: memory
+    /// ran out.
     pub fn new(alloc: Global, root: String, capacity: usize) -> Result<Store>
         requires { 1 ≤ capacity }
         ensures ok { IfOk result (λ store. store ≡ new_shelf (string_bytes root) capacity) }

@@ -18,8 +18,8 @@ impl<D: ProcessDispatch + Drop> Processes<D> {
     /// looked at as if it weren't pinned, and pinned. One that is absent is pinned at the version that is
     /// held, if one is. NotFound: the mappings or the status are absent. PermissionDenied, InvalidData: the
     /// mappings, the status or the perf map may not be read, or isn't in its format. ReadFault: a file
-    /// failed. OutOfMemory: memory ran out. The first of the three in this order refuses. After a refusal
-    /// everything is as before.
+    /// failed. OutOfMemory: memory ran out. Mappings come first, then the status, then the perf map, and the
+    /// first that can't be had refuses. After a refusal everything is as before.
     pub fn cache<F: Files>(
         &mut self,
         alloc: Global,

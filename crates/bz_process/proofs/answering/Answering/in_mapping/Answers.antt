@@ -12,8 +12,8 @@ pub returns-in-None-clause-asks : goal.returns-in-None-clause-asks
 returns-in-None-clause-asks g c =
     let terms = terms_of g.D.ProcessDispatch g.D.Resolver.TranslateFileOffset g.D.Resolver.Symbolize c.args.self.now c.args.question.now (g.F.Files.pid c.args.files.now) in
     let none : option_map name_of c.args.entry.now.path_name ≡ None = ap (option_map name_of) c.in-None.is in
-    in_unnamed g.F.Files terms (mapping_of c.args.entry.now) _ c.args.addr c.unnamed.result (caches c.args.elf.now c.args.self.now.perf_maps) (caches c.args.elf.now c.unnamed.new.self) c.args.self.now.dispatching.answers c.args.files.now c.unnamed.new.files
-    none (c.unnamed.ensures.step c.args.elf.now) (c.unnamed.ensures.some c.args.elf.now)
+    in_unnamed g.F.Files terms (mapping_of c.args.entry.now) _ c.args.addr c.answer_without_name.result (caches c.args.elf.now c.args.self.now.perf_maps) (caches c.args.elf.now c.answer_without_name.new.self) c.args.self.now.dispatching.answers c.args.files.now c.answer_without_name.new.files
+    none (c.answer_without_name.ensures.step c.args.elf.now) (c.answer_without_name.ensures.some c.args.elf.now)
 
 -- the resolver that is in charge answered
 pub returns-in-Ok-Some-clause-asks : goal.returns-in-Ok-Some-clause-asks
@@ -43,9 +43,9 @@ returns-in-Ok-None-clause-asks g c =
     let terms = terms_of g.D.ProcessDispatch g.D.Resolver.TranslateFileOffset g.D.Resolver.Symbolize c.args.self.now c.args.question.now (g.F.Files.pid c.args.files.now) in
     let own = g.F.Files.pid c.args.files.now in
     let named : option_map name_of c.args.entry.now.path_name ≡ Some (name_of c.in-Some.name) = ap (option_map name_of) c.in-Some.is in
-    in_named g.F.Files terms (mapping_of c.args.entry.now) c.in-Some.name _ c.args.addr None c.named.result
-    (kept_by c.args.elf.now c.args.self.now) (record { caches = caches c.named.new.elf c.args.self.now.perf_maps; answers = c.say.new.self.answers }) c.args.files.now c.named.new.files named
-    (unless c.named.result _ (rw c.in-Ok-None.field-0-is at c.in-Ok-None.ensures).said) tt (c.named.ensures.some own c.args.self.now.perf_maps) (c.named.ensures.step own c.args.self.now.perf_maps)
+    in_named g.F.Files terms (mapping_of c.args.entry.now) c.in-Some.name _ c.args.addr None c.answer_by_name.result
+    (kept_by c.args.elf.now c.args.self.now) (record { caches = caches c.answer_by_name.new.elf c.args.self.now.perf_maps; answers = c.say.new.self.answers }) c.args.files.now c.answer_by_name.new.files named
+    (unless c.answer_by_name.result _ (rw c.in-Ok-None.field-0-is at c.in-Ok-None.ensures).said) tt (c.answer_by_name.ensures.some own c.args.self.now.perf_maps) (c.answer_by_name.ensures.step own c.args.self.now.perf_maps)
 
 pub returns-in-Ok-Some-clause-adds : goal.returns-in-Ok-Some-clause-adds
 returns-in-Ok-Some-clause-adds g c =

@@ -10,7 +10,7 @@ use Rattle.bz_process.proofs.perf_maps.PerfMaps.in_perf_map.Goals as goal
 pub returns-clause-step : goal.returns-clause-step
 returns-clause-step g c elf =
     let own = g.F.Files.pid c.args.files.now in
-    rw c.unless_absent.ensures
+    rw c.softened.ensures
     (softens g.F.Files own (and_then (remember c.args.pid own) (λ known. of_perf_map (asks_perf_map c.args.addr) known.perf_map)) c.look_in_perf_map.result
     (caches elf c.args.self.now) (caches elf c.look_in_perf_map.new.self) c.args.files.now c.look_in_perf_map.new.files (c.look_in_perf_map.ensures.step elf))
 
@@ -18,5 +18,5 @@ pub returns-clause-some : goal.returns-clause-some
 returns-clause-some g c elf = record {
   looked = as_read reading c.look_in_perf_map.result;
   some = c.look_in_perf_map.ensures.some elf;
-  softened = rw c.unless_absent.ensures (softened_read c.look_in_perf_map.result);
+  softened = rw c.softened.ensures (softened_read c.look_in_perf_map.result);
 }

@@ -2,7 +2,7 @@ use Rattle.std.proofs.Common.{refl}
 use Rattle.bz_base.specs.Answer.{reading}
 use Rattle.bz_process.specs.Caches.{caches}
 use Rattle.bz_process.proofs.ProcessLemmas.{still}
-use Rattle.bz_process.proofs.perf_maps.PerfMaps.unnamed.Goals as goal
+use Rattle.bz_process.proofs.perf_maps.PerfMaps.answer_without_name.Goals as goal
 
 -- the perf map isn't asked
 pub returns-else-query-clause-step : goal.returns-else-query-clause-step

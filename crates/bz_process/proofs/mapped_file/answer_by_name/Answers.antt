@@ -3,7 +3,7 @@ use Rattle.bz_base.specs.Answer.{reading}
 use Rattle.bz_process.specs.Caches.{caches}
 use Rattle.bz_process.proofs.ProcessLemmas.{still, looks_at_elf}
 use Rattle.bz_process.proofs.UntoldLemmas.{some_read}
-use Rattle.bz_process.proofs.mapped_file.named.Goals as goal
+use Rattle.bz_process.proofs.mapped_file.answer_by_name.Goals as goal
 
 -- a part of the system has no symbols
 pub returns-in-Component-clause-step : goal.returns-in-Component-clause-step
