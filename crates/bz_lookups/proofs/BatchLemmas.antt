@@ -12,7 +12,7 @@ use Rattle.bz_base.specs.declared.types.Symbolized.{Symbolized}
 use Rattle.bz_breakpad.specs.Plain.{batch}
 use Rattle.bz_breakpad.specs.Reader.{table_in}
 use Rattle.bz_breakpad.specs.Table.{Table}
-use Rattle.bz_lookups.specs.Batch.{Batch, BreakpadVersion, Version, answer_at, answers_there, answers_to, batch_by, entry_by, single_by}
+use Rattle.bz_lookups.specs.Batch.{Batch, BreakpadVersion, Version, answer_at, answers_there, answers_to, batch_by, entry_by}
 
 -- the answer of a batch at an index is what its version answers at the address there
 pub answer_there : (batch : Batch) (i : ℕ) → i < length batch.addrs → slice_get batch.answers i ≡ Some (answer_at batch (slice_index batch.addrs i))
@@ -59,13 +59,6 @@ module _ (version : Version) (opts : FindSymOpts) where
       subst (λ (xs : List ℕ). IfOk result (λ answers. map reading answers.items ≡ map (λ addr. entry_by version opts addr) xs)) same
       (subst (λ (b : Batch). IfOk result (λ answers. map reading answers.items ≡ answers_to b.addrs b)) is answers)
 
-  -- the answer of a batch of one address is that of the version there
-  pub alone_of_batch : (addr : ℕ) (copied : List ℕ) (whole : Batch) (result : Result Symbolized Error) → whole ≡ batch_by version opts copied → copied ≡ addr ∷ [] →
-      Gives reading (single_by whole.version whole.opts (slice_index whole.addrs 0)) result → Gives reading (single_by version opts addr) result
-  alone_of_batch addr copied whole result is same gives =
-      subst (λ (xs : List ℕ). Gives reading (single_by version opts (slice_index xs 0)) result) same
-      (subst (λ (b : Batch). Gives reading (single_by b.version b.opts (slice_index b.addrs 0)) result) is gives)
-
 -- an answer with texts of its own is given as the one that it was made of
 pub gives_owned : (expected : Result Answer Error) (answer : Symbolized) (owned : Result Symbolized Error) → Gives reading expected (Ok answer) →
     IfOk owned (λ own. reading own ≡ reading answer) → IsOkUnless owned errors.OutOfMemory → Gives reading expected owned
@@ -73,13 +66,13 @@ gives_owned expected answer (Ok own) gives same memory = gives ∙ ap Ok (sym sa
 gives_owned expected answer (Err errors.OutOfMemory) gives same memory = tt
 gives_owned expected answer (Err _) gives same memory = cc memory
 
--- a batch by a version is what the query makes of its answers, at any addresses
+-- what a batch by a version answers to any addresses
 pub any_of_batch : (others : List ℕ) (version : Version) (opts : FindSymOpts) (addrs : List ℕ) (result : Result Batch Error) → IfOk result (λ given. given ≡ batch_by version opts addrs) →
     IfOk result (λ given. answers_to others given ≡ map (λ addr. entry_by version opts addr) others)
 any_of_batch others version opts addrs (Ok given) is = ap (answers_to others) is
 any_of_batch others version opts addrs (Err e) is = tt
 
--- and at its own
+-- and to its own
 pub own_of_batch : (version : Version) (opts : FindSymOpts) (addrs : List ℕ) (result : Result Batch Error) → IfOk result (λ given. given ≡ batch_by version opts addrs) →
     IfOk result (λ given. given.answers ≡ map (λ addr. entry_by version opts addr) addrs)
 own_of_batch version opts addrs (Ok given) is = ap (λ (b : Batch). b.answers) is

@@ -10,7 +10,7 @@ use Rattle.bz_files.specs.Looked.{Faulted, Looked}
 use Rattle.bz_files.specs.World.{Entry}
 use Rattle.bz_files.specs.declared.files.Files.{Ghosts}
 use Rattle.bz_cache.specs.Cache.{Cache}
-use Rattle.bz_cache.specs.Format.{Comes, FailsAs}
+use Rattle.bz_cache.specs.Format.{GivesOrFaults, FailsAs}
 use Rattle.bz_cache.specs.Look.{look}
 use Rattle.bz_cache.specs.FileCall.{Answering, ByVersion, CallsFile, Leaves, Query, by_look, by_test, each_of, file_answer, query_asked, query_given}
 use Rattle.bz_lookups.specs.Formats.{HandedSource, handed_answer}
@@ -36,7 +36,7 @@ never_faulted (Err errors.ReadFault) may fault = may
 never_faulted (Err _) may fault = cc fault
 
 -- what reads as expected comes as expected
-pub comes_given : {A B : Type 0} (reading : A → B) (expected : Result B Error) (result : Result A Error) → Gives reading expected result → Comes reading expected result
+pub comes_given : {A B : Type 0} (reading : A → B) (expected : Result B Error) (result : Result A Error) → Gives reading expected result → GivesOrFaults reading expected result
 comes_given reading expected (Ok given) is = is
 comes_given reading expected (Err errors.ReadFault) is = tt
 comes_given reading expected (Err errors.OutOfMemory) is = tt
@@ -86,9 +86,9 @@ module _ {A B H : Type 0} (reading : A → B) (query : Query B) (singles : H →
   gives_made (Ok h) result x follows is = subst (λ y. Gives reading (made y) result) (sym is) follows.0
   gives_made (Err e) result x follows is = subst (Gives reading (made x)) (sym follows) (refuses_made e x is)
 
-  comes_made : (held : Result H Error) (result : Result A Error) (x : Result (ℕ → Result Answer Error) Error) → Follows held result → Comes singles x held → Comes reading (made x) result
+  comes_made : (held : Result H Error) (result : Result A Error) (x : Result (ℕ → Result Answer Error) Error) → Follows held result → GivesOrFaults singles x held → GivesOrFaults reading (made x) result
   comes_made (Ok h) result x follows is = comes_given reading (made x) result (gives_made (Ok h) result x follows is)
-  comes_made (Err e) result x follows is = subst (Comes reading (made x)) (sym follows) (fails_made e x is)
+  comes_made (Err e) result x follows is = subst (GivesOrFaults reading (made x)) (sym follows) (fails_made e x is)
 
   module _ (test : List ℕ → Option Error) (answering : Answering) (opts : FindSymOpts) (path : List ℕ) where
     given_made : (bytes : List ℕ) → query_given answering opts path query bytes ≡ made (query_given answering opts path (each_of query.kind) bytes)
@@ -155,8 +155,8 @@ module _ {A B H : Type 0} (reading : A → B) (query : Query B) (singles : H →
       }
 
       told_answer : (held : Result H Error) (result : Result A Error) (there : Option Entry) → Follows held result →
-          Comes singles (file_answer (query_asked test answering opts path (each_of query.kind)) old path there) held → Comes reading (file_answer (query_asked test answering opts path query) old path there) result
-      told_answer held result there follows is = subst (λ y. Comes reading y result) (sym (file_made test answering opts path old there)) (comes_made held result _ follows is)
+          GivesOrFaults singles (file_answer (query_asked test answering opts path (each_of query.kind)) old path there) held → GivesOrFaults reading (file_answer (query_asked test answering opts path query) old path there) result
+      told_answer held result there follows is = subst (λ y. GivesOrFaults reading y result) (sym (file_made test answering opts path old there)) (comes_made held result _ follows is)
 
       -- a call that goes on by what is held does on the file what the look for it did
       pub calls_held : (held : Result H Error) (result : Result A Error) → Follows held result →

@@ -7,7 +7,7 @@ use Rattle.std.proofs.Math.Seq.{get_or-append_seam}
 use Rattle.std.proofs.lemmas.Bool.{cases_lt}
 use Rattle.std.proofs.lemmas.Grind.{get_or-set_at}
 use Rattle.std.proofs.lemmas.List.{ext_get_or, get_or-drop, get_or-map, get_or-set_other, get_or-take, length-append, length-drop, length-map, length-take}
-use Rattle.std.proofs.lemmas.List.Elements.{All-contains, All-drop, All-take}
+use Rattle.std.proofs.lemmas.List.Elements.{All-contains}
 use Rattle.std.proofs.lemmas.List.Sorted.{All-permutation, Contains-permutation, length_permutation}
 use Rattle.bz_base.specs.Answer.{Answer, reading}
 use Rattle.bz_base.specs.declared.error.Error.{Error}
@@ -135,11 +135,7 @@ module _ (batch : Batch) (indices : List ℕ) (start : List Symbolized) where
         ];
       }
 
--- what holds of all holds of a part of them
-pub all_of_range : (P : ℕ → Type 0) (xs : List ℕ) (from to : ℕ) → All P xs → All P (slice_range xs from to)
-all_of_range P xs from to all = All-take P (to - from) (drop from xs) (All-drop P from xs all)
-
--- and what holds of all of a part holds at each of its places
+-- what holds of all of a part holds at each of its places
 pub range_made : (P : ℕ → Type 0) (xs : List ℕ) (from to k default : ℕ) → to ≤ length xs → All P (slice_range xs from to) → from ≤ k → k < to → P (slice_index_or xs k default)
 range_made P xs from to k default within all above below =
     let part = slice_range xs from to in

@@ -7,8 +7,8 @@ use Rattle.bz_base.specs.declared.types.FindSymOpts.{FindSymOpts}
 use Rattle.bz_base.specs.declared.types.FindSymOpts.TheVariants as asked
 use Rattle.bz_breakpad.specs.Reader.{table_in}
 use Rattle.bz_lookups.specs.Formats.{breakpad_single, elf_single, gsym_single}
-use Rattle.bz_lookups.specs.declared.held.ElfKind.{ElfKind}
-use Rattle.bz_lookups.specs.declared.held.ElfKind.TheVariants as kinds
+use Rattle.bz_lookups.specs.declared.held.ElfAddressKind.{ElfAddressKind}
+use Rattle.bz_lookups.specs.declared.held.ElfAddressKind.TheVariants as kinds
 use Rattle.bz_lookups.specs.declared.held.Held.{Held}
 use Rattle.bz_lookups.specs.declared.held.Held.TheVariants as helds
 
@@ -65,7 +65,7 @@ abbrev pub answers_there : List ℕ → Batch → List Answer
 answers_there indices batch = map (λ i. answer_at batch (slice_index batch.addrs i)) indices
 
 -- the kind of the addresses that an ELF file is asked for
-abbrev pub kind_of : ElfKind → AddressKind
+abbrev pub kind_of : ElfAddressKind → AddressKind
 kind_of kinds.Table = InTable
 kind_of kinds.File = InFile
 

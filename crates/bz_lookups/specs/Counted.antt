@@ -6,12 +6,12 @@ use Rattle.bz_breakpad.specs.Reader.{table_in}
 use Rattle.bz_breakpad.specs.Table.{Table}
 use Rattle.bz_lookups.specs.Batch.{Version, BreakpadVersion}
 
--- those of bytes that are a Breakpad file: as many as are enough among its functions and its PUBLIC records
+-- those on the bytes of a Breakpad file: few, since each address is searched for among its functions and PUBLIC records
 pub record BreakpadSteps (bytes : List ℕ) (addrs before after : ℕ) : Type 0 where
   pub more : before ≤ after
   pub probes : (table : Table) → table_in bytes ≡ Some table → AreFewSteps table addrs (after - before)
 
--- none where the kind of the addresses is refused
+-- the same, or none, as where the kind of the addresses is refused
 abbrev pub breakpad_steps : List ℕ → ℕ → ℕ → ℕ → Type 0
 breakpad_steps bytes addrs before after = (after ≡ before) ⊎ BreakpadSteps bytes addrs before after
 

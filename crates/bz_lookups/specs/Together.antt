@@ -11,7 +11,8 @@ pub record IsAmong (batch : Batch) (first count index : ℕ) : Type 0 where
   pub before : index < first + count
   pub there : index < length batch.addrs
 
--- these are, in some order, the indices of so many addresses of the batch from the first on; of some, where some are left
+-- these are, in some order, the indices of so many addresses of the batch from the first on. Where any are left, there is one at
+-- least
 pub record AreNext (batch : Batch) (first : ℕ) (indices : List ℕ) : Type 0 where
   pub among : All (IsAmong batch first (length indices)) indices
   pub each : (index : ℕ) → first ≤ index → index < first + length indices → Contains indices index

@@ -13,7 +13,7 @@ ghost use Rattle.bz_lookups.specs.Counted.{TakesSteps, no_steps};
 ghost use Rattle.bz_lookups.specs.Formats.{elf_answering, elf_single, virtual_offset};
 
 use crate::answering::Answers;
-use crate::held::{ElfKind, Held, HeldElf};
+use crate::held::{ElfAddressKind, Held, HeldElf};
 use bz_base::{Addr, Error, Input, Reason, Result, Symbolized, TranslateFileOffset};
 use bz_elf::ElfFile;
 use bz_process::elf_answer_at;
@@ -42,15 +42,20 @@ impl Answers for ElfFile {
         ensures refusal { IfErr result MayRefuse }
     {
         match input {
-            Input::VirtOffset(_) => held_as(alloc, version, path, ElfKind::Table),
-            Input::FileOffset(_) => held_as(alloc, version, path, ElfKind::File),
+            Input::VirtOffset(_) => held_as(alloc, version, path, ElfAddressKind::Table),
+            Input::FileOffset(_) => held_as(alloc, version, path, ElfAddressKind::File),
             Input::AbsAddr(_) => Err(Error::Unsupported),
         }
     }
 }
 
 // The file, held with the path, which is the module of its answers.
-fn held_as<'d>(alloc: Global, file: Rc<ElfFile>, path: &str, kind: ElfKind) -> Result<Held<'d>>
+fn held_as<'d>(
+    alloc: Global,
+    file: Rc<ElfFile>,
+    path: &str,
+    kind: ElfAddressKind,
+) -> Result<Held<'d>>
     ensures held { IfOk result (λ held. version_of held ≡ ElfVersion path.now file.value (kind_of kind)) }
     ensures memory { IsOkUnless result Error.OutOfMemory }
 {
@@ -58,8 +63,8 @@ fn held_as<'d>(alloc: Global, file: Rc<ElfFile>, path: &str, kind: ElfKind) -> R
     Ok(Held::Elf(HeldElf { file, path, kind }))
 }
 
-/// The answer at an address, whose texts are lent. An ELF file tells no places.
-pub(crate) fn symbol_at<'a>(alloc: Global, elf: &'a HeldElf, addr: Addr) -> Result<Symbolized<'a>>
+/// The answer at an address, whose texts are lent. An ELF file tells no site.
+pub(crate) fn answer_at<'a>(alloc: Global, elf: &'a HeldElf, addr: Addr) -> Result<Symbolized<'a>>
     ensures answer { IfOk result (λ answer. reading answer ≡ elf_single (string_bytes elf.now.path) elf.now.file.value (kind_of elf.now.kind) addr) }
     ensures lent { IfOk result IsLent }
     ensures sure { IsOk result }
@@ -72,11 +77,11 @@ pub(crate) fn symbol_at<'a>(alloc: Global, elf: &'a HeldElf, addr: Addr) -> Resu
 }
 
 // The address as the symbol table has it: an offset in the file goes through the load segments.
-fn virtual_offset(file: &ElfFile, kind: ElfKind, addr: u64) -> Result<Option<Addr>>
+fn virtual_offset(file: &ElfFile, kind: ElfAddressKind, addr: u64) -> Result<Option<Addr>>
     ensures { result ≡ Ok (virtual_offset file.now (kind_of kind) addr) }
 {
     match kind {
-        ElfKind::Table => Ok(Some(addr)),
-        ElfKind::File => file.file_offset_to_virt_offset(addr),
+        ElfAddressKind::Table => Ok(Some(addr)),
+        ElfAddressKind::File => file.file_offset_to_virt_offset(addr),
     }
 }

@@ -52,7 +52,8 @@ impl Answers for GsymTable {
     }
 }
 
-/// Bytes that are handed in, held to answer addresses of the input's kind.
+/// Bytes that are handed in, held to answer addresses of the input's kind. Unsupported: GSYM answers none of
+/// that kind. InvalidData: they aren't GSYM.
 pub fn hold_data<'d, A>(bytes: &'d [u8], input: &Input<A>) -> Result<Held<'d>>
     ensures held { (opts : FindSymOpts) → Gives (held_singles opts) (handed_answer (gsym_handed bytes.now) opts (each_of (address_kind input.now))) result }
     ensures steps { IfOk result (λ held. TakesSteps (version_of held) (no_steps bytes.now)) }
@@ -69,7 +70,7 @@ pub fn hold_data<'d, A>(bytes: &'d [u8], input: &Input<A>) -> Result<Held<'d>>
 }
 
 /// The answer at an address, whose texts are lent.
-pub(crate) fn symbol_at<'a>(
+pub(crate) fn answer_at<'a>(
     alloc: Global,
     context: &GsymContext<'a>,
     opts: &FindSymOpts,

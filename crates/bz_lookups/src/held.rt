@@ -11,7 +11,7 @@ ghost use Rattle.bz_lookups.specs.Batch.{MayWantMemory, entry_by, single_by, ver
 ghost use Rattle.bz_lookups.specs.Counted.{VersionSteps};
 ghost use Rattle.bz_lookups.specs.Found.{AreFoundIn, IsFoundIn};
 
-use crate::{elf, gsym};
+use crate::{breakpad, elf, gsym};
 use bz_base::{Addr, FindSymOpts, Result, Steps, Symbolized, in_batch};
 use bz_breakpad::{FoundRecord, SymbolFile};
 use bz_elf::ElfFile;
@@ -42,12 +42,12 @@ pub struct HeldElf {
     /// The path that names it in the call.
     pub path: String,
     /// What its addresses are.
-    pub kind: ElfKind,
+    pub kind: ElfAddressKind,
 }
 
 /// What the addresses that an ELF file is asked for are.
 #[derive(Clone, Copy)]
-pub enum ElfKind {
+pub enum ElfAddressKind {
     /// Addresses as the symbol table has them.
     Table,
     /// Offsets in the file.
@@ -55,6 +55,26 @@ pub enum ElfKind {
 }
 
 impl<'d> Held<'d> {
+    /// The answer at an address alone, or its refusal. Its texts are lent. InvalidInput: an id of a file or
+    /// of an origin there names nothing in the Breakpad file, or a source name has no component.
+    /// InvalidData: what the GSYM bytes tell of the address isn't in the format. OutOfMemory: memory ran out
+    /// for inlined calls.
+    pub fn single(&self, alloc: Global, opts: &FindSymOpts, addr: Addr) -> Result<Symbolized<'_>>
+        ensures answer { Gives reading (single_by (version_of self.now) opts.now addr) result }
+        ensures lent { IfOk result IsLent }
+        ensures refusal { IfErr result MayRefuse }
+        ensures memory { IfErr result (WantsMemory (MayWantMemory (version_of self.now) opts.now)) }
+    {
+        match self {
+            Held::Breakpad(file) => {
+                breakpad::answer_blank::<Brand>(alloc, file.as_ref(), opts, addr, Blank::new(1))
+            }
+            Held::Gsym(_) | Held::GsymData(_) | Held::Elf(_) => {
+                self.answer_by(alloc, opts, addr, FoundRecord::Absent)
+            }
+        }
+    }
+
     /// Which records answer for the addresses. A Breakpad file has one for each; of other formats none
     /// are found beforehand.
     pub(crate) fn find_records<L: Ledger>(
@@ -73,7 +93,7 @@ impl<'d> Held<'d> {
         }
     }
 
-    /// The same records, not counted.
+    /// The same records, with no count of the steps.
     pub(crate) fn find_uncounted(&self, alloc: Global, addrs: &[u64]) -> Result<Vec<FoundRecord>>
         ensures found { IfOk result (λ records. AreFoundIn self.now addrs.now records.items) }
         ensures memory { IsOkUnless result Error.OutOfMemory }
@@ -115,9 +135,9 @@ impl<'d> Held<'d> {
     {
         match self {
             Held::Breakpad(file) => file.as_ref().answer_by(alloc, addr, found, opts),
-            Held::Gsym(table) => gsym::symbol_at(alloc, &table.context(), opts, addr),
-            Held::GsymData(context) => gsym::symbol_at(alloc, context, opts, addr),
-            Held::Elf(elf) => elf::symbol_at(alloc, elf, addr),
+            Held::Gsym(table) => gsym::answer_at(alloc, &table.context(), opts, addr),
+            Held::GsymData(context) => gsym::answer_at(alloc, context, opts, addr),
+            Held::Elf(elf) => elf::answer_at(alloc, elf, addr),
         }
     }
 
@@ -166,7 +186,7 @@ impl<'d> Held<'d> {
     }
 }
 
-/// The record that was found at an index. Where none were found beforehand, there is none.
+/// The record that was found at an index. Where none were found beforehand, it is `Absent`.
 pub(crate) fn record_at(records: &[FoundRecord], index: usize) -> FoundRecord
     ensures { result ≡ slice_index_or records.now index FoundRecord.Absent }
 {

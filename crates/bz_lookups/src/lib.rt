@@ -11,6 +11,6 @@ mod together;
 
 pub use answering::{Answers, hold_file};
 pub use gsym::hold_data;
-pub use held::{ElfKind, Held, HeldElf};
+pub use held::{ElfAddressKind, Held, HeldElf};
 pub use lookups::Lookups;
 pub use together::TOGETHER;

@@ -63,7 +63,7 @@ impl<'d> Lookups<'d> {
         })
     }
 
-    /// The same, not counted.
+    /// The same, with no count of the steps.
     pub fn find_uncounted(
         alloc: Global,
         held: Held<'d>,
@@ -131,8 +131,8 @@ impl<'d> Lookups<'d> {
         in_batch(self.single(alloc, index))
     }
 
-    /// The answers at the addresses of some indices, in their order: what these say is read together,
-    /// which is faster than one by one. A refused address is an ignored error.
+    /// The answers at the addresses of some indices, in their order. What a Breakpad file says of them is
+    /// read together, which is faster than one by one. A refused address is an ignored error.
     pub fn answers_of(&self, alloc: Global, indices: &[usize]) -> Result<Vec<Symbolized<'_>>>
         requires { All (λ index. index < length self.now.addrs) indices.now }
         ensures answers { IfOk result (λ answers. map reading answers.items ≡ answers_there indices.now self.now) }
@@ -177,6 +177,7 @@ fn found_at(
     ensures found { IfOk result (λ some. AreFoundIn held.now some.addrs.items some.records.items) }
     ensures memory { IsOkUnless result Error.OutOfMemory }
 {
+    // What is held matters to the contract alone.
     let _held = held;
     let mut some = Found {
         addrs: Vec::with_capacity(alloc, indices.len())?,

@@ -11,10 +11,10 @@ use bz_base::{Addr, Reason, Result, Symbolized};
 use bz_cache::owned_answer;
 use std::alloc::Global;
 
-/// So many answers are made together.
+/// How many answers are made together.
 pub const TOGETHER: usize = 32;
 
-/// So many answers are made at a time in the order of their addresses: many, so that addresses near each
+/// How many answers are made at a time in the order of their addresses: so many that addresses near each
 /// other come together.
 const IN_ORDER: usize = 32_768;
 

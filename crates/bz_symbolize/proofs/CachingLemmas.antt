@@ -6,7 +6,7 @@ use Rattle.bz_base.specs.declared.pid.Pid.{Pid}
 use Rattle.bz_files.specs.World.{World, Entry, entry_at, in_view}
 use Rattle.bz_files.specs.declared.files.Files.{Ghosts}
 use Rattle.bz_cache.specs.Cache.{Cache, Consistent, with_pin}
-use Rattle.bz_cache.specs.Format.{Comes}
+use Rattle.bz_cache.specs.Format.{GivesOrFaults}
 use Rattle.bz_cache.specs.Look.{look, will_open}
 use Rattle.bz_cache.specs.Pinning.{IsLeft, PinsFile, pinned_by, pinning}
 use Rattle.bz_elf.specs.Format as elf
@@ -98,7 +98,7 @@ module _ {D R X : Type 0} (files : Ghosts X) (path : List ℕ) (old now : WholeS
           opened = opened_by (will_open (with_pin false old.files.elf path) path (entry_at world path)) _ _ (pins.reads.spared world seen) pins.reads.most;
         };
         causes = λ world seen coherent.
-            subst (λ (a : Result (Unit {0}) Error). Comes (λ (done : Unit {0}). done) a result) (pinned_in_view elf.format_test old.files.elf world path coherent) (pins.answer world seen);
+            subst (λ (a : Result (Unit {0}) Error). GivesOrFaults (λ (done : Unit {0}). done) a result) (pinned_in_view elf.format_test old.files.elf world path coherent) (pins.answer world seen);
         complete = λ world seen is.
             answered _ result (pins.answer world seen) (pinned_if_in_view elf.format_test old.files.elf world path found.formed (λ a. a) refl is);
         err = unchanged result pins.err;
@@ -204,7 +204,7 @@ module _ {D R X : Type 0} (files : Ghosts X) (request : ProcessCaching) (old now
       record {
         told = process_told result keeps;
         causes = λ world seen coherent.
-            subst (λ (a : Result (Unit {0}) Error). Comes (λ (done : Unit {0}). done) a result) (process_in_view request (files.pid before) world (caches_of old.files.elf old.processes) coherent)
+            subst (λ (a : Result (Unit {0}) Error). GivesOrFaults (λ (done : Unit {0}). done) a result) (process_in_view request (files.pid before) world (caches_of old.files.elf old.processes) coherent)
             (step.told world seen).answer;
         complete = λ world seen is.
             answered _ result (step.told world seen).answer (process_if_in_view request (files.pid before) world (caches_of old.files.elf old.processes) keeps.found.formed is);

@@ -8,7 +8,7 @@ use Rattle.bz_files.specs.World.{World, Entry, Denied, Present, entry_at}
 use Rattle.bz_files.specs.declared.stamp.Stamp.{Stamp}
 use Rattle.bz_cache.specs.Cache.{Cache, with_pin}
 use Rattle.bz_cache.specs.Coherence.{Coherent}
-use Rattle.bz_cache.specs.Format.{Comes}
+use Rattle.bz_cache.specs.Format.{GivesOrFaults}
 use Rattle.bz_cache.specs.InsertMap.{value_at}
 use Rattle.bz_cache.specs.Look.{look, by_test, by_entry, by_fixed}
 use Rattle.bz_cache.specs.View.{by_format, bytes_of_view, fixed, shown}
@@ -17,7 +17,7 @@ use Rattle.bz_proc.specs.Maps.{Mapping}
 use Rattle.bz_proc.specs.MapsFile.{maps_path, maps_told}
 use Rattle.bz_proc.specs.PerfMap as perf
 use Rattle.bz_process.specs.Caches.{ProcessCaches}
-use Rattle.bz_process.specs.Caching.{after_mappings, caches_perf_map, caches_process, caching_of, pins_perf_map, unless_gone}
+use Rattle.bz_process.specs.Caching.{after_mappings, caches_perf_map, caches_process, caching_of, pins_perf_map, pinned_if_absent}
 use Rattle.bz_process.specs.Process.{Step, by_id, by_kept, followed, pid_cmp, remember}
 use Rattle.bz_process.specs.ProcessCall.{UnlessFailed}
 use Rattle.bz_process.specs.Remembered.{Remembered}
@@ -53,8 +53,8 @@ module _ (test : List ℕ → Option Error) (cache : Cache) (world : World) (pat
     pub pinned_in_view : (pinning test cache path (entry_at world path)).0 ≡ unpinned_in_view test cache world path
     pinned_in_view = pinned_answer (look test (with_pin false cache path) path (entry_at world path)) ∙ by_fix (fixed (with_pin false cache path) path)
 
--- Where each kept version is in the format, a path is pinned where that is answered in view, also by a kept version that isn't the
--- one in view. Where that is softened to an answer, so is the pinning.
+-- Where each kept version is in the format, a path is pinned where the file in view is answered. The version that is pinned may
+-- be a kept one that isn't in view. Where a refusal in view is softened to an answer, so is that of the pinning.
 module _ (test : List ℕ → Option Error) (cache : Cache) (world : World) (path : List ℕ) (formed : (stamp : Stamp) (bytes : List ℕ) → map.get cache.kept stamp ≡ Some bytes → test bytes ≡ None)
     (softened : Result (Unit {0}) Error → Result (Unit {0}) Error) (soft : softened (Ok tt) ≡ Ok tt) where
   if_read : (stamp : Stamp) (bytes : List ℕ) (kept : Option (List ℕ)) → ((k : List ℕ) → kept ≡ Some k → test k ≡ None) → softened (finished (by_format bytes (test bytes))) ≡ Ok tt →
@@ -76,7 +76,7 @@ module _ (test : List ℕ → Option Error) (cache : Cache) (world : World) (pat
   pinned_if_in_view is = ap softened (pinned_answer test cache world path (look test (with_pin false cache path) path (entry_at world path))) ∙ if_fixed (fixed (with_pin false cache path) path) is
 
 -- an absent file is no refusal
-absent_answer : (cache : Cache) (path : List ℕ) (pinned : Result (Unit {0}) Error × Cache) → (unless_gone cache path pinned).0 ≡ or_absent pinned.0
+absent_answer : (cache : Cache) (path : List ℕ) (pinned : Result (Unit {0}) Error × Cache) → (pinned_if_absent cache path pinned).0 ≡ or_absent pinned.0
 absent_answer cache path (Ok tt, left) = refl
 absent_answer cache path (Err errors.NotFound, left) = refl
 absent_answer cache path (Err _, left) = refl
@@ -106,7 +106,7 @@ module _ (pid : Pid) (own : ℕ) (world : World) (kept : ProcessCaches) where
     known_in_view : (known : Result Remembered Error) (left : ProcessCaches) (opens : ℕ) → left.perf_maps ≡ kept.perf_maps →
         (followed known left opens (λ k l. pins_perf_map k.perf_map world l)).answer ≡ perf_map_in_view kept.perf_maps world known
     known_in_view (Ok known) left opens same =
-        ap (λ (c : Cache). (unless_gone c known.perf_map (pinning perf.format_test c known.perf_map (entry_at world known.perf_map))).0) same
+        ap (λ (c : Cache). (pinned_if_absent c known.perf_map (pinning perf.format_test c known.perf_map (entry_at world known.perf_map))).0) same
         ∙ absent_answer kept.perf_maps known.perf_map (pinning perf.format_test kept.perf_maps known.perf_map (entry_at world known.perf_map))
         ∙ ap or_absent (pinned_in_view perf.format_test kept.perf_maps world known.perf_map coherent)
     known_in_view (Err e) left opens same = refl
@@ -119,7 +119,7 @@ module _ (pid : Pid) (own : ℕ) (world : World) (kept : ProcessCaches) where
     known_if_in_view : (known : Result Remembered Error) (left : ProcessCaches) (opens : ℕ) → left.perf_maps ≡ kept.perf_maps → perf_map_in_view kept.perf_maps world known ≡ Ok tt →
         (followed known left opens (λ k l. pins_perf_map k.perf_map world l)).answer ≡ Ok tt
     known_if_in_view (Ok known) left opens same is =
-        ap (λ (c : Cache). (unless_gone c known.perf_map (pinning perf.format_test c known.perf_map (entry_at world known.perf_map))).0) same
+        ap (λ (c : Cache). (pinned_if_absent c known.perf_map (pinning perf.format_test c known.perf_map (entry_at world known.perf_map))).0) same
         ∙ absent_answer kept.perf_maps known.perf_map (pinning perf.format_test kept.perf_maps known.perf_map (entry_at world known.perf_map))
         ∙ pinned_if_in_view perf.format_test kept.perf_maps world known.perf_map formed (λ a. or_absent a) refl is
     known_if_in_view (Err e) left opens same is = is
@@ -154,7 +154,7 @@ process_if_in_view request own world kept formed is =
     ∙ in_turn_if (cond request.cache_vmas (finished (maps_told request.pid (entry_at world (maps_path request.pid)))) (Ok tt)) _ _ (map_if_in_view request.pid own world kept formed request.cache_perf_map) is
 
 -- what is expected to be answered is, unless something fails
-pub answered : (expected result : Result (Unit {0}) Error) → Comes (λ (done : Unit {0}). done) expected result → expected ≡ Ok tt → UnlessFailed result (IsOk result)
+pub answered : (expected result : Result (Unit {0}) Error) → GivesOrFaults (λ (done : Unit {0}). done) expected result → expected ≡ Ok tt → UnlessFailed result (IsOk result)
 answered expected (Ok tt) comes is = refl
 answered expected (Err errors.ReadFault) comes is = tt
 answered expected (Err errors.OutOfMemory) comes is = tt

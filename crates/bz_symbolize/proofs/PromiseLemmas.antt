@@ -9,7 +9,7 @@ use Rattle.bz_files.specs.World.{World, Entry, Denied, Present, entry_at}
 use Rattle.bz_files.specs.declared.stamp.Stamp.{Stamp}
 use Rattle.bz_cache.specs.Cache.{Cache, Consistent, kept_at}
 use Rattle.bz_cache.specs.Coherence.{Coherent}
-use Rattle.bz_cache.specs.Format.{Comes}
+use Rattle.bz_cache.specs.Format.{GivesOrFaults}
 use Rattle.bz_cache.specs.Look.{by_entry, by_fixed, look, by_test as look_by_test}
 use Rattle.bz_cache.specs.View.{Shown, bytes_at, by_fixed_view, fixed, shown, view}
 use Rattle.bz_cache.proofs.CoherenceLaws.{shown_by_view}
@@ -22,7 +22,8 @@ use Rattle.bz_symbolize.specs.Promise.{IsAnswerOf, IsVersionOf, AnswersView, Ans
 use Rattle.bz_symbolize.specs.State.{State, WellKept}
 use Rattle.bz_symbolize.specs.declared.source.Source.{Source}
 
--- what is to be shown of each source that is one file: its cache can be put back and is well kept, and what its format means to a query
+-- what is to be shown of each source that is one file. Its cache can be put back, and is well kept. Its format means to a query
+-- what the subject says
 pub record IsFormatOf {B : Type 0} (query : Query B) (source : Source) (file : FileSource) : Type 0 where
   pub same : (s : State) → file.with_cache s (file.cache s) ≡ s
   pub formed : (bytes : List ℕ) → IsVersionOf source bytes → file.test bytes ≡ None
@@ -106,7 +107,7 @@ module _ {B : Type 0} (opts : FindSymOpts) (source : Source) (file : FileSource)
   module _ {A : Type 0} (reading : A → B) where
     -- an answered call answers the version that a look gives
     pub look_from_told : (world : World) (result : Result A Error) →
-        Comes reading (file_answer (asked_of file opts query) (file.cache old) file.path (entry_at world file.path)) result →
+        GivesOrFaults reading (file_answer (asked_of file opts query) (file.cache old) file.path (entry_at world file.path)) result →
         IfOk result (λ given. AnswersLook opts source file old world query (Ok (reading given)))
     look_from_told world (Ok given) comes = by_taken world (reading given) (file.answering.takes query.kind) comes
     look_from_told world (Err e) comes = tt
@@ -124,26 +125,26 @@ module _ {B : Type 0} (opts : FindSymOpts) (source : Source) (file : FileSource)
 
     -- where kept versions cohere with the world, refusals have their causes in the view
     pub causes_from_told : (world : World) (result : Result A Error) → Coherent (file.cache old).kept world →
-        Comes reading (file_answer (asked_of file opts query) (file.cache old) file.path (entry_at world file.path)) result →
-        Comes reading (view_answer (asked_of file opts query) (file.cache old) world file.path) result
+        GivesOrFaults reading (file_answer (asked_of file opts query) (file.cache old) file.path (entry_at world file.path)) result →
+        GivesOrFaults reading (view_answer (asked_of file opts query) (file.cache old) world file.path) result
     causes_from_told world result coherent comes = rw (look_by_view (asked_of file opts query) (file.cache old) world file.path coherent) at comes
 
     -- a call whose answer is that of the version which a look gives is answered, or refused as this version refuses, or it fails
     served_by : (world : World) (bytes : List ℕ) (expected : Result B Error) (result : Result A Error) → (look file.test (file.cache old) file.path (entry_at world file.path)).0 ≡ Ok bytes →
-        IsAnswerOf source opts bytes query expected → Comes reading expected result → IsServedOrFails opts source file old world query result
+        IsAnswerOf source opts bytes query expected → GivesOrFaults reading expected result → IsServedOrFails opts source file old world query result
     served_by world bytes expected (Ok given) looked is comes = tt
     served_by world bytes expected (Err errors.ReadFault) looked is comes = tt
     served_by world bytes expected (Err errors.OutOfMemory) looked is comes = tt
     served_by world bytes expected (Err e) looked is comes = record { bytes = bytes; looked = looked; answered = subst (λ (a : Result B Error). IsAnswerOf source opts bytes query a) comes is }
 
     pub view_from_told : (world : World) (result : Result A Error) → Coherent (file.cache old).kept world →
-        Comes reading (file_answer (asked_of file opts query) (file.cache old) file.path (entry_at world file.path)) result →
+        GivesOrFaults reading (file_answer (asked_of file opts query) (file.cache old) file.path (entry_at world file.path)) result →
         IfOk result (λ given. AnswersView opts source file old world query (reading given))
     view_from_told world result coherent comes = view_from_look world result coherent (look_from_told world result comes)
 
     -- where a version of the format is in view, a call that it serves is such a one
     pub complete_from_told : WellKept old → (world : World) (result : Result A Error) →
-        Comes reading (file_answer (asked_of file opts query) (file.cache old) file.path (entry_at world file.path)) result →
+        GivesOrFaults reading (file_answer (asked_of file opts query) (file.cache old) file.path (entry_at world file.path)) result →
         IsValid source file old world query.kind → IsServedOrFails opts source file old world query result
     complete_from_told well world result comes valid =
         let given = valid_look file.test (file.cache old) file.path world (laws.consistent old well) valid.bytes valid.in_view (laws.formed valid.bytes valid.formed) in

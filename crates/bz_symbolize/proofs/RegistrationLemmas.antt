@@ -21,7 +21,7 @@ use Rattle.bz_lookups.specs.Formats.{elf_answering}
 use Rattle.bz_symbolize.proofs.NewLemmas.{by_profile}
 use Rattle.bz_symbolize.specs.FileCall.{batch_of, by_look, query_asked, single_of}
 use Rattle.bz_symbolize.specs.History.{Call, Symbolize, Register, LookAtElf, PinElf, ForgetElf, LookAtPerfMap, PinPerfMap, ForgetPerfMap, MayLeave, state_after}
-use Rattle.bz_symbolize.specs.Registration.{AnswersElf, IsAt, MayReachKeeping, StaysRegistered}
+use Rattle.bz_symbolize.specs.Registration.{AnswersElf, IsAtStamp, MayReachKeeping, StaysRegistered}
 use Rattle.bz_symbolize.specs.State.{State}
 use Rattle.bz_symbolize.specs.declared.source.Source.TheVariants as sources
 use Rattle.bz_symbolize.specs.declared.source.Gsym.TheVariants as gsyms
@@ -110,7 +110,7 @@ module _ (stamp : Stamp) (b : List ℕ) where
 
 module _ (c : Cache) (w : World) (p : List ℕ) (s : Stamp) (b : List ℕ) (kept : map.get c.kept s ≡ Some b) where
   -- a look at a path that is at the stamp gives its version
-  looked_at : (test : List ℕ → Option Error) → test b ≡ None → IsAt c w p s → (look test c p (entry_at w p)).0 ≡ Ok b
+  looked_at : (test : List ℕ → Option Error) → test b ≡ None → IsAtStamp c w p s → (look test c p (entry_at w p)).0 ≡ Ok b
   looked_at test formed (inl held) =
       ap (λ (o : Option Stamp). (by_fixed test c p (entry_at w p) o).0) held ∙ ap (λ (o : Option (List ℕ)). Ok (unwrap_or o [])) kept
   looked_at test formed (inr (loose, (d, there))) =
@@ -137,10 +137,10 @@ module _ (c : Cache) (w : World) (p v : List ℕ) (s : Stamp) (d : List ℕ) (th
       ∙ fixed_moved c.reload (map.get c.paths p)
 
   -- such a path is at the stamp
-  placed_named : IsAt (named c p s v) w p s
+  placed_named : IsAtStamp (named c p s v) w p s
   placed_named = by_reload c.reload fixed_named
     where
-      by_reload : (reload : Bool) → fixed (named c p s v) p ≡ cond (not reload) (Some s) None → IsAt (named c p s v) w p s
+      by_reload : (reload : Bool) → fixed (named c p s v) p ≡ cond (not reload) (Some s) None → IsAtStamp (named c p s v) w p s
       by_reload true is = inr (is, (d, there))
       by_reload false is = inl is
 
@@ -182,7 +182,7 @@ stays_registered state w p b is_elf answered =
       there = is.1;
       present = is.2;
       kept = kept;
-      placed = subst (λ (c : Cache). IsAt c w p is.0) (sym is.3) (placed_named state.elf w p b is.0 is.1 is.2);
+      placed = subst (λ (c : Cache). IsAtStamp c w p is.0) (sym is.3) (placed_named state.elf w p b is.0 is.1 is.2);
       answers = λ calls now later other reach at_stamp.
           answers_looked now later other b formed (looked_at now.elf later other is.0 b (reached is.0 b calls (state_after state w (Register p b)) now kept reach) elf.format_test formed at_stamp);
     }

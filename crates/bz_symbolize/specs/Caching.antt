@@ -7,7 +7,7 @@ use Rattle.bz_files.specs.World.{World, Told, entry_at, in_view}
 use Rattle.bz_files.specs.declared.files.Files.{Ghosts}
 use Rattle.bz_cache.specs.Cache.{Cache, with_pin}
 use Rattle.bz_cache.specs.Coherence.{Coherent}
-use Rattle.bz_cache.specs.Format.{Comes}
+use Rattle.bz_cache.specs.Format.{GivesOrFaults}
 use Rattle.bz_cache.specs.Look.{will_open}
 use Rattle.bz_cache.specs.View.{bytes_of_view, fixed, shown}
 use Rattle.bz_cache.specs.Pinning.{PinsFile, pinning}
@@ -16,7 +16,7 @@ use Rattle.bz_proc.specs.MapsFile.{maps_path, maps_told}
 use Rattle.bz_proc.specs.PerfMap as perf
 use Rattle.bz_process.specs.Caching.{Caching, caches_process, caching_of, mappings_after}
 use Rattle.bz_process.specs.CachingCall.{CachesProcess}
-use Rattle.bz_process.specs.Process.{Outcome, count_of, remember}
+use Rattle.bz_process.specs.Process.{StepOutcome, count_of, remember}
 use Rattle.bz_process.specs.ProcessCall.{UnlessFailed}
 use Rattle.bz_process.specs.Processes.{caches_of}
 use Rattle.bz_process.specs.Remembered.{Remembered}
@@ -39,7 +39,7 @@ caching_elf path world whole = record {
 }
 
 -- the mappings of a process are kept, its id is remembered and its perf map is pinned, by what its step gives
-abbrev pub cached_by : {D R : Type 0} → Caching → World → WholeState D R → Outcome (Unit {0}) → Cached D R
+abbrev pub cached_by : {D R : Type 0} → Caching → World → WholeState D R → StepOutcome (Unit {0}) → Cached D R
 cached_by asked world whole step = record {
   answer = step.answer;
   left = record whole { processes = record whole.processes { perf_maps = step.left.perf_maps; ids = step.left.ids; mappings = mappings_after asked world whole.processes.mappings } };
@@ -94,7 +94,7 @@ CoheresFor (CacheProcess asked) whole world = Coherent whole.processes.perf_maps
 -- a call where it is told what lies at each path
 pub record CachedTold {D R : Type 0} (expected : Cached D R) (result : Result (Unit {0}) Error) (now : WholeState D R) (before after : ℕ) : Type 0 where
   -- its answer, and the symbolizer that an answer leaves
-  pub answer : Comes (λ (done : Unit {0}). done) expected.answer result
+  pub answer : GivesOrFaults (λ (done : Unit {0}). done) expected.answer result
   pub left : OnOk result (now ≡ expected.left)
   -- it reads no more files
   pub opened : after ≤ before + expected.opens
@@ -124,7 +124,7 @@ pub record Caches {D R X : Type 0} (files : Ghosts X) (asked : ToCache) (result 
   pub told : Told (in_view (files.worlds before)) (λ world. CachedTold (caching asked (files.pid before) world old) result now (files.opens before) (files.opens after))
   -- where kept versions cohere with the world in view, it is refused exactly by the first of the files in view that refuses
   pub causes : Told (in_view (files.worlds before)) (λ world. CoheresFor asked old world →
-      Comes (λ (done : Unit {0}). done) (caching_in_view asked (files.pid before) world old) result)
+      GivesOrFaults (λ (done : Unit {0}). done) (caching_in_view asked (files.pid before) world old) result)
   -- where none of the files in view refuses, it is answered, unless something fails
   pub complete : Told (in_view (files.worlds before)) (λ world. caching_in_view asked (files.pid before) world old ≡ Ok tt → UnlessFailed result (IsOk result))
   -- a refusal, whichever it is, changes nothing

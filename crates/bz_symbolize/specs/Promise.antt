@@ -10,7 +10,7 @@ use Rattle.bz_files.specs.declared.files.Files.{Ghosts}
 use Rattle.bz_files.specs.Looked.{Faulted, Looked, ReadsOne}
 use Rattle.bz_cache.specs.Coherence.{Coherent}
 use Rattle.bz_cache.specs.Cache.{kept_at}
-use Rattle.bz_cache.specs.Format.{Comes}
+use Rattle.bz_cache.specs.Format.{GivesOrFaults}
 use Rattle.bz_cache.specs.Look.{look, opens_after}
 use Rattle.bz_cache.specs.View.{Shown, fixed, view}
 use Rattle.bz_breakpad.specs.Grammar.{IsFile}
@@ -102,7 +102,7 @@ pub record AnswersKept {B : Type 0} (opts : FindSymOpts) (source : Source) (file
 pub record CallTold {A B : Type 0} (reading : A → B) (opts : FindSymOpts) (form : SourceForm) (query : Query B)
     (result : Result A Error) (old now : State) (world : World) (before after : ℕ) : Type 0 where
   -- its answer, and the state that it leaves
-  pub answer : Comes reading (answer_of opts old form query world) result
+  pub answer : GivesOrFaults reading (answer_of opts old form query world) result
   pub state : Leaves result old (state_of old form query.kind world) now
   -- a file is read where it has to be, and else not
   pub opened : OnOk result (after ≡ opens_after (opens_of old form query.kind world) before)
@@ -171,7 +171,7 @@ pub record Symbolizes {A B X : Type 0} (files : Ghosts X) (reading : A → B) (s
   pub kept : OnFile source (λ file. IfOk result (λ given. AnswersKept (opts_of old.settings) source file now query (Ok (reading given))))
   -- where kept versions cohere with the world in view, each refusal has its cause in the view
   pub causes : OnFile source (λ file. Told (in_view (files.worlds before)) (λ world. Coherent (file.cache old).kept world →
-      Comes reading (view_answer (asked_of file (opts_of old.settings) query) (file.cache old) world file.path) result))
+      GivesOrFaults reading (view_answer (asked_of file (opts_of old.settings) query) (file.cache old) world file.path) result))
   -- wherever a version of the source's format is in view, the call is answered, unless something fails. Or it is refused as the
   -- version that a look gives itself refuses what is asked
   pub complete : OnFile source (λ file. Told (in_view (files.worlds before)) (λ world.

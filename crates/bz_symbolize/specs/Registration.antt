@@ -10,7 +10,7 @@ use Rattle.bz_files.specs.World.{World, Entry, Present, Told, in_view, entry_at}
 use Rattle.bz_files.specs.declared.files.Files.{Ghosts}
 use Rattle.bz_files.specs.declared.stamp.Stamp.{Stamp}
 use Rattle.bz_cache.specs.Cache.{Cache}
-use Rattle.bz_cache.specs.Format.{Comes}
+use Rattle.bz_cache.specs.Format.{GivesOrFaults}
 use Rattle.bz_cache.specs.Insertion.{insertion, MayKeepOut}
 use Rattle.bz_cache.specs.Look.{look}
 use Rattle.bz_cache.specs.View.{fixed}
@@ -30,7 +30,7 @@ IsKeptOut _ = ⊥
 -- all that a registration promises of its answer, its refusals, and the state and the files that it leaves
 pub record Registers {A X : Type 0} (files : Ghosts X) (path bytes : List ℕ) (result : Result A Error) (old now : State) (before after : X) : Type 0 where
   -- where it is told what lies at the path, the answer and the state that is left are those of the definitions
-  pub answer : Told (in_view (files.worlds before)) (λ world. Comes (λ _. tt) (insertion old.elf path bytes (entry_at world path)).0 result)
+  pub answer : Told (in_view (files.worlds before)) (λ world. GivesOrFaults (λ _. tt) (insertion old.elf path bytes (entry_at world path)).0 result)
   pub state : Told (in_view (files.worlds before)) (λ world. OnOk result (now ≡ state_after old world (Register path bytes)))
   -- so the call is one of those whose lists keep versions coherent, where it is true
   pub history : Told (in_view (files.worlds before)) (λ world. MayLeave old world (Register path bytes) now)
@@ -48,8 +48,8 @@ pub record Registers {A X : Type 0} (files : Ghosts X) (path bytes : List ℕ) (
   pub unopened : files.opens after ≡ files.opens before
 
 -- the path is at the stamp: it is held there and isn't looked at anew, or a file with the stamp lies there
-abbrev pub IsAt : Cache → World → List ℕ → Stamp → Type 0
-IsAt cache world path stamp = (fixed cache path ≡ Some stamp) ⊎ ((fixed cache path ≡ None) × ((bytes : List ℕ) × (entry_at world path ≡ Some (Present stamp bytes))))
+abbrev pub IsAtStamp : Cache → World → List ℕ → Stamp → Type 0
+IsAtStamp cache world path stamp = (fixed cache path ≡ Some stamp) ⊎ ((fixed cache path ≡ None) × ((bytes : List ℕ) × (entry_at world path ≡ Some (Present stamp bytes))))
 
 -- the states that a list of calls may leave, each call in its own world, where an ELF file with the stamp stays kept
 abbrev pub MayReachKeeping : Stamp → State → List (World × Call) → State → Type 0
@@ -71,7 +71,7 @@ pub record StaysRegistered (old : State) (world : World) (path bytes : List ℕ)
   pub there : List ℕ
   pub present : entry_at world path ≡ Some (Present stamp there)
   pub kept : map.get (state_after old world (Register path bytes)).elf.kept stamp ≡ Some bytes
-  pub placed : IsAt (state_after old world (Register path bytes)).elf world path stamp
+  pub placed : IsAtStamp (state_after old world (Register path bytes)).elf world path stamp
   -- as long as the stamp stays kept, over any list of calls, every path that is at it is answered by the registered bytes
   pub answers : (calls : List (World × Call)) (now : State) (later : World) (other : List ℕ) →
-      MayReachKeeping stamp (state_after old world (Register path bytes)) calls now → IsAt now.elf later other stamp → AnswersElf now later other bytes
+      MayReachKeeping stamp (state_after old world (Register path bytes)) calls now → IsAtStamp now.elf later other stamp → AnswersElf now later other bytes

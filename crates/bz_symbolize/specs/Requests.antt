@@ -11,7 +11,7 @@ use Rattle.bz_symbolize.specs.declared.evict.Evict.TheVariants as evicts
 -- what may be kept ahead of addresses
 pub data ToCache : Type 0 where
   CacheElf : List ℕ → ToCache  -- the ELF file at a path
-  CacheProcess : ProcessCaching → ToCache  -- of a process, its mappings and its perf map
+  CacheProcess : ProcessCaching → ToCache  -- of a process, its mappings, id and perf map
 
 -- what of a process is asked for
 abbrev pub process_caching : Process → ProcessCaching

@@ -10,7 +10,7 @@ use Rattle.bz_elf.specs.Format as elf
 use Rattle.bz_gsym.specs.Version as gsym
 use Rattle.bz_process.specs.Processes.{KeptProcesses, coded_processes, new_processes}
 
--- how a symbolizer is set: whether files are looked at anew, and whether answers have places in the source code, and inlined calls.
+-- how a symbolizer is set: whether files are looked at anew, and whether answers have code info, and inlined calls.
 -- Whether names are demangled, and where debug files are looked for, is kept and has no effect.
 pub record Settings : Type 0 where
   pub reload : Bool
@@ -23,7 +23,7 @@ pub record Settings : Type 0 where
 abbrev pub default_settings : Settings
 default_settings = record { reload = true; code_info = true; inlined = true; demangling = true; debug_dirs = None }
 
--- the options of a look-up, by whether answers have places, and inlined calls: these only where there are places
+-- the options of a look-up, by whether answers have code info, and inlined calls: these only with code info
 abbrev pub opts_by : Bool → Bool → FindSymOpts
 opts_by false inlined = Basic
 opts_by true false = CodeInfo

@@ -55,7 +55,7 @@ impl<D: ProcessDispatch + Drop> Builder<D> {
         self
     }
 
-    /// Whether answers have places in the source code.
+    /// Whether answers have code info: sites in source code.
     pub fn enable_code_info(mut self, enable: bool) -> Builder<D>
         ensures { result ≡ record self { settings = record self.settings { code_info = enable } } }
     {
@@ -63,7 +63,7 @@ impl<D: ProcessDispatch + Drop> Builder<D> {
         self
     }
 
-    /// Whether answers have inlined calls. They have none without places in the source code.
+    /// Whether answers have inlined calls. They have none without code info.
     pub fn enable_inlined_fns(mut self, enable: bool) -> Builder<D>
         ensures { result ≡ record self { settings = record self.settings { inlined = enable } } }
     {

@@ -68,7 +68,7 @@ impl Process {
         }
     }
 
-    /// The same of the same process. It takes no memory.
+    /// The same request. It takes no memory.
     pub fn try_clone(&self, _alloc: Global) -> Result<Process>
         ensures { result ≡ Ok self.now }
     {

@@ -36,8 +36,8 @@ use std::marker::Model;
 use std::rc::Rc;
 use std::sync::ledger::Ledger;
 
-/// The settings of a symbolizer, and the files of sources that it keeps, of each format. They answer
-/// for sources that are files, and for bytes that are handed in.
+/// The settings of a symbolizer, and the files of sources that it keeps, of each format. Here sources
+/// that are files are answered, and bytes that are handed in.
 #[derive(Drop)]
 pub(crate) struct KeptFiles {
     settings: Settings,
@@ -197,7 +197,7 @@ impl KeptFiles {
     }
 
     /// The answer of a process to an address alone.
-    pub(crate) fn symbolize_in_process<D: ProcessDispatch + Drop, F: Files>(
+    pub(crate) fn symbolize_process_single<D: ProcessDispatch + Drop, F: Files>(
         &mut self,
         processes: &mut Processes<D>,
         alloc: Global,
@@ -287,9 +287,7 @@ fn answer_alone(
     ensures answer { Gives reading (single_by (version_of held.entry) opts addr) result }
     ensures refusal { IfErr result MayRefuse }
 {
-    let addrs = Vec::from_slice(alloc, &[addr])?;
-    let lookups = Lookups::find_uncounted(alloc, held, opts, addrs)?;
-    let answer = lookups.single(alloc, 0)?;
+    let answer = held.single(alloc, &opts, addr)?;
     owned_answer(alloc, answer)
 }
 

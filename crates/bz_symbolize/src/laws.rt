@@ -91,7 +91,8 @@ pub fn batches_are_answered()
         IsElfAnswer path bytes (batch_of kind addrs) (Ok answers) ↔ IsElfBatch path bytes kind addrs answers }
 {}
 
-/// The same three laws of bytes that are handed in.
+/// Bytes that are handed in keep the laws `entries_stand_alone`, `order_moves_answers` and
+/// `batches_fold_refusals` too.
 pub fn handed_batches_are_alike()
     ensures alone { (source : Source) → OnHanded source HandedStandAlone }
     ensures moved { (source : Source) → OnHanded source OrderMovesHanded }

@@ -11,9 +11,9 @@ use std::marker::Model;
 pub(crate) struct Settings {
     /// Whether files are looked at anew at each call.
     pub(crate) reload: bool,
-    /// Whether answers have places in the source code.
+    /// Whether answers have code info: sites in source code.
     pub(crate) code_info: bool,
-    /// Whether answers with places have inlined calls too.
+    /// Whether answers with code info have inlined calls too.
     pub(crate) inlined: bool,
     /// Whether names are demangled.
     pub(crate) demangling: bool,

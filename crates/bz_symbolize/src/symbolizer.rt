@@ -109,7 +109,8 @@ impl<D: ProcessDispatch + Drop> Symbolizer<D> {
 
     /// The answer of the source to an address alone. Beside the refusals of a batch its address may be
     /// refused, as one is whose line record names no file. The file is then taken in as by an answered
-    /// call.
+    /// call. An address in a process may be refused by the mapped file, the status, the perf map, the
+    /// dispatcher or its resolver.
     pub fn symbolize_single<F: Files>(
         &mut self,
         alloc: Global,
@@ -123,7 +124,7 @@ impl<D: ProcessDispatch + Drop> Symbolizer<D> {
         match src.query() {
             Some(query) => {
                 self.files
-                    .symbolize_in_process(&mut self.processes, alloc, files, &query, input)
+                    .symbolize_process_single(&mut self.processes, alloc, files, &query, input)
             }
             None => self.files.symbolize_single(alloc, files, src, input),
         }
@@ -152,7 +153,8 @@ impl<D: ProcessDispatch + Drop> Symbolizer<D> {
         self.files.look_up(alloc, files, src, input, steps)
     }
 
-    /// The same answers as `symbolize`, with a count of the steps of their searches.
+    /// The same answers as `symbolize`, with a count of the steps of their searches. Only searches in
+    /// Breakpad files are counted.
     pub fn symbolize_counted<F: Files, L: Ledger>(
         &mut self,
         alloc: Global,

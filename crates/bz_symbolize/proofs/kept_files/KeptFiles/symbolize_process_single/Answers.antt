@@ -3,7 +3,7 @@ use Rattle.bz_base.specs.InputKind.{address_kind, payload}
 use Rattle.bz_process.specs.Asked.{asked_of}
 use Rattle.bz_symbolize.specs.State.{State}
 use Rattle.bz_symbolize.proofs.AskingLemmas.{address_leaves, stays_well}
-use Rattle.bz_symbolize.proofs.kept_files.KeptFiles.symbolize_in_process.Goals as goal
+use Rattle.bz_symbolize.proofs.kept_files.KeptFiles.symbolize_process_single.Goals as goal
 
 -- the files stay well kept
 pub invariant_of-self : goal.invariant_of-self
