@@ -1,31 +1,30 @@
 -- What stacks fold to by a Breakpad file, from what folding a call promises.
-use Rattle.std.proofs.Common.{◌≡◌, ℕ, List, Result, Ok, Err, IfOk, IsOk, OnOk, Vec, Global, refl, sym, ap, subst}
+use Rattle.std.proofs.Common.{◌≡◌, ℕ, List, Result, Ok, Err, IfErr, IfOk, IsOk, OnOk, Vec, Global, refl, sym, ap, subst}
 use Rattle.std.proofs.lemmas.Bool.{false≢true}
 use Rattle.bz_base.specs.Answer.{Answer}
 use Rattle.bz_base.specs.InputKind.{InFile}
 use Rattle.bz_base.specs.declared.error.Error.{Error}
 use Rattle.bz_base.specs.declared.error.Error.TheVariants as errors
-use Rattle.bz_base.specs.declared.resolve.Symbolize.{Ghosts as Finds}
-use Rattle.bz_base.specs.declared.resolve.TranslateFileOffset.{Ghosts as Translates}
-use Rattle.bz_cache.specs.Format.{Comes, FailsAs}
+use Rattle.bz_cache.specs.Format.{GivesOrFaults, FailsAs}
 use Rattle.bz_files.specs.Count.{counted}
 use Rattle.bz_files.specs.Looked.{Faulted, Looked}
 use Rattle.bz_files.specs.World.{Told, in_view}
 use Rattle.bz_files.specs.declared.files.Files.{Ghosts}
 use Rattle.bz_requests.specs.declared.requests.Config.{Config}
-use Rattle.bz_stacks.specs.Stack.{Taken}
-use Rattle.bz_process.specs.Dispatch.{Test}
+use Rattle.bz_stacks.specs.Stack.{CountedStack}
 use Rattle.bz_symbolize.specs.FileCall.{batch_of}
 use Rattle.bz_symbolize.specs.Promise.{Symbolizes}
-use Rattle.bz_symbolize.specs.State.{WholeState, new_state}
+use Rattle.bz_symbolize.specs.State.{State, new_state}
 use Rattle.bz_symbolize.specs.declared.source.Source.{Source}
 use Rattle.bz_symq.specs.Command.{Breakpad, of_file}
-use Rattle.bz_symq.specs.Kept.{settings_of}
-use Rattle.bz_symq.specs.Targets.{AnswersSome, IsSourceOf}
+use Rattle.bz_symq.specs.Kept.{KeptState, new_kept, opts_in, settings_of}
+use Rattle.bz_symq.specs.Reply.{IsSomeCauseOrFails}
+use Rattle.bz_symq.specs.Targets.{AnswersSome, IsSomeFileCause, IsSourceOf}
 use Rattle.bz_symq.specs.Turns.{ReadsOneFor}
+use Rattle.bz_symq.proofs.CauseLemmas.{file_causes}
 use Rattle.bz_symq.proofs.FaultLemmas.{counts_as}
 use Rattle.bz_symq.proofs.TargetLemmas.{answer_new, of_its_file, of_its_source, opened_by_target, some_from_kept}
-use Rattle.bz_stacks.specs.Fold.{Folds, IsFoldOf, addrs_of}
+use Rattle.bz_stacks.specs.Fold.{IsFoldOf, addrs_of}
 use Rattle.bz_run.specs.StackOutcome.{answers_in, folded_by}
 use Rattle.bz_run.specs.StackReply.{IsSomeText}
 
@@ -37,7 +36,7 @@ read answers = answers
 abbrev written : Vec ℕ Global → List ℕ
 written text = text.items
 
-module _ (stacks : List Taken) where
+module _ (stacks : List CountedStack) where
   -- a refusal of answers is one of their text
   refused_as : (expected : Result (List Answer) Error) (e : Error) → FailsAs expected e → FailsAs (folded_by stacks expected) e
   refused_as expected errors.ReadFault comes = tt
@@ -45,8 +44,8 @@ module _ (stacks : List Taken) where
   refused_as expected _ comes = rw comes refl
 
   -- where answers come, their text comes
-  text_comes : (expected answered : Result (List Answer) Error) (result : Result (Vec ℕ Global) Error) → Comes read expected answered → IsFoldOf stacks answered result →
-      Comes written (folded_by stacks expected) result
+  text_comes : (expected answered : Result (List Answer) Error) (result : Result (Vec ℕ Global) Error) → GivesOrFaults read expected answered → IsFoldOf stacks answered result →
+      GivesOrFaults written (folded_by stacks expected) result
   text_comes expected (Ok answers) (Ok text) comes is = rw comes (ap Ok (sym is.0))
   text_comes expected (Ok answers) (Err e) comes is = rw is.1 tt
   text_comes expected (Err e) result comes is = rw is (refused_as expected e comes)
@@ -58,6 +57,13 @@ module _ (stacks : List Taken) where
   text_of_some config path (Ok answers) (Err e) some is = tt
   text_of_some config path (Err e) (Ok text) some is = cc
   text_of_some config path (Err e) (Err f) some is = tt
+
+  -- and a refusal is that of the call, or memory ran out
+  refusal_of_call : (Cause : Error → Type 0) (answered : Result (List Answer) Error) (result : Result (Vec ℕ Global) Error) → IfErr answered (λ e. IsSomeCauseOrFails Cause e) →
+      IsFoldOf stacks answered result → IfErr result (λ e. IsSomeCauseOrFails Cause e)
+  refusal_of_call Cause (Ok answers) (Ok text) cause is = tt
+  refusal_of_call Cause (Ok answers) (Err e) cause is = rw is.1 tt
+  refusal_of_call Cause (Err e) result cause is = rw is cause
 
   -- a text is given only where answers are
   opened_for : (P : Type 0) (answered : Result (List Answer) Error) (result : Result (Vec ℕ Global) Error) → OnOk answered P → IsFoldOf stacks answered result → IsOk result → P
@@ -76,38 +82,44 @@ module _ (stacks : List Taken) where
   call_faulted (Err e) (Ok text) is fault = absurd fault
   call_faulted (Err e) (Err f) is fault = cc
 
-module _ {D R X : Type 0} (looks : Ghosts X) (test : Test R) (translates : Translates R) (finds : Finds R) (path : List ℕ) (config : Config) (stacks : List Taken)
-    (source : Source) (of_path : IsSourceOf (Breakpad path) source) (result : Result (Vec ℕ Global) Error) (old now : WholeState D R) (new : old.files ≡ new_state (settings_of config))
-    (before after : X) (folds : Folds looks test translates finds source InFile stacks result old now before after) where
+module _ {X : Type 0} (looks : Ghosts X) (path : List ℕ) (config : Config) (stacks : List CountedStack) (source : Source) (of_path : IsSourceOf (Breakpad path) source)
+    (result : Result (Vec ℕ Global) Error) (old : KeptState) (new : old ≡ new_kept (settings_of config)) (now : State) (before after : X) (answered : Result (List Answer) Error)
+    (text : IsFoldOf stacks answered result) (called : Symbolizes looks read source (batch_of InFile (addrs_of stacks)) answered old.files now before after) where
   -- the symbolizer kept nothing
-  call : Symbolizes looks read source (batch_of InFile (addrs_of stacks)) folds.answered (new_state (settings_of config)) now.files before after
-  call = subst (λ files. Symbolizes looks read source (batch_of InFile (addrs_of stacks)) folds.answered files now.files before after) new folds.call
+  call : Symbolizes looks read source (batch_of InFile (addrs_of stacks)) answered (new_state (settings_of config)) now before after
+  call = subst (λ (state : State). Symbolizes looks read source (batch_of InFile (addrs_of stacks)) answered state now before after) (ap (λ (kept : KeptState). kept.files) new) called
 
   -- so it answers what the file answers
-  call_comes : Told (in_view (looks.worlds before)) (λ world. Comes read (answers_in path config world stacks) folds.answered)
+  call_comes : Told (in_view (looks.worlds before)) (λ world. GivesOrFaults read (answers_in path config world stacks) answered)
   call_comes world told =
-      let called = of_its_source (Breakpad path) source _ of_path (call.told world told) in
-      subst (λ expected. Comes read expected folds.answered) (answer_new config (addrs_of stacks) world (Breakpad path) InFile source 0 of_path) called.answer
+      let answers = of_its_source (Breakpad path) source _ of_path (call.told world told) in
+      subst (λ expected. GivesOrFaults read expected answered) (answer_new config (addrs_of stacks) world (Breakpad path) InFile source 0 of_path) answers.answer
 
   -- the text is that of the stacks by what lies at the path
-  pub folds_answer : Told (in_view (looks.worlds before)) (λ world. Comes written (folded_by stacks (answers_in path config world stacks)) result)
-  folds_answer world told = text_comes stacks _ folds.answered result (call_comes world told) folds.text
+  pub folds_answer : Told (in_view (looks.worlds before)) (λ world. GivesOrFaults written (folded_by stacks (answers_in path config world stacks)) result)
+  folds_answer world told = text_comes stacks _ answered result (call_comes world told) text
 
   -- and whatever the files tell, by some Breakpad file
   pub folds_some : IfOk result (λ text. IsSomeText config stacks text.items)
   folds_some =
-      text_of_some stacks config path folds.answered result
-      (some_from_kept config (addrs_of stacks) read InFile now.files _ (Breakpad path) source folds.answered of_path (λ refused. refused.0) call.untaken call.kept)
-      folds.text
+      text_of_some stacks config path answered result
+      (some_from_kept config (addrs_of stacks) read InFile now _ (Breakpad path) source answered of_path (λ refused. refused.0) call.untaken call.kept)
+      text
+
+  -- and a refusal is one that a Breakpad file may have, or something failed
+  pub folds_refusal : IfErr result (λ e. IsSomeCauseOrFails (IsSomeFileCause (Breakpad path)) e)
+  folds_refusal =
+      refusal_of_call stacks (IsSomeFileCause (Breakpad path)) answered result
+      (file_causes (opts_in config) (addrs_of stacks) InFile (Breakpad path) source answered of_path refl call.refusal) text
 
   -- one file at most was read, and where a text is given one was
   pub folds_opens : ReadsOneFor looks (IsOk result) before after
   folds_opens = record {
     most = of_its_file (Breakpad path) source _ of_path call.most;
     opened = λ world told ok.
-        let called = of_its_source (Breakpad path) source _ of_path (call.told world told) in
-        opened_for stacks (looks.opens after ≡ counted (looks.opens before)) folds.answered result
-        (opened_by_target config (addrs_of stacks) read world _ _ folds.answered (Breakpad path) InFile source 0 of_path (call_comes world told) called.opened) folds.text ok;
+        let answers = of_its_source (Breakpad path) source _ of_path (call.told world told) in
+        opened_for stacks (looks.opens after ≡ counted (looks.opens before)) answered result
+        (opened_by_target config (addrs_of stacks) read world _ _ answered (Breakpad path) InFile source 0 of_path (call_comes world told) answers.opened) text ok;
   }
 
   -- of the files only counts have moved
@@ -117,5 +129,5 @@ module _ {D R X : Type 0} (looks : Ghosts X) (test : Test R) (translates : Trans
       record {
         worlds = looked.worlds;
         pid = looked.pid;
-        faults = counts_as _ _ (faulted stacks folds.answered result folds.text) (call_faulted stacks folds.answered result folds.text) looked.faults;
+        faults = counts_as _ _ (faulted stacks answered result text) (call_faulted stacks answered result text) looked.faults;
       }

@@ -15,11 +15,11 @@ use Rattle.bz_files.specs.MemWorlds.{after_put, first_world, new_worlds}
 use Rattle.bz_files.specs.World.{World, Present, entry_at, in_view}
 use Rattle.bz_files.specs.declared.files.Files as files_trait
 use Rattle.bz_files.specs.declared.stamp.Stamp.{Stamp}
-use Rattle.bz_cache.specs.Format.{Comes}
+use Rattle.bz_cache.specs.Format.{GivesOrFaults}
 use Rattle.bz_breakpad.specs.Grammar.{IsFile}
 use Rattle.bz_breakpad.specs.Plain.{batch}
 use Rattle.bz_breakpad.specs.Table.{Table}
-use Rattle.bz_serve.specs.RequestSteps.{breakpad_file}
+use Rattle.bz_symq.specs.FileSources.{breakpad_file}
 use Rattle.bz_symbolize.specs.FileCall.{batch_of}
 use Rattle.bz_symbolize.specs.Lookup.{answer_of}
 use Rattle.bz_symbolize.specs.Promise.{CallTold, Symbolizes}
@@ -31,11 +31,11 @@ use Rattle.bz_symbolize.proofs.Tables.{table_again}
 
 -- a call that comes to an answer is answered by it, where memory suffices and no look fails
 module _ {A B : Type 0} (reading : A → B) (expected : B) where
-  pub answered : (result : Result A Error) → Comes reading (Ok expected) result → IfOk result (λ given. reading given ≡ expected)
+  pub answered : (result : Result A Error) → GivesOrFaults reading (Ok expected) result → IfOk result (λ given. reading given ≡ expected)
   answered (Ok given) comes = cc
   answered (Err e) comes = tt
 
-  pub unrefused : (result : Result A Error) → Comes reading (Ok expected) result → (Faulted result → ⊥) → IsOkUnless result errors.OutOfMemory
+  pub unrefused : (result : Result A Error) → GivesOrFaults reading (Ok expected) result → (Faulted result → ⊥) → IsOkUnless result errors.OutOfMemory
   unrefused (Ok given) comes steady = tt
   unrefused (Err errors.OutOfMemory) comes steady = refl
   unrefused (Err errors.ReadFault) comes steady = absurd (steady refl)
@@ -70,9 +70,9 @@ module _ {A X : Type 0} (looks : files_trait.Ghosts X) (reading : A → List Ans
     (settings : Settings) (path bytes addrs : List ℕ) where
   pub comes_by_file : (table : Table) → IsFile bytes table → form_of source ≡ OneFile (breakpad_file path) → old ≡ new_state settings →
       in_view (looks.worlds before) ≡ Some (world_of_file path bytes) → Symbolizes looks reading source (batch_of InFile addrs) result old now before after →
-      Comes reading (Ok (batch table (opts_of settings) addrs)) result
+      GivesOrFaults reading (Ok (batch table (opts_of settings) addrs)) result
   comes_by_file table is_file form old_is told promise =
       let call : CallTold reading (opts_of old.settings) (OneFile (breakpad_file path)) (batch_of InFile addrs) result old now (world_of_file path bytes) (looks.opens before) (looks.opens after) =
       subst (λ (f : SourceForm). UnlessProcessForm f (CallTold reading (opts_of old.settings) f (batch_of InFile addrs) result old now (world_of_file path bytes) (looks.opens before) (looks.opens after))) form (promise.told (world_of_file path bytes) told) in
-      let answer = subst (λ (s : State). Comes reading (answer_of (opts_of s.settings) s (OneFile (breakpad_file path)) (batch_of InFile addrs) (world_of_file path bytes)) result) old_is call.answer in
+      let answer = subst (λ (s : State). GivesOrFaults reading (answer_of (opts_of s.settings) s (OneFile (breakpad_file path)) (batch_of InFile addrs) (world_of_file path bytes)) result) old_is call.answer in
       rw (new_answers (opts_of settings) settings path bytes addrs table is_file) at answer

@@ -11,8 +11,8 @@ use Rattle.bz_base.specs.declared.types.FindSymOpts.{FindSymOpts}
 use Rattle.bz_base.specs.declared.types.FindSymOpts.TheVariants as asked
 use Rattle.bz_base.specs.declared.types.Reason.TheVariants as reasons
 use Rattle.bz_base.proofs.SeenLaws.{calls_rotated}
-use Rattle.bz_breakpad.specs.Places.{Placed, by_line, by_seen, call_name, call_site, calls_asked, line_at, placed_at, seen_from, site_in}
-use Rattle.bz_breakpad.specs.Plain.{any_between, batch, by_function, by_place, by_public, by_records, function_at, plain, public_at, public_symbol_at}
+use Rattle.bz_breakpad.specs.Locations.{Location, by_line, by_seen, call_name, call_site, calls_asked, line_at, location_at, seen_from, site_in}
+use Rattle.bz_breakpad.specs.Plain.{any_between, batch, by_function, by_location, by_public, by_records, function_at, plain, public_at, public_symbol_at}
 use Rattle.bz_breakpad.specs.Table.{Function, Inlinee, PublicSymbol, SourceLine, Table}
 use Rattle.bz_breakpad.proofs.AddressLaws.{known_at}
 use Rattle.bz_canon.specs.Generated.{address_by, addresses_after, next_number}
@@ -40,36 +40,36 @@ module _ (table : Table) (addr : ℕ) where
       let names = ((calls_rotated (call_site table) (call_name table) (site_in table line.file line.line) calls seen).0 is).names_are in
       sym (length-map seen.1 (λ (call : Call). Some call.name)) ∙ ap length names ∙ length-map calls (call_name table)
 
-  few_seen : (calls : List Inlinee) (line : SourceLine) (placed : Placed) (seen : Option (Site × List Call)) → seen_from table calls line ≡ seen → by_seen seen ≡ Ok placed →
-      length calls ≤ depths → length placed.calls ≤ depths
-  few_seen calls line placed None found is few = cc
-  few_seen calls line placed (Some seen) found is few =
-      let same : record { site = Some seen.0; calls = seen.1 } ≡ placed = cc in
-      subst (λ (p : Placed). length p.calls ≤ depths) same (rw (as_many_seen calls line seen found) few)
+  few_seen : (calls : List Inlinee) (line : SourceLine) (location : Location) (seen : Option (Site × List Call)) → seen_from table calls line ≡ seen → by_seen seen ≡ Ok location →
+      length calls ≤ depths → length location.calls ≤ depths
+  few_seen calls line location None found is few = cc
+  few_seen calls line location (Some seen) found is few =
+      let same : record { site = Some seen.0; calls = seen.1 } ≡ location = cc in
+      subst (λ (p : Location). length p.calls ≤ depths) same (rw (as_many_seen calls line seen found) few)
 
   few_asked : (opts : FindSymOpts) (inlinees : List Inlinee) → length (calls_asked opts addr inlinees) ≤ depths
   few_asked asked.Basic inlinees = omega arith
   few_asked asked.CodeInfo inlinees = omega arith
   few_asked asked.CodeInfoAndInlined inlinees = few_in_chain (λ (i : Inlinee). i.depth) (λ i. i.start) (λ i. i.size) inlinees addr
 
-  few_by_line : (opts : FindSymOpts) (f : Function) (placed : Placed) (line : Option SourceLine) → by_line table opts f addr line ≡ Ok placed → length placed.calls ≤ depths
-  few_by_line opts f placed None is =
-      let same : record { site = None; calls = [] } ≡ placed = cc in
-      subst (λ (p : Placed). length p.calls ≤ depths) same (omega arith)
-  few_by_line opts f placed (Some line) is = few_seen (calls_asked opts addr f.inlinees) line placed (seen_from table (calls_asked opts addr f.inlinees) line) refl is (few_asked opts f.inlinees)
+  few_by_line : (opts : FindSymOpts) (f : Function) (location : Location) (line : Option SourceLine) → by_line table opts f addr line ≡ Ok location → length location.calls ≤ depths
+  few_by_line opts f location None is =
+      let same : record { site = None; calls = [] } ≡ location = cc in
+      subst (λ (p : Location). length p.calls ≤ depths) same (omega arith)
+  few_by_line opts f location (Some line) is = few_seen (calls_asked opts addr f.inlinees) line location (seen_from table (calls_asked opts addr f.inlinees) line) refl is (few_asked opts f.inlinees)
 
-  few_placed : (opts : FindSymOpts) (f : Function) (placed : Placed) → placed_at table opts f addr ≡ Ok placed → length placed.calls ≤ depths
-  few_placed asked.Basic f placed is =
-      let same : record { site = None; calls = [] } ≡ placed = cc in
-      subst (λ (p : Placed). length p.calls ≤ depths) same (omega arith)
-  few_placed asked.CodeInfo f placed is = few_by_line asked.CodeInfo f placed (line_at addr f.lines) is
-  few_placed asked.CodeInfoAndInlined f placed is = few_by_line asked.CodeInfoAndInlined f placed (line_at addr f.lines) is
+  few_located : (opts : FindSymOpts) (f : Function) (location : Location) → location_at table opts f addr ≡ Ok location → length location.calls ≤ depths
+  few_located asked.Basic f location is =
+      let same : record { site = None; calls = [] } ≡ location = cc in
+      subst (λ (p : Location). length p.calls ≤ depths) same (omega arith)
+  few_located asked.CodeInfo f location is = few_by_line asked.CodeInfo f location (line_at addr f.lines) is
+  few_located asked.CodeInfoAndInlined f location is = few_by_line asked.CodeInfoAndInlined f location (line_at addr f.lines) is
 
   -- so an answer has no more inlined calls
   module _ (opts : FindSymOpts) where
-    few_by_place : (f : Function) (placed : Result Placed Error) → placed_at table opts f addr ≡ placed → calls_in (in_batch (by_place table f addr placed)) ≤ depths
-    few_by_place f (Ok placed) is = few_placed opts f placed is
-    few_by_place f (Err e) is = omega arith
+    few_by_location : (f : Function) (location : Result Location Error) → location_at table opts f addr ≡ location → calls_in (in_batch (by_location table f addr location)) ≤ depths
+    few_by_location f (Ok location) is = few_located opts f location is
+    few_by_location f (Err e) is = omega arith
 
     few_if_public : (p : PublicSymbol) (between : Bool) → calls_in (cond {A = Answer} between (Unknown reasons.UnknownAddr) (Known (public_symbol_at table p addr))) ≤ depths
     few_if_public p true = omega arith
@@ -81,7 +81,7 @@ module _ (table : Table) (addr : ℕ) where
 
     few_by_function : (found : Option Function) → calls_in (in_batch (by_function table opts addr found)) ≤ depths
     few_by_function None = few_by_public (public_at addr table.publics)
-    few_by_function (Some f) = few_by_place f (placed_at table opts f addr) refl
+    few_by_function (Some f) = few_by_location f (location_at table opts f addr) refl
 
     few_by_records : (functions : List Function) (publics : List PublicSymbol) → calls_in (in_batch (by_records table opts addr functions publics)) ≤ depths
     few_by_records [] [] = omega arith

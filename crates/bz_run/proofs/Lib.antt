@@ -2,7 +2,6 @@ pub mod FoldLemmas
 pub mod GeneratedAskingLemmas
 pub mod GeneratedBoundLemmas
 pub mod GeneratedEndLemmas
-pub mod NumberLemmas
 pub mod RunLemmas
 pub mod StackCountLemmas
 pub mod StackEndLemmas

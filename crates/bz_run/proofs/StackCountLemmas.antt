@@ -4,7 +4,7 @@ use Rattle.bz_base.specs.Byte.{line_feed}
 use Rattle.bz_base.specs.Line.{all_lines, begins_line}
 use Rattle.bz_requests.specs.Lines.{content_of, read_lines, said_in, with_said}
 use Rattle.bz_stacks.specs.Spelling.{stack_in, stacks_in}
-use Rattle.bz_stacks.specs.Stack.{Taken}
+use Rattle.bz_stacks.specs.Stack.{CountedStack}
 use Rattle.bz_symq.specs.InputText.{greatest_input}
 
 -- there are no more lines than bytes
@@ -18,11 +18,11 @@ lines_few (b ∷ text) = by_end (nat_eq b line_feed) (all_lines text) (lines_few
     by_end false (line ∷ lines) few = omega (arith, few)
 
 -- and no more stacks than lines
-stacks_few : (n : ℕ) (lines : List (List ℕ)) (stacks : List Taken) → read_lines stack_in n lines ≡ Ok stacks → length stacks ≤ length lines
+stacks_few : (n : ℕ) (lines : List (List ℕ)) (stacks : List CountedStack) → read_lines stack_in n lines ≡ Ok stacks → length stacks ≤ length lines
 stacks_few n [] stacks read = let none : stacks ≡ [] = cc in rw none (omega arith)
 stacks_few n (line ∷ lines) stacks read = by_said (said_in stack_in (content_of line)) (read_lines stack_in (n + 1) lines) (stacks_few (n + 1) lines) read
   where
-    by_said : (said : Option (Option Taken)) (others : Result (List Taken) ℕ) → ((rest : List Taken) → others ≡ Ok rest → length rest ≤ length lines) → with_said n said others ≡ Ok stacks →
+    by_said : (said : Option (Option CountedStack)) (others : Result (List CountedStack) ℕ) → ((rest : List CountedStack) → others ≡ Ok rest → length rest ≤ length lines) → with_said n said others ≡ Ok stacks →
         length stacks ≤ suc (length lines)
     by_said None others more is = cc
     by_said (Some said) (Err m) more is = cc
@@ -30,5 +30,5 @@ stacks_few n (line ∷ lines) stacks read = by_said (said_in stack_in (content_o
     by_said (Some (Some stack)) (Ok rest) more is = let same : stacks ≡ stack ∷ rest = cc in let few = more rest refl in rw same (omega (arith, few))
 
 -- so an input that isn't too long has fewer than 2^32 of them
-pub few_stacks : (text : List ℕ) (stacks : List Taken) → length text ≤ greatest_input → stacks_in text ≡ Ok stacks → length stacks < 4294967296
+pub few_stacks : (text : List ℕ) (stacks : List CountedStack) → length text ≤ greatest_input → stacks_in text ≡ Ok stacks → length stacks < 4294967296
 few_stacks text stacks short read = omega (arith, short, lines_few text, stacks_few 1 (all_lines text) stacks read)

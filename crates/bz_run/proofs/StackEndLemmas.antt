@@ -1,5 +1,5 @@
 -- What a run promises, from what its reply is, what the reply came to, and how the run ended.
-use Rattle.std.proofs.Common.{◌≡◌, ◌⊎◌, ◌↔◌, ℕ, List, [], ◌++◌, Option, Some, Ok, Err, refl, ap, subst, ◌∙◌, inl, inr}
+use Rattle.std.proofs.Common.{◌≡◌, ◌↔◌, ℕ, List, ◌++◌, Some, Ok, Err, refl, ap, subst, ◌∙◌, inr}
 use Rattle.bz_base.specs.declared.error.Error.{Error}
 use Rattle.bz_files.specs.Looked.{Faulted}
 use Rattle.bz_files.specs.World.{Told, in_view}
@@ -19,7 +19,7 @@ use Rattle.bz_symq.proofs.EndLemmas.{IsFailure, done_no_failure, failed_ends, in
 use Rattle.bz_symq.proofs.FaultLemmas.{before_from_fails, fails_after, fails_as, fails_before, fault_from_fails, steady_from_fails}
 use Rattle.bz_run.specs.StackOutcome.{stacks_outcome}
 use Rattle.bz_run.specs.StackReply.{RepliesToStacks, TakesTurns}
-use Rattle.bz_run.specs.StackRun.{IsSomeFolded, RunsStacks}
+use Rattle.bz_run.specs.StackRun.{IsSomeFolded, IsSomeRefused, RunsStacks}
 use Rattle.bz_run.proofs.StackOutcomeLemmas.{done_from_ends, foldable_is_done, refusable_is_refused, refused_from_ends}
 
 module _ {R W F : Type 0} (reads : input_trait.Ghosts R) (writes : output_trait.Ghosts W) (looks : files_trait.Ghosts F) (path : List ℕ) (config : Config) (ended : Status)
@@ -35,6 +35,7 @@ module _ {R W F : Type 0} (reads : input_trait.Ghosts R) (writes : output_trait.
     done = λ done text left world seen old written. done_from_ends path config text world old _ (rw done at (ends text left world seen old written));
     answered = answered;
     refused = λ refused text left world seen old written. refused_from_ends path config text world old _ (rw refused at (ends text left world seen old written));
+    refusal = refusal;
     usage = λ usage. given.usage (by_reply statuses.Usage usage_no_failure usage);
     input = λ text left. (
       λ bad. (given.input text left).0 (by_reply statuses.Input input_no_failure bad),
@@ -71,6 +72,12 @@ module _ {R W F : Type 0} (reads : input_trait.Ghosts R) (writes : output_trait.
           let wrote = (rw done at (finished.ends old written)).1 in
           record { stacks = some.0; answers = some.2.answers; bytes = some.2.bytes; asks = some.1; answers_are = some.2.answers_are; written = wrote ∙ ap (λ text. Some (old ++ text)) some.2.text_is }
 
+      refusal : ended ≡ statuses.Refused → Told (reads.left input_before) (λ text. Told (writes.written output_before) (λ old. IsSomeRefused path text old (writes.written output_after)))
+      refusal refused text left old written =
+          let some = given.refusal text left (by_reply statuses.Refused refused_no_failure refused) in
+          let wrote = (rw refused at (finished.ends old written)).1 in
+          record { stacks = some.0; refusal = some.2.refusal; asks = some.1; cause = some.2.cause; written = wrote ∙ ap (λ text. Some (old ++ text)) some.2.text_is }
+
       fails : Fails reads writes looks ended input_before input_after output_before output_after files_before files_after
       fails = fails_after reads writes looks ended _ _ _ _ _ _ (Faulted (Ok reply)) (λ fault. fault) counts finished.counts
 
@@ -85,6 +92,7 @@ module _ {R W F : Type 0} (reads : input_trait.Ghosts R) (writes : output_trait.
     done = λ done. absurd (never ended statuses.Done done_no_failure failed done);
     answered = λ done. absurd (never ended statuses.Done done_no_failure failed done);
     refused = λ refused. absurd (never ended statuses.Refused refused_no_failure failed refused);
+    refusal = λ refused. absurd (never ended statuses.Refused refused_no_failure failed refused);
     usage = λ usage. never ended statuses.Usage usage_no_failure failed usage;
     input = λ text left. (λ bad. absurd (never ended statuses.Input input_no_failure failed bad), λ bad. inr failed);
     complete = λ text left world seen is. inr failed;

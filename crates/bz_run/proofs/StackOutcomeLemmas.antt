@@ -8,7 +8,7 @@ use Rattle.bz_files.specs.World.{World, entry_at}
 use Rattle.bz_requests.proofs.LineGrammarLemmas.{items_again}
 use Rattle.bz_requests.specs.declared.requests.Config.{Config}
 use Rattle.bz_stacks.specs.Spelling.{IsStack, stack_in, stacks_in}
-use Rattle.bz_stacks.specs.Stack.{Taken}
+use Rattle.bz_stacks.specs.Stack.{CountedStack}
 use Rattle.bz_stacks.proofs.SpellingLemmas.{stack_agrees}
 use Rattle.bz_symq.specs.Command.{Asking, Breakpad, of_file}
 use Rattle.bz_symq.specs.InputText.{AsksFor, IsBadInput, greatest_input}
@@ -27,18 +27,18 @@ abbrev asking_of : List ℕ → Config → Asking
 asking_of path config = of_file (Breakpad path) InFile config
 
 -- an answer by which a run is done is Ok, and one by which it is refused is a refusal
-ok_from_done : (stacks : List Taken) (answer : Result (List Answer) Error) → (by_text (folded_by stacks answer)).status ≡ statuses.Done → (answers : List Answer) × (answer ≡ Ok answers)
+ok_from_done : (stacks : List CountedStack) (answer : Result (List Answer) Error) → (by_text (folded_by stacks answer)).status ≡ statuses.Done → (answers : List Answer) × (answer ≡ Ok answers)
 ok_from_done stacks (Ok answers) done = (answers, refl)
 ok_from_done stacks (Err e) done = cc
 
-err_from_refused : (stacks : List Taken) (answer : Result (List Answer) Error) → (by_text (folded_by stacks answer)).status ≡ statuses.Refused → (e : Error) × (answer ≡ Err e)
+err_from_refused : (stacks : List CountedStack) (answer : Result (List Answer) Error) → (by_text (folded_by stacks answer)).status ≡ statuses.Refused → (e : Error) × (answer ≡ Err e)
 err_from_refused stacks (Ok answers) refused = cc
 err_from_refused stacks (Err e) refused = (e, refl)
 
 module _ (path : List ℕ) (config : Config) (input : List ℕ) (world : World) where
   -- what a run that asks its file knows
   record IsAsking : Type 0 where
-    stacks : List Taken
+    stacks : List CountedStack
     asks : AsksFor IsStack input stacks
     ends : stacks_outcome path config input world ≡ by_text (folded_by stacks (answers_in path config world stacks))
 
@@ -46,7 +46,7 @@ module _ (path : List ℕ) (config : Config) (input : List ℕ) (world : World) 
   abbrev IsSorted : Type 0
   IsSorted = IsAsking ⊎ (IsBadInput IsStack input × ((stacks_outcome path config input world).status ≡ statuses.Input))
 
-  sorted_read : length input ≤ greatest_input → ltb greatest_input (length input) ≡ false → (read : Result (List Taken) ℕ) → stacks_in input ≡ read → IsSorted
+  sorted_read : length input ≤ greatest_input → ltb greatest_input (length input) ≡ false → (read : Result (List CountedStack) ℕ) → stacks_in input ≡ read → IsSorted
   sorted_read short fits (Ok stacks) is = inl (record { stacks = stacks; asks = asks_from_read stack_in IsStack stack_agrees input short stacks is; ends = rw (fits, is) refl })
   sorted_read short fits (Err n) is = inr (bad_from_read stack_in IsStack stack_agrees input (Err n) is refl, rw (fits, is) refl)
 
@@ -58,7 +58,7 @@ module _ (path : List ℕ) (config : Config) (input : List ℕ) (world : World) 
   sorted = sorted_long (ltb greatest_input (length input)) refl
 
   -- stacks are folded by the answer of the file
-  asked_outcome : (stacks : List Taken) → AsksFor IsStack input stacks → stacks_outcome path config input world ≡ by_text (folded_by stacks (answers_in path config world stacks))
+  asked_outcome : (stacks : List CountedStack) → AsksFor IsStack input stacks → stacks_outcome path config input world ≡ by_text (folded_by stacks (answers_in path config world stacks))
   asked_outcome stacks asks = rw (le-ltb _ _ asks.short, items_again stack_in IsStack stack_agrees input stacks asks.items_are) refl
 
   -- the answers of a run that is done

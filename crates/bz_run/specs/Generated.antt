@@ -1,15 +1,9 @@
 -- What a run of the generated job promises.
-use Rattle.std.specs.Prelude.{◌≡◌, ◌<◌, ◌≤◌, ℕ}
+use Rattle.std.specs.Prelude.{◌≡◌, ℕ}
 use Rattle.bz_files.specs.declared.text.TextOut as output_trait
 use Rattle.bz_run.specs.Generating.{Generates}
 use Rattle.bz_requests.specs.declared.requests.Config.{Config}
 use Rattle.bz_symq.specs.declared.status.Status.{Status}
-use Rattle.bz_words.specs.Command.{Generate, Job}
-
--- the numbers of a generated job are as small as that job takes
-abbrev pub HasSmallNumbers : Job → Type 0
-HasSmallNumbers (Generate seed functions addresses) = (seed < 2147483648) × (functions ≤ 100000) × (addresses ≤ 100000)
-HasSmallNumbers other = Unit {0}
 
 -- the generated job was to be done
 pub record RunsGenerated {R W F : Type 0} (writes : output_trait.Ghosts W) (config : Config) (seed functions addresses : ℕ) (ended : Status)

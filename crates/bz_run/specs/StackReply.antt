@@ -1,19 +1,20 @@
 -- What the reply to an input of stacks is, and what it comes to of input and files.
-use Rattle.std.specs.Prelude.{◌≡◌, ◌≢◌, ◌⊎◌, ◌↔◌, ℕ, ◌+◌, List, Option, Result, Ok, Err, IfOk}
+use Rattle.std.specs.Prelude.{◌≡◌, ◌≢◌, ◌⊎◌, ◌↔◌, ℕ, ◌+◌, List, Option, Result, Ok, IfOk}
 use Rattle.bz_base.specs.Answer.{Answer}
 use Rattle.bz_base.specs.declared.error.Error.{Error}
 use Rattle.bz_files.specs.World.{World, Told}
-use Rattle.bz_files.specs.declared.files.Files as files_trait
 use Rattle.bz_files.specs.declared.text.TextIn as input_trait
 use Rattle.bz_requests.specs.declared.requests.Config.{Config}
 use Rattle.bz_stacks.specs.Spelling.{IsStack, stacks_in}
-use Rattle.bz_stacks.specs.Stack.{Taken}
+use Rattle.bz_stacks.specs.Stack.{CountedStack}
 use Rattle.bz_stacks.specs.Text.{folded_text}
 use Rattle.bz_symbolize.specs.Promise.{IsBreakpadBatch}
+use Rattle.bz_symq.specs.Command.{Breakpad}
 use Rattle.bz_symq.specs.InputText.{AsksFor, IsBadInput, IsReadWhole, MovesAtMost, greatest_input}
 use Rattle.bz_symq.specs.Kept.{opts_in}
-use Rattle.bz_symq.specs.Reply.{Replies, text_of}
+use Rattle.bz_symq.specs.Reply.{IsSomeRefusal, Replies, text_of}
 use Rattle.bz_symq.specs.Run.{IsNoFailure}
+use Rattle.bz_symq.specs.Targets.{IsSomeFileCause}
 use Rattle.bz_symq.specs.declared.reply.Reply.{Reply}
 use Rattle.bz_symq.specs.declared.status.Status.{Status}
 use Rattle.bz_symq.specs.declared.status.Status.TheVariants as statuses
@@ -21,23 +22,28 @@ use Rattle.bz_stacks.specs.Fold.{addrs_of, seen_by}
 use Rattle.bz_run.specs.StackOutcome.{stacks_outcome}
 
 -- the text is that of the stacks by the plain answers of some Breakpad file
-pub record IsSomeText (config : Config) (stacks : List Taken) (text : List ℕ) : Type 0 where
+pub record IsSomeText (config : Config) (stacks : List CountedStack) (text : List ℕ) : Type 0 where
   pub answers : List Answer
   pub bytes : List ℕ
   pub answers_are : IsBreakpadBatch (opts_in config) bytes (addrs_of stacks) answers
   pub text_is : text ≡ folded_text (seen_by stacks answers)
 
 -- a reply that the run is done has such a text
-abbrev pub IsTextReply : Config → List Taken → Reply → Type 0
+abbrev pub IsTextReply : Config → List CountedStack → Reply → Type 0
 IsTextReply config stacks reply = reply.status ≡ statuses.Done → IsSomeText config stacks (text_of reply.said)
 
 -- and its stacks are those of the input
 abbrev pub IsInputReply : Config → List ℕ → Reply → Type 0
-IsInputReply config input reply = reply.status ≡ statuses.Done → (stacks : List Taken) × (stacks_in input ≡ Ok stacks) × IsSomeText config stacks (text_of reply.said)
+IsInputReply config input reply = reply.status ≡ statuses.Done → (stacks : List CountedStack) × (stacks_in input ≡ Ok stacks) × IsSomeText config stacks (text_of reply.said)
 
 -- and the input isn't too long
 abbrev pub IsRunReply : Config → List ℕ → Reply → Type 0
-IsRunReply config input reply = reply.status ≡ statuses.Done → (stacks : List Taken) × AsksFor IsStack input stacks × IsSomeText config stacks (text_of reply.said)
+IsRunReply config input reply = reply.status ≡ statuses.Done → (stacks : List CountedStack) × AsksFor IsStack input stacks × IsSomeText config stacks (text_of reply.said)
+
+-- a reply that the stacks are refused names a refusal that a Breakpad file may have, and the run is asked for stacks
+abbrev pub IsRunRefusal : List ℕ → List ℕ → Reply → Type 0
+IsRunRefusal path input reply = reply.status ≡ statuses.Refused →
+    (stacks : List CountedStack) × AsksFor IsStack input stacks × IsSomeRefusal (IsSomeFileCause (Breakpad path)) (text_of reply.said)
 
 -- a reply to an input of stacks was to be made, with what is left of the input, and the world in view
 pub record RepliesToStacks (path : List ℕ) (config : Config) (left : Option (List ℕ)) (seen : Option World) (result : Result Reply Error) : Type 0 where
@@ -45,6 +51,8 @@ pub record RepliesToStacks (path : List ℕ) (config : Config) (left : Option (L
   pub reply : Told left (λ text. Told seen (λ world. Replies (stacks_outcome path config text world) result))
   -- and whatever the files tell, the text is that of the stacks by the answers of some Breakpad file
   pub answered : Told left (λ text. IfOk result (λ given. IsRunReply config text given))
+  -- and a refusal is by one of three causes
+  pub refusal : Told left (λ text. IfOk result (λ given. IsRunRefusal path text given))
   pub no_failure : IfOk result (λ given. IsNoFailure given.status)
   -- status 2 is for words that give no command, and the input alone decides on status 3
   pub usage : IfOk result (λ given. given.status ≢ statuses.Usage)

@@ -1,5 +1,5 @@
 -- What a run over an input of stacks promises: what it writes and ends with, and what it does to each side.
-use Rattle.std.specs.Prelude.{◌≡◌, ◌≢◌, ◌⊎◌, ℕ, ◌+◌, ◌<◌, ◌≤◌, List, [], ◌++◌, length, Option, Some}
+use Rattle.std.specs.Prelude.{◌≡◌, ◌≢◌, ◌⊎◌, ℕ, ◌+◌, List, [], ◌++◌, Option, Some}
 use Rattle.bz_base.specs.Answer.{Answer}
 use Rattle.bz_base.specs.InputKind.{InFile}
 use Rattle.bz_base.specs.declared.error.Error.{Error}
@@ -13,7 +13,7 @@ use Rattle.bz_files.specs.declared.text.TextIn as input_trait
 use Rattle.bz_files.specs.declared.text.TextOut as output_trait
 use Rattle.bz_requests.specs.declared.requests.Config.{Config}
 use Rattle.bz_stacks.specs.Spelling.{IsStack}
-use Rattle.bz_stacks.specs.Stack.{Taken}
+use Rattle.bz_stacks.specs.Stack.{CountedStack}
 use Rattle.bz_stacks.specs.Text.{folded_text}
 use Rattle.bz_symbolize.specs.Promise.{IsBreakpadBatch}
 use Rattle.bz_symq.specs.Command.{Breakpad}
@@ -21,7 +21,7 @@ use Rattle.bz_symq.specs.InputText.{AsksFor, IsBadInput, IsReadWhole, MovesAtMos
 use Rattle.bz_symq.specs.Kept.{opts_in}
 use Rattle.bz_symq.specs.Outcome.{refused}
 use Rattle.bz_symq.specs.Run.{Ends, Fails, IsNoFailure, IsOrFails}
-use Rattle.bz_symq.specs.Targets.{HasFile, IsFileCause, IsRefusalOf}
+use Rattle.bz_symq.specs.Targets.{HasFile, IsFileCause, IsRefusalOf, IsSomeFileCause}
 use Rattle.bz_symq.specs.declared.status.Status.{Status}
 use Rattle.bz_symq.specs.declared.status.Status.TheVariants as statuses
 use Rattle.bz_stacks.specs.Fold.{addrs_of, seen_by}
@@ -29,14 +29,14 @@ use Rattle.bz_run.specs.StackOutcome.{stacks_outcome}
 
 -- the input is stacks, and a Breakpad file lies at the path
 pub record IsFoldable (path text : List ℕ) (world : World) : Type 0 where
-  pub stacks : List Taken
+  pub stacks : List CountedStack
   pub asks : AsksFor IsStack text stacks
   pub there : HasFile (λ bytes. (table : Table) × IsFile bytes table) (entry_at world path)
 
 -- the input was stacks; their text, by the plain answers of the file's table at the addresses of each of them, is what was
 -- written
 pub record IsFolded (path : List ℕ) (config : Config) (text : List ℕ) (world : World) (old : List ℕ) (new : Option (List ℕ)) : Type 0 where
-  pub stacks : List Taken
+  pub stacks : List CountedStack
   pub answers : List Answer
   pub asks : AsksFor IsStack text stacks
   pub answers_are : HasFile (λ bytes. IsBreakpadBatch (opts_in config) bytes (addrs_of stacks) answers) (entry_at world path)
@@ -44,7 +44,7 @@ pub record IsFolded (path : List ℕ) (config : Config) (text : List ℕ) (world
 
 -- and whatever the files tell, their text by the plain answers of some Breakpad file
 pub record IsSomeFolded (config : Config) (text old : List ℕ) (new : Option (List ℕ)) : Type 0 where
-  pub stacks : List Taken
+  pub stacks : List CountedStack
   pub answers : List Answer
   pub bytes : List ℕ
   pub asks : AsksFor IsStack text stacks
@@ -53,7 +53,7 @@ pub record IsSomeFolded (config : Config) (text old : List ℕ) (new : Option (L
 
 -- the input is stacks, and what lies at the path has no answers
 pub record IsRefusable (path text : List ℕ) (world : World) : Type 0 where
-  pub stacks : List Taken
+  pub stacks : List CountedStack
   pub refusal : Error
   pub asks : AsksFor IsStack text stacks
   pub cause : IsFileCause (IsRefusalOf (Breakpad path) InFile) (entry_at world path) refusal
@@ -62,6 +62,14 @@ pub record IsRefusable (path text : List ℕ) (world : World) : Type 0 where
 pub record IsRefused (path text : List ℕ) (world : World) (old : List ℕ) (new : Option (List ℕ)) : Type 0 where
   pub refusable : IsRefusable path text world
   pub written : new ≡ Some (old ++ (refused refusable.refusal).text)
+
+-- and whatever the files tell, the input was stacks, and a refusal that a Breakpad file may have is what was written
+pub record IsSomeRefused (path text old : List ℕ) (new : Option (List ℕ)) : Type 0 where
+  pub stacks : List CountedStack
+  pub refusal : Error
+  pub asks : AsksFor IsStack text stacks
+  pub cause : IsSomeFileCause (Breakpad path) refusal
+  pub written : new ≡ Some (old ++ (refused refusal).text)
 
 -- all that a run over an input of stacks promises
 pub record RunsStacks {R W F : Type 0} (reads : input_trait.Ghosts R) (writes : output_trait.Ghosts W) (looks : files_trait.Ghosts F) (path : List ℕ) (config : Config) (ended : Status)
@@ -80,6 +88,9 @@ pub record RunsStacks {R W F : Type 0} (reads : input_trait.Ghosts R) (writes : 
   -- status 1 means that the input was stacks, that what lies at the path has no answers, and that the refusal is what was written
   pub refused : ended ≡ statuses.Refused → Told (reads.left input_before) (λ text. Told (in_view (looks.worlds files_before)) (λ world.
       Told (writes.written output_before) (λ old. IsRefused path text world old (writes.written output_after))))
+  -- and whatever the files tell, that the refusal is by one of three causes
+  pub refusal : ended ≡ statuses.Refused → Told (reads.left input_before) (λ text. Told (writes.written output_before) (λ old.
+      IsSomeRefused path text old (writes.written output_after)))
   -- status 2 is for words that give no command, and the input alone decides on status 3
   pub usage : ended ≢ statuses.Usage
   pub input : Told (reads.left input_before) (λ text. (ended ≡ statuses.Input → IsBadInput IsStack text) × (IsBadInput IsStack text → IsOrFails statuses.Input ended))

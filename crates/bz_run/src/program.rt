@@ -2,11 +2,10 @@
 
 ghost use Rattle.std.specs.Prelude.{map, string_bytes};
 ghost use Rattle.bz_requests.specs.declared.requests.Config.{Config};
-ghost use Rattle.bz_run.specs.Generated.{HasSmallNumbers};
 ghost use Rattle.bz_run.specs.Run.{Runs, RunsCommand, RunsJob};
 ghost use Rattle.bz_symq.specs.Command.{asking_of, Batch};
 ghost use Rattle.bz_symq.specs.Run.{Runs as RunsOne};
-ghost use Rattle.bz_words.specs.Command.{Make, command_in, job_of, product_of};
+ghost use Rattle.bz_words.specs.Command.{HasSmallNumbers, Make, command_in, job_of, product_of};
 
 use crate::frames::answer_frames;
 use crate::generating::generate;

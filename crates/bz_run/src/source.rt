@@ -2,9 +2,9 @@
 
 ghost use Rattle.std.specs.Prelude.{◌≡◌, IfOk, IsOkUnless};
 ghost use Rattle.bz_base.specs.declared.error.Error.{Error};
-ghost use Rattle.bz_serve.specs.RequestSteps.{breakpad_file};
 ghost use Rattle.bz_symbolize.specs.Sources.{OneFile, form_of};
 ghost use Rattle.bz_symq.specs.Command.{Breakpad as BreakpadAt};
+ghost use Rattle.bz_symq.specs.FileSources.{breakpad_file};
 ghost use Rattle.bz_symq.specs.Targets.{IsSourceOf};
 
 use bz_base::Result;

@@ -1,19 +1,16 @@
 -- What a call of the symbolizer does, from what it promises.
-use Rattle.std.proofs.Common.{Global, String, string_bytes, ◌≡◌, ◌⊎◌, ℕ, zero, suc, ◌+◌, ◌≤◌, Bool, true, false, List, map, Some, Result, Ok, Err, OnOk, OnErr, refl, sym, ap, ap₂, subst, ◌∙◌, inl, inr, arith}
+use Rattle.std.proofs.Common.{Global, String, string_bytes, ◌≡◌, ◌⊎◌, ℕ, ◌+◌, ◌≤◌, Bool, true, false, List, map, Some, Result, Ok, Err, OnOk, OnErr, refl, sym, ap, ap₂, subst, inl, inr, arith}
 use Rattle.bz_base.specs.Answer.{Answer}
 use Rattle.bz_base.specs.InputKind.{InFile, InProcess, InTable}
 use Rattle.bz_base.specs.declared.error.Error.{Error}
 use Rattle.bz_base.specs.declared.error.Error.TheVariants as errors
-use Rattle.bz_base.specs.declared.pid.Pid.{Pid}
 use Rattle.bz_base.specs.declared.resolve.Symbolize.{Ghosts as Finds}
 use Rattle.bz_base.specs.declared.resolve.TranslateFileOffset.{Ghosts as Translates}
-use Rattle.bz_base.specs.Pid.{number_of}
-use Rattle.bz_base.proofs.PidLemmas.{pids_same}
 use Rattle.bz_files.specs.Count.{counted}
 use Rattle.bz_files.specs.Looked.{ReadsOne}
 use Rattle.bz_files.specs.World.{World, in_view}
 use Rattle.bz_files.specs.declared.files.Files as files_trait
-use Rattle.bz_cache.specs.Format.{Comes}
+use Rattle.bz_cache.specs.Format.{GivesOrFaults}
 use Rattle.bz_process.specs.Asked.{asked_of}
 use Rattle.bz_process.specs.Caches.{ProcessCaches}
 use Rattle.bz_process.specs.Caching.{KeptMappings}
@@ -34,20 +31,13 @@ use Rattle.bz_symbolize.specs.Requests.{ToCache, ToEvict, CacheElf as KeepElf, C
 use Rattle.bz_symbolize.specs.Sources.{FileSource, OneFile, OneProcess, OnFileForm, OnProcessForm, SourceForm, UnlessProcessForm, form_of}
 use Rattle.bz_symbolize.specs.State.{State, WholeState, opts_of}
 use Rattle.bz_symbolize.specs.declared.source.Source.{Source}
-use Rattle.bz_symq.specs.Kept.{Kept, caches_in, kept_of, with_caches}
+use Rattle.bz_symq.specs.FileSources.{breakpad_file, elf_file, gsym_file}
+use Rattle.bz_symq.specs.Kept.{KeptState, caches_in, kept_of, with_caches}
 use Rattle.bz_serve.specs.Serving.{Does}
 use Rattle.bz_requests.specs.Requests.{Target, Breakpad, Elf, Gsym, Process as OfProcess, target_of, usual_kind}
 use Rattle.bz_requests.specs.declared.requests.Target as made
 use Rattle.bz_requests.specs.declared.requests.Target.TheVariants as made_targets
-use Rattle.bz_serve.specs.RequestSteps.{Doing, asking, asking_batch, asking_single, breakpad_file, elf_file, gsym_file, keeping, pid_by, query_by, stepping, target_form, unless_refused}
-
--- the process that a number is, whichever is made from it
-pub process_by : (number : ℕ) (pid : Pid) → number_of pid ≡ number → pid ≡ pid_by number
-process_by number pid is = pids_same pid (pid_by number) (is ∙ same number)
-  where
-    same : (n : ℕ) → n ≡ number_of (pid_by n)
-    same zero = refl
-    same (suc n) = refl
+use Rattle.bz_serve.specs.RequestSteps.{Doing, asking, asking_batch, asking_single, keeping, query_by, stepping, target_form, unless_refused}
 
 -- what is left where a call doesn't fail
 leaves_unless_failed : {A S : Type 0} (result : Result A Error) (old expected now : S) → Leaves result old expected now → LeavesUnlessFailed result expected now
@@ -87,21 +77,21 @@ module _ {A D R X : Type 0} (looks : files_trait.Ghosts X) (source : Source) (re
         most : ReadsOne looks before after
         most = subst (λ (f : SourceForm). OnFileForm f (λ file. ReadsOne looks before after)) is promise.most
 
-        by_others : (expected : Kept) → now.processes ≡ old.processes → LeavesUnlessFailed result expected (kept_of (record old { files = now.files })) → LeavesUnlessFailed result expected (kept_of now)
-        by_others expected same left = subst (λ (kept : Kept). LeavesUnlessFailed result expected kept) (sym (ap (λ (p : KeptProcesses D R). kept_of (record now { processes = p })) same)) left
+        by_others : (expected : KeptState) → now.processes ≡ old.processes → LeavesUnlessFailed result expected (kept_of (record old { files = now.files })) → LeavesUnlessFailed result expected (kept_of now)
+        by_others expected same left = subst (λ (kept : KeptState). LeavesUnlessFailed result expected kept) (sym (ap (λ (p : KeptProcesses D R). kept_of (record now { processes = p })) same)) left
 
   -- what holds unless a process is asked holds where a file is
   unless_process : {P : Type 0} (file : FileSource) → form_of source ≡ OneFile file → UnlessProcessForm (form_of source) P → P
   unless_process {P} file is holds = subst (λ (f : SourceForm). UnlessProcessForm f P) is holds
 
   -- a process, by its steps
-  module _ {B : Type 0} (own : ℕ) (reading : A → B) (step : Kept → stepped.Step B) where
+  module _ {B : Type 0} (own : ℕ) (reading : A → B) (step : KeptState → stepped.Step B) where
     does_steps : now.files ≡ record old.files { elf = now.files.elf } → now.processes.mappings ≡ old.processes.mappings →
         TakesStep looks own reading (step (kept_of old)) result (caches_of old.files.elf old.processes) (caches_of now.files.elf now.processes) before after →
         Does looks reading (stepping step) result (kept_of old) (kept_of now) before after
     does_steps rest mappings takes = record {
       answer = λ world told. (takes.told world told).answer;
-      state = λ world told. subst (λ (kept : Kept). LeavesUnlessFailed result (with_caches (kept_of old) (step (kept_of old) world (caches_in (kept_of old))).left) kept) (sym same) (left_as result (λ (caches : ProcessCaches). with_caches (kept_of old) caches) _ (caches_of now.files.elf now.processes) (takes.told world told).left);
+      state = λ world told. subst (λ (kept : KeptState). LeavesUnlessFailed result (with_caches (kept_of old) (step (kept_of old) world (caches_in (kept_of old))).left) kept) (sym same) (left_as result (λ (caches : ProcessCaches). with_caches (kept_of old) caches) _ (caches_of now.files.elf now.processes) (takes.told world told).left);
       reads = λ world told. (takes.told world told).opened;
       looked = takes.looked;
     }
@@ -149,7 +139,7 @@ by_file P map_files own (made_targets.Process number) addrs source form (inr (in
 by_file P map_files own (made_targets.Process number) addrs source form (inr (inr is)) holds = cc is.1
 
 -- what keeping something leaves: an answer what is expected, and a refusal what was
-keeps_state : {D R : Type 0} (result : Result (Unit {0}) Error) (answer : Result (Unit {0}) Error) (left old now : WholeState D R) → Comes (λ (done : Unit {0}). done) answer result →
+keeps_state : {D R : Type 0} (result : Result (Unit {0}) Error) (answer : Result (Unit {0}) Error) (left old now : WholeState D R) → GivesOrFaults (λ (done : Unit {0}). done) answer result →
     OnOk result (now ≡ left) → OnErr result (now ≡ old) → LeavesUnlessFailed result (unless_refused answer (kept_of old) (kept_of left)) (kept_of now)
 keeps_state (Ok done) answer left old now comes ok err = rw comes (ap kept_of ok)
 keeps_state (Err errors.ReadFault) answer left old now comes ok err = tt

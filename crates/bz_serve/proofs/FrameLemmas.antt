@@ -4,7 +4,7 @@ use Rattle.std.specs.Str.{IsUtf8, is_utf8}
 use Rattle.std.proofs.lemmas.Str.{is_utf8-from_IsUtf8, IsUtf8-from_is_utf8}
 use Rattle.bz_requests.specs.Addresses.{IsAddress, address_in}
 use Rattle.bz_requests.specs.Fields.{AreFields, fields}
-use Rattle.bz_requests.specs.Lines.{Agrees}
+use Rattle.bz_requests.specs.Lines.{ReadsAsSpelled}
 use Rattle.bz_requests.proofs.AddressLemmas.{address_found, address_again}
 use Rattle.bz_requests.proofs.FieldLemmas.{are_fields, fields_are}
 use Rattle.bz_requests.proofs.OptionLemmas.{map_some, then_some}
@@ -83,5 +83,5 @@ frame_again text frame is =
     ∙ rw (text_some frame.file.0 is.name_is_text, text_some frame.file.1 is.id_is_text, address_again is.addr frame.offset is.offset) refl
 
 -- so reader and relation agree
-pub frame_agrees : Agrees frame_in IsFrame
+pub frame_agrees : ReadsAsSpelled frame_in IsFrame
 frame_agrees b content frame = (frame_found (b ∷ content) frame, frame_again (b ∷ content) frame)

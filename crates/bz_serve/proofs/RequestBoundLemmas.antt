@@ -20,7 +20,7 @@ use Rattle.bz_process.specs.Asked.{Asked, asked_of}
 use Rattle.bz_process.specs.Caches.{ProcessCaches}
 use Rattle.bz_process.specs.Caching.{Caching, after_mappings, caches_perf_map, caches_process, pins_perf_map}
 use Rattle.bz_process.specs.Mapped.{asks_process, asks_process_at, checked, some_mappings}
-use Rattle.bz_process.specs.Process.{Outcome, at_address, at_addresses, by_id, by_kept, count_of, followed, pid_cmp, remember, unsaid}
+use Rattle.bz_process.specs.Process.{StepOutcome, at_address, at_addresses, by_id, by_kept, count_of, followed, pid_cmp, remember, unsaid}
 use Rattle.bz_process.specs.Processes.{kept_mappings}
 use Rattle.bz_process.specs.Reads.{HasPath, left_to_read, perf_path, reads_again, unkept}
 use Rattle.bz_process.specs.Remembered.{Remembered}
@@ -29,10 +29,11 @@ use Rattle.bz_process.proofs.ProcessLemmas.{reaches_same}
 use Rattle.bz_process.proofs.ReadsLemmas as process
 use Rattle.bz_process.proofs.ReadsLemmas.{count_le}
 use Rattle.bz_requests.specs.Requests.{Request, Batch, CacheElf, CacheProcess, EvictElf, EvictProcess, Single, Target, Breakpad, Elf, Gsym, Process}
-use Rattle.bz_symq.specs.Kept.{Kept, caches_in}
+use Rattle.bz_symq.specs.Kept.{KeptState, caches_in}
+use Rattle.bz_symq.specs.Processes.{pid_of}
 use Rattle.bz_serve.specs.RequestBounds.{batch_reads, caching_reads, mapped_paths, path_by, process_reads, request_reads, requests_read, told_paths, with_path}
 use Rattle.bz_serve.specs.RequestRuns.{reads_from}
-use Rattle.bz_serve.specs.RequestSteps.{pid_by, query_by, step}
+use Rattle.bz_serve.specs.RequestSteps.{query_by, step}
 
 -- a path that is added is there, and so are those that were
 has_added : (path : List ℕ) (paths : List (List ℕ)) (known : Bool) → list_any (bytes_eq path) paths ≡ known → Contains (cond known paths (path ∷ paths)) path
@@ -82,7 +83,7 @@ module _ (asked : Asked) (world : World) (start : ProcessCaches) where
   perf_among : (known : Remembered) → recalled ≡ Ok known → Contains (perf_path recalled) known.perf_map
   perf_among known is = subst (λ (r : Result Remembered Error). Contains (perf_path r) known.perf_map) (sym is) (0, omega arith, refl)
 
-  abbrev batch_by : List ℕ → Result (List Mapping) Error → ProcessCaches → ℕ → Outcome (List Answer)
+  abbrev batch_by : List ℕ → Result (List Mapping) Error → ProcessCaches → ℕ → StepOutcome (List Answer)
   batch_by addrs told kept opens = followed told kept opens (λ mappings l. at_addresses asked mappings (map unsaid addrs) world l)
 
   -- a batch by the mappings that are told
@@ -127,7 +128,7 @@ open_le cache path world = by_fixed (is_some (fixed cache path))
 
 module _ (pid : Pid) (own : ℕ) (world : World) (kept : ProcessCaches) where
   -- the perf map of what is remembered, or would be, is pinned
-  abbrev pinned_opens : Outcome Remembered → ℕ
+  abbrev pinned_opens : StepOutcome Remembered → ℕ
   pinned_opens first = (followed first.answer first.left first.opens (λ known left. pins_perf_map known.perf_map world left)).opens
 
   abbrev perf_left : Result Remembered Error → ℕ
@@ -160,27 +161,27 @@ pub caching_bounded : (asked : Caching) (world : World) (kept : ProcessCaches) �
 caching_bounded asked world kept = mapped_bounded asked.pid asked.own world kept asked.vmas asked.perf_map
 
 module _ (map_files : Bool) (own : ℕ) where
-  batch_request : (target : Target) (addrs : List ℕ) (kept : Kept) (world : World) → (step map_files own (Batch target addrs) kept world).reads ≤ request_reads map_files own (Batch target addrs) kept world
+  batch_request : (target : Target) (addrs : List ℕ) (kept : KeptState) (world : World) → (step map_files own (Batch target addrs) kept world).reads ≤ request_reads map_files own (Batch target addrs) kept world
   batch_request (Breakpad path) addrs kept world = omega arith
   batch_request (Gsym path) addrs kept world = omega arith
   batch_request (Elf path) addrs kept world = omega arith
-  batch_request (Process number) addrs kept world = batch_bounded (asked_of own (query_by map_files number)) world (caches_in kept) (kept_mappings kept.processes (pid_by number)) addrs
+  batch_request (Process number) addrs kept world = batch_bounded (asked_of own (query_by map_files number)) world (caches_in kept) (kept_mappings kept.processes (pid_of number)) addrs
 
-  single_request : (target : Target) (addr : ℕ) (kept : Kept) (world : World) → (step map_files own (Single target addr) kept world).reads ≤ request_reads map_files own (Single target addr) kept world
+  single_request : (target : Target) (addr : ℕ) (kept : KeptState) (world : World) → (step map_files own (Single target addr) kept world).reads ≤ request_reads map_files own (Single target addr) kept world
   single_request (Breakpad path) addr kept world = omega arith
   single_request (Gsym path) addr kept world = omega arith
   single_request (Elf path) addr kept world = omega arith
-  single_request (Process number) addr kept world = single_bounded (asked_of own (query_by map_files number)) world (caches_in kept) (kept_mappings kept.processes (pid_by number)) addr
+  single_request (Process number) addr kept world = single_bounded (asked_of own (query_by map_files number)) world (caches_in kept) (kept_mappings kept.processes (pid_of number)) addr
 
-  pub request_bounded : (request : Request) (kept : Kept) (world : World) → (step map_files own request kept world).reads ≤ request_reads map_files own request kept world
+  pub request_bounded : (request : Request) (kept : KeptState) (world : World) → (step map_files own request kept world).reads ≤ request_reads map_files own request kept world
   request_bounded (Batch target addrs) kept world = batch_request target addrs kept world
   request_bounded (Single target addr) kept world = single_request target addr kept world
   request_bounded (CacheElf path) kept world = omega arith
-  request_bounded (CacheProcess number) kept world = caching_bounded (record { pid = pid_by number; own = own; vmas = true; perf_map = true }) world (caches_in kept)
+  request_bounded (CacheProcess number) kept world = caching_bounded (record { pid = pid_of number; own = own; vmas = true; perf_map = true }) world (caches_in kept)
   request_bounded (EvictElf path) kept world = omega arith
   request_bounded (EvictProcess number) kept world = omega arith
 
   -- and requests one after the other
-  pub run_bounded : (turns : List (World × Request)) (kept : Kept) → reads_from (step map_files own) kept turns ≤ requests_read map_files own kept turns
+  pub run_bounded : (turns : List (World × Request)) (kept : KeptState) → reads_from (step map_files own) kept turns ≤ requests_read map_files own kept turns
   run_bounded [] kept = omega arith
   run_bounded (turn ∷ later) kept = omega (arith, request_bounded turn.1 kept turn.0, run_bounded later (step map_files own turn.1 kept turn.0).state)

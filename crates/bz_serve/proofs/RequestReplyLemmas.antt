@@ -11,7 +11,7 @@ use Rattle.bz_symq.specs.Reply.{RepliesTo}
 use Rattle.bz_symq.specs.declared.reply.Reply.{Reply}
 use Rattle.bz_symq.specs.declared.reply.Said.{Said}
 use Rattle.bz_symq.proofs.FaultLemmas.{counts_as, counts_still}
-use Rattle.bz_symq.specs.Kept.{Kept}
+use Rattle.bz_symq.specs.Kept.{KeptState}
 use Rattle.bz_serve.specs.Serving.{Does, Replied, Says, SaysRefusal}
 use Rattle.bz_serve.specs.RequestSteps.{Doing, done_by, forgetting, okay, said}
 
@@ -31,7 +31,7 @@ module _ {F : Type 0} (looks : files_trait.Ghosts F) (before after : F) where
   pub looked_as : {A B : Type 0} → (A → B) → (B → A) → Looked looks before after A → Looked looks before after B
   looked_as to from looked = record { worlds = looked.worlds; pid = looked.pid; faults = counts_as _ _ to from looked.faults }
 
-  module _ {A B : Type 0} (reading : A → B) (texts : B → List ℕ) (doing : Doing B) (old now : Kept) where
+  module _ {A B : Type 0} (reading : A → B) (texts : B → List ℕ) (doing : Doing B) (old now : KeptState) where
     -- an answered call is said by its answer
     pub replied_given : (given : A) (result : Result Said Error) → Does looks reading doing (Ok given) old now before after → Says (texts (reading given)) result →
         Replied looks (done_by texts doing) result old now before after
@@ -73,7 +73,7 @@ module _ {F : Type 0} (looks : files_trait.Ghosts F) (before after : F) where
     })
 
   -- something is forgotten, for which no file is looked at
-  pub replied_forgotten : (asked : ToEvict) (result : Result Said Error) (old now : Kept) → after ≡ before → Says (okay tt) result → now ≡ evicting asked old →
+  pub replied_forgotten : (asked : ToEvict) (result : Result Said Error) (old now : KeptState) → after ≡ before → Says (okay tt) result → now ≡ evicting asked old →
       Replied looks (done_by okay (forgetting asked)) result old now before after
   replied_forgotten asked (Ok say) old now same says is = rw same (record {
     said = λ world told. says;

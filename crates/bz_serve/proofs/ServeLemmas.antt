@@ -12,13 +12,13 @@ use Rattle.bz_symq.specs.Run.{WritesFront}
 use Rattle.bz_symq.specs.Writing.{WritesText}
 use Rattle.bz_symq.specs.declared.reply.Said.{Said}
 use Rattle.bz_symq.proofs.FaultLemmas.{counts_as, counts_still}
-use Rattle.bz_symq.specs.Kept.{Kept}
+use Rattle.bz_symq.specs.Kept.{KeptState}
 use Rattle.bz_serve.specs.Serving.{Replied, Served, StopsAs, stop_by}
-use Rattle.bz_serve.specs.RequestSteps.{Step}
+use Rattle.bz_serve.specs.RequestSteps.{RequestOutcome}
 use Rattle.bz_serve.specs.declared.serving.Stop.{Stop}
 use Rattle.bz_serve.proofs.RequestReplyLemmas.{looked_as}
 
-module _ {W F : Type 0} (writes : output_trait.Ghosts W) (looks : files_trait.Ghosts F) (step : Kept → World → Step) (old now : Kept)
+module _ {W F : Type 0} (writes : output_trait.Ghosts W) (looks : files_trait.Ghosts F) (step : KeptState → World → RequestOutcome) (old now : KeptState)
     (output_before output_after : W) (files_before files_after : F) where
   -- what is said is written, or a front of it
   pub served_said : (say : Said) (put : Result (Unit {0}) IoFault) (result : Result (Unit {0}) Stop) → Replied looks step (Ok say) old now files_before files_after →
@@ -51,7 +51,7 @@ module _ {W F : Type 0} (writes : output_trait.Ghosts W) (looks : files_trait.Gh
     looked = looked_as looks files_before files_after (λ never. absurd never) (λ other. cc) replied.looked;
   })
 
-module _ {W F : Type 0} (writes : output_trait.Ghosts W) (looks : files_trait.Ghosts F) (step : Kept → World → Step) (old now : Kept) (output : W) (files_before files_after : F) where
+module _ {W F : Type 0} (writes : output_trait.Ghosts W) (looks : files_trait.Ghosts F) (step : KeptState → World → RequestOutcome) (old now : KeptState) (output : W) (files_before files_after : F) where
   front_of_none : (text was : List ℕ) → writes.written output ≡ Some was → WritesFront text was (writes.written output)
   front_of_none text was written = ([], text, refl, written ∙ ap Some (sym (append-nil was)))
 

@@ -1,5 +1,6 @@
 -- Requests one after the other: what was written so far, and what is left.
-use Rattle.std.proofs.Common.{◌≡◌, ◌≤◌, ◌+◌, ℕ, List, [], ◌∷◌, ◌++◌, drop, Option, Some, None, option_map, Result, Ok, Err, refl, sym, ap, subst, ◌∙◌, inl, inr, append_assoc, append-nil, arith}
+use Rattle.std.proofs.Common.{◌≡◌, ◌≤◌, ◌<◌, ◌+◌, ℕ, List, [], ◌∷◌, ◌++◌, length, drop, get_or, map, Option, Some, None, option_map, Result, Ok, Err, refl, sym, ap, subst, ◌∙◌, inl, inr, append_assoc, append-nil, arith}
+use Rattle.std.proofs.lemmas.List.{drop_all, drop_more}
 use Rattle.bz_files.specs.Count.{CountsFaults}
 use Rattle.bz_files.specs.World.{World, Told, in_view, next_worlds}
 use Rattle.bz_files.specs.declared.files.Files as files_trait
@@ -9,10 +10,10 @@ use Rattle.bz_requests.specs.declared.requests.Config.{Config}
 use Rattle.bz_symq.specs.Run.{WritesFront}
 use Rattle.bz_symq.specs.declared.status.Status.{Status}
 use Rattle.bz_symq.proofs.FaultLemmas.{counts_as, counts_still, no_fault}
-use Rattle.bz_symq.specs.Kept.{Kept, new_kept, settings_of}
+use Rattle.bz_symq.specs.Kept.{KeptState, new_kept, settings_of}
 use Rattle.bz_serve.specs.RequestRuns.{reads_from, seen_first, texts_from, turns, worlds_after}
 use Rattle.bz_serve.specs.Serving.{EndsAs, Served, Serves, ServesAll, ToldWorlds}
-use Rattle.bz_serve.specs.RequestSteps.{Step, step as request_step}
+use Rattle.bz_serve.specs.RequestSteps.{RequestOutcome, step as request_step}
 use Rattle.bz_serve.specs.declared.serving.Stop.{Stop}
 use Rattle.bz_serve.specs.declared.serving.Stop.TheVariants as stops
 
@@ -75,9 +76,9 @@ fewest : (opens opened one rest reads : ℕ) → opens + (one + rest) ≤ reads 
 fewest opens opened one rest reads few counts = omega (arith, few, counts)
 
 -- by what each request comes to, whatever requests are
-module _ {A : Type 0} (step : A → Kept → World → Step) where
+module _ {A : Type 0} (step : A → KeptState → World → RequestOutcome) where
   -- worlds are told, in which the requests left come to the rest of the text, and read no more than is left of all reads
-  pub record SoFar (text : List ℕ) (reads : ℕ) (state : Kept) (left : List A) (first written : Option (List ℕ)) (opens : ℕ) (told : Option (List World)) : Type 0 where
+  pub record SoFar (text : List ℕ) (reads : ℕ) (state : KeptState) (left : List A) (first written : Option (List ℕ)) (opens : ℕ) (told : Option (List World)) : Type 0 where
     pub world : World
     pub later : List World
     pub told_is : told ≡ Some (world ∷ later)
@@ -85,7 +86,7 @@ module _ {A : Type 0} (step : A → Kept → World → Step) where
     pub few : opens + reads_from step state (turns left (world ∷ later)) ≤ reads
 
   -- a request is to be answered in the next world
-  module _ (text : List ℕ) (reads : ℕ) (state : Kept) (request : A) (left : List A) (first written : Option (List ℕ)) (opens : ℕ) (told begun : Option (List World))
+  module _ (text : List ℕ) (reads : ℕ) (state : KeptState) (request : A) (left : List A) (first written : Option (List ℕ)) (opens : ℕ) (told begun : Option (List World))
       (so_far : SoFar text reads state (request ∷ left) first written opens told) (begins : begun ≡ option_map next_worlds told) where
     abbrev next : List World
     next = next_worlds (so_far.world ∷ so_far.later)
@@ -100,7 +101,7 @@ module _ {A : Type 0} (step : A → Kept → World → Step) where
     in_view_is = ap in_view begun_is
 
     -- it was, and its text was written
-    pub so_far_more : (now : Kept) (after : Option (List ℕ)) (opened : ℕ) → ((was : List ℕ) → written ≡ Some was → after ≡ Some (was ++ (step request state seen).text)) →
+    pub so_far_more : (now : KeptState) (after : Option (List ℕ)) (opened : ℕ) → ((was : List ℕ) → written ≡ Some was → after ≡ Some (was ++ (step request state seen).text)) →
         now ≡ (step request state seen).state → opened ≤ opens + (step request state seen).reads → SoFar text reads now left first after opened begun
     so_far_more now after opened wrote leaves counts = record {
       world = seen;
@@ -111,10 +112,10 @@ module _ {A : Type 0} (step : A → Kept → World → Step) where
     }
       where
         texts_are : texts_from step (step request state seen).state (turns left next) ≡ texts_from step now (turns left (seen ∷ drop 1 next))
-        texts_are = ap (λ (s : Kept). texts_from step s (turns left next)) (sym leaves) ∙ ap (λ (worlds : List World). texts_from step now (turns left worlds)) (next_seen so_far.world so_far.later)
+        texts_are = ap (λ (s : KeptState). texts_from step s (turns left next)) (sym leaves) ∙ ap (λ (worlds : List World). texts_from step now (turns left worlds)) (next_seen so_far.world so_far.later)
 
         reads_are : reads_from step (step request state seen).state (turns left next) ≡ reads_from step now (turns left (seen ∷ drop 1 next))
-        reads_are = ap (λ (s : Kept). reads_from step s (turns left next)) (sym leaves) ∙ ap (λ (worlds : List World). reads_from step now (turns left worlds)) (next_seen so_far.world so_far.later)
+        reads_are = ap (λ (s : KeptState). reads_from step s (turns left next)) (sym leaves) ∙ ap (λ (worlds : List World). reads_from step now (turns left worlds)) (next_seen so_far.world so_far.later)
 
     -- it stopped the run, and a front of its text was written
     pub so_far_front : (after : Option (List ℕ)) → ((was : List ℕ) → written ≡ Some was → WritesFront (step request state seen).text was after) → Told first (λ was. WritesFront text was after)
@@ -127,9 +128,9 @@ module _ {A : Type 0} (step : A → Kept → World → Step) where
     pub so_far_few : (opened : ℕ) → opened ≤ opens + (step request state seen).reads → opened ≤ reads
     so_far_few opened counts = fewest opens opened (step request state seen).reads _ reads so_far.few counts
 
-module _ {A W F : Type 0} (writes : output_trait.Ghosts W) (looks : files_trait.Ghosts F) (step : ℕ → A → Kept → World → Step) where
+module _ {A W F : Type 0} (writes : output_trait.Ghosts W) (looks : files_trait.Ghosts F) (step : ℕ → A → KeptState → World → RequestOutcome) where
   -- so far no request stopped the run
-  pub record ServedSoFar (requests left : List A) (start state : Kept) (output_first output : W) (files_first files : F) : Type 0 where
+  pub record ServedSoFar (requests left : List A) (start state : KeptState) (output_first output : W) (files_first files : F) : Type 0 where
     pub so_far : ToldWorlds (looks.worlds files_first) (λ worlds.
         SoFar (step (looks.pid files_first)) (texts_from (step (looks.pid files_first)) start (turns requests worlds)) (looks.opens files_first + reads_from (step (looks.pid files_first)) start (turns requests worlds))
         state left (writes.written output_first) (writes.written output) (looks.opens files) (looks.worlds files))
@@ -140,7 +141,7 @@ module _ {A W F : Type 0} (writes : output_trait.Ghosts W) (looks : files_trait.
     pub pid : looks.pid files ≡ looks.pid files_first
 
   -- before the first one
-  pub served_none : (requests : List A) (start : Kept) (output : W) (files : F) → ServedSoFar requests requests start start output output files files
+  pub served_none : (requests : List A) (start : KeptState) (output : W) (files : F) → ServedSoFar requests requests start start output output files files
   served_none requests start output files = record {
     so_far = λ world later told. record {
       world = world;
@@ -156,7 +157,7 @@ module _ {A W F : Type 0} (writes : output_trait.Ghosts W) (looks : files_trait.
     pid = refl;
   }
 
-  module _ (requests left : List A) (request : A) (start state now : Kept) (output_first output output_now : W) (files_first files begun files_now : F)
+  module _ (requests left : List A) (request : A) (start state now : KeptState) (output_first output output_now : W) (files_first files begun files_now : F)
       (so_far : ServedSoFar requests (request ∷ left) start state output_first output files_first files)
       (begins : looks.worlds begun ≡ option_map next_worlds (looks.worlds files)) (same_faults : looks.faults begun ≡ looks.faults files) (same_opens : looks.opens begun ≡ looks.opens files)
       (same_pid : looks.pid begun ≡ looks.pid files) where
@@ -208,7 +209,7 @@ module _ {A W F : Type 0} (writes : output_trait.Ghosts W) (looks : files_trait.
         }
 
   -- none is left
-  pub served_all : {given : Unit {0}} (requests : List A) (start state : Kept) (output_first output : W) (files_first files : F) →
+  pub served_all : {given : Unit {0}} (requests : List A) (start state : KeptState) (output_first output : W) (files_first files : F) →
       ServedSoFar requests [] start state output_first output files_first files → ServesAll writes looks step requests (Ok given) start output_first output files_first files
   served_all requests start state output_first output files_first files all = record {
     whole = λ world later told was written.
@@ -222,6 +223,21 @@ module _ {A W F : Type 0} (writes : output_trait.Ghosts W) (looks : files_trait.
     files_faults = counts_still _ _ _ (λ never. never) all.files_steady;
     pid = all.pid;
   }
+
+-- requests that are gone over by an index, each read as it is told
+module _ {M A W F : Type 0} (writes : output_trait.Ghosts W) (looks : files_trait.Ghosts F) (step : ℕ → A → KeptState → World → RequestOutcome) (read : M → A) (requests : List M) (index : ℕ)
+    (start state : KeptState) (output_first output : W) (files_first files : F) where
+  abbrev WithLeft : List A → Type 0
+  WithLeft left = ServedSoFar writes looks step (map read requests) left start state output_first output files_first files
+
+  -- the next one is the first of those that are left
+  pub next_left : (request : M) → index < length requests → request ≡ get_or requests index request → WithLeft (map read (drop index requests)) → WithLeft (read request ∷ map read (drop (index + 1) requests))
+  next_left request within is so_far =
+      subst (λ (left : List M). WithLeft (map read left)) (drop_more requests index request within ∙ ap (λ first. first ∷ drop (index + 1) requests) (sym is)) so_far
+
+  -- past the last one none is left
+  pub none_left : length requests ≤ index → WithLeft (map read (drop index requests)) → WithLeft []
+  none_left past so_far = subst (λ (left : List M). WithLeft (map read left)) (drop_all index requests past) so_far
 
 module _ {W F : Type 0} (writes : output_trait.Ghosts W) (looks : files_trait.Ghosts F) where
   -- the run ends by what stopped it

@@ -19,7 +19,7 @@ use Rattle.bz_symq.specs.declared.status.Status.{Status}
 use Rattle.bz_symq.specs.declared.status.Status.TheVariants as statuses
 use Rattle.bz_serve.specs.FrameText.{frame_texts}
 
--- how many symbol files are kept
+-- how many symbol files are kept at most
 abbrev pub capacity : ℕ
 capacity = 64
 

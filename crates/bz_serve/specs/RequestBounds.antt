@@ -16,8 +16,9 @@ use Rattle.bz_process.specs.Process.{count_of, remember, unsaid}
 use Rattle.bz_process.specs.Processes.{kept_mappings}
 use Rattle.bz_process.specs.Reads.{left_to_read, perf_path, reads_again, reads_once}
 use Rattle.bz_requests.specs.Requests.{Request, Batch, CacheElf, CacheProcess, EvictElf, EvictProcess, Single, Target, Breakpad, Elf, Gsym, Process}
-use Rattle.bz_symq.specs.Kept.{Kept, caches_in}
-use Rattle.bz_serve.specs.RequestSteps.{pid_by, query_by, step}
+use Rattle.bz_symq.specs.Kept.{KeptState, caches_in}
+use Rattle.bz_symq.specs.Processes.{pid_of}
+use Rattle.bz_serve.specs.RequestSteps.{query_by, step}
 
 -- the paths with one more, if it isn't there
 abbrev pub with_path : Option (List ℕ) → List (List ℕ) → List (List ℕ)
@@ -40,7 +41,7 @@ abbrev pub told_paths : Asked → List ℕ → Result (List Mapping) Error → L
 told_paths asked addrs (Ok mappings) = mapped_paths asked addrs mappings
 told_paths asked addrs (Err e) = []
 
--- what addresses of a process may have read once: the text of its mappings, its status,
+-- what addresses of a process may have read once. It is the text of its mappings, its status,
 -- and each mapped file and perf map whose present stamp isn't kept
 abbrev pub process_reads : Asked → Option (List Mapping) → List ℕ → World → ProcessCaches → ℕ
 process_reads asked known addrs world kept = reads_once asked world (told_paths asked addrs (some_mappings asked.pid known world kept).answer) known kept
@@ -50,7 +51,7 @@ abbrev pub batch_reads : Asked → Option (List Mapping) → List ℕ → World 
 batch_reads asked known addrs world kept =
     process_reads asked known addrs world kept + reads_again (λ answers. answers) addrs (asks_process asked known (map unsaid addrs) world kept).answer
 
--- what keeping a process may have read, as far as each is asked for: the text of its mappings, kept or not, its status,
+-- what keeping a process may have read, as far as each is asked for. It is the text of its mappings, kept or not, its status,
 -- and its perf map if the present stamp isn't kept
 abbrev pub caching_reads : Caching → World → ProcessCaches → ℕ
 caching_reads asked world kept =
@@ -63,22 +64,22 @@ file_reads cache path world = count_of (will_open cache path (entry_at world pat
 -- by the setting for paths that stand for mappings, and the id of the own process
 module _ (map_files : Bool) (own : ℕ) where
   -- what is asked of a target: of a process by how it is asked, and by the mappings that are kept of it
-  abbrev pub target_reads : (Asked → Option (List Mapping) → ℕ) → Target → Kept → World → ℕ
+  abbrev pub target_reads : (Asked → Option (List Mapping) → ℕ) → Target → KeptState → World → ℕ
   target_reads of_process (Breakpad path) kept world = file_reads kept.files.breakpad path world
   target_reads of_process (Gsym path) kept world = file_reads kept.files.gsym path world
   target_reads of_process (Elf path) kept world = file_reads kept.files.elf path world
-  target_reads of_process (Process number) kept world = of_process (asked_of own (query_by map_files number)) (kept_mappings kept.processes (pid_by number))
+  target_reads of_process (Process number) kept world = of_process (asked_of own (query_by map_files number)) (kept_mappings kept.processes (pid_of number))
 
   -- a request; a path that is to be kept is looked at as if it weren't pinned
-  abbrev pub request_reads : Request → Kept → World → ℕ
+  abbrev pub request_reads : Request → KeptState → World → ℕ
   request_reads (Batch target addrs) kept world = target_reads (λ asked known. batch_reads asked known addrs world (caches_in kept)) target kept world
   request_reads (Single target addr) kept world = target_reads (λ asked known. process_reads asked known (addr ∷ []) world (caches_in kept)) target kept world
   request_reads (CacheElf path) kept world = file_reads (with_pin false kept.files.elf path) path world
-  request_reads (CacheProcess number) kept world = caching_reads (record { pid = pid_by number; own = own; vmas = true; perf_map = true }) world (caches_in kept)
+  request_reads (CacheProcess number) kept world = caching_reads (record { pid = pid_of number; own = own; vmas = true; perf_map = true }) world (caches_in kept)
   request_reads (EvictElf path) kept world = 0
   request_reads (EvictProcess number) kept world = 0
 
   -- requests one after the other, each in its world and in the state that those before it left
-  abbrev pub requests_read : Kept → List (World × Request) → ℕ
+  abbrev pub requests_read : KeptState → List (World × Request) → ℕ
   requests_read kept [] = 0
   requests_read kept (turn ∷ later) = request_reads turn.1 kept turn.0 + requests_read (step map_files own turn.1 kept turn.0).state later

@@ -4,8 +4,8 @@ use Rattle.std.specs.FinMap as finite_map
 use Rattle.bz_files.specs.World.{World, next_worlds}
 use Rattle.bz_requests.specs.Requests.{Request}
 use Rattle.bz_requests.specs.declared.requests.Config.{Config}
-use Rattle.bz_symq.specs.Kept.{Kept, new_kept, settings_of}
-use Rattle.bz_serve.specs.RequestSteps.{Step, step}
+use Rattle.bz_symq.specs.Kept.{KeptState, new_kept, settings_of}
+use Rattle.bz_serve.specs.RequestSteps.{RequestOutcome, step}
 
 -- the world in view of a list, which has one
 abbrev pub seen_first : List World → World
@@ -22,14 +22,14 @@ abbrev pub worlds_after : {A : Type 0} → List A → List World → List World
 worlds_after [] worlds = worlds
 worlds_after (request ∷ later) worlds = worlds_after later (next_worlds worlds)
 
-module _ {A : Type 0} (step : A → Kept → World → Step) where
+module _ {A : Type 0} (step : A → KeptState → World → RequestOutcome) where
   -- all that is written, one step after the other
-  abbrev pub texts_from : Kept → List (World × A) → List ℕ
+  abbrev pub texts_from : KeptState → List (World × A) → List ℕ
   texts_from kept [] = []
   texts_from kept (turn ∷ later) = (step turn.1 kept turn.0).text ++ texts_from (step turn.1 kept turn.0).state later
 
   -- how many files are read at most, one step after the other
-  abbrev pub reads_from : Kept → List (World × A) → ℕ
+  abbrev pub reads_from : KeptState → List (World × A) → ℕ
   reads_from kept [] = 0
   reads_from kept (turn ∷ later) = (step turn.1 kept turn.0).reads + reads_from (step turn.1 kept turn.0).state later
 

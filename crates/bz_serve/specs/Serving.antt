@@ -9,7 +9,7 @@ use Rattle.bz_files.specs.declared.files.Files as files_trait
 use Rattle.bz_files.specs.declared.text.IoFault.{IoFault}
 use Rattle.bz_files.specs.declared.text.IoFault.TheVariants as faults
 use Rattle.bz_files.specs.declared.text.TextOut as output_trait
-use Rattle.bz_cache.specs.Format.{Comes}
+use Rattle.bz_cache.specs.Format.{GivesOrFaults}
 use Rattle.bz_process.specs.ProcessCall.{LeavesUnlessFailed}
 use Rattle.bz_requests.specs.Requests.{Request}
 use Rattle.bz_requests.specs.declared.requests.Config.{Config}
@@ -19,9 +19,9 @@ use Rattle.bz_symq.specs.Run.{Ends, IsOrFails, WritesFront}
 use Rattle.bz_symq.specs.declared.reply.Said.{Said}
 use Rattle.bz_symq.specs.declared.status.Status.{Status}
 use Rattle.bz_symq.specs.declared.status.Status.TheVariants as statuses
-use Rattle.bz_symq.specs.Kept.{Kept}
+use Rattle.bz_symq.specs.Kept.{KeptState}
 use Rattle.bz_serve.specs.RequestRuns.{reads_from, run_reads, run_text, texts_from, turns, worlds_after}
-use Rattle.bz_serve.specs.RequestSteps.{Doing, Step}
+use Rattle.bz_serve.specs.RequestSteps.{Doing, RequestOutcome}
 use Rattle.bz_serve.specs.declared.serving.Stop.{Stop}
 use Rattle.bz_serve.specs.declared.serving.Stop.TheVariants as stops
 
@@ -58,14 +58,14 @@ abbrev pub ToldWorlds : Option (List World) → (List World → Type 0) → Type
 ToldWorlds told P = (world : World) (later : List World) → told ≡ Some (world ∷ later) → P (world ∷ later)
 
 -- a call of a symbolizer does what is expected of it in the world in view
-pub record Does {A B F : Type 0} (looks : files_trait.Ghosts F) (reading : A → B) (doing : Doing B) (result : Result A Error) (old now : Kept) (before after : F) : Type 0 where
-  pub answer : Told (in_view (looks.worlds before)) (λ world. Comes reading (doing.answer old world) result)
+pub record Does {A B F : Type 0} (looks : files_trait.Ghosts F) (reading : A → B) (doing : Doing B) (result : Result A Error) (old now : KeptState) (before after : F) : Type 0 where
+  pub answer : Told (in_view (looks.worlds before)) (λ world. GivesOrFaults reading (doing.answer old world) result)
   pub state : Told (in_view (looks.worlds before)) (λ world. LeavesUnlessFailed result (doing.after old world) now)
   pub reads : Told (in_view (looks.worlds before)) (λ world. looks.opens after ≤ looks.opens before + doing.reads old world)
   pub looked : Looked looks before after (Faulted result)
 
 -- what is said to a request, and what it leaves: those of its step in the world in view
-pub record Replied {F : Type 0} (looks : files_trait.Ghosts F) (step : Kept → World → Step) (result : Result Said Error) (old now : Kept) (before after : F) : Type 0 where
+pub record Replied {F : Type 0} (looks : files_trait.Ghosts F) (step : KeptState → World → RequestOutcome) (result : Result Said Error) (old now : KeptState) (before after : F) : Type 0 where
   pub said : Told (in_view (looks.worlds before)) (λ world. IfOk result (λ given. text_of given ≡ (step old world).text))
   pub state : Told (in_view (looks.worlds before)) (λ world. OnOk result (now ≡ (step old world).state))
   pub reads : Told (in_view (looks.worlds before)) (λ world. looks.opens after ≤ looks.opens before + (step old world).reads)
@@ -73,8 +73,8 @@ pub record Replied {F : Type 0} (looks : files_trait.Ghosts F) (step : Kept → 
   pub looked : Looked looks before after (Faulted result)
 
 -- a request was answered in the world in view, and its text was written, or a front of it; of an empty text nothing was
-pub record Served {W F : Type 0} (writes : output_trait.Ghosts W) (looks : files_trait.Ghosts F) (step : Kept → World → Step) (result : Result (Unit {0}) Stop)
-    (old now : Kept) (output_before output_after : W) (files_before files_after : F) : Type 0 where
+pub record Served {W F : Type 0} (writes : output_trait.Ghosts W) (looks : files_trait.Ghosts F) (step : KeptState → World → RequestOutcome) (result : Result (Unit {0}) Stop)
+    (old now : KeptState) (output_before output_after : W) (files_before files_after : F) : Type 0 where
   pub whole : Told (in_view (looks.worlds files_before)) (λ world. Told (writes.written output_before) (λ was.
       OnOk result (writes.written output_after ≡ Some (was ++ (step old world).text))))
   pub front : Told (in_view (looks.worlds files_before)) (λ world. Told (writes.written output_before) (λ was.
@@ -85,10 +85,10 @@ pub record Served {W F : Type 0} (writes : output_trait.Ghosts W) (looks : files
   pub output_faults : CountsFaults (writes.faults output_before) (writes.faults output_after) (StopsBy stops.Output result)
   pub looked : Looked looks files_before files_after (StopsBy stops.Files result)
 
--- requests were answered, each in its world, and their texts were written, or a front of them;
--- nothing is written where they are empty, and each may depend on the id of the own process
-pub record ServesAll {A W F : Type 0} (writes : output_trait.Ghosts W) (looks : files_trait.Ghosts F) (step : ℕ → A → Kept → World → Step) (requests : List A) (result : Result (Unit {0}) Stop)
-    (old : Kept) (output_before output_after : W) (files_before files_after : F) : Type 0 where
+-- requests were answered, each in its world, and their texts were written, or a front of them. Nothing is written where these
+-- are empty. What a request comes to may depend on the id of the own process
+pub record ServesAll {A W F : Type 0} (writes : output_trait.Ghosts W) (looks : files_trait.Ghosts F) (step : ℕ → A → KeptState → World → RequestOutcome) (requests : List A) (result : Result (Unit {0}) Stop)
+    (old : KeptState) (output_before output_after : W) (files_before files_after : F) : Type 0 where
   pub whole : ToldWorlds (looks.worlds files_before) (λ worlds. Told (writes.written output_before) (λ was.
       OnOk result (writes.written output_after ≡ Some (was ++ texts_from (step (looks.pid files_before)) old (turns requests worlds)))))
   pub front : ToldWorlds (looks.worlds files_before) (λ worlds. Told (writes.written output_before) (λ was.

@@ -12,7 +12,7 @@ ghost use Rattle.bz_serve.specs.RequestBounds.{batch_reads, caching_reads, reque
 ghost use Rattle.bz_serve.specs.RequestRuns.{run_reads, turns};
 ghost use Rattle.bz_serve.specs.RequestSteps.{step};
 ghost use Rattle.bz_store.specs.Frames.{Frame};
-ghost use Rattle.bz_symq.specs.Kept.{Kept, new_kept, settings_of};
+ghost use Rattle.bz_symq.specs.Kept.{KeptState, new_kept, settings_of};
 ghost use Rattle.bz_symq.specs.Processes.{asked_by, nothing_kept, process_batch};
 
 /// A request reads no more files than what is kept leaves to read. A file may be read where its present
@@ -22,7 +22,7 @@ ghost use Rattle.bz_symq.specs.Processes.{asked_by, nothing_kept, process_batch}
 /// than the sum of these, each in its state and its world. A run of one batch reads no more than that
 /// batch, where nothing is kept.
 pub fn requests_read_few()
-    ensures request { (map_files : Bool) (own : ℕ) (request : Request) (kept : Kept) (world : World) → (step map_files own request kept world).reads ≤ request_reads map_files own request kept world }
+    ensures request { (map_files : Bool) (own : ℕ) (request : Request) (kept : KeptState) (world : World) → (step map_files own request kept world).reads ≤ request_reads map_files own request kept world }
     ensures run { (config : Config) (requests : List Request) (worlds : List World) (own : ℕ) → run_reads config requests worlds own ≤ requests_read config.map_files own (new_kept (settings_of config)) (turns requests worlds) }
     ensures batch { (config : Config) (number own : ℕ) (addrs : List ℕ) (world : World) → (process_batch config number own addrs world).opens ≤ batch_reads (asked_by config number own) None addrs world (nothing_kept config) }
     ensures caching { (asked : Caching) (world : World) (kept : ProcessCaches) → (caches_process asked world kept).opens ≤ caching_reads asked world kept }

@@ -1,14 +1,11 @@
 -- What is replied where a file is converted, and where it is refused.
-use Rattle.std.proofs.Common.{◌≡◌, ◌≢◌, ℕ, List, length, Result, Ok, Err, IfOk, sym, ap, ◌∙◌}
+use Rattle.std.proofs.Common.{◌≡◌, ◌≢◌, ℕ, List, Result, Ok, Err, IfOk, sym, ap, ◌∙◌}
 use Rattle.bz_base.specs.declared.error.Error.{Error}
 use Rattle.bz_breakpad.specs.Table.{Table}
-use Rattle.bz_convert.specs.Fault.{fault_in}
-use Rattle.bz_convert.specs.Plan.{plan}
 use Rattle.bz_convert.specs.declared.error.ConvertError.{ConvertError}
 use Rattle.bz_convert.specs.declared.error.ConvertError.TheVariants.{OutOfMemory}
-use Rattle.bz_converting.proofs.ConversionLemmas.{converted, refused}
-use Rattle.bz_converting.specs.Converted.{IsConversion, Refuses, conversion}
-use Rattle.bz_gsym_layout.specs.Layout.{layout}
+use Rattle.bz_converting.proofs.ConversionLemmas.{converted}
+use Rattle.bz_converting.specs.Converted.{IsConversion, conversion}
 use Rattle.bz_symq.specs.Outcome.{Outcome, by_product}
 use Rattle.bz_symq.specs.Products.{by_conversion}
 use Rattle.bz_symq.specs.Reply.{outcome_of}
@@ -22,8 +19,8 @@ module _ (table : Table) where
   pub converted_reply : (bytes : List ℕ) (reply : Reply) → IsConversion table bytes → outcome_of reply ≡ by_product (Ok bytes) → outcome_of reply ≡ by_product (by_conversion (conversion table))
   converted_reply bytes reply is replied = replied ∙ ap by_converted (sym (converted table bytes is))
 
-  pub unconverted_reply : (e : ConvertError) (result : Result Reply Error) → Refuses e (fault_in table) (length (layout (plan table))) →
+  pub unconverted_reply : (e : ConvertError) (result : Result Reply Error) → (e ≢ OutOfMemory → conversion table ≡ Err e) →
       IfOk result (λ given. (e ≢ OutOfMemory) × (outcome_of given ≡ by_product (by_conversion (Err e)))) →
       IfOk result (λ given. outcome_of given ≡ by_product (by_conversion (conversion table)))
-  unconverted_reply e (Ok reply) cause replied = replied.1 ∙ ap by_converted (sym (refused table e replied.0 cause))
-  unconverted_reply e (Err error) cause replied = tt
+  unconverted_reply e (Ok reply) refuses replied = replied.1 ∙ ap by_converted (sym (refuses replied.0))
+  unconverted_reply e (Err error) refuses replied = tt

@@ -71,6 +71,7 @@ module _ {R W F : Type 0} (reads : input_trait.Ghosts R) (writes : output_trait.
     done = λ done text left world seen old written. done_from_ends _ _ _ _ _ _ (rw done at (ends text left world seen old written));
     answered = λ done text left old written. given.answered text left (by_reply statuses.Done done_no_failure done) old _ ((rw done at (finished.ends old written)).1);
     refused = λ refused text left world seen old written. refused_from_ends _ _ _ _ _ _ (rw refused at (ends text left world seen old written));
+    refusal = λ refused text left old written. given.refusal text left (by_reply statuses.Refused refused_no_failure refused) old _ ((rw refused at (finished.ends old written)).1);
     usage = λ usage. given.usage (by_reply statuses.Usage usage_no_failure usage);
     input = λ text left. (
       λ bad. (given.input text left).0 (by_reply statuses.Input input_no_failure bad),
@@ -118,6 +119,7 @@ module _ {R W F : Type 0} (reads : input_trait.Ghosts R) (writes : output_trait.
     done = λ done. absurd (never ended statuses.Done done_no_failure failed done);
     answered = λ done. absurd (never ended statuses.Done done_no_failure failed done);
     refused = λ refused. absurd (never ended statuses.Refused refused_no_failure failed refused);
+    refusal = λ refused. absurd (never ended statuses.Refused refused_no_failure failed refused);
     usage = λ usage. never ended statuses.Usage usage_no_failure failed usage;
     input = λ text left. (λ bad. absurd (never ended statuses.Input input_no_failure failed bad), λ bad. inr failed);
     complete = λ text left world seen is. inr failed;

@@ -5,7 +5,7 @@ use Rattle.std.proofs.lemmas.List.{length-drop, nil_from_length}
 use Rattle.std.proofs.Math.Seq.{drop-append_seam, drop-append-add}
 use Rattle.bz_files.specs.World.{Told}
 use Rattle.bz_requests.specs.Addresses.{AreAddresses, IsAddress, address_in, addresses_in}
-use Rattle.bz_requests.specs.Lines.{Agrees, items_in}
+use Rattle.bz_requests.specs.Lines.{ReadsAsSpelled, items_in}
 use Rattle.bz_requests.proofs.AddressLemmas.{address_agrees}
 use Rattle.bz_requests.proofs.LineGrammarLemmas as lines
 use Rattle.bz_requests.proofs.LineGrammarLemmas.{items_found, items_again}
@@ -70,7 +70,7 @@ pub first_bad_again : (text : List ℕ) (n : ℕ) → IsFirstBad text n → addr
 first_bad_again text n bad = lines.first_bad_again address_in IsAddress address_agrees text n bad
 
 -- What an input of lines asks for, and when it is bad, where reader and relation agree.
-module _ {A : Type 0} (reads : List ℕ → Option A) (Spells : List ℕ → A → Type 0) (agrees : Agrees reads Spells) (text : List ℕ) where
+module _ {A : Type 0} (reads : List ℕ → Option A) (Spells : List ℕ → A → Type 0) (agrees : ReadsAsSpelled reads Spells) (text : List ℕ) where
   -- an input whose lines aren't read is a bad one
   pub bad_from_read : (read : Result (List A) ℕ) → items_in reads text ≡ read → IsErr read → IsBadInput Spells text
   bad_from_read (Ok items) is bad = cc

@@ -1,10 +1,12 @@
+pub use Rattle.bz_lookups.proofs.BatchLemmas
+pub mod CauseLemmas
 mod ConversionLemmas
 pub mod EndLemmas
 pub mod FaultLemmas
 pub mod InputTextLemmas
 mod OpenLemmas
 mod OutputLemmas
-mod ProcessLemmas
+pub mod ProcessLemmas
 mod ProductLemmas
 mod ReadLemmas
 pub mod ReplyLemmas

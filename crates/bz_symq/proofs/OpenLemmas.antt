@@ -9,7 +9,7 @@ use Rattle.bz_files.specs.Count.{counted}
 use Rattle.bz_files.specs.World.{Entry}
 use Rattle.bz_files.specs.World.Entry.{Denied, Present}
 use Rattle.bz_cache.specs.Cache.{new_cache, stamp_cmp, PathState}
-use Rattle.bz_cache.specs.Format.{Comes}
+use Rattle.bz_cache.specs.Format.{GivesOrFaults}
 use Rattle.bz_cache.specs.Look.{opens_after, will_open}
 use Rattle.bz_symbolize.specs.Lookup.{fresh_answer}
 
@@ -23,7 +23,7 @@ opens_present reload given path (Some (Present s b)) answers before after is ope
 
 -- where its answers are given, the file was read
 pub opened_new : {A : Type 0} (view : A → List Answer) (reload : Bool) (given : List ℕ → Result (List Answer) Error) (path : List ℕ) (there : Option Entry) (before after : ℕ) (result : Result A Error) →
-    Comes view (fresh_answer given there) result → OnOk result (after ≡ opens_after (will_open (new_cache reload) path there) before) →
+    GivesOrFaults view (fresh_answer given there) result → OnOk result (after ≡ opens_after (will_open (new_cache reload) path there) before) →
     OnOk result (after ≡ counted before)
 opened_new view reload given path there before after (Ok answers) comes opens = opens_present reload given path there (view answers) before after comes opens
 opened_new view reload given path there before after (Err e) comes opens = tt

@@ -1,23 +1,36 @@
 -- What a process answers, in the words of its mappings, and why it is refused.
-use Rattle.std.proofs.Common.{◌≡◌, ℕ, zero, suc, ◌+◌, ◌≤◌, Bool, true, false, cond, IsErrOf, IsOk, Vec, subst, arith, List, [], ◌∷◌, map, Option, Some, None, Result, Ok, Err, inl, inr, refl, sym, ap, ◌∙◌}
+use Rattle.std.proofs.Common.{◌≡◌, ◌⊎◌, ℕ, zero, suc, ◌+◌, ◌≤◌, Bool, true, false, cond, IfErr, IsErrOf, IsOk, Vec, subst, arith, List, [], ◌∷◌, map, Option, Some, None, Result, Ok, Err, inl, inr, refl, sym, ap, ◌∙◌}
 use Rattle.std.proofs.lemmas.Bool.{false≢true}
 use Rattle.bz_base.specs.Answer.{Answer, reading}
+use Rattle.bz_base.specs.InputKind.{AddressKind}
 use Rattle.bz_base.specs.Pid.{number_of}
+use Rattle.bz_base.specs.Refusals.{IsFailure}
 use Rattle.bz_base.specs.declared.error.Error.{Error}
 use Rattle.bz_base.specs.declared.error.Error.TheVariants as errors
 use Rattle.bz_base.specs.declared.pid.Pid.{Pid}
+use Rattle.bz_base.specs.declared.resolve.Symbolize.{Ghosts as Finds}
+use Rattle.bz_base.specs.declared.resolve.TranslateFileOffset.{Ghosts as Translates}
+use Rattle.bz_base.specs.declared.types.FindSymOpts.{FindSymOpts}
 use Rattle.bz_base.specs.declared.types.Symbolized.{Symbolized}
 use Rattle.bz_base.proofs.PidLemmas.{pids_same}
-use Rattle.bz_cache.specs.Format.{Comes}
+use Rattle.bz_cache.specs.Format.{GivesOrFaults}
 use Rattle.bz_files.specs.World.{World, Entry}
 use Rattle.bz_files.specs.World.Entry.{Denied, Present}
+use Rattle.bz_files.specs.declared.files.Files.{Ghosts}
 use Rattle.bz_files.specs.declared.stamp.Stamp.{Stamp}
 use Rattle.bz_proc.specs.Maps.{Mapping, maps_in}
 use Rattle.bz_proc.proofs.MapsLemmas.{maps_found, maps_again}
+use Rattle.bz_process.specs.Asked.{Asked}
+use Rattle.bz_process.specs.Caches.{ProcessCaches}
+use Rattle.bz_process.specs.Dispatch.{Answers, Test}
+use Rattle.bz_process.specs.Mapped.{AsksProcess, LacksMappings}
 use Rattle.bz_process.specs.Process.{batched, unsaid}
+use Rattle.bz_process.specs.Processes.{is_in_process}
 use Rattle.bz_requests.specs.declared.requests.Config.{Config}
+use Rattle.bz_symq.specs.Command.{of_process}
 use Rattle.bz_symq.specs.Processes.{IsMapsCause, IsProcessBatch, TellsMappings, asked_by, maps_of, nothing_kept, pid_of, process_batch}
-use Rattle.bz_symq.specs.Targets.{HasFile, IsFileCause}
+use Rattle.bz_symq.specs.Reply.{IsSomeCauseOrFails}
+use Rattle.bz_symq.specs.Targets.{HasFile, IsFileCause, IsSomeCause}
 
 -- a number names the process that is made from it
 number_named : (number : ℕ) → number_of (pid_of number) ≡ number
@@ -32,8 +45,8 @@ abbrev pub views : {G : Type 0} → Vec Symbolized G → List Answer
 views answers = map reading answers.items
 
 -- a call is answered as is expected of a kind of address that is taken, and refused for another
-pub answered_if_taken : {A B : Type 0} (view : A → B) (took : Bool) (asked : Result B Error) (result : Result A Error) → (took ≡ false → IsErrOf result errors.Unsupported) → (took ≡ true → Comes view asked result) →
-    Comes view (cond took asked (Err errors.Unsupported)) result
+pub answered_if_taken : {A B : Type 0} (view : A → B) (took : Bool) (asked : Result B Error) (result : Result A Error) → (took ≡ false → IsErrOf result errors.Unsupported) → (took ≡ true → GivesOrFaults view asked result) →
+    GivesOrFaults view (cond took asked (Err errors.Unsupported)) result
 answered_if_taken view true asked result untaken taken = taken refl
 answered_if_taken view false asked result untaken taken = rw (untaken refl) refl
 
@@ -127,3 +140,47 @@ module _ (config : Config) (number own : ℕ) (addrs : List ℕ) (world : World)
       to_entry None cause = ap Err (sym cause)
       to_entry (Some Denied) cause = ap Err (sym cause)
       to_entry (Some (Present stamp text)) cause = to_told text cause (maps_in (pid_of number) text) refl
+
+-- a batch without kept mappings is refused only for want of mappings, or something failed
+abbrev pub LacksOrFails : Error → Type 0
+LacksOrFails e = LacksMappings None e ⊎ IsFailure e
+
+module _ {A R X : Type 0} (files : Ghosts X) (reading : A → List Answer) (test : Test R) (translates : Translates R) (finds : Finds R) (opts : FindSymOpts) (asked : Asked) (addrs : List ℕ)
+    (old now : ProcessCaches) (answers answers_now : Answers R) (before after : X) where
+  pub lacks_or_fails : (result : Result A Error) → AsksProcess files reading test translates finds opts asked None addrs result old now answers answers_now before after →
+      IfErr result (λ e. LacksOrFails e)
+  lacks_or_fails (Ok given) asks = tt
+  lacks_or_fails (Err e) asks = elim asks.used [
+    | inl mapped ↦ inr mapped.1.failure
+    | inr unmapped ↦ inl unmapped.refusal
+  ]
+
+module _ (number : ℕ) (kind : AddressKind) (config : Config) where
+  -- so a process that takes the kind of address has such a cause for its refusal
+  cause_of_lack : (e : Error) → is_in_process kind ≡ true → LacksOrFails e → IsSomeCauseOrFails (IsSomeCause (of_process number kind config)) e
+  cause_of_lack errors.NotFound took lacks = inr (took, tt)
+  cause_of_lack errors.PermissionDenied took lacks = inr (took, tt)
+  cause_of_lack errors.InvalidData took lacks = inr (took, tt)
+  cause_of_lack errors.UnexpectedEof took lacks = inr (took, tt)
+  cause_of_lack errors.ReadFault took lacks = tt
+  cause_of_lack errors.OutOfMemory took lacks = tt
+  cause_of_lack errors.Unsupported took (inl lacks) = absurd lacks
+  cause_of_lack errors.Unsupported took (inr fails) = absurd fails
+  cause_of_lack errors.InvalidInput took (inl lacks) = absurd lacks
+  cause_of_lack errors.InvalidInput took (inr fails) = absurd fails
+  cause_of_lack errors.AlreadyExists took (inl lacks) = absurd lacks
+  cause_of_lack errors.AlreadyExists took (inr fails) = absurd fails
+
+  causes_of_lack : {A : Type 0} (result : Result A Error) → is_in_process kind ≡ true → IfErr result (λ e. LacksOrFails e) →
+      IfErr result (λ e. IsSomeCauseOrFails (IsSomeCause (of_process number kind config)) e)
+  causes_of_lack (Ok given) took lacks = tt
+  causes_of_lack (Err e) took lacks = cause_of_lack e took lacks
+
+  -- and for another kind it is refused as such
+  pub process_refusal : {A : Type 0} (result : Result A Error) → (is_in_process kind ≡ false → IsErrOf result errors.Unsupported) → (is_in_process kind ≡ true → IfErr result (λ e. LacksOrFails e)) →
+      IfErr result (λ e. IsSomeCauseOrFails (IsSomeCause (of_process number kind config)) e)
+  process_refusal {A} result untaken taken = by_taken (is_in_process kind) refl
+    where
+      by_taken : (took : Bool) → is_in_process kind ≡ took → IfErr result (λ e. IsSomeCauseOrFails (IsSomeCause (of_process number kind config)) e)
+      by_taken true took = causes_of_lack result took (taken took)
+      by_taken false took = rw (untaken took) (inl (took, refl))

@@ -7,7 +7,7 @@ use Rattle.bz_breakpad.specs.Grammar.{IsFile}
 use Rattle.bz_breakpad.specs.Reader.{table_in}
 use Rattle.bz_breakpad.specs.Resolver.{opened, read_of}
 use Rattle.bz_breakpad.specs.Table.{Table}
-use Rattle.bz_cache.specs.Format.{Comes}
+use Rattle.bz_cache.specs.Format.{GivesOrFaults}
 use Rattle.bz_files.specs.Looked.{Faulted, Looked}
 use Rattle.bz_files.specs.World.{World, Entry, entry_at}
 use Rattle.bz_files.specs.World.Entry.{Denied, Present}
@@ -124,7 +124,7 @@ module _ (product : Product) (there : Option Entry) where
   replies_opened bytes table (Err e) given told makes memory = rw memory tt
 
   -- and the reply to one that isn't is its refusal
-  pub replies_unopened : (error : Error) (result : Result Reply Error) → Comes (λ (bytes : List ℕ). bytes) (opened there) (Err error) → RepliesTo error result →
+  pub replies_unopened : (error : Error) (result : Result Reply Error) → GivesOrFaults (λ (bytes : List ℕ). bytes) (opened there) (Err error) → RepliesTo error result →
       Replies (by_product (made_by product there)) result
   replies_unopened errors.ReadFault result comes is = rw is tt
   replies_unopened errors.OutOfMemory result comes is = rw is tt

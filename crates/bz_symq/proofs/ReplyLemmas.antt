@@ -4,18 +4,19 @@ use Rattle.std.proofs.lemmas.Bool.{false≢true, le-ltb, lt-ltb}
 use Rattle.bz_base.specs.Answer.{Answer}
 use Rattle.bz_base.specs.declared.error.Error.{Error}
 use Rattle.bz_base.specs.declared.error.Error.TheVariants as errors
-use Rattle.bz_cache.specs.Format.{Comes}
+use Rattle.bz_cache.specs.Format.{GivesOrFaults}
 use Rattle.bz_files.specs.World.{World, Told}
 use Rattle.bz_files.specs.declared.files.Files as files_trait
 use Rattle.bz_files.specs.declared.text.TextIn as input_trait
+use Rattle.bz_lookups.specs.declared.lookups.Lookups.{Lookups}
 use Rattle.bz_requests.specs.Addresses.{addresses_in}
 use Rattle.bz_symq.specs.Command.{Asking, Command, Batch, Make, Product}
 use Rattle.bz_symq.specs.InputText.{greatest_input}
 use Rattle.bz_symq.specs.Outcome.{Outcome, by_addresses, by_answer, by_product, run_outcome, too_long}
 use Rattle.bz_symq.specs.Products.{made_in}
-use Rattle.bz_symq.specs.Reply.{outcome_of, text_of, IsInputReply, IsInputStatus, IsProductReply, IsProductStatus, IsRunReply, Replies, RepliesTo, RepliesToCommand, RepliesUnread}
+use Rattle.bz_symq.specs.Reply.{outcome_of, text_of, IsInputReply, IsInputStatus, IsProductReply, IsProductStatus, IsRefusalReply, IsRunRefusal, IsRunReply, IsSomeCauseOrFails, IsUnmadeReply, Replies, RepliesTo, RepliesToCommand, RepliesUnread}
 use Rattle.bz_symq.specs.Run.{IsBadInput, IsNoFailure}
-use Rattle.bz_symq.specs.Targets.{takes}
+use Rattle.bz_symq.specs.Targets.{IsSomeCause, takes}
 use Rattle.bz_symq.specs.Turns.{TakesTurns}
 use Rattle.bz_symq.specs.declared.input.ReadStop.{ReadStop}
 use Rattle.bz_symq.specs.declared.input.ReadStop.TheVariants as stops
@@ -25,13 +26,24 @@ use Rattle.bz_symq.specs.declared.status.Status.TheVariants as statuses
 use Rattle.bz_symq.proofs.InputTextLemmas.{addresses_found}
 use Rattle.bz_symq.proofs.RunLemmas.{bad_from_read, err_from_bad}
 
+-- the answers that look-ups are read as
+abbrev pub answers_read : Lookups → List Answer
+answers_read lookups = lookups.answers
+
 -- where a call was refused, the reply to the refusal is the reply to the call
 pub replies_refused : {A : Type 0} (view : A → List Answer) (addrs : List ℕ) (expected : Result (List Answer) Error) (error : Error) (result : Result Reply Error) →
-    Comes view expected (Err error) → RepliesTo error result → Replies (by_answer addrs expected) result
+    GivesOrFaults view expected (Err error) → RepliesTo error result → Replies (by_answer addrs expected) result
 replies_refused view addrs expected errors.ReadFault result comes is = rw is tt
 replies_refused view addrs expected errors.OutOfMemory result comes is = rw is tt
 replies_refused view addrs expected _ (Ok reply) comes is = rw comes is
 replies_refused view addrs expected _ (Err e) comes is = rw is tt
+
+-- and it names a refusal by such a cause as the call had
+pub refusal_named : (Cause : Error → Type 0) (error : Error) (result : Result Reply Error) → IsSomeCauseOrFails Cause error → RepliesTo error result → IfOk result (λ given. IsRefusalReply Cause given)
+refusal_named Cause errors.ReadFault (Ok reply) cause is = λ refused. cc
+refusal_named Cause errors.OutOfMemory (Ok reply) cause is = λ refused. cc
+refusal_named Cause error (Ok reply) cause is = λ refused. record { refusal = error; cause = cause; text_is = ap (λ (o : Outcome). o.text) is }
+refusal_named Cause error (Err e) cause is = tt
 
 -- what holds holds wherever a reply is given
 pub given_always : {A B : Type 0} {P : Type 0} (result : Result A B) → P → IfOk result (λ _. P)
@@ -66,6 +78,11 @@ input_iff (Err n) status is = (λ _. refl, λ _. is)
 input_iff (Ok items) status (inl is) = (λ other. cc, λ err. absurd (false≢true err))
 input_iff (Ok items) status (inr is) = (λ other. cc, λ err. absurd (false≢true err))
 
+-- a reply that something is refused comes only where the lines are read
+pub refused_read : {A : Type 0} (read : Result A ℕ) (status : Status) → IsInputStatus read status → status ≡ statuses.Refused → (items : A) × (read ≡ Ok items)
+refused_read (Ok items) status is refused = (items, refl)
+refused_read (Err n) status is refused = cc
+
 -- nor is that of a reply that says a product
 product_no_failure : (status : Status) → IsProductStatus status → IsNoFailure status
 product_no_failure status (inl is) = (λ other. cc, λ other. cc)
@@ -94,6 +111,20 @@ module _ (command : Command) (asking : Asking) (input : List ℕ) (command_is : 
         written = written ∙ ap (λ text. Some (old ++ text)) given.2.text_is;
       })
 
+  -- and so are those that a reply says are refused
+  run_refusal : (reply : Reply) → IsInputStatus (addresses_in input) reply.status → IsRefusalReply (IsSomeCause asking) reply → IsRunRefusal command input reply
+  run_refusal reply status named = λ refused old new written.
+      let given = refused_read (addresses_in input) reply.status status refused in
+      let some = named refused in
+      inl (record {
+        asking = asking;
+        addrs = given.0;
+        refusal = some.refusal;
+        asks = record { command_is = command_is; short = short; input_is = addresses_found input given.0 given.1 };
+        cause = some.cause;
+        written = written ∙ ap (λ text. Some (old ++ text)) some.text_is;
+      })
+
   -- a reply's status is that of a bad input exactly where the input is one
   bad_iff : (status : Status) → IsInputStatus (addresses_in input) status → (status ≡ statuses.Input) ↔ IsBadInput command input
   bad_iff status is =
@@ -109,17 +140,19 @@ module _ (command : Command) (asking : Asking) (input : List ℕ) (command_is : 
   -- so the reply to it is the reply to the command
   pub reply_from_input : (left : Option (List ℕ)) (seen : Option World) (own : ℕ) (result : Result Reply Error) → Told left (λ text. input ≡ text) →
       Told seen (λ world. Replies (by_addresses asking world own (addresses_in input)) result) → IfOk result (λ given. IsInputReply asking input given) →
-      IfOk result (λ given. IsInputStatus (addresses_in input) given.status) → RepliesToCommand command left seen own result
-  reply_from_input left seen own (Ok reply) whole replies answered status = record {
+      IfOk result (λ given. IsRefusalReply (IsSomeCause asking) given) → IfOk result (λ given. IsInputStatus (addresses_in input) given.status) → RepliesToCommand command left seen own result
+  reply_from_input left seen own (Ok reply) whole replies answered named status = record {
     reply = λ text told world sees. subst (λ expected. Replies expected (Ok reply)) (outcome_read text world own (whole text told)) (replies world sees);
     answered = λ text told. rw (← whole text told) (run_from_input reply answered);
+    refusal = λ text told. rw (← whole text told) (run_refusal reply status named);
     no_failure = no_failure_from (addresses_in input) reply.status status;
     usage = λ is. never_usage (addresses_in input) reply.status status is;
     input = λ text told. rw (← whole text told) (bad_iff reply.status status);
   }
-  reply_from_input left seen own (Err e) whole replies answered status = record {
+  reply_from_input left seen own (Err e) whole replies answered named status = record {
     reply = λ text told world sees. subst (λ expected. Replies expected (Err e)) (outcome_read text world own (whole text told)) (replies world sees);
     answered = λ text told. tt;
+    refusal = λ text told. tt;
     no_failure = tt;
     usage = tt;
     input = λ text told. tt;
@@ -133,6 +166,7 @@ reply_from_long command asking command_is left seen own reply long is =
     record {
       reply = λ text told world sees. rw (command_is, lt-ltb _ _ (long text told)) is;
       answered = λ text told done. cc;
+      refusal = λ text told refused. cc;
       no_failure = (λ other. cc, λ other. cc);
       usage = λ other. cc;
       input = λ text told. (λ _. (asking, command_is, inl (long text told)), λ _. status);
@@ -145,9 +179,9 @@ pub reply_from_unread : {A : Type 0} (command : Command) (asking : Asking) → c
 reply_from_unread command asking command_is left seen own stops.TooLong (Ok reply) is long = reply_from_long command asking command_is left seen own reply (λ text told. long text told refl) is
 reply_from_unread command asking command_is left seen own stops.TooLong (Err e) is long = absurd is
 reply_from_unread command asking command_is left seen own stops.Fault result is long =
-    rw is (record { reply = λ text told world sees. tt; answered = λ text told. tt; no_failure = tt; usage = tt; input = λ text told. tt })
+    rw is (record { reply = λ text told world sees. tt; answered = λ text told. tt; refusal = λ text told. tt; no_failure = tt; usage = tt; input = λ text told. tt })
 reply_from_unread command asking command_is left seen own stops.Memory result is long =
-    rw is (record { reply = λ text told world sees. tt; answered = λ text told. tt; no_failure = tt; usage = tt; input = λ text told. tt })
+    rw is (record { reply = λ text told world sees. tt; answered = λ text told. tt; refusal = λ text told. tt; no_failure = tt; usage = tt; input = λ text told. tt })
 
 -- a command that asks for answers asks for no product, nor the other way round
 pub no_make : (command : Command) (asking : Asking) → command ≡ Batch asking → (product : Product) → command ≡ Make product → ⊥
@@ -166,19 +200,28 @@ module _ (command : Command) (product : Product) (command_is : command ≡ Make 
   run_from_product input reply answered = λ done old new written.
       inr (record { product = product; made = text_of reply.said; asks = command_is; made_is = answered done; written = written })
 
+  -- and why nothing is made, the run is refused for
+  unmade_from_product : (input : List ℕ) (reply : Reply) → IsUnmadeReply product reply → IsRunRefusal command input reply
+  unmade_from_product input reply unmade = λ refused old new written.
+      let some = unmade refused in
+      inr (record { product = product; name = some.0; asks = command_is; cause = some.1; written = written ∙ ap (λ text. Some (old ++ text)) some.2 })
+
   -- the reply that says a product, or why there is none, is the reply to the command
   pub reply_from_product : (left : Option (List ℕ)) (seen : Option World) (own : ℕ) (result : Result Reply Error) → Told seen (λ world. Replies (by_product (made_in product world)) result) →
-      IfOk result (λ given. IsProductReply product given) → IfOk result (λ given. IsProductStatus given.status) → RepliesToCommand command left seen own result
-  reply_from_product left seen own (Ok reply) replies answered status = record {
+      IfOk result (λ given. IsProductReply product given) → IfOk result (λ given. IsUnmadeReply product given) → IfOk result (λ given. IsProductStatus given.status) →
+      RepliesToCommand command left seen own result
+  reply_from_product left seen own (Ok reply) replies answered unmade status = record {
     reply = λ text told world sees. subst (λ other. Replies (run_outcome other text world own) (Ok reply)) (sym command_is) (replies world sees);
     answered = λ text told. run_from_product text reply answered;
+    refusal = λ text told. unmade_from_product text reply unmade;
     no_failure = product_no_failure reply.status status;
     usage = λ is. product_no_usage reply.status status is;
     input = λ text told. (λ is. absurd (product_no_input reply.status status is), λ bad. absurd (no_batch command product command_is bad.0 bad.1));
   }
-  reply_from_product left seen own (Err e) replies answered status = record {
+  reply_from_product left seen own (Err e) replies answered unmade status = record {
     reply = λ text told world sees. subst (λ other. Replies (run_outcome other text world own) (Err e)) (sym command_is) (replies world sees);
     answered = λ text told. tt;
+    refusal = λ text told. tt;
     no_failure = tt;
     usage = tt;
     input = λ text told. tt;

@@ -10,7 +10,7 @@ use Rattle.bz_files.specs.World.{World, Entry, entry_at}
 use Rattle.bz_files.specs.World.Entry.{Denied, Present}
 use Rattle.bz_files.specs.declared.stamp.Stamp.{Stamp}
 use Rattle.bz_cache.specs.Cache.{Cache, Consistent, current_of, kept_at}
-use Rattle.bz_cache.specs.Format.{Comes}
+use Rattle.bz_cache.specs.Format.{GivesOrFaults}
 use Rattle.bz_cache.specs.Look.{opens_after}
 use Rattle.bz_breakpad.specs.Plain.{batch}
 use Rattle.bz_breakpad.specs.Reader.{table_in}
@@ -51,7 +51,7 @@ use Rattle.bz_symq.proofs.ProcessLemmas.{process_answered, process_answers, proc
 module _ (P : FileTarget → Source → Type 0) (of_breakpad : (source : breakpads.Breakpad) → P (Breakpad (string_bytes source.path)) (sources.Breakpad source))
     (of_gsym : (source : gsym_files.GsymFile) → P (Gsym (string_bytes source.path)) (sources.Gsym (gsyms.File source)))
     (of_elf : (source : elves.Elf) → P (Elf (string_bytes source.path)) (sources.Elf source)) where
-  by_source : (target : FileTarget) (source : Source) → IsSourceOf target source → P target source
+  pub by_source : (target : FileTarget) (source : Source) → IsSourceOf target source → P target source
   by_source (Breakpad path) (sources.Breakpad source) is = subst (λ path. P (Breakpad path) (sources.Breakpad source)) is (of_breakpad source)
   by_source (Breakpad path) (sources.Gsym source) is = absurd is
   by_source (Breakpad path) (sources.Elf source) is = absurd is
@@ -72,7 +72,7 @@ taken_if_given given true untaken = refl
 taken_if_given given false untaken = let refused = untaken refl in cc
 
 -- and one that is refused so reads nothing
-none_opened : {A : Type 0} (view : A → List Answer) (result : Result A Error) (Opened : Type 0) → Comes view (Err errors.Unsupported) result → OnOk result Opened
+none_opened : {A : Type 0} (view : A → List Answer) (result : Result A Error) (Opened : Type 0) → GivesOrFaults view (Err errors.Unsupported) result → OnOk result Opened
 none_opened view (Ok given) Opened comes = cc
 none_opened view (Err e) Opened comes = tt
 
@@ -110,7 +110,7 @@ module _ (config : Config) (addrs : List ℕ) where
   -- and reads its file where it answers
   module _ {A : Type 0} (view : A → List Answer) (world : World) (before after : ℕ) (result : Result A Error) where
     abbrev OpensAs : AddressKind → FileTarget → Source → Type 0
-    OpensAs kind target source = Comes view (answer_to (on_file target kind) addrs world 0) result →
+    OpensAs kind target source = GivesOrFaults view (answer_to (on_file target kind) addrs world 0) result →
         OnOk result (after ≡ opens_after (opens_of (new_state (settings_of config)) (form_of source) kind world) before) → OnOk result (after ≡ counted before)
 
     breakpad_opens : (kind : AddressKind) (source : breakpads.Breakpad) → OpensAs kind (Breakpad (string_bytes source.path)) (sources.Breakpad source)
@@ -126,7 +126,7 @@ module _ (config : Config) (addrs : List ℕ) where
     elf_opens : (kind : AddressKind) (source : elves.Elf) → OpensAs kind (Elf (string_bytes source.path)) (sources.Elf source)
     elf_opens kind source comes opens = opened_new view config.reload (elf_answer (string_bytes source.path) kind addrs) (string_bytes source.path) (entry_at world (string_bytes source.path)) before after result comes opens
 
-    pub opened_by_target : (target : FileTarget) (kind : AddressKind) (source : Source) (own : ℕ) → IsSourceOf target source → Comes view (answer_to (on_file target kind) addrs world own) result →
+    pub opened_by_target : (target : FileTarget) (kind : AddressKind) (source : Source) (own : ℕ) → IsSourceOf target source → GivesOrFaults view (answer_to (on_file target kind) addrs world own) result →
         OnOk result (after ≡ opens_after (opens_of (new_state (settings_of config)) (form_of source) kind world) before) → OnOk result (after ≡ counted before)
     opened_by_target target kind source own is = by_source (OpensAs kind) (breakpad_opens kind) (gsym_opens kind) (elf_opens kind) target source is
 

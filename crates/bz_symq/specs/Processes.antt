@@ -1,6 +1,6 @@
 -- A process as a run asks it: with a symbolizer that keeps nothing, and no resolver in charge of what is mapped.
 use Rattle.std.specs.Prelude.{◌≡◌, ◌⊎◌, ℕ, zero, suc, true, List, [], ◌∷◌, map, Option, None}
-use Rattle.std.proofs.Common.{arith}
+use Rattle.std.proofs.Common.{zero-lt-suc}
 use Rattle.bz_base.specs.Answer.{Answer}
 use Rattle.bz_base.specs.declared.error.Error.{Error}
 use Rattle.bz_base.specs.declared.error.Error.TheVariants as errors
@@ -13,16 +13,16 @@ use Rattle.bz_proc.specs.MapsFile.{maps_path}
 use Rattle.bz_process.specs.Asked.{Asked}
 use Rattle.bz_process.specs.Caches.{ProcessCaches}
 use Rattle.bz_process.specs.Mapped.{asks_process}
-use Rattle.bz_process.specs.Process.{Outcome, batched, unsaid}
+use Rattle.bz_process.specs.Process.{StepOutcome, batched, unsaid}
 use Rattle.bz_requests.specs.declared.requests.Config.{Config}
 
 -- the process that a number names: the own one for 0, and else the one with this id
 abbrev pub pid_of : ℕ → Pid
 pid_of zero = pids.Slf
-pid_of (suc n) = pids.Pid (record { value = suc n; ok = omega arith })
+pid_of (suc n) = pids.Pid (record { value = suc n; ok = zero-lt-suc n })
 
--- how it is asked, where the own one has this id: with its perf map,
--- and by the paths that stand for its mappings or by the files' own, as configured
+-- how it is asked, where the own one has this id: with its perf map. Mapped files are looked at by the paths that stand for
+-- their mappings, or by their own, as configured
 abbrev pub asked_by : Config → ℕ → ℕ → Asked
 asked_by config number own = record { pid = pid_of number; own = own; perf_map = true; map_files = config.map_files }
 
@@ -31,7 +31,7 @@ abbrev pub nothing_kept : Config → ProcessCaches
 nothing_kept config = record { elf = new_cache config.reload; perf_maps = new_cache config.reload; ids = [] }
 
 -- what it gives at addresses in it, one after another, where nothing is kept and no resolver is in charge
-abbrev pub process_batch : Config → ℕ → ℕ → List ℕ → World → Outcome (List Answer)
+abbrev pub process_batch : Config → ℕ → ℕ → List ℕ → World → StepOutcome (List Answer)
 process_batch config number own addrs world = asks_process (asked_by config number own) None (map unsaid addrs) world (nothing_kept config)
 
 -- what lies where the text of its mappings does

@@ -1,6 +1,7 @@
 -- Product by product: of which file it is made, what it is, and why there may be none.
 use Rattle.std.specs.Prelude.{◌≡◌, ◌⊎◌, ℕ, List, Option, Some, None, Result, Ok, Err}
 use Rattle.bz_base.specs.ErrorNames.{name_of}
+use Rattle.bz_base.specs.declared.error.Error.{Error}
 use Rattle.bz_base.specs.declared.error.Error.TheVariants as errors
 use Rattle.bz_files.specs.World.{World, Entry, entry_at}
 use Rattle.bz_files.specs.World.Entry.{Denied, Present}
@@ -11,8 +12,8 @@ use Rattle.bz_canon.specs.Canon.{canonical_text}
 use Rattle.bz_convert.specs.ErrorNames as refusals
 use Rattle.bz_convert.specs.declared.error.ConvertError.{ConvertError}
 use Rattle.bz_converting.specs.Converted.{conversion}
-use Rattle.bz_symq.specs.Command.{Product, Converted, Canonical}
-use Rattle.bz_symq.specs.Targets.{HasFile}
+use Rattle.bz_symq.specs.Command.{Breakpad, Product, Converted, Canonical}
+use Rattle.bz_symq.specs.Targets.{HasFile, IsSomeFileCause}
 
 -- the path of the Breakpad file that it is made of
 abbrev pub path_of : Product → List ℕ
@@ -69,3 +70,8 @@ IsUnmadeBy product (Some (Present stamp bytes)) name = IsUnmadeOf product bytes 
 
 abbrev pub UnmadeIn : Product → World → List ℕ → Type 0
 UnmadeIn product world name = IsUnmadeBy product (entry_at world (path_of product)) name
+
+-- whatever the files tell, why nothing is made: a refusal that a Breakpad file may have, or that of some file's table, has this name
+abbrev pub UnmadeOfSome : Product → List ℕ → Type 0
+UnmadeOfSome product name =
+    ((e : Error) × IsSomeFileCause (Breakpad (path_of product)) e × (name ≡ name_of e)) ⊎ ((bytes : List ℕ) × IsMadeOf product bytes (Err name))

@@ -8,9 +8,9 @@ use Rattle.bz_files.specs.World.{World, Told}
 use Rattle.bz_requests.specs.Addresses.{addresses_in}
 use Rattle.bz_canon.specs.AnswerText.{answer_texts}
 use Rattle.bz_symq.specs.Command.{Asking, Command, Product}
-use Rattle.bz_symq.specs.Outcome.{Outcome, refused, run_outcome, too_long}
-use Rattle.bz_symq.specs.Products.{MadeOfSome}
-use Rattle.bz_symq.specs.Run.{IsBadInput, IsNoFailure, IsSomeDone, IsSomeMade}
+use Rattle.bz_symq.specs.Outcome.{Outcome, refused, refused_as, run_outcome, too_long}
+use Rattle.bz_symq.specs.Products.{MadeOfSome, UnmadeOfSome}
+use Rattle.bz_symq.specs.Run.{IsBadInput, IsNoFailure, IsSomeDone, IsSomeMade, IsSomeRefused, IsSomeUnmade}
 use Rattle.bz_symq.specs.Targets.{AnswersSome}
 use Rattle.bz_symq.specs.declared.input.ReadStop.{ReadStop}
 use Rattle.bz_symq.specs.declared.input.ReadStop.TheVariants as stops
@@ -79,6 +79,31 @@ abbrev pub IsRunReply : Command → List ℕ → Reply → Type 0
 IsRunReply command input reply = reply.status ≡ statuses.Done → (old : List ℕ) (new : Option (List ℕ)) → new ≡ Some (old ++ text_of reply.said) →
     IsSomeDone command input old new ⊎ IsSomeMade command old new
 
+-- a call has such a cause for its refusal, or something failed
+abbrev pub IsSomeCauseOrFails : (Error → Type 0) → Error → Type 0
+IsSomeCauseOrFails Cause errors.ReadFault = Unit {0}
+IsSomeCauseOrFails Cause errors.OutOfMemory = Unit {0}
+IsSomeCauseOrFails Cause e = Cause e
+
+-- the text names a refusal by such a cause
+pub record IsSomeRefusal (Cause : Error → Type 0) (text : List ℕ) : Type 0 where
+  pub refusal : Error
+  pub cause : Cause refusal
+  pub text_is : text ≡ (refused refusal).text
+
+-- a reply that something is refused has such a text
+abbrev pub IsRefusalReply : (Error → Type 0) → Reply → Type 0
+IsRefusalReply Cause reply = reply.status ≡ statuses.Refused → IsSomeRefusal Cause (text_of reply.said)
+
+-- and of a product it names a refusal that the product may have
+abbrev pub IsUnmadeReply : Product → Reply → Type 0
+IsUnmadeReply product reply = reply.status ≡ statuses.Refused → (name : List ℕ) × UnmadeOfSome product name × (text_of reply.said ≡ (refused_as name).text)
+
+-- and once such a reply is written, the run has written such a refusal
+abbrev pub IsRunRefusal : Command → List ℕ → Reply → Type 0
+IsRunRefusal command input reply = reply.status ≡ statuses.Refused → (old : List ℕ) (new : Option (List ℕ)) → new ≡ Some (old ++ text_of reply.said) →
+    IsSomeRefused command input old new ⊎ IsSomeUnmade command old new
+
 -- the call was answered by a reply that the run is done
 abbrev pub IsDoneReply : Result Reply Error → Type 0
 IsDoneReply (Ok reply) = reply.status ≡ statuses.Done
@@ -95,6 +120,8 @@ pub record RepliesToCommand (command : Command) (left : Option (List ℕ)) (seen
   pub reply : Told left (λ text. Told seen (λ world. Replies (run_outcome command text world own) result))
   -- and whatever the files tell, answers or product are those that the run was asked for
   pub answered : Told left (λ text. IfOk result (λ given. IsRunReply command text given))
+  -- and a refusal is one that the source or the product may have
+  pub refusal : Told left (λ text. IfOk result (λ given. IsRunRefusal command text given))
   pub no_failure : IfOk result (λ given. IsNoFailure given.status)
   -- status 2 is for words that give no command, and command and input alone decide on status 3
   pub usage : IfOk result (λ given. given.status ≢ statuses.Usage)

@@ -15,8 +15,8 @@ use Rattle.bz_symq.specs.InputText as inputs
 use Rattle.bz_symq.specs.InputText.{greatest_input, MovesAtMost}
 use Rattle.bz_symq.specs.Outcome.{Outcome, refused, refused_as, run_outcome}
 use Rattle.bz_symq.specs.Processes.{process_batch}
-use Rattle.bz_symq.specs.Products.{MadeIn, MadeOfSome, UnmadeIn}
-use Rattle.bz_symq.specs.Targets.{HasAnswers, AnswersIn, AnswersSome, IsCause, takes}
+use Rattle.bz_symq.specs.Products.{MadeIn, MadeOfSome, UnmadeIn, UnmadeOfSome}
+use Rattle.bz_symq.specs.Targets.{HasAnswers, AnswersIn, AnswersSome, IsCause, IsSomeCause, takes}
 use Rattle.bz_symq.specs.declared.status.Status.{Status}
 use Rattle.bz_symq.specs.declared.status.Status.TheVariants as statuses
 
@@ -60,8 +60,8 @@ pub record IsDone (command : Command) (input : List ℕ) (world : World) (own : 
   pub answers_are : AnswersIn asking world own addrs answers
   pub written : new ≡ Some (old ++ answer_texts addrs answers)
 
--- whatever the files tell, the run was asked for addresses, and wrote the texts of answers to them in order:
--- of a file the plain answers of some bytes in its format, of a process any
+-- whatever the files tell, the run was asked for addresses, and wrote the texts of answers to them in order.
+-- Of a file these are the plain answers of some bytes in its format; of a process they may be any
 pub record IsSomeDone (command : Command) (input old : List ℕ) (new : Option (List ℕ)) : Type 0 where
   pub asking : Asking
   pub addrs : List ℕ
@@ -82,6 +82,15 @@ pub record IsRefusable (command : Command) (input : List ℕ) (world : World) : 
 pub record IsRefused (command : Command) (input : List ℕ) (world : World) (old : List ℕ) (new : Option (List ℕ)) : Type 0 where
   pub refusable : IsRefusable command input world
   pub written : new ≡ Some (old ++ (refused refusable.refusal).text)
+
+-- whatever the files tell, the run was asked for addresses, and a refusal that their source may have is what was written
+pub record IsSomeRefused (command : Command) (input old : List ℕ) (new : Option (List ℕ)) : Type 0 where
+  pub asking : Asking
+  pub addrs : List ℕ
+  pub refusal : Error
+  pub asks : Asks command input asking addrs
+  pub cause : IsSomeCause asking refusal
+  pub written : new ≡ Some (old ++ (refused refusal).text)
 
 -- the run is asked for a product that can be made of its file
 pub record IsMakeable (command : Command) (world : World) : Type 0 where
@@ -114,6 +123,14 @@ pub record IsUnmakeable (command : Command) (world : World) : Type 0 where
 pub record IsUnmade (command : Command) (world : World) (old : List ℕ) (new : Option (List ℕ)) : Type 0 where
   pub unmakeable : IsUnmakeable command world
   pub written : new ≡ Some (old ++ (refused_as unmakeable.name).text)
+
+-- whatever the files tell, the run was asked for a product, and a refusal that it may have is what was written
+pub record IsSomeUnmade (command : Command) (old : List ℕ) (new : Option (List ℕ)) : Type 0 where
+  pub product : Product
+  pub name : List ℕ
+  pub asks : command ≡ Make product
+  pub cause : UnmadeOfSome product name
+  pub written : new ≡ Some (old ++ (refused_as name).text)
 
 -- the command asks for answers, and the input is too long for that, or has a line that isn't well formed
 abbrev pub IsBadInput : Command → List ℕ → Type 0
@@ -184,6 +201,9 @@ pub record Runs {R W F : Type 0} (reads : input_trait.Ghosts R) (writes : output
   pub refused : ended ≡ statuses.Refused →
       Told (seen_by command (reads.left input_before)) (λ text. Told (in_view (looks.worlds files_before)) (λ world. Told (writes.written output_before) (λ old.
       IsRefused command text world old (writes.written output_after) ⊎ IsUnmade command world old (writes.written output_after))))
+  -- and whatever the files tell, that the refusal is one that the source or the product may have
+  pub refusal : ended ≡ statuses.Refused → Told (seen_by command (reads.left input_before)) (λ text. Told (writes.written output_before) (λ old.
+      IsSomeRefused command text old (writes.written output_after) ⊎ IsSomeUnmade command old (writes.written output_after)))
   -- status 2 is for words that give no command, and command and input alone decide on status 3
   pub usage : ended ≢ statuses.Usage
   pub input : Told (seen_by command (reads.left input_before)) (λ text.

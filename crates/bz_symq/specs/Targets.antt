@@ -69,8 +69,8 @@ IsBatch (Breakpad path) kind config bytes addrs answers = IsBreakpadBatch (opts_
 IsBatch (Gsym path) kind config bytes addrs answers = IsGsymBatch (opts_in config) bytes addrs answers
 IsBatch (Elf path) kind config bytes addrs answers = IsElfBatch path bytes kind addrs answers
 
--- this is the refusal of bytes that aren't in the source's format: of ELF bytes that of the first check that they fail;
--- or it is that of ELF bytes for a kind of address that they don't answer
+-- this is the refusal of bytes that aren't in the source's format; of ELF bytes it is that of the first check that they fail.
+-- Or it is that of ELF bytes for a kind of address that they don't answer
 abbrev pub IsRefusalOf : FileTarget → AddressKind → List ℕ → Error → Type 0
 IsRefusalOf (Breakpad path) kind bytes e = (e ≡ errors.InvalidInput) × ((table : Table) → IsFile bytes table → ⊥)
 IsRefusalOf (Gsym path) kind bytes e = (e ≡ errors.InvalidData) × ¬ (IsGsym bytes)
@@ -140,6 +140,34 @@ AreSomeAnswers (OneProcess number) kind config addrs answers = Unit {0}
 pub record AnswersSome (asking : Asking) (addrs : List ℕ) (answers : List Answer) : Type 0 where
   pub served : serves asking.target asking.kind ≡ true
   pub are : AreSomeAnswers asking.target asking.kind asking.config addrs answers
+
+-- whatever the files tell, a file may have no answers for one of these: it is absent, may not be read, or isn't in the format
+abbrev pub IsSomeFileCause : FileTarget → Error → Type 0
+IsSomeFileCause file errors.NotFound = Unit {0}
+IsSomeFileCause file errors.PermissionDenied = Unit {0}
+IsSomeFileCause (Breakpad path) errors.InvalidInput = Unit {0}
+IsSomeFileCause (Gsym path) errors.InvalidData = Unit {0}
+IsSomeFileCause (Elf path) errors.InvalidData = Unit {0}
+IsSomeFileCause (Elf path) errors.Unsupported = Unit {0}
+IsSomeFileCause file e = ⊥
+
+-- and a process for one of these: the text of its mappings is absent, may not be read, is malformed, or tells none
+abbrev pub IsSomeProcessCause : Error → Type 0
+IsSomeProcessCause errors.NotFound = Unit {0}
+IsSomeProcessCause errors.PermissionDenied = Unit {0}
+IsSomeProcessCause errors.InvalidData = Unit {0}
+IsSomeProcessCause errors.UnexpectedEof = Unit {0}
+IsSomeProcessCause e = ⊥
+
+abbrev pub IsSomeTakenCause : Target → Error → Type 0
+IsSomeTakenCause (OneFile file) e = IsSomeFileCause file e
+IsSomeTakenCause (OneProcess number) e = IsSomeProcessCause e
+
+-- so what is asked may have no answers: the target doesn't take the kind of address, or else it has such a cause
+abbrev pub IsSomeCause : Asking → Error → Type 0
+IsSomeCause asking e =
+    ((takes asking.target asking.kind ≡ false) × (e ≡ errors.Unsupported))
+    ⊎ ((takes asking.target asking.kind ≡ true) × IsSomeTakenCause asking.target e)
 
 -- why a target that takes the kind of address has no answers in the world
 abbrev pub IsTakenCause : Target → AddressKind → World → Error → Type 0

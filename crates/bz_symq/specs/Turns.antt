@@ -33,8 +33,8 @@ pub record ReadsOneFor {F : Type 0} (looks : files_trait.Ghosts F) (answered : T
   pub most : ReadsOne looks before after
   pub opened : Told (in_view (looks.worlds before)) (λ world. answered → looks.opens after ≡ counted (looks.opens before))
 
--- what was read for an input that is read so: of a file one at most, and one where the run is done;
--- of a process nothing at a bad line, and else no more than its batch reads
+-- how many files were read for an input that is read so. Where a file is asked, it is one at most, and one where the run is done.
+-- Where a process is asked, it is none at a bad line, and else no more than its batch reads
 abbrev pub ReadsForInput : {F : Type 0} → files_trait.Ghosts F → Config → Target → Result (List ℕ) ℕ → Type 0 → F → F → Type 0
 ReadsForInput looks config (OneFile file) read answered before after = ReadsOneFor looks answered before after
 ReadsForInput looks config (OneProcess number) (Err n) answered before after = looks.opens after ≡ looks.opens before

@@ -14,7 +14,7 @@ use std::alloc::Global;
 const GREATEST_INPUT: usize = 16_777_216;
 
 /// How many bytes are asked for at a time.
-const PIECE: usize = 16_384;
+const READ_SIZE: usize = 16_384;
 
 /// Why the input wasn't read to its end.
 #[derive(Drop)]
@@ -57,8 +57,8 @@ fn read_piece<R: TextIn>(input: &mut R, all: &mut Vec<u8>) -> std::result::Resul
     ensures faults { CountsFaults (R.faults input.old) (R.faults input.new) (IsErrOf result ReadStop.Fault) }
     ensures never_long { IsErrOf result ReadStop.TooLong → ⊥ }
 {
-    let mut piece = [0u8; PIECE];
-    let room = PIECE.min(GREATEST_INPUT + 1 - all.len());
+    let mut piece = [0u8; READ_SIZE];
+    let room = READ_SIZE.min(GREATEST_INPUT + 1 - all.len());
     match input.take(&mut piece[..room]) {
         Ok(n) => match all.extend_from_slice(&piece[..n]) {
             Ok(()) => Ok(n),

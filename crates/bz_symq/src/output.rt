@@ -19,7 +19,7 @@ use bz_symbolize::Lookups;
 use std::alloc::Global;
 
 /// How long the texts of answers grow, in bytes, before they are written.
-const PIECE: usize = 65_536;
+const WRITE_THRESHOLD: usize = 65_536;
 
 /// Writes the reply, and ends with its status.
 pub fn finish<W: TextOut>(alloc: Global, output: &mut W, reply: &Reply) -> Status
@@ -64,7 +64,7 @@ fn write_answers<W: TextOut>(
         let Ok(()) = push_next(alloc, &mut piece, &mut texts, lookups, index) else {
             return Err(IoFault::OutOfMemory);
         };
-        if piece.len() >= PIECE {
+        if piece.len() >= WRITE_THRESHOLD {
             write_piece(output, &mut piece)?;
         }
     }
@@ -86,7 +86,7 @@ fn write_owned<W: TextOut>(
         let Ok(()) = push_answer(&mut piece, owned.addrs[index], &owned.answers[index]) else {
             return Err(IoFault::OutOfMemory);
         };
-        if piece.len() >= PIECE {
+        if piece.len() >= WRITE_THRESHOLD {
             write_piece(output, &mut piece)?;
         }
     }

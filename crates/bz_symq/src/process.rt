@@ -1,17 +1,17 @@
 //! What a process answers.
 
-ghost use Rattle.std.specs.Prelude.{◌≡◌, ◌+◌, ◌≤◌, false, true, List, Ok, map, IfOk, IsOk};
+ghost use Rattle.std.specs.Prelude.{◌≡◌, ◌+◌, ◌≤◌, false, true, List, Ok, map, IfErr, IfOk, IsOk};
 ghost use Rattle.bz_base.specs.Answer.{Answer, reading};
 ghost use Rattle.bz_base.specs.InputKind.{address_kind};
-ghost use Rattle.bz_cache.specs.Format.{Comes};
+ghost use Rattle.bz_cache.specs.Format.{GivesOrFaults};
 ghost use Rattle.bz_files.specs.Looked.{Faulted, Looked};
 ghost use Rattle.bz_files.specs.World.{Told, in_view};
 ghost use Rattle.bz_process.specs.Processes.{is_in_process};
 ghost use Rattle.bz_symq.specs.Command.{process_asking};
 ghost use Rattle.bz_symq.specs.Outcome.{by_addresses};
 ghost use Rattle.bz_symq.specs.Processes.{process_batch};
-ghost use Rattle.bz_symq.specs.Reply.{IsBatchReply, IsInputStatus, Replies};
-ghost use Rattle.bz_symq.specs.Targets.{answer_to};
+ghost use Rattle.bz_symq.specs.Reply.{IsBatchReply, IsInputStatus, IsRefusalReply, IsSomeCauseOrFails, Replies};
+ghost use Rattle.bz_symq.specs.Targets.{answer_to, IsSomeCause};
 
 use crate::asking::{input_for, new_symbolizer};
 use crate::command::ProcessBatch;
@@ -35,6 +35,7 @@ pub fn reply_of_process<F: Files, L: Ledger>(
 ) -> Result<Reply>
     ensures reply { Told (in_view (F.worlds files.old)) (λ world. Replies (by_addresses (process_asking batch) world (F.pid files.old) (Ok addrs.items)) result) }
     ensures answered { IfOk result (λ given. IsBatchReply (process_asking batch) addrs.items given) }
+    ensures refusal { IfOk result (λ given. IsRefusalReply (IsSomeCause (process_asking batch)) given) }
     ensures status { IfOk result (λ given. IsInputStatus (Ok addrs.items) given.status) }
     ensures untaken { is_in_process (address_kind batch.kind) ≡ false → files.new ≡ files.old }
     ensures opens { Told (in_view (F.worlds files.old)) (λ world. F.opens files.new ≤ F.opens files.old + (process_batch batch.config batch.number (F.pid files.old) addrs.items world).opens) }
@@ -58,8 +59,9 @@ fn answers_of<F: Files, L: Ledger>(
     files: &mut F,
     steps: &mut Steps<L>,
 ) -> Result<Vec<Symbolized<'static>>>
-    ensures answer { Told (in_view (F.worlds files.old)) (λ world. Comes (λ answers. map reading answers.items) (answer_to (process_asking batch) addrs.now world (F.pid files.old)) result) }
+    ensures answer { Told (in_view (F.worlds files.old)) (λ world. GivesOrFaults (λ answers. map reading answers.items) (answer_to (process_asking batch) addrs.now world (F.pid files.old)) result) }
     ensures served { IsOk result → is_in_process (address_kind batch.kind) ≡ true }
+    ensures refusal { IfErr result (λ error. IsSomeCauseOrFails (IsSomeCause (process_asking batch)) error) }
     ensures untaken { is_in_process (address_kind batch.kind) ≡ false → files.new ≡ files.old }
     ensures opens { Told (in_view (F.worlds files.old)) (λ world. F.opens files.new ≤ F.opens files.old + (process_batch batch.config batch.number (F.pid files.old) addrs.now world).opens) }
     ensures files { Looked F.Files files.old files.new (Faulted result) }

@@ -1,21 +1,22 @@
 //! What is made of one file.
 
-ghost use Rattle.std.specs.Prelude.{◌≡◌, ◌≢◌, Err, Some, IfOk, OnOk, IsOkUnless};
+ghost use Rattle.std.specs.Prelude.{◌≡◌, ◌≢◌, Err, Some, IfErr, IfOk, OnOk, IsOkUnless};
 ghost use Rattle.bz_base.specs.declared.error.Error.{Error};
 ghost use Rattle.bz_breakpad.specs.Grammar.{IsFile};
 ghost use Rattle.bz_breakpad.specs.Reader.{table_in};
 ghost use Rattle.bz_breakpad.specs.Resolver.{opened};
 ghost use Rattle.bz_breakpad.specs.Table.{Table};
-ghost use Rattle.bz_cache.specs.Format.{Comes};
+ghost use Rattle.bz_cache.specs.Format.{GivesOrFaults};
 ghost use Rattle.bz_convert.specs.declared.error.ConvertError.{ConvertError};
 ghost use Rattle.bz_converting.specs.Converted.{conversion};
 ghost use Rattle.bz_files.specs.Count.{counted};
 ghost use Rattle.bz_files.specs.Looked.{Faulted, Looked, ReadsOne};
 ghost use Rattle.bz_files.specs.World.{Told, entry_at, in_view};
-ghost use Rattle.bz_symq.specs.Command.{product_of};
+ghost use Rattle.bz_symq.specs.Command.{product_of, Breakpad};
 ghost use Rattle.bz_symq.specs.Outcome.{by_product};
 ghost use Rattle.bz_symq.specs.Products.{by_conversion, made_in, made_of, path_of};
-ghost use Rattle.bz_symq.specs.Reply.{outcome_of, IsDoneReply, IsProductReply, IsProductStatus, Replies};
+ghost use Rattle.bz_symq.specs.Reply.{outcome_of, IsDoneReply, IsProductReply, IsProductStatus, IsSomeCauseOrFails, IsUnmadeReply, Replies};
+ghost use Rattle.bz_symq.specs.Targets.{IsSomeFileCause};
 ghost use Rattle.bz_symq.specs.declared.status.Status.{Status};
 ghost use Rattle.bz_symq.specs.Turns.{ReadsOneFor};
 
@@ -37,6 +38,7 @@ pub fn reply_with_product<F: Files>(
 ) -> Result<Reply>
     ensures reply { Told (in_view (F.worlds files.old)) (λ world. Replies (by_product (made_in (product_of product.now) world)) result) }
     ensures answered { IfOk result (λ given. IsProductReply (product_of product.now) given) }
+    ensures refusal { IfOk result (λ given. IsUnmadeReply (product_of product.now) given) }
     ensures status { IfOk result (λ given. IsProductStatus given.status) }
     ensures opens { ReadsOneFor F.Files (IsDoneReply result) files.old files.new }
     ensures files { Looked F.Files files.old files.new (Faulted result) }
@@ -59,8 +61,9 @@ fn path_of<'a>(product: &Product<'a>) -> &'a str
 
 // The Breakpad file at the path.
 fn read_file<F: Files>(alloc: Global, path: &str, files: &mut F) -> Result<SymbolFile>
-    ensures answer { Told (in_view (F.worlds files.old)) (λ world. Comes (λ file. file) (opened (entry_at world path.now)) result) }
+    ensures answer { Told (in_view (F.worlds files.old)) (λ world. GivesOrFaults (λ file. file) (opened (entry_at world path.now)) result) }
     ensures accepted { IfOk result (λ file. (table : Table) × (table_in file ≡ Some table) × IsFile file table) }
+    ensures refusal { IfErr result (λ error. IsSomeCauseOrFails (IsSomeFileCause (Breakpad path.now)) error) }
     ensures opened { OnOk result (F.opens files.new ≡ counted (F.opens files.old)) }
     ensures most { ReadsOne F.Files files.old files.new }
     ensures files { Looked F.Files files.old files.new (Faulted result) }

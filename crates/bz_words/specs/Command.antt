@@ -1,5 +1,5 @@
 -- What the words of the command line ask for.
-use Rattle.std.specs.Prelude.{◌≡◌, ℕ, Bool, false, not, ◌||◌, List, [], ◌∷◌, codes, Option, Some, None, Result, Ok, Err, option_map, option_and_then, unwrap_or, if◌then◌else◌, bytes_eq, nat_le, string_bytes}
+use Rattle.std.specs.Prelude.{◌≡◌, ◌<◌, ◌≤◌, ℕ, Bool, false, not, ◌||◌, List, [], ◌∷◌, codes, Option, Some, None, Result, Ok, Err, option_map, option_and_then, unwrap_or, if◌then◌else◌, bytes_eq, nat_le, string_bytes}
 use Rattle.bz_base.specs.InputKind.{AddressKind, InProcess, InTable, InFile, address_kind}
 use Rattle.bz_base.specs.Number.{decimal_at, whole}
 use Rattle.bz_requests.specs.Requests.{Target, Breakpad, Gsym, Elf, Process, target_of, usual_kind}
@@ -55,6 +55,11 @@ job_of (made_jobs.Frames path) = Frames (string_bytes path)
 
 abbrev pub command_of : made.Command → Command
 command_of command = record { config = command.config; job = job_of command.job }
+
+-- the numbers of a generated job are as small as that job takes
+abbrev pub HasSmallNumbers : Job → Type 0
+HasSmallNumbers (Generate seed functions addresses) = (seed < 2147483648) × (functions ≤ 100000) × (addresses ≤ 100000)
+HasSmallNumbers other = Unit {0}
 
 -- a number of one to ten decimal digits that isn't above the greatest
 abbrev pub number_in : ℕ → Text → Option ℕ

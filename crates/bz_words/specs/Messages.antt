@@ -118,8 +118,8 @@ IsSilent statuses.Input = Unit {0}
 IsSilent _ = ⊥
 
 -- a run of which something is said in any case
-abbrev pub IsTold : Status → Type 0
-IsTold statuses.Usage = Unit {0}
-IsTold statuses.Fault = Unit {0}
-IsTold statuses.Memory = Unit {0}
-IsTold _ = ⊥
+abbrev pub HasMessage : Status → Type 0
+HasMessage statuses.Usage = Unit {0}
+HasMessage statuses.Fault = Unit {0}
+HasMessage statuses.Memory = Unit {0}
+HasMessage _ = ⊥

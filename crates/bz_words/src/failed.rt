@@ -55,7 +55,7 @@ pub(crate) fn failure<F: Files>(
     }
 }
 
-/// A line on the one file that the words ask to read.
+// A line on the one file that the words ask to read.
 fn failed_file<F: Files>(alloc: Global, words: &[String], files: &mut F) -> Result<Option<String>>
     ensures named { IfOk result (λ found. IfSome found (λ line. IsOnNamed (map string_bytes words.now) (string_bytes line))) }
     ensures unopened { F.opens files.new ≡ F.opens files.old }
@@ -71,7 +71,7 @@ fn failed_file<F: Files>(alloc: Global, words: &[String], files: &mut F) -> Resu
     Ok(Some(line))
 }
 
-/// The path of the one file that the job reads, whatever it asks of it.
+// The path of the one file that the job reads, whatever it asks of it.
 fn read_path(job: &Job) -> Option<&str>
     ensures { option_map (λ path. path.now) result ≡ read_path (job_of job.now) }
 {
@@ -86,7 +86,7 @@ fn read_path(job: &Job) -> Option<&str>
     }
 }
 
-/// A line that says why the file at the path can't be read.
+// A line that says why the file at the path can't be read.
 fn line_on_file<F: Files>(alloc: Global, path: &str, files: &mut F) -> Result<String>
     ensures says { IfOk result (λ line. IsOnFile path.now (string_bytes line)) }
     ensures unopened { F.opens files.new ≡ F.opens files.old }
@@ -97,7 +97,7 @@ fn line_on_file<F: Files>(alloc: Global, path: &str, files: &mut F) -> Result<St
     Ok(line)
 }
 
-/// Why the file at the path can't be read.
+// Why the file at the path can't be read.
 fn cause_at<F: Files>(alloc: Global, path: &str, files: &mut F) -> Result<&'static str>
     ensures cause { IfOk result (λ cause. IsCause cause.now) }
     ensures unopened { F.opens files.new ≡ F.opens files.old }
@@ -112,7 +112,7 @@ fn cause_at<F: Files>(alloc: Global, path: &str, files: &mut F) -> Result<&'stat
     }
 }
 
-/// Whether there is a folder at the path.
+// Whether there is a folder at the path.
 fn is_folder<F: Files>(alloc: Global, path: &str, files: &mut F) -> Result<bool>
     ensures unopened { F.opens files.new ≡ F.opens files.old }
     ensures worlds { F.worlds files.new ≡ F.worlds files.old }

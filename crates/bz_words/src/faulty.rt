@@ -20,14 +20,14 @@ pub fn complaint(alloc: Global, words: &[String]) -> Result<Option<String>, Allo
     match program.try_get_matches_from(words) {
         Ok(_) => Ok(None),
         Err(error) => {
-            let said = said_of(alloc, &error)?;
+            let said = text_of(alloc, &error)?;
             Ok(Some(said))
         }
     }
 }
 
 // The text of an error, without the line feed at its end.
-fn said_of(alloc: Global, error: &Error) -> Result<String, AllocError>
+fn text_of(alloc: Global, error: &Error) -> Result<String, AllocError>
     ensures { IfOk result (λ _. kind_of error.now ≢ kinds.OutOfMemory) }
 {
     if error.kind() == ErrorKind::OutOfMemory {

@@ -5,7 +5,7 @@ ghost use Rattle.std.specs.Cow.{cow_str_bytes};
 ghost use Rattle.bz_files.specs.Looked.{ReadsOne};
 ghost use Rattle.bz_files.specs.World.{Told, in_view};
 ghost use Rattle.bz_symq.specs.Outcome.{message_of};
-ghost use Rattle.bz_words.specs.Messages.{IsAboutFailed, IsSilent, IsTold, ReadsForMessage, SaysWhere};
+ghost use Rattle.bz_words.specs.Messages.{IsAboutFailed, IsSilent, HasMessage, ReadsForMessage, SaysWhere};
 
 use crate::failed::{Failed, failure};
 use crate::faulty::complaint;
@@ -74,13 +74,13 @@ pub fn message<F: Files>(
     ensures refused { status ≡ Status.Refused → Told (in_view (F.worlds files.old)) (λ world. IfSome result (λ line. SaysWhere (map string_bytes words.now) world (cow_str_bytes line))) }
     ensures about { status ≡ Status.Fault → IfSome result (λ line. IsAboutFailed (map string_bytes words.now) failed (cow_str_bytes line)) }
     ensures memory { status ≡ Status.Memory → option_map cow_str_bytes result ≡ message_of status }
-    ensures told { IsTold status → is_some result ≡ true }
+    ensures told { HasMessage status → is_some result ≡ true }
     ensures files { ReadsForMessage F.Files status files.old files.new }
 {
     match status {
         Status::Done => None,
         Status::Input => None,
-        Status::Refused => refusal(alloc, words, files),
+        Status::Refused => where_refused(alloc, words, files),
         Status::Usage => Some(usage(alloc, words)),
         Status::Fault => Some(failure(alloc, words, failed, files)),
         Status::Memory => stored_message(status),
@@ -98,7 +98,11 @@ pub fn stored_message(status: Status) -> Option<CowStr<'static>>
 }
 
 // Where the Breakpad file is refused that the words name.
-fn refusal<F: Files>(alloc: Global, words: &[String], files: &mut F) -> Option<CowStr<'static>>
+fn where_refused<F: Files>(
+    alloc: Global,
+    words: &[String],
+    files: &mut F,
+) -> Option<CowStr<'static>>
     ensures says { Told (in_view (F.worlds files.old)) (λ world. IfSome result (λ line. SaysWhere (map string_bytes words.now) world (cow_str_bytes line))) }
     ensures most { ReadsOne F.Files files.old files.new }
     ensures worlds { F.worlds files.new ≡ F.worlds files.old }

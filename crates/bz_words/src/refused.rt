@@ -51,7 +51,7 @@ pub fn named_file(alloc: Global, words: &[String]) -> Result<Option<String>>
     }
 }
 
-/// The same of a job.
+// The path of the file that the job reads as a Breakpad file, as a text of its own.
 fn path_read(alloc: Global, job: &Job) -> Result<Option<String>>
     ensures named { IfOk result (λ path. option_map string_bytes path ≡ breakpad_path (job_of job.now)) }
     ensures memory { IsOkUnless result Error.OutOfMemory }
@@ -65,7 +65,7 @@ fn path_read(alloc: Global, job: &Job) -> Result<Option<String>>
     }
 }
 
-/// The path of the file that the job reads as a Breakpad file.
+// The path of the file that the job reads as a Breakpad file.
 fn breakpad_path(job: &Job) -> Option<&str>
     ensures { option_map (λ path. path.now) result ≡ breakpad_path (job_of job.now) }
 {
@@ -78,7 +78,7 @@ fn breakpad_path(job: &Job) -> Option<&str>
     }
 }
 
-/// A line that says where the file at the path is refused as a Breakpad file.
+// A line that says where the file at the path is refused as a Breakpad file.
 fn refused_at<F: Files>(alloc: Global, path: &str, files: &mut F) -> Result<Option<String>>
     ensures tells { Told (in_view (F.worlds files.old)) (λ world. IfOk result (λ said. Tells (option_map string_bytes said) (SaysAt path.now world))) }
     ensures most { ReadsOne F.Files files.old files.new }
@@ -94,7 +94,7 @@ fn refused_at<F: Files>(alloc: Global, path: &str, files: &mut F) -> Result<Opti
     }
 }
 
-/// A line that says where the bytes of the file at the path are refused.
+// A line that says where the bytes of the file at the path are refused.
 fn refused_of(alloc: Global, path: &str, bytes: &[u8]) -> Result<Option<String>>
     ensures tells { IfOk result (λ said. Tells (option_map string_bytes said) (SaysOf path.now bytes.now)) }
     ensures memory { IsOkUnless result Error.OutOfMemory }
@@ -108,7 +108,7 @@ fn refused_of(alloc: Global, path: &str, bytes: &[u8]) -> Result<Option<String>>
     }
 }
 
-/// A line that says why the file at the path is refused.
+// A line that says why the file at the path is refused.
 fn refused_line(alloc: Global, path: &str, why: Refused) -> std::result::Result<String, AllocError>
     ensures { IfOk result (λ line. string_bytes line ≡ line_about path.now (said_of why)) }
 {

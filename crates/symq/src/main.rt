@@ -48,8 +48,8 @@ fn run_real(rt: &HostRuntime) -> (Status, Option<CowStr<'static>>) {
     let words = words.as_slice();
     let message = match status {
         Status::Usage if !are_text => Some(CowStr::Borrowed("symq: a word isn't UTF-8")),
-        // What comes through a pipe is gone, and can't be looked at again.
-        Status::Refused if names_a_pipe(rt, words) => None,
+        // What comes of a pipe or a device is gone, and can't be looked at again.
+        Status::Refused if names_a_special_file(rt, words) => None,
         _ => message(rt.alloc(), words, status, failed, &mut files),
     };
     (status, message)
@@ -57,16 +57,16 @@ fn run_real(rt: &HostRuntime) -> (Status, Option<CowStr<'static>>) {
 
 // Whether the words name a Breakpad file that can't be read once more; so they may, where there is no
 // memory to tell.
-fn names_a_pipe(rt: &HostRuntime, words: &[String]) -> bool {
+fn names_a_special_file(rt: &HostRuntime, words: &[String]) -> bool {
     match named_file(rt.alloc(), words) {
-        Ok(Some(path)) => is_pipe(rt, path.as_str()),
+        Ok(Some(path)) => is_special_file(rt, path.as_str()),
         Ok(None) => false,
         Err(_) => true,
     }
 }
 
 // Whether a file is there that is neither a regular one nor a folder.
-fn is_pipe(rt: &HostRuntime, path: &str) -> bool {
+fn is_special_file(rt: &HostRuntime, path: &str) -> bool {
     match fs::metadata(rt, path) {
         Ok(found) => !found.is_file() && !found.is_dir(),
         Err(_) => false,

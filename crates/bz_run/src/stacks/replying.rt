@@ -1,12 +1,14 @@
 //! What an input of stacks is answered.
 
-ghost use Rattle.std.specs.Prelude.{◌≡◌, ◌<◌, ◌≤◌, length, vec_len, Ok, IfOk, IsErr, IsOk};
-ghost use Rattle.bz_cache.specs.Format.{Comes};
+ghost use Rattle.std.specs.Prelude.{◌≡◌, ◌<◌, ◌≤◌, length, vec_len, Ok, IfErr, IfOk, IsErr, IsOk};
+ghost use Rattle.bz_cache.specs.Format.{GivesOrFaults};
 ghost use Rattle.bz_files.specs.Looked.{Faulted, Looked};
 ghost use Rattle.bz_files.specs.World.{Told, in_view};
 ghost use Rattle.bz_stacks.specs.Spelling.{stacks_in};
+ghost use Rattle.bz_symq.specs.Command.{Breakpad};
 ghost use Rattle.bz_symq.specs.InputText.{greatest_input};
-ghost use Rattle.bz_symq.specs.Reply.{IsDoneReply, IsInputStatus, Replies};
+ghost use Rattle.bz_symq.specs.Reply.{IsDoneReply, IsInputStatus, IsRefusalReply, IsSomeCauseOrFails, Replies};
+ghost use Rattle.bz_symq.specs.Targets.{IsSomeFileCause};
 ghost use Rattle.bz_symq.specs.Turns.{FailsAtOne, ReadsOneFor};
 ghost use Rattle.bz_run.specs.StackOutcome.{answers_in, by_stacks, folded_by};
 ghost use Rattle.bz_run.specs.StackReply.{IsInputReply, IsSomeText, IsTextReply, RepliesToStacks, TakesTurns};
@@ -49,6 +51,7 @@ fn reply_to_input<F: Files>(
     requires short { vec_len text ≤ greatest_input }
     ensures reply { Told (in_view (F.worlds files.old)) (λ world. Replies (by_stacks path.now config world (stacks_in text.items)) result) }
     ensures answered { IfOk result (λ given. IsInputReply config text.items given) }
+    ensures refusal { IfOk result (λ given. IsRefusalReply (IsSomeFileCause (Breakpad path.now)) given) }
     ensures status { IfOk result (λ given. IsInputStatus (stacks_in text.items) given.status) }
     ensures unlooked { IsErr (stacks_in text.items) → files.new ≡ files.old }
     ensures opens { ReadsOneFor F.Files (IsDoneReply result) files.old files.new }
@@ -74,6 +77,7 @@ fn reply_of_file<F: Files>(
     requires few { length stacks.now < 4294967296 }
     ensures reply { Told (in_view (F.worlds files.old)) (λ world. Replies (by_stacks path.now config world (Ok stacks.now)) result) }
     ensures answered { IfOk result (λ given. IsTextReply config stacks.now given) }
+    ensures refusal { IfOk result (λ given. IsRefusalReply (IsSomeFileCause (Breakpad path.now)) given) }
     ensures status { IfOk result (λ given. IsInputStatus (Ok stacks.now) given.status) }
     ensures opens { ReadsOneFor F.Files (IsDoneReply result) files.old files.new }
     ensures files { Looked F.Files files.old files.new (Faulted result) }
@@ -93,8 +97,9 @@ fn folded<F: Files>(
     files: &mut F,
 ) -> Result<Vec<u8>>
     requires few { length stacks.now < 4294967296 }
-    ensures answer { Told (in_view (F.worlds files.old)) (λ world. Comes (λ text. text.items) (folded_by stacks.now (answers_in path.now config world stacks.now)) result) }
+    ensures answer { Told (in_view (F.worlds files.old)) (λ world. GivesOrFaults (λ text. text.items) (folded_by stacks.now (answers_in path.now config world stacks.now)) result) }
     ensures answered { IfOk result (λ text. IsSomeText config stacks.now text.items) }
+    ensures refusal { IfErr result (λ error. IsSomeCauseOrFails (IsSomeFileCause (Breakpad path.now)) error) }
     ensures opens { ReadsOneFor F.Files (IsOk result) files.old files.new }
     ensures files { Looked F.Files files.old files.new (Faulted result) }
 {

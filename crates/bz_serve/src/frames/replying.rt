@@ -18,7 +18,7 @@ use bz_symq::{Reply, Said, Status, bad_line};
 use std::alloc::Global;
 use std::borrow::CowStr;
 
-/// How many symbol files are kept.
+/// How many symbol files are kept at most.
 const CAPACITY: usize = 64;
 
 /// Answers the frames of an input from the symbol files below a root, in a store of its own. ReadFault: a

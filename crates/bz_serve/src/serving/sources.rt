@@ -4,9 +4,10 @@ ghost use Rattle.std.specs.Prelude.{◌≡◌, IfOk, IsOkUnless};
 ghost use Rattle.bz_base.specs.InputKind.{address_kind, payload};
 ghost use Rattle.bz_base.specs.declared.error.Error.{Error};
 ghost use Rattle.bz_requests.specs.Requests.{target_of, usual_kind};
-ghost use Rattle.bz_serve.specs.RequestSteps.{pid_by, process_by, target_form};
+ghost use Rattle.bz_serve.specs.RequestSteps.{process_by, target_form};
 ghost use Rattle.bz_symbolize.specs.Requests.{CacheElf, EvictElf, EvictProcess, cache_read, evict_read};
 ghost use Rattle.bz_symbolize.specs.Sources.{form_of};
+ghost use Rattle.bz_symq.specs.Processes.{pid_of};
 
 use bz_base::{Error, Input, Result};
 use bz_requests::Target;
@@ -37,7 +38,7 @@ pub(crate) fn source_of(alloc: Global, map_files: bool, target: &Target) -> Resu
             Ok(Source::from(Elf::new(path)))
         }
         Target::Process(number) => {
-            let mut process = Process::new(pid_by(*number));
+            let mut process = Process::new(pid_of(*number));
             process.map_files = map_files;
             Ok(Source::from(process))
         }
@@ -45,8 +46,8 @@ pub(crate) fn source_of(alloc: Global, map_files: bool, target: &Target) -> Resu
 }
 
 /// The process with this id; 0 is the own one.
-pub(crate) fn pid_by(number: u32) -> Pid
-    ensures { result ≡ pid_by number }
+pub(crate) fn pid_of(number: u32) -> Pid
+    ensures { result ≡ pid_of number }
 {
     Pid::from(number)
 }
@@ -72,7 +73,7 @@ pub(crate) fn elf_to_cache(alloc: Global, path: &str) -> Result<Cache>
 pub(crate) fn process_to_cache(number: u32) -> Cache
     ensures { cache_read result ≡ process_by number }
 {
-    Cache::from(cache::Process::new(pid_by(number)))
+    Cache::from(cache::Process::new(pid_of(number)))
 }
 
 /// The ELF file at a path, as what is to be forgotten.
@@ -86,7 +87,7 @@ pub(crate) fn elf_to_evict(alloc: Global, path: &str) -> Result<Evict>
 
 /// The process with this id, as what is to be forgotten.
 pub(crate) fn process_to_evict(number: u32) -> Evict
-    ensures { evict_read result ≡ EvictProcess (pid_by number) }
+    ensures { evict_read result ≡ EvictProcess (pid_of number) }
 {
-    Evict::from(evict::Process::new(pid_by(number)))
+    Evict::from(evict::Process::new(pid_of(number)))
 }

@@ -1,6 +1,6 @@
 use Rattle.std.proofs.Common.{map, string_bytes}
 use Rattle.bz_words.specs.Command.{command_in}
-use Rattle.bz_run.proofs.NumberLemmas.{command_small}
+use Rattle.bz_words.proofs.NumberLemmas.{command_small}
 use Rattle.bz_run.proofs.RunLemmas.{unstarted}
 use Rattle.bz_run.proofs.program.run_words.Goals as goal
 

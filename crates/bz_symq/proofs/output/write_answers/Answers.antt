@@ -1,7 +1,7 @@
 use Rattle.std.proofs.Common.{◌≡◌, drop, string_bytes, Err, refl, inl, inr, rules}
 use Rattle.bz_canon.proofs.AnswerTextLemmas.{texts_none}
 use Rattle.bz_symq.proofs.OutputLemmas.{has_answer, has_piece, writes_last}
-use Rattle.bz_symq.proofs.output.write_answers.Goals.{then-len-ge-PIECE+in_ok-write_piece, else-len-ge-PIECE}
+use Rattle.bz_symq.proofs.output.write_answers.Goals.{then-len-ge-WRITE_THRESHOLD+in_ok-write_piece, else-len-ge-WRITE_THRESHOLD}
 use Rattle.bz_symq.proofs.output.write_answers.Goals as goal
 
 -- nothing is written, and no texts were made
@@ -15,9 +15,9 @@ loop-index-preserved g c =
     let next = c.in-Ok.ensures.ok in
     let grown = has_answer g.W.TextOut (string_bytes c.loop-index.piece) lookups.addrs lookups.answers c.loop-index.index next.0 (search rules) next.1 next.2 c.loop-index.invariant.written in
     record {
-      written = elim c.if-len-ge-PIECE.branch [
-        | then-len-ge-PIECE+in_ok-write_piece w ↦ rw (w.output-is, w.piece-is) (has_piece g.W.TextOut _ grown w.in_ok-write_piece.ensures.wrote w.in_ok-write_piece.ensures.next)
-        | else-len-ge-PIECE w ↦ rw (w.output-is, w.piece-is) grown
+      written = elim c.if-len-ge-WRITE_THRESHOLD.branch [
+        | then-len-ge-WRITE_THRESHOLD+in_ok-write_piece w ↦ rw (w.output-is, w.piece-is) (has_piece g.W.TextOut _ grown w.in_ok-write_piece.ensures.wrote w.in_ok-write_piece.ensures.next)
+        | else-len-ge-WRITE_THRESHOLD w ↦ rw (w.output-is, w.piece-is) grown
       ];
       texts = c.in-Ok.ensures.texts;
     }

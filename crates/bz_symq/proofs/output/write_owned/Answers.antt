@@ -3,7 +3,7 @@ use Rattle.std.proofs.lemmas.List.{length-map}
 use Rattle.bz_base.specs.Answer.{reading}
 use Rattle.bz_canon.proofs.AnswerTextLemmas.{past_either, texts_end}
 use Rattle.bz_symq.proofs.OutputLemmas.{has_answer, has_piece, owned_next, writes_last}
-use Rattle.bz_symq.proofs.output.write_owned.Goals.{then-len-ge-PIECE+in_ok-write_piece, else-len-ge-PIECE}
+use Rattle.bz_symq.proofs.output.write_owned.Goals.{then-len-ge-WRITE_THRESHOLD+in_ok-write_piece, else-len-ge-WRITE_THRESHOLD}
 use Rattle.bz_symq.proofs.output.write_owned.Goals as goal
 
 -- the piece has the text of the next answer too, and may be written
@@ -15,9 +15,9 @@ loop-index-preserved g c =
     let next = owned_next owned.addrs.items owned.answers.items c.loop-index.index c.index.result.now c.index-in-loop-index.result.now (string_bytes c.loop-index.piece) (string_bytes c.push_answer.new.text)
     in_addrs in_answers c.index.ensures c.index-in-loop-index.ensures c.in-Ok.ensures.ok in
     let grown = has_answer g.W.TextOut (string_bytes c.loop-index.piece) owned.addrs.items (map reading owned.answers.items) c.loop-index.index (reading c.index-in-loop-index.result.now) in_addrs next.0 next.1 c.loop-index.invariant in
-    elim c.if-len-ge-PIECE.branch [
-      | then-len-ge-PIECE+in_ok-write_piece w ↦ rw (w.output-is, w.piece-is) (has_piece g.W.TextOut _ grown w.in_ok-write_piece.ensures.wrote w.in_ok-write_piece.ensures.next)
-      | else-len-ge-PIECE w ↦ rw (w.output-is, w.piece-is) grown
+    elim c.if-len-ge-WRITE_THRESHOLD.branch [
+      | then-len-ge-WRITE_THRESHOLD+in_ok-write_piece w ↦ rw (w.output-is, w.piece-is) (has_piece g.W.TextOut _ grown w.in_ok-write_piece.ensures.wrote w.in_ok-write_piece.ensures.next)
+      | else-len-ge-WRITE_THRESHOLD w ↦ rw (w.output-is, w.piece-is) grown
     ]
 
 -- the piece has it, and its writing failed

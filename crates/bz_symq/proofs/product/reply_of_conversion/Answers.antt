@@ -1,3 +1,4 @@
+use Rattle.bz_converting.proofs.ConversionLemmas.{refused}
 use Rattle.bz_symq.proofs.ConversionLemmas.{converted_reply, unconverted_reply}
 use Rattle.bz_symq.proofs.product.reply_of_conversion.Goals as goal
 
@@ -7,4 +8,5 @@ returns-in-Ok-clause-reply c table read = converted_reply table _ c.made_reply.r
 
 -- it was refused
 pub returns-in-Err-clause-reply : goal.returns-in-Err-clause-reply
-returns-in-Err-clause-reply c table read = unconverted_reply table c.in-Err.error c.unconverted.result (c.in-Err.ensures.refusal table read) c.unconverted.ensures.reply
+returns-in-Err-clause-reply c table read =
+    unconverted_reply table c.in-Err.error c.unconverted.result (λ other. refused table c.in-Err.error other (c.in-Err.ensures.refusal table read)) c.unconverted.ensures.reply

@@ -1,41 +1,45 @@
-use Rattle.std.proofs.Common.{◌≡◌, List, ap}
-use Rattle.bz_base.specs.Answer.{Answer}
+use Rattle.std.proofs.Common.{◌≡◌, ap}
 use Rattle.bz_base.specs.InputKind.{address_kind}
-use Rattle.bz_lookups.specs.declared.lookups.Lookups.{Lookups}
 use Rattle.bz_symbolize.specs.State.{new_state}
 use Rattle.bz_symq.specs.Command.{file_target_of}
-use Rattle.bz_symq.specs.Kept.{Kept, settings_of}
+use Rattle.bz_symq.specs.Kept.{KeptState, opts_in, settings_of}
+use Rattle.bz_symq.proofs.CauseLemmas.{file_refusal}
 use Rattle.bz_symq.proofs.TargetLemmas.{answer_new, few_from_kept, of_its_file, of_its_source, of_untaken, opened_by_target, some_from_kept, takes_few}
-use Rattle.bz_symq.proofs.ReplyLemmas.{given_from_ok}
+use Rattle.bz_symq.proofs.ReplyLemmas.{answers_read, given_from_ok}
 use Rattle.bz_symq.proofs.program.look_up.Goals as goal
-
-abbrev read : Lookups → List Answer
-read lookups = lookups.answers
 
 -- a symbolizer that keeps nothing answers as the file answers
 pub returns-clause-answer : goal.returns-clause-answer
 returns-clause-answer g c world told =
-    let files : c.new_symbolizer-symbolizer.result.files ≡ new_state (settings_of c.args.batch.now.config) = ap (λ (kept : Kept). kept.files) c.new_symbolizer-symbolizer.ensures in
+    let files : c.new_symbolizer-symbolizer.result.files ≡ new_state (settings_of c.args.batch.now.config) = ap (λ (kept : KeptState). kept.files) c.new_symbolizer-symbolizer.ensures in
     let looked = rw (files, c.input_for.ensures.kind, c.input_for.ensures.addrs) at ((of_its_source (file_target_of c.args.batch.now.file) c.in_ok-src.src _ c.in_ok-src.ensures.ok (c.look_up.ensures.call.told world told)).answer) in
     rw (answer_new c.args.batch.now.config c.args.addrs.items world (file_target_of c.args.batch.now.file) (address_kind c.args.batch.now.kind) c.in_ok-src.src (g.F.Files.pid c.args.files.now) c.in_ok-src.ensures.ok) at looked
 
 -- by bytes in the format, whatever is told
 pub returns-clause-answered : goal.returns-clause-answered
 returns-clause-answered g c =
-    let files : c.new_symbolizer-symbolizer.result.files ≡ new_state (settings_of c.args.batch.now.config) = ap (λ (kept : Kept). kept.files) c.new_symbolizer-symbolizer.ensures in
+    let files : c.new_symbolizer-symbolizer.result.files ≡ new_state (settings_of c.args.batch.now.config) = ap (λ (kept : KeptState). kept.files) c.new_symbolizer-symbolizer.ensures in
     let kept = rw (files, c.input_for.ensures.kind, c.input_for.ensures.addrs) at c.look_up.ensures.call.kept in
     let untaken = rw c.input_for.ensures.kind at c.look_up.ensures.call.untaken in
-    some_from_kept c.args.batch.now.config c.args.addrs.items read (address_kind c.args.batch.now.kind) _ _ (file_target_of c.args.batch.now.file) c.in_ok-src.src c.look_up.result c.in_ok-src.ensures.ok (λ refused. refused.0) untaken kept
+    some_from_kept c.args.batch.now.config c.args.addrs.items answers_read (address_kind c.args.batch.now.kind) _ _ (file_target_of c.args.batch.now.file) c.in_ok-src.src c.look_up.result c.in_ok-src.ensures.ok (λ refused. refused.0) untaken kept
+
+-- or refused by a cause that the file may have
+pub returns-clause-refusal : goal.returns-clause-refusal
+returns-clause-refusal g c =
+    let files : c.new_symbolizer-symbolizer.result.files ≡ new_state (settings_of c.args.batch.now.config) = ap (λ (kept : KeptState). kept.files) c.new_symbolizer-symbolizer.ensures in
+    let untaken = of_untaken (file_target_of c.args.batch.now.file) (address_kind c.args.batch.now.kind) c.in_ok-src.src _ c.in_ok-src.ensures.ok (rw c.input_for.ensures.kind at c.look_up.ensures.call.untaken) in
+    file_refusal (opts_in c.args.batch.now.config) c.args.addrs.items (address_kind c.args.batch.now.kind) c.args.batch.now.config (file_target_of c.args.batch.now.file) c.in_ok-src.src c.look_up.result c.in_ok-src.ensures.ok (λ is. (untaken is).0)
+    (rw (files, c.input_for.ensures.kind, c.input_for.ensures.addrs) at c.look_up.ensures.call.refusal)
 
 -- one file at most was read, and where answers are given one was
 pub returns-clause-opens : goal.returns-clause-opens
 returns-clause-opens g c =
-    let files : c.new_symbolizer-symbolizer.result.files ≡ new_state (settings_of c.args.batch.now.config) = ap (λ (kept : Kept). kept.files) c.new_symbolizer-symbolizer.ensures in
+    let files : c.new_symbolizer-symbolizer.result.files ≡ new_state (settings_of c.args.batch.now.config) = ap (λ (kept : KeptState). kept.files) c.new_symbolizer-symbolizer.ensures in
     record {
       most = of_its_file (file_target_of c.args.batch.now.file) c.in_ok-src.src _ c.in_ok-src.ensures.ok c.look_up.ensures.call.most;
       opened = λ world told.
           let opened = rw (files, c.input_for.ensures.kind) at ((of_its_source (file_target_of c.args.batch.now.file) c.in_ok-src.src _ c.in_ok-src.ensures.ok (c.look_up.ensures.call.told world told)).opened) in
-          given_from_ok c.look_up.result _ (opened_by_target c.args.batch.now.config c.args.addrs.items read world _ _ c.look_up.result (file_target_of c.args.batch.now.file) (address_kind c.args.batch.now.kind) c.in_ok-src.src (g.F.Files.pid c.args.files.now) c.in_ok-src.ensures.ok
+          given_from_ok c.look_up.result _ (opened_by_target c.args.batch.now.config c.args.addrs.items answers_read world _ _ c.look_up.result (file_target_of c.args.batch.now.file) (address_kind c.args.batch.now.kind) c.in_ok-src.src (g.F.Files.pid c.args.files.now) c.in_ok-src.ensures.ok
           (returns-clause-answer g c world told) opened);
     }
 
@@ -46,9 +50,9 @@ returns-clause-untaken g c untaken = (of_untaken (file_target_of c.args.batch.no
 -- in few steps
 pub returns-clause-found : goal.returns-clause-found
 returns-clause-found g c =
-    let files : c.new_symbolizer-symbolizer.result.files ≡ new_state (settings_of c.args.batch.now.config) = ap (λ (kept : Kept). kept.files) c.new_symbolizer-symbolizer.ensures in
+    let files : c.new_symbolizer-symbolizer.result.files ≡ new_state (settings_of c.args.batch.now.config) = ap (λ (kept : KeptState). kept.files) c.new_symbolizer-symbolizer.ensures in
     let kept = rw (files, c.input_for.ensures.kind, c.input_for.ensures.addrs) at c.look_up.ensures.call.kept in
-    few_from_kept c.args.batch.now.config c.args.addrs.items read (address_kind c.args.batch.now.kind) _ _ _ (file_target_of c.args.batch.now.file) c.in_ok-src.src c.look_up.result c.in_ok-src.ensures.ok kept (rw c.input_for.ensures.addrs at c.look_up.ensures.steps)
+    few_from_kept c.args.batch.now.config c.args.addrs.items answers_read (address_kind c.args.batch.now.kind) _ _ _ (file_target_of c.args.batch.now.file) c.in_ok-src.src c.look_up.result c.in_ok-src.ensures.ok kept (rw c.input_for.ensures.addrs at c.look_up.ensures.steps)
 
 pub returns-clause-steps : goal.returns-clause-steps
 returns-clause-steps g c =

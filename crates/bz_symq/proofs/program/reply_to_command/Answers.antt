@@ -8,7 +8,7 @@ pub returns-in-Make-clause-reply : goal.returns-in-Make-clause-reply
 returns-in-Make-clause-reply g c =
     let product = product_of c.in-Make.product in
     let made = c.reply_with_product.ensures in
-    rw c.in-Make.is (reply_from_product (Make product) product refl _ _ _ c.reply_with_product.result made.reply made.answered made.status)
+    rw c.in-Make.is (reply_from_product (Make product) product refl _ _ _ c.reply_with_product.result made.reply made.answered made.refusal made.status)
 
 pub returns-in-Make-clause-turns : goal.returns-in-Make-clause-turns
 returns-in-Make-clause-turns g c =

@@ -1,7 +1,7 @@
 use Rattle.std.proofs.Common.{◌≡◌, ◌<◌, length, Some, arith}
 use Rattle.std.specs.List.{slice_get}
 use Rattle.bz_base.specs.Answer.{reading}
-use Rattle.bz_lookups.proofs.BatchLemmas.{answer_there}
+use Rattle.bz_symq.proofs.BatchLemmas.{answer_there}
 use Rattle.bz_run.proofs.TallyLemmas.{none_tallied, one_more, one_more_fits}
 use Rattle.bz_run.proofs.generating.tally.tally_of.Goals as goal
 

@@ -1,28 +1,24 @@
-use Rattle.std.proofs.Common.{List, ap}
-use Rattle.bz_base.specs.Answer.{Answer}
+use Rattle.std.proofs.Common.{ap}
 use Rattle.bz_base.specs.InputKind.{address_kind, payload}
-use Rattle.bz_lookups.specs.declared.lookups.Lookups.{Lookups}
 use Rattle.bz_symbolize.specs.FileCall.{batch_of}
 use Rattle.bz_canon.specs.AnswerText.{answer_texts}
+use Rattle.bz_symq.proofs.ReplyLemmas.{answers_read}
 use Rattle.bz_serve.proofs.DoesLemmas.{does_file}
 use Rattle.bz_serve.proofs.RequestReplyLemmas.{replied_given, replied_refused}
 use Rattle.bz_serve.proofs.serving.replies.reply_by_file.Goals as goal
-
-abbrev read : Lookups → List Answer
-read lookups = lookups.answers
 
 -- the answers are said
 pub returns-in-Ok : goal.returns-in-Ok
 returns-in-Ok g c file is =
     let addrs = (payload c.args.input).items in
-    replied_given g.F.Files _ _ read (answer_texts addrs) _ _ _ c.in-Ok.lookups _
-    (does_file g.F.Files c.args.src.now _ _ _ _ _ read file is (batch_of (address_kind c.args.input) addrs) c.in-Ok.ensures.call c.in-Ok.ensures.processes)
+    replied_given g.F.Files _ _ answers_read (answer_texts addrs) _ _ _ c.in-Ok.lookups _
+    (does_file g.F.Files c.args.src.now _ _ _ _ _ answers_read file is (batch_of (address_kind c.args.input) addrs) c.in-Ok.ensures.call c.in-Ok.ensures.processes)
     (ap (λ addrs. answer_texts addrs c.in-Ok.lookups.answers) c.in-Ok.ensures.addrs)
 
 -- the refusal is said
 pub returns-in-Err : goal.returns-in-Err
 returns-in-Err g c file is =
     let addrs = (payload c.args.input).items in
-    replied_refused g.F.Files _ _ read (answer_texts addrs) _ _ _ c.in-Err.error c.said_refusal.result
-    (does_file g.F.Files c.args.src.now _ _ _ _ _ read file is (batch_of (address_kind c.args.input) addrs) c.in-Err.ensures.call c.in-Err.ensures.processes)
+    replied_refused g.F.Files _ _ answers_read (answer_texts addrs) _ _ _ c.in-Err.error c.said_refusal.result
+    (does_file g.F.Files c.args.src.now _ _ _ _ _ answers_read file is (batch_of (address_kind c.args.input) addrs) c.in-Err.ensures.call c.in-Err.ensures.processes)
     c.said_refusal.ensures

@@ -1,12 +1,11 @@
 -- The numbers of a generated job that words give are small.
-use Rattle.std.proofs.Common.{◌≡◌, ℕ, ◌≤◌, Bool, true, false, cond, nat_le, List, [], ◌∷◌, codes, Option, Some, None, option_map, option_and_then, bytes_eq, unwrap_or, refl, subst, arith}
+use Rattle.std.proofs.Common.{◌≡◌, ℕ, ◌≤◌, Bool, true, false, cond, nat_le, List, [], ◌∷◌, codes, Option, Some, None, option_map, option_and_then, bytes_eq, unwrap_or, subst, arith}
 use Rattle.std.proofs.lemmas.Bool.{cond_both}
 use Rattle.bz_base.proofs.NumberLemmas.{decimal_whole_found}
 use Rattle.bz_requests.proofs.OptionLemmas.{map_some, then_some}
 use Rattle.clap.specs.Words.{Row, Text, all_of, first_of}
-use Rattle.bz_words.specs.Command.{Batch, Canonical, Command, Converted, Frames, Generate, Job, Make, Serve, Stacks, batch_in, command_by, command_in, command_read, config_in, generate_in, is_source, job_by, job_by_rows, job_in, kind_for, number_in, numbers_in, on_path_in, path_job, serve_in, some_in, target_in, unless_faulty}
+use Rattle.bz_words.specs.Command.{Batch, Canonical, Command, Converted, Frames, Generate, HasSmallNumbers, Job, Make, Serve, Stacks, batch_in, command_by, command_in, command_read, config_in, generate_in, is_source, job_by, job_by_rows, job_in, kind_for, number_in, numbers_in, on_path_in, path_job, serve_in, some_in, target_in, unless_faulty}
 use Rattle.bz_words.specs.Definition.{faults, rows}
-use Rattle.bz_run.specs.Generated.{HasSmallNumbers}
 
 if_some : (b : Bool) (m n : ℕ) → cond b (Some m) None ≡ Some n → m ≡ n
 if_some true m n is = cc
