@@ -30,18 +30,18 @@ fn reasons_errors_and_inputs_tell_what_they_are(rt: HostRuntime) {
     );
 }
 
-/// A place, whose texts are borrowed.
-const PLACE: CodeInfo<'static> = CodeInfo {
+/// A site, whose texts are borrowed.
+const SITE: CodeInfo<'static> = CodeInfo {
     dir: Some(CowStr::Borrowed("/foobar")),
     file: CowStr::Borrowed("source.c"),
     line: Some(14),
     column: None,
 };
 
-/// A call at that place.
+/// A call at that site.
 const CALL: InlinedFn<'static> = InlinedFn {
     name: CowStr::Borrowed("inner"),
-    code_info: Some(PLACE),
+    code_info: Some(SITE),
 };
 
 /// A symbol with that call, whose texts are borrowed.
@@ -54,7 +54,7 @@ fn symbol(alloc: Global) -> Result<Sym<'static>> {
         addr: 0x2000100,
         offset: 4,
         size: Some(46),
-        code_info: Some(PLACE),
+        code_info: Some(SITE),
         inlined,
         public: false,
     })
@@ -130,9 +130,9 @@ fn call_is_cloned(alloc: Global, call: &InlinedFn<'_>) -> bool {
     is_equal(call.try_clone(alloc), call)
 }
 
-/// Whether a copy of a place is equal to it.
-fn place_is_cloned(alloc: Global, place: &CodeInfo<'_>) -> bool {
-    is_equal(place.try_clone(alloc), place)
+/// Whether a copy of a site is equal to it.
+fn site_is_cloned(alloc: Global, site: &CodeInfo<'_>) -> bool {
+    is_equal(site.try_clone(alloc), site)
 }
 
 /// Whether a copy of an answer is equal to it.
@@ -148,20 +148,20 @@ fn call_is_owned(alloc: Global) -> bool {
     }
 }
 
-/// Whether the place with texts of its own is equal to it.
-fn place_is_owned(alloc: Global) -> bool {
-    match PLACE.into_owned(alloc) {
-        Ok(own) => own == PLACE && matches!(own.file, CowStr::Owned(_)),
+/// Whether the site with texts of its own is equal to it.
+fn site_is_owned(alloc: Global) -> bool {
+    match SITE.into_owned(alloc) {
+        Ok(own) => own == SITE && matches!(own.file, CowStr::Owned(_)),
         Err(_) => false,
     }
 }
 
-/// Whether a call and a place are cloned, and an answer that is none.
+/// Whether a call and a site are cloned, and an answer that is none.
 fn parts_are_cloned(alloc: Global) -> bool {
     let call = call_is_cloned(alloc, &CALL);
-    let place = place_is_cloned(alloc, &PLACE);
+    let site = site_is_cloned(alloc, &SITE);
     let answer = answer_is_cloned(alloc, &Symbolized::Unknown(Reason::Unmapped));
-    call && place && answer
+    call && site && answer
 }
 
 #[test]
@@ -170,6 +170,6 @@ fn answers_are_cloned_and_give_their_symbols(rt: HostRuntime) {
 }
 
 #[test]
-fn calls_and_places_are_owned(rt: HostRuntime) {
-    assert!(rt; call_is_owned(rt.alloc()) && place_is_owned(rt.alloc()));
+fn calls_and_sites_are_owned(rt: HostRuntime) {
+    assert!(rt; call_is_owned(rt.alloc()) && site_is_owned(rt.alloc()));
 }

@@ -3,7 +3,7 @@
 use bz_base::Cursor;
 
 /// Bytes, with the unsigned number in front of them. The first five are the DWARF standard's own.
-const UNSIGNED: [(&[u8], Option<u64>); 14] = [
+static UNSIGNED: [(&[u8], Option<u64>); 14] = [
     (b"\x02", Some(2)),
     (b"\x7f", Some(127)),
     (b"\x80\x01", Some(128)),
@@ -27,7 +27,7 @@ const UNSIGNED: [(&[u8], Option<u64>); 14] = [
 ];
 
 /// Bytes, with the signed number in front of them. The first eight are the DWARF standard's own.
-const SIGNED: [(&[u8], Option<i64>); 18] = [
+static SIGNED: [(&[u8], Option<i64>); 18] = [
     (b"\x02", Some(2)),
     (b"\x7e", Some(-2)),
     (b"\xff\x00", Some(127)),

@@ -71,7 +71,7 @@ impl std::rt::Files for Failing {
 }
 
 /// Failures, with their answers at a look and at a read.
-const ANSWERS: [(ErrorKind, FileError, FileError); 4] = [
+static ANSWERS: [(ErrorKind, FileError, FileError); 4] = [
     (
         ErrorKind::NotFound,
         FileError::NotFound,

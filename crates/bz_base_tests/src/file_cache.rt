@@ -119,7 +119,7 @@ enum Act {
 type Step = (Act, &'static str, &'static [u8], usize);
 
 /// A changed file is answered by its first version.
-const CHANGES_UNSEEN: [Step; 4] = [
+static CHANGES_UNSEEN: [Step; 4] = [
     (Act::Puts, "", b"V1", 0),
     (Act::Answers(true), "/s", b"V1", 0),
     (Act::Puts, "", b"V2", 0),

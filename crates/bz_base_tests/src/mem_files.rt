@@ -72,7 +72,7 @@ fn memory_files_hold_what_is_put(rt: HostRuntime) {
 }
 
 /// What the file at `/a` holds in each world that is scheduled.
-const TEXTS: [&str; 3] = ["one", "two", "three"];
+static TEXTS: [&str; 3] = ["one", "two", "three"];
 
 /// Schedules these worlds, behind a first one that is empty.
 fn schedule(files: &mut MemFiles, alloc: Global) -> Result<(), Error> {

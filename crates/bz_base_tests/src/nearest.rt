@@ -67,7 +67,7 @@ fn id_of(entry: Option<&Entry>) -> u8 {
 }
 
 /// Starts, sizes and depths in the order of a file, of which two are equal.
-const NESTED: [(u64, u64, u32); 5] = [(4, 9, 1), (0, 20, 0), (4, 9, 1), (5, 2, 2), (6, 0, 3)];
+static NESTED: [(u64, u64, u32); 5] = [(4, 9, 1), (0, 20, 0), (4, 9, 1), (5, 2, 2), (6, 0, 3)];
 
 /// Whether a chain has the records around 6, from the outermost on.
 fn is_around(chain: &[&Entry]) -> bool {
@@ -90,7 +90,7 @@ fn finds_around(alloc: Global) -> Result<bool, AllocError> {
 }
 
 /// Starts and sizes in the order of a file, of which several are equal.
-const SPANS: [(u64, u64, u32); 6] = [
+static SPANS: [(u64, u64, u32); 6] = [
     (16, 8, 0),
     (16, 4, 0),
     (32, 0, 0),
@@ -100,7 +100,7 @@ const SPANS: [(u64, u64, u32); 6] = [
 ];
 
 /// Addresses, and the number of the record that answers for each.
-const ANSWERS: [(u64, u8); 9] = [
+static ANSWERS: [(u64, u8); 9] = [
     (17, 4),
     (16, 1),
     (40, 99),
@@ -163,7 +163,7 @@ fn is_placed<L: Ledger>(
 }
 
 /// Addresses that are searched together.
-const TOGETHER: [u64; 9] = [17, 16, 40, 7, 32, 8, 15, 23, 24];
+static TOGETHER: [u64; 9] = [17, 16, 40, 7, 32, 8, 15, 23, 24];
 
 /// Whether many addresses, which are found in one sweep, have the places that one has by a search.
 fn places_agree<L: Ledger>(alloc: Global, starts: &Starts, steps: &mut Steps<L>) -> bool {
@@ -192,7 +192,7 @@ fn finds_record<L: Ledger>(alloc: Global, steps: &mut Steps<L>) -> Result<bool, 
 }
 
 /// Addresses, and for each the place of its start among the sorted ones, and this start.
-const PLACES: [(u64, usize, u64); 4] = [(10, 0, 10), (15, 1, 10), (20, 2, 20), (99, 3, 20)];
+static PLACES: [(u64, usize, u64); 4] = [(10, 0, 10), (15, 1, 10), (20, 2, 20), (99, 3, 20)];
 
 fn has_places<L: Ledger>(starts: &Starts, steps: &mut Steps<L>) -> bool {
     for (addr, place, start) in &PLACES {

@@ -5,7 +5,7 @@ use std::alloc::Global;
 use std::borrow::CowStr;
 
 /// Texts, with their directory and file. An empty text stands for none.
-const SPLITS: [(&str, &str, &str); 14] = [
+static SPLITS: [(&str, &str, &str); 14] = [
     ("/src/app/main.c", "/src/app", "main.c"),
     ("a//b/./c.c", "a//b", "c.c"),
     ("/c.c", "/", "c.c"),
@@ -23,7 +23,7 @@ const SPLITS: [(&str, &str, &str); 14] = [
 ];
 
 /// Directories and files, with their path.
-const PATHS: [(&str, &str, &str); 4] = [
+static PATHS: [(&str, &str, &str); 4] = [
     ("/foobar", "source.c", "/foobar/source.c"),
     ("a/", "b", "a/b"),
     ("a", "/b", "/b"),

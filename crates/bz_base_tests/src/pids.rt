@@ -6,7 +6,7 @@ use std::cmp::Ordering;
 use std::num::NonZeroU32;
 
 /// Numbers, the ids that they resolve to where the own one is 7, and their texts.
-const PROCESSES: [(u32, u32, &str); 4] = [
+static PROCESSES: [(u32, u32, &str); 4] = [
     (0, 7, "self"),
     (1, 1, "1"),
     (7, 7, "7"),
@@ -14,7 +14,7 @@ const PROCESSES: [(u32, u32, &str); 4] = [
 ];
 
 /// The numbers of two processes, and how they stand: the own one comes first.
-const PAIRS: [(u32, u32, Ordering); 6] = [
+static PAIRS: [(u32, u32, Ordering); 6] = [
     (0, 0, Ordering::Equal),
     (0, 1, Ordering::Less),
     (9, 10, Ordering::Less),

@@ -67,7 +67,7 @@ enum Outcome {
 type Row = (Outcome, &'static str, &'static [u8], u64, u64);
 
 /// Files, and paths at which no file can be, of which the last one is too long.
-const LOOKED_AT: [Row; 8] = [
+static LOOKED_AT: [Row; 8] = [
     (Outcome::Text, "bz_files_real", b"one two", 0, 2),
     (Outcome::NoFile, "bz_files_absent", b"", 0, 2),
     (Outcome::NoFile, "bz_files_real/inside", b"", 0, 2),
@@ -85,7 +85,7 @@ const LOOKED_AT: [Row; 8] = [
 ];
 
 /// A folder, a link to itself and a file that is too long.
-const FAILING: [Row; 3] = [
+static FAILING: [Row; 3] = [
     (Outcome::NoRead, ".", b"", 1, 0),
     (Outcome::NoLook, "bz_files_loop", b"", 2, 0),
     (Outcome::NoRead, "bz_files_long", b"", 3, 0),
@@ -145,7 +145,7 @@ fn are_told_apart<F: Files>(files: &mut F) -> Result<bool, FileError> {
 }
 
 /// The files that are made.
-const MADE: [&str; 5] = [
+static MADE: [&str; 5] = [
     "bz_files_real",
     "bz_files_one",
     "bz_files_two",

@@ -77,7 +77,7 @@ impl Write for FailsFirst {
 }
 
 /// How the first calls fail, how many of them, and how many faults that is.
-const FAILURES: [(ErrorKind, u32, u64); 3] = [
+static FAILURES: [(ErrorKind, u32, u64); 3] = [
     (ErrorKind::BrokenPipe, 1, 1),
     // Calls that the system interrupts are made again.
     (ErrorKind::Interrupted, 63, 0),

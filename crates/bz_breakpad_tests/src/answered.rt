@@ -7,48 +7,48 @@ use std::alloc::Global;
 use std::borrow::CowStr;
 use std::sync::ledger::Ledger;
 
-/// Whether this is answered at the address, in a batch and alone.
+/// What is asked of a file at an address, and what it has to answer.
+#[derive(Drop)]
+pub(crate) struct Asked<'a> {
+    pub(crate) addr: u64,
+    pub(crate) opts: &'a FindSymOpts,
+    pub(crate) answer: &'a Answer,
+}
+
+/// Whether the file answers so, in a batch and alone.
 pub(crate) fn is_answered<L: Ledger>(
     alloc: Global,
     file: &SymbolFile,
-    addr: u64,
-    opts: &FindSymOpts,
-    expected: &Answer,
+    asked: &Asked<'_>,
     steps: &mut Steps<L>,
 ) -> bool {
-    is_answered_in_batch(alloc, file, addr, opts, expected, steps)
-        && is_answered_alone(alloc, file, addr, opts, expected, steps)
+    is_answered_in_batch(alloc, file, asked, steps) && is_answered_alone(alloc, file, asked, steps)
 }
 
-/// Whether this is answered at the address in a batch.
 fn is_answered_in_batch<L: Ledger>(
     alloc: Global,
     file: &SymbolFile,
-    addr: u64,
-    opts: &FindSymOpts,
-    expected: &Answer,
+    asked: &Asked<'_>,
     steps: &mut Steps<L>,
 ) -> bool {
-    match file.answer_batch(alloc, &[addr], opts, steps) {
-        Ok(answers) => answers.len() == 1 && is_answer(&answers[0], expected),
+    match file.answer_batch(alloc, &[asked.addr], asked.opts, steps) {
+        Ok(answers) => answers.len() == 1 && is_answer(&answers[0], asked.answer),
         Err(_) => false,
     }
 }
 
-/// Whether this is answered alone. What a batch ignores is refused alone.
+/// Whether the file answers so alone. What a batch ignores is refused alone.
 fn is_answered_alone<L: Ledger>(
     alloc: Global,
     file: &SymbolFile,
-    addr: u64,
-    opts: &FindSymOpts,
-    expected: &Answer,
+    asked: &Asked<'_>,
     steps: &mut Steps<L>,
 ) -> bool {
-    match file.answer(alloc, addr, opts, steps) {
-        Ok(answer) => is_answer(&answer, expected),
+    match file.answer(alloc, asked.addr, asked.opts, steps) {
+        Ok(answer) => is_answer(&answer, asked.answer),
         Err(error) => {
             error == Error::InvalidInput
-                && matches!(expected, Answer::Unknown(Reason::IgnoredError))
+                && matches!(asked.answer, Answer::Unknown(Reason::IgnoredError))
         }
     }
 }
@@ -73,8 +73,8 @@ fn is_answer(answer: &Symbolized<'_>, expected: &Answer) -> bool {
                 && (symbol.addr, symbol.offset, symbol.size, symbol.public)
                     == (*start, *offset, *size, *public)
         }
-        (Symbolized::Sym(symbol), Answer::Places(place, calls)) => {
-            is_call(symbol.name.as_str(), &symbol.code_info, place)
+        (Symbolized::Sym(symbol), Answer::Located(site, calls)) => {
+            is_call(symbol.name.as_str(), &symbol.code_info, site)
                 && are_calls(&symbol.inlined, calls)
         }
         (Symbolized::Unknown(reason), Answer::Unknown(expected)) => reason == expected,
@@ -95,19 +95,19 @@ fn are_calls(calls: &[InlinedFn<'_>], expected: &[Call]) -> bool {
     true
 }
 
-/// Whether the function of this name has the place. No place has a column.
-pub(crate) fn is_call(name: &str, place: &Option<CodeInfo<'_>>, expected: &Call) -> bool {
+/// Whether the function of this name has the site. No site has a column.
+pub(crate) fn is_call(name: &str, site: &Option<CodeInfo<'_>>, expected: &Call) -> bool {
     let (function, dir, file, line) = *expected;
     if name != function {
         return false;
     }
-    match place {
-        Some(place) => {
+    match site {
+        Some(site) => {
             !file.is_empty()
-                && is_text(&place.dir, dir)
-                && place.file.as_str() == file
-                && place.line == Some(line)
-                && place.column == None
+                && is_text(&site.dir, dir)
+                && site.file.as_str() == file
+                && site.line == Some(line)
+                && site.column == None
         }
         None => file.is_empty(),
     }

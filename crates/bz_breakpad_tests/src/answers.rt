@@ -34,7 +34,7 @@ const BEYOND: &[u8] = b"PUBLIC 10 0 p\nFUNC ffffffffffffffff 10 0 f\n";
 const TOP: u64 = 0xffffffffffffffff;
 
 /// Answers by the nearest function, and nowhere else.
-pub(crate) const BY_FUNCTIONS: &[Row] = &[
+pub(crate) static BY_FUNCTIONS: [Row; 7] = [
     (
         BAR,
         &[
@@ -119,7 +119,7 @@ pub(crate) const BY_FUNCTIONS: &[Row] = &[
 ];
 
 /// Answers by PUBLIC records, after which no function starts.
-pub(crate) const BY_PUBLICS: &[Row] = &[
+pub(crate) static BY_PUBLICS: [Row; 3] = [
     (
         PUBLICS,
         &[
@@ -178,7 +178,7 @@ pub(crate) const BY_PUBLICS: &[Row] = &[
 ];
 
 /// Answers where a PUBLIC record is at a function's start, within it, behind it or before it.
-pub(crate) const BY_BOTH: &[Row] = &[
+pub(crate) static BY_BOTH: [Row; 5] = [
     (
         SAME,
         &[
@@ -251,7 +251,7 @@ pub(crate) const BY_BOTH: &[Row] = &[
 ];
 
 /// Functions, PUBLIC records and addresses with neither, together.
-pub(crate) const BATCHES: &[Row] = &[
+pub(crate) static BATCHES: [Row; 2] = [
     (
         BAR,
         &[Batch(

@@ -60,7 +60,7 @@ pub(crate) enum Told {
     Calls(&'static [Inlinee]),
 }
 
-/// The name of a function, and the directory, the file and the line of a place in it. Where no place
+/// The name of a function, and the directory, the file and the line of a site in it. Where no site
 /// is known, the file is empty.
 pub(crate) type Call = (&'static str, &'static str, &'static str, u32);
 
@@ -69,8 +69,8 @@ pub(crate) enum Answer {
     /// The symbol's name, start, offset, size and module, which is empty where there is none, and
     /// whether it is a PUBLIC record.
     Symbol(&'static str, u64, usize, Option<usize>, &'static str, bool),
-    /// The symbol's name and place, and the inlined calls.
-    Places(Call, &'static [Call]),
+    /// The symbol's name and site, and the inlined calls.
+    Located(Call, &'static [Call]),
     /// Why there is no symbol.
     Unknown(Reason),
 }

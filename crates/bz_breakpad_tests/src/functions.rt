@@ -34,7 +34,7 @@ const INNER: Inlinee = Inlinee {
     origin_id: 1,
 };
 
-pub(crate) const FOUND: &[Row] = &[
+pub(crate) static FOUND: [Row; 2] = [
     (
         BAR,
         &[
@@ -101,7 +101,7 @@ const INLINEES: &[Inlinee] = &[
 ];
 
 /// Functions and lines in the order of start and size, and calls in the order of depth and start.
-pub(crate) const IN_ORDER: &[Row] = &[
+pub(crate) static IN_ORDER: [Row; 9] = [
     (b"FUNC 10 8 0 a\nFUNC 20 8 0 b\n", &[Functions(&["a", "b"])]),
     (
         b"FUNC 30 10 0 c\nFUNC 10 20 0 b\nFUNC m 10 8 0 a\nFUNC 30 10 4 d\n",

@@ -2,7 +2,7 @@
 
 ghost use Rattle.std.specs.Prelude.{◌≡◌, ◌<◌};
 
-use crate::answered::is_answered;
+use crate::answered::{Asked, is_answered};
 use crate::fact::{ABSENT, Fact, Row};
 use crate::found::has_batch;
 use crate::named::{are_listed, has_function_names, has_name, has_names, has_public};
@@ -79,7 +79,14 @@ fn shows<L: Ledger>(
         Fact::Walk(last, infos) => is_walk(file, SymType::Undefined, last, infos, Ok(())),
         Fact::Functions(names) => has_function_names(file, names, steps),
         Fact::Function(addr, told) => is_told(alloc, file, *addr, told, steps),
-        Fact::Answer(addr, opts, answer) => is_answered(alloc, file, *addr, opts, answer, steps),
+        Fact::Answer(addr, opts, answer) => {
+            let asked = Asked {
+                addr: *addr,
+                opts,
+                answer,
+            };
+            is_answered(alloc, file, &asked, steps)
+        }
         Fact::Batch(addrs, opts, records, answers) => {
             has_batch(alloc, file, addrs, opts, records, answers, steps)
         }

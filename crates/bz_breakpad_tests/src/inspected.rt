@@ -55,7 +55,7 @@ const LAST: SymInfo<'static> = SymInfo {
 };
 
 /// Walks in the order of start, size and place in the file.
-pub(crate) const WALKS: &[Row] = &[(
+pub(crate) static WALKS: [Row; 1] = [(
     TWINS,
     &[
         Walk("twin", &[OTHER, SHORT_TWIN]),

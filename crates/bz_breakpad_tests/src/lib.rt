@@ -26,8 +26,6 @@ mod named;
 #[cfg(test)]
 mod names;
 #[cfg(test)]
-mod places;
-#[cfg(test)]
 mod read;
 #[cfg(test)]
 mod refused;
@@ -35,6 +33,8 @@ mod refused;
 mod resolved;
 #[cfg(test)]
 mod resolvers;
+#[cfg(test)]
+mod sites;
 #[cfg(test)]
 mod tables;
 #[cfg(test)]

@@ -44,7 +44,7 @@ const INTERRUPTED: &[u8] =
 const CARRIAGE_RETURNS: &[u8] =
     b"FUNC 1000 40 0 f\r\n1000 10 1 1\r\n1010 8 2 1\r\n1020 8 3 1\nINFO a record of more bytes than a load\n";
 
-pub(crate) const LINES: &[Row] = &[
+pub(crate) static LINES: [Row; 6] = [
     (
         RUN,
         &[

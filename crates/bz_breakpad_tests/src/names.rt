@@ -18,7 +18,7 @@ const REPEATED: &[u8] = b"FILE 0 a\nFILE 0 b\nFILE 2 c\nFILE 1 d\nFILE 1 e\nFILE
 const LAST: &[u8] = b"FILE 0 a\nFILE 4294967295 y\nFILE 4294967295 z\n";
 
 /// Names by ids, of PUBLIC records and of a module.
-pub(crate) const NAMES: &[Row] = &[(
+pub(crate) static NAMES: [Row; 1] = [(
     NAMED,
     &[
         Name(0, ABSENT, ABSENT),
@@ -51,7 +51,7 @@ pub(crate) const NAMES: &[Row] = &[(
 )];
 
 /// Names of modules.
-pub(crate) const MODULES: &[Row] = &[
+pub(crate) static MODULES: [Row; 6] = [
     (b"MODULE a b c \r\n", &[Module("")]),
     (b"MODULE  a \tb\t c \t d \r\r\n", &[Module("d ")]),
     (b"MODULE a\tb c d e\n", &[Module("e")]),
@@ -61,7 +61,7 @@ pub(crate) const MODULES: &[Row] = &[
 ];
 
 /// Names by ids in order, out of order and with a gap.
-pub(crate) const ONCE: &[Row] = &[
+pub(crate) static ONCE: [Row; 3] = [
     (
         IN_ORDER,
         &[
@@ -95,7 +95,7 @@ pub(crate) const ONCE: &[Row] = &[
 ];
 
 /// Names by ids of several records, and by the last id.
-pub(crate) const AGAIN: &[Row] = &[
+pub(crate) static AGAIN: [Row; 2] = [
     (
         REPEATED,
         &[
@@ -119,7 +119,7 @@ pub(crate) const AGAIN: &[Row] = &[
 ];
 
 /// Ids one after another, out of order, with gaps and repeated, and none.
-pub(crate) const IDS: &[Row] = &[
+pub(crate) static IDS: [Row; 4] = [
     (
         b"FILE 0 a\nINLINE_ORIGIN 0 f\nFILE 1 b\nFILE 2 c\n",
         &[Names(&[(0, "a"), (1, "b"), (2, "c")], &[(0, "f")])],
@@ -139,7 +139,7 @@ pub(crate) const IDS: &[Row] = &[
 ];
 
 /// PUBLIC records in order, out of order with some of one address, and none.
-pub(crate) const PUBLICS: &[Row] = &[
+pub(crate) static PUBLICS: [Row; 3] = [
     (
         b"PUBLIC 10 0 a\nPUBLIC 20 4 b\n",
         &[Publics(&[

@@ -198,7 +198,7 @@ const NO_LINE_ENDS: &[&[u8]] = &[
 ];
 
 /// The texts, by what is wrong with them.
-const REFUSED: &[(&str, &[&[u8]])] = &[
+static REFUSED: [(&str, &[&[u8]]); 7] = [
     ("lines", NO_LINES),
     ("numbers", NO_NUMBERS),
     ("fields", NO_FIELDS),
@@ -210,7 +210,7 @@ const REFUSED: &[(&str, &[&[u8]])] = &[
 
 #[test]
 fn refuses_texts(rt: HostRuntime) {
-    for (wrong, texts) in REFUSED {
+    for (wrong, texts) in &REFUSED {
         assert!(rt; are_refused(rt.alloc(), texts), "{wrong}");
     }
 }

@@ -24,7 +24,7 @@ pub(crate) enum Resolved {
 
 /// What is found at an address.
 pub(crate) enum Found {
-    /// The symbol's name and place, start, size and module, which is empty where there is none. It has no
+    /// The symbol's name and site, start, size and module, which is empty where there is none. It has no
     /// inlined calls, and its language isn't known.
     Symbol(Call, u64, Option<usize>, &'static str),
     /// Why there is no symbol.
@@ -93,8 +93,8 @@ fn is_found(
 
 fn is_symbol(symbol: &ResolvedSym<'_>, expected: &Found) -> bool {
     match expected {
-        Found::Symbol(place, start, size, module) => {
-            is_call(symbol.name, &symbol.code_info, place)
+        Found::Symbol(site, start, size, module) => {
+            is_call(symbol.name, &symbol.code_info, site)
                 && (symbol.addr, symbol.size) == (*start, *size)
                 && symbol.lang == SrcLang::Unknown
                 && symbol.inlined.is_empty()

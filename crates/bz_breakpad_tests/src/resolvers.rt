@@ -23,9 +23,9 @@ const X: SymInfo<'static> = SymInfo {
     module: None,
 };
 
-/// Symbols, addresses without one, a place that is refused where it is asked for, and there alone; and
+/// Symbols, addresses without one, a site that is refused where it is asked for, and there alone; and
 /// functions of a name.
-const RESOLVED: &[Row] = &[
+static RESOLVED: [Row; 16] = [
     (BAR, Printed("Breakpad /p")),
     (
         BAR,
@@ -93,7 +93,7 @@ const RESOLVED: &[Row] = &[
 
 /// Whether the resolver of each text shows what its row says.
 fn are_resolved(alloc: Global, files: &mut MemFiles) -> bool {
-    for (text, resolved) in RESOLVED {
+    for (text, resolved) in &RESOLVED {
         if is_resolved(alloc, files, text, resolved) != Ok(true) {
             return false;
         }

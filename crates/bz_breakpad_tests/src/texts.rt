@@ -4,7 +4,7 @@ use crate::fact::Fact::{Counts, Records};
 use crate::fact::Row;
 use crate::files::{BAR, NESTED, USUAL};
 
-pub(crate) const COUNTED: &[Row] = &[
+pub(crate) static COUNTED: [Row; 10] = [
     (BAR, &[Records(5), Counts(1, 1, 1)]),
     (
         b"MODULE Linux x86 ffff0000 bar\r\nFILE 53 bar.c\r\nPUBLIC 1234 10 some public\r\nFUNC 1000 30 10 another func\r\n1000 30 7 53\r\n",
@@ -32,7 +32,7 @@ pub(crate) const COUNTED: &[Row] = &[
     (b"PUBLIC 10 0 p\n", &[Records(1), Counts(0, 0, 1)]),
 ];
 
-pub(crate) const NUMBERS: &[Row] = &[
+pub(crate) static NUMBERS: [Row; 13] = [
     (
         b"FUNC 0000000000000001 00000002 00000003 x\n",
         &[Records(1)],
@@ -63,7 +63,7 @@ pub(crate) const NUMBERS: &[Row] = &[
     (b"FUNC 1 2 3 x\nFACE 1 2 3\n", &[Records(2)]),
 ];
 
-pub(crate) const SEPARATORS: &[Row] = &[
+pub(crate) static SEPARATORS: [Row; 21] = [
     (b"MODULE  a  b  c  d\n", &[Records(1)]),
     (b"MODULE\ta \tb \tc \td\n", &[Records(1)]),
     (b"MODULE a\tb c\t d \t \n", &[Records(1)]),
@@ -96,7 +96,7 @@ pub(crate) const SEPARATORS: &[Row] = &[
     ),
 ];
 
-pub(crate) const NAMES: &[Row] = &[
+pub(crate) static NAMES: [Row; 14] = [
     (b"PUBLIC m 1 2 m\n", &[Records(1)]),
     (b"PUBLIC 1 2 m\n", &[Records(1)]),
     (b"PUBLIC 1 2 \n", &[Records(1)]),
@@ -113,7 +113,7 @@ pub(crate) const NAMES: &[Row] = &[
     (b"STACK CFI INIT \xff\nSTACK CFI \xff\n", &[Records(2)]),
 ];
 
-pub(crate) const ROLES: &[Row] = &[
+pub(crate) static ROLES: [Row; 8] = [
     (b"FUNC 1 2 3 x\nINLINE 0 1 0 5 1 1 2 2 3 3\n", &[Records(2)]),
     (b"STACK CFI INIT a\nSTACK WIN a\n\n", &[Records(2)]),
     (b"FUNC 1 2 3 x\nFUNC 1 2 3 y\n1 1 1 1\n", &[Records(3)]),
@@ -136,7 +136,7 @@ pub(crate) const ROLES: &[Row] = &[
     ),
 ];
 
-pub(crate) const LINE_ENDS: &[Row] = &[
+pub(crate) static LINE_ENDS: [Row; 11] = [
     (b"FILE 1 a\n\r\n\n \t\r \n", &[Records(1)]),
     (b"FUNC 1 2 3 x\r\r\r\n1 1 1 1\r\n", &[Records(2)]),
     (b"FUNC 1 2 3 x\n\n \n\r1 1 1 1\n", &[Records(2)]),

@@ -29,7 +29,7 @@ const MAPPED_FILE: &[File] = &[
 ];
 
 /// Stories in which one call asks process 7.
-const STORIES: &[&[Step]] = &[
+static STORIES: [&[Step]; 12] = [
     // Each address is answered by its mapping.
     &[Step::Files(FIRST), Step::Batch(Input::AbsAddr(ADDRS), TOLD)],
     &[
@@ -84,7 +84,7 @@ const STORIES: &[&[Step]] = &[
 
 #[test]
 fn addresses_are_answered_by_their_mappings(rt: HostRuntime) {
-    for story in STORIES {
+    for story in &STORIES {
         assert!(rt; holds(rt.alloc(), NoDispatch, &[*story]));
     }
 }

@@ -5,6 +5,7 @@ use crate::steps::{Step, Told, holds};
 use bz_base::{Error, Reason};
 use bz_process::NoDispatch;
 use bz_samples::ELF_FUNCTION;
+use std::alloc::Global;
 
 /// All is cached of the first files.
 pub(crate) const CACHED: &[Step] = &[Step::Files(FIRST), Step::Cache(true, true, Ok(()))];
@@ -37,7 +38,7 @@ pub(crate) const IS_UNKEPT: &[Step] = &[
 ];
 
 /// Stories of what is kept.
-const STORIES: &[&[&[Step]]] = &[
+static STORIES: [&[&[Step]]; 6] = [
     // A cached process answers without its files until it is evicted.
     &[CACHED, STANDS_ALONE, &[Step::Evict], IS_UNKEPT],
     // A cached process is cached anew. It is remembered, so its status isn't read.
@@ -91,15 +92,18 @@ const STORIES: &[&[&[Step]]] = &[
     &[CACHED, &[Step::ForgetPath("/bin/bad")], STANDS_ALONE],
 ];
 
-#[test]
-fn a_cached_process_answers_until_it_is_evicted(rt: HostRuntime) {
-    for story in STORIES {
-        assert!(rt; holds(rt.alloc(), NoDispatch, story));
+/// Whether each of these stories holds.
+fn all_hold(alloc: Global) -> bool {
+    for story in &STORIES {
+        if !holds(alloc, NoDispatch, story) {
+            return false;
+        }
     }
+    true
 }
 
 /// A file is pinned, and stays so where it is refused, until it is evicted.
-const PINNED_FILE: &[Step] = &[
+static PINNED_FILE: [Step; 14] = [
     Step::Put("/e", &ELF_FUNCTION),
     Step::IsElf("/e", true),
     Step::Put("/e", b"\x7fELF"),
@@ -117,6 +121,10 @@ const PINNED_FILE: &[Step] = &[
 ];
 
 #[test]
-fn a_file_is_pinned_and_stays_so_where_it_is_refused(rt: HostRuntime) {
-    assert!(rt; holds(rt.alloc(), NoDispatch, &[PINNED_FILE]));
+fn processes_and_files_are_kept_until_they_are_evicted(rt: HostRuntime) {
+    assert!(rt; all_hold(rt.alloc()), "processes");
+    assert!(rt;
+        holds(rt.alloc(), NoDispatch, &[&PINNED_FILE]),
+        "a pinned file"
+    );
 }

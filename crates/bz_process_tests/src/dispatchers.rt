@@ -49,7 +49,7 @@ fn vdso(alloc: Global) -> Result<Option<ElfResolver>>
 
 /// The resolver answers for the part of the system, and for a mapped file no one does; and where the
 /// mappings may not be read, the batch is refused.
-const RESOLVED: &[Step] = &[
+static RESOLVED: [Step; 4] = [
     Step::Files(FIRST),
     Step::Batch(
         Input::AbsAddr(&[0x5088, 0x1004]),
@@ -67,5 +67,5 @@ const RESOLVED: &[Step] = &[
 
 #[test]
 fn a_resolver_answers_for_a_part_of_the_system(rt: HostRuntime) {
-    assert!(rt; holds(rt.alloc(), ForVdso, &[RESOLVED]));
+    assert!(rt; holds(rt.alloc(), ForVdso, &[&RESOLVED]));
 }

@@ -77,14 +77,14 @@ fn is_refused(alloc: Global, text: &[u8]) -> bool {
 }
 
 /// The mappings of a process that maps a file, memory and a part of the system.
-const THREE_TOLD: &[Told] = &[
+static THREE_TOLD: [Told; 3] = [
     (0x1000, 0x2000, 0, "/proc/7/map_files/1000-2000", "/bin/bad"),
     (0x3000, 0x4000, 0, "", ""),
     (0x5000, 0x6000, 0, "", "[vdso]"),
 ];
 
 /// Lines, and the mapping that each tells of the process that reads it.
-const LINES: &[(&[u8], Told)] = &[
+static LINES: [(&[u8], Told); 24] = [
     // As the system writes them, with the text at a column.
     (
         b"7f5a3c200000-7f5a3c228000 r--p 00000000 103:05 1573                       /usr/lib/libc.so.6\n",
@@ -183,17 +183,23 @@ const LINES: &[(&[u8], Told)] = &[
     (b"1-2 r--p 3 0:0 4 [heap]\n", (1, 2, 3, "", "[heap]")),
 ];
 
-#[test]
-fn a_text_tells_its_mappings(rt: HostRuntime) {
-    assert!(rt; tells(rt.alloc(), Pid::from(7), THREE_MAPPINGS, THREE_TOLD));
-    assert!(rt; tells(rt.alloc(), Pid::from(7), b"", &[]));
-    for (line, told) in LINES {
-        assert!(rt; tells(rt.alloc(), Pid::Slf, line, &[*told]));
+/// Whether a text tells several mappings, and an empty one none.
+fn texts_tell(alloc: Global) -> bool {
+    tells(alloc, Pid::from(7), THREE_MAPPINGS, &THREE_TOLD) && tells(alloc, Pid::from(7), b"", &[])
+}
+
+/// Whether each line tells its mapping.
+fn lines_tell(alloc: Global) -> bool {
+    for (line, told) in &LINES {
+        if !tells(alloc, Pid::Slf, line, &[*told]) {
+            return false;
+        }
     }
+    true
 }
 
 /// Texts of which some line is no mapping.
-const REFUSED: &[&[u8]] = &[
+static REFUSED: [&[u8]; 53] = [
     // A field is empty or absent.
     b"-2 r--p 3 0:0 4 /a\n",
     b"1- r--p 3 0:0 4 /a\n",
@@ -258,9 +264,19 @@ const REFUSED: &[&[u8]] = &[
     b"1-2 r--p 3 0:0 4 /a\n\xed\xa0\x80",
 ];
 
-#[test]
-fn other_lines_are_refused(rt: HostRuntime) {
-    for text in REFUSED {
-        assert!(rt; is_refused(rt.alloc(), text));
+/// Whether each of these texts is refused.
+fn others_are_refused(alloc: Global) -> bool {
+    for text in &REFUSED {
+        if !is_refused(alloc, text) {
+            return false;
+        }
     }
+    true
+}
+
+#[test]
+fn a_text_tells_its_mappings(rt: HostRuntime) {
+    assert!(rt; texts_tell(rt.alloc()), "texts");
+    assert!(rt; lines_tell(rt.alloc()), "lines");
+    assert!(rt; others_are_refused(rt.alloc()), "other lines");
 }

@@ -10,7 +10,7 @@ const MIXED: &[u8] =
     b"30-40 r--p 0 0:0 0\n10-20 r--p 0 0:0 0\n35-60 r--p 0 0:0 0\n50-58 r--p 0 0:0 0\n70-70 r--p 0 0:0 0\n70-90 r--p 0 0:0 0\n70-90 r--p 0 0:0 0\nfffffffffffffff0-ffffffffffffffff r--p 0 0:0 0\n";
 
 /// Texts, addresses, and the place of the mapping that answers for each.
-const OWNERS: &[(&[u8], u64, Option<usize>)] = &[
+static OWNERS: [(&[u8], u64, Option<usize>); 29] = [
     (b"", 0, None),
     (b"", u64::MAX, None),
     (THREE_MAPPINGS, 0, None),
@@ -74,7 +74,10 @@ fn is_owner(alloc: Global, text: &[u8], addr: u64, place: Option<usize>) -> Resu
 
 #[test]
 fn the_first_that_ends_above_answers(rt: HostRuntime) {
-    for (text, addr, place) in OWNERS {
-        assert!(rt; is_owner(rt.alloc(), text, *addr, *place) == Ok(true));
+    for (text, addr, place) in &OWNERS {
+        assert!(rt;
+            is_owner(rt.alloc(), text, *addr, *place) == Ok(true),
+            "{addr:#x}"
+        );
     }
 }

@@ -37,7 +37,7 @@ const ALIKE: &[u8] =
     b"20 8 b\n10 30 around\n20 8 c\n20 4 a\n20 4 d\n20 9 e\n20 9 f\n30 0 g\n30 0 h\n";
 
 /// Perf maps, an address, and what is told there.
-const ANSWERS: &[(&[u8], u64, Told)] = &[
+static ANSWERS: [(&[u8], u64, Told); 37] = [
     (PYTHON, 0x7fbf1fc21440, UNKNOWN),
     (PYTHON, 0x7fbf1fc21441, SEQUENCE),
     (PYTHON, 0x7fbf1fc2144b, SEQUENCE),
@@ -92,7 +92,7 @@ const ANSWERS: &[(&[u8], u64, Told)] = &[
 ];
 
 /// Bytes that aren't a perf map.
-const REFUSED: &[&[u8]] = &[
+static REFUSED: [&[u8]; 35] = [
     b"123",
     b"xxxx b py::foobar",
     b"1234 yyy py::foobar",
@@ -172,14 +172,14 @@ fn answers(alloc: Global, bytes: &[u8], addr: u64, told: &Told) -> bool {
     }
 }
 
-#[test]
-fn answers_by_the_nearest_function(rt: HostRuntime) {
-    perf_laws::perf_maps_are_cut();
-    perf_laws::perf_maps_are_exact();
-    perf_laws::perf_answers_start_before();
-    for (bytes, addr, told) in ANSWERS {
-        assert!(rt; answers(rt.alloc(), bytes, *addr, told));
+/// Whether the nearest function answers each address.
+fn nearest_answer(alloc: Global) -> bool {
+    for (bytes, addr, told) in &ANSWERS {
+        if !answers(alloc, bytes, *addr, told) {
+            return false;
+        }
     }
+    true
 }
 
 /// Whether the bytes are refused as no perf map.
@@ -190,15 +190,18 @@ fn is_refused(alloc: Global, bytes: &[u8]) -> bool {
     }
 }
 
-#[test]
-fn refuses_lines_of_another_form(rt: HostRuntime) {
-    for bytes in REFUSED {
-        assert!(rt; is_refused(rt.alloc(), bytes));
+/// Whether lines of another form are refused.
+fn others_are_refused(alloc: Global) -> bool {
+    for bytes in &REFUSED {
+        if !is_refused(alloc, bytes) {
+            return false;
+        }
     }
+    true
 }
 
 /// Processes, of which 0 is the own one, their own ids, and where their perf maps lie.
-const PATHS: &[(u32, u32, &str)] = &[
+static PATHS: [(u32, u32, &str); 5] = [
     (1337, 1, "/proc/1337/root/tmp/perf-1.map"),
     (0, 7, "/proc/7/root/tmp/perf-7.map"),
     (0, 1, "/proc/7/root/tmp/perf-1.map"),
@@ -218,11 +221,14 @@ fn lies_at(alloc: Global, process: u32, ns_tgid: u32, want: &str) -> bool {
     }
 }
 
-#[test]
-fn lies_in_the_folder_that_the_process_sees(rt: HostRuntime) {
-    for (process, ns_tgid, want) in PATHS {
-        assert!(rt; lies_at(rt.alloc(), *process, *ns_tgid, want));
+/// Whether perf maps lie in the folders that processes see.
+fn lie_at_their_paths(alloc: Global) -> bool {
+    for (process, ns_tgid, want) in &PATHS {
+        if !lies_at(alloc, *process, *ns_tgid, want) {
+            return false;
+        }
     }
+    true
 }
 
 /// Whether a perf map of the files answers from the cache.
@@ -242,6 +248,12 @@ fn cached_answers(alloc: Global) -> bool {
 }
 
 #[test]
-fn answers_from_a_cache(rt: HostRuntime) {
-    assert!(rt; cached_answers(rt.alloc()));
+fn perf_maps_lie_at_their_paths_and_answer(rt: HostRuntime) {
+    perf_laws::perf_maps_are_cut();
+    perf_laws::perf_maps_are_exact();
+    perf_laws::perf_answers_start_before();
+    assert!(rt; nearest_answer(rt.alloc()), "the nearest functions");
+    assert!(rt; others_are_refused(rt.alloc()), "other lines");
+    assert!(rt; lie_at_their_paths(rt.alloc()), "paths");
+    assert!(rt; cached_answers(rt.alloc()), "a cached perf map");
 }

@@ -77,7 +77,7 @@ fn holds(alloc: Global, own: u32, story: &[&[Step]]) -> bool {
 }
 
 /// Each process is answered by the mappings at its path.
-const MAPPINGS: &[Step] = &[
+static MAPPINGS: [Step; 10] = [
     Step::Put("/proc/7/maps", THREE_MAPPINGS),
     Step::Put("/proc/self/maps", b"x\n"),
     Step::Deny("/proc/8/maps"),
@@ -93,11 +93,11 @@ const MAPPINGS: &[Step] = &[
 
 #[test]
 fn mappings_are_read_at_their_path(rt: HostRuntime) {
-    assert!(rt; holds(rt.alloc(), 0, &[MAPPINGS]));
+    assert!(rt; holds(rt.alloc(), 0, &[&MAPPINGS]));
 }
 
 /// Statuses, beside one that is denied.
-const STATUSES: &[Step] = &[
+static STATUSES: [Step; 9] = [
     Step::Put("/proc/self/status", b"Name:\tx\n"),
     Step::Put("/proc/7/status", b"Name:\tx\nNStgid:\t7\t3\n"),
     Step::Put("/proc/1337/status", b"Name:\tcat\nNStgid:\t1337\t1\n"),
@@ -110,7 +110,7 @@ const STATUSES: &[Step] = &[
 ];
 
 /// A process knows itself by the last id, and one file is read for each.
-const IDS: &[Step] = &[
+static IDS: [Step; 6] = [
     Step::Id(0, Ok(7)),
     Step::Id(7, Ok(3)),
     Step::Id(1337, Ok(1)),
@@ -120,7 +120,7 @@ const IDS: &[Step] = &[
 ];
 
 /// Statuses are refused one after another, with a fault at the last one.
-const REFUSED: &[Step] = &[
+static REFUSED: [Step; 7] = [
     Step::Fail(6),
     Step::Id(10, Err(ErrorKind::InvalidData)),
     Step::Id(11, Err(ErrorKind::InvalidData)),
@@ -132,6 +132,6 @@ const REFUSED: &[Step] = &[
 
 #[test]
 fn a_process_knows_itself_by_its_status(rt: HostRuntime) {
-    assert!(rt; holds(rt.alloc(), 7, &[STATUSES, IDS]));
-    assert!(rt; holds(rt.alloc(), 7, &[STATUSES, REFUSED]));
+    assert!(rt; holds(rt.alloc(), 7, &[&STATUSES, &IDS]), "ids");
+    assert!(rt; holds(rt.alloc(), 7, &[&STATUSES, &REFUSED]), "refusals");
 }

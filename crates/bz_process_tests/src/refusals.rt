@@ -5,10 +5,11 @@ use crate::files::LATER;
 use crate::steps::{Step, holds};
 use bz_base::Error;
 use bz_process::NoDispatch;
+use std::alloc::Global;
 
 /// Steps by which process 7 isn't cached of the later files: a file is absent, denied or damaged, or a
 /// look fails.
-const REFUSED: &[&[Step]] = &[
+static REFUSED: [&[Step]; 8] = [
     &[
         Step::Files(LATER),
         Step::Remove("/proc/7/maps"),
@@ -56,7 +57,7 @@ const REFUSED: &[&[Step]] = &[
 ];
 
 /// The same where the process isn't remembered, so that its status is read too.
-const REFUSED_UNKNOWN: &[&[Step]] = &[
+static REFUSED_UNKNOWN: [&[Step]; 4] = [
     &[
         Step::Files(LATER),
         Step::Remove("/proc/7/status"),
@@ -80,18 +81,27 @@ const REFUSED_UNKNOWN: &[&[Step]] = &[
     ],
 ];
 
+/// Whether nothing is kept after each of these.
+fn keep_nothing(alloc: Global, refusals: &[&[Step]]) -> bool {
+    for refused in refusals {
+        if !holds(alloc, NoDispatch, &[*refused, IS_UNKEPT]) {
+            return false;
+        }
+    }
+    true
+}
+
 #[test]
 fn a_refusal_keeps_nothing(rt: HostRuntime) {
-    for refused in REFUSED {
-        assert!(rt; holds(rt.alloc(), NoDispatch, &[*refused, IS_UNKEPT]));
-    }
-    for refused in REFUSED_UNKNOWN {
-        assert!(rt; holds(rt.alloc(), NoDispatch, &[*refused, IS_UNKEPT]));
-    }
+    assert!(rt; keep_nothing(rt.alloc(), &REFUSED), "remembered");
+    assert!(rt;
+        keep_nothing(rt.alloc(), &REFUSED_UNKNOWN),
+        "not remembered"
+    );
 }
 
 /// Steps by which process 7 is cached anew, though its status is absent, denied or damaged.
-const CACHED_ANEW: &[&[Step]] = &[
+static CACHED_ANEW: [&[Step]; 3] = [
     &[
         Step::Files(LATER),
         Step::Remove("/proc/7/status"),
@@ -109,12 +119,18 @@ const CACHED_ANEW: &[&[Step]] = &[
     ],
 ];
 
+/// Whether a process that was cached stands so after each of these.
+fn leave(alloc: Global, tries: &[&[Step]], after: &[Step]) -> bool {
+    for steps in tries {
+        if !holds(alloc, NoDispatch, &[CACHED, *steps, after]) {
+            return false;
+        }
+    }
+    true
+}
+
 #[test]
 fn a_cached_process_stays_where_it_is_refused(rt: HostRuntime) {
-    for refused in REFUSED {
-        assert!(rt; holds(rt.alloc(), NoDispatch, &[CACHED, *refused, STANDS_ALONE]));
-    }
-    for cached in CACHED_ANEW {
-        assert!(rt; holds(rt.alloc(), NoDispatch, &[CACHED, *cached, IS_LATER]));
-    }
+    assert!(rt; leave(rt.alloc(), &REFUSED, STANDS_ALONE), "refused");
+    assert!(rt; leave(rt.alloc(), &CACHED_ANEW, IS_LATER), "cached anew");
 }

@@ -4,7 +4,7 @@ use bz_base::Error;
 use bz_proc::parse_ns_tgid;
 
 /// Status texts, and the id that each tells, if it tells one.
-const TOLD: &[(&[u8], Option<u32>)] = &[
+static TOLD: [(&[u8], Option<u32>); 20] = [
     (b"Name:\tcat\nNStgid:\t1\n", Some(1)),
     (b"Name:\tcat\n", None),
     (b"", None),
@@ -33,7 +33,7 @@ const TOLD: &[(&[u8], Option<u32>)] = &[
 ];
 
 /// Texts that are no status.
-const REFUSED: &[&[u8]] = &[
+static REFUSED: [&[u8]; 21] = [
     b"NStgid:\n",
     b"NStgid:",
     b"NStgid: \t\r\n",
@@ -59,16 +59,28 @@ const REFUSED: &[&[u8]] = &[
     b"NStgid:\t\xff\n",
 ];
 
-#[test]
-fn the_last_id_is_told(rt: HostRuntime) {
-    for (status, id) in TOLD {
-        assert!(rt; parse_ns_tgid(status) == Ok(*id));
+/// Whether each status tells its id.
+fn ids_are_told() -> bool {
+    for (status, id) in &TOLD {
+        if parse_ns_tgid(status) != Ok(*id) {
+            return false;
+        }
     }
+    true
+}
+
+/// Whether the other texts are refused.
+fn others_are_refused() -> bool {
+    for status in &REFUSED {
+        if parse_ns_tgid(status) != Err(Error::InvalidData) {
+            return false;
+        }
+    }
+    true
 }
 
 #[test]
-fn other_texts_are_no_status(rt: HostRuntime) {
-    for status in REFUSED {
-        assert!(rt; parse_ns_tgid(status) == Err(Error::InvalidData));
-    }
+fn the_last_id_is_told(rt: HostRuntime) {
+    assert!(rt; ids_are_told(), "statuses");
+    assert!(rt; others_are_refused(), "other texts");
 }

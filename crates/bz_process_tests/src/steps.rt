@@ -105,18 +105,31 @@ fn is_refusal(error: Error, told: &Told) -> bool {
     }
 }
 
+/// How process 7 is asked: whether its perf map answers, and whether mapped files are looked at by the
+/// paths that stand for them.
+type Asked = (bool, bool);
+
+fn query((perf_map, map_files): Asked) -> ProcessQuery {
+    ProcessQuery {
+        pid: Pid::from(7),
+        perf_map,
+        map_files,
+    }
+}
+
 /// Whether this is told of an address alone.
 fn alone_tells<D: ProcessDispatch + Drop>(
     alloc: Global,
     files: &mut MemFiles,
     elf: &mut FileCache<ElfFile>,
     processes: &mut Processes<D>,
-    query: &ProcessQuery,
+    asked: Asked,
     addr: Addr,
     told: &Told,
 ) -> bool {
+    let query = query(asked);
     let input = Input::AbsAddr(addr);
-    match processes.symbolize_single(elf, alloc, files, query, &FindSymOpts::Basic, input) {
+    match processes.symbolize_single(elf, alloc, files, &query, &FindSymOpts::Basic, input) {
         Ok(answer) => is_told(&answer, told),
         Err(error) => is_refusal(error, told),
     }
@@ -131,28 +144,58 @@ fn batch_tells<D: ProcessDispatch + Drop>(
     input: Input<&[Addr]>,
     told: &[Told],
 ) -> bool {
-    let query = query(true, true);
+    let query = query((true, true));
     match processes.symbolize(elf, alloc, files, &query, &FindSymOpts::Basic, input) {
         Ok(answers) => are_told(&answers, told),
         Err(error) => told.len() == 1 && is_refusal(error, &told[0]),
     }
 }
 
-/// How process 7 is asked.
-fn query(perf_map: bool, map_files: bool) -> ProcessQuery {
-    ProcessQuery {
-        pid: Pid::from(7),
-        perf_map,
-        map_files,
-    }
-}
-
-/// What of process 7 is cached.
-fn caching(cache_vmas: bool, cache_perf_map: bool) -> ProcessCaching {
-    ProcessCaching {
+/// Caches the mappings and the perf map of process 7, as far as is asked.
+fn cache<D: ProcessDispatch + Drop>(
+    alloc: Global,
+    files: &mut MemFiles,
+    processes: &mut Processes<D>,
+    cache_vmas: bool,
+    cache_perf_map: bool,
+) -> Result<(), Error> {
+    let caching = ProcessCaching {
         pid: Pid::from(7),
         cache_vmas,
         cache_perf_map,
+    };
+    processes.cache(alloc, files, &caching)
+}
+
+/// Takes a step that asks for nothing but the files. Says whether what it says is so.
+fn files_step_holds(alloc: Global, files: &mut MemFiles, step: &Step) -> bool {
+    match step {
+        Step::Files(all) => replace(alloc, files, all),
+        Step::Put(path, bytes) => put(alloc, files, path, bytes),
+        Step::Remove(path) => files.remove(path),
+        Step::Deny(path) => files.deny(alloc, path).is_ok(),
+        Step::Fail(look) => files.fail_call(alloc, *look).is_ok(),
+        Step::Opens(count) => files.opens() == *count,
+        Step::Faults(count) => files.faults() == *count,
+        _ => false,
+    }
+}
+
+/// The same of one that asks for ELF files too.
+fn elf_step_holds(
+    alloc: Global,
+    files: &mut MemFiles,
+    elf: &mut FileCache<ElfFile>,
+    step: &Step,
+) -> bool {
+    match step {
+        Step::PinFile(path, want) => pin_file(elf, alloc, files, path) == *want,
+        Step::IsElf(path, want) => elf.entry(alloc, files, path).is_ok() == *want,
+        Step::EvictFile(path) => {
+            elf.evict(path);
+            true
+        }
+        _ => files_step_holds(alloc, files, step),
     }
 }
 
@@ -165,15 +208,8 @@ fn step_holds<D: ProcessDispatch + Drop>(
     step: &Step,
 ) -> bool {
     match step {
-        Step::Files(all) => replace(alloc, files, all),
-        Step::Put(path, bytes) => put(alloc, files, path, bytes),
-        Step::Remove(path) => files.remove(path),
-        Step::Deny(path) => files.deny(alloc, path).is_ok(),
-        Step::Fail(look) => files.fail_call(alloc, *look).is_ok(),
-        Step::Opens(count) => files.opens() == *count,
-        Step::Faults(count) => files.faults() == *count,
         Step::Cache(mappings, perf_map, want) => {
-            processes.cache(alloc, files, &caching(*mappings, *perf_map)) == *want
+            cache(alloc, files, processes, *mappings, *perf_map) == *want
         }
         Step::Evict => {
             processes.evict_process(Pid::from(7));
@@ -183,40 +219,17 @@ fn step_holds<D: ProcessDispatch + Drop>(
             processes.forget_path(path);
             true
         }
-        Step::Alone(addr, told) => alone_tells(
-            alloc,
-            files,
-            elf,
-            processes,
-            &query(true, true),
-            *addr,
-            told,
-        ),
-        Step::AloneWithoutPerfMap(addr, told) => alone_tells(
-            alloc,
-            files,
-            elf,
-            processes,
-            &query(false, true),
-            *addr,
-            told,
-        ),
-        Step::AloneByOwnPath(addr, told) => alone_tells(
-            alloc,
-            files,
-            elf,
-            processes,
-            &query(true, false),
-            *addr,
-            told,
-        ),
-        Step::Batch(input, told) => batch_tells(alloc, files, elf, processes, *input, told),
-        Step::PinFile(path, want) => pin_file(elf, alloc, files, path) == *want,
-        Step::IsElf(path, want) => elf.entry(alloc, files, path).is_ok() == *want,
-        Step::EvictFile(path) => {
-            elf.evict(path);
-            true
+        Step::Alone(addr, told) => {
+            alone_tells(alloc, files, elf, processes, (true, true), *addr, told)
         }
+        Step::AloneWithoutPerfMap(addr, told) => {
+            alone_tells(alloc, files, elf, processes, (false, true), *addr, told)
+        }
+        Step::AloneByOwnPath(addr, told) => {
+            alone_tells(alloc, files, elf, processes, (true, false), *addr, told)
+        }
+        Step::Batch(input, told) => batch_tells(alloc, files, elf, processes, *input, told),
+        _ => elf_step_holds(alloc, files, elf, step),
     }
 }
 

@@ -61,7 +61,7 @@ const PROCESS: &[Put] = &[
 ];
 
 /// A source, and what is asked of it one after the other.
-const ROWS: &[(Asked, &[Step])] = &[
+static ROWS: [(Asked, &[Step]); 10] = [
     // Paths of one address and of two.
     (
         Asked::File,
@@ -245,7 +245,7 @@ fn holds(alloc: Global, asked: &Asked, steps: &[Step]) -> bool {
 
 #[test]
 fn folds_what_sources_answer(rt: HostRuntime) {
-    for row in ROWS {
+    for row in &ROWS {
         assert!(rt; holds(rt.alloc(), &row.0, row.1));
     }
 }

@@ -13,7 +13,7 @@ const BAR: &[u8] =
 const OTHER: &[u8] = b"FUNC 2000 10 0 other\n";
 
 /// Paths, and the files that lie there.
-const FILES: [(&str, &[u8]); 7] = [
+static FILES: [(&str, &[u8]); 7] = [
     ("/r/bar/AA/bar.sym", BAR),
     ("/r/two/AA/two.sym", OTHER),
     ("/r/.../AA/....sym", BAR),

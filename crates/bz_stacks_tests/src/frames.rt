@@ -19,7 +19,7 @@ type Step = (&'static [Row], u32, &'static str);
 /// address, an ignored error and inlined calls; of names that end a frame or a line, or are empty; of a count
 /// of 0; of a path that a name spells; of sums past 32 bits; of paths that begin with others, in the order of
 /// their bytes. At last stacks that go on being added after a text was asked for.
-const ROWS: &[&[Step]] = &[
+static ROWS: [&[Step]; 12] = [
     &[(&[], 0, "")],
     &[(&[(&[], 3)], 1, " 3\n")],
     &[(&[(&[], 3), (&[&[""]], 4)], 2, " 7\n")],
@@ -165,7 +165,7 @@ fn holds(alloc: Global, steps: &[Step]) -> bool {
 
 #[test]
 fn writes_a_line_for_each_path(rt: HostRuntime) {
-    for steps in ROWS {
+    for steps in &ROWS {
         assert!(rt; holds(rt.alloc(), steps));
     }
 }

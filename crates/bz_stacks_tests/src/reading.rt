@@ -7,7 +7,7 @@ use std::alloc::{AllocError, Global};
 /// stacks, its first line that is none.
 type Row = (&'static str, usize, &'static [u64], u32, u64);
 
-const ROWS: &[Row] = &[
+static ROWS: [Row; 20] = [
     ("10 1", 1, &[0x10], 1, 0),
     (
         "\n1 2\r\n\r\n0x10 fFfFfFfFfFfFfFfF 3\n",
@@ -55,7 +55,7 @@ fn holds(alloc: Global, row: &Row) -> bool {
 
 #[test]
 fn reads_stacks_or_names_the_first_bad_line(rt: HostRuntime) {
-    for row in ROWS {
+    for row in &ROWS {
         assert!(rt; holds(rt.alloc(), row));
     }
 }

@@ -6,7 +6,7 @@ use crate::calling::answers_at;
 use crate::lookups::Then;
 use crate::steps::Step::{Ask, CallOfFile, Put};
 use crate::steps::{ALL, PLACES_OFF, Script, Start, hold};
-use crate::told::Told::{Named, Placed, Refused, Unknown};
+use crate::told::Told::{Located, Named, Refused, Unknown};
 use crate::told::{Code, Told, are_given};
 use bz_base::{Error, Input, Reason};
 use bz_files::MemFiles;
@@ -103,18 +103,18 @@ const CODE: &Code = &Code {
 };
 
 /// What is told of an address in the function and in the inlined call.
-const MAIN: &[Told] = &[Placed(CODE, "main", 0x14, 12, 4)];
+static MAIN: [Told; 1] = [Located(CODE, "main", 0x14, 12, 4)];
 
 /// A caller gets function, line and inlined call.
 const CALLED: Script = &[Put("/app.sym", APP), CallOfFile];
 
 /// Whether a caller gets them of a new symbolizer.
 pub(crate) fn asks_of_file(alloc: Global, files: &mut MemFiles) -> bool {
-    are_given(answers_at(alloc, files, "/app.sym", &[0x1174]), MAIN)
+    are_given(answers_at(alloc, files, "/app.sym", &[0x1174]), &MAIN)
 }
 
 /// What is started with, and what is done.
-const SCRIPTS: &[(Start<'static>, Script)] = &[
+static SCRIPTS: [(Start<'static>, Script); 7] = [
     (ALL, ALONE),
     (ALL, OTHER_KIND),
     (ALL, COUNTED),
@@ -126,7 +126,7 @@ const SCRIPTS: &[(Start<'static>, Script)] = &[
 
 #[test]
 fn answers_breakpad_files(rt: HostRuntime) {
-    for (start, steps) in SCRIPTS {
+    for (start, steps) in &SCRIPTS {
         assert!(rt; hold(rt.alloc(), start, &[*steps]));
     }
 }

@@ -3,7 +3,7 @@
 ghost use Rattle.std.specs.Prelude.{◌≡◌, ℕ, List, [], None, map, true, IfOk};
 ghost use Rattle.bz_base.specs.Answer.{reading};
 ghost use Rattle.bz_cache.specs.Cache.{new_cache};
-ghost use Rattle.bz_cache.specs.Format.{Comes};
+ghost use Rattle.bz_cache.specs.Format.{GivesOrFaults};
 ghost use Rattle.bz_files.specs.World.{Told, in_view};
 ghost use Rattle.bz_process.specs.Mapped.{asks_process};
 ghost use Rattle.bz_process.specs.Process.{unsaid};
@@ -39,7 +39,7 @@ pub(crate) fn answers_in<F: Files>(
     pid: Pid,
     addrs: &[u64],
 ) -> Result<Vec<Symbolized<'static>>>
-    ensures { Told (in_view (F.worlds files.old)) (λ world. Comes (λ answers. map reading answers.items) (asks_process (record { pid = pid; own = F.pid files.old; perf_map = true; map_files = true }) None (map unsaid addrs.now) world (record { elf = new_cache true; perf_maps = new_cache true; ids = [] })).answer result) }
+    ensures { Told (in_view (F.worlds files.old)) (λ world. GivesOrFaults (λ answers. map reading answers.items) (asks_process (record { pid = pid; own = F.pid files.old; perf_map = true; map_files = true }) None (map unsaid addrs.now) world (record { elf = new_cache true; perf_maps = new_cache true; ids = [] })).answer result) }
 {
     let src = Source::from(Process::new(pid));
     let mut symbolizer = Symbolizer::new(alloc);

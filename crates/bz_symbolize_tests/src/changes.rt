@@ -65,11 +65,11 @@ const KEEPS_ITS_STAMP: Script = &[
     Opens(2),
 ];
 
-const SCRIPTS: &[Script] = &[CHANGES, COMES_BACK, KEEPS_ITS_STAMP];
+static SCRIPTS: [Script; 3] = [CHANGES, COMES_BACK, KEEPS_ITS_STAMP];
 
 #[test]
 fn answers_files_that_change(rt: HostRuntime) {
-    for steps in SCRIPTS {
+    for steps in &SCRIPTS {
         assert!(rt; hold(rt.alloc(), &ALL, &[*steps]));
     }
 }

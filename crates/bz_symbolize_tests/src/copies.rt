@@ -77,7 +77,7 @@ fn is_printed(alloc: Global, source: &Source<'_>, text: &str) -> bool {
 }
 
 /// A source, the GSYM that is handed in, and how the source is printed. Of the bytes the first 32 are.
-const SOURCES: &[(Subject, &[u8], &str)] = &[
+static SOURCES: [(Subject, &[u8], &str); 8] = [
     (
         Subject::Breakpad("/a-path/with/components.sym"),
         b"",
@@ -117,7 +117,7 @@ fn is_source(alloc: Global, subject: &Subject, bytes: &[u8], text: &str) -> bool
 type Ways = (bool, bool, bool, bool);
 
 /// In each of them one thing is off.
-const WAYS: &[Ways] = &[
+static WAYS: [Ways; 4] = [
     (false, true, true, true),
     (true, false, true, true),
     (true, true, false, true),
@@ -196,7 +196,7 @@ fn forget_the_same(request: &Evict, other: &Evict) -> bool {
 }
 
 /// What is kept or forgotten, and how either request is printed.
-const REQUESTS: &[(Kept, &str)] = &[
+static REQUESTS: [(Kept, &str); 5] = [
     (
         Kept::File("/a-path/with/components.elf"),
         "Elf(\"/a-path/with/components.elf\")",
@@ -246,14 +246,14 @@ fn are_requests(alloc: Global, kept: &Kept, text: &str) -> bool {
 
 #[test]
 fn copies_of_sources_and_requests_read_the_same(rt: HostRuntime) {
-    for row in SOURCES {
+    for row in &SOURCES {
         assert!(rt; is_source(rt.alloc(), &row.0, row.1, row.2));
     }
-    for ways in WAYS {
+    for ways in &WAYS {
         assert!(rt; own_process_is_copied(rt.alloc(), ways));
     }
     assert!(rt; elf_file_is_copied(rt.alloc(), true) && elf_file_is_copied(rt.alloc(), false));
-    for row in REQUESTS {
+    for row in &REQUESTS {
         assert!(rt; are_requests(rt.alloc(), &row.0, row.1));
     }
 }

@@ -82,13 +82,13 @@ fn put_process(alloc: Global, files: &mut MemFiles, mappings: &[u8]) -> bool {
 const IN_EACH: Input<&[u64]> = Input::AbsAddr(&[0x5088, 0x1004]);
 
 /// What is told of them.
-const RESOLVED: &[Told] = &[
+static RESOLVED: [Told; 2] = [
     Told::InModule("/vdso.so"),
     Told::Unknown(Reason::IgnoredError),
 ];
 
 /// What is told of them where the mappings may not be read.
-const DENIED: &[Told] = &[Told::Refused(Error::PermissionDenied)];
+static DENIED: [Told; 1] = [Told::Refused(Error::PermissionDenied)];
 
 /// Whether the resolver answers for the part of the system, and for a mapped file no one does; and where
 /// the mappings may not be read, the batch is refused.
@@ -99,9 +99,9 @@ fn asks_resolver(
     src: &Source<'_>,
 ) -> bool {
     put_process(alloc, files, THREE_MAPPINGS)
-        && answers(alloc, symbolizer, files, src, IN_EACH, RESOLVED)
+        && answers(alloc, symbolizer, files, src, IN_EACH, &RESOLVED)
         && files.deny(alloc, "/proc/7/maps").is_ok()
-        && answers(alloc, symbolizer, files, src, IN_EACH, DENIED)
+        && answers(alloc, symbolizer, files, src, IN_EACH, &DENIED)
 }
 
 /// Whether all holds of a symbolizer with the dispatcher.
@@ -120,7 +120,7 @@ const THREE: &[u8] =
 const ADDRS: &[u64] = &[0x5088, 0x7008, 0x1004];
 
 /// What is told of them.
-const TOLD: &[Told] = &[
+static TOLD: [Told; 3] = [
     Told::InModule("/vdso.so"),
     Told::Unknown(Reason::IgnoredError),
     Told::Unknown(Reason::IgnoredError),
@@ -135,7 +135,7 @@ fn asks_refusing(
 ) -> bool {
     let alone = Input::AbsAddr(0x7008);
     put_process(alloc, files, THREE)
-        && answers(alloc, symbolizer, files, src, Input::AbsAddr(ADDRS), TOLD)
+        && answers(alloc, symbolizer, files, src, Input::AbsAddr(ADDRS), &TOLD)
         && answers_single(
             alloc,
             symbolizer,

@@ -135,11 +135,11 @@ pub(crate) fn registers_all(
 }
 
 /// Each over the files.
-const SCRIPTS: &[Script] = &[KINDS, BATCHES, UNREAD];
+static SCRIPTS: [Script; 3] = [KINDS, BATCHES, UNREAD];
 
 #[test]
 fn answers_elf_files(rt: HostRuntime) {
-    for steps in SCRIPTS {
+    for steps in &SCRIPTS {
         assert!(rt; hold(rt.alloc(), &ALL, &[FILES, *steps]));
     }
 }

@@ -5,7 +5,7 @@ use crate::asking::Subject::{Bytes, Gsym};
 use crate::lookups::Then;
 use crate::steps::Step::{Ask, Opens, Put};
 use crate::steps::{ALL, Script, Start, hold};
-use crate::told::Told::{Named, Placed, Refused, Unknown};
+use crate::told::Told::{Located, Named, Refused, Unknown};
 use crate::told::{Code, Told};
 use bz_base::{Error, Input, Reason};
 use bz_samples::{GSYM_CALLS, GSYM_LINES, damaged};
@@ -55,15 +55,15 @@ const PLACES: Script = &[
     ),
     Ask(
         Bytes,
-        Single(Input::VirtOffset(0x1000), Placed(CODE, "main", 0, 5, 0)),
+        Single(Input::VirtOffset(0x1000), Located(CODE, "main", 0, 5, 0)),
     ),
     Ask(
         Bytes,
-        Single(Input::VirtOffset(0x100c), Placed(CODE, "main", 12, 7, 0)),
+        Single(Input::VirtOffset(0x100c), Located(CODE, "main", 12, 7, 0)),
     ),
     Ask(
         Bytes,
-        Single(Input::VirtOffset(0x101f), Placed(CODE, "main", 31, 10, 0)),
+        Single(Input::VirtOffset(0x101f), Located(CODE, "main", 31, 10, 0)),
     ),
     Ask(
         Bytes,
@@ -71,11 +71,11 @@ const PLACES: Script = &[
     ),
     Ask(
         Bytes,
-        Single(Input::VirtOffset(0x1040), Placed(CODE, "sub", 0, 0, 0)),
+        Single(Input::VirtOffset(0x1040), Located(CODE, "sub", 0, 0, 0)),
     ),
     Ask(
         Bytes,
-        Single(Input::VirtOffset(0x9999), Placed(CODE, "sub", 35161, 0, 0)),
+        Single(Input::VirtOffset(0x9999), Located(CODE, "sub", 35161, 0, 0)),
     ),
 ];
 
@@ -83,35 +83,35 @@ const PLACES: Script = &[
 const INLINED: Script = &[
     Ask(
         Bytes,
-        Single(Input::VirtOffset(0x1005), Placed(CODE, "main", 5, 9, 5)),
+        Single(Input::VirtOffset(0x1005), Located(CODE, "main", 5, 9, 5)),
     ),
     Ask(
         Bytes,
-        Single(Input::VirtOffset(0x1009), Placed(CODE, "main", 9, 7, 0)),
+        Single(Input::VirtOffset(0x1009), Located(CODE, "main", 9, 7, 0)),
     ),
 ];
 
 /// The place is that of the address itself.
 const WITHOUT_CALLS: Script = &[Ask(
     Bytes,
-    Single(Input::VirtOffset(0x1005), Placed(CODE, "main", 5, 5, 0)),
+    Single(Input::VirtOffset(0x1005), Located(CODE, "main", 5, 5, 0)),
 )];
 
 /// There are no places, and no inlined calls.
 const WITHOUT_PLACES: Script = &[Ask(
     Bytes,
-    Single(Input::VirtOffset(0x1005), Placed(CODE, "main", 5, 0, 0)),
+    Single(Input::VirtOffset(0x1005), Located(CODE, "main", 5, 0, 0)),
 )];
 
 /// The same, of the function of size 0 too.
 const WITHOUT_BOTH: Script = &[
     Ask(
         Bytes,
-        Single(Input::VirtOffset(0x1005), Placed(CODE, "main", 5, 0, 0)),
+        Single(Input::VirtOffset(0x1005), Located(CODE, "main", 5, 0, 0)),
     ),
     Ask(
         Bytes,
-        Single(Input::VirtOffset(0x1040), Placed(CODE, "sub", 0, 0, 0)),
+        Single(Input::VirtOffset(0x1040), Located(CODE, "sub", 0, 0, 0)),
     ),
 ];
 
@@ -137,7 +137,7 @@ const CONVERTED: Script = &[Ask(
     Batch(
         Input::VirtOffset(&[0x1010, 0x1030]),
         &[
-            Placed(CONVERTED_CODE, "another func", 16, 7, 0),
+            Located(CONVERTED_CODE, "another func", 16, 7, 0),
             Unknown(Reason::UnknownAddr),
         ],
     ),
@@ -161,7 +161,7 @@ const NO_ADDRESSES: Script = &[Ask(
 /// A function whose first line comes behind its start has no place there.
 const NO_PLACE: Script = &[Ask(
     Bytes,
-    Single(Input::VirtOffset(0x1000), Placed(CODE, "main", 0, 0, 0)),
+    Single(Input::VirtOffset(0x1000), Located(CODE, "main", 0, 0, 0)),
 )];
 
 /// An address in an inlined call that names a file that isn't there is an ignored error in a batch, in
@@ -171,7 +171,10 @@ const FOLDED: Script = &[
         Bytes,
         Batch(
             Input::VirtOffset(&[0x1005, 0x1009]),
-            &[Unknown(Reason::IgnoredError), Placed(CODE, "main", 9, 7, 0)],
+            &[
+                Unknown(Reason::IgnoredError),
+                Located(CODE, "main", 9, 7, 0),
+            ],
         ),
     ),
     Ask(
@@ -183,7 +186,7 @@ const FOLDED: Script = &[
 /// A file, a place in it, other bytes from there on, and what is done then.
 type Damage = (&'static [u8], usize, &'static [u8], Script);
 
-const DAMAGED: &[Damage] = &[
+static DAMAGED: [Damage; 4] = [
     // Addresses of three bytes, and such as descend.
     (&GSYM_LINES, 6, b"\x03", NO_ADDRESSES),
     (&GSYM_LINES, 48, b"\x50\0\0\0", REFUSED),
@@ -244,7 +247,7 @@ const OVER_CONVERTED: Start<'static> = Start {
 };
 
 /// What is started with, and what is done.
-const SCRIPTS: &[(Start<'static>, Script)] = &[
+static SCRIPTS: [(Start<'static>, Script); 9] = [
     (OVER_CALLS, HANDED_IN),
     (OVER_CALLS, IN_FILE),
     (OVER_LINES, PLACES),
@@ -258,10 +261,10 @@ const SCRIPTS: &[(Start<'static>, Script)] = &[
 
 #[test]
 fn answers_gsym(rt: HostRuntime) {
-    for (start, steps) in SCRIPTS {
+    for (start, steps) in &SCRIPTS {
         assert!(rt; hold(rt.alloc(), start, &[*steps]));
     }
-    for damage in DAMAGED {
+    for damage in &DAMAGED {
         assert!(rt; damage_holds(rt.alloc(), damage));
     }
     let cut = Start {

@@ -144,7 +144,7 @@ const PARTS_KEPT: Script = &[
     AskWithoutFiles(Process(7), ANSWERS_JIT),
 ];
 
-const SCRIPTS: &[&[Script]] = &[
+static SCRIPTS: [&[Script]; 4] = [
     &[LEFT_UNPINNED, KEPT_UNTIL_FORGOTTEN],
     &[KEPT_AS_HELD],
     &[FILES, PROCESS_KEPT],
@@ -153,19 +153,19 @@ const SCRIPTS: &[&[Script]] = &[
 
 #[test]
 fn what_is_kept_answers_until_it_is_forgotten(rt: HostRuntime) {
-    for parts in SCRIPTS {
+    for parts in &SCRIPTS {
         assert!(rt; hold(rt.alloc(), &ALL, parts));
     }
 }
 
 /// The ELF file is kept.
-const FILE_KEPT: Script = &[Put("/e", &ELF_FUNCTION), Keep(FILE, None)];
+static FILE_KEPT: Script = &[Put("/e", &ELF_FUNCTION), Keep(FILE, None)];
 
 /// All that may be kept of process 7 is kept.
 const ALL_KEPT: Script = &[Keep(PROCESS, None)];
 
 /// Other files of process 7 than the first ones come, whose looks are counted anew.
-const LATER: Script = &[
+static LATER: Script = &[
     NoFiles,
     Put("/proc/7/maps", b"3000-5000 rw-p 00000000 00:00 0\n"),
     Put("/proc/7/status", b"Name:\ty\n"),
@@ -173,7 +173,7 @@ const LATER: Script = &[
 ];
 
 /// A request for the later files, of which one look fails, is refused.
-const REFUSED: Script = &[Keep(PROCESS, Some(Error::ReadFault)), Faults(1)];
+static REFUSED: Script = &[Keep(PROCESS, Some(Error::ReadFault)), Faults(1)];
 
 /// All that was kept answers as before, and an address that only the later files map has no mapping.
 const BOTH_STAY: Script = &[
@@ -194,7 +194,7 @@ const FILE_STAYS: Script = &[
 /// What is kept of the process before the later files come, the look that fails, and what stays. The
 /// mappings are read, and the perf map is looked at and read; where nothing was kept, the status is
 /// read too.
-const FAILS: &[(Script, Script, Script)] = &[
+static FAILS: [(Script, Script, Script); 7] = [
     (ALL_KEPT, &[Fail(1)], BOTH_STAY),
     (ALL_KEPT, &[Fail(2)], BOTH_STAY),
     (ALL_KEPT, &[Fail(3)], BOTH_STAY),
@@ -206,7 +206,7 @@ const FAILS: &[(Script, Script, Script)] = &[
 
 #[test]
 fn a_look_that_fails_changes_nothing(rt: HostRuntime) {
-    for (kept, fails, stays) in FAILS {
+    for (kept, fails, stays) in &FAILS {
         let parts = &[FILE_KEPT, FILES, *kept, LATER, *fails, REFUSED, *stays];
         assert!(rt; hold(rt.alloc(), &ALL, parts));
     }

@@ -7,7 +7,7 @@ use crate::breakpad::FILE;
 use crate::nested::CALLS;
 use crate::steps::Step::{Ask, Opens, PutGenerated};
 use crate::steps::{ALL, PLACES_OFF, Script, hold};
-use crate::told::{Code, is_placed};
+use crate::told::{Code, is_located};
 use bz_base::{Input, Reason, Result, Steps, Sym, Symbolized, whole_decimal};
 use bz_files::MemFiles;
 use bz_symbolize::source::Source;
@@ -85,9 +85,9 @@ const CODE: &Code = &Code {
 fn has_lines(symbol: &Sym<'_>, past: u64) -> bool {
     let first = past / 64 + 1;
     match past % 64 {
-        0..8 => is_placed(symbol, CODE, 7, first),
-        8..16 => is_placed(symbol, CODE, first, 0),
-        _ => is_placed(symbol, CODE, first + 1, 0),
+        0..8 => is_located(symbol, CODE, 7, first),
+        8..16 => is_located(symbol, CODE, first, 0),
+        _ => is_located(symbol, CODE, first + 1, 0),
     }
 }
 
@@ -281,11 +281,11 @@ const LARGE: Script = &[
     Opens(1),
 ];
 
-const SCRIPTS: &[Script] = &[CALLS, ORDERS];
+static SCRIPTS: [Script; 2] = [CALLS, ORDERS];
 
 #[test]
 fn batches_answer_alike(rt: HostRuntime) {
-    for steps in SCRIPTS {
+    for steps in &SCRIPTS {
         assert!(rt; hold(rt.alloc(), &ALL, &[*steps]));
     }
 }

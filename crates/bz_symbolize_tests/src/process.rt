@@ -98,7 +98,7 @@ const SHARED: Script = &[
     Ask(Process(7), Single(MAPPED, Refused(Error::NotFound))),
 ];
 
-const SCRIPTS: &[&[Script]] = &[
+static SCRIPTS: [&[Script]; 5] = [
     &[FILES, ANSWERED],
     &[FILES, CALLED],
     &[FILES, COUNTED],
@@ -108,7 +108,7 @@ const SCRIPTS: &[&[Script]] = &[
 
 #[test]
 fn answers_processes(rt: HostRuntime) {
-    for parts in SCRIPTS {
+    for parts in &SCRIPTS {
         assert!(rt; hold(rt.alloc(), &ALL, parts));
     }
 }

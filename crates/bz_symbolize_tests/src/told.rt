@@ -23,9 +23,9 @@ pub(crate) enum Told {
     Named(&'static str),
     /// The symbol `f`, 8 bytes past its start, with this path as its module.
     InModule(&'static str),
-    /// A symbol of this code with this name, this offset in it, and these lines: of its place, and of
-    /// its one inlined call. Where a line is 0 there is no place, or no call.
-    Placed(&'static Code, &'static str, usize, u64, u64),
+    /// A symbol of this code with this name, this offset in it, and these lines: of its site, and of
+    /// its one inlined call. Where a line is 0 there is no site, or no call.
+    Located(&'static Code, &'static str, usize, u64, u64),
     /// No symbol, for this reason.
     Unknown(Reason),
     /// The call is refused so.
@@ -40,33 +40,33 @@ fn is_module(given: &Option<CowStr<'_>>, name: &str) -> bool {
     }
 }
 
-/// Whether the place is that line of the file in the directory, or there is neither.
-fn is_place(place: &Option<CodeInfo<'_>>, dir: &str, file: &str, line: u64) -> bool {
-    let Some(place) = place else {
+/// Whether the site is that line of the file in the directory, or there is neither.
+fn is_site(site: &Option<CodeInfo<'_>>, dir: &str, file: &str, line: u64) -> bool {
+    let Some(site) = site else {
         return line == 0;
     };
-    let is_in = match &place.dir {
+    let is_in = match &site.dir {
         Some(given) => given.as_str() == dir,
         None => dir.is_empty(),
     };
-    is_in && place.file.as_str() == file && line != 0 && u64::from(place.line.unwrap_or(0)) == line
+    is_in && site.file.as_str() == file && line != 0 && u64::from(site.line.unwrap_or(0)) == line
 }
 
-/// Whether the symbol is of the code's module, its place is at that line of the code, or there is neither,
+/// Whether the symbol is of the code's module, its site is at that line of the code, or there is neither,
 /// and its one inlined call is at the other line, or there is neither.
-pub(crate) fn is_placed(symbol: &Sym<'_>, code: &Code, line: u64, called: u64) -> bool {
+pub(crate) fn is_located(symbol: &Sym<'_>, code: &Code, line: u64, called: u64) -> bool {
     let calls = match symbol.inlined.as_slice() {
         [] => called == 0,
         [call] => {
             call.name.as_str() == code.inlined
                 && called != 0
-                && is_place(&call.code_info, code.dir, code.inlined_file, called)
+                && is_site(&call.code_info, code.dir, code.inlined_file, called)
         }
         _ => false,
     };
     calls
         && is_module(&symbol.module, code.module)
-        && is_place(&symbol.code_info, code.dir, code.file, line)
+        && is_site(&symbol.code_info, code.dir, code.file, line)
 }
 
 /// Whether the symbol is what is told.
@@ -79,10 +79,10 @@ fn is_symbol(symbol: &Sym<'_>, told: &Told) -> bool {
             }
             None => false,
         },
-        Told::Placed(code, name, offset, line, called) => {
+        Told::Located(code, name, offset, line, called) => {
             symbol.name.as_str() == *name
                 && symbol.offset == *offset
-                && is_placed(symbol, code, *line, *called)
+                && is_located(symbol, code, *line, *called)
         }
         Told::Unknown(_) | Told::Refused(_) => false,
     }

@@ -81,6 +81,10 @@ fn fields_are_cut(alloc: Global) -> bool {
 /// An address is a whole text.
 #[test]
 fn reads_addresses_of_lines_and_fields(rt: HostRuntime) {
-    assert!(rt; inputs_are_read(rt.alloc()) && fields_are_cut(rt.alloc()));
-    assert!(rt; address(b"0x1f") == Some(31) && address(b"1f ") == None);
+    assert!(rt; inputs_are_read(rt.alloc()), "inputs");
+    assert!(rt; fields_are_cut(rt.alloc()), "fields");
+    assert!(rt;
+        address(b"0x1f") == Some(31) && address(b"1f ") == None,
+        "whole texts"
+    );
 }

@@ -4,11 +4,10 @@ use bz_base::Error;
 use bz_breakpad::SymbolFile;
 use bz_canon::canonical;
 use std::alloc::Global;
-use std::test::Fail;
 
 /// A file's text, and its canonical text: inlined calls inside one another; nothing that is kept; a
 /// module without name, and a function that is marked; records of every kind.
-const KINDS: [(&[u8], &[u8]); 5] = [
+static KINDS: [(&[u8], &[u8]); 5] = [
     (
         b"FILE 15 o.c\nFILE 4 m.c\nFILE 8 i2.c\nFUNC 1000 30 10 outer_func()\nINLINE_ORIGIN 1 inner_func_2()\nINLINE_ORIGIN 2 mid_func()\nINLINE_ORIGIN 3 inner_func_1()\nINLINE 0 60 15 2 1000 20\nINLINE 1 12 4 3 1000 10\nINLINE 1 17 4 1 1010 10\n1000 10 42 7\n1010 10 52 8\n1020 10 62 15\n",
         b"FILE 4 m.c\nFILE 8 i2.c\nFILE 15 o.c\nINLINE_ORIGIN 1 inner_func_2()\nINLINE_ORIGIN 2 mid_func()\nINLINE_ORIGIN 3 inner_func_1()\nFUNC 1000 30 10 outer_func()\nINLINE 0 60 15 2 1000 20\nINLINE 1 12 4 3 1000 10\nINLINE 1 17 4 1 1010 10\n1000 10 42 7\n1010 10 52 8\n1020 10 62 15\n",
@@ -29,7 +28,7 @@ const KINDS: [(&[u8], &[u8]); 5] = [
 ];
 
 /// The same of records in several orders. Those that are alike stand as in the file.
-const ORDERS: [(&[u8], &[u8]); 8] = [
+static ORDERS: [(&[u8], &[u8]); 8] = [
     (
         b"PUBLIC 20 0 r\nPUBLIC 10 0 p\nPUBLIC 10 4 q\n",
         b"PUBLIC 10 0 p\nPUBLIC 10 4 q\nPUBLIC 20 0 r\n",
@@ -67,7 +66,7 @@ const ORDERS: [(&[u8], &[u8]); 8] = [
 /// The same of texts and numbers that may be written in several ways: blank lines and white space,
 /// zeros in front, upper case and marks; ids in any order, of which the last name counts; the greatest
 /// numbers; the greatest and least of so many digits.
-const SPELLINGS: [(&[u8], &[u8]); 7] = [
+static SPELLINGS: [(&[u8], &[u8]); 7] = [
     (
         b"PUBLIC m 00AB 0F x y\n\n \tPUBLIC\t0  0 \r\n",
         b"PUBLIC 0 0 \nPUBLIC ab f x y\n",
@@ -100,7 +99,7 @@ const SPELLINGS: [(&[u8], &[u8]); 7] = [
 const LINES: &[u8] =
     b"FUNC 1000 100 0 f\n1000 10 42 0\n1010 8 7 10\n1018 a8 100 1\n10c0 40 4294967295 20\n";
 
-const LINES_WRITTEN: [&[u8]; 14] = [
+static LINES_WRITTEN: [&[u8]; 14] = [
     b"FUNC 1000 100 0 f\n1000 10 42 0\n1010 8 7 10\n1018 a8 100 1\n10c0 40 4294967295 20\n",
     b"FUNC 1000 100 0 f\n1000 10 42 0\n1010 8 7 10\n1018 a8 100 1\n10C0 40 4294967295 20\n",
     b"FUNC 1000 100 0 f\n1000 10 42 0\n1010 8 7 10\n1018 A8 100 1\n10c0 40 4294967295 20\n",
@@ -117,52 +116,60 @@ const LINES_WRITTEN: [&[u8]; 14] = [
     b"FUNC 1000 100 0 f\n1010 8 7 10\n1000 10 42 0\n10c0 40 4294967295 20\n1018 a8 100 1\n",
 ];
 
-/// The file of a text.
-fn file_of(alloc: Global, text: &[u8]) -> Result<SymbolFile, Error> {
+/// The canonical text of a text.
+fn canonical_of(alloc: Global, text: &[u8]) -> Result<Vec<u8>, Error> {
     let bytes = Vec::from_slice(alloc, text)?;
-    SymbolFile::from_bytes(alloc, bytes)
+    let file = SymbolFile::from_bytes(alloc, bytes)?;
+    canonical(alloc, &file)
 }
 
 /// Whether a text has this canonical text.
-fn has_canonical(alloc: Global, text: &[u8], expected: &[u8]) -> Result<bool, Error> {
-    let file = file_of(alloc, text)?;
-    let written = canonical(alloc, &file)?;
-    Ok(written.as_slice() == expected)
-}
-
-/// Whether a text has this canonical text, which is its own.
-fn holds(alloc: Global, row: &(&[u8], &[u8])) -> Result<bool, Error> {
-    Ok(has_canonical(alloc, row.0, row.1)? && has_canonical(alloc, row.1, row.1)?)
-}
-
-#[test]
-fn writes_records_of_every_kind(rt: HostRuntime) -> Result<(), Fail> {
-    for row in &KINDS {
-        assert!(rt; holds(rt.alloc(), row)?, "of {:?}", row.0);
+fn has_canonical(alloc: Global, text: &[u8], expected: &[u8]) -> bool {
+    match canonical_of(alloc, text) {
+        Ok(written) => written.as_slice() == expected,
+        Err(_) => false,
     }
-    Ok(())
 }
 
-#[test]
-fn writes_records_in_order(rt: HostRuntime) -> Result<(), Fail> {
-    for row in &ORDERS {
-        assert!(rt; holds(rt.alloc(), row)?, "of {:?}", row.0);
+/// Whether each text has its canonical text, which is its own.
+fn all_hold(alloc: Global, rows: &[(&[u8], &[u8])]) -> bool {
+    for row in rows {
+        if !has_canonical(alloc, row.0, row.1) || !has_canonical(alloc, row.1, row.1) {
+            return false;
+        }
     }
-    Ok(())
+    true
 }
 
-#[test]
-fn writes_the_plainest_text(rt: HostRuntime) -> Result<(), Fail> {
-    for row in &SPELLINGS {
-        assert!(rt; holds(rt.alloc(), row)?, "of {:?}", row.0);
-    }
-    Ok(())
-}
-
-#[test]
-fn writes_lines_that_are_written_in_another_way(rt: HostRuntime) -> Result<(), Fail> {
+/// Whether the lines have one canonical text, however they are written.
+fn lines_hold(alloc: Global) -> bool {
     for text in &LINES_WRITTEN {
-        assert!(rt; has_canonical(rt.alloc(), text, LINES)?, "of {:?}", text);
+        if !has_canonical(alloc, text, LINES) {
+            return false;
+        }
     }
-    Ok(())
+    true
+}
+
+/// What the first table has that doesn't hold; nothing where all hold.
+fn first_to_fail(alloc: Global) -> &'static str {
+    if !all_hold(alloc, &KINDS) {
+        return "records of every kind";
+    }
+    if !all_hold(alloc, &ORDERS) {
+        return "orders";
+    }
+    if !all_hold(alloc, &SPELLINGS) {
+        return "spellings";
+    }
+    if !lines_hold(alloc) {
+        return "lines";
+    }
+    ""
+}
+
+#[test]
+fn texts_have_their_canonical_texts(rt: HostRuntime) {
+    let failed = first_to_fail(rt.alloc());
+    assert!(rt; failed.is_empty(), "{failed}");
 }

@@ -6,7 +6,6 @@ use bz_convert::ConvertError;
 use bz_converting::convert;
 use bz_gsym::GsymTable;
 use std::alloc::Global;
-use std::test::Fail;
 
 /// A function of 48 bytes with one line, and a public symbol, which is left out.
 const ONE_LINE: &[u8] =
@@ -21,8 +20,8 @@ const ONE_LINE_BYTES: &[u8] =
 const CALLS: &[u8] =
     b"FILE 7 p.c\nFILE 15 o.c\nFILE 4 m.c\nFILE 8 i2.c\nFUNC 1000 30 10 outer_func()\nINLINE_ORIGIN 1 inner_func_2()\nINLINE_ORIGIN 2 mid_func()\nINLINE_ORIGIN 3 inner_func_1()\nINLINE 1 17 4 1 1010 10\nINLINE 0 60 15 2 1000 20\nINLINE 1 12 4 3 1000 10\nINLINE 1 17 4 1 1010 10\nINLINE 0 9 15 2 1028 0\n1000 10 42 7\n1010 10 52 8\n1020 10 62 15\n";
 
-/// Addresses, and what the converted file answers there: each name with its place, the outermost first.
-const ANSWERS: [(u64, &str); 5] = [
+/// Addresses, and what the converted file answers there: each name with its site, the outermost first.
+static ANSWERS: [(u64, &str); 5] = [
     (
         0x1000,
         "outer_func() o.c:60; mid_func() m.c:12; inner_func_1() p.c:42; ",
@@ -42,12 +41,12 @@ fn converted(alloc: Global, text: &[u8]) -> Result<Result<Vec<u8>, ConvertError>
     Ok(convert(alloc, &file))
 }
 
-/// Writes a name with its place.
-fn write_at(out: &mut String, name: &str, place: &Option<CodeInfo<'_>>) -> Result<(), Error> {
+/// Writes a name with its site.
+fn write_at(out: &mut String, name: &str, site: &Option<CodeInfo<'_>>) -> Result<(), Error> {
     out.push_str(name)?;
-    if let Some(place) = place {
-        let file = place.file.as_str();
-        if let Some(line) = place.line {
+    if let Some(site) = site {
+        let file = site.file.as_str();
+        if let Some(line) = site.line {
             write!(out, " {file}:{line}; ")?;
         }
     }
@@ -73,33 +72,52 @@ fn answer_at(alloc: Global, table: &GsymTable, addr: u64) -> Result<String, Erro
     Ok(said)
 }
 
-#[test]
-fn converts_a_line(rt: HostRuntime) -> Result<(), Fail> {
-    let Ok(bytes) = converted(rt.alloc(), ONE_LINE)? else {
-        panic!(rt; "not converted");
-    };
-    assert!(rt; bytes.as_slice() == ONE_LINE_BYTES);
-    Ok(())
-}
-
-#[test]
-fn converted_calls_answer(rt: HostRuntime) -> Result<(), Fail> {
-    let Ok(bytes) = converted(rt.alloc(), CALLS)? else {
-        panic!(rt; "not converted");
-    };
-    let table = GsymTable::from_bytes(bytes)?;
-    for row in &ANSWERS {
-        let said = answer_at(rt.alloc(), &table, row.0)?;
-        assert!(rt; said.as_str() == row.1, "at {:#x}", row.0);
+/// Whether this is said at an address.
+fn is_said(alloc: Global, table: &GsymTable, addr: u64, expected: &str) -> bool {
+    match answer_at(alloc, table, addr) {
+        Ok(said) => said.as_str() == expected,
+        Err(_) => false,
     }
-    Ok(())
+}
+
+/// Whether a table answers each address so.
+fn answers_all(alloc: Global, table: &GsymTable) -> bool {
+    for row in &ANSWERS {
+        if !is_said(alloc, table, row.0, row.1) {
+            return false;
+        }
+    }
+    true
+}
+
+/// Whether the calls are converted to a file that answers so.
+fn calls_answer(alloc: Global) -> bool {
+    let Ok(Ok(bytes)) = converted(alloc, CALLS) else {
+        return false;
+    };
+    match GsymTable::from_bytes(bytes) {
+        Ok(table) => answers_all(alloc, &table),
+        Err(_) => false,
+    }
+}
+
+fn converts_a_line(alloc: Global) -> bool {
+    match converted(alloc, ONE_LINE) {
+        Ok(Ok(bytes)) => bytes.as_slice() == ONE_LINE_BYTES,
+        _ => false,
+    }
+}
+
+fn tells_a_fault(alloc: Global) -> bool {
+    match converted(alloc, b"FUNC 10 0 0 f\n") {
+        Ok(Err(fault)) => fault == ConvertError::ZeroSize { addr: 0x10 },
+        _ => false,
+    }
 }
 
 #[test]
-fn tells_a_fault(rt: HostRuntime) -> Result<(), Fail> {
-    let Err(fault) = converted(rt.alloc(), b"FUNC 10 0 0 f\n")? else {
-        panic!(rt; "converted");
-    };
-    assert!(rt; fault == ConvertError::ZeroSize { addr: 0x10 });
-    Ok(())
+fn files_are_converted(rt: HostRuntime) {
+    assert!(rt; converts_a_line(rt.alloc()), "a line");
+    assert!(rt; calls_answer(rt.alloc()), "calls");
+    assert!(rt; tells_a_fault(rt.alloc()), "a fault");
 }

@@ -9,7 +9,7 @@ use std::alloc::Global;
 /// A file's text, and what is said of its first fault: nothing where it has none. Each cause once; sizes
 /// of 0, equal calls, and functions whose end passes 64 bits. Then files with several causes: in one
 /// function the first by the kinds' order, in several the one of the least start.
-const CAUSES: &[(&[u8], &str)] = &[
+static CAUSES: [(&[u8], &str); 23] = [
     (
         b"MODULE Linux x86 ffff0000 bar\nFILE 53 bar.c\nPUBLIC 1234 10 some public\nFUNC 1000 30 10 another func\n1000 30 7 53\n",
         "",
@@ -92,33 +92,48 @@ const CAUSES: &[(&[u8], &str)] = &[
     ),
 ];
 
-fn is_message(alloc: Global, error: ConvertError, expected: &str) -> Result<bool, Error> {
-    let mut message = String::new(alloc);
-    write!(message, "{error}")?;
-    Ok(message.as_str() == expected)
+fn is_message(alloc: Global, error: ConvertError, expected: &str) -> bool {
+    match format!(in alloc; "{error}") {
+        Ok(message) => message.as_str() == expected,
+        Err(_) => false,
+    }
 }
 
-/// Whether this is said of the first fault of a text, or nothing where the text is converted.
-fn is_said(alloc: Global, text: &[u8], said: &str) -> Result<bool, Error> {
-    let file = SymbolFile::from_bytes(alloc, Vec::from_slice(alloc, text)?)?;
-    match convert(alloc, &file) {
-        Ok(_bytes) => Ok(said.is_empty()),
+/// The length of a file that is too large is said in decimal digits.
+fn tells_the_length_of_a_large_file(alloc: Global) -> bool {
+    let error = ConvertError::TooLarge { bytes: 4294967296 };
+    is_message(alloc, error, "the converted file has 4294967296 bytes")
+}
+
+/// The file of a text.
+fn file_of(alloc: Global, text: &[u8]) -> Result<SymbolFile, Error> {
+    SymbolFile::from_bytes(alloc, Vec::from_slice(alloc, text)?)
+}
+
+/// Whether this is said of the first fault of a file, or nothing where the file is converted.
+fn is_first_fault(alloc: Global, file: &SymbolFile, said: &str) -> bool {
+    match convert(alloc, file) {
+        Ok(_bytes) => said.is_empty(),
         Err(fault) => is_message(alloc, fault, said),
+    }
+}
+
+/// The same of a text.
+fn is_said(alloc: Global, text: &[u8], said: &str) -> bool {
+    match file_of(alloc, text) {
+        Ok(file) => is_first_fault(alloc, &file, said),
+        Err(_) => false,
     }
 }
 
 #[test]
 fn finds_the_first_cause(rt: HostRuntime) {
-    for row in CAUSES {
-        assert!(rt; is_said(rt.alloc(), row.0, row.1) == Ok(true));
+    for index in 0..CAUSES.len() {
+        let (text, said) = CAUSES[index];
+        assert!(rt; is_said(rt.alloc(), text, said), "row {index}");
     }
-}
-
-/// The length of a file that is too large is said in decimal digits.
-#[test]
-fn tells_the_length_of_a_large_file(rt: HostRuntime) {
-    let error = ConvertError::TooLarge { bytes: 4294967296 };
     assert!(rt;
-        is_message(rt.alloc(), error, "the converted file has 4294967296 bytes") == Ok(true)
+        tells_the_length_of_a_large_file(rt.alloc()),
+        "a large file"
     );
 }

@@ -33,9 +33,7 @@ fn asks_among_three_functions(alloc: Global) -> bool {
 
 #[test]
 fn generates_texts_and_addresses(rt: HostRuntime) {
-    assert!(rt;
-        writes_the_last_function_first(rt.alloc())
-            && writes_the_greatest_text(rt.alloc())
-            && asks_among_three_functions(rt.alloc())
-    );
+    assert!(rt; writes_the_last_function_first(rt.alloc()), "two functions");
+    assert!(rt; writes_the_greatest_text(rt.alloc()), "the greatest text");
+    assert!(rt; asks_among_three_functions(rt.alloc()), "addresses");
 }

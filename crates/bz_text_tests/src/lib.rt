@@ -1,15 +1,19 @@
-//! Tests of texts that are read and written: of bz_requests, bz_symq, bz_words and bz_breakpad_table; and of bz_convert,
+//! Tests of texts that are read and written: of bz_requests, bz_symq, bz_words, bz_serve and bz_breakpad_table; and of bz_convert,
 //! bz_gsym_layout, bz_converting and bz_canon, over what they make public.
 #![tactic(auto)]
 
 #[cfg(test)]
 mod addresses;
 #[cfg(test)]
+mod answer_texts;
+#[cfg(test)]
 mod canonical_texts;
 #[cfg(test)]
 mod conversions;
 #[cfg(test)]
 mod faults;
+#[cfg(test)]
+mod frame_lines;
 #[cfg(test)]
 mod generated;
 #[cfg(test)]

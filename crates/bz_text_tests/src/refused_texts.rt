@@ -2,7 +2,6 @@
 
 use bz_breakpad_table::{Refused, first_refused};
 use std::alloc::Global;
-use std::test::Fail;
 
 /// A text, and where it is refused, as its lines say by themselves.
 static TEXTS: [(&[u8], Option<Refused>); 22] = [
@@ -79,9 +78,8 @@ fn is_refused(alloc: Global, row: &(&[u8], Option<Refused>)) -> bool {
 }
 
 #[test]
-fn refuses_texts_where_they_are_no_file(rt: HostRuntime) -> Result<(), Fail> {
+fn refuses_texts_where_they_are_no_file(rt: HostRuntime) {
     for index in 0..TEXTS.len() {
         assert!(rt; is_refused(rt.alloc(), &TEXTS[index]), "row {index}");
     }
-    Ok(())
 }

@@ -124,6 +124,6 @@ fn is_absolute(target: &Target) -> bool {
 
 #[test]
 fn reads_requests_of_every_kind(rt: HostRuntime) {
-    assert!(rt; inputs_are_read(rt.alloc()));
-    assert!(rt; is_absolute(&Target::Process(0)));
+    assert!(rt; inputs_are_read(rt.alloc()), "inputs");
+    assert!(rt; is_absolute(&Target::Process(0)), "addresses of processes");
 }

@@ -308,8 +308,9 @@ fn are_refused(alloc: Global) -> bool {
 
 #[test]
 fn reads_command_lines(rt: HostRuntime) {
-    assert!(rt; are_taken(rt.alloc()) && are_refused(rt.alloc()));
-    assert!(rt; are_read(rt.alloc(), &[], None));
+    assert!(rt; are_taken(rt.alloc()), "lines that are taken");
+    assert!(rt; are_refused(rt.alloc()), "lines that are refused");
+    assert!(rt; are_read(rt.alloc(), &[], None), "no words");
 }
 
 /// Whether what `clap` says of words begins so, and has no line feed at its end.
@@ -334,6 +335,6 @@ fn is_complaint(alloc: Global, line: &str, start: &str) -> bool {
 #[test]
 fn says_what_clap_says(rt: HostRuntime) {
     for (line, start) in &COMPLAINTS {
-        assert!(rt; is_complaint(rt.alloc(), line, start));
+        assert!(rt; is_complaint(rt.alloc(), line, start), "{line}");
     }
 }

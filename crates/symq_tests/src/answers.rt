@@ -1,8 +1,8 @@
 //! The answers of Breakpad files.
 
+use crate::runs::Edit::Text;
+use crate::runs::{ADDRESSES, FIRST_RUN, Row};
 use bz_samples::BREAKPAD_CALLS;
-use symq_runs::Edit::Text;
-use symq_runs::{ADDRESSES, FIRST_RUN, Row, ends_so};
 
 const ANSWERS: &str =
     "0x1010: another func+0x10 start 0x1000 size 0x30 module bar at -\n0x1030: ? address not found in symbolization source\n";
@@ -57,7 +57,8 @@ const PROGRAM: Row = Row {
     ..FIRST_RUN
 };
 
-const ROWS: &[Row] = &[
+/// Each form of an answer's line, and of a file each kind of record.
+pub(crate) static ROWS: [Row; 15] = [
     Row {
         input: ADDRESSES,
         written: ANSWERS,
@@ -118,11 +119,3 @@ const ROWS: &[Row] = &[
         ..FIRST_RUN
     },
 ];
-
-/// Each form of an answer's line, and of a file each kind of record.
-#[test]
-fn answers_addresses_in_their_order(rt: HostRuntime) {
-    for row in ROWS {
-        assert!(rt; ends_so(rt.alloc(), row));
-    }
-}

@@ -1,8 +1,8 @@
 //! Canonical texts.
 
+use crate::runs::Edit::Text;
+use crate::runs::{FIRST_RUN, Row, USAGE};
 use bz_symq::Status;
-use symq_runs::Edit::Text;
-use symq_runs::{FIRST_RUN, Row, USAGE, ends_so};
 
 /// A run that makes the canonical text of the first file; a second look at files and a second piece of
 /// output, which would fail, don't come.
@@ -66,7 +66,8 @@ const RECORDS: Row = Row {
     ..CANON
 };
 
-const ROWS: &[Row] = &[
+/// Each ending but for want of memory; the file is looked at once, and a canonical text is its own.
+pub(crate) static ROWS: [Row; 16] = [
     CANON,
     REFUSED,
     Row {
@@ -127,11 +128,3 @@ const ROWS: &[Row] = &[
         ..RECORDS
     },
 ];
-
-/// Each ending but for want of memory; the file is looked at once, and a canonical text is its own.
-#[test]
-fn ends_by_the_cause_of_a_text(rt: HostRuntime) {
-    for row in ROWS {
-        assert!(rt; ends_so(rt.alloc(), row));
-    }
-}

@@ -1,8 +1,8 @@
 //! Converted files.
 
+use crate::runs::Edit::{Deny, Text};
+use crate::runs::{FIRST_RUN, Row};
 use bz_symq::Status;
-use symq_runs::Edit::{Deny, Text};
-use symq_runs::{FIRST_RUN, Row, ends_so};
 
 /// A conversion of a Breakpad file of one function with one line, to GSYM bytes.
 const CONVERTED: Row = Row {
@@ -50,7 +50,9 @@ const ZERO_BYTE: Row = Row {
     ..REFUSED
 };
 
-const ROWS: &[Row] = &[
+/// Each ending but for want of memory and for bytes that 32 bits don't count; the file is looked at
+/// once.
+pub(crate) static ROWS: [Row; 17] = [
     CONVERTED,
     BY_WORDS,
     Row {
@@ -135,12 +137,3 @@ const ROWS: &[Row] = &[
         ..ZERO_BYTE
     },
 ];
-
-/// Each ending but for want of memory and for bytes that 32 bits don't count; the file is looked at
-/// once.
-#[test]
-fn ends_by_the_cause_of_a_conversion(rt: HostRuntime) {
-    for row in ROWS {
-        assert!(rt; ends_so(rt.alloc(), row));
-    }
-}

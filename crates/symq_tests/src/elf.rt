@@ -1,9 +1,9 @@
 //! ELF files.
 
+use crate::runs::Edit::{Bytes, Text};
+use crate::runs::{FIRST_RUN, Row};
 use bz_samples::ELF_FUNCTION;
 use bz_symq::Status;
-use symq_runs::Edit::{Bytes, Text};
-use symq_runs::{FIRST_RUN, Row, ends_so};
 
 /// The front of a file of 32 bits.
 const OTHER_CLASS: &str = "\x7fELF\x01\x01";
@@ -17,7 +17,8 @@ const ELF_RUN: Row = Row {
     ..FIRST_RUN
 };
 
-const ROWS: &[Row] = &[
+/// Symbols with the path as their module, and files that are refused.
+pub(crate) static ROWS: [Row; 4] = [
     ELF_RUN,
     Row {
         edits: &[Text("/e", "\x7fELF")],
@@ -38,11 +39,3 @@ const ROWS: &[Row] = &[
         ..ELF_RUN
     },
 ];
-
-/// Symbols with the path as their module, and files that are refused.
-#[test]
-fn answers_elf_addresses(rt: HostRuntime) {
-    for row in ROWS {
-        assert!(rt; ends_so(rt.alloc(), row));
-    }
-}

@@ -1,8 +1,8 @@
 //! How a run ends, and what is written where nothing is answered.
 
+use crate::runs::Edit::Text;
+use crate::runs::{ADDRESSES, FIRST_RUN, Row, USAGE};
 use bz_symq::Status;
-use symq_runs::Edit::Text;
-use symq_runs::{ADDRESSES, FIRST_RUN, Row, USAGE, ends_so};
 
 /// A run that is refused, over a path where no file is.
 const ABSENT: Row = Row {
@@ -20,7 +20,8 @@ const FAULT: Row = Row {
     ..FIRST_RUN
 };
 
-const ROWS: &[Row] = &[
+/// Each ending but for want of memory, and its text.
+pub(crate) static ROWS: [Row; 10] = [
     ABSENT,
     Row {
         lines: &[&["breakpad", "/denied"]],
@@ -71,11 +72,3 @@ const ROWS: &[Row] = &[
         ..ABSENT
     },
 ];
-
-/// Each ending but for want of memory, and its text.
-#[test]
-fn ends_by_its_cause(rt: HostRuntime) {
-    for row in ROWS {
-        assert!(rt; ends_so(rt.alloc(), row));
-    }
-}

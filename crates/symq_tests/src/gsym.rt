@@ -1,9 +1,9 @@
 //! GSYM files.
 
+use crate::runs::Edit::{Bytes, Text};
+use crate::runs::{FIRST_RUN, Row, USAGE};
 use bz_samples::{GSYM_CALLS, GSYM_LINES};
 use bz_symq::Status;
-use symq_runs::Edit::{Bytes, Text};
-use symq_runs::{FIRST_RUN, Row, USAGE, ends_so};
 
 /// A run over a file of two functions with lines.
 const LINES: Row = Row {
@@ -22,7 +22,8 @@ const CALLS: Row = Row {
     ..LINES
 };
 
-const ROWS: &[Row] = &[
+/// Symbols with their places, in the order of their addresses, and runs that answer nothing.
+pub(crate) static ROWS: [Row; 6] = [
     LINES,
     CALLS,
     Row {
@@ -57,11 +58,3 @@ const ROWS: &[Row] = &[
         ..LINES
     },
 ];
-
-/// Symbols with their places, in the order of their addresses, and runs that answer nothing.
-#[test]
-fn answers_gsym_addresses(rt: HostRuntime) {
-    for row in ROWS {
-        assert!(rt; ends_so(rt.alloc(), row));
-    }
-}

@@ -1,7 +1,7 @@
 //! Inputs that aren't addresses, and the longest ones.
 
+use crate::runs::{FIRST_RUN, Row};
 use bz_symq::Status;
-use symq_runs::{FIRST_RUN, Row, ends_so};
 
 /// An input with a bad line.
 const BAD: Row = Row {
@@ -9,7 +9,8 @@ const BAD: Row = Row {
     ..FIRST_RUN
 };
 
-const BAD_LINES: &[Row] = &[
+/// The first line that is neither empty nor an address is named by its number.
+pub(crate) static BAD_LINES: [Row; 6] = [
     Row {
         input: "10\nxyz\n",
         written: "input: line 2\n",
@@ -42,16 +43,8 @@ const BAD_LINES: &[Row] = &[
     },
 ];
 
-/// The first line that is neither empty nor an address is named by its number.
-#[test]
-fn names_the_first_bad_line(rt: HostRuntime) {
-    for row in BAD_LINES {
-        assert!(rt; ends_so(rt.alloc(), row));
-    }
-}
-
 /// The longest input may be empty lines alone, or end in a line; one byte more is too long.
-const LONGEST: &[Row] = &[
+pub(crate) static LONGEST: [Row; 4] = [
     Row {
         blanks: 16_777_216,
         ..FIRST_RUN
@@ -74,10 +67,3 @@ const LONGEST: &[Row] = &[
         ..BAD
     },
 ];
-
-#[test]
-fn reads_the_longest_input(rt: HostRuntime) {
-    for row in LONGEST {
-        assert!(rt; ends_so(rt.alloc(), row));
-    }
-}

@@ -1,5 +1,5 @@
-//! Tests, by runs of symq_runs, of the program's answers, stacks, products, inputs and endings, and of
-//! the texts of bz_canon, over what they make public.
+//! Tests, by runs in memory, of the program's answers, jobs, products, inputs and endings; of parts of a
+//! run, of frames of lines, and of what is said of a run that did not end well.
 #![tactic(auto)]
 
 #[cfg(test)]
@@ -13,12 +13,28 @@ mod elf;
 #[cfg(test)]
 mod endings;
 #[cfg(test)]
+mod frames;
+#[cfg(test)]
 mod gsym;
 #[cfg(test)]
 mod inputs;
 #[cfg(test)]
+mod jobs;
+#[cfg(test)]
 mod outputs;
+#[cfg(test)]
+mod parts;
+#[cfg(test)]
+mod processes;
+#[cfg(test)]
+mod runs;
+#[cfg(test)]
+mod said;
+#[cfg(test)]
+mod serve;
 #[cfg(test)]
 mod stacks;
 #[cfg(test)]
-mod texts;
+mod tables;
+#[cfg(test)]
+mod words;

@@ -1,10 +1,10 @@
 //! Answers that are written in several pieces.
 
+use crate::runs::Edit::Text;
+use crate::runs::{FIRST_RUN, Row, ends_on};
 use bz_base::Result;
 use bz_symq::Status;
 use std::alloc::Global;
-use symq_runs::Edit::Text;
-use symq_runs::{FIRST_RUN, Row, ends_on};
 
 /// A run over one function with more addresses than have their answers written at a time.
 const WIDE: Row = Row {
@@ -13,7 +13,7 @@ const WIDE: Row = Row {
 };
 
 /// It, and the same where the second piece can't be written, but the first one is.
-const ROWS: &[Row] = &[
+static ROWS: [Row; 2] = [
     WIDE,
     Row {
         faults: (0, 0, 2),
@@ -37,7 +37,7 @@ fn push_many(input: &mut String, written: &mut String) -> Result<()> {
 
 /// Whether the answers are written whole and in order, and where that fails, in part.
 fn writes_in_pieces(alloc: Global, input: &str, written: &str) -> bool {
-    for row in ROWS {
+    for row in &ROWS {
         if !ends_on(alloc, &["breakpad", "/a.sym"], row, input, written) {
             return false;
         }

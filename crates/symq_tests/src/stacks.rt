@@ -1,9 +1,9 @@
 //! Stacks of a profile, by the words `stacks PATH`.
 
+use crate::runs::Edit::{Deny, Text};
+use crate::runs::{FIRST_RUN, Row, USAGE};
 use bz_samples::BREAKPAD_CALLS;
 use bz_symq::Status;
-use symq_runs::Edit::Text;
-use symq_runs::{FIRST_RUN, Row, USAGE, ends_so};
 
 /// Stacks over inlined calls inside one another, and over a function whose name would end a frame.
 const STACKS: Row = Row {
@@ -11,6 +11,7 @@ const STACKS: Row = Row {
     edits: &[
         Text("/n.sym", BREAKPAD_CALLS),
         Text("/o.sym", "FUNC 1 1 0 a;b\n"),
+        Deny("/denied"),
     ],
     own_pid: 1,
     input: "1010 2\n1020 3\n1010 5\n2000 1020 1\n",
@@ -19,8 +20,189 @@ const STACKS: Row = Row {
     ..FIRST_RUN
 };
 
-const ROWS: &[Row] = &[
+/// Functions whose names are in another order than their addresses, and names with a `;` and with
+/// returns at the end.
+const NAMES: Row = Row {
+    lines: &[&["stacks", "/s.sym"]],
+    edits: &[Text(
+        "/s.sym",
+        "FUNC 1 1 0 b\nFUNC 2 1 0 ab\nFUNC 3 1 0 B\nFUNC 4 2 0 a\nFUNC 8 1 0 ;\r\r\n",
+    )],
+    ..STACKS
+};
+
+/// What folds: one path from two addresses, sums past 32 bits, and paths in the order of their bytes; a
+/// count of 0, no stacks, and an address that is refused.
+pub(crate) static FOLDED: [Row; 9] = [
     STACKS,
+    Row {
+        input: "4 1\r\n\n5 2\n",
+        written: "a 3\n",
+        ..NAMES
+    },
+    Row {
+        input: "1 4294967295\n1 4294967295\n1 0000000002\n",
+        written: "b 8589934592\n",
+        ..NAMES
+    },
+    Row {
+        input: "1 1\n2 2\n3 3\n4 0x1 4\n4 5\n9 6\n8 7\n",
+        written: ": 7\nB 3\n[unknown] 6\na 5\na;b 4\nab 2\nb 1\n",
+        ..NAMES
+    },
+    Row {
+        input: "1 2 3 1\n3 2 1 1\n",
+        written: "B;ab;b 1\nb;ab;B 1\n",
+        ..NAMES
+    },
+    // An inlined call has no origin, and another address is answered.
+    Row {
+        edits: &[Text(
+            "/s.sym",
+            "FILE 0 a.c\nFUNC 10 8 0 f\nINLINE 0 1 0 3 10 4\n10 8 1 0\n",
+        )],
+        input: "10 1\n14 2\n",
+        written: "[unknown] 1\nf 2\n",
+        ..NAMES
+    },
+    Row {
+        lines: &[
+            &["stacks", "/n.sym", "--no-inlined"],
+            &["stacks", "--no-code-info", "/n.sym"],
+        ],
+        input: "1010 2\n1020 3\n",
+        written: "outer_func() 5\n",
+        ..STACKS
+    },
+    Row {
+        lines: &[&["stacks", "/o.sym"]],
+        input: "\n\r\n",
+        written: "",
+        ..STACKS
+    },
+    Row {
+        lines: &[&["stacks", "/o.sym"]],
+        input: "1 0",
+        written: "a:b 0\n",
+        ..STACKS
+    },
+];
+
+/// A bad line, which is named though the file is absent, and a look at it would fail.
+const BAD: Row = Row {
+    lines: &[&["stacks", "/absent"]],
+    faults: (1, 0, 0),
+    status: Status::Input,
+    written: "input: line 1\n",
+    opens: Some(0),
+    ..STACKS
+};
+
+/// A fault that ends a run before the file is read.
+const FAULT: Row = Row {
+    lines: &[&["stacks", "/o.sym"]],
+    input: "1 4\n",
+    status: Status::Fault,
+    written: "",
+    opens: Some(0),
+    ..STACKS
+};
+
+/// Bytes that are no Breakpad file: none, a record without fields, a name with a return inside.
+const UNFORMED: Row = Row {
+    edits: &[Text("/s.sym", "")],
+    input: "1 4\n",
+    status: Status::Refused,
+    written: "refused: InvalidInput\n",
+    ..NAMES
+};
+
+/// How runs end that fold nothing.
+pub(crate) static ENDINGS: [Row; 16] = [
+    // No address, lines that are counted though they are empty, an eleventh digit, a count past 32 bits,
+    // two spaces, two returns, and no count.
+    Row {
+        input: "1 4\n\n4",
+        written: "input: line 3\n",
+        ..BAD
+    },
+    Row {
+        input: "1 00000000004\n",
+        ..BAD
+    },
+    Row {
+        input: "1 4294967296\n",
+        ..BAD
+    },
+    Row {
+        input: "1  4\n",
+        ..BAD
+    },
+    Row {
+        input: "\r\n1 4\n1 x 4\n",
+        written: "input: line 3\n",
+        ..BAD
+    },
+    Row {
+        input: "1 4\r\r\n",
+        ..BAD
+    },
+    Row {
+        input: "1\n",
+        ..BAD
+    },
+    UNFORMED,
+    Row {
+        edits: &[Text("/s.sym", "FUNC\n")],
+        ..UNFORMED
+    },
+    Row {
+        edits: &[Text("/s.sym", "FUNC 1 1 0 a\rb\n")],
+        ..UNFORMED
+    },
+    // A look, the read of the file, the first and the last call of the input, and the output's.
+    Row {
+        faults: (1, 0, 0),
+        ..FAULT
+    },
+    Row {
+        faults: (2, 0, 0),
+        ..FAULT
+    },
+    Row {
+        faults: (0, 1, 0),
+        ..FAULT
+    },
+    Row {
+        faults: (0, 2, 0),
+        ..FAULT
+    },
+    Row {
+        faults: (0, 0, 1),
+        opens: Some(1),
+        ..FAULT
+    },
+    // A file that may not be read.
+    Row {
+        lines: &[&["stacks", "/denied"]],
+        input: "1 4\n",
+        status: Status::Refused,
+        written: "refused: PermissionDenied\n",
+        opens: Some(0),
+        ..STACKS
+    },
+];
+
+/// An input that is a byte too long, which is told though the file is absent.
+pub(crate) static LONGEST: [Row; 1] = [Row {
+    blanks: 16_777_217,
+    input: "",
+    written: "input: too long\n",
+    ..BAD
+}];
+
+/// Flags and words.
+pub(crate) static ROWS: [Row; 7] = [
     Row {
         lines: &[
             &["stacks", "/n.sym", "--no-inlined"],
@@ -74,10 +256,3 @@ const ROWS: &[Row] = &[
         ..STACKS
     },
 ];
-
-#[test]
-fn folds_stacks_by_words(rt: HostRuntime) {
-    for row in ROWS {
-        assert!(rt; ends_so(rt.alloc(), row));
-    }
-}

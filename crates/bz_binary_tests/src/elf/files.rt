@@ -35,7 +35,7 @@ const OTHER: Look = (Some(Error::Unsupported), &[], &[]);
 type Row = (usize, &'static [u8], Look);
 
 /// Each field is 0, its greatest value, the last one that the bytes hold, and one past that.
-const FIELDS: &[Row] = &[
+static FIELDS: [Row; 82] = [
     // The number in front, the class and the order of bytes; the version isn't looked at.
     (0, b"\0\0\0\0", BAD),
     (0, b"\xff\xff\xff\xff", BAD),
@@ -134,7 +134,7 @@ const TWO_SEGMENTS: &[u8] =
     b"\x02\0\x40\0\x03\0\0\0\x01\0\0\0\0\0\0\0\0\0\0\0\0\0\0\0\0\0\x40\0\0\0\0\0\0\0\0\0\0\0\0\0\0\x02\0\0\0\0\0\0\0\0\0\0\0\0\0\0\0\0\0\0\0\0\0\0\x01";
 
 /// What files tell of addresses, and where their bytes at offsets are loaded.
-const ANSWERS: &[Row] = &[
+static ANSWERS: [Row; 21] = [
     (
         0,
         b"",
@@ -297,7 +297,7 @@ fn shows(alloc: Global, bytes: &[u8], (place, new, look): &Row) -> bool {
 #[test]
 fn fields_are_checked(rt: HostRuntime) {
     laws::files_are_exact();
-    for row in FIELDS {
+    for row in &FIELDS {
         assert!(rt; shows(rt.alloc(), &ELF_FUNCTION, row));
     }
     // The class is looked at as soon as it stands there, before anything behind it.
@@ -358,7 +358,7 @@ fn answers_by_order(alloc: Global) -> Result<bool, AllocError> {
 #[test]
 fn answers_by_the_nearest_symbol(rt: HostRuntime) {
     laws::answers_start_before();
-    for row in ANSWERS {
+    for row in &ANSWERS {
         assert!(rt; shows(rt.alloc(), &ELF_FUNCTION, row));
     }
     assert!(rt; answers_by_order(rt.alloc()) == Ok(true));

@@ -16,7 +16,7 @@ const MIXED: &[u8] = b"\0ab\xffc\0d\0\xc3\0\xe2\x82\xace\0f\0\x80";
 /// Strings, places of names in them, and the names, or nothing where the last of them is none.
 type Row = (&'static [u8], &'static [u32], &'static [&'static str]);
 
-const NAMES: &[Row] = &[
+static NAMES: [Row; 24] = [
     (
         TEXT,
         &[0, 1, 2, 4, 5, 6, 9],
@@ -96,7 +96,7 @@ fn has_names(alloc: Global, (strings, places, names): &Row) -> bool {
 #[test]
 fn names_stand_where_characters_begin(rt: HostRuntime) {
     laws::names_are_exact();
-    for row in NAMES {
+    for row in &NAMES {
         assert!(rt; has_names(rt.alloc(), row));
     }
 }

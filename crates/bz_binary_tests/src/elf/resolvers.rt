@@ -15,7 +15,7 @@ fn put(alloc: Global, files: &mut MemFiles, path: &str, bytes: &[u8]) -> Result<
 }
 
 /// The example file, its front, and the front of one of 32 bits.
-const FILES: &[(&str, &[u8])] = &[
+static FILES: [(&str, &[u8]); 3] = [
     ("/e", &ELF_FUNCTION),
     ("/cut", b"\x7fELF"),
     ("/other", b"\x7fELF\x01\x01"),
@@ -23,7 +23,7 @@ const FILES: &[(&str, &[u8])] = &[
 
 /// Puts these files, beside a path that is denied. The sixth look at files fails.
 fn fill(alloc: Global, files: &mut MemFiles) -> Result<(), Error> {
-    for row in FILES {
+    for row in &FILES {
         put(alloc, files, row.0, row.1)?;
     }
     files.deny(alloc, "/denied")?;
@@ -31,7 +31,7 @@ fn fill(alloc: Global, files: &mut MemFiles) -> Result<(), Error> {
 }
 
 /// Paths, and how they are refused one after another, if they are, with a fault at the last one.
-const OPENED: &[(&str, Option<ErrorKind>)] = &[
+static OPENED: [(&str, Option<ErrorKind>); 6] = [
     ("/e", None),
     ("/absent", Some(ErrorKind::NotFound)),
     ("/denied", Some(ErrorKind::PermissionDenied)),
@@ -60,7 +60,7 @@ fn opens(alloc: Global, files: &mut MemFiles, path: &str, refusal: Option<ErrorK
 
 /// Whether all paths are opened or refused so.
 fn opens_each(alloc: Global, files: &mut MemFiles) -> bool {
-    for row in OPENED {
+    for row in &OPENED {
         if !opens(alloc, files, row.0, row.1) {
             return false;
         }

@@ -48,7 +48,7 @@ pub(crate) type Row = (
 pub(crate) const AT_MAIN: Row = (0, b"", 0x1000, Basic, MAIN, NOWHERE, "", NOWHERE);
 
 /// What the file with lines answers.
-const LINES: &[Row] = &[
+static LINES: [Row; 29] = [
     (0, b"", 0xfff, Basic, UNKNOWN, NOWHERE, "", NOWHERE),
     (0, b"", 0x1000, Basic, MAIN, NOWHERE, "", NOWHERE),
     (0, b"", 0x100c, Basic, MAIN, NOWHERE, "", NOWHERE),
@@ -156,7 +156,7 @@ const LINES: &[Row] = &[
 ];
 
 /// What the file with an inlined call answers.
-const CALLS: &[Row] = &[
+static CALLS: [Row; 17] = [
     (
         0,
         b"",
@@ -364,10 +364,10 @@ fn files_answer_for_addresses(rt: HostRuntime) {
     laws::the_symbol_that_is_found_answers();
     laws::answers_start_before();
     laws::calls_are_rotated();
-    for row in LINES {
+    for row in &LINES {
         assert!(rt; answers(rt.alloc(), &GSYM_LINES, row));
     }
-    for row in CALLS {
+    for row in &CALLS {
         assert!(rt; answers(rt.alloc(), &GSYM_CALLS, row));
     }
 }

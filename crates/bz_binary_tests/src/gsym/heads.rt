@@ -9,7 +9,7 @@ use std::alloc::Global;
 type Row = (usize, &'static [u8], bool);
 
 /// Each field of the head is 0, its greatest value, the last one that the bytes hold, and one past that.
-const HEADS: &[Row] = &[
+static HEADS: [Row; 34] = [
     // The magic number.
     (0, b"\0\0\0\0", false),
     (0, b"\xff\xff\xff\xff", false),
@@ -75,7 +75,7 @@ fn is_taken(alloc: Global, file: &[u8], (place, new, expected): &Row) -> bool {
 #[test]
 fn heads_are_taken_by_their_tables(rt: HostRuntime) {
     laws::files_are_exact();
-    for row in HEADS {
+    for row in &HEADS {
         assert!(rt; is_taken(rt.alloc(), &GSYM_LINES, row));
     }
     // Of a file that is cut the string table has to be whole: the last of the tables, which ends at 102.

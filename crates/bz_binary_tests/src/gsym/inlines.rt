@@ -52,7 +52,7 @@ const RANGES: &[u8] =
 /// 0x1000.
 type TreeRow = (&'static [u8], u64, bool, &'static [InlineFrame]);
 
-const TREES: &[TreeRow] = &[
+static TREES: [TreeRow; 19] = [
     (NESTED, 0x0fff, true, &[]),
     (NESTED, 0x1003, true, &[MAIN]),
     (NESTED, 0x1004, true, &[MAIN, SUB]),
@@ -148,7 +148,7 @@ fn walks_deep(alloc: Global) -> Result<bool, AllocError> {
 fn trees_give_the_frames_around_an_address(rt: HostRuntime) {
     laws::trees_are_exact();
     laws::frames_are_the_trees();
-    for row in TREES {
+    for row in &TREES {
         assert!(rt; gives(rt.alloc(), row.0, row.1, row.2, row.3));
     }
     assert!(rt; walks_deep(rt.alloc()) == Ok(true));

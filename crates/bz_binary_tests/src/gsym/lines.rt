@@ -28,7 +28,7 @@ const WRAPS: &[u8] = b"\x7c\x0a\x05\x02\xff\xdf\xff\xff\xff\xff\xff\xff\xff\x01\
 /// delta are mostly -4 and 10, so that there are 15.
 type Row = (&'static [u8], u64, State);
 
-const TABLES: &[Row] = &[
+static TABLES: [Row; 50] = [
     (TABLE, 0xfff, NO_ROW),
     (TABLE, 0x1000, (0x1000, 1, 5)),
     (TABLE, 0x1007, (0x1000, 1, 5)),
@@ -201,7 +201,7 @@ fn answers_by_state(alloc: Global, (table, addr, state): &Row) -> Result<bool, A
 fn lines_answer_for_addresses(rt: HostRuntime) {
     laws::line_states_go_on();
     laws::lines_are_known_early();
-    for row in TABLES {
+    for row in &TABLES {
         assert!(rt;
             answering(row.0, row.1) == row.2 && answers_by_state(rt.alloc(), row) == Ok(true)
         );
@@ -212,7 +212,7 @@ fn lines_answer_for_addresses(rt: HostRuntime) {
 /// nothing), the line and the address then, and how many bytes are left.
 type Operator = (i64, i64, &'static [u8], &'static str, u32, u64, usize);
 
-const OPERATORS: &[Operator] = &[
+static OPERATORS: [Operator; 13] = [
     (i64::MIN, i64::MAX, b"\x04", "row", 5, 0x1000, 0),
     (i64::MIN, i64::MAX, b"\xff", "row", 256, 0x1000, 0),
     (1, 0, b"\x04", "", 5, 0x1000, 0),
@@ -266,7 +266,7 @@ fn reads_a_head() -> bool {
 
 #[test]
 fn operators_run_one_by_one(rt: HostRuntime) {
-    for row in OPERATORS {
+    for row in &OPERATORS {
         assert!(rt; runs(row));
     }
     assert!(rt; reads_a_head());

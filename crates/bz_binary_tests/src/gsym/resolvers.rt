@@ -23,7 +23,7 @@ fn fill(alloc: Global, files: &mut MemFiles) -> Result<(), Error> {
 }
 
 /// Paths, and how they are refused one after another, if they are, with a fault at the last one.
-const OPENED: &[(&str, Option<ErrorKind>)] = &[
+static OPENED: [(&str, Option<ErrorKind>); 5] = [
     ("/g", None),
     ("/absent", Some(ErrorKind::NotFound)),
     ("/denied", Some(ErrorKind::PermissionDenied)),
@@ -49,7 +49,7 @@ fn opens(alloc: Global, files: &mut MemFiles, path: &str, refusal: Option<ErrorK
 
 /// Whether all paths are opened or refused so.
 fn opens_each(alloc: Global, files: &mut MemFiles) -> bool {
-    for row in OPENED {
+    for row in &OPENED {
         if !opens(alloc, files, row.0, row.1) {
             return false;
         }

@@ -43,7 +43,7 @@ fn scanned(starts: &[u8], distance: u8) -> Option<usize> {
     below
 }
 
-const STARTS: &[&[u8]] = &[
+static STARTS: [&[u8]; 8] = [
     &[],
     &[0],
     &[5],
@@ -106,7 +106,7 @@ type Row = (
     Option<u64>,
 );
 
-const FOUND: &[Row] = &[
+static FOUND: [Row; 5] = [
     // The last start is below the address.
     (&WRITTEN, 0, b"", 0x10635, Some(26), Some(0xff80)),
     // Addresses of 3 bytes are unknown.
@@ -131,12 +131,12 @@ fn finds(alloc: Global, (file, place, new, addr, index, start): &Row) -> bool {
 
 #[test]
 fn halving_finds_what_a_scan_finds(rt: HostRuntime) {
-    for starts in STARTS {
+    for starts in &STARTS {
         for size in SIZES {
             assert!(rt; finds_as_scanned(rt.alloc(), *size, starts));
         }
     }
-    for row in FOUND {
+    for row in &FOUND {
         assert!(rt; finds(rt.alloc(), row));
     }
 }

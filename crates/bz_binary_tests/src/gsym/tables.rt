@@ -4,7 +4,7 @@ use bz_gsym::{GsymContext, laws, parse_address_data};
 use bz_samples::GSYM_LINES;
 
 /// Places in the string table, and the strings there; outside it there is none.
-const STRINGS: &[(usize, &str)] = &[
+static STRINGS: [(usize, &str); 7] = [
     (0, ""),
     (1, "main"),
     (3, "in"),
@@ -18,7 +18,7 @@ const NONE: &str = "(none)";
 
 /// Whether all strings are at their places.
 fn has_strings(context: &GsymContext<'_>) -> bool {
-    for row in STRINGS {
+    for row in &STRINGS {
         if context.get_str(row.0).unwrap_or(NONE) != row.1 {
             return false;
         }
@@ -48,7 +48,7 @@ fn reads_tables() -> bool {
 }
 
 /// Bytes, and the type and the length of each data entry in front of them.
-const ENTRIES: &[(&[u8], &[(u32, usize)])] = &[
+static ENTRIES: [(&[u8], &[(u32, usize)]); 7] = [
     (b"", &[]),
     (b"\x01\0\0\0\0\0\0\0", &[(1, 0)]),
     (
@@ -83,7 +83,7 @@ fn tables_are_read_by_index_and_place(rt: HostRuntime) {
     laws::strings_are_exact();
     laws::entries_are_exact();
     assert!(rt; reads_tables());
-    for row in ENTRIES {
+    for row in &ENTRIES {
         assert!(rt; lists(row.0, row.1));
     }
 }

@@ -20,21 +20,36 @@ fn is_taken_as(alloc: Global, text: &[u8], expected: bool) -> bool {
 }
 
 /// Texts whose numbers are the greatest, or one past it, and whether they are taken.
-const TEXTS: &[(&[u8], bool)] = &[
+static TEXTS: [(&[u8], bool); 3] = [
     // A line record may end past 64 bits.
     (b"FUNC 1 2 3 x\nffffffffffffffff 2 0 0\n", true),
     (b"FUNC 1 2 3 x\nINLINE 0 1 4294967295 0 1 1\n", true),
     (b"FUNC 1 2 3 x\nINLINE 0 1 4294967296 0 1 1\n", false),
 ];
 
-#[test]
-fn texts_are_taken_by_their_lines_and_numbers(rt: HostRuntime) {
-    // A cut text is taken where its last line is ended.
+/// Whether a cut text is taken where its last line is ended.
+fn cut_texts_are_taken(alloc: Global) -> bool {
     for len in 0..BAR.len() {
         let front = &BAR[..len];
-        assert!(rt; is_taken_as(rt.alloc(), front, front.ends_with(b"\n")));
+        if !is_taken_as(alloc, front, front.ends_with(b"\n")) {
+            return false;
+        }
     }
-    for row in TEXTS {
-        assert!(rt; is_taken_as(rt.alloc(), row.0, row.1));
+    true
+}
+
+/// Whether numbers are taken so.
+fn numbers_are_taken(alloc: Global) -> bool {
+    for row in &TEXTS {
+        if !is_taken_as(alloc, row.0, row.1) {
+            return false;
+        }
     }
+    true
+}
+
+#[test]
+fn texts_are_taken_by_their_lines_and_numbers(rt: HostRuntime) {
+    assert!(rt; cut_texts_are_taken(rt.alloc()), "cut texts");
+    assert!(rt; numbers_are_taken(rt.alloc()), "numbers");
 }

@@ -40,9 +40,9 @@ const WHOLE: &[u8] = b"\xe0\xc8\x10\0";
 const UNENDED: &[u8] = b"\xdf\xc8\x10\0";
 
 /// Whether the place is that line of `a.c`.
-fn is_at(place: &Option<CodeInfo<'_>>, line: u32) -> bool {
-    match place {
-        Some(place) => place.file.as_str() == "a.c" && place.line == Some(line),
+fn is_at(site: &Option<CodeInfo<'_>>, line: u32) -> bool {
+    match site {
+        Some(site) => site.file.as_str() == "a.c" && site.line == Some(line),
         None => false,
     }
 }
@@ -140,10 +140,22 @@ fn has_nest(alloc: Global) -> Result<bool, Error> {
     Ok(finds_calls(alloc, &resolver, 0x1005, 100_000) && finds_calls(alloc, &resolver, 0x1010, 0))
 }
 
+/// Whether memory was left, and it is so.
+fn is_so(answer: Result<bool, Error>) -> bool {
+    match answer {
+        Ok(answer) => answer,
+        Err(_) => false,
+    }
+}
+
+/// Whether the whole tree answers, and one without its last byte is refused in the nodes and behind them.
+fn trees_answer(alloc: Global) -> bool {
+    is_so(has_tree(alloc, WHOLE, Some(99_999), Some(0)))
+        && is_so(has_tree(alloc, UNENDED, None, None))
+}
+
 #[test]
 fn deep_calls_answer(rt: HostRuntime) {
-    assert!(rt; has_tree(rt.alloc(), WHOLE, Some(99_999), Some(0)) == Ok(true));
-    // A tree without its last byte is refused in the nodes and behind them.
-    assert!(rt; has_tree(rt.alloc(), UNENDED, None, None) == Ok(true));
-    assert!(rt; has_nest(rt.alloc()) == Ok(true));
+    assert!(rt; trees_answer(rt.alloc()), "trees");
+    assert!(rt; is_so(has_nest(rt.alloc())), "nested calls");
 }

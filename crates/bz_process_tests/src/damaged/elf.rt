@@ -8,7 +8,7 @@ use std::alloc::Global;
 /// Bytes that stand in the file from a place on, and how it is refused then.
 type Row = (usize, &'static [u8], Error);
 
-const FIELDS: &[Row] = &[
+static FIELDS: [Row; 4] = [
     // The class is that of 32 bits.
     (4, b"\x01", Error::Unsupported),
     // The count of program headers that stands for a count elsewhere.
@@ -31,7 +31,7 @@ fn is_refused(alloc: Global, (place, new, refusal): &Row) -> bool {
 
 #[test]
 fn damaged_fields_are_refused(rt: HostRuntime) {
-    for row in FIELDS {
+    for row in &FIELDS {
         assert!(rt; is_refused(rt.alloc(), row));
     }
 }

@@ -25,7 +25,7 @@ type Row = (
     Option<u64>,
 );
 
-const STARTS: &[Row] = &[
+static STARTS: [Row; 4] = [
     (&LAST_BASE, 48, b"\x01", None, None),
     (&LAST_BASE, 48, b"\xff", None, None),
     (&LAST_BASE, 48, b"\0", None, Some(u64::MAX)),
@@ -59,7 +59,7 @@ fn has_address(alloc: Global, (file, place, new, refusal, expected): &Row) -> bo
 }
 
 /// The least and the greatest line delta, between which there is none.
-const NO_DELTAS: &[(i64, i64)] = &[(1, 0), (2, 0), (i64::MAX, i64::MIN)];
+static NO_DELTAS: [(i64, i64); 3] = [(1, 0), (2, 0), (i64::MAX, i64::MIN)];
 
 /// Whether a special operator ends the table, and leaves the state at line 5 as it is.
 fn ends_table(min_delta: i64, max_delta: i64) -> bool {
@@ -73,12 +73,28 @@ fn ends_table(min_delta: i64, max_delta: i64) -> bool {
     ended && row.addr == 0x1000 && row.file_idx == 1 && row.file_line == 5
 }
 
+/// Whether each start has its address.
+fn starts_have_addresses(alloc: Global) -> bool {
+    for row in &STARTS {
+        if !has_address(alloc, row) {
+            return false;
+        }
+    }
+    true
+}
+
+/// Whether each of these deltas ends a table.
+fn deltas_end_tables() -> bool {
+    for row in &NO_DELTAS {
+        if !ends_table(row.0, row.1) {
+            return false;
+        }
+    }
+    true
+}
+
 #[test]
 fn numbers_reach_to_the_end_of_their_range(rt: HostRuntime) {
-    for row in STARTS {
-        assert!(rt; has_address(rt.alloc(), row));
-    }
-    for row in NO_DELTAS {
-        assert!(rt; ends_table(row.0, row.1));
-    }
+    assert!(rt; starts_have_addresses(rt.alloc()), "starts");
+    assert!(rt; deltas_end_tables(), "deltas");
 }

@@ -7,7 +7,7 @@ use std::alloc::Global;
 
 /// From how many bytes on, up to how many, a text of three mappings tells so many; or it isn't of mappings,
 /// since its last line doesn't reach to its inode.
-const MAPPINGS: &[(usize, usize, Option<usize>)] = &[
+static MAPPINGS: [(usize, usize, Option<usize>); 7] = [
     (0, 0, Some(0)),
     (1, 30, None),
     (31, 42, Some(1)),
@@ -34,7 +34,7 @@ const PERF_MAP: &[u8] =
 
 /// From how many bytes on, up to how many, the text is taken, or it isn't, since its last line doesn't
 /// reach to its name.
-const PERF_MAPS: &[(usize, usize, bool)] = &[
+static PERF_MAPS: [(usize, usize, bool); 7] = [
     (0, 0, true),
     (1, 14, false),
     (15, 61, true),
@@ -62,7 +62,7 @@ fn is_taken_as(alloc: Global, len: usize, expected: bool) -> bool {
 const STATUS: &[u8] = b"Name:\tcat\nNStgid:\t1337\t12\t5\n";
 
 /// From how many bytes on, up to how many, the text tells this id, if it tells one, or is refused.
-const IDS: &[(usize, usize, Result<Option<u32>, Error>)] = &[
+static IDS: [(usize, usize, Result<Option<u32>, Error>); 9] = [
     (0, 16, Ok(None)),
     // The label alone, and with a blank behind it.
     (17, 18, Err(Error::InvalidData)),
@@ -83,21 +83,45 @@ fn tells_id(len: usize, expected: &Result<Option<u32>, Error>) -> bool {
     }
 }
 
+/// Whether cut mappings are told so.
+fn mappings_are_told(alloc: Global) -> bool {
+    for row in &MAPPINGS {
+        for len in row.0..=row.1 {
+            if !tells_mappings(alloc, len, row.2) {
+                return false;
+            }
+        }
+    }
+    true
+}
+
+/// Whether cut perf maps are taken or refused so.
+fn perf_maps_are_taken(alloc: Global) -> bool {
+    for row in &PERF_MAPS {
+        for len in row.0..=row.1 {
+            if !is_taken_as(alloc, len, row.2) {
+                return false;
+            }
+        }
+    }
+    true
+}
+
+/// Whether cut statuses tell these ids.
+fn ids_are_told() -> bool {
+    for row in &IDS {
+        for len in row.0..=row.1 {
+            if !tells_id(len, &row.2) {
+                return false;
+            }
+        }
+    }
+    true
+}
+
 #[test]
 fn cut_texts_are_told_as_far_as_they_reach(rt: HostRuntime) {
-    for row in MAPPINGS {
-        for len in row.0..=row.1 {
-            assert!(rt; tells_mappings(rt.alloc(), len, row.2));
-        }
-    }
-    for row in PERF_MAPS {
-        for len in row.0..=row.1 {
-            assert!(rt; is_taken_as(rt.alloc(), len, row.2));
-        }
-    }
-    for row in IDS {
-        for len in row.0..=row.1 {
-            assert!(rt; tells_id(len, &row.2));
-        }
-    }
+    assert!(rt; mappings_are_told(rt.alloc()), "mappings");
+    assert!(rt; perf_maps_are_taken(rt.alloc()), "perf maps");
+    assert!(rt; ids_are_told(), "ids");
 }

@@ -1,5 +1,0 @@
-//! Frames of a crash, and runs over them.
-
-mod answers;
-mod lines;
-mod runs;

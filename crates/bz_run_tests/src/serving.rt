@@ -1,6 +1,0 @@
-//! Runs of requests.
-
-mod faults;
-mod processes;
-mod runs;
-mod worlds;

@@ -1,5 +1,0 @@
-//! Runs that fold stacks.
-
-mod endings;
-mod runs;
-mod texts;

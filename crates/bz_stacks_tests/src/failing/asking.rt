@@ -1,0 +1,169 @@
+//! The calls that ask a source for addresses.
+
+ghost use Rattle.std.specs.Prelude.{◌≡◌, ◌<◌};
+
+use crate::failing::sources::{Question, Told};
+use bz_base::{Input, Result, Steps, Symbolized};
+use bz_files::MemFiles;
+use bz_symbolize::source::Source;
+use bz_symbolize::{Lookups, Symbolizer};
+use std::alloc::Global;
+use std::marker::Brand;
+use std::sync::ledger::{Blank, Ledger};
+
+/// A call that asks for addresses.
+pub(crate) enum Call {
+    Batch,
+    Counted,
+    LookedUp,
+    Single,
+    /// A batch without addresses.
+    Empty,
+}
+
+/// The calls that ask for the addresses of a question, of which the last two take its first alone.
+pub(crate) static CALLS: [Call; 4] = [Call::Batch, Call::Counted, Call::LookedUp, Call::Single];
+
+/// The addresses as an input of this kind.
+fn input<T: Drop>(kind: Input<()>, addrs: T) -> Input<T> {
+    match kind {
+        Input::FileOffset(_) => Input::FileOffset(addrs),
+        Input::VirtOffset(_) => Input::VirtOffset(addrs),
+        Input::AbsAddr(_) => Input::AbsAddr(addrs),
+    }
+}
+
+/// Whether the answer is what is told at this place. No symbol has inlined calls.
+fn is_told(answer: &Symbolized<'_>, told: &[Told], place: usize) -> bool {
+    match (answer, told.get(place)) {
+        (Symbolized::Sym(symbol), Some((name, None, placed))) => {
+            symbol.name.as_str() == *name
+                && symbol.code_info.is_some() == *placed
+                && symbol.inlined.is_empty()
+        }
+        (Symbolized::Unknown(given), Some((_, Some(reason), _))) => given == reason,
+        _ => false,
+    }
+}
+
+/// Whether the answers are what is told.
+fn are_told(answers: &[Symbolized<'_>], told: &[Told]) -> bool {
+    for place in 0..answers.len() {
+        if !is_told(&answers[place], told, place) {
+            return false;
+        }
+    }
+    answers.len() == told.len()
+}
+
+/// Whether the only address that was looked up is answered by what is told.
+fn is_looked_up(alloc: Global, lookups: &Lookups<'_>, told: &[Told]) -> bool {
+    if lookups.len() != 1 {
+        return false;
+    }
+    match lookups.answer(alloc, 0) {
+        Ok(answer) => is_told(&answer, told, 0),
+        Err(_) => false,
+    }
+}
+
+fn batch(
+    alloc: Global,
+    symbolizer: &mut Symbolizer,
+    files: &mut MemFiles,
+    src: &Source<'_>,
+    input: Input<&[u64]>,
+    told: &[Told],
+) -> Result<bool> {
+    let answers = symbolizer.symbolize(alloc, files, src, input)?;
+    Ok(are_told(&answers, told))
+}
+
+fn single(
+    alloc: Global,
+    symbolizer: &mut Symbolizer,
+    files: &mut MemFiles,
+    src: &Source<'_>,
+    input: Input<u64>,
+    told: &[Told],
+) -> Result<bool> {
+    let answer = symbolizer.symbolize_single(alloc, files, src, input)?;
+    Ok(is_told(&answer, told, 0))
+}
+
+fn counted<L: Ledger>(
+    alloc: Global,
+    symbolizer: &mut Symbolizer,
+    files: &mut MemFiles,
+    src: &Source<'_>,
+    input: Input<&[u64]>,
+    told: &[Told],
+    blank: Blank,
+) -> Result<bool>
+    requires name { blank.name ≡ L.name }
+    requires parts { blank.parts ≡ L.parts }
+    requires some { 0 < L.parts }
+{
+    let mut steps = Steps::<L>::new(blank);
+    let answers = symbolizer.symbolize_counted(alloc, files, src, input, &mut steps)?;
+    Ok(are_told(&answers, told))
+}
+
+fn looked_up<L: Ledger>(
+    alloc: Global,
+    symbolizer: &mut Symbolizer,
+    files: &mut MemFiles,
+    src: &Source<'_>,
+    input: Input<Vec<u64>>,
+    told: &[Told],
+    blank: Blank,
+) -> Result<bool>
+    requires name { blank.name ≡ L.name }
+    requires parts { blank.parts ≡ L.parts }
+    requires some { 0 < L.parts }
+{
+    let mut steps = Steps::<L>::new(blank);
+    let lookups = symbolizer.look_up(alloc, files, src, input, &mut steps)?;
+    Ok(is_looked_up(alloc, &lookups, told))
+}
+
+/// Whether the call answers the question by what is told, or why it is refused.
+pub(crate) fn ask(
+    alloc: Global,
+    symbolizer: &mut Symbolizer,
+    files: &mut MemFiles,
+    src: &Source<'_>,
+    call: &Call,
+    question: &Question,
+) -> Result<bool> {
+    let (kind, addrs, told) = *question;
+    let Some(first) = addrs.first() else {
+        return Ok(false);
+    };
+    match call {
+        Call::Batch => batch(alloc, symbolizer, files, src, input(kind, addrs), told),
+        Call::Counted => counted::<Brand>(
+            alloc,
+            symbolizer,
+            files,
+            src,
+            input(kind, addrs),
+            told,
+            Blank::new(1),
+        ),
+        Call::LookedUp => {
+            let alone = Vec::from_slice(alloc, &[*first])?;
+            looked_up::<Brand>(
+                alloc,
+                symbolizer,
+                files,
+                src,
+                input(kind, alone),
+                told,
+                Blank::new(1),
+            )
+        }
+        Call::Single => single(alloc, symbolizer, files, src, input(kind, *first), told),
+        Call::Empty => batch(alloc, symbolizer, files, src, input(kind, &[]), &[]),
+    }
+}
