@@ -5,7 +5,7 @@ use Rattle.bz_base.specs.Answer.{Call, Site}
 use Rattle.bz_base.specs.SeenFrom.{IsSeen, seen_from, seen_outside}
 
 module _ {C : Type 0} (site : C → Option Site) (name : C → Option (List ℕ)) where
-  -- where the line's own place is known, the code lies there, inside no call
+  -- where the line's own site is known, the code lies there, inside no call
   line_is : (line : Option Site) (seen : Site × List Call) → seen_from site name line [] ≡ Some seen → IsSeen site name line [] seen
   line_is None seen is = cc
   line_is (Some at) seen is =
@@ -34,7 +34,7 @@ module _ {C : Type 0} (site : C → Option Site) (name : C → Option (List ℕ)
     seen_is (call ∷ calls) seen is = option_and_then_some (seen_outside site name call) (seen_from site name line calls) seen is
         (λ inside known outside. call_is call calls inside seen (seen_is calls inside known) outside)
 
-    -- a place and calls that have these sites and names are what is seen
+    -- a site and calls that have these sites and names are what is seen
     again : (calls : List C) (at : Site) (told : List Call) (inner : List Site) → map (λ at. Some at) (at ∷ inner) ≡ map site calls ++ line ∷ [] →
         map (λ call. Some call.name) told ≡ map name calls → map (λ call. call.site) told ≡ map (λ at. Some at) inner → seen_from site name line calls ≡ Some (at, told)
     again [] at [] inner sites names inners = let known : line ≡ Some at = cc in ap (option_map _) known

@@ -4,7 +4,7 @@ use Rattle.bz_base.specs.Answer.{Call, Site}
 use Rattle.bz_base.specs.SeenFrom.{seen_from, seen_outside}
 
 module _ {C : Type 0} (site : C → Option Site) (name : C → Option (List ℕ)) (line : Option Site) where
-  -- where the line's own place isn't known, nothing is
+  -- where the line's own site isn't known, nothing is
   pub line_unknown : (calls : List C) → None ≡ line → seen_from site name line calls ≡ None
   line_unknown [] none = ap (option_map _) (sym none)
   line_unknown (call ∷ calls) none = ap (option_and_then (seen_outside site name call)) (line_unknown calls none)

@@ -1,5 +1,5 @@
--- How code is seen from outside the calls around it, over calls of any kind: each stands at a site and has a name, if they are
--- known.
+-- How code is seen from outside the calls around it. The calls may be of any kind: each stands at a site and has a name, if
+-- they are known.
 use Rattle.std.specs.Prelude.{◌≡◌, ℕ, List, [], ◌∷◌, ◌++◌, map, Option, Some, option_map, option_and_then}
 use Rattle.bz_base.specs.Answer.{Call, Site}
 

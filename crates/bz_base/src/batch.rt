@@ -9,7 +9,7 @@ ghost use Rattle.bz_base.specs.declared.error.Error.{Error};
 use crate::error::{Error, Result};
 use crate::types::{Reason, Symbolized};
 
-/// An answer as an entry of a batch: a refused address is an ignored error, while a failed read and
+/// An answer as an entry of a batch. A refused address is an ignored error, while a failed read and
 /// want of memory refuse the batch.
 pub fn in_batch(answer: Result<Symbolized<'_>>) -> Result<Symbolized<'_>>
     ensures entry { IfOk result (λ entry. (expected : Result Answer Error) → Gives reading expected answer.entry → reading entry ≡ in_batch expected) }

@@ -104,8 +104,8 @@ pub fn answers_are_equal_by_reading()
     ensures answers { (a b : Symbolized) → IsTrue (⟦<Symbolized<'static> as PartialEq>⟧.eq a b) ↔ (reading a ≡ reading b) }
 {}
 
-/// What is seen from outside calls of any kind has their sites and names, each moved by one: the
-/// code lies at the outermost call, each call at the next one, and the innermost at the line.
+/// What is seen from outside calls of any kind has their sites and names, each moved by one. The code
+/// lies at the outermost call, each call at the next one, and the innermost at the line.
 pub fn calls_are_rotated<C>()
     ensures { (site : C → Option Site) (name : C → Option (List ℕ)) (line : Option Site) (calls : List C) (seen : Site × List Call) →
         (seen_from site name line calls ≡ Some seen) ↔ IsSeen site name line calls seen }

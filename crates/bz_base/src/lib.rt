@@ -14,8 +14,8 @@ mod types;
 
 pub use batch::in_batch;
 pub use bz_bytes::{
-    ByteTest, Cursor, first_line, next_line, read_decimal, read_hex, run_len, split_source,
-    text_before_zero, u8_at, u16_at, u32_at, u64_at, whole_decimal, whole_hex,
+    ByteTest, Cursor, first_line, next_line, padding, read_decimal, read_hex, run_len,
+    split_source, text_before_zero, u8_at, u16_at, u32_at, u64_at, whole_decimal, whole_hex,
 };
 pub use bz_search::{
     Addr, Nested, Place, Probe, Spanned, Starts, Steps, around_in, chain_in, covering_at,

@@ -45,7 +45,7 @@ module _ (table : Table) (f k : Function) (is : IsNested f k) (addr : ℕ) where
   on_line opts None = refl
   on_line opts (Some line) = rw (asked_same opts) refl
 
-  -- so the place is the same
+  -- so the location is the same
   pub location_same : (opts : FindSymOpts) → location_at table opts f addr ≡ location_at table opts k addr
   location_same asked.Basic = refl
   location_same asked.CodeInfo = on_line asked.CodeInfo (line_at addr f.lines) ∙ ap (by_line table asked.CodeInfo k addr) (sym (line_same f k is addr))

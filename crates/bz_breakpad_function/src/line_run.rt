@@ -94,7 +94,7 @@ fn line_in_front(text: &[u8], len: usize, hints: Cuts, addr: Addr) -> Option<Sou
 }
 
 /// Where the line record for an address is likely to stand in a run: each byte of code is taken to need
-/// equally many bytes of text.
+/// as much text as any other.
 #[derive(Clone, Copy)]
 pub struct Guess {
     /// The run, in the file's bytes.

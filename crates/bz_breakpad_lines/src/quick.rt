@@ -1,5 +1,5 @@
 //! The quick way to read a record: by loads of many bytes, where it has single spaces, numbers of at
-//! most eight digits and a text in ASCII, as nearly all records have. Where a quick function gives None,
+//! most eight digits and a text in ASCII. Nearly all records have these. Where a quick function gives None,
 //! that tells nothing of the text: it is read the general way.
 
 ghost use Rattle.std.specs.Prelude.{◌≡◌, ◌<◌, ◌≤◌, ◌+◌, true, length, drop, IfSome, slice_index};

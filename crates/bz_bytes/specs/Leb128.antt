@@ -82,7 +82,7 @@ pub record HasNoNumber (bytes : List ℕ) : Type 0 where
   pub unsigned : uleb_at bytes ≡ None
   pub signed : sleb_at bytes ≡ None
 
--- a number of so many bytes lies at the front, whose bits are the lower ones and those of the last byte,
+-- a number of so many bytes lies at the front: its bits are the lower ones and those of the last byte,
 -- which weigh so much
 pub record IsInParts (bytes : List ℕ) (low weight last len : ℕ) : Type 0 where
   pub few : len ≤ 10

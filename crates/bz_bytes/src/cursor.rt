@@ -25,6 +25,14 @@ impl<'a> Model for Cursor<'a> {
     ghost invariant = { λ c. IsPlaced (record { all = c.bytes.now; left = c.rest.now }) };
 }
 
+/// How far a place lies before the next one that is divisible by 4.
+#[inline(always)]
+pub fn padding(place: usize) -> usize
+    ensures { result ≡ padding place }
+{
+    (4 - place % 4) % 4
+}
+
 impl<'a> Cursor<'a> {
     /// The place in front of all bytes.
     pub fn new(bytes: &'a [u8]) -> Cursor<'a>
@@ -173,8 +181,7 @@ impl<'a> Cursor<'a> {
         ensures all { self.new.all ≡ self.old.all }
         ensures none { IfNone result (self.new ≡ self.old) }
     {
-        let padding = (4 - self.place() % 4) % 4;
-        self.read_slice(padding)?;
+        self.read_slice(padding(self.place()))?;
         Some(())
     }
 

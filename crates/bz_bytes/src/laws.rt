@@ -9,8 +9,8 @@ ghost use Rattle.bz_bytes.specs.Number.{IsAtFront, IsDecimal, IsHex, decimal_at,
 ghost use Rattle.bz_bytes.specs.Path.{split, IsSplit};
 ghost use Rattle.bz_bytes.specs.ZeroEnded.{IsString, zero_ended};
 
-/// The lines that are read of a text are those that make it up side by side: each with its end, and
-/// with an end that the last one may lack.
+/// The lines that are read of a text are those that make it up side by side. Each has its end, or the
+/// last one may lack it.
 pub fn lines_are_exact()
     ensures ended { (text : List ℕ) (lines : List (List ℕ)) → (ended_lines text ≡ Some lines) ↔ AreEnded text lines }
     ensures all { (text : List ℕ) (lines : List (List ℕ)) → (all_lines text ≡ lines) ↔ AreLines text lines }
@@ -32,9 +32,9 @@ pub fn paths_are_exact()
     ensures none { (text : List ℕ) → (split text ≡ None) ↔ (text ≡ []) }
 {}
 
-/// The pieces that are read from the front of bytes are those that lie there: slices, words with the
-/// least byte first, and texts that a zero byte ends. What is passed over to align a place leads to
-/// the first one after it.
+/// The pieces that are read from the front of bytes are those that lie there. They are slices, words
+/// with the least byte first, and texts that a zero byte ends. What is passed over to align a place
+/// leads to the first one after it.
 pub fn pieces_are_exact()
     ensures slice { (count : ℕ) (bytes slice rest : List ℕ) → (slice_at count bytes ≡ Some (slice, rest)) ↔ IsInFront (IsSlice count slice) bytes rest }
     ensures word { (size : ℕ) (bytes : List ℕ) (value : ℕ) (rest : List ℕ) → (word_at size bytes ≡ Some (value, rest)) ↔ IsInFront (IsWord size value) bytes rest }
@@ -48,8 +48,8 @@ pub fn lebs_are_exact()
     ensures signed { (bytes : List ℕ) (value : ℤ) (rest : List ℕ) → (sleb_at bytes ≡ Some (value, rest)) ↔ IsInFront (IsSleb value) bytes rest }
 {}
 
-/// A text that is UTF-8 stands at a place of bytes exactly where it is what a zero byte ends in front
-/// of those from the place on.
+/// A text in UTF-8 stands at a place of bytes exactly where a zero byte ends it in front of those from
+/// the place on.
 pub fn zero_ended_texts_are_exact()
     ensures { (bytes : List ℕ) (place : ℕ) (text : List ℕ) → ((zero_ended (drop place bytes) ≡ Some text) × IsUtf8 text) ↔ IsString bytes place text }
 {}

@@ -11,7 +11,7 @@ mod path;
 mod scan;
 mod text;
 
-pub use cursor::Cursor;
+pub use cursor::{Cursor, padding};
 pub use digits::{read_decimal, read_hex, whole_decimal, whole_hex};
 pub use line::{first_line, next_line};
 pub use number::{u8_at, u16_at, u32_at, u64_at};

@@ -17,8 +17,8 @@ use Rattle.bz_cache.specs.Format.{GivesOrFaults, MayFail}
 use Rattle.bz_cache.specs.Look.{look, will_open, opens_after, IsKeptAt, IsSomeLook}
 use Rattle.bz_cache.specs.View.{View, Absent, Hidden, Shown, fixed, view}
 
--- what a call asks of a file: which refusal bytes give, whether the kind of address is taken before the look, and what bytes
--- in the format answer
+-- what a call asks of a file: which refusal bytes give, and what bytes in the format answer. Whether the kind of address is
+-- taken is seen before the look
 pub record Question (B : Type 0) : Type 0 where
   pub test : List ℕ → Option Error
   pub taken : Bool
@@ -80,7 +80,7 @@ pub record FileTold {A B : Type 0} (reading : A → B) (asked : Question B) (pat
   pub opened : OnOk result (after ≡ opens_after (file_opens asked.taken old path there) before)
   pub spared : file_opens asked.taken old path there ≡ false → after ≡ before
 
--- whatever is told, a call that no version answered is refused as a look at files of its format, or by `Unsupported` for its
+-- whatever is told, a call that no version answered is refused as a look at files of its format; or by `Unsupported` for its
 -- kind of address, of which this holds
 abbrev pub MayBeRefused : Type 0 → (List ℕ → Option Error) → Error → Type 0
 MayBeRefused untaken test errors.Unsupported = untaken ⊎ MayFail test errors.Unsupported

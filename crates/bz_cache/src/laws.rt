@@ -17,8 +17,8 @@ pub fn look_answers_by_view()
     ensures shown { (test : List ℕ → Option Error) (cache : Cache) (world : World) (path version : List ℕ) → Coherent cache.kept world → (look test cache path (entry_at world path)).0 ≡ Ok version → view cache world path ≡ Shown version }
 {}
 
-/// Over worlds that agree, kept versions cohere with all of them from a new cache on: through looks at
-/// any of the worlds, evictions and pins, and where versions are taken in that have the bytes of their
+/// Over worlds that agree, kept versions cohere with all of them from a new cache on. Looks at any of
+/// the worlds, evictions and pins keep that. So do versions that are taken in with the bytes of their
 /// files.
 pub fn stays_coherent()
     ensures new { (reload : Bool) (worlds : List World) → CoherentWithAll (new_cache reload).kept worlds }

@@ -14,7 +14,7 @@ is_gap b = nat_le b space
 abbrev pub is_lower : ℕ → Bool
 is_lower b = not (bit_and b 32 == 0) || b == line_feed
 
--- a byte that is too much: a space or a zero behind such a byte and before one that is above the space
+-- a byte that is too much: a space or a zero behind a gap and before a byte that is above the space
 abbrev pub is_excess : ℕ → ℕ → ℕ → Bool
 is_excess before b after = is_gap before && (b == space || b == zero_digit) && not (is_gap after)
 

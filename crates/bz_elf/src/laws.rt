@@ -17,8 +17,8 @@ pub fn files_are_exact()
     ensures refused { (bytes : List ℕ) (e : Error) → (format_test bytes ≡ Some e) ↔ ((index : ℕ) × IsFirstFailing checks bytes index e) }
 {}
 
-/// A name stands at a place of the strings by the test exactly where a zero byte ends it and it is
-/// UTF-8, and it is the one that stands there.
+/// A name stands at a place of the strings by the test exactly where a zero byte ends it and it is in
+/// UTF-8. It is the one that stands there.
 pub fn names_are_exact()
     ensures { (strings : List ℕ) (place : ℕ) (name : List ℕ) → ((is_name (drop place strings) ≡ true) × (before_zero (drop place strings) ≡ name)) ↔ IsString strings place name }
 {}

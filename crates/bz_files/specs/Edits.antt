@@ -5,8 +5,8 @@ use Rattle.bz_files.specs.Agreement.{Agree}
 use Rattle.bz_files.specs.World.{World, Denied, Present, entry_at, with_entry, without_entry}
 use Rattle.bz_files.specs.MemWorlds.{MemWorlds, on_last, after_put, after_link, after_schedule}
 
--- bytes are put at a path under a fresh stamp, a path gets what is at another, nothing is at a path any more, a path may not be read,
--- or a copy of the last world is put at the end
+-- bytes are put at a path under a fresh stamp; a path gets what is at another; nothing is at a path any more; a path may not
+-- be read; or a copy of the last world is put at the end
 pub data Edit : Type 0 where
   Put : List ℕ → List ℕ → Edit
   Link : List ℕ → List ℕ → Edit

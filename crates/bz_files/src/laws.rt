@@ -51,8 +51,8 @@ pub fn clones_never_fail()
     ensures texts { (a : IoFault) → ⟦<IoFault as Clone>⟧.is_infallible a }
 {}
 
-/// New files in memory agree, and each edit that chooses no stamp keeps that: then all worlds that
-/// stand in their list or stood there before agree. `MemFiles::put_as` doesn't keep it.
+/// New files in memory agree, and each edit that chooses no stamp keeps that. Then all worlds agree that
+/// stand in their list or stood there before. `MemFiles::put_as` doesn't keep it.
 pub fn edits_keep_agreement()
     ensures new { (pid : ℕ) → Agreeing (new_worlds pid).worlds (new_worlds pid) }
     ensures edit { (seen : List World) (files : MemWorlds) (edit : Edit) → Agreeing seen files → Agreeing (seen ++ (after_edit edit files).worlds) (after_edit edit files) }
@@ -68,7 +68,7 @@ pub fn looks_keep_agreement<T>()
     ensures fail_call { (seen : List World) (files : MemWorlds) (n : ℕ) → Agreeing seen files → Agreeing seen (record files { failing = files.failing ++ n ∷ [] }) }
 {}
 
-/// Worlds that are made of an empty one by edits that choose no stamp agree: equal stamps have equal
+/// Worlds agree that are made of an empty one by edits that choose no stamp. Equal stamps have equal
 /// bytes within each of them and between any two.
 pub fn edited_worlds_agree()
     ensures { (pid : ℕ) (edits : List Edit) → Agree (worlds_seen (new_worlds pid) edits) }

@@ -17,8 +17,8 @@ use std::marker::Model;
 /// The number of the last fresh stamp.
 const LAST_STAMP: u64 = 9223372036854775807;
 
-/// Files in memory: a list of worlds, of which the first is in view and the last is the one that edits
-/// change, with looks that can be made to fail.
+/// Files in memory: a list of worlds, with looks that can be made to fail. The first world is in view,
+/// and edits change the last.
 #[derive(Drop)]
 pub struct MemFiles {
     worlds: Worlds,
@@ -123,8 +123,8 @@ impl MemFiles {
         self.worlds.hold(alloc, path, Held::Denied)
     }
 
-    /// Puts a copy of the last world at the end of the list: it is the one that edits act on from now
-    /// on, and each `begin` brings the list one world further.
+    /// Puts a copy of the last world at the end of the list, on which edits act from now on. Each
+    /// `begin` brings the list one world further.
     pub fn schedule(&mut self, alloc: Global) -> Result<(), Error>
         ensures ok { OnOk result (self.new ≡ after_schedule self.old) }
         ensures err { OnErr result (self.new ≡ self.old) }

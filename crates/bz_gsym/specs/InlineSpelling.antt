@@ -11,7 +11,7 @@ AreRanges [] text = text ≡ []
 AreRanges (range ∷ ranges) text =
     (offset size rest : List ℕ) × (text ≡ offset ++ (size ++ rest)) × IsUleb range.0 offset × IsUleb range.1 size × AreRanges ranges rest
 
--- the text is a node up to its children: how many ranges it has, which isn't 0, the ranges, its flag, its name and its call site
+-- the text is a node up to its children: how many ranges, which isn't 0, the ranges, its flag, name and call site
 pub record IsHead (head : Head) (text : List ℕ) : Type 0 where
   pub count : List ℕ
   pub ranges : List ℕ

@@ -51,8 +51,8 @@ pub fn line_states_go_on()
         states header row operators ≡ followed (states header) (operator_at header row operators) }
 {}
 
-/// The state that is picked for an address from all of a line table's states is known at the first row
-/// above the address, whatever bytes the operators are.
+/// Of all states of a line table one is picked for an address. It is known at the first row above the
+/// address, whatever bytes the operators are.
 pub fn lines_are_known_early()
     ensures { (header : LineTableHeader) (row : LineTableRow) (operators : List ℕ) (addr : ℕ) →
         sought addr None row (states header row operators) ≡ picked addr (states header row operators) }

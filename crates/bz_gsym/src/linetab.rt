@@ -23,7 +23,7 @@ pub struct LineTableHeader {
 /// A state of a line table, which may be a row of it.
 #[derive(Clone, Copy, Debug)]
 pub struct LineTableRow {
-    /// The address, relative to what the symbol's address is.
+    /// The address, relative to the same base as the symbol's.
     pub addr: Addr,
     /// The index of the source file in the file table.
     pub file_idx: u32,

@@ -14,7 +14,7 @@ use Rattle.bz_gsym_layout.specs.Rows.{row_at}
 abbrev pub site_of : Line → Site
 site_of at = record { dir = Some at.source.dir; file = at.source.file; line = Some at.line; column = None }
 
--- a line inside calls, seen from outside them: the place, and the calls that lie there
+-- a line inside calls, seen from outside them: the site, and the calls that lie there
 abbrev pub seen : Line → List Called → Site × List Call
 seen line [] = (site_of line, [])
 seen line (c ∷ calls) =
@@ -28,7 +28,7 @@ location (Some row) calls = Some (seen row.1 calls)
 
 abbrev pub symbol_by : Code → Option (Site × List Call) → Resolved
 symbol_by c None = record { name = c.name; «module» = None; addr = c.start; size = Some c.size; lang = languages.Unknown; site = None; calls = [] }
-symbol_by c (Some place) = record { name = c.name; «module» = None; addr = c.start; size = Some c.size; lang = languages.Unknown; site = Some place.0; calls = place.1 }
+symbol_by c (Some found) = record { name = c.name; «module» = None; addr = c.start; size = Some c.size; lang = languages.Unknown; site = Some found.0; calls = found.1 }
 
 abbrev pub symbol_at : ℕ → Code → Resolved
 symbol_at addr c = symbol_by c (location (row_at addr None c.rows) (calls_in (λ call. call.start) (λ call. call.size) addr c.calls))

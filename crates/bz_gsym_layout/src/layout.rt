@@ -1,7 +1,6 @@
 //! The bytes of a file that is laid out from a plan.
 
 ghost use Rattle.std.specs.Prelude.{◌≡◌, ◌≤◌, ◌<◌, ◌+◌, ◌-◌, ◌^◌, ◌++◌, ◌∷◌, ℕ, List, drop, flat_map, length, map, IfErr, IfOk, IsOkUnless, OnOk};
-ghost use Rattle.bz_base.specs.Cursor.{padding};
 ghost use Rattle.bz_gsym_layout.specs.Indexed.{AreFunctions, IsPlan, codes_of, tables_listed, texts_listed};
 ghost use Rattle.bz_gsym_layout.specs.Layout.{Tables, data_bytes, data_places, layout, strings_place};
 ghost use Rattle.bz_gsym_layout.specs.Numbering.{stored};
@@ -20,6 +19,7 @@ use crate::tables::{
     push_texts, strings_place,
 };
 use crate::words::{push_low_word, push_zeros};
+use bz_base::padding;
 use bz_gsym::format::FILE_ENTRY_LEN;
 use std::alloc::Global;
 
@@ -30,13 +30,6 @@ fn usual_len(data_at: usize, functions: &[Function]) -> usize {
         len = len.saturating_add(usual_function_len(function));
     }
     len
-}
-
-/// How far a place lies before the next one that is divisible by 4.
-fn filling(place: u64) -> u64
-    ensures { result ≡ padding place }
-{
-    (4 - place % 4) % 4
 }
 
 /// Writes the data of functions behind what is written of the file, each at the next place that is
@@ -56,7 +49,7 @@ fn push_data(
 {
     let mut places = Vec::with_capacity(alloc, functions.len())?;
     for function in functions {
-        push_zeros(out, filling(out.len() as u64) as usize)?;
+        push_zeros(out, padding(out.len()))?;
         places.push(out.len() as u64)?;
         push_function(alloc, out, function, texts)?;
     }

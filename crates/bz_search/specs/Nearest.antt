@@ -51,8 +51,8 @@ module _ {X : Type 0} (start size : X → ℕ) where
   abbrev pub has_span : ℕ → ℕ → X → Bool
   has_span at length x = at == start x && length == size x
 
-  -- the table has the records of the list by start and then by size, and those that are alike in both in the order of the
-  -- list
+  -- the table has the records of the list by start and then by size. Those that are alike in both stand in the order of
+  -- the list
   pub record IsTable (records table : List X) : Type 0 where
     pub starts_ascend : (i j : ℕ) (x y : X) → i ≤ j → slice_get table i ≡ Some x → slice_get table j ≡ Some y → start x ≤ start y
     pub sizes_ascend : (i j : ℕ) (x y : X) → i ≤ j → slice_get table i ≡ Some x → slice_get table j ≡ Some y → start x ≡ start y → size x ≤ size y

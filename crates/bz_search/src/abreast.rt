@@ -13,8 +13,8 @@ use crate::sweep::{Gap, most_probes, placed};
 use std::alloc::{AllocError, Global};
 use std::sync::ledger::Ledger;
 
-/// How many searches go in step: enough that their probes hide each other's waiting, and few enough
-/// that all of them stay in the nearest cache.
+/// How many searches go in step. They are enough to hide each other's waiting, and few enough to stay
+/// in the nearest cache.
 const ABREAST: usize = 32;
 
 /// A search that goes on.

@@ -12,8 +12,8 @@ pub fn covers_is_exact()
     ensures { (start size addr : ℕ) → (covers start size addr ≡ true) ↔ Covers start size addr }
 {}
 
-/// Over records of any kind with a start and a size, `candidate` gives the record that is to be tried,
-/// and none exactly where each starts above the address. With the test it gives the nearest one if it
+/// Over records of any kind with a start and a size, `candidate` gives the record that is to be tried.
+/// It gives none exactly where each starts above the address. With the test it gives the nearest one if it
 /// covers the address; and what is nearest is what it gives.
 pub fn nearest_is_exact<T>()
     ensures tried { (start size : T → ℕ) (records : List T) (addr : ℕ) (x : T) → (candidate start size addr records ≡ Some x) ↔ ((place : ℕ) × IsCandidate start size records addr place x) }
@@ -22,8 +22,8 @@ pub fn nearest_is_exact<T>()
     ensures only { (start size : T → ℕ) (records : List T) (addr : ℕ) (answer : Option T) → IsNearestCovering start size records addr answer → answer ≡ nearest_covering start size addr records }
 {}
 
-/// In a table of a list's records by start and size, the record at the place that a search among
-/// the starts finds is the one to be tried of the list in its own order.
+/// In a table of a list's records by start and size, a search among the starts finds a place. The
+/// record there is the one to be tried of the list in its own order.
 pub fn tables_answer_alike<T>()
     ensures { (start size : T → ℕ) (records table : List T) → IsTable start size records table → (addr : ℕ) (found : Option (ℕ × ℕ)) → IsFound (map start table) addr found →
         option_and_then (λ p. slice_get table p.0) found ≡ candidate start size addr records }
@@ -38,8 +38,8 @@ pub fn sorted_tables_are_one<T>()
     ensures again { (first second : T → ℕ) (records : List T) → Ascends first second records → sorted first second records ≡ records }
 {}
 
-/// At a depth the search gives the record with the nearest start not above an address, and none exactly
-/// where each of that depth starts above it. The chain has those around the address, depth by depth.
+/// At a depth the search gives the record with the nearest start not above an address. It gives none
+/// exactly where each of that depth starts above it. The chain has those around the address, depth by depth.
 pub fn inner_is_exact<T>()
     ensures tried { (depth start : T → ℕ) (records : List T) (at addr : ℕ) (x : T) → (inner depth start at addr records ≡ Some x) ↔ ((place : ℕ) × IsInner depth start records at addr place x) }
     ensures none { (depth start : T → ℕ) (records : List T) (at addr : ℕ) → (inner depth start at addr records ≡ None) ↔ ((i : ℕ) (y : T) → slice_get records i ≡ Some y → depth y ≡ at → addr < start y) }

@@ -13,8 +13,8 @@ use crate::steps::Steps;
 use std::alloc::{AllocError, Global};
 use std::sync::ledger::Ledger;
 
-/// For each address of the batch the place that `nearest` gives for it, by a pass along the starts
-/// or by a search for each, whichever has the lesser bound. Want of memory also from 2^32 starts on,
+/// For each address of the batch the place that `nearest` gives for it. They are found by a pass along
+/// the starts or by a search for each, whichever has the lesser bound. Want of memory also from 2^32 starts on,
 /// since places are kept in four bytes.
 pub fn nearest_each<L: Ledger>(
     alloc: Global,

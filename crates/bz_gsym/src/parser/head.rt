@@ -11,7 +11,7 @@ use crate::format::{
     HEADER_LEN,
 };
 use crate::types::Header;
-use bz_base::{Error, Result, u8_at, u16_at, u32_at, u64_at};
+use bz_base::{Error, Result, padding, u8_at, u16_at, u32_at, u64_at};
 
 /// The head, if the bytes are a GSYM file. Nothing of the file is kept beside it.
 pub(crate) fn checked_header(bytes: &[u8]) -> Result<Header>
@@ -68,7 +68,7 @@ pub(crate) fn data_table(header: &Header) -> usize
     ensures within { result < 2 ^ 42 }
 {
     let end = addresses_end(header);
-    end + (4 - end % 4) % 4
+    end + padding(end)
 }
 
 /// The place of the count of files.

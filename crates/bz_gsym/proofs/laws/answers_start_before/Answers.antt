@@ -9,7 +9,7 @@ use Rattle.bz_gsym.specs.Joining.{Location}
 use Rattle.bz_gsym.specs.Plain.{answer_of, based, nearest_start, nearest_symbol, location_of, reaches, symbol_at, symbols, tried}
 use Rattle.bz_gsym.proofs.laws.answers_start_before.Goals as goal
 
--- a symbol at its place starts where it was said to
+-- a symbol with its location starts where it was said to
 location_start : (start size : ℕ) (location : Option Location) (r : Resolved) → symbol_at start size location ≡ Ok (Ok r) → r.addr ≡ start
 location_start start size None r is = cc
 location_start start size (Some location) r is = cc

@@ -8,7 +8,7 @@ use Rattle.bz_gsym.specs.JoiningSeen.{line_seen}
 use Rattle.bz_gsym.specs.Seen.{frame_seen}
 use Rattle.bz_gsym.proofs.locations.seen_from.Given as goal
 
--- the place and the calls so far are what is seen from outside the calls that were taken, of which the innermost came first
+-- the site and the calls so far are what is seen from outside the calls that were taken, of which the innermost came first
 abbrev pub invariant-loop-left : goal.invariant-loop-left
 invariant-loop-left l = record {
   within : l.left ≤ length l.calls;

@@ -29,7 +29,7 @@ loop-function-preserved c =
     let there = slice_get-get_or fs i x c.loop-function-test.true in
     let many : c.len.result ≡ length s.out.items = omega (arith, c.len.ensures) in
     let fills : c.push_zeros.new.out.items ≡ s.out.items ++ zeros (padding (length s.out.items)) =
-    c.in_ok-push_zeros.ensures.ok ∙ ap (λ n. s.out.items ++ zeros n) (c.filling.ensures ∙ ap padding many) in
+    c.in_ok-push_zeros.ensures.ok ∙ ap (λ n. s.out.items ++ zeros n) (c.padding.ensures ∙ ap padding many) in
     record {
       written = λ t view are.
           let own = subst (IsCodeOf t c.args.texts.now (view y)) (sym c.function-item.is) (are i y there) in
