@@ -87,9 +87,9 @@ impl<'f, 'b> FoundAddrs<'f, 'b> {
     fn hints(&self, from: usize) -> [Cuts; TOGETHER] {
         let indices = self.function_indices(from);
         let functions = self.functions(&indices);
-        let seeds = self.seeds(from, &functions);
-        let usual = self.which_are_usual(&seeds);
-        self.cuts_of_usual(from, &seeds, &usual)
+        let far = self.far_places(from, &functions);
+        let usual = self.which_are_usual(&far);
+        self.cuts_of_usual(from, &far, &usual)
     }
 
     /// The indices of the functions that answer from an index on.
@@ -110,20 +110,24 @@ impl<'f, 'b> FoundAddrs<'f, 'b> {
         functions
     }
 
-    /// What the answers from an index on read of the functions that lies elsewhere.
-    fn seeds(&self, from: usize, functions: &[Option<KeptFunction>; TOGETHER]) -> [Seed; TOGETHER] {
-        let mut seeds = [Seed::none(); TOGETHER];
+    /// The far places of the answers from an index on, by their functions.
+    fn far_places(
+        &self,
+        from: usize,
+        functions: &[Option<KeptFunction>; TOGETHER],
+    ) -> [FarPlaces; TOGETHER] {
+        let mut far = [FarPlaces::none(); TOGETHER];
         for place in 0..TOGETHER {
-            seeds[place] = self.seed(&functions[place], from.saturating_add(place));
+            far[place] = self.far_places_of(&functions[place], from.saturating_add(place));
         }
-        seeds
+        far
     }
 
-    /// Which of them are usual. What they read is touched.
-    fn which_are_usual(&self, seeds: &[Seed; TOGETHER]) -> [bool; TOGETHER] {
+    /// Which answers are usual, by their far places, which are touched.
+    fn which_are_usual(&self, far: &[FarPlaces; TOGETHER]) -> [bool; TOGETHER] {
         let mut usual = [false; TOGETHER];
         for place in 0..TOGETHER {
-            usual[place] = self.touched(&seeds[place]).is_usual();
+            usual[place] = self.touched(&far[place]).is_usual();
         }
         usual
     }
@@ -132,13 +136,13 @@ impl<'f, 'b> FoundAddrs<'f, 'b> {
     fn cuts_of_usual(
         &self,
         from: usize,
-        seeds: &[Seed; TOGETHER],
+        far: &[FarPlaces; TOGETHER],
         usual: &[bool; TOGETHER],
     ) -> [Cuts; TOGETHER] {
         let mut hints = [Cuts::unknown(); TOGETHER];
         for place in 0..TOGETHER {
             if usual[place] {
-                hints[place] = self.cuts(&seeds[place], from.saturating_add(place));
+                hints[place] = self.cuts(&far[place], from.saturating_add(place));
             }
         }
         hints
@@ -152,10 +156,10 @@ impl<'f, 'b> FoundAddrs<'f, 'b> {
         }
     }
 
-    /// What the answer at an index reads of a function that lies elsewhere.
-    fn seed(&self, function: &Option<KeptFunction>, index: usize) -> Seed {
+    /// The far places of the answer at an index, by its function.
+    fn far_places_of(&self, function: &Option<KeptFunction>, index: usize) -> FarPlaces {
         let (Some(function), Some(addr)) = (function, self.addrs.get(index)) else {
-            return Seed::none();
+            return FarPlaces::none();
         };
         let guess = match function.lines {
             LineRecords::Run(run) => {
@@ -163,39 +167,39 @@ impl<'f, 'b> FoundAddrs<'f, 'b> {
             }
             LineRecords::Listed(_) => Guess::none(),
         };
-        Seed {
+        FarPlaces {
             guess,
             name: function.name.from as usize,
             inlinees: function.inlinees.from as usize,
         }
     }
 
-    /// What stands at the places of a seed. All of it is read: each read brings memory close that the
-    /// answer reads.
-    fn touched(&self, seed: &Seed) -> Touched {
+    /// What stands at the far places of an answer. All of it is read: each read brings memory close that
+    /// the answer reads.
+    fn touched(&self, far: &FarPlaces) -> Touched {
         Touched {
-            name: self.bytes.get(seed.name).copied(),
-            depth: match self.kept.code.inlinees.get(seed.inlinees) {
+            name: self.bytes.get(far.name).copied(),
+            depth: match self.kept.code.inlinees.get(far.inlinees) {
                 Some(call) => Some(call.depth),
                 None => None,
             },
-            line: self.bytes.get(seed.guess.place()).copied(),
-            last: self.bytes.get(seed.guess.last()).copied(),
+            line: self.bytes.get(far.guess.place()).copied(),
+            last: self.bytes.get(far.guess.last()).copied(),
         }
     }
 
     /// Where the line records are to be cut for the answer at an index.
-    fn cuts(&self, seed: &Seed, index: usize) -> Cuts {
+    fn cuts(&self, far: &FarPlaces, index: usize) -> Cuts {
         match self.addrs.get(index) {
-            Some(addr) => seed.guess.cuts(self.bytes, *addr),
+            Some(addr) => far.guess.cuts(self.bytes, *addr),
             None => Cuts::unknown(),
         }
     }
 }
 
-/// What an answer reads of its function that lies elsewhere.
+/// The places elsewhere that an answer reads of its function.
 #[derive(Clone, Copy)]
-struct Seed {
+struct FarPlaces {
     /// Where its line record is likely to stand.
     guess: Guess,
     /// Where the function's name begins.
@@ -204,10 +208,10 @@ struct Seed {
     inlinees: usize,
 }
 
-impl Seed {
+impl FarPlaces {
     /// Of no function.
-    fn none() -> Seed {
-        Seed {
+    fn none() -> FarPlaces {
+        FarPlaces {
             guess: Guess::none(),
             name: usize::MAX,
             inlinees: usize::MAX,
@@ -215,7 +219,7 @@ impl Seed {
     }
 }
 
-/// What stands at the places of a seed.
+/// What stands at the far places of an answer.
 #[derive(Clone, Copy)]
 struct Touched {
     /// The first byte of the function's name.

@@ -1,5 +1,5 @@
 -- The ids of names in their order: those of the first names are their places, and the others' come behind them.
-use Rattle.std.proofs.Common.{◌≡◌, ℕ, zero, suc, ◌+◌, ◌-◌, ◌<◌, ◌≤◌, List, [], ◌∷◌, ◌++◌, length, map, get_or, Option, Some, None, option_map, refl, sym, ap, ◌∙◌, arith, length-append}
+use Rattle.std.proofs.Common.{◌≡◌, ℕ, zero, suc, ◌+◌, ◌-◌, ◌<◌, ◌≤◌, List, [], ◌∷◌, ◌++◌, length, map, get_or, Option, Some, None, option_map, IsSome, refl, sym, ap, ◌∙◌, arith, length-append}
 use Rattle.std.specs.Iterator.{SkipsThenYields}
 use Rattle.std.specs.List.{enumerate_from, slice_get}
 use Rattle.std.specs.Map.{keys_of}
@@ -26,10 +26,18 @@ module _ {X : Type 0} where
 
 -- what an iterator gives after so many items
 module _ {A X : Type 0} (shows : A → X) where
-  pub nth_taken : (s : List X) (n : ℕ) (r : Option A) (u : List X) → n < length s → SkipsThenYields (TakesFirst shows) s n r u → option_map shows r ≡ slice_get s n
-  nth_taken s n None u within ran =
+  -- where there are more, it gives one
+  none_left : (s : List X) (n : ℕ) (u : List X) → n < length s → SkipsThenYields (TakesFirst shows) s n None u → ⊥
+  none_left s n u within ran =
       let is : s ≡ map shows ran.0 ++ ran.1.0 = rest_so_far shows ran.0 s ran.1.0 ran.1.1 in
-      absurd (omega (arith, within, ran.2, ap length is, length-append (map shows ran.0) ran.1.0, length-map ran.0 shows, ap length ran.1.2.0))
+      omega (arith, within, ran.2, ap length is, length-append (map shows ran.0) ran.1.0, length-map ran.0 shows, ap length ran.1.2.0)
+
+  pub nth_some : (s : List X) (n : ℕ) (r : Option A) (u : List X) → n < length s → SkipsThenYields (TakesFirst shows) s n r u → IsSome r
+  nth_some s n None u within ran = absurd (none_left s n u within ran)
+  nth_some s n (Some x) u within ran = refl
+
+  pub nth_taken : (s : List X) (n : ℕ) (r : Option A) (u : List X) → n < length s → SkipsThenYields (TakesFirst shows) s n r u → option_map shows r ≡ slice_get s n
+  nth_taken s n None u within ran = absurd (none_left s n u within ran)
   nth_taken s n (Some x) u within ran =
       let is : s ≡ map shows ran.0 ++ shows x ∷ u = rest_so_far shows ran.0 s ran.1.0 ran.1.1 ∙ ap (λ (rest : List X). map shows ran.0 ++ rest) ran.1.2 in
       let long : length (map shows ran.0) ≡ n = length-map ran.0 shows ∙ ran.2 in

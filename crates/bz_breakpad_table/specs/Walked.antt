@@ -34,7 +34,7 @@ pub record IsStep (bytes : List ℕ) (old new : Walk) (line : List ℕ) (reading
   pub walked : IsWalked bytes new next
   pub same : (lines : List (List ℕ)) → walked_on old reading (line ∷ lines) ≡ walked_on new next lines
 
--- InvalidInput comes only where nothing is read of lines that begin with this one, and else only want of memory
+-- InvalidInput comes only where nothing is read of lines that begin with this one. Else want of memory alone comes
 abbrev pub IsRefused : Walk → List ℕ → Error → Type 0
 IsRefused walk line errors.InvalidInput =
     (reading : Reading) → walk.count ≡ reading.count → (lines : List (List ℕ)) → walked_on walk reading (line ∷ lines) ≡ None

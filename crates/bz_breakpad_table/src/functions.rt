@@ -103,7 +103,8 @@ impl FunctionsReading {
     /// Keeps the line record at a place in the bytes, which was read quickly.
     #[inline(always)]
     pub fn line(&mut self, bytes: &[u8], place: usize, line: QuickLine) -> Result<(), AllocError>
-        requires { place + line.len ≤ length bytes.now }
+        requires within { place + line.len ≤ length bytes.now }
+        requires fits { LinesFitSoFar bytes.now self.old.listed.items self.old.lines }
         ensures { OnOk result ((closed : List Function) (current : Option Function) (rest : List ℕ) (is : IsQuickLine rest line) →
             drop place bytes.now ≡ rest → FunctionsSoFar bytes.now self.old closed current →
             FunctionsSoFar bytes.now self.new closed (option_map (λ f. with_inner f (Line (source_line is.value) ∷ [])) current)) }
@@ -119,6 +120,7 @@ impl FunctionsReading {
     /// Keeps the line record at a place in the bytes, in the list.
     #[inline(never)]
     pub fn list(&mut self, bytes: &[u8], place: usize) -> Result<(), AllocError>
+        requires { LinesFitSoFar bytes.now self.old.listed.items self.old.lines }
         ensures { OnOk result ((closed : List Function) (current : Option Function) (line : SourceLine) → line_in (drop place bytes.now) ≡ Some line →
             FunctionsSoFar bytes.now self.old closed current →
             FunctionsSoFar bytes.now self.new closed (option_map (λ f. with_inner f (Line line ∷ [])) current)) }
@@ -184,7 +186,8 @@ fn list_with(
     bytes: &[u8],
     place: usize,
 ) -> Result<(), AllocError>
-    ensures { OnOk result ((line : SourceLine) → line_in (drop place bytes.now) ≡ Some line → LinesFitSoFar bytes.now keys.old.items lines →
+    requires { LinesFitSoFar bytes.now keys.old.items lines }
+    ensures { OnOk result ((line : SourceLine) → line_in (drop place bytes.now) ≡ Some line →
         IsLonger bytes.now keys.old.items keys.new.items lines LinesSoFar.Listed line) }
 {
     list_all(lines, keys, bytes)?;
@@ -194,7 +197,8 @@ fn list_with(
 
 /// Lists the line records so far, if they aren't.
 fn list_all(lines: LinesSoFar, keys: &mut Vec<LineKey>, bytes: &[u8]) -> Result<(), AllocError>
-    ensures { OnOk result (LinesFitSoFar bytes.now keys.old.items lines → AreListed bytes.now keys.old.items keys.new.items lines) }
+    requires { LinesFitSoFar bytes.now keys.old.items lines }
+    ensures { OnOk result (AreListed bytes.now keys.old.items keys.new.items lines) }
 {
     match lines {
         LinesSoFar::Empty => Ok(()),
@@ -205,12 +209,10 @@ fn list_all(lines: LinesSoFar, keys: &mut Vec<LineKey>, bytes: &[u8]) -> Result<
 
 /// Lists a run's line records.
 fn list_run(keys: &mut Vec<LineKey>, bytes: &[u8], run: Part) -> Result<(), AllocError>
-    ensures { OnOk result ((last : StartText) → IsOpenRunAt bytes.now run last → keys.old.items ≡ [] → AreListedTo bytes.now run [] keys.new.items) }
+    requires run { (last : StartText) × IsOpenRunAt bytes.now run last }
+    requires none { keys.old.items ≡ [] }
+    ensures { OnOk result (AreListedTo bytes.now run [] keys.new.items) }
 {
-    // Never so: the run lies in the bytes.
-    if run.from > run.to || run.to as usize > bytes.len() {
-        return Ok(());
-    }
     let mut rest = &bytes[run.from as usize..run.to as usize];
     while let Some((_line, after)) = next_line(rest) {
         keys.push(line_key(bytes, run.to as usize - rest.len()))?;

@@ -109,10 +109,7 @@ fn nth_id(names: &BTreeMap<u32, Part>, index: usize) -> u32
     requires { index < length names.now.entries }
     ensures { slice_get (keys_of names.now.entries) index ≡ Some result }
 {
-    match names.keys().nth(index) {
-        Some(id) => *id,
-        None => 0,
-    }
+    *names.keys().nth(index).unwrap()
 }
 
 /// Adds the names of the ids from 0 on.

@@ -7,7 +7,7 @@ ghost use Rattle.bz_breakpad_lines.specs.Line.{EndsWith};
 ghost use Rattle.bz_breakpad_lines.specs.Reader.{Reading, nothing_read, with_record};
 ghost use Rattle.bz_breakpad_lines.specs.Table.{PublicSymbol};
 ghost use Rattle.bz_breakpad_lines.specs.Told.{InnerStands, inner_told, public_symbol, record_told, top_name, top_told};
-ghost use Rattle.bz_breakpad_table.specs.Kept.{IsNameAt, IsRecordAt, IsSoFar, PublicsSoFar};
+ghost use Rattle.bz_breakpad_table.specs.Kept.{IsNameAt, IsRecordAt, IsSoFar, LinesFitSoFar, PublicsSoFar};
 
 use crate::functions::FunctionsReading;
 use crate::names::Names;
@@ -77,6 +77,7 @@ impl KeptReading {
         start: usize,
         end: usize,
     ) -> Result<(), AllocError>
+        requires { LinesFitSoFar bytes.now self.old.functions.listed.items self.old.functions.lines }
         ensures { OnOk result ((body : List ℕ) (reading : Reading) → IsRecordAt bytes.now start body → end ≡ start + length body →
             InnerStands bytes.now start body inner.entry → IsSoFar bytes.now self.old reading →
             IsSoFar bytes.now self.new (with_record reading (OfFunc (inner_told inner.entry ranges.now)))) }
@@ -97,6 +98,7 @@ impl KeptReading {
         start: usize,
         end: usize,
     ) -> Result<(), AllocError>
+        requires { LinesFitSoFar bytes.now self.old.functions.listed.items self.old.functions.lines }
         ensures { OnOk result ((body : List ℕ) (context : Context) (reading : Reading) → IsRecordAt bytes.now start body →
             end ≡ start + length body → body_record context body ≡ Some (record_told found.entry ranges.now) → IsSoFar bytes.now self.old reading →
             IsSoFar bytes.now self.new (with_record reading (record_told found.entry ranges.now))) }

@@ -1,5 +1,5 @@
-//! The line records of a function as they are read: a run, as long as the texts of their starts tell
-//! that they stand in order.
+//! The line records of a function as they are read. They are a run, as long as the texts of their
+//! starts tell that they stand in order.
 
 ghost use Rattle.std.specs.Prelude.{◌≡◌, ◌<◌, ◌≤◌, ◌+◌, ℕ, List, drop, IfSome};
 ghost use Rattle.bz_breakpad_lines.specs.Line.{source_line};

@@ -84,8 +84,8 @@ pub struct LineKey {
 }
 
 /// A range of an INLINE record: by what its call is found, and where the record stands, which says the
-/// rest. There are more of these than of anything else that is kept, so the start is cut in halves:
-/// whole it would take four bytes more, for its alignment.
+/// rest. There are more of these than of anything else that is kept, so the start is cut in halves.
+/// Whole it would take four bytes more, for its alignment.
 #[derive(Clone, Copy)]
 pub struct CallRange {
     /// The upper half of where its code starts, relative to the module's base.

@@ -8,6 +8,7 @@ ghost use Rattle.bz_breakpad_lines.specs.Contexts.Context.{InFunc, Outside};
 ghost use Rattle.bz_breakpad_lines.specs.Reader.{Reading, nothing_read, reading_in};
 ghost use Rattle.bz_breakpad_lines.specs.Stops.{AreStops};
 ghost use Rattle.bz_breakpad_lines.specs.Told.{context_told};
+ghost use Rattle.bz_breakpad_table.specs.Kept.{LinesFitSoFar};
 ghost use Rattle.bz_breakpad_table.specs.Refusal.{Refuses};
 ghost use Rattle.bz_breakpad_table.specs.Walked.{GoesOn, IsLineAt, IsMidway, IsRefused, IsStep, IsWalked};
 
@@ -97,8 +98,8 @@ impl Walk {
         Ok(Some(after))
     }
 
-    /// Reads the first line of the rest of a text quickly, if it is a STACK CFI record under another, and
-    /// returns the rest after it.
+    /// Reads the first line of the rest of a text quickly, if it is a STACK CFI record under another.
+    /// Returns the rest after it.
     #[inline(always)]
     fn cfi<'a>(&mut self, text: &[u8], rest: &'a [u8]) -> Option<&'a [u8]>
         requires midway { IsMidway text.now rest.now self.old }
@@ -138,7 +139,7 @@ impl Walk {
     }
 
     /// Reads the first line of the rest of a text quickly, if it is a line record, and those that go on
-    /// its run, and returns the rest after them.
+    /// its run. Returns the rest after them.
     #[inline(always)]
     fn lines<'a>(&mut self, text: &[u8], rest: &'a [u8]) -> Result<Option<&'a [u8]>>
         requires midway { IsMidway text.now rest.now self.old }
@@ -165,8 +166,8 @@ impl Walk {
         Ok(Some(self.run_on(text, &rest[line.len..], stops.after(line.len))))
     }
 
-    /// Reads the line records quickly that go on the run of the last one, of which bytes may be shown, and
-    /// returns the rest after them.
+    /// Reads the line records quickly that go on the run of the last one, of which bytes may be shown.
+    /// Returns the rest after them.
     #[inline(always)]
     fn run_on<'a>(&mut self, text: &[u8], rest: &'a [u8], stops: Stops) -> &'a [u8]
         requires midway { IsMidway text.now rest.now self.old }
@@ -209,6 +210,7 @@ impl Walk {
     fn line(&mut self, bytes: &[u8], start: usize, line: &[u8]) -> Result<()>
         requires room { start + length line.now < 2 ^ 63 }
         requires few { self.old.count ≤ start }
+        requires fits { LinesFitSoFar bytes.now self.old.kept.functions.listed.items self.old.kept.functions.lines }
         ensures ok { OnOk result ((reading : Reading) → IsLineAt bytes.now start line.now → IsWalked bytes.now self.old reading →
             IsStep bytes.now self.old self.new line.now reading) }
         ensures refusal { IfErr result (IsRefused self.old line.now) }

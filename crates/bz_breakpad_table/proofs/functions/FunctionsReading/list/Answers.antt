@@ -4,4 +4,4 @@ use Rattle.bz_breakpad_table.proofs.functions.FunctionsReading.list.Goals as goa
 
 pub returns : goal.returns
 returns c closed current line reads so_far =
-    longer_so_far c.args.bytes.now c.args.self.now _ line refl refl refl (c.in_ok-list_with.ensures line reads so_far.lines_fit) closed current so_far
+    longer_so_far c.args.bytes.now c.args.self.now _ line refl refl refl (c.in_ok-list_with.ensures line reads) closed current so_far

@@ -1,6 +1,9 @@
 use Rattle.bz_breakpad_table.proofs.MidwayLemmas.{line_stands, midway_on}
 use Rattle.bz_breakpad_table.proofs.walk.Walk.general.Goals as goal
 
+pub line-requires-clause-fits : goal.line-requires-clause-fits
+line-requires-clause-fits c = c.requires.midway.walked.so_far.functions.lines_fit
+
 pub returns-clause-ok : goal.returns-clause-ok
 returns-clause-ok c =
     let m = c.requires.midway in

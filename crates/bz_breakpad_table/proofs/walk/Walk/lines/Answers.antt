@@ -6,6 +6,9 @@ use Rattle.bz_breakpad_table.proofs.KeptLemmas.{with_functions}
 use Rattle.bz_breakpad_table.proofs.LineRecordLemmas.{line_on}
 use Rattle.bz_breakpad_table.proofs.walk.Walk.lines.Goals as goal
 
+pub line-requires-clause-fits : goal.line-requires-clause-fits
+line-requires-clause-fits c = c.requires.midway.walked.so_far.functions.lines_fit
+
 pub run_on-requires-clause-midway : goal.run_on-requires-clause-midway
 run_on-requires-clause-midway c =
     let m = c.requires.midway in
