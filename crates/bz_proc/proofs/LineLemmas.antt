@@ -9,7 +9,7 @@ use Rattle.std.proofs.Math.Seq.{drop-append_seam}
 use Rattle.bz_base.specs.Byte.{space, dash, begins_with}
 use Rattle.bz_base.specs.Number.{hex_at}
 use Rattle.bz_base.proofs.NumberLemmas.{number_found, number_again}
-use Rattle.bz_proc.specs.MappingLine.{Line, is_space, is_solid, is_decimal, some, four, one_to_twenty, IsRun, IsWord, IsDash, AreSpaces, ArePermissions, IsDevice, IsInode, IsEnd, ◌·◌, Joined, IsLine, after_run, after_dash, end_text, in_order, span_at, offset_at, last_at, line_in}
+use Rattle.bz_proc.specs.MappingLine.{Line, is_space, is_solid, is_decimal, at_least_one, exactly_four, one_to_twenty, IsRun, IsWord, IsDash, AreSpaces, ArePermissions, IsDevice, IsInode, IsEnd, ◌·◌, Joined, IsLine, after_run, after_dash, end_text, in_order, span_at, offset_at, last_at, line_in}
 use Rattle.bz_proc.proofs.RunLemmas.{bind_some, AllOf, front_bytes, front_ends, run_len, run_found, run_again, begins_otherwise, no_space, space_otherwise}
 
 -- The first byte of each part.
@@ -125,13 +125,13 @@ line_again line told is =
       word_read told.start start (dash_first after),
       dash_read after,
       word_read told.past past (spaces_first (λ b. is_digit b 16) refl gap),
-      run_read is_space some gap (field_first is_solid four refl refl permissions),
-      run_read is_solid four permissions (spaces_first is_solid refl gap_2),
-      run_read is_space some gap_2 (word_first told.offset offset),
+      run_read is_space at_least_one gap (field_first is_solid exactly_four refl refl permissions),
+      run_read is_solid exactly_four permissions (spaces_first is_solid refl gap_2),
+      run_read is_space at_least_one gap_2 (word_first told.offset offset),
       word_read told.offset offset (spaces_first (λ b. is_digit b 16) refl gap_3),
-      run_read is_space some gap_3 (field_first is_solid some refl refl device),
-      run_read is_solid some device (spaces_first is_solid refl gap_4),
-      run_read is_space some gap_4 (field_first is_decimal one_to_twenty refl refl inode),
+      run_read is_space at_least_one gap_3 (field_first is_solid at_least_one refl refl device),
+      run_read is_solid at_least_one device (spaces_first is_solid refl gap_4),
+      run_read is_space at_least_one gap_4 (field_first is_decimal one_to_twenty refl refl inode),
       run_read is_decimal one_to_twenty inode (end_first told.text inode.back last),
       end_again told.text inode.back last,
       le-leb told.start told.past is.ordered,
@@ -177,23 +177,23 @@ span_found Second line read is =
 offset_found : (Second : List ℕ → Type 0) (text : List ℕ) (read : ℕ × List ℕ) → offset_at text ≡ Some read → Second read.1 →
     (AreSpaces · ArePermissions · AreSpaces · IsWord read.0 · Second) text
 offset_found Second text read is rest =
-    let permissions = bind_some (after_run is_space some text) _ read is in
-    let gap = bind_some (after_run is_solid four permissions.0) _ read permissions.2 in
-    let offset = bind_some (after_run is_space some gap.0) _ read gap.2 in
-    part_found is_space some (ArePermissions · AreSpaces · IsWord read.0 · Second) text permissions.0 permissions.1
-    (part_found is_solid four (AreSpaces · IsWord read.0 · Second) permissions.0 gap.0 gap.1
-    (part_found is_space some (IsWord read.0 · Second) gap.0 offset.0 offset.1 (word_found Second offset.0 read offset.2 rest)))
+    let permissions = bind_some (after_run is_space at_least_one text) _ read is in
+    let gap = bind_some (after_run is_solid exactly_four permissions.0) _ read permissions.2 in
+    let offset = bind_some (after_run is_space at_least_one gap.0) _ read gap.2 in
+    part_found is_space at_least_one (ArePermissions · AreSpaces · IsWord read.0 · Second) text permissions.0 permissions.1
+    (part_found is_solid exactly_four (AreSpaces · IsWord read.0 · Second) permissions.0 gap.0 gap.1
+    (part_found is_space at_least_one (IsWord read.0 · Second) gap.0 offset.0 offset.1 (word_found Second offset.0 read offset.2 rest)))
 
 -- device, inode and the end of the line
 last_found : (text last : List ℕ) → last_at text ≡ Some last → (AreSpaces · IsDevice · AreSpaces · IsInode · IsEnd last) text
 last_found text last is =
-    let device = bind_some (after_run is_space some text) _ last is in
-    let gap = bind_some (after_run is_solid some device.0) _ last device.2 in
-    let inode = bind_some (after_run is_space some gap.0) _ last gap.2 in
+    let device = bind_some (after_run is_space at_least_one text) _ last is in
+    let gap = bind_some (after_run is_solid at_least_one device.0) _ last device.2 in
+    let inode = bind_some (after_run is_space at_least_one gap.0) _ last gap.2 in
     let rest = bind_some (after_run is_decimal one_to_twenty inode.0) _ last inode.2 in
-    part_found is_space some (IsDevice · AreSpaces · IsInode · IsEnd last) text device.0 device.1
-    (part_found is_solid some (AreSpaces · IsInode · IsEnd last) device.0 gap.0 gap.1
-    (part_found is_space some (IsInode · IsEnd last) gap.0 inode.0 inode.1
+    part_found is_space at_least_one (IsDevice · AreSpaces · IsInode · IsEnd last) text device.0 device.1
+    (part_found is_solid at_least_one (AreSpaces · IsInode · IsEnd last) device.0 gap.0 gap.1
+    (part_found is_space at_least_one (IsInode · IsEnd last) gap.0 inode.0 inode.1
     (part_found is_decimal one_to_twenty (IsEnd last) inode.0 rest.0 rest.1 (end_found rest.0 last rest.2))))
 
 -- what is read of a line stands in it

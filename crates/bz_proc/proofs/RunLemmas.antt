@@ -8,7 +8,7 @@ use Rattle.std.proofs.lemmas.Option.{cond_some, none-some}
 use Rattle.std.proofs.Math.Seq.{drop-append_seam}
 use Rattle.bz_base.specs.Bind.{◌>>=◌}
 use Rattle.bz_base.specs.Byte.{space, begins_with}
-use Rattle.bz_proc.specs.MappingLine.{is_space, some, IsRun, after_run}
+use Rattle.bz_proc.specs.MappingLine.{is_space, IsRun, after_run}
 
 -- where the second of two readings gives something, the first did
 pub bind_some : {A B : Type 0} (o : Option A) (f : A → Option B) (y : B) → (o >>= f) ≡ Some y → (x : A) × (o ≡ Some x) × (f x ≡ Some y)

@@ -26,11 +26,11 @@ is_solid b = not (b == space)
 abbrev pub is_decimal : ℕ → Bool
 is_decimal b = is_digit b 10
 
-abbrev pub some : ℕ → Bool
-some n = nat_lt 0 n
+abbrev pub at_least_one : ℕ → Bool
+at_least_one n = nat_lt 0 n
 
-abbrev pub four : ℕ → Bool
-four n = n == 4
+abbrev pub exactly_four : ℕ → Bool
+exactly_four n = n == 4
 
 abbrev pub one_to_twenty : ℕ → Bool
 one_to_twenty n = nat_lt 0 n && nat_le n 20
@@ -49,15 +49,15 @@ IsDash text = text ≡ dash ∷ []
 
 -- one or more
 abbrev pub AreSpaces : List ℕ → Type 0
-AreSpaces = IsRun is_space some
+AreSpaces = IsRun is_space at_least_one
 
 -- four bytes other than space
 abbrev pub ArePermissions : List ℕ → Type 0
-ArePermissions = IsRun is_solid four
+ArePermissions = IsRun is_solid exactly_four
 
 -- one or more bytes other than space
 abbrev pub IsDevice : List ℕ → Type 0
-IsDevice = IsRun is_solid some
+IsDevice = IsRun is_solid at_least_one
 
 -- one to twenty decimal digits
 abbrev pub IsInode : List ℕ → Type 0
@@ -125,17 +125,17 @@ span_at line = do
 -- the offset, which stands behind the permissions, and the text after it
 abbrev pub offset_at : List ℕ → Option (ℕ × List ℕ)
 offset_at text = do
-  permissions ← after_run is_space some text
-  gap ← after_run is_solid four permissions
-  offset ← after_run is_space some gap
+  permissions ← after_run is_space at_least_one text
+  gap ← after_run is_solid exactly_four permissions
+  offset ← after_run is_space at_least_one gap
   hex_at 16 offset
 
 -- the text that stands last, behind device and inode
 abbrev pub last_at : List ℕ → Option (List ℕ)
 last_at text = do
-  device ← after_run is_space some text
-  gap ← after_run is_solid some device
-  inode ← after_run is_space some gap
+  device ← after_run is_space at_least_one text
+  gap ← after_run is_solid at_least_one device
+  inode ← after_run is_space at_least_one gap
   last ← after_run is_decimal one_to_twenty inode
   end_text last
 

@@ -1,5 +1,5 @@
-//! The texts of a process under Linux: its mappings, the id that its status tells, and its perf map,
-//! which has the functions that it compiled for itself.
+//! The texts of a process under Linux: its mappings, the id that its status tells, and its perf map. The
+//! last has the functions that it compiled for itself.
 #![tactic(auto)]
 
 pub mod laws;

@@ -1,8 +1,9 @@
 -- The request that is read of a text is the one that it spells.
-use Rattle.std.proofs.Common.{◌≡◌, ℕ, Bool, true, false, ◌&&◌, nat_lt, cond, List, [], ◌∷◌, length, codes, Some, None, option_map, bytes_eq, refl, sym, ap, subst, ◌∙◌}
+use Rattle.std.proofs.Common.{◌≡◌, ℕ, Bool, true, false, ◌&&◌, nat_lt, cond, List, [], ◌∷◌, length, codes, Option, Some, None, option_map, option_and_then, bytes_eq, refl, sym, ap, subst, ◌∙◌}
 use Rattle.std.specs.List.{AllZip}
 use Rattle.std.specs.Str.{is_utf8}
 use Rattle.std.proofs.lemmas.Bool.{and_parts, cond_both, ltb-true}
+use Rattle.std.proofs.lemmas.Option.{same_Some}
 use Rattle.std.proofs.lemmas.Slice.Eq.{bytes_eq-Decides}
 use Rattle.std.proofs.lemmas.Str.{IsUtf8-from_is_utf8}
 use Rattle.bz_base.proofs.NumberLemmas.{decimal_whole_found, decimal_whole_again}
@@ -12,7 +13,7 @@ use Rattle.bz_requests.specs.Lines.{ReadsAsSpelled}
 use Rattle.bz_requests.proofs.AddressLemmas.{address_found, address_again, addresses_found, addresses_again}
 use Rattle.bz_requests.proofs.FieldLemmas.{are_fields, fields_are}
 use Rattle.bz_requests.proofs.OptionLemmas.{map_some, then_some}
-use Rattle.bz_requests.specs.Requests.{Target, Breakpad, Gsym, Elf, Process, Request, Batch, Single, CacheElf, CacheProcess, EvictElf, EvictProcess, IsPath, IsTarget, IsRequest, Spell, path_in, pid_in, target_in, batch_in, single_in, cache_in, evict_in, other_in, request_by, request_in}
+use Rattle.bz_requests.specs.Requests.{Target, Breakpad, Gsym, Elf, Process, Request, Batch, Single, CacheElf, CacheProcess, EvictElf, EvictProcess, IsPath, IsTarget, IsRequest, Spell, path_in, pid_in, target_in, batch_in, single_in, target_alone_in, request_to_cache, request_to_evict, other_in, request_by, request_in}
 use Rattle.bz_requests.proofs.ReadingLemmas.{path_some}
 
 -- a text that is tested to be a word is the word
@@ -63,37 +64,34 @@ single_found (kind ∷ field ∷ other ∷ []) request read =
     subst (Spell (codes "single" ∷ kind ∷ field ∷ other ∷ [])) addr.2 (kind, field, other, refl, target_found kind field target.0 target.1, address_found other addr.0 addr.1)
 single_found (kind ∷ field ∷ other ∷ more ∷ others) request read = cc
 
-cache_found : (all : List (List ℕ)) (request : Request) → cache_in all ≡ Some request → Spell (codes "cache" ∷ all) request
-cache_found [] request read = cc
-cache_found (kind ∷ []) request read = cc
-cache_found (kind ∷ field ∷ []) request read = by_kind read
-  where
-    by_kind : cache_in (kind ∷ field ∷ []) ≡ Some request → Spell (codes "cache" ∷ kind ∷ field ∷ []) request
-    by_kind =
-        cond_both (bytes_eq kind (codes "elf")) _ _ (λ found. found ≡ Some request → Spell (codes "cache" ∷ kind ∷ field ∷ []) request)
-        (λ is from. let path = map_some (λ path. CacheElf path) (path_in field) request from in
-        subst (Spell (codes "cache" ∷ kind ∷ field ∷ [])) path.2 (field, ap (λ k. codes "cache" ∷ k ∷ field ∷ []) (is_word kind (codes "elf") is), path_found field path.0 path.1))
-        (λ other. cond_both (bytes_eq kind (codes "process")) _ _ (λ found. found ≡ Some request → Spell (codes "cache" ∷ kind ∷ field ∷ []) request)
-        (λ is from. let pid = map_some (λ pid. CacheProcess pid) (pid_in field) request from in
-        subst (Spell (codes "cache" ∷ kind ∷ field ∷ [])) pid.2 (field, ap (λ k. codes "cache" ∷ k ∷ field ∷ []) (is_word kind (codes "process") is), decimal_whole_found 10 4294967295 field pid.0 pid.1))
-        (λ none from. cc))
-cache_found (kind ∷ field ∷ more ∷ others) request read = cc
+cache_spelled : (kind field : List ℕ) (target : Target) (request : Request) → IsTarget kind field target → request_to_cache target ≡ Some request →
+    Spell (codes "cache" ∷ kind ∷ field ∷ []) request
+cache_spelled kind field (Breakpad path) request named made = cc
+cache_spelled kind field (Gsym path) request named made = cc
+cache_spelled kind field (Elf path) request (is, spelled) made =
+    subst (Spell (codes "cache" ∷ kind ∷ field ∷ [])) (same_Some (CacheElf path) request made) (field, ap (λ k. codes "cache" ∷ k ∷ field ∷ []) is, spelled)
+cache_spelled kind field (Process pid) request (is, spelled) made =
+    subst (Spell (codes "cache" ∷ kind ∷ field ∷ [])) (same_Some (CacheProcess pid) request made) (field, ap (λ k. codes "cache" ∷ k ∷ field ∷ []) is, spelled)
 
-evict_found : (all : List (List ℕ)) (request : Request) → evict_in all ≡ Some request → Spell (codes "evict" ∷ all) request
-evict_found [] request read = cc
-evict_found (kind ∷ []) request read = cc
-evict_found (kind ∷ field ∷ []) request read = by_kind read
-  where
-    by_kind : evict_in (kind ∷ field ∷ []) ≡ Some request → Spell (codes "evict" ∷ kind ∷ field ∷ []) request
-    by_kind =
-        cond_both (bytes_eq kind (codes "elf")) _ _ (λ found. found ≡ Some request → Spell (codes "evict" ∷ kind ∷ field ∷ []) request)
-        (λ is from. let path = map_some (λ path. EvictElf path) (path_in field) request from in
-        subst (Spell (codes "evict" ∷ kind ∷ field ∷ [])) path.2 (field, ap (λ k. codes "evict" ∷ k ∷ field ∷ []) (is_word kind (codes "elf") is), path_found field path.0 path.1))
-        (λ other. cond_both (bytes_eq kind (codes "process")) _ _ (λ found. found ≡ Some request → Spell (codes "evict" ∷ kind ∷ field ∷ []) request)
-        (λ is from. let pid = map_some (λ pid. EvictProcess pid) (pid_in field) request from in
-        subst (Spell (codes "evict" ∷ kind ∷ field ∷ [])) pid.2 (field, ap (λ k. codes "evict" ∷ k ∷ field ∷ []) (is_word kind (codes "process") is), decimal_whole_found 10 4294967295 field pid.0 pid.1))
-        (λ none from. cc))
-evict_found (kind ∷ field ∷ more ∷ others) request read = cc
+evict_spelled : (kind field : List ℕ) (target : Target) (request : Request) → IsTarget kind field target → request_to_evict target ≡ Some request →
+    Spell (codes "evict" ∷ kind ∷ field ∷ []) request
+evict_spelled kind field (Breakpad path) request named made = cc
+evict_spelled kind field (Gsym path) request named made = cc
+evict_spelled kind field (Elf path) request (is, spelled) made =
+    subst (Spell (codes "evict" ∷ kind ∷ field ∷ [])) (same_Some (EvictElf path) request made) (field, ap (λ k. codes "evict" ∷ k ∷ field ∷ []) is, spelled)
+evict_spelled kind field (Process pid) request (is, spelled) made =
+    subst (Spell (codes "evict" ∷ kind ∷ field ∷ [])) (same_Some (EvictProcess pid) request made) (field, ap (λ k. codes "evict" ∷ k ∷ field ∷ []) is, spelled)
+
+-- a request that is made of a target alone, behind a word
+alone_found : (word : List ℕ) (make : Target → Option Request) →
+    ((kind field : List ℕ) (target : Target) (request : Request) → IsTarget kind field target → make target ≡ Some request → Spell (word ∷ kind ∷ field ∷ []) request) →
+    (all : List (List ℕ)) (request : Request) → option_and_then make (target_alone_in all) ≡ Some request → Spell (word ∷ all) request
+alone_found word make spells [] request read = cc
+alone_found word make spells (kind ∷ []) request read = cc
+alone_found word make spells (kind ∷ field ∷ []) request read =
+    let target = then_some make (target_in kind field) request read in
+    spells kind field target.0 request (target_found kind field target.0 target.1) target.2
+alone_found word make spells (kind ∷ field ∷ more ∷ others) request read = cc
 
 other_found : (kind : List ℕ) (all : List (List ℕ)) (request : Request) → other_in kind all ≡ Some request → Spell (kind ∷ all) request
 other_found kind [] request read = cc
@@ -112,9 +110,9 @@ fields_found (first ∷ others) request read = by_word read
         cond_both (bytes_eq first (codes "single")) _ _ (λ found. found ≡ Some request → Spell (first ∷ others) request)
         (λ is from. behind (codes "single") (is_word first (codes "single") is) (single_found others request from))
         (λ other. cond_both (bytes_eq first (codes "cache")) _ _ (λ found. found ≡ Some request → Spell (first ∷ others) request)
-        (λ is from. behind (codes "cache") (is_word first (codes "cache") is) (cache_found others request from))
+        (λ is from. behind (codes "cache") (is_word first (codes "cache") is) (alone_found (codes "cache") request_to_cache cache_spelled others request from))
         (λ other. cond_both (bytes_eq first (codes "evict")) _ _ (λ found. found ≡ Some request → Spell (first ∷ others) request)
-        (λ is from. behind (codes "evict") (is_word first (codes "evict") is) (evict_found others request from))
+        (λ is from. behind (codes "evict") (is_word first (codes "evict") is) (alone_found (codes "evict") request_to_evict evict_spelled others request from))
         (λ other from. other_found first others request from)))
 
 -- What the fields spell is read.
@@ -145,12 +143,12 @@ fields_again all (Batch target addrs) (kind, field, others, are, named, each) =
     ap request_by are ∙ by_kind kind field others target named ∙ batch_again kind field others target addrs named each
 fields_again all (Single target addr) (kind, field, other, are, named, spelled) =
     ap request_by are ∙ rw (target_again kind field target named, address_again other addr spelled) refl
-fields_again all (CacheElf path) (field, are, spelled) = ap request_by are ∙ ap (option_map (λ path. CacheElf path)) (path_again field path spelled)
+fields_again all (CacheElf path) (field, are, spelled) = ap request_by are ∙ ap (option_and_then request_to_cache) (target_again (codes "elf") field (Elf path) (refl, spelled))
 fields_again all (CacheProcess pid) (field, are, spelled) =
-    ap request_by are ∙ ap (option_map (λ pid. CacheProcess pid)) (decimal_whole_again 10 4294967295 field pid spelled)
-fields_again all (EvictElf path) (field, are, spelled) = ap request_by are ∙ ap (option_map (λ path. EvictElf path)) (path_again field path spelled)
+    ap request_by are ∙ ap (option_and_then request_to_cache) (target_again (codes "process") field (Process pid) (refl, spelled))
+fields_again all (EvictElf path) (field, are, spelled) = ap request_by are ∙ ap (option_and_then request_to_evict) (target_again (codes "elf") field (Elf path) (refl, spelled))
 fields_again all (EvictProcess pid) (field, are, spelled) =
-    ap request_by are ∙ ap (option_map (λ pid. EvictProcess pid)) (decimal_whole_again 10 4294967295 field pid spelled)
+    ap request_by are ∙ ap (option_and_then request_to_evict) (target_again (codes "process") field (Process pid) (refl, spelled))
 
 -- Texts.
 

@@ -114,17 +114,26 @@ abbrev pub single_in : List (List ℕ) → Option Request
 single_in (kind ∷ field ∷ other ∷ []) = option_and_then (λ target. option_map (λ addr. Single target addr) (address_in other)) (target_in kind field)
 single_in _ = None
 
+abbrev pub target_alone_in : List (List ℕ) → Option Target
+target_alone_in (kind ∷ field ∷ []) = target_in kind field
+target_alone_in _ = None
+
+-- only ELF files and the files of processes are cached or evicted
+abbrev pub request_to_cache : Target → Option Request
+request_to_cache (Elf path) = Some (CacheElf path)
+request_to_cache (Process pid) = Some (CacheProcess pid)
+request_to_cache _ = None
+
+abbrev pub request_to_evict : Target → Option Request
+request_to_evict (Elf path) = Some (EvictElf path)
+request_to_evict (Process pid) = Some (EvictProcess pid)
+request_to_evict _ = None
+
 abbrev pub cache_in : List (List ℕ) → Option Request
-cache_in (kind ∷ field ∷ []) =
-    if bytes_eq kind (codes "elf") then option_map (λ path. CacheElf path) (path_in field)
-    else (if bytes_eq kind (codes "process") then option_map (λ pid. CacheProcess pid) (pid_in field) else None)
-cache_in _ = None
+cache_in all = option_and_then request_to_cache (target_alone_in all)
 
 abbrev pub evict_in : List (List ℕ) → Option Request
-evict_in (kind ∷ field ∷ []) =
-    if bytes_eq kind (codes "elf") then option_map (λ path. EvictElf path) (path_in field)
-    else (if bytes_eq kind (codes "process") then option_map (λ pid. EvictProcess pid) (pid_in field) else None)
-evict_in _ = None
+evict_in all = option_and_then request_to_evict (target_alone_in all)
 
 abbrev pub other_in : List ℕ → List (List ℕ) → Option Request
 other_in kind (field ∷ others) = batch_in kind field others

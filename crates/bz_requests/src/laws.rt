@@ -6,8 +6,8 @@ ghost use Rattle.bz_requests.specs.Fields.{AreFields, fields};
 ghost use Rattle.bz_requests.specs.Lines.{IsFirstBad};
 ghost use Rattle.bz_requests.specs.Requests.{AreRequests, IsRequest, Request, request_in, requests_in};
 
-/// The addresses that are read of an input are those that its lines say, and the number that is read
-/// of another one is that of its first line that isn't well formed.
+/// The addresses that are read of an input are those that its lines say. Of an input that has a line
+/// that isn't well formed, the number of its first such line is read.
 pub fn addresses_are_read()
     ensures addresses { (text addrs : List ℕ) → (addresses_in text ≡ Ok addrs) ↔ AreAddresses text addrs }
     ensures line { (text : List ℕ) (n : ℕ) → (addresses_in text ≡ Err n) ↔ IsFirstBad IsAddress text n }

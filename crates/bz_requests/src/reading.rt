@@ -1,7 +1,7 @@
 //! The requests that lines spell.
 
 ghost use Rattle.std.specs.Prelude.{◌≡◌, ◌∷◌, ℕ, Ok, Err, Some, None, bytes_eq, map, option_map, string_bytes, IfOk, IsErrOf};
-ghost use Rattle.bz_requests.specs.Requests.{batch_in, cache_in, evict_in, other_in, path_in, pid_in, request_by, request_in, request_of, requests_in, single_in, target_in, target_of};
+ghost use Rattle.bz_requests.specs.Requests.{batch_in, cache_in, evict_in, other_in, path_in, pid_in, request_by, request_in, request_of, request_to_cache, request_to_evict, requests_in, single_in, target_alone_in, target_in, target_of};
 
 use crate::addresses::{address, each_address};
 use crate::field::fields;
@@ -84,42 +84,38 @@ fn single(alloc: Global, fields: &[&[u8]]) -> Result<Option<Request>, AllocError
 fn cache(alloc: Global, fields: &[&[u8]]) -> Result<Option<Request>, AllocError>
     ensures { IfOk result (λ request. option_map request_of request ≡ cache_in (map (λ field. field.now) fields.now)) }
 {
-    let [kind, text] = fields else {
-        return Ok(None);
-    };
-    if is(kind, "elf") {
-        match path(alloc, text)? {
-            Some(path) => Ok(Some(Request::CacheElf(path))),
-            None => Ok(None),
-        }
-    } else if is(kind, "process") {
-        match pid(text) {
-            Some(pid) => Ok(Some(Request::CacheProcess(pid))),
-            None => Ok(None),
-        }
-    } else {
-        Ok(None)
+    match target_alone(alloc, fields)? {
+        Some(target) => Ok(request_to_cache(target)),
+        None => Ok(None),
     }
 }
 
 fn evict(alloc: Global, fields: &[&[u8]]) -> Result<Option<Request>, AllocError>
     ensures { IfOk result (λ request. option_map request_of request ≡ evict_in (map (λ field. field.now) fields.now)) }
 {
-    let [kind, text] = fields else {
-        return Ok(None);
-    };
-    if is(kind, "elf") {
-        match path(alloc, text)? {
-            Some(path) => Ok(Some(Request::EvictElf(path))),
-            None => Ok(None),
-        }
-    } else if is(kind, "process") {
-        match pid(text) {
-            Some(pid) => Ok(Some(Request::EvictProcess(pid))),
-            None => Ok(None),
-        }
-    } else {
-        Ok(None)
+    match target_alone(alloc, fields)? {
+        Some(target) => Ok(request_to_evict(target)),
+        None => Ok(None),
+    }
+}
+
+fn request_to_cache(target: Target) -> Option<Request>
+    ensures { option_map request_of result ≡ request_to_cache (target_of target) }
+{
+    match target {
+        Target::Elf(path) => Some(Request::CacheElf(path)),
+        Target::Process(pid) => Some(Request::CacheProcess(pid)),
+        Target::Breakpad(_) | Target::Gsym(_) => None,
+    }
+}
+
+fn request_to_evict(target: Target) -> Option<Request>
+    ensures { option_map request_of result ≡ request_to_evict (target_of target) }
+{
+    match target {
+        Target::Elf(path) => Some(Request::EvictElf(path)),
+        Target::Process(pid) => Some(Request::EvictProcess(pid)),
+        Target::Breakpad(_) | Target::Gsym(_) => None,
     }
 }
 
@@ -147,6 +143,16 @@ fn batch(
         Some(addrs) => Ok(Some(Request::Batch(target, addrs))),
         None => Ok(None),
     }
+}
+
+// The target that the fields name, with no field behind.
+fn target_alone(alloc: Global, fields: &[&[u8]]) -> Result<Option<Target>, AllocError>
+    ensures { IfOk result (λ target. option_map target_of target ≡ target_alone_in (map (λ field. field.now) fields.now)) }
+{
+    let [kind, text] = fields else {
+        return Ok(None);
+    };
+    named_target(alloc, kind, text)
 }
 
 fn named_target(alloc: Global, kind: &[u8], text: &[u8]) -> Result<Option<Target>, AllocError>

@@ -17,7 +17,7 @@ use std::alloc::Global;
 
 /// What was found at a path.
 #[derive(Drop)]
-pub enum FoundFile {
+pub(crate) enum FoundFile {
     /// Nothing.
     Absent,
     /// A file that may not be read.
@@ -28,7 +28,7 @@ pub enum FoundFile {
 
 /// What is found at the path of a symbol file, in a store that lies at the root. ReadFault: reading
 /// failed. OutOfMemory: memory ran out.
-pub fn find_file<F: Files>(
+pub(crate) fn find_file<F: Files>(
     alloc: Global,
     files: &mut F,
     root: &str,

@@ -11,11 +11,11 @@ use std::alloc::Global;
 
 /// A symbol file, by its module and the module's id.
 #[derive(Clone, PartialEq, Eq, Hash, Drop)]
-pub struct FileKey {
+pub(crate) struct FileKey {
     /// The module's name.
-    pub name: String,
+    pub(crate) name: String,
     /// The id of the module's build.
-    pub id: String,
+    pub(crate) id: String,
 }
 
 /// A frame of a crash: a module, its id, and an offset in it.
@@ -74,7 +74,7 @@ pub enum FrameAnswer {
 }
 
 /// How many frames in front are of the file.
-pub fn run_len(key: &FileKey, frames: &[CrashFrame]) -> usize
+pub(crate) fn run_len(key: &FileKey, frames: &[CrashFrame]) -> usize
     ensures value { result ≡ prefix_len (is_of (key_of key.now)) frames.now }
     ensures within { result ≤ length frames.now }
 {
@@ -82,7 +82,7 @@ pub fn run_len(key: &FileKey, frames: &[CrashFrame]) -> usize
 }
 
 /// The offsets of frames.
-pub fn offsets(alloc: Global, frames: &[CrashFrame]) -> Result<Vec<u64>>
+pub(crate) fn offsets(alloc: Global, frames: &[CrashFrame]) -> Result<Vec<u64>>
     ensures offsets { IfOk result (λ offsets. offsets.items ≡ map (λ (frame : CrashFrame). frame.offset) frames.now) }
     ensures memory { IsOkUnless result Error.OutOfMemory }
 {

@@ -16,7 +16,7 @@ use std::marker::Brand;
 use std::sync::ledger::{Blank, Ledger};
 
 /// Puts the file's answers at the offsets of frames behind the answers, all of one batch.
-pub fn push_known(
+pub(crate) fn push_known(
     alloc: Global,
     file: &SymbolFile,
     frames: &[CrashFrame],

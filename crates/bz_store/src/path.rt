@@ -9,7 +9,7 @@ use bz_base::Result;
 use std::alloc::Global;
 
 /// Whether module and id are both names that a folder can have.
-pub fn is_good(key: &FileKey) -> bool
+pub(crate) fn is_good(key: &FileKey) -> bool
     ensures { result ≡ is_good (key_of key.now) }
 {
     is_good_name(key.name.as_str()) && is_good_name(key.id.as_str())
@@ -24,7 +24,7 @@ fn is_good_name(name: &str) -> bool
 }
 
 /// The path of the symbol file in a store that lies at the root.
-pub fn symbol_path(alloc: Global, root: &str, key: &FileKey) -> Result<String>
+pub(crate) fn symbol_path(alloc: Global, root: &str, key: &FileKey) -> Result<String>
     ensures ok { IfOk result (λ path. string_bytes path ≡ symbol_path root.now (key_of key.now)) }
     ensures memory { IsOkUnless result Error.OutOfMemory }
 {

@@ -4,7 +4,7 @@ use Rattle.std.proofs.lemmas.Bool.{cond_both}
 use Rattle.bz_base.proofs.NumberLemmas.{decimal_whole_found}
 use Rattle.bz_requests.proofs.OptionLemmas.{map_some, then_some}
 use Rattle.clap.specs.Words.{Row, Text, all_of, first_of}
-use Rattle.bz_words.specs.Command.{Batch, Canonical, Command, Converted, Frames, Generate, HasSmallNumbers, Job, Make, Serve, Stacks, batch_in, command_by, command_in, command_read, config_in, generate_in, is_source, job_by, job_by_rows, job_in, kind_for, number_in, numbers_in, on_path_in, path_job, serve_in, some_in, target_in, unless_faulty}
+use Rattle.bz_words.specs.Command.{Batch, Canonical, Command, Converted, Frames, Generate, HasSmallNumbers, Job, Make, Serve, Stacks, batch_in, command_by, command_in, command_read, config_in, generate_in, is_source, job_by, job_by_rows, job_in, kind_for, number_in, numbers_in, on_path_in, path_job, positive_in, serve_in, target_in, unless_faulty}
 use Rattle.bz_words.specs.Definition.{faults, rows}
 
 if_some : (b : Bool) (m n : ℕ) → cond b (Some m) None ≡ Some n → m ≡ n
@@ -14,18 +14,18 @@ if_some false m n is = cc
 number_small : (greatest : ℕ) (text : Text) (n : ℕ) → number_in greatest text ≡ Some n → n ≤ greatest
 number_small greatest text n is = (decimal_whole_found 10 greatest text n is).fits
 
-some_small : (greatest : ℕ) (text : Text) (n : ℕ) → some_in greatest text ≡ Some n → n ≤ greatest
-some_small greatest text n is =
+positive_small : (greatest : ℕ) (text : Text) (n : ℕ) → positive_in greatest text ≡ Some n → n ≤ greatest
+positive_small greatest text n is =
     let read = then_some (λ n. cond (nat_le 1 n) (Some n) None) (number_in greatest text) n is in
     subst (λ n. n ≤ greatest) (if_some (nat_le 1 read.0) read.0 n read.2) (number_small greatest text read.0 read.1)
 
 numbers_small : (seed functions addresses : Text) (job : Job) → numbers_in seed functions addresses ≡ Some job → HasSmallNumbers job
 numbers_small seed functions addresses job is =
-    let first = then_some (λ s. option_and_then (λ f. option_map (λ a. Generate s f a) (number_in 100000 addresses)) (some_in 100000 functions)) (number_in 2147483647 seed) job is in
-    let second = then_some (λ f. option_map (λ a. Generate first.0 f a) (number_in 100000 addresses)) (some_in 100000 functions) job first.2 in
+    let first = then_some (λ s. option_and_then (λ f. option_map (λ a. Generate s f a) (number_in 100000 addresses)) (positive_in 100000 functions)) (number_in 2147483647 seed) job is in
+    let second = then_some (λ f. option_map (λ a. Generate first.0 f a) (number_in 100000 addresses)) (positive_in 100000 functions) job first.2 in
     let third = map_some (λ a. Generate first.0 second.0 a) (number_in 100000 addresses) job second.2 in
     let few = number_small 2147483647 seed first.0 first.1 in
-    subst HasSmallNumbers third.2 (omega (arith, few), some_small 100000 functions second.0 second.1, number_small 100000 addresses third.0 third.1)
+    subst HasSmallNumbers third.2 (omega (arith, few), positive_small 100000 functions second.0 second.1, number_small 100000 addresses third.0 third.1)
 
 serve_small : (input : Option Text) (args : List Text) (job : Job) → serve_in input args ≡ Some job → HasSmallNumbers job
 serve_small None [] job is = let same : Serve ≡ job = cc in subst HasSmallNumbers same tt

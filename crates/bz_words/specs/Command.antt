@@ -94,13 +94,13 @@ serve_in None [] = Some Serve
 serve_in _ _ = None
 
 -- a number from 1 on
-abbrev pub some_in : ℕ → Text → Option ℕ
-some_in greatest text = option_and_then (λ n. if nat_le 1 n then Some n else None) (number_in greatest text)
+abbrev pub positive_in : ℕ → Text → Option ℕ
+positive_in greatest text = option_and_then (λ n. if nat_le 1 n then Some n else None) (number_in greatest text)
 
 -- `gen SEED FUNCTIONS ADDRESSES`
 abbrev pub numbers_in : Text → Text → Text → Option Job
 numbers_in seed functions addresses =
-    option_and_then (λ s. option_and_then (λ f. option_map (λ a. Generate s f a) (number_in 100000 addresses)) (some_in 100000 functions)) (number_in 2147483647 seed)
+    option_and_then (λ s. option_and_then (λ f. option_map (λ a. Generate s f a) (number_in 100000 addresses)) (positive_in 100000 functions)) (number_in 2147483647 seed)
 
 abbrev pub generate_in : Option Text → List Text → Option Job
 generate_in None (seed ∷ functions ∷ addresses ∷ []) = numbers_in seed functions addresses

@@ -5,7 +5,7 @@ ghost use Rattle.bz_base.specs.InputKind.{address_kind};
 ghost use Rattle.bz_requests.specs.Requests.{target_of};
 ghost use Rattle.clap.specs.Words.{first_of, found_of, kind_of, rows_of};
 ghost use Rattle.clap.specs.declared.error.kind.ErrorKind.TheVariants as kinds;
-ghost use Rattle.bz_words.specs.Command.{IsUsage, batch_in, command_by, command_in, command_of, config_in, generate_in, has_flag, is_source, job_by_rows, job_in, job_of, kind_for, kind_named, number_in, numbers_in, on_path_in, path_job, serve_in, some_in, target_in};
+ghost use Rattle.bz_words.specs.Command.{IsUsage, batch_in, command_by, command_in, command_of, config_in, generate_in, has_flag, is_source, job_by_rows, job_in, job_of, kind_for, kind_named, number_in, numbers_in, on_path_in, path_job, positive_in, serve_in, target_in};
 ghost use Rattle.bz_words.specs.Definition.{IsTakenByClap, faults, rows};
 ghost use Rattle.bz_words.specs.declared.words.BadWords.TheVariants.{OutOfMemory};
 
@@ -170,7 +170,7 @@ fn numbers(seed: &str, functions: &str, addresses: &str) -> Option<Job>
     ensures { option_map job_of result ≡ numbers_in seed.now functions.now addresses.now }
 {
     let seed = number(seed, 2_147_483_647)?;
-    let functions = some(functions, 100_000)?;
+    let functions = positive(functions, 100_000)?;
     let addresses = number(addresses, 100_000)?;
     Some(Job::Generate {
         seed,
@@ -179,8 +179,8 @@ fn numbers(seed: &str, functions: &str, addresses: &str) -> Option<Job>
     })
 }
 
-fn some(text: &str, greatest: u64) -> Option<u64>
-    ensures value { result ≡ some_in greatest text.now }
+fn positive(text: &str, greatest: u64) -> Option<u64>
+    ensures value { result ≡ positive_in greatest text.now }
 {
     let value = number(text, greatest)?;
     if value >= 1 { Some(value) } else { None }

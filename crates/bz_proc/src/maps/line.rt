@@ -2,7 +2,7 @@
 
 ghost use Rattle.std.specs.Prelude.{◌≡◌, ◌≤◌, length, option_map};
 ghost use Rattle.std.specs.List.{prefix_len};
-ghost use Rattle.bz_proc.specs.MappingLine.{after_dash, after_run, end_text, four, is_decimal, is_solid, is_space, last_at, line_in, offset_at, one_to_twenty, some, span_at};
+ghost use Rattle.bz_proc.specs.MappingLine.{after_dash, after_run, at_least_one, end_text, exactly_four, is_decimal, is_solid, is_space, last_at, line_in, offset_at, one_to_twenty, span_at};
 ghost use Rattle.bz_proc.specs.Maps.{line_of};
 
 use bz_base::{Addr, read_hex};
@@ -122,7 +122,7 @@ fn digit_len(text: &[u8]) -> usize
 /// The text after one or more spaces.
 #[tactic(auto, unfolding(crate::specs::MappingLine::after_run))]
 fn after_spaces(text: &[u8]) -> Option<&[u8]>
-    ensures { option_map (λ rest. rest.now) result ≡ after_run is_space some text.now }
+    ensures { option_map (λ rest. rest.now) result ≡ after_run is_space at_least_one text.now }
 {
     let len = space_len(text);
     if len == 0 {
@@ -134,7 +134,7 @@ fn after_spaces(text: &[u8]) -> Option<&[u8]>
 /// The text after four bytes other than space.
 #[tactic(auto, unfolding(crate::specs::MappingLine::after_run))]
 fn after_permissions(text: &[u8]) -> Option<&[u8]>
-    ensures { option_map (λ rest. rest.now) result ≡ after_run is_solid four text.now }
+    ensures { option_map (λ rest. rest.now) result ≡ after_run is_solid exactly_four text.now }
 {
     let len = solid_len(text);
     if len != PERMISSIONS_LEN {
@@ -146,7 +146,7 @@ fn after_permissions(text: &[u8]) -> Option<&[u8]>
 /// The text after one or more bytes other than space.
 #[tactic(auto, unfolding(crate::specs::MappingLine::after_run))]
 fn after_device(text: &[u8]) -> Option<&[u8]>
-    ensures { option_map (λ rest. rest.now) result ≡ after_run is_solid some text.now }
+    ensures { option_map (λ rest. rest.now) result ≡ after_run is_solid at_least_one text.now }
 {
     let len = solid_len(text);
     if len == 0 {
