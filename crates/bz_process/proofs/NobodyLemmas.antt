@@ -1,5 +1,6 @@
 -- A dispatcher that never gives a resolver: nothing is said for any address, so the steps are those of the definitions alone.
-use Rattle.std.proofs.Common.{◌≡◌, ◌⊎◌, ◌≤◌, ℕ, arith, List, [], ◌∷◌, ◌++◌, map, Option, Some, None, Result, Ok, Err, OnOk, inl, inr, refl, sym, ap, ap₂, subst, ◌∙◌}
+use Rattle.std.proofs.Common.{◌≡◌, ◌⊎◌, ◌≤◌, ℕ, arith, List, [], ◌∷◌, ◌++◌, map, Option, Some, None, Result, Ok, Err, IfOk, OnOk, append-nil, inl, inr, refl, sym, ap, ap₂, subst, ◌∙◌}
+use Rattle.std.proofs.lemmas.Bool.{false≢true}
 use Rattle.std.proofs.lemmas.List.{map-append}
 use Rattle.bz_base.specs.Answer.{Answer, reading}
 use Rattle.bz_base.specs.Refusals.{IsFailure}
@@ -15,13 +16,14 @@ use Rattle.bz_cache.specs.Format.{FailsAs}
 use Rattle.bz_proc.specs.Maps.{Mapping, Name, name_of, owner_of}
 use Rattle.bz_proc.specs.declared.maps.PathName.{PathName}
 use Rattle.bz_process.specs.Dispatch.{Answers, IsSaid, Keeps, SaysKept, Test, kept_for}
-use Rattle.bz_process.specs.Mapped.{AsksProcess, AsksProcessAt, asks_process, asks_process_at, some_mappings}
+use Rattle.bz_process.specs.Mapped.{AreByMappings, AsksProcess, AsksProcessAt, IsByMappings, asks_process, asks_process_at, some_mappings}
 use Rattle.bz_process.specs.Member.{Member, as_member}
 use Rattle.bz_process.specs.Process.{Said, at_address, at_addresses, batched, by_mapping, by_owner, by_said, followed, offset_in, unsaid}
 use Rattle.bz_process.specs.ProcessAsk.{AddsAmong, AreAllowed, GivesNone, IsAdded, IsSaidAt, IsSaidBy, IsSaidIn, SaidInTurn, come_to, next_of}
 use Rattle.bz_process.specs.ProcessCall.{HasOutcome, TakesStep, UnlessFailed}
 use Rattle.bz_process.specs.Asked.{Asked}
 use Rattle.bz_process.specs.Caches.{ProcessCaches}
+use Rattle.bz_process.specs.Untold.{SomeAtAddress, SomeAtAddresses}
 use Rattle.bz_process.proofs.AskLemmas.{comes_failed, left_failed}
 
 -- kept answers stay allowed, as each that is added is
@@ -70,6 +72,10 @@ step_of_all files reading asked known front rest (Err e) old now before after al
   looked = step.looked;
 }
 
+-- where nothing is left, all were in front
+all_in_front : (front rest addrs : List ℕ) → front ++ rest ≡ addrs → rest ≡ [] → front ≡ addrs
+all_in_front front rest addrs are none = sym (append-nil front) ∙ ap (λ (later : List ℕ). front ++ later) (sym none) ∙ are
+
 module _ {R : Type 0} (test : Test R) (translates : Translates R) (finds : Finds R) (opts : FindSymOpts) (none : GivesNone test) where
   none_kept : (offset : Option ℕ) (kept : Option (Option R)) (said : Said) → ((answer : Option R) → kept ≡ Some answer → (member : Member) × test member (Ok answer)) →
       SaysKept test translates finds opts offset kept said → said ≡ None
@@ -115,6 +121,25 @@ module _ {R : Type 0} (test : Test R) (translates : Translates R) (finds : Finds
       ∙ ap (map unsaid) asks.addrs_are in
       subst (λ (xs : List (ℕ × Said)). TakesStep files asked.own reading (asks_process asked known xs) result old now before after) items
       (step_of_all files reading asked known asks.front asks.rest result old now before after asks.all asks.step)
+
+  -- and whatever is told, its answers are by some mappings
+  pub by_mappings : {A X : Type 0} (files : Ghosts X) (reading : A → List Answer) (asked : Asked) (known : Option (List Mapping)) (addrs : List ℕ) (result : Result A Error) (old now : ProcessCaches) (answers answers_now : Answers R) (before after : X) →
+      AreAllowed test answers → AsksProcess files reading test translates finds opts asked known addrs result old now answers answers_now before after →
+      IfOk result (λ given. AreByMappings asked known addrs (reading given) old now)
+  by_mappings files reading asked known addrs (Err e) old now answers answers_now before after allowed asks = tt
+  by_mappings files reading asked known addrs (Ok given) old now answers answers_now before after allowed asks =
+      let still : AreAllowed test answers_now = allowed_after test asks.mappings (come_to asks.front asks.rest) answers answers_now allowed asks.adds in
+      let items : asks.front ≡ map unsaid addrs =
+      unsaid_all asks.mappings answers answers_now asks.front still asks.allowed
+      ∙ ap (map unsaid) (all_in_front (map (λ (item : ℕ × Said). item.0) asks.front) asks.rest addrs asks.addrs_are asks.all) in
+      elim asks.used [
+        | inl used ↦ record {
+          mappings = asks.mappings;
+          used = used.0;
+          some = subst (λ (xs : List (ℕ × Said)). SomeAtAddresses asked asks.mappings xs (reading given) old now) items used.1;
+        }
+        | inr refused ↦ absurd (false≢true refused.refused)
+      ]
 
 -- where nothing is said, no fewer files are read
 module _ (asked : Asked) (addr : ℕ) (said : Said) (world : World) (kept : ProcessCaches) where
@@ -178,3 +203,20 @@ module _ {R : Type 0} (test : Test R) (translates : Translates R) (finds : Finds
         by_result (Err errors.ReadFault) said step = failed_so errors.ReadFault asks.said tt step
         by_result (Err errors.OutOfMemory) said step = failed_so errors.OutOfMemory asks.said tt step
         by_result (Err _) said step = nothing (Err _) said step
+
+    -- and whatever is told, its answer is by some mappings
+    pub by_mappings_at : (result : Result Symbolized Error) (answers answers_now : Answers R) → AreAllowed test answers →
+        AsksProcessAt files reading test translates finds opts asked known addr result old now answers answers_now before after →
+        IfOk result (λ given. IsByMappings asked known addr (reading given) old now)
+    by_mappings_at (Err e) answers answers_now allowed asks = tt
+    by_mappings_at (Ok given) answers answers_now allowed asks =
+        let still : AreAllowed test answers_now = allowed_after test asks.mappings (addr ∷ []) answers answers_now allowed asks.adds in
+        let nothing : asks.said ≡ None = none_by test translates finds opts none (owner_of asks.mappings addr) addr answers answers_now asks.said still asks.allowed in
+        elim asks.used [
+          | inl used ↦ record {
+            mappings = asks.mappings;
+            used = used.0;
+            some = subst (λ (said : Said). SomeAtAddress asked (Ok (reading given)) old now asks.mappings (addr, said)) nothing used.1;
+          }
+          | inr refused ↦ absurd (false≢true refused.refused)
+        ]

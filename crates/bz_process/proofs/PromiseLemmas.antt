@@ -14,7 +14,7 @@ use Rattle.bz_process.specs.Dispatch.{Test}
 use Rattle.bz_process.specs.Mapped.{AsksProcess, AsksProcessAt}
 use Rattle.bz_process.specs.ProcessAsk.{come_to, readings}
 use Rattle.bz_process.specs.Processes.{AreWellKept, KeptProcesses, SymbolizesAddress, SymbolizesProcess, caches_of, is_in_process, kept_mappings}
-use Rattle.bz_process.proofs.NobodyLemmas.{allowed_after, nobody_said, nobody_said_at}
+use Rattle.bz_process.proofs.NobodyLemmas.{allowed_after, by_mappings, by_mappings_at, nobody_said, nobody_said_at}
 
 module _ {D R X : Type 0} (files : Ghosts X) (test : Test R) (translates : Translates R) (finds : Finds R) (opts : FindSymOpts) (asked : Asked) (kind : AddressKind)
     (elf elf_now : Cache) (old now : KeptProcesses D R) (before after : X) where
@@ -28,6 +28,7 @@ module _ {D R X : Type 0} (files : Ghosts X) (test : Test R) (translates : Trans
       untaken = λ not. cc (sym taken ∙ not);
       asks = λ t. asks;
       exact = λ none t. nobody_said test translates finds opts none files readings asked (kept_mappings old asked.pid) addrs result (caches_of elf old) (caches_of elf_now now) old.answers now.answers before after well.answers asks;
+      some = λ none t. by_mappings test translates finds opts none files readings asked (kept_mappings old asked.pid) addrs result (caches_of elf old) (caches_of elf_now now) old.answers now.answers before after well.answers asks;
       mappings = mappings;
       dispatcher = dispatcher;
     }
@@ -50,6 +51,7 @@ module _ {D R X : Type 0} (files : Ghosts X) (test : Test R) (translates : Trans
       untaken = λ not. cc (sym taken ∙ not);
       asks = λ t. asks;
       exact = λ none t. nobody_said_at test translates finds opts none files asked (kept_mappings old asked.pid) addr (caches_of elf old) (caches_of elf_now now) before after result old.answers now.answers well.answers asks;
+      some = λ none t. by_mappings_at test translates finds opts none files asked (kept_mappings old asked.pid) addr (caches_of elf old) (caches_of elf_now now) before after result old.answers now.answers well.answers asks;
       mappings = mappings;
       dispatcher = dispatcher;
     }

@@ -22,7 +22,7 @@ use Rattle.bz_process.specs.ProcessCall.{TakesStep, UnlessFailed}
 use Rattle.bz_process.specs.Asked.{Asked}
 use Rattle.bz_process.specs.Caches.{ProcessCaches}
 use Rattle.bz_process.specs.Terms.{KeptToAnswer, Terms}
-use Rattle.bz_process.specs.Untold.{SaysNoFault, SomeAtAddress, SomeBatch, as_read}
+use Rattle.bz_process.specs.Untold.{SaysNoFault, SomeAtAddress, SomeAtAddresses, SomeBatch, as_read}
 
 -- what a text at a path tells
 abbrev pub of_text : {B : Type 0} → (Option Entry → Result B Error) → List ℕ → Step B
@@ -77,6 +77,19 @@ pub record RefusedUnmapped {A R : Type 0} (kept : Option (List Mapping)) (result
 -- whatever is told: the call went by these mappings, and what it did follows from them, or it was refused before it had any
 abbrev pub UsesMappings : {A R : Type 0} → Type 0 → Pid → Option (List Mapping) → List Mapping → Result A Error → ProcessCaches → ProcessCaches → Answers R → Answers R → Type 0
 UsesMappings Follows pid kept mappings result old now answers answers_now = (AreUsed pid kept mappings × Follows) ⊎ RefusedUnmapped kept result old now answers answers_now
+
+-- whatever is told, a process with nobody in charge gave these answers: by the kept mappings, or else those of some text, and each
+-- by some version that a look gave, or refused as a look is
+pub record AreByMappings (asked : Asked) (kept : Option (List Mapping)) (addrs : List ℕ) (answers : List Answer) (old now : ProcessCaches) : Type 0 where
+  pub mappings : List Mapping
+  pub used : AreUsed asked.pid kept mappings
+  pub some : SomeAtAddresses asked mappings (map unsaid addrs) answers old now
+
+-- and for an address alone
+pub record IsByMappings (asked : Asked) (kept : Option (List Mapping)) (addr : ℕ) (answer : Answer) (old now : ProcessCaches) : Type 0 where
+  pub mappings : List Mapping
+  pub used : AreUsed asked.pid kept mappings
+  pub some : SomeAtAddress asked (Ok answer) old now mappings (unsaid addr)
 
 -- all that is asked of a process: its mappings, and the addresses one after another
 abbrev pub asks_process : Asked → Option (List Mapping) → List (ℕ × Said) → Step (List Answer)

@@ -27,13 +27,13 @@ abbrev pub left_to_read : Pid → World → List (List ℕ) → List (List ℕ) 
 left_to_read pid world elf_paths perf_paths kept =
     unkept world kept.elf elf_paths + (unkept world kept.perf_maps perf_paths + count_of (not (is_some (value_at pid_cmp kept.ids pid))))
 
--- the perf map of what is remembered of a process, or would be
+-- the perf map of what is remembered of a process, or would be remembered of it
 abbrev pub perf_path : Result Remembered Error → List (List ℕ)
 perf_path (Ok known) = known.perf_map ∷ []
 perf_path (Err e) = []
 
 -- how many files a call may read once, where mapped files are at these paths: those left to read. The text of the mappings counts
--- too, if none are known
+-- too, if none are kept
 abbrev pub reads_once : Asked → World → List (List ℕ) → Option (List Mapping) → ProcessCaches → ℕ
 reads_once asked world paths known kept =
     count_of (not (is_some known)) + left_to_read asked.pid world paths (perf_path (remember asked.pid asked.own world kept).answer) kept

@@ -9,13 +9,13 @@ pub mod caching_laws;
 mod dispatch;
 mod dispatching;
 mod forgetting;
-mod known;
 pub mod laws;
 mod mapped;
 mod mapped_file;
 mod perf_maps;
 mod processes;
 mod query;
+mod remembered;
 
 pub use caching::ProcessCaching;
 pub use dispatch::{NoDispatch, ProcessDispatch, ProcessMemberInfo};

@@ -111,8 +111,8 @@ fn loaded_at(file: &ElfFile, offset: Option<u64>) -> Result<Option<Addr>>
     }
 }
 
-/// What an ELF file says of an address as its symbol table has it. A symbol's module is the path. It is
-/// always Ok, and the texts are lent.
+/// What an ELF file says of an address as its symbol table has it. A symbol's module is the path. The
+/// answer is always Ok, and its texts are lent.
 pub fn elf_answer_at<'a>(
     alloc: Global,
     file: &'a ElfFile,

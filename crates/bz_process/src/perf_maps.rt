@@ -19,8 +19,8 @@ ghost use Rattle.bz_process.specs.Process.{and_then, asks_perf_map, by_asked, by
 ghost use Rattle.bz_process.specs.ProcessCall.{StepsPerfMaps, softened};
 ghost use Rattle.bz_process.specs.Untold.{IsKnown, LooksAtPerfMap, LooksSoftly, MayLackId, SomeByAsked, as_read};
 
-use crate::known::Known;
 use crate::query::ProcessQuery;
+use crate::remembered::RememberedProcess;
 use bz_base::{Addr, Error, FindSymOpts, Pid, Reason, Result, Symbolize, Symbolized};
 use bz_cache::{FileCache, InsertMap, owned_answer};
 use bz_files::Files;
@@ -33,7 +33,7 @@ pub(crate) struct PerfMaps {
     /// The perf maps.
     pub(crate) files: FileCache<PerfMap>,
     /// What is remembered of each process.
-    pub(crate) ids: InsertMap<Pid, Known>,
+    pub(crate) ids: InsertMap<Pid, RememberedProcess>,
 }
 
 impl PerfMaps {
@@ -91,7 +91,7 @@ impl PerfMaps {
         alloc: Global,
         files: &mut F,
         pid: Pid,
-    ) -> Result<Known>
+    ) -> Result<RememberedProcess>
         ensures step { StepsPerfMaps F.Files (F.pid files.old) (λ known. known) (remember pid (F.pid files.old)) result self.old self.new files.old files.new }
         ensures ok { IfOk result (λ known. self.new ≡ record self.old { ids = with_absent pid_cmp self.old.ids pid known }) }
         ensures err { OnErr result (self.new ≡ self.old) }
@@ -105,7 +105,12 @@ impl PerfMaps {
     }
 
     // Remembers a process by its status.
-    fn remember<F: Files>(&mut self, alloc: Global, files: &mut F, pid: Pid) -> Result<Known>
+    fn remember<F: Files>(
+        &mut self,
+        alloc: Global,
+        files: &mut F,
+        pid: Pid,
+    ) -> Result<RememberedProcess>
         requires { value_at pid_cmp self.old.ids pid ≡ None }
         ensures step { StepsPerfMaps F.Files (F.pid files.old) (λ known. known) (remember pid (F.pid files.old)) result self.old self.new files.old files.new }
         ensures ok { IfOk result (λ known. self.new ≡ record self.old { ids = with_absent pid_cmp self.old.ids pid known }) }
@@ -121,7 +126,7 @@ impl PerfMaps {
 }
 
 // What the status of a process tells to be remembered.
-fn read_known<F: Files>(alloc: Global, files: &mut F, pid: Pid) -> Result<Known>
+fn read_known<F: Files>(alloc: Global, files: &mut F, pid: Pid) -> Result<RememberedProcess>
     ensures answer { Told (in_view (F.worlds files.old)) (λ world. GivesOrFaults (λ known. known.id) (ns_tgid_of pid (F.pid files.old) (entry_at world (status_path pid))) result) }
     ensures known { IfOk result (λ known. known ≡ remembered pid (F.pid files.old) known.id) }
     ensures some { IfOk result (λ known. IsOfStatus pid (F.pid files.old) known.id) }
@@ -133,7 +138,7 @@ fn read_known<F: Files>(alloc: Global, files: &mut F, pid: Pid) -> Result<Known>
     let own = files.own_pid();
     let id = PerfMap::ns_tgid(alloc, files, pid)?;
     let path = PerfMap::path(alloc, pid, own, id)?;
-    Known::new(alloc, id, path)
+    RememberedProcess::new(alloc, id, path)
 }
 
 // The answer of the perf map at the path.

@@ -169,6 +169,7 @@ module _ {A R X : Type 0} (files : Ghosts X) (reading : A → List Answer) (test
       untaken = λ other. let refused = process.untaken other in (refusal_read reading errors.Unsupported (Ok given) refused.0, refused.1, refused.2, refused.3);
       asks = λ taken. asks_read _ (Ok given) _ _ _ _ (process.asks taken);
       exact = λ none taken. step_read reading files asked.own _ (Ok given) _ _ before after (process.exact none taken);
+      some = λ none taken. process.some none taken;
       mappings = process.mappings;
       dispatcher = process.dispatcher;
     }
@@ -176,6 +177,7 @@ module _ {A R X : Type 0} (files : Ghosts X) (reading : A → List Answer) (test
       untaken = λ other. let refused = process.untaken other in (refusal_read reading errors.Unsupported (Err e) refused.0, refused.1, refused.2, refused.3);
       asks = λ taken. asks_read _ (Err e) _ _ _ _ (process.asks taken);
       exact = λ none taken. step_read reading files asked.own _ (Err e) _ _ before after (process.exact none taken);
+      some = λ none taken. process.some none taken;
       mappings = process.mappings;
       dispatcher = process.dispatcher;
     }

@@ -52,6 +52,7 @@ module _ {D R X : Type 0} (files : Ghosts X) (test : Test R) (translates : Trans
       step = undone files before asked.own _ _;
     };
     exact = λ none taken. undone files before asked.own _ _;
+    some = λ none taken. tt;
     mappings = refl;
     dispatcher = refl;
   }
@@ -62,6 +63,7 @@ module _ {D R X : Type 0} (files : Ghosts X) (test : Test R) (translates : Trans
     untaken = λ _. (refl, refl, refl, refl);
     asks = λ taken. cc (other, taken);
     exact = λ none taken. cc (other, taken);
+    some = λ none taken. tt;
     mappings = refl;
     dispatcher = refl;
   }

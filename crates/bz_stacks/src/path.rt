@@ -10,7 +10,7 @@ use bz_base::{Error, InlinedFn, Result, Symbolized};
 use std::alloc::Global;
 
 /// The path of a stack with these answers: all its frames with a `;` between each two.
-pub fn path_of(alloc: Global, answers: &[Symbolized<'_>]) -> Result<Vec<u8>>
+pub(crate) fn path_of(alloc: Global, answers: &[Symbolized<'_>]) -> Result<Vec<u8>>
     ensures ok { IfOk result (λ path. path.items ≡ path_of (map reading answers.now)) }
     ensures memory { IsOkUnless result Error.OutOfMemory }
 {

@@ -12,7 +12,7 @@ use std::alloc::Global;
 use std::collections::BTreeMap;
 
 /// A line for each path, in the order of the map.
-pub fn text_of(alloc: Global, sums: &BTreeMap<Vec<u8>, u64>) -> Result<Vec<u8>>
+pub(crate) fn text_of(alloc: Global, sums: &BTreeMap<Vec<u8>, u64>) -> Result<Vec<u8>>
     ensures ok { IfOk result (λ text. text.items ≡ lines_of sums.now.entries) }
     ensures memory { IsOkUnless result Error.OutOfMemory }
 {

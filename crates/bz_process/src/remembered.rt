@@ -11,12 +11,12 @@ use std::rc::Rc;
 /// What is remembered of a process: the id by which it knows itself, and the path of its perf map.
 /// It may be shared.
 #[derive(Drop)]
-pub(crate) struct Known {
+pub(crate) struct RememberedProcess {
     id: u32,
     perf_map: Rc<String>,
 }
 
-impl Model for Known {
+impl Model for RememberedProcess {
     ghost use Rattle.std.specs.Prelude.{string_bytes};
     ghost use Rattle.bz_process.specs.Remembered.{Remembered, coded_remembered};
 
@@ -27,23 +27,23 @@ impl Model for Known {
     ghost view = { λ known. record { id = known.id; perf_map = string_bytes known.perf_map.value } };
 }
 
-impl Known {
+impl RememberedProcess {
     /// What is to be remembered.
-    pub(crate) fn new(alloc: Global, id: u32, perf_map: String) -> Result<Known>
+    pub(crate) fn new(alloc: Global, id: u32, perf_map: String) -> Result<RememberedProcess>
         ensures known { IfOk result (λ known. known ≡ record { id = id; perf_map = string_bytes perf_map }) }
         ensures memory { IsOkUnless result Error.OutOfMemory }
     {
         let perf_map = Rc::new(alloc, perf_map)?;
-        Ok(Known { id, perf_map })
+        Ok(RememberedProcess { id, perf_map })
     }
 
     /// A further handle to the same.
-    pub(crate) fn share(&self) -> Result<Known>
+    pub(crate) fn share(&self) -> Result<RememberedProcess>
         ensures known { IfOk result (λ known. known ≡ self.now) }
         ensures memory { IsOkUnless result Error.OutOfMemory }
     {
         let perf_map = self.perf_map.clone()?;
-        Ok(Known {
+        Ok(RememberedProcess {
             id: self.id,
             perf_map,
         })
