@@ -51,12 +51,12 @@ module _ (stacks : List CountedStack) where
   text_comes expected (Err e) result comes is = rw is (refused_as expected e comes)
 
   -- a text is by the answers of some file
-  text_of_some : (config : Config) (path : List ℕ) (answered : Result (List Answer) Error) (result : Result (Vec ℕ Global) Error) →
-      IfOk answered (λ given. AnswersSome (of_file (Breakpad path) InFile config) (addrs_of stacks) given) → IsFoldOf stacks answered result → IfOk result (λ text. IsSomeText config stacks text.items)
-  text_of_some config path (Ok answers) (Ok text) some is = record { answers = answers; bytes = some.are.0; answers_are = some.are.1; text_is = is.0 }
-  text_of_some config path (Ok answers) (Err e) some is = tt
-  text_of_some config path (Err e) (Ok text) some is = cc
-  text_of_some config path (Err e) (Err f) some is = tt
+  text_of_some : (config : Config) (path : List ℕ) (own : ℕ) (answered : Result (List Answer) Error) (result : Result (Vec ℕ Global) Error) →
+      IfOk answered (λ given. AnswersSome (of_file (Breakpad path) InFile config) own (addrs_of stacks) given) → IsFoldOf stacks answered result → IfOk result (λ text. IsSomeText config stacks text.items)
+  text_of_some config path own (Ok answers) (Ok text) some is = record { answers = answers; bytes = some.are.0; answers_are = some.are.1; text_is = is.0 }
+  text_of_some config path own (Ok answers) (Err e) some is = tt
+  text_of_some config path own (Err e) (Ok text) some is = cc
+  text_of_some config path own (Err e) (Err f) some is = tt
 
   -- and a refusal is that of the call, or memory ran out
   refusal_of_call : (Cause : Error → Type 0) (answered : Result (List Answer) Error) (result : Result (Vec ℕ Global) Error) → IfErr answered (λ e. IsSomeCauseOrFails Cause e) →
@@ -102,8 +102,8 @@ module _ {X : Type 0} (looks : Ghosts X) (path : List ℕ) (config : Config) (st
   -- and whatever the files tell, by some Breakpad file
   pub folds_some : IfOk result (λ text. IsSomeText config stacks text.items)
   folds_some =
-      text_of_some stacks config path answered result
-      (some_from_kept config (addrs_of stacks) read InFile now _ (Breakpad path) source answered of_path (λ refused. refused.0) call.untaken call.kept)
+      text_of_some stacks config path (looks.pid before) answered result
+      (some_from_kept config (addrs_of stacks) read InFile now _ (looks.pid before) (Breakpad path) source answered of_path (λ refused. refused.0) call.untaken call.kept)
       text
 
   -- and a refusal is one that a Breakpad file may have, or something failed

@@ -8,7 +8,7 @@ use Rattle.bz_files.specs.declared.text.TextIn as input_trait
 use Rattle.bz_files.specs.declared.text.TextOut as output_trait
 use Rattle.bz_requests.specs.declared.requests.Config.{Config}
 use Rattle.bz_symq.specs.Outcome.{Outcome}
-use Rattle.bz_symq.specs.Reply.{IsDoneReply, outcome_of}
+use Rattle.bz_symq.specs.Reply.{IsDoneReply, outcome_of, text_of}
 use Rattle.bz_symq.specs.Run.{Ends, Fails, IsNoFailure, IsOrFails}
 use Rattle.bz_symq.specs.Turns.{FailsAtOne, ReadsOneFor}
 use Rattle.bz_symq.specs.Writing.{Finishes}
@@ -41,6 +41,7 @@ module _ {R W F : Type 0} (reads : input_trait.Ghosts R) (writes : output_trait.
       λ bad. (given.input text left).0 (by_reply statuses.Input input_no_failure bad),
       λ bad. rw ((given.input text left).1 bad) at finished.status,
     );
+    named = λ is text left old written. (text_of reply.said, given.named text left (by_reply statuses.Input input_no_failure is), (rw is at (finished.ends old written)).1);
     complete = λ text left world seen is. rw (foldable_is_done path config text world is) at (status text left world seen);
     refuses = λ text left world seen is. rw (refusable_is_refused path config text world is) at (status text left world seen);
     unlooked = turns.unlooked;
@@ -95,6 +96,7 @@ module _ {R W F : Type 0} (reads : input_trait.Ghosts R) (writes : output_trait.
     refusal = λ refused. absurd (never ended statuses.Refused refused_no_failure failed refused);
     usage = λ usage. never ended statuses.Usage usage_no_failure failed usage;
     input = λ text left. (λ bad. absurd (never ended statuses.Input input_no_failure failed bad), λ bad. inr failed);
+    named = λ is. absurd (never ended statuses.Input input_no_failure failed is);
     complete = λ text left world seen is. inr failed;
     refuses = λ text left world seen is. inr failed;
     unlooked = turns.unlooked;

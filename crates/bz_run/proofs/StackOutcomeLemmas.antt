@@ -19,7 +19,7 @@ use Rattle.bz_symq.specs.declared.status.Status.TheVariants as statuses
 use Rattle.bz_symq.proofs.InputTextLemmas.{asks_from_read, bad_from_read}
 use Rattle.bz_symq.proofs.TargetLemmas.{answers_found, answers_given, cause_found, refusal_given}
 use Rattle.bz_stacks.specs.Fold.{addrs_of}
-use Rattle.bz_run.specs.StackOutcome.{answers_in, by_length, by_stacks, by_text, folded_by, stacks_outcome}
+use Rattle.bz_run.specs.StackOutcome.{answers_in, by_stacks, by_text, folded_by, stacks_outcome}
 use Rattle.bz_run.specs.StackRun.{IsFoldable, IsFolded, IsRefusable, IsRefused}
 
 -- the Breakpad file at a path is asked for offsets in it

@@ -10,11 +10,11 @@ use Rattle.bz_stacks.specs.Spelling.{IsStack, stack_in, stacks_in}
 use Rattle.bz_stacks.specs.Stack.{CountedStack}
 use Rattle.bz_stacks.proofs.SpellingLemmas.{stack_agrees}
 use Rattle.bz_symq.proofs.InputTextLemmas.{asks_from_read, bad_from_read, err_from_bad}
-use Rattle.bz_symq.proofs.ReplyLemmas.{input_iff, never_usage, no_failure_from, refused_read}
+use Rattle.bz_symq.proofs.ReplyLemmas.{input_iff, names_bad, never_usage, no_failure_from, refused_read}
 use Rattle.bz_symq.specs.Command.{Breakpad}
 use Rattle.bz_symq.specs.InputText.{IsBadInput, greatest_input}
 use Rattle.bz_symq.specs.Outcome.{Outcome, too_long}
-use Rattle.bz_symq.specs.Reply.{IsInputStatus, IsRefusalReply, Replies, RepliesTo, RepliesUnread, outcome_of}
+use Rattle.bz_symq.specs.Reply.{IsInputStatus, IsLineReply, IsRefusalReply, Replies, RepliesTo, RepliesUnread, outcome_of}
 use Rattle.bz_symq.specs.Targets.{IsSomeFileCause}
 use Rattle.bz_symq.specs.declared.input.ReadStop.{ReadStop}
 use Rattle.bz_symq.specs.declared.input.ReadStop.TheVariants as stops
@@ -58,22 +58,25 @@ module _ (path : List ℕ) (config : Config) where
     -- so the reply to it is the reply to the run
     pub reply_from_input : (left : Option (List ℕ)) (seen : Option World) (result : Result Reply Error) → Told left (λ text. input ≡ text) →
         Told seen (λ world. Replies (by_stacks path config world (stacks_in input)) result) → IfOk result (λ given. IsInputReply config input given) →
-        IfOk result (λ given. IsRefusalReply (IsSomeFileCause (Breakpad path)) given) → IfOk result (λ given. IsInputStatus (stacks_in input) given.status) → RepliesToStacks path config left seen result
-    reply_from_input left seen (Ok reply) whole replies answered named status = record {
+        IfOk result (λ given. IsRefusalReply (IsSomeFileCause (Breakpad path)) given) → IfOk result (λ given. IsInputStatus (stacks_in input) given.status) →
+        IfOk result (λ given. IsLineReply (stacks_in input) given) → RepliesToStacks path config left seen result
+    reply_from_input left seen (Ok reply) whole replies answered refusal status line = record {
       reply = λ text told world sees. subst (λ expected. Replies expected (Ok reply)) (outcome_read text world (whole text told)) (replies world sees);
       answered = λ text told. rw (← whole text told) (run_from_input reply answered);
-      refusal = λ text told. rw (← whole text told) (run_refusal reply status named);
+      refusal = λ text told. rw (← whole text told) (run_refusal reply status refusal);
       no_failure = no_failure_from (stacks_in input) reply.status status;
       usage = λ is. never_usage (stacks_in input) reply.status status is;
       input = λ text told. rw (← whole text told) (bad_iff reply.status status);
+      named = λ text told. rw (← whole text told) (names_bad stack_in IsStack stack_agrees input reply (stacks_in input) short refl status line);
     }
-    reply_from_input left seen (Err e) whole replies answered named status = record {
+    reply_from_input left seen (Err e) whole replies answered refusal status line = record {
       reply = λ text told world sees. subst (λ expected. Replies expected (Err e)) (outcome_read text world (whole text told)) (replies world sees);
       answered = λ text told. tt;
       refusal = λ text told. tt;
       no_failure = tt;
       usage = tt;
       input = λ text told. tt;
+      named = λ text told. tt;
     }
 
   -- the reply to an input that is too long
@@ -88,6 +91,7 @@ module _ (path : List ℕ) (config : Config) where
         no_failure = (λ other. cc, λ other. cc);
         usage = λ other. cc;
         input = λ text told. (λ _. inl (long text told), λ _. status);
+        named = λ text told bad. inl (long text told, ap (λ (o : Outcome). o.text) is);
       }
 
   -- and to one that wasn't read for another reason
@@ -95,5 +99,7 @@ module _ (path : List ℕ) (config : Config) where
       Told left (λ text. IsErrOf {T = A} (Err stop) stops.TooLong → greatest_input < length text) → RepliesToStacks path config left seen result
   reply_from_unread left seen stops.TooLong (Ok reply) is long = reply_from_long left seen reply (λ text told. long text told refl) is
   reply_from_unread left seen stops.TooLong (Err e) is long = absurd is
-  reply_from_unread left seen stops.Fault result is long = rw is (record { reply = λ text told world sees. tt; answered = λ text told. tt; refusal = λ text told. tt; no_failure = tt; usage = tt; input = λ text told. tt })
-  reply_from_unread left seen stops.Memory result is long = rw is (record { reply = λ text told world sees. tt; answered = λ text told. tt; refusal = λ text told. tt; no_failure = tt; usage = tt; input = λ text told. tt })
+  reply_from_unread left seen stops.Fault result is long =
+      rw is (record { reply = λ text told world sees. tt; answered = λ text told. tt; refusal = λ text told. tt; no_failure = tt; usage = tt; input = λ text told. tt; named = λ text told. tt })
+  reply_from_unread left seen stops.Memory result is long =
+      rw is (record { reply = λ text told world sees. tt; answered = λ text told. tt; refusal = λ text told. tt; no_failure = tt; usage = tt; input = λ text told. tt; named = λ text told. tt })

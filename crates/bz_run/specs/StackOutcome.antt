@@ -1,5 +1,5 @@
 -- What a run over an input of stacks writes and ends with where nothing fails: a function of path, settings, input and world.
-use Rattle.std.specs.Prelude.{ℕ, Bool, true, false, nat_lt, List, length, Result, Ok, Err}
+use Rattle.std.specs.Prelude.{ℕ, List, Result, Ok, Err}
 use Rattle.bz_base.specs.Answer.{Answer}
 use Rattle.bz_base.specs.declared.error.Error.{Error}
 use Rattle.bz_files.specs.World.{World, entry_at}
@@ -8,7 +8,7 @@ use Rattle.bz_stacks.specs.Spelling.{stacks_in}
 use Rattle.bz_stacks.specs.Stack.{CountedStack}
 use Rattle.bz_stacks.specs.Text.{folded_text}
 use Rattle.bz_symbolize.specs.Lookup.{breakpad_answer, fresh_answer}
-use Rattle.bz_symq.specs.InputText.{greatest_input}
+use Rattle.bz_symq.specs.InputText.{by_length}
 use Rattle.bz_symq.specs.Kept.{opts_in}
 use Rattle.bz_symq.specs.Outcome.{Outcome, bad_line, refused, too_long}
 use Rattle.bz_symq.specs.declared.status.Status.TheVariants as statuses
@@ -33,11 +33,6 @@ abbrev pub by_stacks : List ℕ → Config → World → Result (List CountedSta
 by_stacks path config world (Ok stacks) = by_text (folded_by stacks (answers_in path config world stacks))
 by_stacks path config world (Err n) = bad_line n
 
--- an input that is too long is named as such, before its lines are read
-abbrev pub by_length : List ℕ → Config → List ℕ → World → Bool → Outcome
-by_length path config text world true = too_long
-by_length path config text world false = by_stacks path config world (stacks_in text)
-
 -- the whole input comes first, then the file
 abbrev pub stacks_outcome : List ℕ → Config → List ℕ → World → Outcome
-stacks_outcome path config text world = by_length path config text world (nat_lt greatest_input (length text))
+stacks_outcome path config text world = by_length text too_long (by_stacks path config world (stacks_in text))

@@ -12,7 +12,7 @@ use Rattle.bz_symbolize.specs.Promise.{IsBreakpadBatch}
 use Rattle.bz_symq.specs.Command.{Breakpad}
 use Rattle.bz_symq.specs.InputText.{AsksFor, IsBadInput, IsReadWhole, MovesAtMost, greatest_input}
 use Rattle.bz_symq.specs.Kept.{opts_in}
-use Rattle.bz_symq.specs.Reply.{IsSomeRefusal, Replies, text_of}
+use Rattle.bz_symq.specs.Reply.{IsBadReply, IsSomeRefusal, Replies, text_of}
 use Rattle.bz_symq.specs.Run.{IsNoFailure}
 use Rattle.bz_symq.specs.Targets.{IsSomeFileCause}
 use Rattle.bz_symq.specs.declared.reply.Reply.{Reply}
@@ -57,6 +57,8 @@ pub record RepliesToStacks (path : List ℕ) (config : Config) (left : Option (L
   -- status 2 is for words that give no command, and the input alone decides on status 3
   pub usage : IfOk result (λ given. given.status ≢ statuses.Usage)
   pub input : Told left (λ text. IfOk result (λ given. (given.status ≡ statuses.Input) ↔ IsBadInput IsStack text))
+  -- and a reply of status 3 names what is bad of the input
+  pub named : Told left (λ text. IfOk result (λ given. IsBadReply IsStack text given))
 
 -- a reply was to be made: the input comes first, then the file
 pub record TakesTurns {R F : Type 0} (reads : input_trait.Ghosts R) (result : Result Reply Error) (input_before input_after : R) (files_before files_after : F) : Type 0 where

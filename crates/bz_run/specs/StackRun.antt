@@ -20,7 +20,7 @@ use Rattle.bz_symq.specs.Command.{Breakpad}
 use Rattle.bz_symq.specs.InputText.{AsksFor, IsBadInput, IsReadWhole, MovesAtMost, greatest_input}
 use Rattle.bz_symq.specs.Kept.{opts_in}
 use Rattle.bz_symq.specs.Outcome.{refused}
-use Rattle.bz_symq.specs.Run.{Ends, Fails, IsNoFailure, IsOrFails}
+use Rattle.bz_symq.specs.Run.{Ends, Fails, IsBadNamed, IsNoFailure, IsOrFails}
 use Rattle.bz_symq.specs.Targets.{HasFile, IsFileCause, IsRefusalOf, IsSomeFileCause}
 use Rattle.bz_symq.specs.declared.status.Status.{Status}
 use Rattle.bz_symq.specs.declared.status.Status.TheVariants as statuses
@@ -94,6 +94,9 @@ pub record RunsStacks {R W F : Type 0} (reads : input_trait.Ghosts R) (writes : 
   -- status 2 is for words that give no command, and the input alone decides on status 3
   pub usage : ended ≢ statuses.Usage
   pub input : Told (reads.left input_before) (λ text. (ended ≡ statuses.Input → IsBadInput IsStack text) × (IsBadInput IsStack text → IsOrFails statuses.Input ended))
+  -- and whatever the files tell, status 3 means that what was written names what is bad of the input
+  pub named : ended ≡ statuses.Input → Told (reads.left input_before) (λ text. Told (writes.written output_before) (λ old.
+      IsBadNamed IsStack text old (writes.written output_after)))
   -- stacks are folded where a Breakpad file lies at the path, unless something fails or memory runs out
   pub complete : Told (reads.left input_before) (λ text. Told (in_view (looks.worlds files_before)) (λ world.
       IsFoldable path text world → IsOrFails statuses.Done ended))

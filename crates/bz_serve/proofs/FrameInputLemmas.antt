@@ -1,5 +1,5 @@
 -- What an input of frames asks for, when it is bad, and what a run over it comes to.
-use Rattle.std.proofs.Common.{◌≡◌, ◌⊎◌, ◌↔◌, ◌≤◌, ◌<◌, ℕ, Bool, true, false, List, length, Option, Result, Ok, Err, IsErr, refl, sym, ap, ◌∙◌, inl, inr, ltb, arith}
+use Rattle.std.proofs.Common.{◌≡◌, ◌⊎◌, ◌↔◌, ◌≤◌, ◌<◌, ℕ, Bool, true, false, List, length, Option, Result, Ok, Err, IsErr, cond, refl, sym, ap, ◌∙◌, inl, inr, ltb, arith}
 use Rattle.std.proofs.lemmas.Bool.{false≢true, le-ltb, lt-ltb, ltb-false}
 use Rattle.bz_base.specs.declared.types.FindSymOpts.{FindSymOpts}
 use Rattle.bz_files.specs.World.{World}
@@ -7,7 +7,7 @@ use Rattle.bz_requests.proofs.LineGrammarLemmas.{first_bad_found}
 use Rattle.bz_store.specs.Frames.{Frame}
 use Rattle.bz_symq.proofs.InputTextLemmas.{asks_from_read, err_from_bad}
 use Rattle.bz_symq.specs.InputText.{IsBadInput, greatest_input}
-use Rattle.bz_symq.specs.Outcome.{Outcome, too_long}
+use Rattle.bz_symq.specs.Outcome.{Outcome, NamesBad, too_long}
 use Rattle.bz_symq.specs.Reply.{text_of}
 use Rattle.bz_symq.specs.Run.{Ends}
 use Rattle.bz_symq.specs.declared.reply.Reply.{Reply}
@@ -16,7 +16,7 @@ use Rattle.bz_symq.specs.declared.status.Status.TheVariants as statuses
 use Rattle.bz_serve.proofs.FrameLemmas.{frame_agrees}
 use Rattle.bz_serve.specs.FrameLines.{IsFrame, frame_in, frames_in}
 use Rattle.bz_serve.specs.FrameReply.{IsFrameStatus, IsFramesReply, by_frames}
-use Rattle.bz_serve.specs.FrameRun.{AreAnswered, NamesBad, by_length, frames_outcome}
+use Rattle.bz_serve.specs.FrameRun.{AreAnswered, frames_outcome}
 use Rattle.bz_serve.specs.FrameTurns.{IsRunReply}
 
 module _ (text : List ℕ) (short : length text ≤ greatest_input) where
@@ -42,7 +42,7 @@ module _ (text : List ℕ) (short : length text ≤ greatest_input) where
 
   -- which names the line that is bad
   pub bad_read : (root : List ℕ) (opts : FindSymOpts) (asked : Result (List Frame) ℕ) (opens_before opens_after : ℕ) → frames_in text ≡ asked → (reply : Reply) → IsFrameStatus asked reply.status →
-      IsFramesReply root opts asked opens_before opens_after reply → reply.status ≡ statuses.Input → NamesBad text (text_of reply.said)
+      IsFramesReply root opts asked opens_before opens_after reply → reply.status ≡ statuses.Input → NamesBad IsFrame text (text_of reply.said)
   bad_read root opts (Ok frames) opens_before opens_after is reply status found input = let never : statuses.Done ≡ statuses.Input = sym status ∙ input in cc
   bad_read root opts (Err n) opens_before opens_after is reply status named input =
       inr (short, (n, first_bad_found frame_in IsFrame frame_agrees text n is, ap (λ (o : Outcome). o.text) named))
@@ -69,7 +69,7 @@ module _ (world : World) (root : List ℕ) (opts : FindSymOpts) where
   }
   answered_by text old new short (Err n) is ends = let never : statuses.Input ≡ statuses.Done = ends.0 in cc
 
-  answered_of : (text old : List ℕ) (new : Option (List ℕ)) (long : Bool) → ltb greatest_input (length text) ≡ long → Ends (by_length world root opts text long) old statuses.Done new →
+  answered_of : (text old : List ℕ) (new : Option (List ℕ)) (long : Bool) → ltb greatest_input (length text) ≡ long → Ends (cond long too_long (by_frames world root opts (frames_in text))) old statuses.Done new →
       AreAnswered world root opts text old new
   answered_of text old new true is ends = let never : statuses.Input ≡ statuses.Done = ends.0 in cc
   answered_of text old new false is ends = answered_by text old new (ltb-false _ _ is) (frames_in text) refl ends

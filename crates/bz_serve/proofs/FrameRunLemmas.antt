@@ -12,9 +12,9 @@ use Rattle.bz_symq.proofs.EndLemmas.{IsFailure, done_no_failure, failed_ends, in
 use Rattle.bz_symq.proofs.FaultLemmas.{fails_after, fails_as, fails_before, fault_from_fails, steady_from_fails}
 use Rattle.bz_symq.proofs.InputTextLemmas.{never_bad}
 use Rattle.bz_symq.specs.InputText.{AsksFor}
-use Rattle.bz_symq.specs.Outcome.{Outcome}
+use Rattle.bz_symq.specs.Outcome.{Outcome, NamesBad}
 use Rattle.bz_symq.specs.Reply.{outcome_of, text_of}
-use Rattle.bz_symq.specs.Run.{Ends, Fails, IsNoFailure, IsOrFails}
+use Rattle.bz_symq.specs.Run.{Ends, Fails, IsBadNamed, IsNoFailure, IsOrFails}
 use Rattle.bz_symq.specs.Writing.{Finishes}
 use Rattle.bz_symq.specs.declared.reply.Reply.{Reply}
 use Rattle.bz_symq.specs.declared.status.Status.{Status}
@@ -22,7 +22,7 @@ use Rattle.bz_symq.specs.declared.status.Status.TheVariants as statuses
 use Rattle.bz_serve.proofs.FrameLemmas.{frame_agrees}
 use Rattle.bz_serve.proofs.FrameInputLemmas.{answered_from_ends}
 use Rattle.bz_serve.specs.FrameLines.{IsFrame, frame_in}
-use Rattle.bz_serve.specs.FrameRun.{AreSomeAnswered, NamesBad, RunsFrames, frames_outcome}
+use Rattle.bz_serve.specs.FrameRun.{AreSomeAnswered, RunsFrames, frames_outcome}
 use Rattle.bz_serve.specs.FrameTurns.{IsRunReply, RepliesToInput}
 
 module _ {R W F : Type 0} (reads : input_trait.Ghosts R) (writes : output_trait.Ghosts W) (looks : files_trait.Ghosts F) (root : List ℕ) (opts : FindSymOpts) (ended : Status)
@@ -83,8 +83,8 @@ module _ {R W F : Type 0} (reads : input_trait.Ghosts R) (writes : output_trait.
         written = ended.1 ∙ ap (λ said. Some (old ++ said)) is.said_is;
       }
 
-      named_from : (text old : List ℕ) → Ends (outcome_of reply) old statuses.Input (writes.written output_after) → NamesBad text (text_of reply.said) →
-          (said : List ℕ) × NamesBad text said × (writes.written output_after ≡ Some (old ++ said))
+      named_from : (text old : List ℕ) → Ends (outcome_of reply) old statuses.Input (writes.written output_after) → NamesBad IsFrame text (text_of reply.said) →
+          IsBadNamed IsFrame text old (writes.written output_after)
       named_from text old ended is = (text_of reply.said, is, ended.1)
 
       fails : Fails reads writes looks ended input_before input_after output_before output_after files_before files_after

@@ -15,7 +15,7 @@ use Rattle.bz_symq.proofs.FaultLemmas.{counts_as, counts_still, no_fault}
 use Rattle.bz_symq.proofs.InputTextLemmas.{err_from_bad}
 use Rattle.bz_symq.proofs.ReplyLemmas.{when_given}
 use Rattle.bz_symq.specs.InputText.{IsBadInput, IsReadWhole, MovesAtMost, greatest_input, left_over}
-use Rattle.bz_symq.specs.Outcome.{Outcome, too_long}
+use Rattle.bz_symq.specs.Outcome.{Outcome, NamesBad, too_long}
 use Rattle.bz_symq.specs.Reply.{Replies, RepliesUnread, outcome_of, text_of}
 use Rattle.bz_symq.specs.Run.{IsNoFailure}
 use Rattle.bz_symq.specs.declared.input.ReadStop.{ReadStop}
@@ -26,7 +26,7 @@ use Rattle.bz_serve.proofs.FrameLemmas.{frame_agrees}
 use Rattle.bz_serve.proofs.FrameInputLemmas.{bad_read, either_status, outcome_long, outcome_short, reply_read, status_read}
 use Rattle.bz_serve.specs.FrameLines.{IsFrame, frame_in, frames_in}
 use Rattle.bz_serve.specs.FrameReply.{IsFramesReply, RepliesFrames, frame_count, opens_by}
-use Rattle.bz_serve.specs.FrameRun.{NamesBad, frames_outcome}
+use Rattle.bz_serve.specs.FrameRun.{frames_outcome}
 use Rattle.bz_serve.specs.FrameTurns.{IsRunReply, RepliesToInput}
 
 -- what holds of a given reply, by two things that do
@@ -49,7 +49,7 @@ module _ {R F : Type 0} (reads : input_trait.Ghosts R) (looks : files_trait.Ghos
         (λ given status are done. subst (λ lines. IsRunReply root opts lines (text_of given.said) (looks.opens files_before) (looks.opens files_after)) (whole all left)
         (reply_read text short root opts (frames_in text) _ _ refl given status are done)) replied.status answered;
     named = λ all left. when_both result
-        (λ given status are input. subst (λ lines. NamesBad lines (text_of given.said)) (whole all left) (bad_read text short root opts (frames_in text) _ _ refl given status are input)) replied.status answered;
+        (λ given status are input. subst (λ lines. NamesBad IsFrame lines (text_of given.said)) (whole all left) (bad_read text short root opts (frames_in text) _ _ refl given status are input)) replied.status answered;
     input = λ all left. when_given result (λ given is. subst (λ lines. (given.status ≡ statuses.Input) ↔ IsBadInput IsFrame lines) (whole all left) (status_read text short (frames_in text) refl given.status is)) replied.status;
     opens = λ all left world told. when_given result
         (λ given is done. subst (λ lines. looks.opens files_after ≡ opens_by world root opts (frames_in lines) (looks.opens files_before)) (whole all left) is) (replied.opens world told);

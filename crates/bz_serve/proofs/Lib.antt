@@ -5,9 +5,11 @@ pub mod FrameLemmas
 pub mod FrameRunLemmas
 pub mod FrameTextLemmas
 pub mod FrameTurnLemmas
+pub mod RepliesLemmas
 pub mod RequestBoundLemmas
 pub mod RequestReplyLemmas
 pub mod RequestsLemmas
 pub mod ServeLemmas
 pub mod ServingLoopLemmas
 pub mod SideLemmas
+pub mod SomeReplyLemmas

@@ -15,7 +15,7 @@ use Rattle.bz_serve.specs.Serving.{Serves}
 use Rattle.bz_symq.proofs.EndLemmas.{IsFailure, done_no_failure, failed_ends, input_no_failure, never}
 use Rattle.bz_symq.proofs.FaultLemmas.{counts_as, no_fault}
 use Rattle.bz_symq.specs.InputText.{IsBadInput}
-use Rattle.bz_symq.specs.Reply.{outcome_of}
+use Rattle.bz_symq.specs.Reply.{outcome_of, text_of}
 use Rattle.bz_symq.specs.Run.{Ends, IsNoFailure, IsOrFails}
 use Rattle.bz_symq.specs.Writing.{Finishes}
 use Rattle.bz_symq.specs.declared.reply.Reply.{Reply}
@@ -25,7 +25,7 @@ use Rattle.bz_serve.specs.Asked.{asked_in, outcome_by, reads_by}
 use Rattle.bz_serve.specs.Requests.{ReadsRequests, RunsRequests}
 use Rattle.bz_serve.specs.Sides.{FailsAtOneSide}
 use Rattle.bz_serve.specs.declared.input.Asked.TheVariants as askeds
-use Rattle.bz_serve.proofs.AskedLemmas.{asked_found, bad_again, bad_found}
+use Rattle.bz_serve.proofs.AskedLemmas.{asked_found, bad_again, bad_found, bad_named}
 use Rattle.bz_serve.proofs.SideLemmas.{fails_at_files, fails_at_input, fails_at_output}
 
 -- a status that isn't expected, and is no failure, doesn't come
@@ -52,10 +52,16 @@ module _ {R W F : Type 0} (reads : input_trait.Ghosts R) (writes : output_trait.
       asks = asked_found text _ (sym (given.asked text left));
       written = (rw done at (serves.ends world later told old written)).1;
     };
+    answered = λ done text left old written. record {
+      requests = map request_of requests.items;
+      asks = asked_found text _ (sym (given.asked text left));
+      written = serves.answered done old written;
+    };
     input = λ text left. (
       λ is. absurd (other_status statuses.Done statuses.Input ended (λ same. cc) input_no_failure serves.status is),
       λ bad. absurd (never_bad text _ (sym (given.asked text left)) bad),
     );
+    named = λ is. absurd (other_status statuses.Done statuses.Input ended (λ same. cc) input_no_failure serves.status is);
     status = inr serves.status;
     unlooked = λ text left bad. absurd (never_bad text _ (sym (given.asked text left)) bad);
     read = λ _. given.read;
@@ -87,7 +93,9 @@ module _ {R W F : Type 0} (reads : input_trait.Ghosts R) (writes : output_trait.
     ends = λ text left world later told old written.
         subst (λ asked. Ends (outcome_by config (world ∷ later) (looks.pid files) asked) old ended (writes.written output_after)) (given.asked text left) (finished.ends old written);
     done = λ done. absurd (other_status statuses.Input statuses.Done ended (λ same. cc) done_no_failure status done);
+    answered = λ done. absurd (other_status statuses.Input statuses.Done ended (λ same. cc) done_no_failure status done);
     input = λ text left. (λ is. bad_found text _ (sym (given.asked text left)), λ bad. status);
+    named = λ is text left old written. (text_of reply.said, bad_named text _ (sym (given.asked text left)), (rw is at (finished.ends old written)).1);
     status = by_status status;
     unlooked = λ text left bad. refl;
     read = λ _. given.read;
@@ -116,7 +124,9 @@ module _ {R W F : Type 0} (reads : input_trait.Ghosts R) (writes : output_trait.
   requests_unread error given failed same_fault = record {
     ends = λ text left world later told old written. failed_ends _ old ended _ failed written;
     done = λ done. absurd (never ended statuses.Done done_no_failure failed done);
+    answered = λ done. absurd (never ended statuses.Done done_no_failure failed done);
     input = λ text left. (λ is. absurd (never ended statuses.Input input_no_failure failed is), λ bad. inr failed);
+    named = λ is. absurd (never ended statuses.Input input_no_failure failed is);
     status = inr (inr failed);
     unlooked = λ text left bad. refl;
     read = λ no_failure. absurd (never ended ended no_failure failed refl);

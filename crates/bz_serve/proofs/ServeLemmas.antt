@@ -18,32 +18,35 @@ use Rattle.bz_serve.specs.RequestSteps.{RequestOutcome}
 use Rattle.bz_serve.specs.declared.serving.Stop.{Stop}
 use Rattle.bz_serve.proofs.RequestReplyLemmas.{looked_as}
 
-module _ {W F : Type 0} (writes : output_trait.Ghosts W) (looks : files_trait.Ghosts F) (step : KeptState → World → RequestOutcome) (old now : KeptState)
+module _ {W F : Type 0} (writes : output_trait.Ghosts W) (looks : files_trait.Ghosts F) (step : KeptState → World → RequestOutcome) (MaySay : List ℕ → Type 0) (old now : KeptState)
     (output_before output_after : W) (files_before files_after : F) where
   -- what is said is written, or a front of it
-  pub served_said : (say : Said) (put : Result (Unit {0}) IoFault) (result : Result (Unit {0}) Stop) → Replied looks step (Ok say) old now files_before files_after →
-      WritesText writes (text_of say) put output_before output_after → StopsAs put result → Served writes looks step result old now output_before output_after files_before files_after
-  served_said say (Ok given) result replied wrote is = rw is (record {
+  pub served_said : (say : Said) (put : Result (Unit {0}) IoFault) (result : Result (Unit {0}) Stop) → Replied looks step (Ok say) old now files_before files_after → MaySay (text_of say) →
+      WritesText writes (text_of say) put output_before output_after → StopsAs put result → Served writes looks step MaySay result old now output_before output_after files_before files_after
+  served_said say (Ok given) result replied may wrote is = rw is (record {
     whole = λ world told was written. wrote.whole was written ∙ ap (λ text. Some (was ++ text)) (replied.said world told);
     front = λ world told was written. tt;
+    some = λ was written. (text_of say, may, wrote.whole was written);
     silent = λ world told nothing. wrote.silent (replied.said world told ∙ nothing);
     state = replied.state;
     reads = replied.reads;
     output_faults = counts_as _ _ (λ failed. cc) (λ never. absurd never) wrote.counts;
     looked = replied.looked;
   })
-  served_said say (Err faults.Fault) result replied wrote is = rw is (record {
+  served_said say (Err faults.Fault) result replied may wrote is = rw is (record {
     whole = λ world told was written. tt;
     front = λ world told was written. subst (λ text. WritesFront text was (writes.written output_after)) (replied.said world told) (wrote.front was written);
+    some = λ was written. tt;
     silent = λ world told nothing. wrote.silent (replied.said world told ∙ nothing);
     state = λ world told. tt;
     reads = replied.reads;
     output_faults = counts_as _ _ (λ failed. refl) (λ failed. refl) wrote.counts;
     looked = looked_as looks files_before files_after (λ never. absurd never) (λ other. cc) replied.looked;
   })
-  served_said say (Err faults.OutOfMemory) result replied wrote is = rw is (record {
+  served_said say (Err faults.OutOfMemory) result replied may wrote is = rw is (record {
     whole = λ world told was written. tt;
     front = λ world told was written. subst (λ text. WritesFront text was (writes.written output_after)) (replied.said world told) (wrote.front was written);
+    some = λ was written. tt;
     silent = λ world told nothing. wrote.silent (replied.said world told ∙ nothing);
     state = λ world told. tt;
     reads = replied.reads;
@@ -51,18 +54,19 @@ module _ {W F : Type 0} (writes : output_trait.Ghosts W) (looks : files_trait.Gh
     looked = looked_as looks files_before files_after (λ never. absurd never) (λ other. cc) replied.looked;
   })
 
-module _ {W F : Type 0} (writes : output_trait.Ghosts W) (looks : files_trait.Ghosts F) (step : KeptState → World → RequestOutcome) (old now : KeptState) (output : W) (files_before files_after : F) where
+module _ {W F : Type 0} (writes : output_trait.Ghosts W) (looks : files_trait.Ghosts F) (step : KeptState → World → RequestOutcome) (MaySay : List ℕ → Type 0) (old now : KeptState) (output : W) (files_before files_after : F) where
   front_of_none : (text was : List ℕ) → writes.written output ≡ Some was → WritesFront text was (writes.written output)
   front_of_none text was written = ([], text, refl, written ∙ ap Some (sym (append-nil was)))
 
   -- where nothing is said, nothing is written
-  pub served_failed : (error : Error) → Replied looks step (Err error) old now files_before files_after → Served writes looks step (Err (stop_by error)) old now output output files_before files_after
+  pub served_failed : (error : Error) → Replied looks step (Err error) old now files_before files_after → Served writes looks step MaySay (Err (stop_by error)) old now output output files_before files_after
   served_failed error replied = by_failure replied.failure
     where
-      by_failure : (error ≡ errors.ReadFault) ⊎ (error ≡ errors.OutOfMemory) → Served writes looks step (Err (stop_by error)) old now output output files_before files_after
+      by_failure : (error ≡ errors.ReadFault) ⊎ (error ≡ errors.OutOfMemory) → Served writes looks step MaySay (Err (stop_by error)) old now output output files_before files_after
       by_failure (inl is) = rw is (record {
         whole = λ world told was written. tt;
         front = λ world told was written. front_of_none _ was written;
+        some = λ was written. tt;
         silent = λ world told nothing. refl;
         state = λ world told. tt;
         reads = replied.reads;
@@ -72,6 +76,7 @@ module _ {W F : Type 0} (writes : output_trait.Ghosts W) (looks : files_trait.Gh
       by_failure (inr is) = rw is (record {
         whole = λ world told was written. tt;
         front = λ world told was written. front_of_none _ was written;
+        some = λ was written. tt;
         silent = λ world told nothing. refl;
         state = λ world told. tt;
         reads = replied.reads;

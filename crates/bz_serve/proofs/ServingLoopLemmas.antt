@@ -10,12 +10,14 @@ use Rattle.bz_requests.specs.declared.requests.Config.{Config}
 use Rattle.bz_symq.specs.Run.{WritesFront}
 use Rattle.bz_symq.specs.declared.status.Status.{Status}
 use Rattle.bz_symq.proofs.FaultLemmas.{counts_as, counts_still, no_fault}
-use Rattle.bz_symq.specs.Kept.{KeptState, new_kept, settings_of}
+use Rattle.bz_symq.specs.Kept.{KeptState, new_kept, opts_in, settings_of}
 use Rattle.bz_serve.specs.RequestRuns.{reads_from, seen_first, texts_from, turns, worlds_after}
 use Rattle.bz_serve.specs.Serving.{EndsAs, Served, Serves, ServesAll, ToldWorlds}
 use Rattle.bz_serve.specs.RequestSteps.{RequestOutcome, step as request_step}
+use Rattle.bz_serve.specs.SomeReplies.{MayReply}
 use Rattle.bz_serve.specs.declared.serving.Stop.{Stop}
 use Rattle.bz_serve.specs.declared.serving.Stop.TheVariants as stops
+use Rattle.bz_serve.proofs.RepliesLemmas.{RepliedSoFar, replied_all, replied_more, replied_none}
 
 -- where one world is in view, one still is once the next came into view
 next_seen : (world : World) (later : List World) → next_worlds (world ∷ later) ≡ seen_first (next_worlds (world ∷ later)) ∷ drop 1 (next_worlds (world ∷ later))
@@ -128,12 +130,13 @@ module _ {A : Type 0} (step : A → KeptState → World → RequestOutcome) wher
     pub so_far_few : (opened : ℕ) → opened ≤ opens + (step request state seen).reads → opened ≤ reads
     so_far_few opened counts = fewest opens opened (step request state seen).reads _ reads so_far.few counts
 
-module _ {A W F : Type 0} (writes : output_trait.Ghosts W) (looks : files_trait.Ghosts F) (step : ℕ → A → KeptState → World → RequestOutcome) where
+module _ {A W F : Type 0} (writes : output_trait.Ghosts W) (looks : files_trait.Ghosts F) (step : ℕ → A → KeptState → World → RequestOutcome) (MaySay : A → List ℕ → Type 0) where
   -- so far no request stopped the run
   pub record ServedSoFar (requests left : List A) (start state : KeptState) (output_first output : W) (files_first files : F) : Type 0 where
     pub so_far : ToldWorlds (looks.worlds files_first) (λ worlds.
         SoFar (step (looks.pid files_first)) (texts_from (step (looks.pid files_first)) start (turns requests worlds)) (looks.opens files_first + reads_from (step (looks.pid files_first)) start (turns requests worlds))
         state left (writes.written output_first) (writes.written output) (looks.opens files) (looks.worlds files))
+    pub some : Told (writes.written output_first) (λ was. RepliedSoFar MaySay requests left was (writes.written output))
     pub silent : ToldWorlds (looks.worlds files_first) (λ worlds. texts_from (step (looks.pid files_first)) start (turns requests worlds) ≡ [] → output ≡ output_first)
     pub turned : option_map (worlds_after left) (looks.worlds files) ≡ option_map (worlds_after requests) (looks.worlds files_first)
     pub output_steady : writes.faults output ≡ writes.faults output_first
@@ -150,6 +153,7 @@ module _ {A W F : Type 0} (writes : output_trait.Ghosts W) (looks : files_trait.
       wrote = record { front = []; whole = refl; written = λ was written. written ∙ ap Some (sym (append-nil was)) };
       few = omega arith;
     };
+    some = λ was written. replied_none MaySay requests was (writes.written output) written;
     silent = λ world later told nothing. refl;
     turned = refl;
     output_steady = refl;
@@ -161,11 +165,11 @@ module _ {A W F : Type 0} (writes : output_trait.Ghosts W) (looks : files_trait.
       (so_far : ServedSoFar requests (request ∷ left) start state output_first output files_first files)
       (begins : looks.worlds begun ≡ option_map next_worlds (looks.worlds files)) (same_faults : looks.faults begun ≡ looks.faults files) (same_opens : looks.opens begun ≡ looks.opens files)
       (same_pid : looks.pid begun ≡ looks.pid files) where
-    -- one more
-    pub served_more : {given : Unit {0}} → Served writes looks (step (looks.pid begun) request) (Ok given) state now output output_now begun files_now →
-        ServedSoFar requests left start now output_first output_now files_first files_now
-    served_more {given} served =
-        let one = subst (λ (own : ℕ). Served writes looks (step own request) (Ok given) state now output output_now begun files_now) (same_pid ∙ so_far.pid) served in
+    -- one more, whose text may be said
+    pub served_more : {given : Unit {0}} {MayNow : List ℕ → Type 0} → Served writes looks (step (looks.pid begun) request) MayNow (Ok given) state now output output_now begun files_now →
+        ((text : List ℕ) → MayNow text → MaySay request text) → ServedSoFar requests left start now output_first output_now files_first files_now
+    served_more {given} {MayNow} served may =
+        let one = subst (λ (own : ℕ). Served writes looks (step own request) MayNow (Ok given) state now output output_now begun files_now) (same_pid ∙ so_far.pid) served in
         record {
           so_far = λ world later told.
               let before = so_far.so_far world later told in
@@ -173,6 +177,7 @@ module _ {A W F : Type 0} (writes : output_trait.Ghosts W) (looks : files_trait.
               let more = so_far_more _ _ _ state request left _ _ _ _ (looks.worlds begun) before begins now (writes.written output_now) (looks.opens files_now) (one.whole _ seen_is) (one.state _ seen_is)
               (rw (← same_opens) (one.reads _ seen_is)) in
               rw one.looked.worlds more;
+          some = λ was written. replied_more MaySay requests left request was (writes.written output) (writes.written output_now) (so_far.some was written) (λ old told. let said = one.some old told in (said.0, may said.0 said.1, said.2));
           silent = λ world later told nothing.
               let before = so_far.so_far world later told in
               let seen_is = in_view_is _ _ _ state request left _ _ _ _ (looks.worlds begun) before begins in
@@ -184,16 +189,17 @@ module _ {A W F : Type 0} (writes : output_trait.Ghosts W) (looks : files_trait.
         }
 
     -- it stopped the run
-    pub served_stopped : (stop : Stop) → Served writes looks (step (looks.pid begun) request) (Err stop) state now output output_now begun files_now →
-        ServesAll writes looks step requests (Err stop) start output_first output_now files_first files_now
-    served_stopped stop served =
-        let one = subst (λ (own : ℕ). Served writes looks (step own request) (Err stop) state now output output_now begun files_now) (same_pid ∙ so_far.pid) served in
+    pub served_stopped : {MayNow : List ℕ → Type 0} (stop : Stop) → Served writes looks (step (looks.pid begun) request) MayNow (Err stop) state now output output_now begun files_now →
+        ServesAll writes looks step MaySay requests (Err stop) start output_first output_now files_first files_now
+    served_stopped {MayNow} stop served =
+        let one = subst (λ (own : ℕ). Served writes looks (step own request) MayNow (Err stop) state now output output_now begun files_now) (same_pid ∙ so_far.pid) served in
         record {
           whole = λ world later told was written. tt;
           front = λ world later told.
               let before = so_far.so_far world later told in
               let seen_is = in_view_is _ _ _ state request left _ _ _ _ (looks.worlds begun) before begins in
               so_far_front _ _ _ state request left _ _ _ _ (looks.worlds begun) before begins (writes.written output_now) (one.front _ seen_is);
+          some = λ was written. tt;
           silent = λ world later told nothing.
               let before = so_far.so_far world later told in
               let seen_is = in_view_is _ _ _ state request left _ _ _ _ (looks.worlds begun) before begins in
@@ -210,12 +216,13 @@ module _ {A W F : Type 0} (writes : output_trait.Ghosts W) (looks : files_trait.
 
   -- none is left
   pub served_all : {given : Unit {0}} (requests : List A) (start state : KeptState) (output_first output : W) (files_first files : F) →
-      ServedSoFar requests [] start state output_first output files_first files → ServesAll writes looks step requests (Ok given) start output_first output files_first files
+      ServedSoFar requests [] start state output_first output files_first files → ServesAll writes looks step MaySay requests (Ok given) start output_first output files_first files
   served_all requests start state output_first output files_first files all = record {
     whole = λ world later told was written.
         let wrote = (all.so_far world later told).wrote in
         wrote.written was written ∙ ap (λ text. Some (was ++ text)) (sym (wrote.whole ∙ append-nil wrote.front));
     front = λ world later told was written. tt;
+    some = λ was written. replied_all MaySay requests was (writes.written output) (all.some was written);
     silent = all.silent;
     reads = λ world later told. let few = (all.so_far world later told).few in omega (arith, few);
     turned = turned_none (looks.worlds files) ∙ all.turned;
@@ -225,10 +232,10 @@ module _ {A W F : Type 0} (writes : output_trait.Ghosts W) (looks : files_trait.
   }
 
 -- requests that are gone over by an index, each read as it is told
-module _ {M A W F : Type 0} (writes : output_trait.Ghosts W) (looks : files_trait.Ghosts F) (step : ℕ → A → KeptState → World → RequestOutcome) (read : M → A) (requests : List M) (index : ℕ)
+module _ {M A W F : Type 0} (writes : output_trait.Ghosts W) (looks : files_trait.Ghosts F) (step : ℕ → A → KeptState → World → RequestOutcome) (MaySay : A → List ℕ → Type 0) (read : M → A) (requests : List M) (index : ℕ)
     (start state : KeptState) (output_first output : W) (files_first files : F) where
   abbrev WithLeft : List A → Type 0
-  WithLeft left = ServedSoFar writes looks step (map read requests) left start state output_first output files_first files
+  WithLeft left = ServedSoFar writes looks step MaySay (map read requests) left start state output_first output files_first files
 
   -- the next one is the first of those that are left
   pub next_left : (request : M) → index < length requests → request ≡ get_or requests index request → WithLeft (map read (drop index requests)) → WithLeft (read request ∷ map read (drop (index + 1) requests))
@@ -242,10 +249,11 @@ module _ {M A W F : Type 0} (writes : output_trait.Ghosts W) (looks : files_trai
 module _ {W F : Type 0} (writes : output_trait.Ghosts W) (looks : files_trait.Ghosts F) where
   -- the run ends by what stopped it
   pub serves_from_all : (config : Config) (requests : List Request) (result : Result (Unit {0}) Stop) (ended : Status) (output_before output_after : W) (files_before files_after : F) →
-      ServesAll writes looks (request_step config.map_files) requests result (new_kept (settings_of config)) output_before output_after files_before files_after → EndsAs result ended →
+      ServesAll writes looks (request_step config.map_files) (MayReply (opts_in config)) requests result (new_kept (settings_of config)) output_before output_after files_before files_after → EndsAs result ended →
       Serves writes looks config requests ended output_before output_after files_before files_after
   serves_from_all config requests (Ok given) ended output_before output_after files_before files_after all is = rw is (record {
     ends = λ world later told was written. (refl, all.whole world later told was written);
+    answered = λ _. all.some;
     silent = all.silent;
     status = inl refl;
     reads = all.reads;
@@ -255,6 +263,7 @@ module _ {W F : Type 0} (writes : output_trait.Ghosts W) (looks : files_trait.Gh
   })
   serves_from_all config requests (Err stops.Files) ended output_before output_after files_before files_after all is = rw is (record {
     ends = λ world later told was written. all.front world later told was written;
+    answered = λ other. cc;
     silent = all.silent;
     status = inr (inl refl);
     reads = all.reads;
@@ -264,6 +273,7 @@ module _ {W F : Type 0} (writes : output_trait.Ghosts W) (looks : files_trait.Gh
   })
   serves_from_all config requests (Err stops.Output) ended output_before output_after files_before files_after all is = rw is (record {
     ends = λ world later told was written. all.front world later told was written;
+    answered = λ other. cc;
     silent = all.silent;
     status = inr (inl refl);
     reads = all.reads;
@@ -273,6 +283,7 @@ module _ {W F : Type 0} (writes : output_trait.Ghosts W) (looks : files_trait.Gh
   })
   serves_from_all config requests (Err stops.Memory) ended output_before output_after files_before files_after all is = rw is (record {
     ends = λ world later told was written. all.front world later told was written;
+    answered = λ other. cc;
     silent = all.silent;
     status = inr (inr refl);
     reads = all.reads;

@@ -1,11 +1,13 @@
 -- What an input of requests asks for.
-use Rattle.std.specs.Prelude.{◌≡◌, ◌⊎◌, ◌<◌, ◌≤◌, ℕ, Bool, map, true, false, nat_lt, List, ◌++◌, length, Option, Some, Result, Ok, Err}
+use Rattle.std.specs.Prelude.{◌≡◌, ℕ, map, List, ◌++◌, Option, Some, Result, Ok, Err}
 use Rattle.bz_files.specs.World.{World}
 use Rattle.bz_requests.specs.Requests.{IsRequest, Request, requests_in}
 use Rattle.bz_requests.specs.declared.requests.Config.{Config}
 use Rattle.bz_serve.specs.RequestRuns.{run_reads, run_text}
 use Rattle.bz_serve.specs.Serving.{served}
-use Rattle.bz_symq.specs.InputText.{AsksFor, greatest_input}
+use Rattle.bz_serve.specs.SomeReplies.{MayReply, WritesReplies}
+use Rattle.bz_symq.specs.InputText.{AsksFor, by_length}
+use Rattle.bz_symq.specs.Kept.{opts_in}
 use Rattle.bz_symq.specs.Outcome.{Outcome, bad_line, too_long}
 use Rattle.bz_symq.specs.Reply.{outcome_of}
 use Rattle.bz_requests.specs.Requests.{request_of}
@@ -13,18 +15,13 @@ use Rattle.bz_serve.specs.declared.input.Asked.{Asked}
 use Rattle.bz_serve.specs.declared.input.Asked.TheVariants as askeds
 
 -- a bad line is named
-abbrev pub named : Result (List Request) ℕ → Result (List Request) Outcome
-named (Ok requests) = Ok requests
-named (Err n) = Err (bad_line n)
+abbrev pub or_bad_line : Result (List Request) ℕ → Result (List Request) Outcome
+or_bad_line (Ok requests) = Ok requests
+or_bad_line (Err n) = Err (bad_line n)
 
--- and before that an input that is too long
-abbrev pub by_length : List ℕ → Bool → Result (List Request) Outcome
-by_length text true = Err too_long
-by_length text false = named (requests_in text)
-
--- the requests of the input; or what the run comes to where it is bad
+-- the requests of the input; or what the run comes to, where the input is too long or else has a bad line
 abbrev pub asked_in : List ℕ → Result (List Request) Outcome
-asked_in text = by_length text (nat_lt greatest_input (length text))
+asked_in text = by_length text (Err too_long) (or_bad_line (requests_in text))
 
 -- the same of the value that the code has
 abbrev pub asked_of : Asked → Result (List Request) Outcome
@@ -46,3 +43,9 @@ pub record IsServed (config : Config) (text : List ℕ) (worlds : List World) (o
   pub requests : List Request
   pub asks : AsksFor IsRequest text requests
   pub written : new ≡ Some (old ++ run_text config requests worlds own)
+
+-- and whatever the files tell, what was written is replies that the input's requests may have
+pub record IsSomeServed (config : Config) (text old : List ℕ) (new : Option (List ℕ)) : Type 0 where
+  pub requests : List Request
+  pub asks : AsksFor IsRequest text requests
+  pub written : WritesReplies (MayReply (opts_in config)) requests old new

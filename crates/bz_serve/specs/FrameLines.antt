@@ -43,5 +43,5 @@ abbrev pub frames_in : List ℕ → Result (List Frame) ℕ
 frames_in text = items_in frame_in text
 
 -- the frame that a line of the code says
-abbrev pub said : FrameLine → Frame
-said line = frame_of line.frame
+abbrev pub frame_of_line : FrameLine → Frame
+frame_of_line line = frame_of line.frame

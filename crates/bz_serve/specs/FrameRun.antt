@@ -1,36 +1,25 @@
 -- What a run over an input of frames promises.
-use Rattle.std.specs.Prelude.{◌≡◌, ◌⊎◌, ◌+◌, ◌<◌, ◌≤◌, ℕ, Bool, true, false, nat_lt, List, [], ◌++◌, length, map, Option, Some}
+use Rattle.std.specs.Prelude.{◌≡◌, ◌⊎◌, ◌+◌, ◌≤◌, ℕ, List, [], ◌++◌, length, map, Option, Some}
 use Rattle.bz_base.specs.declared.types.FindSymOpts.{FindSymOpts}
 use Rattle.bz_files.specs.Count.{counted}
 use Rattle.bz_files.specs.World.{Told, World, in_view}
 use Rattle.bz_files.specs.declared.files.Files as files_trait
 use Rattle.bz_files.specs.declared.text.TextIn as input_trait
 use Rattle.bz_files.specs.declared.text.TextOut as output_trait
-use Rattle.bz_requests.specs.Lines.{IsFirstBad}
 use Rattle.bz_store.specs.Frames.{Frame, FrameReading}
 use Rattle.bz_store.specs.Plain.{answer_in}
-use Rattle.bz_symq.specs.InputText.{AsksFor, IsBadInput, IsReadWhole, MovesAtMost, greatest_input}
-use Rattle.bz_symq.specs.Outcome.{Outcome, bad_line, too_long}
-use Rattle.bz_symq.specs.Run.{Ends, Fails, IsNoFailure, IsOrFails}
+use Rattle.bz_symq.specs.InputText.{AsksFor, IsBadInput, IsReadWhole, MovesAtMost, by_length, greatest_input}
+use Rattle.bz_symq.specs.Outcome.{Outcome, too_long}
+use Rattle.bz_symq.specs.Run.{Ends, Fails, IsBadNamed, IsNoFailure, IsOrFails}
 use Rattle.bz_symq.specs.declared.status.Status.{Status}
 use Rattle.bz_symq.specs.declared.status.Status.TheVariants as statuses
 use Rattle.bz_serve.specs.FrameLines.{IsFrame, frames_in}
 use Rattle.bz_serve.specs.FrameReply.{AreFound, by_frames, opens_by}
 use Rattle.bz_serve.specs.FrameText.{frame_texts}
 
--- an input that is too long is named as such, before its lines are read
-abbrev pub by_length : World → List ℕ → FindSymOpts → List ℕ → Bool → Outcome
-by_length world root opts text true = too_long
-by_length world root opts text false = by_frames world root opts (frames_in text)
-
 -- what a run comes to where nothing fails
 abbrev pub frames_outcome : World → List ℕ → FindSymOpts → List ℕ → Outcome
-frames_outcome world root opts text = by_length world root opts text (nat_lt greatest_input (length text))
-
--- what is said names the input as too long, or else its first bad line
-abbrev pub NamesBad : List ℕ → List ℕ → Type 0
-NamesBad text said = ((greatest_input < length text) × (said ≡ too_long.text))
-    ⊎ ((length text ≤ greatest_input) × ((n : ℕ) × IsFirstBad IsFrame text n × (said ≡ (bad_line n).text)))
+frames_outcome world root opts text = by_length text too_long (by_frames world root opts (frames_in text))
 
 -- the texts of the world's answers to the input's frames are what was written
 pub record AreAnswered (world : World) (root : List ℕ) (opts : FindSymOpts) (text old : List ℕ) (new : Option (List ℕ)) : Type 0 where
@@ -64,7 +53,7 @@ pub record RunsFrames {R W F : Type 0} (reads : input_trait.Ghosts R) (writes : 
   pub input : Told (reads.left input_before) (λ text. (ended ≡ statuses.Input → IsBadInput IsFrame text) × (IsBadInput IsFrame text → IsOrFails statuses.Input ended))
   -- and that what was written names what is bad of it, whatever the files tell
   pub named : ended ≡ statuses.Input → Told (reads.left input_before) (λ text. Told (writes.written output_before) (λ old.
-      (said : List ℕ) × NamesBad text said × (writes.written output_after ≡ Some (old ++ said))))
+      IsBadNamed IsFrame text old (writes.written output_after)))
   -- an input of frames is answered, unless something fails or memory runs out
   pub complete : Told (reads.left input_before) (λ text. (frames : List Frame) → AsksFor IsFrame text frames → IsOrFails statuses.Done ended)
   -- status 0 means that a file was read for each frame whose name is good, whose key wasn't kept, and whose path is present

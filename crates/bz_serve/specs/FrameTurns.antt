@@ -8,14 +8,14 @@ use Rattle.bz_files.specs.declared.files.Files as files_trait
 use Rattle.bz_files.specs.declared.text.TextIn as input_trait
 use Rattle.bz_store.specs.Frames.{Frame, FrameReading}
 use Rattle.bz_symq.specs.InputText.{AsksFor, IsBadInput, IsReadWhole, MovesAtMost, greatest_input}
-use Rattle.bz_symq.specs.Reply.{Replies, text_of}
+use Rattle.bz_symq.specs.Reply.{IsBadReply, Replies, text_of}
 use Rattle.bz_symq.specs.Run.{IsNoFailure}
 use Rattle.bz_symq.specs.Turns.{FailsAtOne}
 use Rattle.bz_symq.specs.declared.reply.Reply.{Reply}
 use Rattle.bz_symq.specs.declared.status.Status.TheVariants as statuses
 use Rattle.bz_serve.specs.FrameLines.{IsFrame, frames_in}
 use Rattle.bz_serve.specs.FrameReply.{AreFound, opens_by}
-use Rattle.bz_serve.specs.FrameRun.{NamesBad, frames_outcome}
+use Rattle.bz_serve.specs.FrameRun.{frames_outcome}
 use Rattle.bz_serve.specs.FrameText.{frame_texts}
 
 -- a reply that the run is done has the texts of what was found for the input's frames, in as many reads as that takes
@@ -36,7 +36,7 @@ pub record RepliesToInput {R F : Type 0} (reads : input_trait.Ghosts R) (looks :
   -- and whatever the files tell, the texts are of what was found, and what is bad of an input is named
   pub answered : Told (reads.left input_before) (λ text. IfOk result (λ given.
       given.status ≡ statuses.Done → IsRunReply root opts text (text_of given.said) (looks.opens files_before) (looks.opens files_after)))
-  pub named : Told (reads.left input_before) (λ text. IfOk result (λ given. given.status ≡ statuses.Input → NamesBad text (text_of given.said)))
+  pub named : Told (reads.left input_before) (λ text. IfOk result (λ given. IsBadReply IsFrame text given))
   -- the input alone decides on status 3
   pub input : Told (reads.left input_before) (λ text. IfOk result (λ given. (given.status ≡ statuses.Input) ↔ IsBadInput IsFrame text))
   -- where the run is done, so many files were read

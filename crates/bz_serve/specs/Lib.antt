@@ -10,3 +10,4 @@ pub mod RequestSteps
 pub mod Requests
 pub mod Serving
 pub mod Sides
+pub mod SomeReplies

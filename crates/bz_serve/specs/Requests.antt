@@ -12,10 +12,10 @@ use Rattle.bz_requests.specs.declared.requests.Config.{Config}
 use Rattle.bz_serve.specs.RequestRuns.{worlds_after}
 use Rattle.bz_serve.specs.Serving.{ToldWorlds}
 use Rattle.bz_symq.specs.InputText.{IsBadInput, IsReadWhole, MovesAtMost, greatest_input}
-use Rattle.bz_symq.specs.Run.{Ends, IsNoFailure, IsOrFails}
+use Rattle.bz_symq.specs.Run.{Ends, IsBadNamed, IsNoFailure, IsOrFails}
 use Rattle.bz_symq.specs.declared.status.Status.{Status}
 use Rattle.bz_symq.specs.declared.status.Status.TheVariants as statuses
-use Rattle.bz_serve.specs.Asked.{IsServed, asked_in, asked_of, outcome_by, reads_by}
+use Rattle.bz_serve.specs.Asked.{IsServed, IsSomeServed, asked_in, asked_of, outcome_by, reads_by}
 use Rattle.bz_serve.specs.Sides.{FailsAtOneSide}
 use Rattle.bz_serve.specs.declared.input.Asked.{Asked}
 use Rattle.bz_serve.specs.declared.input.Asked.TheVariants as askeds
@@ -42,8 +42,14 @@ pub record RunsRequests {R W F : Type 0} (reads : input_trait.Ghosts R) (writes 
   -- status 0 means that the input was requests, and that the texts of their answers, each in its world, are what was written
   pub done : ended ≡ statuses.Done → Told (reads.left input_before) (λ text. ToldWorlds (looks.worlds files_before) (λ worlds. Told (writes.written output_before) (λ old.
       IsServed config text worlds (looks.pid files_before) old (writes.written output_after))))
+  -- and whatever the files tell, that what was written is one reply to each request, which that request may have
+  pub answered : ended ≡ statuses.Done → Told (reads.left input_before) (λ text. Told (writes.written output_before) (λ old.
+      IsSomeServed config text old (writes.written output_after)))
   -- status 3 means that the input is bad, and a bad input is answered by it, unless the run fails
   pub input : Told (reads.left input_before) (λ text. (ended ≡ statuses.Input → IsBadInput IsRequest text) × (IsBadInput IsRequest text → IsOrFails statuses.Input ended))
+  -- and that what was written names what is bad of it, whatever the files tell
+  pub named : ended ≡ statuses.Input → Told (reads.left input_before) (λ text. Told (writes.written output_before) (λ old.
+      IsBadNamed IsRequest text old (writes.written output_after)))
   -- no status comes but 0, 3, 4 and 5
   pub status : (ended ≡ statuses.Input) ⊎ IsOrFails statuses.Done ended
   -- over a bad input no file is looked at

@@ -19,9 +19,10 @@ use Rattle.bz_symq.specs.Run.{Ends, IsOrFails, WritesFront}
 use Rattle.bz_symq.specs.declared.reply.Said.{Said}
 use Rattle.bz_symq.specs.declared.status.Status.{Status}
 use Rattle.bz_symq.specs.declared.status.Status.TheVariants as statuses
-use Rattle.bz_symq.specs.Kept.{KeptState}
+use Rattle.bz_symq.specs.Kept.{KeptState, opts_in}
 use Rattle.bz_serve.specs.RequestRuns.{reads_from, run_reads, run_text, texts_from, turns, worlds_after}
 use Rattle.bz_serve.specs.RequestSteps.{Doing, RequestOutcome}
+use Rattle.bz_serve.specs.SomeReplies.{MayReply, WritesReplies}
 use Rattle.bz_serve.specs.declared.serving.Stop.{Stop}
 use Rattle.bz_serve.specs.declared.serving.Stop.TheVariants as stops
 
@@ -72,13 +73,15 @@ pub record Replied {F : Type 0} (looks : files_trait.Ghosts F) (step : KeptState
   pub failure : IfErr result (λ e. (e ≡ errors.ReadFault) ⊎ (e ≡ errors.OutOfMemory))
   pub looked : Looked looks before after (Faulted result)
 
--- a request was answered in the world in view, and its text was written, or a front of it; of an empty text nothing was
-pub record Served {W F : Type 0} (writes : output_trait.Ghosts W) (looks : files_trait.Ghosts F) (step : KeptState → World → RequestOutcome) (result : Result (Unit {0}) Stop)
+-- a request was answered in the world in view, and its text was written, or a front of it; of an empty text nothing was.
+-- Whatever the files tell, what an answered call wrote is a text that may be said
+pub record Served {W F : Type 0} (writes : output_trait.Ghosts W) (looks : files_trait.Ghosts F) (step : KeptState → World → RequestOutcome) (MaySay : List ℕ → Type 0) (result : Result (Unit {0}) Stop)
     (old now : KeptState) (output_before output_after : W) (files_before files_after : F) : Type 0 where
   pub whole : Told (in_view (looks.worlds files_before)) (λ world. Told (writes.written output_before) (λ was.
       OnOk result (writes.written output_after ≡ Some (was ++ (step old world).text))))
   pub front : Told (in_view (looks.worlds files_before)) (λ world. Told (writes.written output_before) (λ was.
       OnErr result (WritesFront (step old world).text was (writes.written output_after))))
+  pub some : Told (writes.written output_before) (λ was. OnOk result ((text : List ℕ) × MaySay text × (writes.written output_after ≡ Some (was ++ text))))
   pub silent : Told (in_view (looks.worlds files_before)) (λ world. (step old world).text ≡ [] → output_after ≡ output_before)
   pub state : Told (in_view (looks.worlds files_before)) (λ world. OnOk result (now ≡ (step old world).state))
   pub reads : Told (in_view (looks.worlds files_before)) (λ world. looks.opens files_after ≤ looks.opens files_before + (step old world).reads)
@@ -86,13 +89,15 @@ pub record Served {W F : Type 0} (writes : output_trait.Ghosts W) (looks : files
   pub looked : Looked looks files_before files_after (StopsBy stops.Files result)
 
 -- requests were answered, each in its world, and their texts were written, or a front of them. Nothing is written where these
--- are empty. What a request comes to may depend on the id of the own process
-pub record ServesAll {A W F : Type 0} (writes : output_trait.Ghosts W) (looks : files_trait.Ghosts F) (step : ℕ → A → KeptState → World → RequestOutcome) (requests : List A) (result : Result (Unit {0}) Stop)
+-- are empty. What a request comes to may depend on the id of the own process. Whatever the files tell, an answered
+-- call wrote for each a text that may be said to it
+pub record ServesAll {A W F : Type 0} (writes : output_trait.Ghosts W) (looks : files_trait.Ghosts F) (step : ℕ → A → KeptState → World → RequestOutcome) (MaySay : A → List ℕ → Type 0) (requests : List A) (result : Result (Unit {0}) Stop)
     (old : KeptState) (output_before output_after : W) (files_before files_after : F) : Type 0 where
   pub whole : ToldWorlds (looks.worlds files_before) (λ worlds. Told (writes.written output_before) (λ was.
       OnOk result (writes.written output_after ≡ Some (was ++ texts_from (step (looks.pid files_before)) old (turns requests worlds)))))
   pub front : ToldWorlds (looks.worlds files_before) (λ worlds. Told (writes.written output_before) (λ was.
       OnErr result (WritesFront (texts_from (step (looks.pid files_before)) old (turns requests worlds)) was (writes.written output_after))))
+  pub some : Told (writes.written output_before) (λ was. OnOk result (WritesReplies MaySay requests was (writes.written output_after)))
   pub silent : ToldWorlds (looks.worlds files_before) (λ worlds. texts_from (step (looks.pid files_before)) old (turns requests worlds) ≡ [] → output_after ≡ output_before)
   pub reads : ToldWorlds (looks.worlds files_before) (λ worlds. looks.opens files_after ≤ looks.opens files_before + reads_from (step (looks.pid files_before)) old (turns requests worlds))
   pub turned : OnOk result (looks.worlds files_after ≡ option_map (worlds_after requests) (looks.worlds files_before))
@@ -117,6 +122,8 @@ pub record Serves {W F : Type 0} (writes : output_trait.Ghosts W) (looks : files
   -- status 0 means that the run is what was written, and status 4 or 5 that a front of it is
   pub ends : ToldWorlds (looks.worlds files_before) (λ worlds. Told (writes.written output_before) (λ was.
       Ends (served (run_text config requests worlds (looks.pid files_before))) was ended (writes.written output_after)))
+  -- whatever the files tell, status 0 means that what was written is replies that the requests may have
+  pub answered : ended ≡ statuses.Done → Told (writes.written output_before) (λ was. WritesReplies (MayReply (opts_in config)) requests was (writes.written output_after))
   -- where there is nothing to write, the output is left alone
   pub silent : ToldWorlds (looks.worlds files_before) (λ worlds. run_text config requests worlds (looks.pid files_before) ≡ [] → output_after ≡ output_before)
   -- no other status comes

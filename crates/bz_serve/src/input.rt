@@ -2,7 +2,7 @@
 
 ghost use Rattle.std.specs.Prelude.{◌≡◌, Err, IfOk, IsOkUnless};
 ghost use Rattle.bz_base.specs.declared.error.Error.{Error};
-ghost use Rattle.bz_serve.specs.Asked.{asked_of, named};
+ghost use Rattle.bz_serve.specs.Asked.{asked_of, or_bad_line};
 ghost use Rattle.bz_serve.specs.Requests.{HasInputStatus, ReadsRequests};
 ghost use Rattle.bz_requests.specs.Requests.{requests_in};
 
@@ -33,7 +33,7 @@ pub(crate) fn requests_asked<R: TextIn>(alloc: Global, input: &mut R) -> Result<
 
 // What the lines of an input ask for that isn't too long.
 fn asked_in_lines(alloc: Global, text: &[u8]) -> Result<Asked>
-    ensures asked { IfOk result (λ asked. asked_of asked ≡ named (requests_in text.now)) }
+    ensures asked { IfOk result (λ asked. asked_of asked ≡ or_bad_line (requests_in text.now)) }
     ensures status { IfOk result HasInputStatus }
     ensures memory { IsOkUnless result Error.OutOfMemory }
 {

@@ -4,6 +4,8 @@ ghost use Rattle.std.specs.Prelude.{◌≡◌, ◌<◌, map};
 ghost use Rattle.bz_requests.specs.Requests.{request_of};
 ghost use Rattle.bz_serve.specs.Serving.{EndsAs, Served, Serves, ServesAll, StopsAs, stop_by};
 ghost use Rattle.bz_serve.specs.RequestSteps.{step};
+ghost use Rattle.bz_serve.specs.SomeReplies.{MayReply};
+ghost use Rattle.bz_symbolize.specs.State.{opts_of};
 ghost use Rattle.bz_symq.specs.Kept.{kept_of};
 
 mod replies;
@@ -98,7 +100,7 @@ fn serve_all<W: TextOut, F: Files, L: Ledger>(
     files: &mut F,
     steps: &mut Steps<L>,
 ) -> Result<(), Stop>
-    ensures { ServesAll W.TextOut F.Files (step server.old.map_files) (map request_of requests.now) result (kept_of server.old.symbolizer) output.old output.new files.old files.new }
+    ensures { ServesAll W.TextOut F.Files (step server.old.map_files) (MayReply (opts_of server.old.symbolizer.files.settings)) (map request_of requests.now) result (kept_of server.old.symbolizer) output.old output.new files.old files.new }
 {
     for request in requests {
         files.begin();
@@ -118,8 +120,9 @@ fn serve_one<W: TextOut, F: Files, L: Ledger>(
     files: &mut F,
     steps: &mut Steps<L>,
 ) -> Result<(), Stop>
-    ensures served { Served W.TextOut F.Files (step server.old.map_files (F.pid files.old) (request_of request.now)) result (kept_of server.old.symbolizer) (kept_of server.new.symbolizer) output.old output.new files.old files.new }
-    ensures settings { server.new.map_files ≡ server.old.map_files }
+    ensures served { Served W.TextOut F.Files (step server.old.map_files (F.pid files.old) (request_of request.now)) (MayReply (opts_of server.old.symbolizer.files.settings) (request_of request.now)) result (kept_of server.old.symbolizer) (kept_of server.new.symbolizer) output.old output.new files.old files.new }
+    ensures map_files { server.new.map_files ≡ server.old.map_files }
+    ensures settings { server.new.symbolizer.files.settings ≡ server.old.symbolizer.files.settings }
 {
     match reply_to_request(alloc, server, request, files, steps) {
         Ok(said) => stopped(write_said(alloc, output, &said)),

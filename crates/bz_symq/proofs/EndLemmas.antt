@@ -8,7 +8,7 @@ use Rattle.bz_files.specs.declared.text.TextIn as input_trait
 use Rattle.bz_files.specs.declared.text.TextOut as output_trait
 use Rattle.bz_symq.specs.Command.{Command, seen_by}
 use Rattle.bz_symq.specs.Outcome.{Outcome, run_outcome}
-use Rattle.bz_symq.specs.Reply.{outcome_of, IsDoneReply, RepliesToCommand}
+use Rattle.bz_symq.specs.Reply.{outcome_of, text_of, IsDoneReply, RepliesToCommand}
 use Rattle.bz_symq.specs.Run.{Ends, Fails, IsNoFailure, IsOrFails, Runs}
 use Rattle.bz_symq.specs.Turns.{FailsAtOne, ReadsFor, TakesTurns}
 use Rattle.bz_symq.specs.Writing.{Finishes}
@@ -77,6 +77,7 @@ module _ {R W F : Type 0} (reads : input_trait.Ghosts R) (writes : output_trait.
       λ bad. (given.input text left).0 (by_reply statuses.Input input_no_failure bad),
       λ bad. rw ((given.input text left).1 bad) at finished.status,
     );
+    named = λ is text left old written. (text_of reply.said, given.named text left (by_reply statuses.Input input_no_failure is), (rw is at (finished.ends old written)).1);
     complete = λ text left world seen is. rw (answerable_is_done command text world (looks.pid files_before) is) at (status text left world seen);
     refuses = λ text left world seen is. rw (refusable_is_refused command text world (looks.pid files_before) is) at (status text left world seen);
     unasked = turns.unasked;
@@ -122,6 +123,7 @@ module _ {R W F : Type 0} (reads : input_trait.Ghosts R) (writes : output_trait.
     refusal = λ refused. absurd (never ended statuses.Refused refused_no_failure failed refused);
     usage = λ usage. never ended statuses.Usage usage_no_failure failed usage;
     input = λ text left. (λ bad. absurd (never ended statuses.Input input_no_failure failed bad), λ bad. inr failed);
+    named = λ is. absurd (never ended statuses.Input input_no_failure failed is);
     complete = λ text left world seen is. inr failed;
     refuses = λ text left world seen is. inr failed;
     unasked = turns.unasked;

@@ -1,5 +1,5 @@
 -- What a process answers, in the words of its mappings, and why it is refused.
-use Rattle.std.proofs.Common.{◌≡◌, ◌⊎◌, ℕ, zero, suc, ◌+◌, ◌≤◌, Bool, true, false, cond, IfErr, IsErrOf, IsOk, Vec, subst, arith, List, [], ◌∷◌, map, Option, Some, None, Result, Ok, Err, inl, inr, refl, sym, ap, ◌∙◌}
+use Rattle.std.proofs.Common.{◌≡◌, ◌⊎◌, ℕ, zero, suc, ◌+◌, ◌≤◌, Bool, true, false, cond, IfErr, IfOk, IsErrOf, IsOk, Vec, subst, arith, List, [], ◌∷◌, map, Option, Some, None, Result, Ok, Err, inl, inr, refl, sym, ap, ◌∙◌}
 use Rattle.std.proofs.lemmas.Bool.{false≢true}
 use Rattle.bz_base.specs.Answer.{Answer, reading}
 use Rattle.bz_base.specs.InputKind.{AddressKind}
@@ -23,12 +23,13 @@ use Rattle.bz_proc.proofs.MapsLemmas.{maps_found, maps_again}
 use Rattle.bz_process.specs.Asked.{Asked}
 use Rattle.bz_process.specs.Caches.{ProcessCaches}
 use Rattle.bz_process.specs.Dispatch.{Answers, Test}
-use Rattle.bz_process.specs.Mapped.{AsksProcess, LacksMappings}
+use Rattle.bz_process.specs.Mapped.{AreByMappings, AreUsed, AsksProcess, LacksMappings}
 use Rattle.bz_process.specs.Process.{batched, unsaid}
 use Rattle.bz_process.specs.Processes.{is_in_process}
+use Rattle.bz_process.specs.Untold.{SomeAtAddresses}
 use Rattle.bz_requests.specs.declared.requests.Config.{Config}
 use Rattle.bz_symq.specs.Command.{of_process}
-use Rattle.bz_symq.specs.Processes.{IsMapsCause, IsProcessBatch, TellsMappings, asked_by, maps_of, nothing_kept, pid_of, process_batch}
+use Rattle.bz_symq.specs.Processes.{IsMapsCause, IsProcessBatch, IsSomeProcessBatch, TellsMappings, asked_by, maps_of, nothing_kept, pid_of, process_batch}
 use Rattle.bz_symq.specs.Reply.{IsSomeCauseOrFails}
 use Rattle.bz_symq.specs.Targets.{HasFile, IsFileCause, IsSomeCause}
 
@@ -140,6 +141,28 @@ module _ (config : Config) (number own : ℕ) (addrs : List ℕ) (world : World)
       to_entry None cause = ap Err (sym cause)
       to_entry (Some Denied) cause = ap Err (sym cause)
       to_entry (Some (Present stamp text)) cause = to_told text cause (maps_in (pid_of number) text) refl
+
+-- whatever is told, answers by no kept mappings are by those of some text
+some_batch : (config : Config) (number own : ℕ) (addrs : List ℕ) (answers : List Answer) (left : ProcessCaches) → AreByMappings (asked_by config number own) None addrs answers (nothing_kept config) left →
+    IsSomeProcessBatch config number own addrs answers
+some_batch config number own addrs answers left by = from_mappings by.mappings by.used by.some
+  where
+    from_mappings : (mappings : List Mapping) → AreUsed (pid_of number) None mappings → SomeAtAddresses (asked_by config number own) mappings (map unsaid addrs) answers (nothing_kept config) left →
+        IsSomeProcessBatch config number own addrs answers
+    from_mappings [] used some = let none = used.some in cc
+    from_mappings (mapping ∷ later) used some = record {
+      text = used.from.text;
+      tells = (mapping, later, maps_found (pid_of number) used.from.text (mapping ∷ later) used.from.tells);
+      kept_after = left;
+      answers_are = some;
+    }
+
+pub some_if_taken : {G : Type 0} (kind : AddressKind) (config : Config) (number own : ℕ) (addrs : List ℕ) (result : Result (Vec Symbolized G) Error) (left : ProcessCaches) →
+    (is_in_process kind ≡ false → IsErrOf result errors.Unsupported) → (is_in_process kind ≡ true → IfOk result (λ given. AreByMappings (asked_by config number own) None addrs (views given) (nothing_kept config) left)) →
+    IfOk result (λ given. IsSomeProcessBatch config number own addrs (views given))
+some_if_taken kind config number own addrs (Ok given) left untaken taken =
+    some_batch config number own addrs (views given) left (taken (served_if_given (is_in_process kind) (Ok given) untaken refl))
+some_if_taken kind config number own addrs (Err e) left untaken taken = tt
 
 -- a batch without kept mappings is refused only for want of mappings, or something failed
 abbrev pub LacksOrFails : Error → Type 0

@@ -9,12 +9,15 @@ use Rattle.bz_files.specs.World.{World, Told}
 use Rattle.bz_files.specs.declared.files.Files as files_trait
 use Rattle.bz_files.specs.declared.text.TextIn as input_trait
 use Rattle.bz_lookups.specs.declared.lookups.Lookups.{Lookups}
-use Rattle.bz_requests.specs.Addresses.{addresses_in}
+use Rattle.bz_requests.proofs.AddressLemmas.{address_agrees}
+use Rattle.bz_requests.proofs.LineGrammarLemmas.{first_bad_found}
+use Rattle.bz_requests.specs.Addresses.{IsAddress, address_in, addresses_in}
+use Rattle.bz_requests.specs.Lines.{ReadsAsSpelled, items_in}
 use Rattle.bz_symq.specs.Command.{Asking, Command, Batch, Make, Product}
 use Rattle.bz_symq.specs.InputText.{greatest_input}
 use Rattle.bz_symq.specs.Outcome.{Outcome, by_addresses, by_answer, by_product, run_outcome, too_long}
 use Rattle.bz_symq.specs.Products.{made_in}
-use Rattle.bz_symq.specs.Reply.{outcome_of, text_of, IsInputReply, IsInputStatus, IsProductReply, IsProductStatus, IsRefusalReply, IsRunRefusal, IsRunReply, IsSomeCauseOrFails, IsUnmadeReply, Replies, RepliesTo, RepliesToCommand, RepliesUnread}
+use Rattle.bz_symq.specs.Reply.{outcome_of, text_of, IsBadReply, IsInputReply, IsInputStatus, IsLineReply, IsProductReply, IsProductStatus, IsRefusalReply, IsRunRefusal, IsRunReply, IsSomeCauseOrFails, IsUnmadeReply, Replies, RepliesTo, RepliesToCommand, RepliesUnread}
 use Rattle.bz_symq.specs.Run.{IsBadInput, IsNoFailure}
 use Rattle.bz_symq.specs.Targets.{IsSomeCause, takes}
 use Rattle.bz_symq.specs.Turns.{TakesTurns}
@@ -83,6 +86,13 @@ pub refused_read : {A : Type 0} (read : Result A ℕ) (status : Status) → IsIn
 refused_read (Ok items) status is refused = (items, refl)
 refused_read (Err n) status is refused = cc
 
+-- a reply that names the line that isn't read names what is bad of the input, if that isn't too long
+pub names_bad : {A : Type 0} (reads : List ℕ → Option A) (Spells : List ℕ → A → Type 0) (agrees : ReadsAsSpelled reads Spells) (text : List ℕ) (reply : Reply) (read : Result (List A) ℕ) →
+    length text ≤ greatest_input → items_in reads text ≡ read → IsInputStatus read reply.status → IsLineReply read reply → IsBadReply Spells text reply
+names_bad reads Spells agrees text reply (Err n) short is status line = λ bad. inr (short, (n, first_bad_found reads Spells agrees text n is, ap (λ (o : Outcome). o.text) line))
+names_bad reads Spells agrees text reply (Ok items) short is (inl done) line = λ bad. let never : statuses.Done ≡ statuses.Input = sym done ∙ bad in cc
+names_bad reads Spells agrees text reply (Ok items) short is (inr refused) line = λ bad. let never : statuses.Refused ≡ statuses.Input = sym refused ∙ bad in cc
+
 -- nor is that of a reply that says a product
 product_no_failure : (status : Status) → IsProductStatus status → IsNoFailure status
 product_no_failure status (inl is) = (λ other. cc, λ other. cc)
@@ -99,8 +109,8 @@ product_no_input status (inr is) other = cc
 
 module _ (command : Command) (asking : Asking) (input : List ℕ) (command_is : command ≡ Batch asking) (short : length input ≤ greatest_input) where
   -- the addresses that a reply answers are those that the run is asked for
-  run_from_input : (reply : Reply) → IsInputReply asking input reply → IsRunReply command input reply
-  run_from_input reply answered = λ done old new written.
+  run_from_input : (own : ℕ) (reply : Reply) → IsInputReply asking own input reply → IsRunReply command own input reply
+  run_from_input own reply answered = λ done old new written.
       let given = answered done in
       inl (record {
         asking = asking;
@@ -139,23 +149,26 @@ module _ (command : Command) (asking : Asking) (input : List ℕ) (command_is : 
 
   -- so the reply to it is the reply to the command
   pub reply_from_input : (left : Option (List ℕ)) (seen : Option World) (own : ℕ) (result : Result Reply Error) → Told left (λ text. input ≡ text) →
-      Told seen (λ world. Replies (by_addresses asking world own (addresses_in input)) result) → IfOk result (λ given. IsInputReply asking input given) →
-      IfOk result (λ given. IsRefusalReply (IsSomeCause asking) given) → IfOk result (λ given. IsInputStatus (addresses_in input) given.status) → RepliesToCommand command left seen own result
-  reply_from_input left seen own (Ok reply) whole replies answered named status = record {
+      Told seen (λ world. Replies (by_addresses asking world own (addresses_in input)) result) → IfOk result (λ given. IsInputReply asking own input given) →
+      IfOk result (λ given. IsRefusalReply (IsSomeCause asking) given) → IfOk result (λ given. IsInputStatus (addresses_in input) given.status) →
+      IfOk result (λ given. IsLineReply (addresses_in input) given) → RepliesToCommand command left seen own result
+  reply_from_input left seen own (Ok reply) whole replies answered refusal status line = record {
     reply = λ text told world sees. subst (λ expected. Replies expected (Ok reply)) (outcome_read text world own (whole text told)) (replies world sees);
-    answered = λ text told. rw (← whole text told) (run_from_input reply answered);
-    refusal = λ text told. rw (← whole text told) (run_refusal reply status named);
+    answered = λ text told. rw (← whole text told) (run_from_input own reply answered);
+    refusal = λ text told. rw (← whole text told) (run_refusal reply status refusal);
     no_failure = no_failure_from (addresses_in input) reply.status status;
     usage = λ is. never_usage (addresses_in input) reply.status status is;
     input = λ text told. rw (← whole text told) (bad_iff reply.status status);
+    named = λ text told. rw (← whole text told) (names_bad address_in IsAddress address_agrees input reply (addresses_in input) short refl status line);
   }
-  reply_from_input left seen own (Err e) whole replies answered named status = record {
+  reply_from_input left seen own (Err e) whole replies answered refusal status line = record {
     reply = λ text told world sees. subst (λ expected. Replies expected (Err e)) (outcome_read text world own (whole text told)) (replies world sees);
     answered = λ text told. tt;
     refusal = λ text told. tt;
     no_failure = tt;
     usage = tt;
     input = λ text told. tt;
+    named = λ text told. tt;
   }
 
 -- the reply to an input that is too long
@@ -170,6 +183,7 @@ reply_from_long command asking command_is left seen own reply long is =
       no_failure = (λ other. cc, λ other. cc);
       usage = λ other. cc;
       input = λ text told. (λ _. (asking, command_is, inl (long text told)), λ _. status);
+      named = λ text told bad. inl (long text told, ap (λ (o : Outcome). o.text) is);
     }
 
 -- and to one that wasn't read for another reason
@@ -179,9 +193,9 @@ pub reply_from_unread : {A : Type 0} (command : Command) (asking : Asking) → c
 reply_from_unread command asking command_is left seen own stops.TooLong (Ok reply) is long = reply_from_long command asking command_is left seen own reply (λ text told. long text told refl) is
 reply_from_unread command asking command_is left seen own stops.TooLong (Err e) is long = absurd is
 reply_from_unread command asking command_is left seen own stops.Fault result is long =
-    rw is (record { reply = λ text told world sees. tt; answered = λ text told. tt; refusal = λ text told. tt; no_failure = tt; usage = tt; input = λ text told. tt })
+    rw is (record { reply = λ text told world sees. tt; answered = λ text told. tt; refusal = λ text told. tt; no_failure = tt; usage = tt; input = λ text told. tt; named = λ text told. tt })
 reply_from_unread command asking command_is left seen own stops.Memory result is long =
-    rw is (record { reply = λ text told world sees. tt; answered = λ text told. tt; refusal = λ text told. tt; no_failure = tt; usage = tt; input = λ text told. tt })
+    rw is (record { reply = λ text told world sees. tt; answered = λ text told. tt; refusal = λ text told. tt; no_failure = tt; usage = tt; input = λ text told. tt; named = λ text told. tt })
 
 -- a command that asks for answers asks for no product, nor the other way round
 pub no_make : (command : Command) (asking : Asking) → command ≡ Batch asking → (product : Product) → command ≡ Make product → ⊥
@@ -196,8 +210,8 @@ takes_same asking other same untaken = let is : asking ≡ other = cc same in rw
 
 module _ (command : Command) (product : Product) (command_is : command ≡ Make product) where
   -- what some file makes is what the run is asked for
-  run_from_product : (input : List ℕ) (reply : Reply) → IsProductReply product reply → IsRunReply command input reply
-  run_from_product input reply answered = λ done old new written.
+  run_from_product : (own : ℕ) (input : List ℕ) (reply : Reply) → IsProductReply product reply → IsRunReply command own input reply
+  run_from_product own input reply answered = λ done old new written.
       inr (record { product = product; made = text_of reply.said; asks = command_is; made_is = answered done; written = written })
 
   -- and why nothing is made, the run is refused for
@@ -212,11 +226,12 @@ module _ (command : Command) (product : Product) (command_is : command ≡ Make 
       RepliesToCommand command left seen own result
   reply_from_product left seen own (Ok reply) replies answered unmade status = record {
     reply = λ text told world sees. subst (λ other. Replies (run_outcome other text world own) (Ok reply)) (sym command_is) (replies world sees);
-    answered = λ text told. run_from_product text reply answered;
+    answered = λ text told. run_from_product own text reply answered;
     refusal = λ text told. unmade_from_product text reply unmade;
     no_failure = product_no_failure reply.status status;
     usage = λ is. product_no_usage reply.status status is;
     input = λ text told. (λ is. absurd (product_no_input reply.status status is), λ bad. absurd (no_batch command product command_is bad.0 bad.1));
+    named = λ text told bad. absurd (product_no_input reply.status status bad);
   }
   reply_from_product left seen own (Err e) replies answered unmade status = record {
     reply = λ text told world sees. subst (λ other. Replies (run_outcome other text world own) (Err e)) (sym command_is) (replies world sees);
@@ -225,6 +240,7 @@ module _ (command : Command) (product : Product) (command_is : command ≡ Make 
     no_failure = tt;
     usage = tt;
     input = λ text told. tt;
+    named = λ text told. tt;
   }
 
   -- no input is asked for, so none is read

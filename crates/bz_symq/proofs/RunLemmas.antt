@@ -1,5 +1,5 @@
 -- What the outcome of a run says of its command, its input and its source.
-use Rattle.std.proofs.Common.{◌≡◌, ◌≢◌, ◌⊎◌, ℕ, ◌≤◌, Bool, true, false, List, ◌++◌, length, Option, Some, Ok, Err, Result, IsErr, refl, sym, ap, ◌∙◌, inl, inr, ltb}
+use Rattle.std.proofs.Common.{◌≡◌, ◌≢◌, ◌⊎◌, ℕ, ◌≤◌, Bool, true, false, List, ◌++◌, length, Option, Some, Ok, Err, Result, IsErr, cond, refl, sym, ap, ◌∙◌, inl, inr, ltb}
 use Rattle.std.proofs.lemmas.Bool.{false≢true, le-ltb, lt-ltb, ltb-false, ltb-true}
 use Rattle.bz_base.specs.Answer.{Answer}
 use Rattle.bz_base.specs.declared.error.Error.{Error}
@@ -8,7 +8,7 @@ use Rattle.bz_requests.proofs.AddressLemmas.{address_agrees}
 use Rattle.bz_requests.specs.Addresses.{IsAddress, address_in, addresses_in}
 use Rattle.bz_symq.specs.Command.{Asking, Command, Batch, Make, Product}
 use Rattle.bz_symq.specs.InputText.{HasBadLine, greatest_input}
-use Rattle.bz_symq.specs.Outcome.{Outcome, run_outcome, by_length, by_addresses, by_answer, by_product}
+use Rattle.bz_symq.specs.Outcome.{Outcome, run_outcome, by_addresses, by_answer, by_product, too_long}
 use Rattle.bz_symq.specs.Products.{made_in}
 use Rattle.bz_symq.specs.Run.{Asks, Ends, IsAnswerable, IsBadInput, IsDone, IsMade, IsMakeable, IsRefusable, IsRefused, IsUnmade, IsUnmakeable}
 use Rattle.bz_symq.specs.Targets.{answer_to}
@@ -63,7 +63,7 @@ module _ (command : Command) (input : List ℕ) (world : World) (own : ℕ) wher
   }
 
   asking_long : (asking : Asking) → command ≡ Batch asking → (long : Bool) → ltb greatest_input (length input) ≡ long →
-      is_asking (by_length asking input world own long).status ≡ true → IsAsking command input world own
+      is_asking (cond long too_long (by_addresses asking world own (addresses_in input))).status ≡ true → IsAsking command input world own
   asking_long asking command_is true is asks = cc
   asking_long asking command_is false is asks = asking_read asking command_is is (addresses_in input) refl asks
 
@@ -226,7 +226,7 @@ module _ (command : Command) (input : List ℕ) (world : World) (own : ℕ) wher
   usage_never_read asking (Err n) usage = cc
   usage_never_read asking (Ok addrs) usage = let asks = answer_never addrs (answer_to asking addrs world own) in absurd (false≢true (sym (ap is_asking usage) ∙ asks))
 
-  usage_never : (asking : Asking) (long : Bool) → (by_length asking input world own long).status ≡ statuses.Usage → ⊥
+  usage_never : (asking : Asking) (long : Bool) → (cond long too_long (by_addresses asking world own (addresses_in input))).status ≡ statuses.Usage → ⊥
   usage_never asking true usage = cc
   usage_never asking false usage = usage_never_read asking (addresses_in input) usage
 
@@ -245,7 +245,7 @@ module _ (command : Command) (input : List ℕ) (world : World) (own : ℕ) wher
       let asks = answer_never addrs (answer_to asking addrs world own) in absurd (false≢true (sym (ap is_asking bad) ∙ asks))
 
   input_by_length : (asking : Asking) → command ≡ Batch asking → (long : Bool) → ltb greatest_input (length input) ≡ long →
-      (by_length asking input world own long).status ≡ statuses.Input → IsBadInput command input
+      (cond long too_long (by_addresses asking world own (addresses_in input))).status ≡ statuses.Input → IsBadInput command input
   input_by_length asking command_is true is bad = (asking, command_is, inl (ltb-true _ _ is))
   input_by_length asking command_is false is bad = input_by_read asking command_is (ltb-false _ _ is) (addresses_in input) refl bad
 
@@ -256,7 +256,7 @@ module _ (command : Command) (input : List ℕ) (world : World) (own : ℕ) wher
   pub input_is_bad : (run_outcome command input world own).status ≡ statuses.Input → IsBadInput command input
   input_is_bad bad = input_by_command command refl bad
 
-  bad_by_length : (asking : Asking) → HasBadLine input → (long : Bool) → (by_length asking input world own long).status ≡ statuses.Input
+  bad_by_length : (asking : Asking) → HasBadLine input → (long : Bool) → (cond long too_long (by_addresses asking world own (addresses_in input))).status ≡ statuses.Input
   bad_by_length asking (n, bad) true = refl
   bad_by_length asking (n, bad) false = rw (first_bad_again input n bad) refl
 

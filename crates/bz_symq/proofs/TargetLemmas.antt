@@ -135,10 +135,10 @@ module _ (config : Config) (addrs : List ℕ) where
     abbrev Keeps : Source → Result A Error → FileSource → Type 0
     Keeps source result file = IfOk result (λ given. AnswersKept (opts_in config) source file now (batch_of kind addrs) (Ok (view given)))
 
-    module _ (Refused : Type 0) where
+    module _ (Refused : Type 0) (own : ℕ) where
       abbrev SomeAs : A → FileTarget → Source → Type 0
       SomeAs given target source = (Refused → IsErrOf (Ok given) errors.Unsupported) → OnFile source (λ file. file.answering.takes kind ≡ false → Refused) → OnFile source (Keeps source (Ok given)) →
-          AnswersSome (on_file target kind) addrs (view given)
+          AnswersSome (on_file target kind) own addrs (view given)
 
       breakpad_some : (given : A) (source : breakpads.Breakpad) → SomeAs given (Breakpad (string_bytes source.path)) (sources.Breakpad source)
       breakpad_some given source refused untaken kept =
@@ -152,7 +152,7 @@ module _ (config : Config) (addrs : List ℕ) where
       elf_some given source refused untaken kept = record { served = kept.answered.served; are = (kept.bytes, elf_answered (string_bytes source.path) kept.bytes kind addrs (view given) kept.answered) }
 
       pub some_from_kept : (target : FileTarget) (source : Source) (result : Result A Error) → IsSourceOf target source → (Refused → IsErrOf result errors.Unsupported) →
-          OnFile source (λ file. file.answering.takes kind ≡ false → Refused) → OnFile source (Keeps source result) → IfOk result (λ given. AnswersSome (on_file target kind) addrs (view given))
+          OnFile source (λ file. file.answering.takes kind ≡ false → Refused) → OnFile source (Keeps source result) → IfOk result (λ given. AnswersSome (on_file target kind) own addrs (view given))
       some_from_kept target source (Ok given) is = by_source (SomeAs given) (breakpad_some given) (gsym_some given) (elf_some given) target source is
       some_from_kept target source (Err e) is = λ refused untaken kept. tt
 

@@ -1,5 +1,5 @@
 -- The program's input: how long it may be, how it is read, and its first bad line.
-use Rattle.std.specs.Prelude.{◌≡◌, ◌⊎◌, ℕ, ◌+◌, ◌-◌, ◌<◌, ◌≤◌, List, ◌++◌, drop, length, Option, Some}
+use Rattle.std.specs.Prelude.{◌≡◌, ◌⊎◌, ℕ, ◌+◌, ◌-◌, ◌<◌, ◌≤◌, nat_lt, cond, List, ◌++◌, drop, length, Option, Some}
 use Rattle.bz_files.specs.World.{Told}
 use Rattle.bz_requests.specs.Addresses.{IsAddress}
 use Rattle.bz_requests.specs.Lines as lines
@@ -7,6 +7,10 @@ use Rattle.bz_requests.specs.Lines as lines
 -- the greatest length of an input, in bytes
 abbrev pub greatest_input : ℕ
 greatest_input = 16777216
+
+-- what comes of an input: the first where it is too long, whatever its lines say, and else the second
+abbrev pub by_length : {A : Type 0} → List ℕ → A → A → A
+by_length text long of_lines = cond (nat_lt greatest_input (length text)) long of_lines
 
 -- line n of the text is the first that is neither empty nor an address; all lines count, from 1
 abbrev pub IsFirstBad : List ℕ → ℕ → Type 0

@@ -1,13 +1,14 @@
 -- What a run writes and ends with where nothing fails: a function of command, input, world and the id of the own process.
-use Rattle.std.specs.Prelude.{ℕ, Bool, true, false, nat_lt, List, ◌++◌, length, codes, decimal, Option, Some, None, Result, Ok, Err}
+use Rattle.std.specs.Prelude.{◌≡◌, ◌⊎◌, ◌<◌, ◌≤◌, ℕ, List, ◌++◌, length, codes, decimal, Option, Some, None, Result, Ok, Err}
 use Rattle.bz_base.specs.Answer.{Answer}
 use Rattle.bz_base.specs.ErrorNames.{name_of}
 use Rattle.bz_base.specs.declared.error.Error.{Error}
 use Rattle.bz_files.specs.World.{World}
 use Rattle.bz_requests.specs.Addresses.{addresses_in}
+use Rattle.bz_requests.specs.Lines.{IsFirstBad}
 use Rattle.bz_canon.specs.AnswerText.{answer_texts}
 use Rattle.bz_symq.specs.Command.{Asking, Command, Batch, Make}
-use Rattle.bz_symq.specs.InputText.{greatest_input}
+use Rattle.bz_symq.specs.InputText.{by_length, greatest_input}
 use Rattle.bz_symq.specs.Products.{made_in}
 use Rattle.bz_symq.specs.Targets.{answer_to}
 use Rattle.bz_symq.specs.declared.status.Status.{Status}
@@ -58,14 +59,14 @@ by_addresses asking world own (Ok addrs) = by_answer addrs (answer_to asking add
 abbrev pub too_long : Outcome
 too_long = record { status = statuses.Input; text = codes "input: too long\n" }
 
--- and that before its lines are read
-abbrev pub by_length : Asking → List ℕ → World → ℕ → Bool → Outcome
-by_length asking input world own true = too_long
-by_length asking input world own false = by_addresses asking world own (addresses_in input)
+-- what is said names an input of such lines as too long, or else its first bad line
+abbrev pub NamesBad : {A : Type 0} → (List ℕ → A → Type 0) → List ℕ → List ℕ → Type 0
+NamesBad Spells text said = ((greatest_input < length text) × (said ≡ too_long.text))
+    ⊎ ((length text ≤ greatest_input) × ((n : ℕ) × IsFirstBad Spells text n × (said ≡ (bad_line n).text)))
 
 -- the whole input comes first, then the target
 abbrev pub outcome : Asking → List ℕ → World → ℕ → Outcome
-outcome asking input world own = by_length asking input world own (nat_lt greatest_input (length input))
+outcome asking input world own = by_length input too_long (by_addresses asking world own (addresses_in input))
 
 -- what was made, or the refusal
 abbrev pub by_product : Result (List ℕ) (List ℕ) → Outcome

@@ -14,6 +14,7 @@ use Rattle.bz_process.specs.Asked.{Asked}
 use Rattle.bz_process.specs.Caches.{ProcessCaches}
 use Rattle.bz_process.specs.Mapped.{asks_process}
 use Rattle.bz_process.specs.Process.{StepOutcome, batched, unsaid}
+use Rattle.bz_process.specs.Untold.{SomeAtAddresses}
 use Rattle.bz_requests.specs.declared.requests.Config.{Config}
 
 -- the process that a number names: the own one for 0, and else the one with this id
@@ -46,6 +47,14 @@ TellsMappings number text = (mapping : Mapping) × (later : List Mapping) × Are
 pub record IsProcessBatch (config : Config) (number own : ℕ) (world : World) (text addrs : List ℕ) (answers : List Answer) : Type 0 where
   pub tells : TellsMappings number text
   pub answers_are : answers ≡ (batched (asked_by config number own) (tells.0 ∷ tells.1) (map unsaid addrs) world (nothing_kept config)).answers
+
+-- whatever the files tell, a process gave these answers by the mappings of some text, each address in order. Where a file is looked
+-- at, some version answers, or an ignored error stands for the look's refusal
+pub record IsSomeProcessBatch (config : Config) (number own : ℕ) (addrs : List ℕ) (answers : List Answer) : Type 0 where
+  pub text : List ℕ
+  pub tells : TellsMappings number text
+  pub kept_after : ProcessCaches
+  pub answers_are : SomeAtAddresses (asked_by config number own) (tells.0 ∷ tells.1) (map unsaid addrs) answers (nothing_kept config) kept_after
 
 -- why a text gives no answers: it tells no mappings, or it tells that there are none
 abbrev pub IsMapsCause : ℕ → List ℕ → Error → Type 0

@@ -5,10 +5,10 @@ use Rattle.bz_base.specs.Answer.{Answer, reading}
 use Rattle.bz_base.specs.declared.error.Error.{Error}
 use Rattle.bz_base.specs.declared.error.Error.TheVariants as errors
 use Rattle.bz_files.specs.World.{World, Told}
-use Rattle.bz_requests.specs.Addresses.{addresses_in}
+use Rattle.bz_requests.specs.Addresses.{IsAddress, addresses_in}
 use Rattle.bz_canon.specs.AnswerText.{answer_texts}
 use Rattle.bz_symq.specs.Command.{Asking, Command, Product}
-use Rattle.bz_symq.specs.Outcome.{Outcome, refused, refused_as, run_outcome, too_long}
+use Rattle.bz_symq.specs.Outcome.{Outcome, NamesBad, bad_line, refused, refused_as, run_outcome, too_long}
 use Rattle.bz_symq.specs.Products.{MadeOfSome, UnmadeOfSome}
 use Rattle.bz_symq.specs.Run.{IsBadInput, IsNoFailure, IsSomeDone, IsSomeMade, IsSomeRefused, IsSomeUnmade}
 use Rattle.bz_symq.specs.Targets.{AnswersSome}
@@ -52,19 +52,19 @@ RepliesUnread stops.TooLong (Err e) = ⊥
 RepliesUnread stops.Fault result = result ≡ Err errors.ReadFault
 RepliesUnread stops.Memory result = result ≡ Err errors.OutOfMemory
 
--- the text is that of answers to the addresses; those of a file are by some bytes in its format
-pub record IsBatchText (asking : Asking) (addrs text : List ℕ) : Type 0 where
+-- the text is that of answers to the addresses, such as the target may have
+pub record IsBatchText (asking : Asking) (own : ℕ) (addrs text : List ℕ) : Type 0 where
   pub answers : List Answer
-  pub answers_are : AnswersSome asking addrs answers
+  pub answers_are : AnswersSome asking own addrs answers
   pub text_is : text ≡ answer_texts addrs answers
 
 -- a reply that the run is done has such a text
-abbrev pub IsBatchReply : Asking → List ℕ → Reply → Type 0
-IsBatchReply asking addrs reply = reply.status ≡ statuses.Done → IsBatchText asking addrs (text_of reply.said)
+abbrev pub IsBatchReply : Asking → ℕ → List ℕ → Reply → Type 0
+IsBatchReply asking own addrs reply = reply.status ≡ statuses.Done → IsBatchText asking own addrs (text_of reply.said)
 
 -- and its addresses are those of the input
-abbrev pub IsInputReply : Asking → List ℕ → Reply → Type 0
-IsInputReply asking input reply = reply.status ≡ statuses.Done → (addrs : List ℕ) × (addresses_in input ≡ Ok addrs) × IsBatchText asking addrs (text_of reply.said)
+abbrev pub IsInputReply : Asking → ℕ → List ℕ → Reply → Type 0
+IsInputReply asking own input reply = reply.status ≡ statuses.Done → (addrs : List ℕ) × (addresses_in input ≡ Ok addrs) × IsBatchText asking own addrs (text_of reply.said)
 
 -- a reply that the run is done says what some Breakpad file makes
 abbrev pub IsProductReply : Product → Reply → Type 0
@@ -75,9 +75,9 @@ abbrev pub IsProductStatus : Status → Type 0
 IsProductStatus status = (status ≡ statuses.Done) ⊎ (status ≡ statuses.Refused)
 
 -- and once a reply that the run is done is written, the run has answered, or has written the product
-abbrev pub IsRunReply : Command → List ℕ → Reply → Type 0
-IsRunReply command input reply = reply.status ≡ statuses.Done → (old : List ℕ) (new : Option (List ℕ)) → new ≡ Some (old ++ text_of reply.said) →
-    IsSomeDone command input old new ⊎ IsSomeMade command old new
+abbrev pub IsRunReply : Command → ℕ → List ℕ → Reply → Type 0
+IsRunReply command own input reply = reply.status ≡ statuses.Done → (old : List ℕ) (new : Option (List ℕ)) → new ≡ Some (old ++ text_of reply.said) →
+    IsSomeDone command input own old new ⊎ IsSomeMade command old new
 
 -- a call has such a cause for its refusal, or something failed
 abbrev pub IsSomeCauseOrFails : (Error → Type 0) → Error → Type 0
@@ -114,15 +114,26 @@ abbrev pub IsInputStatus : {A : Type 0} → Result A ℕ → Status → Type 0
 IsInputStatus (Err n) status = status ≡ statuses.Input
 IsInputStatus (Ok items) status = (status ≡ statuses.Done) ⊎ (status ≡ statuses.Refused)
 
+-- a reply to what was read of an input names the line that isn't well formed, if there is one
+abbrev pub IsLineReply : {A : Type 0} → Result A ℕ → Reply → Type 0
+IsLineReply (Err n) reply = outcome_of reply ≡ bad_line n
+IsLineReply (Ok items) reply = Unit {0}
+
+-- and a reply that an input of such lines is bad names what is bad of it
+abbrev pub IsBadReply : {A : Type 0} → (List ℕ → A → Type 0) → List ℕ → Reply → Type 0
+IsBadReply Spells input reply = reply.status ≡ statuses.Input → NamesBad Spells input (text_of reply.said)
+
 -- a reply to the command was to be made, by what it sees of the input, the world in view, and the own process's id
 pub record RepliesToCommand (command : Command) (left : Option (List ℕ)) (seen : Option World) (own : ℕ) (result : Result Reply Error) : Type 0 where
   -- it is the outcome of the run
   pub reply : Told left (λ text. Told seen (λ world. Replies (run_outcome command text world own) result))
   -- and whatever the files tell, answers or product are those that the run was asked for
-  pub answered : Told left (λ text. IfOk result (λ given. IsRunReply command text given))
+  pub answered : Told left (λ text. IfOk result (λ given. IsRunReply command own text given))
   -- and a refusal is one that the source or the product may have
   pub refusal : Told left (λ text. IfOk result (λ given. IsRunRefusal command text given))
   pub no_failure : IfOk result (λ given. IsNoFailure given.status)
   -- status 2 is for words that give no command, and command and input alone decide on status 3
   pub usage : IfOk result (λ given. given.status ≢ statuses.Usage)
   pub input : Told left (λ text. IfOk result (λ given. (given.status ≡ statuses.Input) ↔ IsBadInput command text))
+  -- and a reply of status 3 names what is bad of the input
+  pub named : Told left (λ text. IfOk result (λ given. IsBadReply IsAddress text given))

@@ -13,7 +13,7 @@ use Rattle.bz_canon.specs.AnswerText.{answer_texts}
 use Rattle.bz_symq.specs.Command.{Asking, Batch, Command, Make, OneFile, OneProcess, Product, Target, seen_by}
 use Rattle.bz_symq.specs.InputText as inputs
 use Rattle.bz_symq.specs.InputText.{greatest_input, MovesAtMost}
-use Rattle.bz_symq.specs.Outcome.{Outcome, refused, refused_as, run_outcome}
+use Rattle.bz_symq.specs.Outcome.{Outcome, NamesBad, refused, refused_as, run_outcome}
 use Rattle.bz_symq.specs.Processes.{process_batch}
 use Rattle.bz_symq.specs.Products.{MadeIn, MadeOfSome, UnmadeIn, UnmadeOfSome}
 use Rattle.bz_symq.specs.Targets.{HasAnswers, AnswersIn, AnswersSome, IsCause, IsSomeCause, takes}
@@ -60,14 +60,14 @@ pub record IsDone (command : Command) (input : List ℕ) (world : World) (own : 
   pub answers_are : AnswersIn asking world own addrs answers
   pub written : new ≡ Some (old ++ answer_texts addrs answers)
 
--- whatever the files tell, the run was asked for addresses, and wrote the texts of answers to them in order.
--- Of a file these are the plain answers of some bytes in its format; of a process they may be any
-pub record IsSomeDone (command : Command) (input old : List ℕ) (new : Option (List ℕ)) : Type 0 where
+-- whatever the files tell, the run was asked for addresses, and wrote the texts of answers to them in order. Of a file these are the
+-- plain answers of some bytes in its format; of a process they are by some text of its mappings, and by some versions of its files
+pub record IsSomeDone (command : Command) (input : List ℕ) (own : ℕ) (old : List ℕ) (new : Option (List ℕ)) : Type 0 where
   pub asking : Asking
   pub addrs : List ℕ
   pub answers : List Answer
   pub asks : Asks command input asking addrs
-  pub answers_are : AnswersSome asking addrs answers
+  pub answers_are : AnswersSome asking own addrs answers
   pub written : new ≡ Some (old ++ answer_texts addrs answers)
 
 -- the run is asked for addresses of a source that has no answers
@@ -137,6 +137,10 @@ abbrev pub IsBadInput : Command → List ℕ → Type 0
 IsBadInput command input =
     (asking : Asking) × (command ≡ Batch asking) × inputs.IsBadInput IsAddress input
 
+-- what is bad of an input of such lines was named by what was written
+abbrev pub IsBadNamed : {A : Type 0} → (List ℕ → A → Type 0) → List ℕ → List ℕ → Option (List ℕ) → Type 0
+IsBadNamed Spells text old new = (said : List ℕ) × NamesBad Spells text said × (new ≡ Some (old ++ said))
+
 -- what a run comes to has the status exactly where the command, the input and the world are such
 abbrev pub ComesExactlyWhere : Status → (Command → List ℕ → World → Type 0) → Type 0
 ComesExactlyWhere status Such = (command : Command) (input : List ℕ) (world : World) (own : ℕ) →
@@ -194,9 +198,9 @@ pub record Runs {R W F : Type 0} (reads : input_trait.Ghosts R) (writes : output
   pub done : ended ≡ statuses.Done →
       Told (seen_by command (reads.left input_before)) (λ text. Told (in_view (looks.worlds files_before)) (λ world. Told (writes.written output_before) (λ old.
       IsDone command text world (looks.pid files_before) old (writes.written output_after) ⊎ IsMade command world old (writes.written output_after))))
-  -- and whatever the files tell, that they are those of some bytes in the format of the source, or that some file makes it
+  -- and whatever the files tell, that these are answers that the source may have, or a product that some file makes
   pub answered : ended ≡ statuses.Done → Told (seen_by command (reads.left input_before)) (λ text. Told (writes.written output_before) (λ old.
-      IsSomeDone command text old (writes.written output_after) ⊎ IsSomeMade command old (writes.written output_after)))
+      IsSomeDone command text (looks.pid files_before) old (writes.written output_after) ⊎ IsSomeMade command old (writes.written output_after)))
   -- status 1 means that the source has no answers or the product can't be made, and that the refusal is what was written
   pub refused : ended ≡ statuses.Refused →
       Told (seen_by command (reads.left input_before)) (λ text. Told (in_view (looks.worlds files_before)) (λ world. Told (writes.written output_before) (λ old.
@@ -208,6 +212,9 @@ pub record Runs {R W F : Type 0} (reads : input_trait.Ghosts R) (writes : output
   pub usage : ended ≢ statuses.Usage
   pub input : Told (seen_by command (reads.left input_before)) (λ text.
       (ended ≡ statuses.Input → IsBadInput command text) × (IsBadInput command text → IsOrFails statuses.Input ended))
+  -- and whatever the files tell, status 3 means that what was written names what is bad of the input
+  pub named : ended ≡ statuses.Input → Told (seen_by command (reads.left input_before)) (λ text. Told (writes.written output_before) (λ old.
+      IsBadNamed IsAddress text old (writes.written output_after)))
   -- a source that has answers is answered, and a product that can be made is made, unless something fails or memory runs out
   pub complete : Told (seen_by command (reads.left input_before)) (λ text. Told (in_view (looks.worlds files_before)) (λ world.
       IsAnswerable command text world ⊎ IsMakeable command world → IsOrFails statuses.Done ended))

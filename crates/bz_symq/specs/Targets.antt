@@ -22,7 +22,7 @@ use Rattle.bz_symbolize.specs.declared.source.Source.{Source}
 use Rattle.bz_symbolize.specs.declared.source.Source.TheVariants as sources
 use Rattle.bz_symq.specs.Command.{Asking, FileTarget, Breakpad, Gsym, Elf, Target, OneFile, OneProcess}
 use Rattle.bz_symq.specs.Kept.{opts_in}
-use Rattle.bz_symq.specs.Processes.{IsMapsCause, IsProcessBatch, TellsMappings, maps_of, process_batch}
+use Rattle.bz_symq.specs.Processes.{IsMapsCause, IsProcessBatch, IsSomeProcessBatch, TellsMappings, maps_of, process_batch}
 
 -- Files.
 
@@ -131,15 +131,15 @@ pub record AnswersIn (asking : Asking) (world : World) (own : ℕ) (addrs : List
   pub served : serves asking.target asking.kind ≡ true
   pub are : AreAnswers asking.target asking.kind asking.config world own addrs answers
 
--- the answers are those of some bytes in the format of the target's file; of a process, which has many files, nothing is said
-abbrev pub AreSomeAnswers : Target → AddressKind → Config → List ℕ → List Answer → Type 0
-AreSomeAnswers (OneFile file) kind config addrs answers = (bytes : List ℕ) × IsBatch file kind config bytes addrs answers
-AreSomeAnswers (OneProcess number) kind config addrs answers = Unit {0}
+-- the answers are those of some bytes in the format of the target's file, or of a process by some text of its mappings
+abbrev pub AreSomeAnswers : Target → AddressKind → Config → ℕ → List ℕ → List Answer → Type 0
+AreSomeAnswers (OneFile file) kind config own addrs answers = (bytes : List ℕ) × IsBatch file kind config bytes addrs answers
+AreSomeAnswers (OneProcess number) kind config own addrs answers = IsSomeProcessBatch config number own addrs answers
 
 -- and the target answers the kind of address
-pub record AnswersSome (asking : Asking) (addrs : List ℕ) (answers : List Answer) : Type 0 where
+pub record AnswersSome (asking : Asking) (own : ℕ) (addrs : List ℕ) (answers : List Answer) : Type 0 where
   pub served : serves asking.target asking.kind ≡ true
-  pub are : AreSomeAnswers asking.target asking.kind asking.config addrs answers
+  pub are : AreSomeAnswers asking.target asking.kind asking.config own addrs answers
 
 -- whatever the files tell, a file may have no answers for one of these: it is absent, may not be read, or isn't in the format
 abbrev pub IsSomeFileCause : FileTarget → Error → Type 0

@@ -9,7 +9,7 @@ ghost use Rattle.bz_files.specs.World.{Told, in_view};
 ghost use Rattle.bz_process.specs.Processes.{is_in_process};
 ghost use Rattle.bz_symq.specs.Command.{process_asking};
 ghost use Rattle.bz_symq.specs.Outcome.{by_addresses};
-ghost use Rattle.bz_symq.specs.Processes.{process_batch};
+ghost use Rattle.bz_symq.specs.Processes.{IsSomeProcessBatch, process_batch};
 ghost use Rattle.bz_symq.specs.Reply.{IsBatchReply, IsInputStatus, IsRefusalReply, IsSomeCauseOrFails, Replies};
 ghost use Rattle.bz_symq.specs.Targets.{answer_to, IsSomeCause};
 
@@ -34,7 +34,7 @@ pub fn reply_of_process<F: Files, L: Ledger>(
     steps: &mut Steps<L>,
 ) -> Result<Reply>
     ensures reply { Told (in_view (F.worlds files.old)) (λ world. Replies (by_addresses (process_asking batch) world (F.pid files.old) (Ok addrs.items)) result) }
-    ensures answered { IfOk result (λ given. IsBatchReply (process_asking batch) addrs.items given) }
+    ensures answered { IfOk result (λ given. IsBatchReply (process_asking batch) (F.pid files.old) addrs.items given) }
     ensures refusal { IfOk result (λ given. IsRefusalReply (IsSomeCause (process_asking batch)) given) }
     ensures status { IfOk result (λ given. IsInputStatus (Ok addrs.items) given.status) }
     ensures untaken { is_in_process (address_kind batch.kind) ≡ false → files.new ≡ files.old }
@@ -61,6 +61,7 @@ fn answers_of<F: Files, L: Ledger>(
 ) -> Result<Vec<Symbolized<'static>>>
     ensures answer { Told (in_view (F.worlds files.old)) (λ world. GivesOrFaults (λ answers. map reading answers.items) (answer_to (process_asking batch) addrs.now world (F.pid files.old)) result) }
     ensures served { IsOk result → is_in_process (address_kind batch.kind) ≡ true }
+    ensures answered { IfOk result (λ answers. IsSomeProcessBatch batch.config batch.number (F.pid files.old) addrs.now (map reading answers.items)) }
     ensures refusal { IfErr result (λ error. IsSomeCauseOrFails (IsSomeCause (process_asking batch)) error) }
     ensures untaken { is_in_process (address_kind batch.kind) ≡ false → files.new ≡ files.old }
     ensures opens { Told (in_view (F.worlds files.old)) (λ world. F.opens files.new ≤ F.opens files.old + (process_batch batch.config batch.number (F.pid files.old) addrs.now world).opens) }

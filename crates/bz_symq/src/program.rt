@@ -9,7 +9,7 @@ ghost use Rattle.bz_requests.specs.Addresses.{addresses_in};
 ghost use Rattle.bz_symq.specs.Command.{asking_of, command_of, file_asking, file_target_of, seen_by, target_of, Batch as OneBatch, OneFile};
 ghost use Rattle.bz_symq.specs.Counted.{AnswersInFew, InputTakesFew, RunTakesFew, TakesFew};
 ghost use Rattle.bz_symq.specs.Outcome.{by_addresses};
-ghost use Rattle.bz_symq.specs.Reply.{IsBatchReply, IsDoneReply, IsInputReply, IsInputStatus, IsRefusalReply, IsSomeCauseOrFails, Replies, RepliesToCommand, RepliesUnread};
+ghost use Rattle.bz_symq.specs.Reply.{IsBatchReply, IsDoneReply, IsInputReply, IsInputStatus, IsLineReply, IsRefusalReply, IsSomeCauseOrFails, Replies, RepliesToCommand, RepliesUnread};
 ghost use Rattle.bz_symq.specs.Run.{Runs};
 ghost use Rattle.bz_symq.specs.Targets.{answer_to, file_takes, takes, AnswersSome, IsSomeCause, IsSourceOf};
 ghost use Rattle.bz_symq.specs.Turns.{FailsAtOne, ReadsFor, ReadsForInput, ReadsOneFor, TakesTurns};
@@ -151,9 +151,10 @@ fn reply_to_input<F: Files, L: Ledger>(
     steps: &mut Steps<L>,
 ) -> Result<Reply>
     ensures reply { Told (in_view (F.worlds files.old)) (λ world. Replies (by_addresses (asking_of batch.now) world (F.pid files.old) (addresses_in text.items)) result) }
-    ensures answered { IfOk result (λ given. IsInputReply (asking_of batch.now) text.items given) }
+    ensures answered { IfOk result (λ given. IsInputReply (asking_of batch.now) (F.pid files.old) text.items given) }
     ensures refusal { IfOk result (λ given. IsRefusalReply (IsSomeCause (asking_of batch.now)) given) }
     ensures status { IfOk result (λ given. IsInputStatus (addresses_in text.items) given.status) }
+    ensures line { IfOk result (λ given. IsLineReply (addresses_in text.items) given) }
     ensures unlooked { IsErr (addresses_in text.items) → files.new ≡ files.old }
     ensures untaken { takes (target_of batch.now.target) (address_kind batch.now.kind) ≡ false → files.new ≡ files.old }
     ensures opens { ReadsForInput F.Files batch.now.config (target_of batch.now.target) (addresses_in text.items) (IsDoneReply result) files.old files.new }
@@ -178,7 +179,7 @@ fn reply_to_batch<F: Files, L: Ledger>(
     steps: &mut Steps<L>,
 ) -> Result<Reply>
     ensures reply { Told (in_view (F.worlds files.old)) (λ world. Replies (by_addresses (asking_of batch.now) world (F.pid files.old) (Ok addrs.items)) result) }
-    ensures answered { IfOk result (λ given. IsBatchReply (asking_of batch.now) addrs.items given) }
+    ensures answered { IfOk result (λ given. IsBatchReply (asking_of batch.now) (F.pid files.old) addrs.items given) }
     ensures refusal { IfOk result (λ given. IsRefusalReply (IsSomeCause (asking_of batch.now)) given) }
     ensures status { IfOk result (λ given. IsInputStatus (Ok addrs.items) given.status) }
     ensures untaken { takes (target_of batch.now.target) (address_kind batch.now.kind) ≡ false → files.new ≡ files.old }
@@ -213,7 +214,7 @@ fn reply_of_file<F: Files, L: Ledger>(
     steps: &mut Steps<L>,
 ) -> Result<Reply>
     ensures reply { Told (in_view (F.worlds files.old)) (λ world. Replies (by_addresses (file_asking batch.now) world (F.pid files.old) (Ok addrs.items)) result) }
-    ensures answered { IfOk result (λ given. IsBatchReply (file_asking batch.now) addrs.items given) }
+    ensures answered { IfOk result (λ given. IsBatchReply (file_asking batch.now) (F.pid files.old) addrs.items given) }
     ensures refusal { IfOk result (λ given. IsRefusalReply (IsSomeCause (file_asking batch.now)) given) }
     ensures status { IfOk result (λ given. IsInputStatus (Ok addrs.items) given.status) }
     ensures untaken { file_takes (file_target_of batch.now.file) (address_kind batch.now.kind) ≡ false → files.new ≡ files.old }
@@ -239,7 +240,7 @@ fn look_up<F: Files, L: Ledger>(
     steps: &mut Steps<L>,
 ) -> Result<Lookups<'static>>
     ensures answer { Told (in_view (F.worlds files.old)) (λ world. GivesOrFaults (λ lookups. lookups.answers) (answer_to (file_asking batch.now) addrs.items world (F.pid files.old)) result) }
-    ensures answered { IfOk result (λ lookups. AnswersSome (file_asking batch.now) addrs.items lookups.answers) }
+    ensures answered { IfOk result (λ lookups. AnswersSome (file_asking batch.now) (F.pid files.old) addrs.items lookups.answers) }
     ensures refusal { IfErr result (λ error. IsSomeCauseOrFails (IsSomeCause (file_asking batch.now)) error) }
     ensures addrs { IfOk result (λ lookups. lookups.addrs ≡ addrs.items) }
     ensures untaken { file_takes (file_target_of batch.now.file) (address_kind batch.now.kind) ≡ false → files.new ≡ files.old }

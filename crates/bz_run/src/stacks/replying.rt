@@ -7,7 +7,7 @@ ghost use Rattle.bz_files.specs.World.{Told, in_view};
 ghost use Rattle.bz_stacks.specs.Spelling.{stacks_in};
 ghost use Rattle.bz_symq.specs.Command.{Breakpad};
 ghost use Rattle.bz_symq.specs.InputText.{greatest_input};
-ghost use Rattle.bz_symq.specs.Reply.{IsDoneReply, IsInputStatus, IsRefusalReply, IsSomeCauseOrFails, Replies};
+ghost use Rattle.bz_symq.specs.Reply.{IsDoneReply, IsInputStatus, IsLineReply, IsRefusalReply, IsSomeCauseOrFails, Replies};
 ghost use Rattle.bz_symq.specs.Targets.{IsSomeFileCause};
 ghost use Rattle.bz_symq.specs.Turns.{FailsAtOne, ReadsOneFor};
 ghost use Rattle.bz_run.specs.StackOutcome.{answers_in, by_stacks, folded_by};
@@ -53,6 +53,7 @@ fn reply_to_input<F: Files>(
     ensures answered { IfOk result (λ given. IsInputReply config text.items given) }
     ensures refusal { IfOk result (λ given. IsRefusalReply (IsSomeFileCause (Breakpad path.now)) given) }
     ensures status { IfOk result (λ given. IsInputStatus (stacks_in text.items) given.status) }
+    ensures line { IfOk result (λ given. IsLineReply (stacks_in text.items) given) }
     ensures unlooked { IsErr (stacks_in text.items) → files.new ≡ files.old }
     ensures opens { ReadsOneFor F.Files (IsDoneReply result) files.old files.new }
     ensures files { Looked F.Files files.old files.new (Faulted result) }

@@ -2,7 +2,7 @@
 
 ghost use Rattle.std.specs.Prelude.{◌≡◌, ℕ, Ok, Err, map, option_map, string_bytes, IfOk, IsErrOf, IsOkUnless};
 ghost use Rattle.bz_store.specs.Frames.{Frame, frame_of};
-ghost use Rattle.bz_serve.specs.FrameLines.{frame_by, frame_in, frames_in, said, text_in};
+ghost use Rattle.bz_serve.specs.FrameLines.{frame_by, frame_in, frame_of_line, frames_in, text_in};
 
 use bz_requests::{BadInput, FromLine, address, fields, read_lines};
 use bz_store::CrashFrame;
@@ -28,7 +28,7 @@ struct FrameLine {
 impl FromLine for FrameLine {
     ghost Data = { Frame };
 
-    ghost data_of = { said };
+    ghost data_of = { frame_of_line };
 
     ghost reads = { frame_in };
 
@@ -42,7 +42,7 @@ impl FromLine for FrameLine {
 
 // The frames of lines.
 fn frames_of(alloc: Global, lines: Vec<FrameLine>) -> Result<Vec<CrashFrame>, BadInput>
-    ensures ok { IfOk result (λ frames. map frame_of frames.items ≡ map said lines.items) }
+    ensures ok { IfOk result (λ frames. map frame_of frames.items ≡ map frame_of_line lines.items) }
     ensures memory { IsOkUnless result BadInput.OutOfMemory }
 {
     let mut frames = Vec::new(alloc);

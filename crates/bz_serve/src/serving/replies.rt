@@ -1,16 +1,21 @@
 //! What is said to a request in the world in view. A refusal is said, and a failure isn't.
 
-ghost use Rattle.std.specs.Prelude.{◌≡◌};
+ghost use Rattle.std.specs.Prelude.{◌≡◌, true, IfOk};
 ghost use Rattle.bz_base.specs.InputKind.{InProcess, address_kind, payload};
 ghost use Rattle.bz_process.specs.declared.query.ProcessQuery.{ProcessQuery};
 ghost use Rattle.bz_requests.specs.Requests.{request_of, target_of, Batch, Single};
 ghost use Rattle.bz_serve.specs.Serving.{Replied};
 ghost use Rattle.bz_serve.specs.RequestSteps.{asking, asking_batch, done_by, forgetting, keeping, okay, step};
+ghost use Rattle.bz_serve.specs.SomeReplies.{FileSays, KeepingSays, MayReply, ProcessSays};
 ghost use Rattle.bz_symbolize.specs.FileCall.{batch_of};
 ghost use Rattle.bz_symbolize.specs.Requests.{ToCache, ToEvict, cache_read, evict_read};
 ghost use Rattle.bz_symbolize.specs.Sources.{FileSource, OneFile, OneProcess, form_of};
+ghost use Rattle.bz_symbolize.specs.State.{opts_of};
 ghost use Rattle.bz_canon.specs.AnswerText.{answer_texts};
+ghost use Rattle.bz_symq.specs.Command.{FileTarget};
 ghost use Rattle.bz_symq.specs.Kept.{kept_of};
+ghost use Rattle.bz_symq.specs.Reply.{text_of};
+ghost use Rattle.bz_symq.specs.Targets.{IsSourceOf, file_takes};
 
 use crate::serving::Server;
 use crate::serving::saying::{said_answer, said_okay, said_refusal};
@@ -37,7 +42,9 @@ pub(crate) fn reply_to_request<F: Files, L: Ledger>(
     steps: &mut Steps<L>,
 ) -> Result<Said>
     ensures reply { Replied F.Files (step server.old.map_files (F.pid files.old) (request_of request.now)) result (kept_of server.old.symbolizer) (kept_of server.new.symbolizer) files.old files.new }
-    ensures settings { server.new.map_files ≡ server.old.map_files }
+    ensures some { IfOk result (λ said. MayReply (opts_of server.old.symbolizer.files.settings) (request_of request.now) (text_of said)) }
+    ensures map_files { server.new.map_files ≡ server.old.map_files }
+    ensures settings { server.new.symbolizer.files.settings ≡ server.old.symbolizer.files.settings }
 {
     match request {
         Request::Batch(target, addrs) => {
@@ -72,7 +79,9 @@ fn reply_to_addrs<F: Files, L: Ledger>(
     steps: &mut Steps<L>,
 ) -> Result<Said>
     ensures reply { Replied F.Files (step server.old.map_files (F.pid files.old) (Batch (target_of target.now) addrs.now)) result (kept_of server.old.symbolizer) (kept_of server.new.symbolizer) files.old files.new }
-    ensures settings { server.new.map_files ≡ server.old.map_files }
+    ensures some { IfOk result (λ said. MayReply (opts_of server.old.symbolizer.files.settings) (Batch (target_of target.now) addrs.now) (text_of said)) }
+    ensures map_files { server.new.map_files ≡ server.old.map_files }
+    ensures settings { server.new.symbolizer.files.settings ≡ server.old.symbolizer.files.settings }
 {
     let src = source_of(alloc, server.map_files, target)?;
     let symbolizer = &mut server.symbolizer;
@@ -95,8 +104,11 @@ fn reply_by_file<F: Files, L: Ledger>(
     files: &mut F,
     steps: &mut Steps<L>,
 ) -> Result<Said>
-    ensures { (file : FileSource) → form_of src.now ≡ OneFile file →
+    ensures reply { (file : FileSource) → form_of src.now ≡ OneFile file →
         Replied F.Files (done_by (answer_texts (payload input).items) (asking (OneFile file) (batch_of (address_kind input) (payload input).items))) result (kept_of symbolizer.old) (kept_of symbolizer.new) files.old files.new }
+    ensures some { (file : FileTarget) → IsSourceOf file src.now → file_takes file (address_kind input) ≡ true →
+        IfOk result (λ said. FileSays (answer_texts (payload input).items) (opts_of symbolizer.old.files.settings) file (batch_of (address_kind input) (payload input).items) (text_of said)) }
+    ensures settings { symbolizer.new.files.settings ≡ symbolizer.old.files.settings }
 {
     match symbolizer.look_up(alloc, files, src, input, steps) {
         Ok(lookups) => Ok(Said::Answers(lookups)),
@@ -113,8 +125,10 @@ fn reply_by_process<F: Files, L: Ledger>(
     files: &mut F,
     steps: &mut Steps<L>,
 ) -> Result<Said>
-    ensures { (query : ProcessQuery) → form_of src.now ≡ OneProcess query →
+    ensures reply { (query : ProcessQuery) → form_of src.now ≡ OneProcess query →
         Replied F.Files (done_by (answer_texts addrs.items) (asking_batch (F.pid files.old) (OneProcess query) InProcess addrs.items)) result (kept_of symbolizer.old) (kept_of symbolizer.new) files.old files.new }
+    ensures some { (query : ProcessQuery) → form_of src.now ≡ OneProcess query → IfOk result (λ said. ProcessSays addrs.items (text_of said)) }
+    ensures settings { symbolizer.new.files.settings ≡ symbolizer.old.files.settings }
 {
     match symbolizer.symbolize_counted(alloc, files, src, Input::AbsAddr(addrs.as_slice()), steps) {
         Ok(answers) => Ok(Said::Owned(OwnedAnswers { addrs, answers })),
@@ -130,7 +144,9 @@ fn reply_to_addr<F: Files>(
     files: &mut F,
 ) -> Result<Said>
     ensures reply { Replied F.Files (step server.old.map_files (F.pid files.old) (Single (target_of target.now) addr)) result (kept_of server.old.symbolizer) (kept_of server.new.symbolizer) files.old files.new }
-    ensures settings { server.new.map_files ≡ server.old.map_files }
+    ensures some { IfOk result (λ said. MayReply (opts_of server.old.symbolizer.files.settings) (Single (target_of target.now) addr) (text_of said)) }
+    ensures map_files { server.new.map_files ≡ server.old.map_files }
+    ensures settings { server.new.symbolizer.files.settings ≡ server.old.symbolizer.files.settings }
 {
     let src = source_of(alloc, server.map_files, target)?;
     let input = input_of(target, addr);
@@ -149,7 +165,9 @@ fn reply_to_cache<F: Files>(
     cache: &Cache,
     files: &mut F,
 ) -> Result<Said>
-    ensures { (asked : ToCache) → cache_read cache.now ≡ asked → Replied F.Files (done_by okay (keeping (F.pid files.old) asked)) result (kept_of symbolizer.old) (kept_of symbolizer.new) files.old files.new }
+    ensures reply { (asked : ToCache) → cache_read cache.now ≡ asked → Replied F.Files (done_by okay (keeping (F.pid files.old) asked)) result (kept_of symbolizer.old) (kept_of symbolizer.new) files.old files.new }
+    ensures some { (asked : ToCache) → cache_read cache.now ≡ asked → IfOk result (λ said. KeepingSays asked (text_of said)) }
+    ensures settings { symbolizer.new.files.settings ≡ symbolizer.old.files.settings }
 {
     match symbolizer.cache(alloc, files, cache) {
         Ok(()) => Ok(said_okay()),
@@ -159,7 +177,9 @@ fn reply_to_cache<F: Files>(
 
 // No file is looked at.
 fn reply_to_evict<F: Files>(symbolizer: &mut Symbolizer, evict: &Evict, files: &F) -> Result<Said>
-    ensures { (asked : ToEvict) → evict_read evict.now ≡ asked → Replied F.Files (done_by okay (forgetting asked)) result (kept_of symbolizer.old) (kept_of symbolizer.new) files.now files.now }
+    ensures reply { (asked : ToEvict) → evict_read evict.now ≡ asked → Replied F.Files (done_by okay (forgetting asked)) result (kept_of symbolizer.old) (kept_of symbolizer.new) files.now files.now }
+    ensures some { IfOk result (λ said. text_of said ≡ okay tt) }
+    ensures settings { symbolizer.new.files.settings ≡ symbolizer.old.files.settings }
 {
     let _unlooked = files;
     match symbolizer.evict(evict) {

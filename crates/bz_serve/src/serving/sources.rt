@@ -5,6 +5,7 @@ ghost use Rattle.bz_base.specs.InputKind.{address_kind, payload};
 ghost use Rattle.bz_base.specs.declared.error.Error.{Error};
 ghost use Rattle.bz_requests.specs.Requests.{target_of, usual_kind};
 ghost use Rattle.bz_serve.specs.RequestSteps.{process_by, target_form};
+ghost use Rattle.bz_serve.specs.SomeReplies.{IsSourceFor};
 ghost use Rattle.bz_symbolize.specs.Requests.{CacheElf, EvictElf, EvictProcess, cache_read, evict_read};
 ghost use Rattle.bz_symbolize.specs.Sources.{form_of};
 ghost use Rattle.bz_symq.specs.Processes.{pid_of};
@@ -22,6 +23,7 @@ use std::alloc::Global;
 /// their mappings, or by their own.
 pub(crate) fn source_of(alloc: Global, map_files: bool, target: &Target) -> Result<Source<'static>>
     ensures ok { IfOk result (λ src. form_of src ≡ target_form map_files (target_of target.now)) }
+    ensures source { IfOk result (λ src. IsSourceFor (target_of target.now) src) }
     ensures memory { IsOkUnless result Error.OutOfMemory }
 {
     match target {

@@ -1,13 +1,16 @@
-use Rattle.std.proofs.Common.{◌+◌, drop, map, ◌∙◌, refl}
+use Rattle.std.proofs.Common.{◌+◌, drop, map, ◌∙◌, refl, subst}
 use Rattle.bz_requests.specs.Requests.{request_of}
+use Rattle.bz_symbolize.specs.State.{Settings, opts_of}
 use Rattle.bz_serve.specs.RequestSteps.{step}
+use Rattle.bz_serve.specs.SomeReplies.{MayReply}
 use Rattle.bz_serve.proofs.ServingLoopLemmas.{next_left, none_left, served_all, served_more, served_none, served_stopped}
 use Rattle.bz_serve.proofs.serving.serve_all.Goals as goal
 
 -- no request was answered
 pub loop-request-init : goal.loop-request-init
 loop-request-init g c = record {
-  served = served_none g.W.TextOut g.F.Files (step c.args.server.now.map_files) (map request_of c.args.requests.now) _ _ _;
+  served = served_none g.W.TextOut g.F.Files (step c.args.server.now.map_files) (MayReply (opts_of c.args.server.now.symbolizer.files.settings)) (map request_of c.args.requests.now) _ _ _;
+  map_files = refl;
   settings = refl;
 }
 
@@ -16,10 +19,12 @@ pub loop-request-preserved : goal.loop-request-preserved
 loop-request-preserved g c =
     let requests = c.args.requests.now in
     let index = c.loop-request.request-index in
-    let so_far = next_left g.W.TextOut g.F.Files (step c.args.server.now.map_files) request_of requests index _ _ _ _ _ _ c.request-item.result c.loop-request-test.true c.request-item.is c.loop-request.invariant.served in
+    let so_far = next_left g.W.TextOut g.F.Files (step c.args.server.now.map_files) (MayReply (opts_of c.args.server.now.symbolizer.files.settings)) request_of requests index _ _ _ _ _ _ c.request-item.result c.loop-request-test.true c.request-item.is c.loop-request.invariant.served in
     record {
-      served = served_more g.W.TextOut g.F.Files (step c.args.server.now.map_files) (map request_of requests) (map request_of (drop (index + 1) requests)) (request_of c.request-item.result) _ _ _ _ _ _ _ _ _ _ so_far
-          c.begin.ensures.worlds c.begin.ensures.faults c.begin.ensures.opens c.begin.ensures.pid (rw c.loop-request.invariant.settings at c.in_default.ensures.served);
+      served = served_more g.W.TextOut g.F.Files (step c.args.server.now.map_files) (MayReply (opts_of c.args.server.now.symbolizer.files.settings)) (map request_of requests) (map request_of (drop (index + 1) requests)) (request_of c.request-item.result) _ _ _ _ _ _ _ _ _ _ so_far
+          c.begin.ensures.worlds c.begin.ensures.faults c.begin.ensures.opens c.begin.ensures.pid (rw c.loop-request.invariant.map_files at c.in_default.ensures.served)
+          (λ text may. subst (λ (settings : Settings). MayReply (opts_of settings) (request_of c.request-item.result) text) c.loop-request.invariant.settings may);
+      map_files = c.in_default.ensures.map_files ∙ c.loop-request.invariant.map_files;
       settings = c.in_default.ensures.settings ∙ c.loop-request.invariant.settings;
     }
 
@@ -28,13 +33,13 @@ pub returns-in-Err : goal.returns-in-Err
 returns-in-Err g c =
     let requests = c.args.requests.now in
     let index = c.loop-request.request-index in
-    let so_far = next_left g.W.TextOut g.F.Files (step c.args.server.now.map_files) request_of requests index _ _ _ _ _ _ c.request-item.result c.loop-request-test.true c.request-item.is c.loop-request.invariant.served in
-    served_stopped g.W.TextOut g.F.Files (step c.args.server.now.map_files) (map request_of requests) (map request_of (drop (index + 1) requests)) (request_of c.request-item.result) _ _ _ _ _ _ _ _ _ _ so_far
-    c.begin.ensures.worlds c.begin.ensures.faults c.begin.ensures.opens c.begin.ensures.pid c.in-Err.stop (rw c.loop-request.invariant.settings at c.in-Err.ensures.served)
+    let so_far = next_left g.W.TextOut g.F.Files (step c.args.server.now.map_files) (MayReply (opts_of c.args.server.now.symbolizer.files.settings)) request_of requests index _ _ _ _ _ _ c.request-item.result c.loop-request-test.true c.request-item.is c.loop-request.invariant.served in
+    served_stopped g.W.TextOut g.F.Files (step c.args.server.now.map_files) (MayReply (opts_of c.args.server.now.symbolizer.files.settings)) (map request_of requests) (map request_of (drop (index + 1) requests)) (request_of c.request-item.result) _ _ _ _ _ _ _ _ _ _ so_far
+    c.begin.ensures.worlds c.begin.ensures.faults c.begin.ensures.opens c.begin.ensures.pid c.in-Err.stop (rw c.loop-request.invariant.map_files at c.in-Err.ensures.served)
 
 -- none is left
 pub returns : goal.returns
 returns g c =
     let requests = c.args.requests.now in
-    served_all g.W.TextOut g.F.Files (step c.args.server.now.map_files) (map request_of requests) _ _ _ _ _ _
-    (none_left g.W.TextOut g.F.Files (step c.args.server.now.map_files) request_of requests c.loop-request.request-index _ _ _ _ _ _ c.loop-request-test.false c.loop-request.invariant.served)
+    served_all g.W.TextOut g.F.Files (step c.args.server.now.map_files) (MayReply (opts_of c.args.server.now.symbolizer.files.settings)) (map request_of requests) _ _ _ _ _ _
+    (none_left g.W.TextOut g.F.Files (step c.args.server.now.map_files) (MayReply (opts_of c.args.server.now.symbolizer.files.settings)) request_of requests c.loop-request.request-index _ _ _ _ _ _ c.loop-request-test.false c.loop-request.invariant.served)

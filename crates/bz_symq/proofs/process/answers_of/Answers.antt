@@ -3,7 +3,7 @@ use Rattle.bz_base.specs.InputKind.{address_kind}
 use Rattle.bz_process.specs.Processes.{is_in_process}
 use Rattle.bz_symq.specs.Kept.{KeptState}
 use Rattle.bz_symq.specs.Processes.{pid_of, process_batch}
-use Rattle.bz_symq.proofs.ProcessLemmas.{answered_if_taken, lacks_or_fails, opened_if_taken, process_named, process_refusal, served_if_given, views}
+use Rattle.bz_symq.proofs.ProcessLemmas.{answered_if_taken, lacks_or_fails, opened_if_taken, process_named, process_refusal, served_if_given, some_if_taken, views}
 use Rattle.bz_symq.proofs.process.answers_of.Goals as goal
 
 -- a dispatcher that gives no resolver leaves the answers to the definitions
@@ -24,6 +24,19 @@ pub returns-clause-served : goal.returns-clause-served
 returns-clause-served g c =
     let promise = rw (c.from-src.ensures, c.input_for.ensures.kind) at c.symbolize_counted.ensures.process.asked in
     served_if_given (is_in_process (address_kind c.args.batch.kind)) c.symbolize_counted.result (λ is. (promise.untaken is).0)
+
+-- by the mappings of some text, whatever is told
+pub returns-clause-answered : goal.returns-clause-answered
+returns-clause-answered g c =
+    let named : c.from.result ≡ pid_of c.args.batch.number = process_named c.args.batch.number c.from.result c.from.ensures in
+    let promise = rw (c.from-src.ensures, c.new-process.ensures, named, c.input_for.ensures.kind, c.input_for.ensures.addrs) at c.symbolize_counted.ensures.process.asked in
+    let kept = c.new_symbolizer-symbolizer.ensures in
+    let files = ap (λ (k : KeptState). k.files) kept in
+    let perf_maps = ap (λ (k : KeptState). k.processes.perf_maps) kept in
+    let ids = ap (λ (k : KeptState). k.processes.ids) kept in
+    let mappings = ap (λ (k : KeptState). k.processes.mappings) kept in
+    some_if_taken (address_kind c.args.batch.kind) c.args.batch.config c.args.batch.number (g.F.Files.pid c.args.files.now) c.args.addrs.now c.symbolize_counted.result _ (λ is. (promise.untaken is).0)
+    (λ is. rw (files, perf_maps, ids, mappings) at (promise.some (λ member answer is. is) is))
 
 -- no mappings are kept, so it is refused for want of mappings, whatever is told
 pub returns-clause-refusal : goal.returns-clause-refusal

@@ -12,7 +12,7 @@ returns-in-Ok-clause-reply g c world told =
     rw given refl
 
 pub returns-in-Ok-clause-answered : goal.returns-in-Ok-clause-answered
-returns-in-Ok-clause-answered g c done = record { answers = map reading c.in-Ok.answers.items; answers_are = record { served = c.in-Ok.ensures.served refl; are = tt }; text_is = refl }
+returns-in-Ok-clause-answered g c done = record { answers = map reading c.in-Ok.answers.items; answers_are = record { served = c.in-Ok.ensures.served refl; are = rw c.as_slice.ensures.value at c.in-Ok.ensures.answered }; text_is = refl }
 
 -- the process was refused
 pub returns-in-Err-clause-reply : goal.returns-in-Err-clause-reply

@@ -21,7 +21,7 @@ returns-clause-answered g c =
     let files : c.new_symbolizer-symbolizer.result.files ≡ new_state (settings_of c.args.batch.now.config) = ap (λ (kept : KeptState). kept.files) c.new_symbolizer-symbolizer.ensures in
     let kept = rw (files, c.input_for.ensures.kind, c.input_for.ensures.addrs) at c.look_up.ensures.call.kept in
     let untaken = rw c.input_for.ensures.kind at c.look_up.ensures.call.untaken in
-    some_from_kept c.args.batch.now.config c.args.addrs.items answers_read (address_kind c.args.batch.now.kind) _ _ (file_target_of c.args.batch.now.file) c.in_ok-src.src c.look_up.result c.in_ok-src.ensures.ok (λ refused. refused.0) untaken kept
+    some_from_kept c.args.batch.now.config c.args.addrs.items answers_read (address_kind c.args.batch.now.kind) _ _ _ (file_target_of c.args.batch.now.file) c.in_ok-src.src c.look_up.result c.in_ok-src.ensures.ok (λ refused. refused.0) untaken kept
 
 -- or refused by a cause that the file may have
 pub returns-clause-refusal : goal.returns-clause-refusal

@@ -14,7 +14,7 @@ returns-in-Ok-clause-reply g c =
     let asking = asking_of c.args.batch.now in
     let short : length c.in-Ok.text.items ≤ greatest_input = omega (arith, c.in-Ok.text.ok.0, c.in-Ok.ensures.short) in
     reply_from_input (Batch asking) asking c.in-Ok.text.items refl short _ _ _ c.reply_to_input.result
-    c.in-Ok.ensures.whole c.reply_to_input.ensures.reply c.reply_to_input.ensures.answered c.reply_to_input.ensures.refusal c.reply_to_input.ensures.status
+    c.in-Ok.ensures.whole c.reply_to_input.ensures.reply c.reply_to_input.ensures.answered c.reply_to_input.ensures.refusal c.reply_to_input.ensures.status c.reply_to_input.ensures.line
 
 -- input and files in their turn
 pub returns-in-Ok-clause-turns : goal.returns-in-Ok-clause-turns

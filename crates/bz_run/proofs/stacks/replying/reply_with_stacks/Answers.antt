@@ -13,7 +13,7 @@ pub returns-in-Ok-clause-reply : goal.returns-in-Ok-clause-reply
 returns-in-Ok-clause-reply g c =
     let short : length c.in-Ok.text.items ≤ greatest_input = omega (arith, c.in-Ok.text.ok.0, c.in-Ok.ensures.short) in
     reply_from_input c.args.path.now c.args.config c.in-Ok.text.items short _ _ c.reply_to_input.result
-    c.in-Ok.ensures.whole c.reply_to_input.ensures.reply c.reply_to_input.ensures.answered c.reply_to_input.ensures.refusal c.reply_to_input.ensures.status
+    c.in-Ok.ensures.whole c.reply_to_input.ensures.reply c.reply_to_input.ensures.answered c.reply_to_input.ensures.refusal c.reply_to_input.ensures.status c.reply_to_input.ensures.line
 
 -- input and file in their turn
 pub returns-in-Ok-clause-turns : goal.returns-in-Ok-clause-turns

@@ -1,10 +1,13 @@
-use Rattle.std.proofs.Common.{◌∙◌, ap, string_bytes, subst, sym}
+use Rattle.std.proofs.Common.{◌∙◌, IfOk, ap, string_bytes, subst, sym}
 use Rattle.bz_requests.specs.Requests.{request_of}
 use Rattle.bz_requests.specs.declared.requests.Request as made
 use Rattle.bz_symbolize.specs.Requests.{CacheElf as KeepElf}
+use Rattle.bz_symbolize.specs.State.{opts_of}
 use Rattle.bz_symq.specs.Kept.{kept_of}
+use Rattle.bz_symq.specs.Reply.{text_of}
 use Rattle.bz_serve.specs.Serving.{Replied}
 use Rattle.bz_serve.specs.RequestSteps.{process_by, step}
+use Rattle.bz_serve.specs.SomeReplies.{MayReply}
 use Rattle.bz_serve.proofs.serving.replies.reply_to_request.Goals as goal
 
 -- the file is kept
@@ -13,7 +16,14 @@ returns-in_ok-cache-in-CacheElf-clause-reply g c =
     subst
     (λ (request : made.Request). Replied g.F.Files (step c.args.server.now.map_files (g.F.Files.pid c.args.files.now) (request_of request)) c.reply_to_cache.result (kept_of c.args.server.now.symbolizer) (kept_of c.reply_to_cache.new.symbolizer) c.args.files.now c.reply_to_cache.new.files)
     (sym c.in-CacheElf.is)
-    (c.reply_to_cache.ensures (KeepElf (string_bytes c.in-CacheElf.path)) (c.in_ok-cache-in-CacheElf.ensures.ok ∙ ap KeepElf c.as_str.ensures.value))
+    (c.reply_to_cache.ensures.reply (KeepElf (string_bytes c.in-CacheElf.path)) (c.in_ok-cache-in-CacheElf.ensures.ok ∙ ap KeepElf c.as_str.ensures.value))
+
+pub returns-in_ok-cache-in-CacheElf-clause-some : goal.returns-in_ok-cache-in-CacheElf-clause-some
+returns-in_ok-cache-in-CacheElf-clause-some g c =
+    subst
+    (λ (request : made.Request). IfOk c.reply_to_cache.result (λ said. MayReply (opts_of c.args.server.now.symbolizer.files.settings) (request_of request) (text_of said)))
+    (sym c.in-CacheElf.is)
+    (c.reply_to_cache.ensures.some (KeepElf (string_bytes c.in-CacheElf.path)) (c.in_ok-cache-in-CacheElf.ensures.ok ∙ ap KeepElf c.as_str.ensures.value))
 
 -- and so is what answers for the process
 pub returns-in-CacheProcess-clause-reply : goal.returns-in-CacheProcess-clause-reply
@@ -21,4 +31,11 @@ returns-in-CacheProcess-clause-reply g c =
     subst
     (λ (request : made.Request). Replied g.F.Files (step c.args.server.now.map_files (g.F.Files.pid c.args.files.now) (request_of request)) c.reply_to_cache-in-CacheProcess.result (kept_of c.args.server.now.symbolizer) (kept_of c.reply_to_cache-in-CacheProcess.new.symbolizer) c.args.files.now c.reply_to_cache-in-CacheProcess.new.files)
     (sym c.in-CacheProcess.is)
-    (c.reply_to_cache-in-CacheProcess.ensures (process_by c.in-CacheProcess.number) c.process_to_cache-cache.ensures)
+    (c.reply_to_cache-in-CacheProcess.ensures.reply (process_by c.in-CacheProcess.number) c.process_to_cache-cache.ensures)
+
+pub returns-in-CacheProcess-clause-some : goal.returns-in-CacheProcess-clause-some
+returns-in-CacheProcess-clause-some g c =
+    subst
+    (λ (request : made.Request). IfOk c.reply_to_cache-in-CacheProcess.result (λ said. MayReply (opts_of c.args.server.now.symbolizer.files.settings) (request_of request) (text_of said)))
+    (sym c.in-CacheProcess.is)
+    (c.reply_to_cache-in-CacheProcess.ensures.some (process_by c.in-CacheProcess.number) c.process_to_cache-cache.ensures)

@@ -1,0 +1,96 @@
+-- What may be replied to a request, whatever the files tell.
+use Rattle.std.specs.Prelude.{◌≡◌, ◌⊎◌, ℕ, List, ◌++◌, length, Option, Some, Result, Ok, Err}
+use Rattle.std.specs.List.{AllZip, concat}
+use Rattle.bz_base.specs.Refusals.{IsFailure}
+use Rattle.bz_base.specs.declared.error.Error.{Error}
+use Rattle.bz_base.specs.declared.error.Error.TheVariants as errors
+use Rattle.bz_base.specs.declared.types.FindSymOpts.{FindSymOpts}
+use Rattle.bz_symbolize.specs.FileCall.{Query, batch_of, single_of}
+use Rattle.bz_symbolize.specs.Promise.{IsBreakpadAnswer, IsElfAnswer, IsGsymAnswer}
+use Rattle.bz_symbolize.specs.Requests.{ToCache, CacheElf as KeepElf, CacheProcess as KeepProcess}
+use Rattle.bz_symbolize.specs.declared.source.Source.{Source}
+use Rattle.bz_requests.specs.Requests.{Request, Batch, CacheElf, CacheProcess, EvictElf, EvictProcess, Single, Target, Breakpad, Elf, Gsym, Process, usual_kind}
+use Rattle.bz_canon.specs.AnswerText.{answer_text, answer_texts}
+use Rattle.bz_symq.specs.Command.{FileTarget, Breakpad as BreakpadFile, Elf as ElfFile, Gsym as GsymFile}
+use Rattle.bz_symq.specs.Reply.{IsSomeRefusal}
+use Rattle.bz_symq.specs.Targets.{IsSomeFileCause, IsSomeProcessCause, IsSourceOf}
+use Rattle.bz_serve.specs.RequestSteps.{okay, process_by}
+
+-- where the target is a file, the source is that file
+abbrev pub IsSourceFor : Target → Source → Type 0
+IsSourceFor (Breakpad path) source = IsSourceOf (BreakpadFile path) source
+IsSourceFor (Gsym path) source = IsSourceOf (GsymFile path) source
+IsSourceFor (Elf path) source = IsSourceOf (ElfFile path) source
+IsSourceFor (Process number) source = Unit {0}
+
+-- the bytes are in the file's format, and answer the query so, or refuse it
+abbrev pub IsAnswerBy : {B : Type 0} → FindSymOpts → FileTarget → List ℕ → Query B → Result B Error → Type 0
+IsAnswerBy opts (BreakpadFile path) bytes query answer = IsBreakpadAnswer opts bytes query answer
+IsAnswerBy opts (GsymFile path) bytes query answer = IsGsymAnswer opts bytes query answer
+IsAnswerBy opts (ElfFile path) bytes query answer = IsElfAnswer path bytes query answer
+
+-- some bytes in the file's format answer the query so, or refuse it so
+abbrev pub IsSomeAnswer : {B : Type 0} → FindSymOpts → FileTarget → Query B → Result B Error → Type 0
+IsSomeAnswer opts file query answer = (bytes : List ℕ) × IsAnswerBy opts file bytes query answer
+
+-- the text is that of something for which this holds, or names a refusal by such a cause
+abbrev pub SaysSome : {B : Type 0} → (B → List ℕ) → (B → Type 0) → (Error → Type 0) → List ℕ → Type 0
+SaysSome {B} text_of Given Cause text = ((given : B) × Given given × (text ≡ text_of given)) ⊎ IsSomeRefusal Cause text
+
+-- a file may be refused for a cause of its own, or as some bytes in its format themselves refuse what is asked
+abbrev pub IsAskedCause : {B : Type 0} → FindSymOpts → FileTarget → Query B → Error → Type 0
+IsAskedCause opts file query e = IsSomeFileCause file e ⊎ IsSomeAnswer opts file query (Err e)
+
+-- the text is what a file may say
+abbrev pub FileSays : {B : Type 0} → (B → List ℕ) → FindSymOpts → FileTarget → Query B → List ℕ → Type 0
+FileSays text_of opts file query text = SaysSome text_of (λ given. IsSomeAnswer opts file query (Ok given)) (λ e. IsAskedCause opts file query e) text
+
+-- and a process, to addresses: some answers, one to each of them, or why it lacks mappings
+abbrev pub ProcessSays : List ℕ → List ℕ → Type 0
+ProcessSays addrs text = SaysSome (answer_texts addrs) (λ answers. length answers ≡ length addrs) IsSomeProcessCause text
+
+-- and to an address alone: some answer, or a refusal that is no failure
+abbrev pub ProcessSaysAlone : ℕ → List ℕ → Type 0
+ProcessSaysAlone addr text = SaysSome (answer_text addr) (λ answer. Unit {0}) (λ e. IsFailure e → ⊥) text
+
+-- and a target: its file, or else its process
+abbrev pub TargetSays : {B : Type 0} → (B → List ℕ) → FindSymOpts → Query B → (List ℕ → Type 0) → Target → List ℕ → Type 0
+TargetSays text_of opts query OfProcess (Breakpad path) text = FileSays text_of opts (BreakpadFile path) query text
+TargetSays text_of opts query OfProcess (Gsym path) text = FileSays text_of opts (GsymFile path) query text
+TargetSays text_of opts query OfProcess (Elf path) text = FileSays text_of opts (ElfFile path) query text
+TargetSays text_of opts query OfProcess (Process number) text = OfProcess text
+
+-- a text of the system may be absent, may not be read, or is malformed
+abbrev pub IsSomeReadCause : Error → Type 0
+IsSomeReadCause errors.NotFound = Unit {0}
+IsSomeReadCause errors.PermissionDenied = Unit {0}
+IsSomeReadCause errors.InvalidData = Unit {0}
+IsSomeReadCause e = ⊥
+
+-- why something may not be kept
+abbrev pub IsSomeKeepingCause : ToCache → Error → Type 0
+IsSomeKeepingCause (KeepElf path) e = IsSomeFileCause (ElfFile path) e
+IsSomeKeepingCause (KeepProcess asked) e = IsSomeReadCause e
+
+-- the text says that something is kept, or why it may not be
+abbrev pub KeepingSays : ToCache → List ℕ → Type 0
+KeepingSays asked text = SaysSome okay (λ done. Unit {0}) (IsSomeKeepingCause asked) text
+
+-- the text may be replied to the request, under these options of a look-up
+abbrev pub MayReply : FindSymOpts → Request → List ℕ → Type 0
+MayReply opts (Batch target addrs) text = TargetSays (answer_texts addrs) opts (batch_of (usual_kind target) addrs) (ProcessSays addrs) target text
+MayReply opts (Single target addr) text = TargetSays (answer_text addr) opts (single_of (usual_kind target) addr) (ProcessSaysAlone addr) target text
+MayReply opts (CacheElf path) text = KeepingSays (KeepElf path) text
+MayReply opts (CacheProcess number) text = KeepingSays (process_by number) text
+MayReply opts (EvictElf path) text = text ≡ okay tt
+MayReply opts (EvictProcess number) text = text ≡ okay tt
+
+-- the text is one reply after another, one to each request, each of which that request may have
+pub record AreReplies {A : Type 0} (MaySay : A → List ℕ → Type 0) (requests : List A) (text : List ℕ) : Type 0 where
+  pub texts : List (List ℕ)
+  pub each : AllZip MaySay requests texts
+  pub text_is : text ≡ concat texts
+
+-- such a text was written after what stood there
+abbrev pub WritesReplies : {A : Type 0} → (A → List ℕ → Type 0) → List A → List ℕ → Option (List ℕ) → Type 0
+WritesReplies MaySay requests old new = (text : List ℕ) × AreReplies MaySay requests text × (new ≡ Some (old ++ text))
