@@ -21,12 +21,15 @@ fn keeps_its_kind(input: Input<u64>) -> bool {
 
 #[test]
 fn reasons_errors_and_inputs_tell_what_they_are(rt: HostRuntime) {
+    assert!(rt; print_in_words(rt.alloc()), "words");
+    assert!(rt; keeps_its_kind(Input::VirtOffset(3)), "an input");
     assert!(rt;
-        print_in_words(rt.alloc())
-            && keeps_its_kind(Input::VirtOffset(3))
-            && Reason::MissingComponent.as_bytes()
-                == b"proc maps entry has no component\0".as_slice()
-            && Error::InvalidInput.kind() == ErrorKind::InvalidInput
+        Reason::MissingComponent.as_bytes() == b"proc maps entry has no component\0".as_slice(),
+        "bytes of a reason"
+    );
+    assert!(rt;
+        Error::InvalidInput.kind() == ErrorKind::InvalidInput,
+        "kind of an error"
     );
 }
 
@@ -165,11 +168,13 @@ fn parts_are_cloned(alloc: Global) -> bool {
 }
 
 #[test]
-fn answers_are_cloned_and_give_their_symbols(rt: HostRuntime) {
-    assert!(rt; is_cloned_and_given(rt.alloc()) && parts_are_cloned(rt.alloc()));
+fn answers_are_cloned_and_given_and_their_parts_cloned(rt: HostRuntime) {
+    assert!(rt; is_cloned_and_given(rt.alloc()), "a symbol");
+    assert!(rt; parts_are_cloned(rt.alloc()), "a call, a site and a reason");
 }
 
 #[test]
 fn calls_and_sites_are_owned(rt: HostRuntime) {
-    assert!(rt; call_is_owned(rt.alloc()) && site_is_owned(rt.alloc()));
+    assert!(rt; call_is_owned(rt.alloc()), "a call");
+    assert!(rt; site_is_owned(rt.alloc()), "a site");
 }

@@ -2,7 +2,8 @@
 
 use bz_base::Cursor;
 
-/// Bytes, with the unsigned number in front of them. The first five are the DWARF standard's own.
+/// Bytes, with the unsigned number in front of them, if there is one. The first five are the DWARF
+/// standard's own.
 static UNSIGNED: [(&[u8], Option<u64>); 14] = [
     (b"\x02", Some(2)),
     (b"\x7f", Some(127)),
@@ -26,7 +27,8 @@ static UNSIGNED: [(&[u8], Option<u64>); 14] = [
     (b"", None),
 ];
 
-/// Bytes, with the signed number in front of them. The first eight are the DWARF standard's own.
+/// Bytes, with the signed number in front of them, if there is one. The first eight are the DWARF
+/// standard's own.
 static SIGNED: [(&[u8], Option<i64>); 18] = [
     (b"\x02", Some(2)),
     (b"\x7e", Some(-2)),
@@ -60,26 +62,16 @@ static SIGNED: [(&[u8], Option<i64>); 18] = [
     (b"\xff", None),
 ];
 
-/// Whether each unsigned number is in front of the bytes and takes all of them, or there is none.
-fn unsigned_are_read() -> bool {
-    for (bytes, want) in &UNSIGNED {
-        let mut cursor = Cursor::new(bytes);
-        if cursor.read_uleb() != *want || (want.is_some() && !cursor.rest().is_empty()) {
-            return false;
-        }
-    }
-    true
+/// Whether an unsigned number is in front of the bytes and takes all of them, or there is none.
+fn unsigned_is_read(bytes: &[u8], want: Option<u64>) -> bool {
+    let mut cursor = Cursor::new(bytes);
+    cursor.read_uleb() == want && (want.is_none() || cursor.rest().is_empty())
 }
 
-/// Whether each signed number is in front of the bytes and takes all of them, or there is none.
-fn signed_are_read() -> bool {
-    for (bytes, want) in &SIGNED {
-        let mut cursor = Cursor::new(bytes);
-        if cursor.read_sleb() != *want || (want.is_some() && !cursor.rest().is_empty()) {
-            return false;
-        }
-    }
-    true
+/// Whether a signed number is in front of the bytes and takes all of them, or there is none.
+fn signed_is_read(bytes: &[u8], want: Option<i64>) -> bool {
+    let mut cursor = Cursor::new(bytes);
+    cursor.read_sleb() == want && (want.is_none() || cursor.rest().is_empty())
 }
 
 /// Whether the numbers at the start are read in turn.
@@ -117,16 +109,24 @@ fn reads_rest(cursor: &mut Cursor<'_>) -> bool {
 }
 
 #[test]
+fn reads_numbers_of_any_length(rt: HostRuntime) {
+    for index in 0..UNSIGNED.len() {
+        let (bytes, want) = UNSIGNED[index];
+        assert!(rt; unsigned_is_read(bytes, want), "unsigned {index}");
+    }
+    for index in 0..SIGNED.len() {
+        let (bytes, want) = SIGNED[index];
+        assert!(rt; signed_is_read(bytes, want), "signed {index}");
+    }
+}
+
+#[test]
 fn reads_numbers_and_pieces_in_turn(rt: HostRuntime) {
     let mut cursor = Cursor::new(
         b"\x01\x02\x03\x04\x05\x06\x07\x08\x09\x0a\x0b\x0c\x0d\x0e\x0f\x10b\0cd",
     );
-    assert!(rt;
-        unsigned_are_read()
-            && signed_are_read()
-            && reads_numbers(&mut cursor)
-            && aligns(&mut cursor)
-            && reads_text(&mut cursor)
-            && reads_rest(&mut cursor)
-    );
+    assert!(rt; reads_numbers(&mut cursor), "numbers");
+    assert!(rt; aligns(&mut cursor), "a step to the next multiple of 4");
+    assert!(rt; reads_text(&mut cursor), "a text");
+    assert!(rt; reads_rest(&mut cursor), "the rest");
 }

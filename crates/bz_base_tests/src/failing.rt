@@ -113,7 +113,8 @@ fn fails_as(alloc: Global, kind: ErrorKind, stat: FileError, read: FileError) ->
 
 #[test]
 fn each_failure_of_the_system_has_its_answer(rt: HostRuntime) {
-    for (kind, stat, read) in &ANSWERS {
-        assert!(rt; fails_as(rt.alloc(), *kind, *stat, *read));
+    for index in 0..ANSWERS.len() {
+        let (kind, stat, read) = ANSWERS[index];
+        assert!(rt; fails_as(rt.alloc(), kind, stat, read), "row {index}");
     }
 }

@@ -119,7 +119,7 @@ enum Act {
 type Step = (Act, &'static str, &'static [u8], usize);
 
 /// A changed file is answered by its first version.
-static CHANGES_UNSEEN: [Step; 4] = [
+const CHANGES_UNSEEN: [Step; 4] = [
     (Act::Puts, "", b"V1", 0),
     (Act::Answers(true), "/s", b"V1", 0),
     (Act::Puts, "", b"V2", 0),
@@ -229,40 +229,38 @@ fn goes(cache: &mut FileCache<Note>, alloc: Global, files: &mut MemFiles, step: 
     }
 }
 
-/// Whether each step goes so, with new files and a new cache.
-fn go_well(alloc: Global, builder: CacheBuilder<Note>, steps: &[Step]) -> bool {
+/// How many steps go so before one that doesn't, with new files and a new cache.
+fn count_until_failure(alloc: Global, builder: CacheBuilder<Note>, steps: &[Step]) -> usize {
     let mut files = MemFiles::new(alloc, 0);
     let mut cache = builder.build(alloc);
-    for step in steps {
-        if !goes(&mut cache, alloc, &mut files, step) {
-            return false;
+    for index in 0..steps.len() {
+        if !goes(&mut cache, alloc, &mut files, &steps[index]) {
+            return index;
         }
     }
-    true
+    steps.len()
 }
 
-/// What happens to files at which a cache looks anew.
-static COURSES: [&[Step]; 6] = [
-    &CHANGES,
-    &IS_PINNED,
-    &IS_TAKEN_IN,
-    &CHANGES_BACK,
-    &KEEPS_ITS_STAMP,
-    &HAS_TWO_PATHS,
+/// What happens to files, by a name, and whether a cache looks at them anew.
+static COURSES: [(&str, &[Step], bool); 7] = [
+    ("a file changes unseen", &CHANGES_UNSEEN, false),
+    ("a file changes", &CHANGES, true),
+    ("a path is pinned", &IS_PINNED, true),
+    ("a note is taken in", &IS_TAKEN_IN, true),
+    ("a file changes back", &CHANGES_BACK, true),
+    ("a file keeps its stamp", &KEEPS_ITS_STAMP, true),
+    ("a file has two paths", &HAS_TWO_PATHS, true),
 ];
 
-/// Whether each course goes well, with a cache of its own.
-fn courses_go_well(alloc: Global) -> bool {
-    for steps in &COURSES {
-        if !go_well(alloc, FileCache::builder(), steps) {
-            return false;
-        }
-    }
-    true
-}
-
 #[test]
-fn versions_are_kept_while_they_are_named(rt: HostRuntime) {
-    let unseen = FileCache::builder().enable_auto_reload(false);
-    assert!(rt; go_well(rt.alloc(), unseen, &CHANGES_UNSEEN) && courses_go_well(rt.alloc()));
+fn caches_read_keep_and_drop_versions(rt: HostRuntime) {
+    for (name, steps, anew) in &COURSES {
+        let builder = if *anew {
+            FileCache::builder()
+        } else {
+            FileCache::builder().enable_auto_reload(false)
+        };
+        let gone = count_until_failure(rt.alloc(), builder, steps);
+        assert!(rt; gone == steps.len(), "{name}: step {gone}");
+    }
 }

@@ -1,5 +1,6 @@
-//! Tests of bz_base, bz_bytes, bz_search, bz_files and bz_cache, over what they make public: that the
-//! calls succeed, answers that were worked out by hand, and what real files, readers and writers give.
+//! Tests of bz_base, bz_bytes, bz_search, bz_files and bz_cache, over what they make public. They show
+//! that calls succeed, that they answer what was worked out by hand, and what real files, readers and
+//! writers give.
 #![tactic(auto)]
 
 #[cfg(test)]

@@ -66,7 +66,7 @@ fn holds(files: &mut MemFiles, alloc: Global) -> Result<bool, Error> {
 }
 
 #[test]
-fn memory_files_hold_what_is_put(rt: HostRuntime) {
+fn memory_files_answer_as_they_were_edited(rt: HostRuntime) {
     let held = holds(&mut MemFiles::new(rt.alloc(), 7), rt.alloc()) == Ok(true);
     assert!(rt; held);
 }
@@ -115,7 +115,7 @@ fn are_seen(files: &mut MemFiles, alloc: Global) -> Result<bool, Error> {
 }
 
 #[test]
-fn memory_worlds_come_in_turn(rt: HostRuntime) {
+fn memory_worlds_come_in_turn_and_the_last_is_edited(rt: HostRuntime) {
     let seen = are_seen(&mut MemFiles::new(rt.alloc(), 7), rt.alloc()) == Ok(true);
     assert!(rt; seen);
 }

@@ -32,7 +32,8 @@ fn goes_in_pieces(output: &mut MemOut) -> bool {
 }
 
 #[test]
-fn memory_texts_go_in_pieces(rt: HostRuntime) {
+fn memory_texts_come_and_go_in_pieces_and_fail(rt: HostRuntime) {
     let went = goes_in_pieces(&mut MemOut::new(rt.alloc()));
-    assert!(rt; went && comes_of_bytes(rt.alloc()));
+    assert!(rt; went, "a writer");
+    assert!(rt; comes_of_bytes(rt.alloc()), "a reader");
 }

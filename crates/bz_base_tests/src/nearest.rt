@@ -89,7 +89,7 @@ fn finds_around(alloc: Global) -> Result<bool, AllocError> {
     Ok(has_around(alloc, &table))
 }
 
-/// Starts and sizes in the order of a file, of which several are equal.
+/// Starts, sizes and depths of 0 in the order of a file, of which several are equal.
 static SPANS: [(u64, u64, u32); 6] = [
     (16, 8, 0),
     (16, 4, 0),
@@ -242,12 +242,20 @@ fn covers_up_to_its_end() -> bool {
 }
 
 #[test]
-fn finds_records(rt: HostRuntime) {
+fn counted_steps_take_no_bytes_and_places_four(rt: HostRuntime) {
+    assert!(rt; size_of::<Steps<Brand>>() == 0, "steps");
+    assert!(rt; size_of::<Place>() == 4, "places");
+}
+
+#[test]
+fn finds_records_and_places_of_addresses(rt: HostRuntime) {
+    assert!(rt; covers_up_to_its_end(), "records up to their ends");
     assert!(rt;
-        size_of::<Steps<Brand>>() == 0
-            && size_of::<Place>() == 4
-            && covers_up_to_its_end()
-            && finds_around(rt.alloc()) == Ok(true)
-            && finds::<Brand>(Blank::new(1), rt.alloc())
+        finds_around(rt.alloc()) == Ok(true),
+        "records around an address"
+    );
+    assert!(rt;
+        finds::<Brand>(Blank::new(1), rt.alloc()),
+        "the record of an address, and its place among starts"
     );
 }

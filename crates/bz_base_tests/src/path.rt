@@ -46,19 +46,9 @@ fn splits_into(text: &str, directory: &str, file: &str) -> bool {
     }
 }
 
-/// Whether all texts are split so.
-fn are_split() -> bool {
-    for (text, directory, file) in &SPLITS {
-        if !splits_into(text, directory, file) {
-            return false;
-        }
-    }
-    true
-}
-
-/// Whether this is the path of the place's file.
-fn has_path(alloc: Global, place: &CodeInfo<'_>, want: &str) -> bool {
-    match place.to_path(alloc) {
+/// Whether this is the path of the site's file.
+fn has_path(alloc: Global, site: &CodeInfo<'_>, want: &str) -> bool {
+    match site.to_path(alloc) {
         Ok(path) => path.as_str() == want,
         Err(_) => false,
     }
@@ -66,26 +56,28 @@ fn has_path(alloc: Global, place: &CodeInfo<'_>, want: &str) -> bool {
 
 /// Whether this is the path of a file in a directory, or of a file without one.
 fn joins_to(alloc: Global, dir: Option<CowStr<'_>>, file: &str, want: &str) -> bool {
-    let place = CodeInfo {
+    let site = CodeInfo {
         dir,
         file: CowStr::Borrowed(file),
         line: None,
         column: None,
     };
-    has_path(alloc, &place, want)
-}
-
-/// Whether all directories and files are joined so.
-fn are_joined(alloc: Global) -> bool {
-    for (directory, file, want) in &PATHS {
-        if !joins_to(alloc, Some(CowStr::Borrowed(directory)), file, want) {
-            return false;
-        }
-    }
-    joins_to(alloc, None, "source.c", "source.c")
+    has_path(alloc, &site, want)
 }
 
 #[test]
 fn splits_and_joins_paths(rt: HostRuntime) {
-    assert!(rt; are_split() && are_joined(rt.alloc()));
+    for (text, directory, file) in &SPLITS {
+        assert!(rt; splits_into(text, directory, file), "'{text}' is split");
+    }
+    for (directory, file, want) in &PATHS {
+        assert!(rt;
+            joins_to(rt.alloc(), Some(CowStr::Borrowed(directory)), file, want),
+            "'{want}' is joined"
+        );
+    }
+    assert!(rt;
+        joins_to(rt.alloc(), None, "source.c", "source.c"),
+        "a file alone"
+    );
 }

@@ -31,29 +31,9 @@ fn is_named(alloc: Global, pid: Pid, id: u32, text: &str) -> bool {
     }
 }
 
-/// Whether all processes resolve and print so.
-fn are_named(alloc: Global) -> bool {
-    for (number, id, text) in &PROCESSES {
-        if !is_named(alloc, Pid::from(*number), *id, text) {
-            return false;
-        }
-    }
-    true
-}
-
 /// Whether two processes stand so, and are equal exactly where neither comes first.
 fn stand(first: Pid, second: Pid, order: Ordering) -> bool {
     first.cmp(&second) == order && (first == second) == (order == Ordering::Equal)
-}
-
-/// Whether all pairs stand so.
-fn all_stand() -> bool {
-    for (first, second, order) in &PAIRS {
-        if !stand(Pid::from(*first), Pid::from(*second), *order) {
-            return false;
-        }
-    }
-    true
 }
 
 /// Whether a process holds this id.
@@ -73,6 +53,18 @@ fn hold_their_numbers() -> bool {
 }
 
 #[test]
-fn processes_are_made_from_numbers(rt: HostRuntime) {
-    assert!(rt; are_named(rt.alloc()) && all_stand() && hold_their_numbers());
+fn processes_resolve_print_and_compare_by_their_numbers(rt: HostRuntime) {
+    for (number, id, text) in &PROCESSES {
+        assert!(rt;
+            is_named(rt.alloc(), Pid::from(*number), *id, text),
+            "{text}"
+        );
+    }
+    for (first, second, order) in &PAIRS {
+        assert!(rt;
+            stand(Pid::from(*first), Pid::from(*second), *order),
+            "{first} and {second}"
+        );
+    }
+    assert!(rt; hold_their_numbers(), "numbers that are held");
 }

@@ -186,17 +186,26 @@ fn remove<R: std::rt::Files>(rt: &R) -> bool {
     removed
 }
 
-/// Whether the files are looked at, told apart, and fail.
-fn answer<R: std::rt::Files + Copy + Drop>(rt: &R, alloc: Global) -> bool {
-    are_looked_at(&mut RealFiles::new(*rt, 7), alloc)
-        && are_told_apart(&mut RealFiles::new(rt, 0)) == Ok(true)
-        && are_answered(&mut RealFiles::new(*rt, 0), alloc, &FAILING)
+/// The first thing that the files don't answer so; nothing where they answer all.
+fn first_to_fail<R: std::rt::Files + Copy + Drop>(rt: &R, alloc: Global) -> &'static str {
+    if !are_looked_at(&mut RealFiles::new(*rt, 7), alloc) {
+        return "looks and reads";
+    }
+    if are_told_apart(&mut RealFiles::new(rt, 0)) != Ok(true) {
+        return "stamps of two files";
+    }
+    if !are_answered(&mut RealFiles::new(*rt, 0), alloc, &FAILING) {
+        return "failures";
+    }
+    ""
 }
 
 #[test]
 fn real_files_are_looked_at_told_apart_and_fail(rt: HostRuntime) {
     let made = make(&rt);
-    let answered = answer(&rt, rt.alloc());
+    let failed = first_to_fail(&rt, rt.alloc());
     let removed = remove(&rt);
-    assert!(rt; made && answered && removed);
+    assert!(rt; made, "files are made");
+    assert!(rt; failed.is_empty(), "{failed}");
+    assert!(rt; removed, "files are removed");
 }

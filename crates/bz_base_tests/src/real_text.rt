@@ -29,8 +29,9 @@ fn goes_in_pieces(alloc: Global) -> bool {
 }
 
 #[test]
-fn real_texts_go_in_pieces(rt: HostRuntime) {
-    assert!(rt; comes_in_pieces() && goes_in_pieces(rt.alloc()));
+fn real_texts_come_and_go_in_pieces(rt: HostRuntime) {
+    assert!(rt; comes_in_pieces(), "a reader");
+    assert!(rt; goes_in_pieces(rt.alloc()), "a writer");
 }
 
 /// A reader and writer whose first calls fail in one way, and that then serves.
@@ -114,9 +115,11 @@ fn goes_while_there_is_room() -> bool {
 }
 
 #[test]
-fn real_texts_fail(rt: HostRuntime) {
-    for (kind, left, faults) in &FAILURES {
-        assert!(rt; comes_after(*kind, *left, *faults) && goes_after(*kind, *left, *faults));
+fn real_texts_go_on_after_failures(rt: HostRuntime) {
+    for index in 0..FAILURES.len() {
+        let (kind, left, faults) = FAILURES[index];
+        assert!(rt; comes_after(kind, left, faults), "a reader, row {index}");
+        assert!(rt; goes_after(kind, left, faults), "a writer, row {index}");
     }
-    assert!(rt; goes_while_there_is_room());
+    assert!(rt; goes_while_there_is_room(), "a full array");
 }

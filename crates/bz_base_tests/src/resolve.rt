@@ -77,13 +77,18 @@ fn is_found_in_file<T: Resolve>(
     }
 }
 
-/// The function is found sixteen bytes into the file, nothing past the end and nothing below the
-/// function.
 #[test]
-fn finds_the_symbol_of_a_file_offset(rt: HostRuntime) {
+fn finds_the_symbol_at_an_offset_and_none_outside_the_function(rt: HostRuntime) {
     assert!(rt;
-        is_found_in_file(&MAIN, rt.alloc(), 16, Some(16))
-            && is_found_in_file(&MAIN, rt.alloc(), u64::MAX, None)
-            && is_found(&MAIN, rt.alloc(), 0xfff, None)
+        is_found_in_file(&MAIN, rt.alloc(), 16, Some(16)),
+        "sixteen bytes into the file"
+    );
+    assert!(rt;
+        is_found_in_file(&MAIN, rt.alloc(), u64::MAX, None),
+        "past the last address"
+    );
+    assert!(rt;
+        is_found(&MAIN, rt.alloc(), 0xfff, None),
+        "below the function"
     );
 }

@@ -27,5 +27,7 @@ fn reads_whole_numbers() -> bool {
 
 #[test]
 fn cuts_lines_and_reads_numbers(rt: HostRuntime) {
-    assert!(rt; cuts_lines() && reads_numbers() && reads_whole_numbers());
+    assert!(rt; cuts_lines(), "lines");
+    assert!(rt; reads_numbers(), "numbers");
+    assert!(rt; reads_whole_numbers(), "whole numbers");
 }

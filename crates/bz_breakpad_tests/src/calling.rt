@@ -44,7 +44,7 @@ fn are_named(alloc: Global, files: &mut MemFiles) -> bool {
 }
 
 #[test]
-fn names_the_symbol_at_an_address(rt: HostRuntime) {
+fn names_symbols_at_addresses(rt: HostRuntime) {
     let named = are_named(rt.alloc(), &mut MemFiles::new(rt.alloc(), 0));
     assert!(rt; named);
 }

@@ -34,6 +34,7 @@ const INNER: Inlinee = Inlinee {
     origin_id: 1,
 };
 
+/// The function at an address, and the line and the calls at one.
 pub(crate) static FOUND: [Row; 2] = [
     (
         BAR,

@@ -209,7 +209,7 @@ static REFUSED: [(&str, &[&[u8]]); 7] = [
 ];
 
 #[test]
-fn refuses_texts(rt: HostRuntime) {
+fn refuses_texts_that_are_no_files(rt: HostRuntime) {
     for (wrong, texts) in &REFUSED {
         assert!(rt; are_refused(rt.alloc(), texts), "{wrong}");
     }

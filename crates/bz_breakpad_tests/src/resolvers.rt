@@ -23,8 +23,8 @@ const X: SymInfo<'static> = SymInfo {
     module: None,
 };
 
-/// Symbols, addresses without one, a site that is refused where it is asked for, and there alone; and
-/// functions of a name.
+/// What a resolver prints, and what it finds at addresses. A site is refused where it is asked for, and
+/// there alone. Then the functions of a name, and no variables.
 static RESOLVED: [Row; 16] = [
     (BAR, Printed("Breakpad /p")),
     (
@@ -91,20 +91,21 @@ static RESOLVED: [Row; 16] = [
     (TWINS, NoVariables("twin")),
 ];
 
-/// Whether the resolver of each text shows what its row says.
-fn are_resolved(alloc: Global, files: &mut MemFiles) -> bool {
-    for (text, resolved) in &RESOLVED {
+/// How many rows are shown by the resolvers of their texts, before one that isn't.
+fn count_until_failure(alloc: Global, files: &mut MemFiles) -> usize {
+    for index in 0..RESOLVED.len() {
+        let (text, resolved) = &RESOLVED[index];
         if is_resolved(alloc, files, text, resolved) != Ok(true) {
-            return false;
+            return index;
         }
     }
-    true
+    RESOLVED.len()
 }
 
 #[test]
-fn resolvers_answer(rt: HostRuntime) {
-    let resolved = are_resolved(rt.alloc(), &mut MemFiles::new(rt.alloc(), 0));
-    assert!(rt; resolved);
+fn resolvers_print_and_find_symbols_and_functions_or_refuse(rt: HostRuntime) {
+    let shown = count_until_failure(rt.alloc(), &mut MemFiles::new(rt.alloc(), 0));
+    assert!(rt; shown == RESOLVED.len(), "row {shown}");
 }
 
 /// Whether the path is refused so.
@@ -115,23 +116,37 @@ fn refuses(alloc: Global, files: &mut MemFiles, path: &str, kind: ErrorKind) -> 
     }
 }
 
-/// Whether a path without a file, one that is denied, the front of BAR without the end of a line, and BAR
-/// by the fourth call, which fails, are refused by their causes.
-fn refuses_paths(alloc: Global, files: &mut MemFiles) -> Result<bool> {
+/// Paths, and the causes by which they are refused, one after another.
+static REFUSED: [(&str, ErrorKind); 4] = [
+    ("/absent", ErrorKind::NotFound),
+    ("/denied", ErrorKind::PermissionDenied),
+    ("/cut", ErrorKind::InvalidInput),
+    ("/p", ErrorKind::ReadFault),
+];
+
+/// Puts BAR, a text whose line has no end, and a path that is denied. The fourth call fails.
+fn fill(alloc: Global, files: &mut MemFiles) -> Result<()> {
     put(alloc, files, "/p", BAR)?;
     put(alloc, files, "/cut", b"MODULE Linux x86 ffff0000 bar")?;
     files.deny(alloc, "/denied")?;
-    files.fail_call(alloc, 4)?;
-    Ok(
-        refuses(alloc, files, "/absent", ErrorKind::NotFound)
-            && refuses(alloc, files, "/denied", ErrorKind::PermissionDenied)
-            && refuses(alloc, files, "/cut", ErrorKind::InvalidInput)
-            && refuses(alloc, files, "/p", ErrorKind::ReadFault),
-    )
+    files.fail_call(alloc, 4)
+}
+
+/// The first path that isn't refused by its cause, or that files weren't put; nothing where all are refused so.
+fn first_to_fail(alloc: Global, files: &mut MemFiles) -> &'static str {
+    let Ok(()) = fill(alloc, files) else {
+        return "files are put";
+    };
+    for (path, kind) in &REFUSED {
+        if !refuses(alloc, files, path, *kind) {
+            return path;
+        }
+    }
+    ""
 }
 
 #[test]
-fn refusals_have_their_causes(rt: HostRuntime) {
-    let refused = refuses_paths(rt.alloc(), &mut MemFiles::new(rt.alloc(), 0));
-    assert!(rt; refused == Ok(true));
+fn paths_are_refused_by_their_causes(rt: HostRuntime) {
+    let failed = first_to_fail(rt.alloc(), &mut MemFiles::new(rt.alloc(), 0));
+    assert!(rt; failed.is_empty(), "{failed}");
 }

@@ -20,6 +20,7 @@ const GAP_OF_DEPTH: &[u8] =
 
 const BEYOND: &[u8] = b"FUNC 1 2 3 x\nffffffffffffffff 2 0 0\n";
 
+/// Sites by lines and inlined calls, as far as they are asked for.
 pub(crate) static CALLS: [Row; 3] = [
     (
         BAR,

@@ -4,6 +4,7 @@ use crate::fact::Fact::{Counts, Records};
 use crate::fact::Row;
 use crate::files::{BAR, NESTED, USUAL};
 
+/// Files of every kind of record but STACK WIN, with other line ends, with blank lines, and with equal records.
 pub(crate) static COUNTED: [Row; 10] = [
     (BAR, &[Records(5), Counts(1, 1, 1)]),
     (
@@ -32,6 +33,7 @@ pub(crate) static COUNTED: [Row; 10] = [
     (b"PUBLIC 10 0 p\n", &[Records(1), Counts(0, 0, 1)]),
 ];
 
+/// Numbers of the most digits, of the greatest values and in either case.
 pub(crate) static NUMBERS: [Row; 13] = [
     (
         b"FUNC 0000000000000001 00000002 00000003 x\n",
@@ -63,6 +65,7 @@ pub(crate) static NUMBERS: [Row; 13] = [
     (b"FUNC 1 2 3 x\nFACE 1 2 3\n", &[Records(2)]),
 ];
 
+/// Tabs and spaces between fields.
 pub(crate) static SEPARATORS: [Row; 21] = [
     (b"MODULE  a  b  c  d\n", &[Records(1)]),
     (b"MODULE\ta \tb \tc \td\n", &[Records(1)]),
@@ -96,6 +99,7 @@ pub(crate) static SEPARATORS: [Row; 21] = [
     ),
 ];
 
+/// Names that are empty, `m` or beyond ASCII, and fields of any bytes.
 pub(crate) static NAMES: [Row; 14] = [
     (b"PUBLIC m 1 2 m\n", &[Records(1)]),
     (b"PUBLIC 1 2 m\n", &[Records(1)]),
@@ -113,6 +117,7 @@ pub(crate) static NAMES: [Row; 14] = [
     (b"STACK CFI INIT \xff\nSTACK CFI \xff\n", &[Records(2)]),
 ];
 
+/// Records under their owners, also behind others, and records that look like others.
 pub(crate) static ROLES: [Row; 8] = [
     (b"FUNC 1 2 3 x\nINLINE 0 1 0 5 1 1 2 2 3 3\n", &[Records(2)]),
     (b"STACK CFI INIT a\nSTACK WIN a\n\n", &[Records(2)]),
@@ -136,6 +141,7 @@ pub(crate) static ROLES: [Row; 8] = [
     ),
 ];
 
+/// Carriage returns at line ends, blank lines and white space in front of records.
 pub(crate) static LINE_ENDS: [Row; 11] = [
     (b"FILE 1 a\n\r\n\n \t\r \n", &[Records(1)]),
     (b"FUNC 1 2 3 x\r\r\r\n1 1 1 1\r\n", &[Records(2)]),

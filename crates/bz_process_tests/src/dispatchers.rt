@@ -47,8 +47,8 @@ fn vdso(alloc: Global) -> Result<Option<ElfResolver>>
     }
 }
 
-/// The resolver answers for the part of the system, and for a mapped file no one does; and where the
-/// mappings may not be read, the batch is refused.
+/// The resolver answers for the part of the system, and for a mapped file no one does. Where the mappings
+/// may not be read, the batch is refused.
 static RESOLVED: [Step; 4] = [
     Step::Files(FIRST),
     Step::Batch(
@@ -66,6 +66,6 @@ static RESOLVED: [Step; 4] = [
 ];
 
 #[test]
-fn a_resolver_answers_for_a_part_of_the_system(rt: HostRuntime) {
+fn a_dispatcher_answers_for_parts_of_the_system_alone(rt: HostRuntime) {
     assert!(rt; holds(rt.alloc(), ForVdso, &[&RESOLVED]));
 }

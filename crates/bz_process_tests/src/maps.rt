@@ -68,7 +68,7 @@ fn tells(alloc: Global, pid: Pid, text: &[u8], told: &[Told]) -> bool {
     }
 }
 
-/// Whether the text is refused as one that isn't of mappings.
+/// Whether the text is refused, since it isn't one of mappings.
 fn is_refused(alloc: Global, text: &[u8]) -> bool {
     match parse_maps(alloc, Pid::Slf, text) {
         Ok(_) => false,
@@ -275,7 +275,7 @@ fn others_are_refused(alloc: Global) -> bool {
 }
 
 #[test]
-fn a_text_tells_its_mappings(rt: HostRuntime) {
+fn a_text_tells_its_mappings_or_is_refused(rt: HostRuntime) {
     assert!(rt; texts_tell(rt.alloc()), "texts");
     assert!(rt; lines_tell(rt.alloc()), "lines");
     assert!(rt; others_are_refused(rt.alloc()), "other lines");

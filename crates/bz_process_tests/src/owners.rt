@@ -9,7 +9,7 @@ use std::alloc::Global;
 const MIXED: &[u8] =
     b"30-40 r--p 0 0:0 0\n10-20 r--p 0 0:0 0\n35-60 r--p 0 0:0 0\n50-58 r--p 0 0:0 0\n70-70 r--p 0 0:0 0\n70-90 r--p 0 0:0 0\n70-90 r--p 0 0:0 0\nfffffffffffffff0-ffffffffffffffff r--p 0 0:0 0\n";
 
-/// Texts, addresses, and the place of the mapping that answers for each.
+/// Texts, addresses, and the place of the mapping that answers for each, or none.
 static OWNERS: [(&[u8], u64, Option<usize>); 29] = [
     (b"", 0, None),
     (b"", u64::MAX, None),
@@ -73,11 +73,12 @@ fn is_owner(alloc: Global, text: &[u8], addr: u64, place: Option<usize>) -> Resu
 }
 
 #[test]
-fn the_first_that_ends_above_answers(rt: HostRuntime) {
-    for (text, addr, place) in &OWNERS {
+fn the_first_mapping_that_ends_above_answers_or_none_does(rt: HostRuntime) {
+    for index in 0..OWNERS.len() {
+        let (text, addr, place) = OWNERS[index];
         assert!(rt;
-            is_owner(rt.alloc(), text, *addr, *place) == Ok(true),
-            "{addr:#x}"
+            is_owner(rt.alloc(), text, addr, place) == Ok(true),
+            "row {index}"
         );
     }
 }

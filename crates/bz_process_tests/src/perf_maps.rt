@@ -1,31 +1,34 @@
 //! Perf maps: what they answer, which bytes are taken, and where they lie.
 
-use crate::reading::put;
+use crate::files::put;
 use bz_base::{Error, FindSymOpts, Pid, Reason, ResolvedSym, Symbolize};
 use bz_cache::FileCache;
 use bz_files::MemFiles;
 use bz_proc::{PerfMap, perf_laws};
 use std::alloc::Global;
 
-/// A function's name, start and size; or none, where the address isn't known.
+/// A function's name, start and size, or that none is there.
 type Told = (&'static str, u64, usize);
 
 /// No function is there: a size of its own, since a name may be empty.
 const UNKNOWN: Told = ("", 0, usize::MAX);
 
 /// Three functions of a program in Python. The third name runs on into the line that comes after.
-const PYTHON: &[u8] = b"7fbf1fc21441 b py::MutableSequence:<frozen _collections_abc>\n\
+pub(crate) const PYTHON: &[u8] = b"7fbf1fc21441 b py::MutableSequence:<frozen _collections_abc>\n\
 7fbf1fc2144c b py::<module>:<frozen posixpath>\n\
 7fbf1fc215ee b py::_getuserbase.<locals>.joinuser:<frozen sitej7fbf1fc215f9 b py::expanduser:<frozen posixpath>\n";
 
+/// The first of them.
 const SEQUENCE: Told = (
     "py::MutableSequence:<frozen _collections_abc>",
     0x7fbf1fc21441,
     11,
 );
 
+/// The second one.
 const MODULE: Told = ("py::<module>:<frozen posixpath>", 0x7fbf1fc2144c, 11);
 
+/// The third one.
 const RUN_ON: Told = (
     "py::_getuserbase.<locals>.joinuser:<frozen sitej7fbf1fc215f9 b py::expanduser:<frozen posixpath>",
     0x7fbf1fc215ee,
@@ -248,7 +251,7 @@ fn cached_answers(alloc: Global) -> bool {
 }
 
 #[test]
-fn perf_maps_lie_at_their_paths_and_answer(rt: HostRuntime) {
+fn perf_maps_lie_at_their_paths_and_answer_or_are_refused(rt: HostRuntime) {
     perf_laws::perf_maps_are_cut();
     perf_laws::perf_maps_are_exact();
     perf_laws::perf_answers_start_before();

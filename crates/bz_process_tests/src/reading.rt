@@ -1,5 +1,6 @@
 //! What is read of processes: their mappings, and the ids by which they know themselves.
 
+use crate::files::put;
 use bz_base::{Error, ErrorKind, Pid};
 use bz_files::MemFiles;
 use bz_proc::{PerfMap, read_maps};
@@ -20,14 +21,6 @@ enum Step {
     Maps(u32, Result<usize, Error>),
     /// The id by which the process knows itself, or how that is refused.
     Id(u32, Result<u32, ErrorKind>),
-}
-
-/// Puts bytes at a path. Says whether there was memory.
-pub(crate) fn put(alloc: Global, files: &mut MemFiles, path: &str, bytes: &[u8]) -> bool {
-    match Vec::from_slice(alloc, bytes) {
-        Ok(bytes) => files.put(alloc, path, bytes).is_ok(),
-        Err(_) => false,
-    }
 }
 
 /// Whether so many mappings of the process are read, or reading is refused so.

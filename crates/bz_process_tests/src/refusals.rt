@@ -130,7 +130,7 @@ fn leave(alloc: Global, tries: &[&[Step]], after: &[Step]) -> bool {
 }
 
 #[test]
-fn a_cached_process_stays_where_it_is_refused(rt: HostRuntime) {
+fn a_cached_process_stays_or_is_cached_anew(rt: HostRuntime) {
     assert!(rt; leave(rt.alloc(), &REFUSED, STANDS_ALONE), "refused");
     assert!(rt; leave(rt.alloc(), &CACHED_ANEW, IS_LATER), "cached anew");
 }

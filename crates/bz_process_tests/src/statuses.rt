@@ -80,7 +80,7 @@ fn others_are_refused() -> bool {
 }
 
 #[test]
-fn the_last_id_is_told(rt: HostRuntime) {
+fn a_status_tells_its_last_id_or_is_refused(rt: HostRuntime) {
     assert!(rt; ids_are_told(), "statuses");
     assert!(rt; others_are_refused(), "other texts");
 }

@@ -10,8 +10,8 @@ use std::alloc::Global;
 
 /// What is told of an address, or of a batch that is refused.
 pub(crate) enum Told {
-    /// The symbol of this name starts there and has 16 bytes, of which the address is the ninth, and
-    /// this module; an empty text is none.
+    /// The symbol of this name starts there and has 16 bytes, of which the address is the ninth. It is
+    /// of this module; an empty text is none.
     Symbol(&'static str, Addr, &'static str),
     /// There is no symbol, for this reason.
     Unknown(Reason),
@@ -109,6 +109,7 @@ fn is_refusal(error: Error, told: &Told) -> bool {
 /// paths that stand for them.
 type Asked = (bool, bool);
 
+/// What asks process 7 so.
 fn query((perf_map, map_files): Asked) -> ProcessQuery {
     ProcessQuery {
         pid: Pid::from(7),

@@ -9,6 +9,10 @@ use std::alloc::{AllocError, Global};
 pub const BREAKPAD_CALLS: &str =
     "FILE 15 o.c\nFILE 4 m.c\nFILE 8 i2.c\nFUNC 1000 30 10 outer_func()\nINLINE_ORIGIN 1 inner_func_2()\nINLINE_ORIGIN 2 mid_func()\nINLINE_ORIGIN 3 inner_func_1()\nINLINE 0 60 15 2 1000 20\nINLINE 1 12 4 3 1000 10\nINLINE 1 17 4 1 1010 10\n1000 10 42 7\n1010 10 52 8\n1020 10 62 15\n";
 
+/// A Breakpad file of five records, each of a kind of its own.
+pub const BREAKPAD_KINDS: &[u8] =
+    b"MODULE Linux x86 ffff0000 bar\nFILE 53 bar.c\nPUBLIC 1234 10 some public\nFUNC 1000 30 10 another func\n1000 30 7 53\n";
+
 /// A GSYM file of two functions: `main` from 0x1000 on with 0x20 bytes, on lines 5, 7 and 10 of
 /// `src/a.c`, and `sub` at 0x1040 with size 0.
 pub const GSYM_LINES: [u8; 148] = [

@@ -23,16 +23,21 @@ enum Asked {
 /// A path, and the text of the file that is put there.
 type Put = (&'static str, &'static str);
 
-/// Files that are put; the kind of the addresses and the lines of stacks that are folded then; a text, and
-/// whether it is theirs, or how they are refused; and how many files are read by then.
-type Step = (
-    &'static [Put],
-    Input<()>,
-    &'static str,
-    &'static str,
-    Result<bool>,
-    u64,
-);
+/// What is asked of a source, and what comes of it.
+struct Step {
+    /// The files that are put first.
+    files: &'static [Put],
+    /// The kind of the addresses.
+    kind: Input<()>,
+    /// The lines of stacks that are folded then.
+    lines: &'static str,
+    /// The text that they may fold to.
+    text: &'static str,
+    /// Whether the stacks fold to the text, or how they are refused.
+    folded: Result<bool>,
+    /// How many files are read by then.
+    opens: u64,
+}
 
 /// Inlined calls inside one another.
 const NESTED: &[Put] = &[("/s.sym", BREAKPAD_CALLS)];
@@ -46,8 +51,10 @@ const NO_ORIGIN: &[Put] = &[(
     "FILE 0 a.c\nFUNC 10 8 0 f\nINLINE 0 1 0 3 10 4\n10 8 1 0\n",
 )];
 
+/// A function.
 const PLAIN: &[Put] = &[("/s.sym", "FUNC 1 1 0 a\n")];
 
+/// A function, put where no file was.
 const ONE: &[Put] = &[("/s.sym", "FUNC 1000 20 0 one\n")];
 
 /// The mappings of process 7, its status and its perf map.
@@ -65,99 +72,148 @@ static ROWS: [(Asked, &[Step]); 10] = [
     // Paths of one address and of two.
     (
         Asked::File,
-        &[(
-            NESTED,
-            FileOffset(()),
-            "1010 2\n1020 3\n1010 5\n2000 1020 1\n",
-            "[unknown];outer_func() 1\nouter_func() 3\nouter_func();mid_func();inner_func_2() 7\n",
-            Ok(true),
-            1,
-        )],
+        &[Step {
+            files: NESTED,
+            kind: FileOffset(()),
+            lines: "1010 2\n1020 3\n1010 5\n2000 1020 1\n",
+            text: "[unknown];outer_func() 1\nouter_func() 3\nouter_func();mid_func();inner_func_2() 7\n",
+            folded: Ok(true),
+            opens: 1,
+        }],
     ),
     // One path from different addresses.
     (
         Asked::File,
-        &[(
-            NESTED,
-            FileOffset(()),
-            "1020 1010 1\n\n0x102f 0x101F 2\r\n1020 0",
-            "outer_func() 0\nouter_func();outer_func();mid_func();inner_func_2() 3\n",
-            Ok(true),
-            1,
-        )],
+        &[Step {
+            files: NESTED,
+            kind: FileOffset(()),
+            lines: "1020 1010 1\n\n0x102f 0x101F 2\r\n1020 0",
+            text: "outer_func() 0\nouter_func();outer_func();mid_func();inner_func_2() 3\n",
+            folded: Ok(true),
+            opens: 1,
+        }],
     ),
     // The same counts in other groups and in another order.
     (
         Asked::File,
-        &[(
-            NESTED,
-            FileOffset(()),
-            "2000 102f 1\n1011 3\n1020 1\n101f 4\n1021 2\n",
-            "[unknown];outer_func() 1\nouter_func() 3\nouter_func();mid_func();inner_func_2() 7\n",
-            Ok(true),
-            1,
-        )],
+        &[Step {
+            files: NESTED,
+            kind: FileOffset(()),
+            lines: "2000 102f 1\n1011 3\n1020 1\n101f 4\n1021 2\n",
+            text: "[unknown];outer_func() 1\nouter_func() 3\nouter_func();mid_func();inner_func_2() 7\n",
+            folded: Ok(true),
+            opens: 1,
+        }],
     ),
     (
         Asked::File,
-        &[(SEMICOLON, FileOffset(()), "1 4\n", "a:b 4\n", Ok(true), 1)],
+        &[Step {
+            files: SEMICOLON,
+            kind: FileOffset(()),
+            lines: "1 4\n",
+            text: "a:b 4\n",
+            folded: Ok(true),
+            opens: 1,
+        }],
     ),
     // The address of the missing origin is refused.
     (
         Asked::File,
-        &[(
-            NO_ORIGIN,
-            FileOffset(()),
-            "10 1\n14 2\n",
-            "[unknown] 1\nf 2\n",
-            Ok(true),
-            1,
-        )],
+        &[Step {
+            files: NO_ORIGIN,
+            kind: FileOffset(()),
+            lines: "10 1\n14 2\n",
+            text: "[unknown] 1\nf 2\n",
+            folded: Ok(true),
+            opens: 1,
+        }],
     ),
     // No stack.
     (
         Asked::File,
-        &[(PLAIN, FileOffset(()), "\n\r\n", "", Ok(true), 1)],
+        &[Step {
+            files: PLAIN,
+            kind: FileOffset(()),
+            lines: "\n\r\n",
+            text: "",
+            folded: Ok(true),
+            opens: 1,
+        }],
     ),
     // Refused calls read no file, and leave nothing in the way of one that is answered.
     (
         Asked::File,
         &[
-            (&[], FileOffset(()), "1000 1\n", "", Err(NotFound), 0),
-            (ONE, AbsAddr(()), "1000 1\n", "", Err(Unsupported), 0),
-            (&[], FileOffset(()), "1010 1\n", "one 1\n", Ok(true), 1),
+            Step {
+                files: &[],
+                kind: FileOffset(()),
+                lines: "1000 1\n",
+                text: "",
+                folded: Err(NotFound),
+                opens: 0,
+            },
+            Step {
+                files: ONE,
+                kind: AbsAddr(()),
+                lines: "1000 1\n",
+                text: "",
+                folded: Err(Unsupported),
+                opens: 0,
+            },
+            Step {
+                files: &[],
+                kind: FileOffset(()),
+                lines: "1010 1\n",
+                text: "one 1\n",
+                folded: Ok(true),
+                opens: 1,
+            },
         ],
     ),
     // `main` with a call of `sub`, `sub` alone, and no symbol.
     (
         Asked::Bytes,
-        &[(
-            &[],
-            VirtOffset(()),
-            "1040 1004 2\n1020 3\n1040 1005 1\n",
-            "[unknown] 3\nsub;main;sub 3\n",
-            Ok(true),
-            0,
-        )],
+        &[Step {
+            files: &[],
+            kind: VirtOffset(()),
+            lines: "1040 1004 2\n1020 3\n1040 1005 1\n",
+            text: "[unknown] 3\nsub;main;sub 3\n",
+            folded: Ok(true),
+            opens: 0,
+        }],
     ),
     // A process answers by its perf map.
     (
         Asked::Process,
-        &[(
-            PROCESS,
-            AbsAddr(()),
-            "3008 7000 1\n5000 3008 3018 2\n3000 2000 4\n",
-            "[unknown];jit;a:b 2\njit;[unknown] 5\n",
-            Ok(true),
-            3,
-        )],
+        &[Step {
+            files: PROCESS,
+            kind: AbsAddr(()),
+            lines: "3008 7000 1\n5000 3008 3018 2\n3000 2000 4\n",
+            text: "[unknown];jit;a:b 2\njit;[unknown] 5\n",
+            folded: Ok(true),
+            opens: 3,
+        }],
     ),
     // It refuses another kind of address, and one that isn't there is refused.
     (
         Asked::Process,
         &[
-            (&[], AbsAddr(()), "1000 1\n", "", Err(NotFound), 0),
-            (PROCESS, FileOffset(()), "1000 1\n", "", Err(Unsupported), 0),
+            Step {
+                files: &[],
+                kind: AbsAddr(()),
+                lines: "1000 1\n",
+                text: "",
+                folded: Err(NotFound),
+                opens: 0,
+            },
+            Step {
+                files: PROCESS,
+                kind: FileOffset(()),
+                lines: "1000 1\n",
+                text: "",
+                folded: Err(Unsupported),
+                opens: 0,
+            },
         ],
     ),
 ];
@@ -196,8 +252,8 @@ fn fold_few(
     if stacks.len() > 9 {
         return Ok(false);
     }
-    let text = fold(alloc, symbolizer, files, src, step.1, stacks)?;
-    Ok(text.as_slice() == step.3.as_bytes())
+    let text = fold(alloc, symbolizer, files, src, step.kind, stacks)?;
+    Ok(text.as_slice() == step.text.as_bytes())
 }
 
 /// The same of the stacks of the step's lines.
@@ -208,7 +264,7 @@ fn fold_lines(
     src: &Source<'_>,
     step: &Step,
 ) -> Result<bool> {
-    match read_stacks(alloc, step.2.as_bytes()) {
+    match read_stacks(alloc, step.lines.as_bytes()) {
         Ok(stacks) => fold_few(alloc, symbolizer, files, src, &stacks, step),
         Err(_) => Ok(false),
     }
@@ -223,9 +279,9 @@ fn are_answered(
     steps: &[Step],
 ) -> bool {
     for step in steps {
-        if !put_all(alloc, files, step.0)
-            || fold_lines(alloc, symbolizer, files, src, step) != step.4
-            || files.opens() != step.5
+        if !put_all(alloc, files, step.files)
+            || fold_lines(alloc, symbolizer, files, src, step) != step.folded
+            || files.opens() != step.opens
         {
             return false;
         }
@@ -244,8 +300,9 @@ fn holds(alloc: Global, asked: &Asked, steps: &[Step]) -> bool {
 }
 
 #[test]
-fn folds_what_sources_answer(rt: HostRuntime) {
-    for row in &ROWS {
-        assert!(rt; holds(rt.alloc(), &row.0, row.1));
+fn stacks_fold_by_what_sources_answer_or_are_refused(rt: HostRuntime) {
+    for index in 0..ROWS.len() {
+        let row = &ROWS[index];
+        assert!(rt; holds(rt.alloc(), &row.0, row.1), "row {index}");
     }
 }

@@ -2,32 +2,33 @@
 
 use bz_base::{Error, FindSymOpts, Sym, Symbolized};
 use bz_files::MemFiles;
+use bz_samples::BREAKPAD_KINDS;
 use bz_store::{CrashFrame, FrameAnswer, Store};
 use std::alloc::Global;
 
-/// A file of one function.
-const BAR: &[u8] =
-    b"MODULE Linux x86 ffff0000 bar\nFILE 53 bar.c\nPUBLIC 1234 10 some public\nFUNC 1000 30 10 another func\n1000 30 7 53\n";
-
-/// A file of another form.
+/// A file of another function.
 const OTHER: &[u8] = b"FUNC 2000 10 0 other\n";
 
 /// Paths, and the files that lie there.
 static FILES: [(&str, &[u8]); 7] = [
-    ("/r/bar/AA/bar.sym", BAR),
+    ("/r/bar/AA/bar.sym", BREAKPAD_KINDS),
     ("/r/two/AA/two.sym", OTHER),
-    ("/r/.../AA/....sym", BAR),
+    ("/r/.../AA/....sym", BREAKPAD_KINDS),
     ("/r/bad/AA/bad.sym", b"FUNC\n"),
-    ("/r/a/AA/a.sym", BAR),
-    ("/r/b/AA/b.sym", BAR),
-    ("/r/c/AA/c.sym", BAR),
+    ("/r/a/AA/a.sym", BREAKPAD_KINDS),
+    ("/r/b/AA/b.sym", BREAKPAD_KINDS),
+    ("/r/c/AA/c.sym", BREAKPAD_KINDS),
 ];
 
 /// A frame: its module, the module's id, and its offset there.
 type Frame = (&'static str, &'static str, u64);
 
-/// Frames by each kind of answer: a known one in a file and outside its functions, no file, a bad name,
-/// a file that may not be read, and one that isn't a Breakpad file.
+/// Frames by each kind of answer:
+/// - a known one, in a file and outside its functions;
+/// - no file;
+/// - a bad name;
+/// - a file that may not be read;
+/// - one that isn't a Breakpad file.
 const KINDS: &[Frame] = &[
     ("bar", "AA", 0x1010),
     ("foo", "AA", 0),
@@ -158,7 +159,7 @@ fn frames(alloc: Global, rows: &[Frame]) -> Result<Vec<CrashFrame>, Error> {
     Ok(frames)
 }
 
-/// Whether the symbol is that of the function at its 16th byte.
+/// Whether the symbol is that of the function, 16 bytes past its start.
 fn is_the_function(sym: &Sym<'_>) -> bool {
     sym.name.as_str() == "another func"
         && sym.addr == 0x1000
@@ -166,8 +167,14 @@ fn is_the_function(sym: &Sym<'_>) -> bool {
         && sym.size == Some(0x30)
 }
 
-/// A letter for an answer: `f` the function of the file at its 16th byte, `s` another symbol, `u` an
-/// unknown address, `n` a bad name, `a` no file, `d` denied, `x` a bad file.
+/// A letter for an answer:
+/// - `f` the function `another func`, 16 bytes past its start;
+/// - `s` another symbol;
+/// - `u` an unknown address;
+/// - `n` a bad name;
+/// - `a` no file;
+/// - `d` a file that may not be read;
+/// - `x` a file that isn't a Breakpad file.
 fn letter(answer: &FrameAnswer) -> u8 {
     match answer {
         FrameAnswer::Known(Symbolized::Sym(sym)) => if is_the_function(sym) { b'f' } else { b's' },
@@ -238,7 +245,10 @@ fn goes_so(alloc: Global, course: &Course) -> Result<bool, Error> {
 
 #[test]
 fn stores_answer_by_what_lies_at_the_path_and_keep_the_last_used(rt: HostRuntime) {
-    for course in &COURSES {
-        assert!(rt; goes_so(rt.alloc(), course) == Ok(true));
+    for index in 0..COURSES.len() {
+        assert!(rt;
+            goes_so(rt.alloc(), &COURSES[index]) == Ok(true),
+            "course {index}"
+        );
     }
 }

@@ -15,23 +15,27 @@ type Row = (&'static [Answered], u32);
 /// Stacks that are added, how many there are then, and the text that they fold to.
 type Step = (&'static [Row], u32, &'static str);
 
-/// What is added one after the other. First each time one text: of no stack; of no addresses; of an unknown
-/// address, an ignored error and inlined calls; of names that end a frame or a line, or are empty; of a count
-/// of 0; of a path that a name spells; of sums past 32 bits; of paths that begin with others, in the order of
-/// their bytes. At last stacks that go on being added after a text was asked for.
+/// What is added one after the other.
 static ROWS: [&[Step]; 12] = [
+    // No stack.
     &[(&[], 0, "")],
+    // A stack of no addresses, alone and beside one of an empty name.
     &[(&[(&[], 3)], 1, " 3\n")],
     &[(&[(&[], 3), (&[&[""]], 4)], 2, " 7\n")],
+    // An unknown address and an ignored error.
     &[(&[(&[&[], &[]], 2)], 1, "[unknown];[unknown] 2\n")],
+    // Inlined calls.
     &[(&[(&[&["f", "g", "h"], &["i", "j"]], 1)], 1, "f;g;h;i;j 1\n")],
+    // Names that end a frame or a line, or are empty.
     &[(&[(&[&["a;b"]], 4)], 1, "a:b 4\n")],
     &[(
         &[(&[&["\r\n", ";", "a\rb\nc"], &["", ""]], 5)],
         1,
         "::;:;a:b:c;; 5\n",
     )],
+    // A count of 0.
     &[(&[(&[&["f"]], 0)], 1, "f 0\n")],
+    // A path that a name spells.
     &[(
         &[
             (&[&["a", "b"]], 1),
@@ -42,6 +46,7 @@ static ROWS: [&[Step]; 12] = [
         4,
         "a:b 12\na;b 3\n",
     )],
+    // Sums past 32 bits.
     &[(
         &[
             (&[&["f"]], 4294967295),
@@ -51,6 +56,7 @@ static ROWS: [&[Step]; 12] = [
         3,
         "f 8589934590\ng 4294967295\n",
     )],
+    // Paths that begin with others, in the order of their bytes.
     &[(
         &[
             (&[&["b"]], 1),
@@ -64,6 +70,7 @@ static ROWS: [&[Step]; 12] = [
         7,
         "B 6\na 5\na b 7\na;[unknown] 4\nab 2\nb 1\nä 3\n",
     )],
+    // Stacks that go on being added after a text was asked for.
     &[
         (&[], 0, ""),
         (
@@ -165,7 +172,7 @@ fn holds(alloc: Global, steps: &[Step]) -> bool {
 
 #[test]
 fn writes_a_line_for_each_path(rt: HostRuntime) {
-    for steps in &ROWS {
-        assert!(rt; holds(rt.alloc(), steps));
+    for index in 0..ROWS.len() {
+        assert!(rt; holds(rt.alloc(), ROWS[index]), "row {index}");
     }
 }

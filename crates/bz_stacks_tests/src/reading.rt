@@ -3,8 +3,8 @@
 use bz_stacks::{Stack, StackError, read_stacks};
 use std::alloc::{AllocError, Global};
 
-/// An input; how many stacks it says, and the addresses and the count of the last; or, where it says no
-/// stacks, its first line that is none.
+/// An input, how many stacks it says, the addresses and the count of the last, and the first bad line.
+/// The line is 0 where there is none. Where there is one, no stacks are said.
 type Row = (&'static str, usize, &'static [u64], u32, u64);
 
 static ROWS: [Row; 20] = [
@@ -55,8 +55,8 @@ fn holds(alloc: Global, row: &Row) -> bool {
 
 #[test]
 fn reads_stacks_or_names_the_first_bad_line(rt: HostRuntime) {
-    for row in &ROWS {
-        assert!(rt; holds(rt.alloc(), row));
+    for index in 0..ROWS.len() {
+        assert!(rt; holds(rt.alloc(), &ROWS[index]), "row {index}");
     }
 }
 

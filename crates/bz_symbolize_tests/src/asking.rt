@@ -44,7 +44,7 @@ pub(crate) enum Asked {
     LookedUp(Input<&'static [u64]>, &'static [Told], Then),
     /// A batch of a function with calls in calls, which is answered as its addresses are alone.
     Nested,
-    /// A batch of a file of many functions, with places or not, in its order and in ascending order.
+    /// A batch of a file of many functions, with code info or not, in its order and in ascending order.
     Many(Batch, bool),
 }
 
@@ -130,8 +130,8 @@ fn answers_asked(
             looks_up::<Brand>(alloc, symbolizer, files, src, *input, told, then, blank)
         }
         Asked::Nested => answers_each_alone(alloc, symbolizer, files, src),
-        Asked::Many(batch, places) => {
-            many::answers_many(alloc, symbolizer, files, src, batch, *places)
+        Asked::Many(batch, code_info) => {
+            many::answers_many(alloc, symbolizer, files, src, batch, *code_info)
         }
     }
 }

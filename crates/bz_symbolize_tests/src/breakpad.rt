@@ -5,7 +5,7 @@ use crate::asking::Subject;
 use crate::calling::answers_at;
 use crate::lookups::Then;
 use crate::steps::Step::{Ask, CallOfFile, Put};
-use crate::steps::{ALL, PLACES_OFF, Script, Start, hold};
+use crate::steps::{ALL, CODE_INFO_OFF, Script, Start, hold};
 use crate::told::Told::{Located, Named, Refused, Unknown};
 use crate::told::{Code, Told, are_given};
 use bz_base::{Error, Input, Reason};
@@ -58,10 +58,10 @@ const LOOKED_UP: Script = &[
 const WITHOUT_ITS_FILE: &[u8] = b"FUNC 1000 10 0 f\n1000 10 5 9\n";
 
 /// The address of that line.
-const PLACELESS: Input<u64> = Input::FileOffset(0x1000);
+const FILELESS: Input<u64> = Input::FileOffset(0x1000);
 
 /// A batch of it.
-const ONE_PLACELESS: Input<&[u64]> = Input::FileOffset(&[0x1000]);
+const ONE_FILELESS: Input<&[u64]> = Input::FileOffset(&[0x1000]);
 
 /// The same function, and one without line records.
 const BESIDE_ANOTHER: &[u8] = b"FUNC 1000 10 0 f\n1000 10 5 9\nFUNC 2000 10 0 g\n";
@@ -69,12 +69,11 @@ const BESIDE_ANOTHER: &[u8] = b"FUNC 1000 10 0 f\n1000 10 5 9\nFUNC 2000 10 0 g\
 /// The address of the line, and one in the other function.
 const BOTH: Input<&[u64]> = Input::FileOffset(&[0x1000, 0x2000]);
 
-/// An address whose place in the source code has no name is refused alone, and is an ignored error
-/// in a batch.
+/// An address whose line has an unknown file is refused alone, and is an ignored error in a batch.
 const FOLDED: Script = &[
     Put("/s.sym", WITHOUT_ITS_FILE),
-    Ask(FILE, Batch(ONE_PLACELESS, &[Unknown(Reason::IgnoredError)])),
-    Ask(FILE, Single(PLACELESS, Refused(Error::InvalidInput))),
+    Ask(FILE, Batch(ONE_FILELESS, &[Unknown(Reason::IgnoredError)])),
+    Ask(FILE, Single(FILELESS, Refused(Error::InvalidInput))),
     Put("/s.sym", BESIDE_ANOTHER),
     Ask(
         FILE,
@@ -82,11 +81,11 @@ const FOLDED: Script = &[
     ),
 ];
 
-/// Without places both answer.
-const WITHOUT_PLACES: Script = &[
+/// Without code info it is answered in a batch and alone.
+const WITHOUT_CODE_INFO: Script = &[
     Put("/s.sym", WITHOUT_ITS_FILE),
-    Ask(FILE, Batch(ONE_PLACELESS, &[Named("f")])),
-    Ask(FILE, Single(PLACELESS, Named("f"))),
+    Ask(FILE, Batch(ONE_FILELESS, &[Named("f")])),
+    Ask(FILE, Single(FILELESS, Named("f"))),
 ];
 
 /// A file of a function with an inlined call.
@@ -120,13 +119,14 @@ static SCRIPTS: [(Start<'static>, Script); 7] = [
     (ALL, COUNTED),
     (ALL, LOOKED_UP),
     (ALL, FOLDED),
-    (PLACES_OFF, WITHOUT_PLACES),
+    (CODE_INFO_OFF, WITHOUT_CODE_INFO),
     (ALL, CALLED),
 ];
 
 #[test]
-fn answers_breakpad_files(rt: HostRuntime) {
-    for (start, steps) in &SCRIPTS {
-        assert!(rt; hold(rt.alloc(), start, &[*steps]));
+fn calls_on_breakpad_files_answer_or_are_refused(rt: HostRuntime) {
+    for index in 0..SCRIPTS.len() {
+        let row = &SCRIPTS[index];
+        assert!(rt; hold(rt.alloc(), &row.0, &[row.1]), "script {index}");
     }
 }

@@ -31,8 +31,8 @@ pub(crate) fn answers_at<F: Files>(
     symbolizer.symbolize(alloc, files, &src, Input::FileOffset(addrs))
 }
 
-/// The answers of a process to absolute addresses. Where worlds are told, they are by the mappings, the
-/// files and the perf map that lie there, address by address, and so is each refusal.
+/// The answers of a process to absolute addresses. Where worlds are told, the mappings, the files and
+/// the perf map that lie there tell each answer and each refusal.
 pub(crate) fn answers_in<F: Files>(
     alloc: Global,
     files: &mut F,

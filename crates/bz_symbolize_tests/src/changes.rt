@@ -9,7 +9,7 @@ use crate::told::Told::{Named, Refused};
 use bz_base::{Error, Input};
 
 /// A file that has changed answers by its present version, or by its first one where files aren't
-/// looked at anew; and after a look that fails the next call answers.
+/// looked at anew. After a look that fails the next call answers.
 const CHANGES: Script = &[
     Put("/s.sym", FIRST),
     Ask(FILE, Batch(ADDRESSES, ONE)),
@@ -35,7 +35,7 @@ const FROM_SECOND: Asked = Single(ADDRESS, Named("two"));
 /// The file is absent.
 const ABSENT: Asked = Single(ADDRESS, Refused(Error::NotFound));
 
-/// A file that is removed is absent, and one that comes back by a link is known by its stamp; where
+/// A file that is removed is absent, and one that comes back by a link is known by its stamp. Where
 /// files aren't looked at anew the first version answers throughout.
 const COMES_BACK: Script = &[
     Put("/s.sym", FIRST),
@@ -65,11 +65,12 @@ const KEEPS_ITS_STAMP: Script = &[
     Opens(2),
 ];
 
+/// Each over new files.
 static SCRIPTS: [Script; 3] = [CHANGES, COMES_BACK, KEEPS_ITS_STAMP];
 
 #[test]
-fn answers_files_that_change(rt: HostRuntime) {
-    for steps in &SCRIPTS {
-        assert!(rt; hold(rt.alloc(), &ALL, &[*steps]));
+fn files_answer_by_their_stamps_or_as_first_read(rt: HostRuntime) {
+    for index in 0..SCRIPTS.len() {
+        assert!(rt; hold(rt.alloc(), &ALL, &[SCRIPTS[index]]), "script {index}");
     }
 }

@@ -112,8 +112,11 @@ fn is_source(alloc: Global, subject: &Subject, bytes: &[u8], text: &str) -> bool
     }
 }
 
-/// How a process is asked: whether debug symbols are looked for, its perf map answers, mapped files are
-/// looked at by the paths that stand for their mappings, and symbols of the vDSO are looked for.
+/// How a process is asked:
+/// - whether debug symbols are looked for;
+/// - whether its perf map answers;
+/// - whether mapped files are looked at by the paths that stand for their mappings;
+/// - whether symbols of the vDSO are looked for.
 type Ways = (bool, bool, bool, bool);
 
 /// In each of them one thing is off.
@@ -245,15 +248,27 @@ fn are_requests(alloc: Global, kept: &Kept, text: &str) -> bool {
 }
 
 #[test]
-fn copies_of_sources_and_requests_read_the_same(rt: HostRuntime) {
-    for row in &SOURCES {
-        assert!(rt; is_source(rt.alloc(), &row.0, row.1, row.2));
+fn sources_and_requests_are_printed_and_copied(rt: HostRuntime) {
+    for index in 0..SOURCES.len() {
+        let row = &SOURCES[index];
+        assert!(rt;
+            is_source(rt.alloc(), &row.0, row.1, row.2),
+            "source {index}"
+        );
     }
-    for ways in &WAYS {
-        assert!(rt; own_process_is_copied(rt.alloc(), ways));
+    for index in 0..WAYS.len() {
+        assert!(rt;
+            own_process_is_copied(rt.alloc(), &WAYS[index]),
+            "ways {index}"
+        );
     }
-    assert!(rt; elf_file_is_copied(rt.alloc(), true) && elf_file_is_copied(rt.alloc(), false));
-    for row in &REQUESTS {
-        assert!(rt; are_requests(rt.alloc(), &row.0, row.1));
+    assert!(rt; elf_file_is_copied(rt.alloc(), true), "with debug symbols");
+    assert!(rt;
+        elf_file_is_copied(rt.alloc(), false),
+        "without debug symbols"
+    );
+    for index in 0..REQUESTS.len() {
+        let row = &REQUESTS[index];
+        assert!(rt; are_requests(rt.alloc(), &row.0, row.1), "request {index}");
     }
 }

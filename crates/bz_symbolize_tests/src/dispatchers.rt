@@ -90,8 +90,8 @@ static RESOLVED: [Told; 2] = [
 /// What is told of them where the mappings may not be read.
 static DENIED: [Told; 1] = [Told::Refused(Error::PermissionDenied)];
 
-/// Whether the resolver answers for the part of the system, and for a mapped file no one does; and where
-/// the mappings may not be read, the batch is refused.
+/// Whether the resolver answers for the part of the system, and for a mapped file no one does. Where the
+/// mappings may not be read, the batch is refused.
 fn asks_resolver(
     alloc: Global,
     symbolizer: &mut Symbolizer<ForVdso>,
@@ -157,6 +157,7 @@ fn refusing_answers(alloc: Global) -> bool {
 }
 
 #[test]
-fn a_resolver_answers_for_a_part_of_the_system(rt: HostRuntime) {
-    assert!(rt; resolver_answers(rt.alloc()) && refusing_answers(rt.alloc()));
+fn dispatchers_answer_for_parts_of_the_system_or_refuse_them(rt: HostRuntime) {
+    assert!(rt; resolver_answers(rt.alloc()), "a resolver");
+    assert!(rt; refusing_answers(rt.alloc()), "refused parts");
 }

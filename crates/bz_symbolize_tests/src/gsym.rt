@@ -47,8 +47,8 @@ const CODE: &Code = &Code {
     inlined_file: "a.c",
 };
 
-/// Places are told, also of addresses far behind a function of size 0.
-const PLACES: Script = &[
+/// Sites are told by lines. The function of size 0 has none, and answers far behind its start too.
+const SITES: Script = &[
     Ask(
         Bytes,
         Single(Input::VirtOffset(0xfff), Unknown(Reason::UnknownAddr)),
@@ -91,14 +91,14 @@ const INLINED: Script = &[
     ),
 ];
 
-/// The place is that of the address itself.
+/// The site is that of the address itself.
 const WITHOUT_CALLS: Script = &[Ask(
     Bytes,
     Single(Input::VirtOffset(0x1005), Located(CODE, "main", 5, 5, 0)),
 )];
 
-/// There are no places, and no inlined calls.
-const WITHOUT_PLACES: Script = &[Ask(
+/// There is no site, and there are no inlined calls.
+const WITHOUT_CODE_INFO: Script = &[Ask(
     Bytes,
     Single(Input::VirtOffset(0x1005), Located(CODE, "main", 5, 0, 0)),
 )];
@@ -158,14 +158,14 @@ const NO_ADDRESSES: Script = &[Ask(
     ),
 )];
 
-/// A function whose first line comes behind its start has no place there.
-const NO_PLACE: Script = &[Ask(
+/// A function whose first line comes behind its start has no site there.
+const NO_SITE: Script = &[Ask(
     Bytes,
     Single(Input::VirtOffset(0x1000), Located(CODE, "main", 0, 0, 0)),
 )];
 
-/// An address in an inlined call that names a file that isn't there is an ignored error in a batch, in
-/// which the one behind the call answers, and is refused alone.
+/// An address is asked for in an inlined call whose file isn't there. It is an ignored error in a batch,
+/// in which the one behind the call answers, and is refused alone.
 const FOLDED: Script = &[
     Ask(
         Bytes,
@@ -186,12 +186,13 @@ const FOLDED: Script = &[
 /// A file, a place in it, other bytes from there on, and what is done then.
 type Damage = (&'static [u8], usize, &'static [u8], Script);
 
+/// Each is damaged in one place.
 static DAMAGED: [Damage; 4] = [
     // Addresses of three bytes, and such as descend.
     (&GSYM_LINES, 6, b"\x03", NO_ADDRESSES),
     (&GSYM_LINES, 48, b"\x50\0\0\0", REFUSED),
     // The first line begins a byte later, and an inlined call is in another file.
-    (&GSYM_LINES, 123, b"\x17", NO_PLACE),
+    (&GSYM_LINES, 123, b"\x17", NO_SITE),
     (&GSYM_CALLS, 166, b"\x02", FOLDED),
 ];
 
@@ -200,7 +201,7 @@ fn damage_holds(alloc: Global, damage: &Damage) -> bool {
     match damaged(alloc, damage.0, damage.1, damage.2) {
         Ok(bytes) => {
             let start = Start {
-                places: true,
+                code_info: true,
                 calls: true,
                 bytes: bytes.as_slice(),
             };
@@ -228,15 +229,15 @@ const CALLS_OFF: Start<'static> = Start {
     ..OVER_CALLS
 };
 
-/// No places are.
-const PLACES_OFF: Start<'static> = Start {
-    places: false,
+/// No code info is.
+const CODE_INFO_OFF: Start<'static> = Start {
+    code_info: false,
     ..OVER_CALLS
 };
 
-/// Neither are.
+/// Neither is.
 const BOTH_OFF: Start<'static> = Start {
-    places: false,
+    code_info: false,
     ..CALLS_OFF
 };
 
@@ -250,27 +251,28 @@ const OVER_CONVERTED: Start<'static> = Start {
 static SCRIPTS: [(Start<'static>, Script); 9] = [
     (OVER_CALLS, HANDED_IN),
     (OVER_CALLS, IN_FILE),
-    (OVER_LINES, PLACES),
-    (OVER_CALLS, PLACES),
+    (OVER_LINES, SITES),
+    (OVER_CALLS, SITES),
     (OVER_CALLS, INLINED),
     (CALLS_OFF, WITHOUT_CALLS),
-    (PLACES_OFF, WITHOUT_PLACES),
+    (CODE_INFO_OFF, WITHOUT_CODE_INFO),
     (BOTH_OFF, WITHOUT_BOTH),
     (OVER_CONVERTED, CONVERTED),
 ];
 
 #[test]
-fn answers_gsym(rt: HostRuntime) {
-    for (start, steps) in &SCRIPTS {
-        assert!(rt; hold(rt.alloc(), start, &[*steps]));
+fn calls_on_gsym_answer_or_are_refused(rt: HostRuntime) {
+    for index in 0..SCRIPTS.len() {
+        let row = &SCRIPTS[index];
+        assert!(rt; hold(rt.alloc(), &row.0, &[row.1]), "script {index}");
     }
-    for damage in &DAMAGED {
-        assert!(rt; damage_holds(rt.alloc(), damage));
+    for index in 0..DAMAGED.len() {
+        assert!(rt; damage_holds(rt.alloc(), &DAMAGED[index]), "damage {index}");
     }
     let cut = Start {
-        places: true,
+        code_info: true,
         calls: true,
         bytes: &GSYM_LINES[..47],
     };
-    assert!(rt; hold(rt.alloc(), &cut, &[REFUSED]));
+    assert!(rt; hold(rt.alloc(), &cut, &[REFUSED]), "a cut head");
 }

@@ -1,8 +1,8 @@
 //! What a symbolizer keeps ahead of addresses, and what it forgets.
 
+use crate::asking::Asked;
 use crate::asking::Asked::Single;
 use crate::asking::Subject::{Elf, Process};
-use crate::asking::{Asked, Subject};
 use crate::process::FILES;
 use crate::steps::Step::{
     Ask, AskStill, AskWithoutFiles, Fail, Faults, Forget, Keep, KeepStill, NoFiles, Opens, Put,
@@ -74,6 +74,7 @@ pub(crate) fn forgets(alloc: Global, symbolizer: &mut Symbolizer, kept: &Kept) -
     }
 }
 
+/// The ELF file at `/e`.
 const FILE: Kept = Kept::File("/e");
 
 /// The function of the ELF file answers.
@@ -114,6 +115,7 @@ const KEPT_AS_HELD: Script = &[
     AskStill(Elf("/e"), ANSWERS),
 ];
 
+/// Process 7.
 const PROCESS: Kept = Kept::Process(7);
 
 /// The perf map of process 7 answers.
@@ -144,6 +146,7 @@ const PARTS_KEPT: Script = &[
     AskWithoutFiles(Process(7), ANSWERS_JIT),
 ];
 
+/// Scripts that follow one another, each time over new files.
 static SCRIPTS: [&[Script]; 4] = [
     &[LEFT_UNPINNED, KEPT_UNTIL_FORGOTTEN],
     &[KEPT_AS_HELD],
@@ -152,9 +155,9 @@ static SCRIPTS: [&[Script]; 4] = [
 ];
 
 #[test]
-fn what_is_kept_answers_until_it_is_forgotten(rt: HostRuntime) {
-    for parts in &SCRIPTS {
-        assert!(rt; hold(rt.alloc(), &ALL, parts));
+fn only_what_is_kept_answers_until_it_is_forgotten(rt: HostRuntime) {
+    for index in 0..SCRIPTS.len() {
+        assert!(rt; hold(rt.alloc(), &ALL, SCRIPTS[index]), "scripts {index}");
     }
 }
 
@@ -205,9 +208,10 @@ static FAILS: [(Script, Script, Script); 7] = [
 ];
 
 #[test]
-fn a_look_that_fails_changes_nothing(rt: HostRuntime) {
-    for (kept, fails, stays) in &FAILS {
-        let parts = &[FILE_KEPT, FILES, *kept, LATER, *fails, REFUSED, *stays];
-        assert!(rt; hold(rt.alloc(), &ALL, parts));
+fn a_look_that_fails_leaves_what_is_kept(rt: HostRuntime) {
+    for index in 0..FAILS.len() {
+        let (kept, fails, stays) = FAILS[index];
+        let parts = &[FILE_KEPT, FILES, kept, LATER, fails, REFUSED, stays];
+        assert!(rt; hold(rt.alloc(), &ALL, parts), "row {index}");
     }
 }

@@ -17,8 +17,9 @@ use std::sync::ledger::{Blank, Ledger};
 pub(crate) enum Then {
     /// Its two addresses are answered one by one and together.
     Answers,
-    /// The file changes. The address, which is in the function of the first Breakpad file, is answered by
-    /// this version after the second has come, and as is told together with one before the function.
+    /// The file changes. The address is in the function of the first Breakpad file, which answers it after
+    /// the second file has come. Together with one before the function it is answered as
+    /// is told.
     Changes,
 }
 
@@ -42,7 +43,7 @@ fn are_looked_up(alloc: Global, lookups: &Lookups<'_>, told: &[Told]) -> bool {
 }
 
 /// Whether the address 0x1010, looked up in the first file, is answered by `one` after the second file has
-/// come, and as is told together with another one.
+/// come. Together with another address it is answered as is told.
 fn stays_looked_up(
     alloc: Global,
     symbolizer: &mut Symbolizer,

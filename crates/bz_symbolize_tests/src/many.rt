@@ -6,7 +6,7 @@ use crate::asking::Asked::Many;
 use crate::breakpad::FILE;
 use crate::nested::CALLS;
 use crate::steps::Step::{Ask, Opens, PutGenerated};
-use crate::steps::{ALL, PLACES_OFF, Script, hold};
+use crate::steps::{ALL, CODE_INFO_OFF, Script, hold};
 use crate::told::{Code, is_located};
 use bz_base::{Input, Reason, Result, Steps, Sym, Symbolized, whole_decimal};
 use bz_files::MemFiles;
@@ -16,10 +16,21 @@ use std::alloc::Global;
 use std::marker::Brand;
 use std::sync::ledger::{Blank, Ledger};
 
-/// How many addresses are asked for, and by how many bytes they step through the file; their order, as
-/// a factor that has nothing in common with how many there are, and a first step; and how often they
-/// are asked for in each of two ways, beside being looked up once.
-pub(crate) type Batch = (u64, u64, u64, u64, u32);
+/// Addresses that are asked for. They lie at equal steps through the file, and the steps come in an order.
+#[derive(Drop)]
+pub(crate) struct Batch {
+    /// How many addresses there are.
+    pub(crate) addresses: u64,
+    /// How many bytes a step has.
+    pub(crate) stride: u64,
+    /// How many steps lie between an address and the next, round the end. It has no divisor but 1 in common
+    /// with how many addresses there are.
+    pub(crate) factor: u64,
+    /// The step that comes first.
+    pub(crate) first: u64,
+    /// How often they are asked for in each of two ways, beside being looked up once.
+    pub(crate) times: u32,
+}
 
 /// Pushes a function. The first eight of its 48 bytes are of a call that was inlined, and the first
 /// sixteen and the others have a line each.
@@ -48,15 +59,15 @@ pub(crate) fn put_generated(alloc: Global, files: &mut MemFiles, functions: u32)
 
 /// The step that comes at an index in the order of a batch.
 fn step_at(index: u64, batch: &Batch) -> u64 {
-    let step = index.wrapping_mul(batch.2).wrapping_add(batch.3);
-    step.checked_rem(batch.0).unwrap_or(0)
+    let step = index.wrapping_mul(batch.factor).wrapping_add(batch.first);
+    step.checked_rem(batch.addresses).unwrap_or(0)
 }
 
 /// The addresses of a batch.
 fn addresses_of(alloc: Global, batch: &Batch) -> Result<Vec<u64>> {
     let mut addrs = Vec::new(alloc);
-    for index in 0..batch.0 {
-        let past = batch.1.wrapping_mul(step_at(index, batch));
+    for index in 0..batch.addresses {
+        let past = batch.stride.wrapping_mul(step_at(index, batch));
         addrs.push(past.wrapping_add(4096))?;
     }
     Ok(addrs)
@@ -80,8 +91,8 @@ const CODE: &Code = &Code {
     inlined_file: "gen.c",
 };
 
-/// Whether the symbol has the lines of the function so many bytes past the first one: those of the call,
-/// or of one of its two line records.
+/// Whether the symbol has the lines of the function so many bytes past the first one. They are those of the
+/// call, or of one of its two line records.
 fn has_lines(symbol: &Sym<'_>, past: u64) -> bool {
     let first = past / 64 + 1;
     match past % 64 {
@@ -93,10 +104,10 @@ fn has_lines(symbol: &Sym<'_>, past: u64) -> bool {
 
 /// Whether the answer is that at the address so many bytes past the first one, and the same as the plain
 /// one.
-fn is_right(answer: &Symbolized<'_>, plain: &Symbolized<'_>, past: u64, places: bool) -> bool {
+fn is_right(answer: &Symbolized<'_>, plain: &Symbolized<'_>, past: u64, code_info: bool) -> bool {
     let is_as_told = match answer {
         Symbolized::Sym(symbol) => {
-            past % 64 < 48 && is_function(symbol, past) && (!places || has_lines(symbol, past))
+            past % 64 < 48 && is_function(symbol, past) && (!code_info || has_lines(symbol, past))
         }
         Symbolized::Unknown(reason) => past % 64 >= 48 && *reason == Reason::UnknownAddr,
     };
@@ -108,26 +119,32 @@ fn is_right_at(
     answer: &Symbolized<'_>,
     index: usize,
     batch: &Batch,
-    places: bool,
+    code_info: bool,
     plain: &[Symbolized<'_>],
 ) -> bool {
     let step = step_at(index as u64, batch);
     let place = step as usize;
-    place < plain.len() && is_right(answer, &plain[place], batch.1.wrapping_mul(step), places)
+    place < plain.len()
+        && is_right(
+            answer,
+            &plain[place],
+            batch.stride.wrapping_mul(step),
+            code_info,
+        )
 }
 
-/// Whether the answers are those of the batch, with their places or not, and the same as the plain ones.
+/// Whether the answers are those of the batch, with code info or not, and the same as the plain ones.
 fn are_right(
     answers: &[Symbolized<'_>],
     batch: &Batch,
-    places: bool,
+    code_info: bool,
     plain: &[Symbolized<'_>],
 ) -> bool {
-    if answers.len() as u64 != batch.0 {
+    if answers.len() as u64 != batch.addresses {
         return false;
     }
     for index in 0..answers.len() {
-        if !is_right_at(&answers[index], index, batch, places, plain) {
+        if !is_right_at(&answers[index], index, batch, code_info, plain) {
             return false;
         }
     }
@@ -138,11 +155,11 @@ fn are_right(
 fn is_answered(
     answers: Result<Vec<Symbolized<'_>>>,
     batch: &Batch,
-    places: bool,
+    code_info: bool,
     plain: &[Symbolized<'_>],
 ) -> bool {
     match answers {
-        Ok(answers) => are_right(answers.as_slice(), batch, places, plain),
+        Ok(answers) => are_right(answers.as_slice(), batch, code_info, plain),
         Err(_) => false,
     }
 }
@@ -152,11 +169,11 @@ fn is_answered_at(
     answer: Result<Symbolized<'_>>,
     index: usize,
     batch: &Batch,
-    places: bool,
+    code_info: bool,
     plain: &[Symbolized<'_>],
 ) -> bool {
     match answer {
-        Ok(answer) => is_right_at(&answer, index, batch, places, plain),
+        Ok(answer) => is_right_at(&answer, index, batch, code_info, plain),
         Err(_) => false,
     }
 }
@@ -166,15 +183,15 @@ fn are_looked_up(
     alloc: Global,
     lookups: &Lookups<'_>,
     batch: &Batch,
-    places: bool,
+    code_info: bool,
     plain: &[Symbolized<'_>],
 ) -> bool {
-    if lookups.len() as u64 != batch.0 {
+    if lookups.len() as u64 != batch.addresses {
         return false;
     }
     for index in 0..lookups.len() {
         let answer = lookups.answer(alloc, index);
-        if !is_answered_at(answer, index, batch, places, plain) {
+        if !is_answered_at(answer, index, batch, code_info, plain) {
             return false;
         }
     }
@@ -189,7 +206,7 @@ fn looks_up<L: Ledger>(
     src: &Source<'_>,
     addrs: &[u64],
     batch: &Batch,
-    places: bool,
+    code_info: bool,
     plain: &[Symbolized<'_>],
     steps: &mut Steps<L>,
 ) -> bool {
@@ -197,7 +214,7 @@ fn looks_up<L: Ledger>(
         return false;
     };
     match symbolizer.look_up(alloc, files, src, Input::FileOffset(copy), steps) {
-        Ok(lookups) => are_looked_up(alloc, &lookups, batch, places, plain),
+        Ok(lookups) => are_looked_up(alloc, &lookups, batch, code_info, plain),
         Err(_) => false,
     }
 }
@@ -211,7 +228,7 @@ fn answers_often<L: Ledger>(
     src: &Source<'_>,
     addrs: &[u64],
     batch: &Batch,
-    places: bool,
+    code_info: bool,
     plain: &[Symbolized<'_>],
     blank: Blank,
 ) -> bool
@@ -221,18 +238,18 @@ fn answers_often<L: Ledger>(
 {
     let mut steps = Steps::<L>::new(blank);
     let input = Input::FileOffset(addrs);
-    for _ in 0..batch.4 {
+    for _ in 0..batch.times {
         let answers = symbolizer.symbolize(alloc, files, src, input);
-        if !is_answered(answers, batch, places, plain) {
+        if !is_answered(answers, batch, code_info, plain) {
             return false;
         }
         let counted = symbolizer.symbolize_counted(alloc, files, src, input, &mut steps);
-        if !is_answered(counted, batch, places, plain) {
+        if !is_answered(counted, batch, code_info, plain) {
             return false;
         }
     }
     looks_up(
-        alloc, symbolizer, files, src, addrs, batch, places, plain, &mut steps,
+        alloc, symbolizer, files, src, addrs, batch, code_info, plain, &mut steps,
     )
 }
 
@@ -243,9 +260,16 @@ pub(crate) fn answers_many(
     files: &mut MemFiles,
     src: &Source<'_>,
     batch: &Batch,
-    places: bool,
+    code_info: bool,
 ) -> bool {
-    let Ok(ascending) = addresses_of(alloc, &(batch.0, batch.1, 1, 0, 1)) else {
+    let in_order = Batch {
+        addresses: batch.addresses,
+        stride: batch.stride,
+        factor: 1,
+        first: 0,
+        times: 1,
+    };
+    let Ok(ascending) = addresses_of(alloc, &in_order) else {
         return false;
     };
     let Ok(addrs) = addresses_of(alloc, batch) else {
@@ -258,39 +282,71 @@ pub(crate) fn answers_many(
             let plain = plain.as_slice();
             let blank = Blank::new(1);
             answers_often::<Brand>(
-                alloc, symbolizer, files, src, addrs, batch, places, plain, blank,
+                alloc, symbolizer, files, src, addrs, batch, code_info, plain, blank,
             )
         }
         Err(_) => false,
     }
 }
 
-/// Addresses of 2000 functions in ascending, descending and mixed order.
+/// Addresses of 2000 functions, in their order.
+const ASCENDING: Batch = Batch {
+    addresses: 3460,
+    stride: 37,
+    factor: 1,
+    first: 0,
+    times: 1,
+};
+
+/// The same, the last one first.
+const DESCENDING: Batch = Batch {
+    factor: 3459,
+    first: 3459,
+    ..ASCENDING
+};
+
+/// The same in a mixed order.
+const MIXED: Batch = Batch {
+    factor: 1009,
+    ..ASCENDING
+};
+
+/// They are answered in ascending, descending and mixed order.
 const ORDERS: Script = &[
     PutGenerated(2000),
-    Ask(FILE, Many((3460, 37, 1, 0, 1), true)),
-    Ask(FILE, Many((3460, 37, 3459, 3459, 1), true)),
-    Ask(FILE, Many((3460, 37, 1009, 0, 1), true)),
+    Ask(FILE, Many(ASCENDING, true)),
+    Ask(FILE, Many(DESCENDING, true)),
+    Ask(FILE, Many(MIXED, true)),
     Opens(1),
 ];
 
-/// All functions of a large file, the last one first, again and again. The file is read once.
+/// All functions of a large file, the last one first, again and again.
+const ALL_FUNCTIONS: Batch = Batch {
+    addresses: 100_000,
+    stride: 64,
+    factor: 99_999,
+    first: 99_999,
+    times: 50,
+};
+
+/// They answer, and the file is read once.
 const LARGE: Script = &[
     PutGenerated(100_000),
-    Ask(FILE, Many((100_000, 64, 99_999, 99_999, 50), false)),
+    Ask(FILE, Many(ALL_FUNCTIONS, false)),
     Opens(1),
 ];
 
+/// Each over new files.
 static SCRIPTS: [Script; 2] = [CALLS, ORDERS];
 
 #[test]
-fn batches_answer_alike(rt: HostRuntime) {
-    for steps in &SCRIPTS {
-        assert!(rt; hold(rt.alloc(), &ALL, &[*steps]));
+fn addresses_answer_alike_alone_and_in_any_order(rt: HostRuntime) {
+    for index in 0..SCRIPTS.len() {
+        assert!(rt; hold(rt.alloc(), &ALL, &[SCRIPTS[index]]), "script {index}");
     }
 }
 
 #[test]
-fn reads_a_large_file_once(rt: HostRuntime) {
-    assert!(rt; hold(rt.alloc(), &PLACES_OFF, &[LARGE]));
+fn a_large_file_is_read_once_for_all_answers(rt: HostRuntime) {
+    assert!(rt; hold(rt.alloc(), &CODE_INFO_OFF, &[LARGE]));
 }

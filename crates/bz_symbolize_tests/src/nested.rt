@@ -12,6 +12,7 @@ use bz_symbolize::Symbolizer;
 use bz_symbolize::source::Source;
 use std::alloc::Global;
 
+/// Addresses in the function. The last one's line record names a file that isn't there.
 const ADDRESSES: &[u64] = &[0x1010, 0x1020, 0x1000];
 
 /// The file of the function is asked.

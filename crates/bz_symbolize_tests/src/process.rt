@@ -22,8 +22,12 @@ pub(crate) const FILES: Script = &[
     Put("/proc/7/root/tmp/perf-7.map", PERF_FUNCTION),
 ];
 
-/// Outside the mappings, in a part of the system, in memory with a perf map, past the first mapping's
-/// end and before the next, and in a mapped file that isn't an ELF file.
+/// Addresses, in this order:
+/// - outside the mappings;
+/// - in a part of the system;
+/// - in memory with a perf map;
+/// - past the first mapping's end and before the next;
+/// - in a mapped file that isn't an ELF file.
 const ADDRS: &[u64] = &[0x7000, 0x5000, 0x3008, 0x2800, 0x1004];
 
 /// What is told of them.
@@ -98,6 +102,7 @@ const SHARED: Script = &[
     Ask(Process(7), Single(MAPPED, Refused(Error::NotFound))),
 ];
 
+/// Scripts that follow one another, each time over new files.
 static SCRIPTS: [&[Script]; 5] = [
     &[FILES, ANSWERED],
     &[FILES, CALLED],
@@ -107,8 +112,8 @@ static SCRIPTS: [&[Script]; 5] = [
 ];
 
 #[test]
-fn answers_processes(rt: HostRuntime) {
-    for parts in &SCRIPTS {
-        assert!(rt; hold(rt.alloc(), &ALL, parts));
+fn calls_on_processes_answer_or_are_refused(rt: HostRuntime) {
+    for index in 0..SCRIPTS.len() {
+        assert!(rt; hold(rt.alloc(), &ALL, SCRIPTS[index]), "scripts {index}");
     }
 }

@@ -15,8 +15,8 @@ use std::default::Default;
 /// What a script starts with.
 #[derive(Drop)]
 pub(crate) struct Start<'d> {
-    /// Whether the symbolizer's answers have places.
-    pub(crate) places: bool,
+    /// Whether the symbolizer's answers have code info.
+    pub(crate) code_info: bool,
     /// Whether they have inlined calls.
     pub(crate) calls: bool,
     /// The GSYM that is handed in.
@@ -25,14 +25,14 @@ pub(crate) struct Start<'d> {
 
 /// All features are on, and no GSYM is handed in.
 pub(crate) const ALL: Start<'static> = Start {
-    places: true,
+    code_info: true,
     calls: true,
     bytes: b"",
 };
 
-/// The same, but answers have no places.
-pub(crate) const PLACES_OFF: Start<'static> = Start {
-    places: false,
+/// The same, but answers have no code info.
+pub(crate) const CODE_INFO_OFF: Start<'static> = Start {
+    code_info: false,
     ..ALL
 };
 
@@ -112,10 +112,10 @@ fn without_features(alloc: Global) -> Symbolizer {
         .build(alloc)
 }
 
-/// A symbolizer whose answers have places or not, and inlined calls or not.
-fn with_features(alloc: Global, places: bool, calls: bool) -> Symbolizer {
+/// A symbolizer whose answers have code info or not, and inlined calls or not.
+fn with_features(alloc: Global, code_info: bool, calls: bool) -> Symbolizer {
     Builder::default()
-        .enable_code_info(places)
+        .enable_code_info(code_info)
         .enable_inlined_fns(calls)
         .build(alloc)
 }
@@ -190,7 +190,7 @@ fn all_hold_of(
 pub(crate) fn hold(alloc: Global, start: &Start<'_>, parts: &[Script]) -> bool {
     let mut files = MemFiles::new(alloc, 0);
     let mut none = MemFiles::new(alloc, 0);
-    let mut symbolizer = with_features(alloc, start.places, start.calls);
+    let mut symbolizer = with_features(alloc, start.code_info, start.calls);
     let mut still = without_features(alloc);
     all_hold_of(
         alloc,

@@ -80,7 +80,7 @@ fn fields_are_cut(alloc: Global) -> bool {
 
 /// An address is a whole text.
 #[test]
-fn reads_addresses_of_lines_and_fields(rt: HostRuntime) {
+fn reads_addresses_refuses_bad_lines_and_cuts_fields(rt: HostRuntime) {
     assert!(rt; inputs_are_read(rt.alloc()), "inputs");
     assert!(rt; fields_are_cut(rt.alloc()), "fields");
     assert!(rt;

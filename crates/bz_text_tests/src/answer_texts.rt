@@ -5,19 +5,19 @@ use bz_canon::answer_text;
 use std::alloc::Global;
 use std::borrow::CowStr;
 
-/// A directory, a file and a line. No directory, and no file of a place that is absent, is `-`.
-type Place = (&'static str, &'static str, Option<u32>);
+/// A directory, a file and a line. No directory, and no file of a site that is absent, is `-`.
+type Site = (&'static str, &'static str, Option<u32>);
 
-const ABSENT: Place = ("-", "-", None);
+const ABSENT: Site = ("-", "-", None);
 
-/// An address, the name and the module, the start, the offset and the size of its symbol, its place, the
-/// names and places of its inlined calls, and the text of the answer. No module is `-`.
+/// An address, and the name and the module, the start, the offset and the size, and the site of its
+/// symbol. Then the names and sites of its inlined calls, and the text of the answer. No module is `-`.
 type Answer = (
     u64,
     (&'static str, &'static str),
     (u64, usize, Option<usize>),
-    Place,
-    &'static [(&'static str, Place)],
+    Site,
+    &'static [(&'static str, Site)],
     &'static str,
 );
 
@@ -108,8 +108,8 @@ fn given(text: &'static str) -> Option<CowStr<'static>> {
     }
 }
 
-/// The place, if it has a file.
-fn place_of((dir, file, line): Place) -> Option<CodeInfo<'static>> {
+/// The site, if it has a file.
+fn site_of((dir, file, line): Site) -> Option<CodeInfo<'static>> {
     let file = given(file)?;
     Some(CodeInfo {
         dir: given(dir),
@@ -120,12 +120,12 @@ fn place_of((dir, file, line): Place) -> Option<CodeInfo<'static>> {
 }
 
 /// The inlined calls.
-fn calls_of(alloc: Global, rows: &[(&'static str, Place)]) -> Result<Vec<InlinedFn<'static>>> {
+fn calls_of(alloc: Global, rows: &[(&'static str, Site)]) -> Result<Vec<InlinedFn<'static>>> {
     let mut calls = Vec::new(alloc);
     for row in rows {
         calls.push(InlinedFn {
             name: CowStr::Borrowed(row.0),
-            code_info: place_of(row.1),
+            code_info: site_of(row.1),
         })?;
     }
     Ok(calls)
@@ -150,7 +150,7 @@ fn prints(alloc: Global, row: &Answer) -> bool {
         addr: row.2.0,
         offset: row.2.1,
         size: row.2.2,
-        code_info: place_of(row.3),
+        code_info: site_of(row.3),
         inlined,
         public: false,
     });
@@ -164,9 +164,9 @@ fn prints_a_reason(alloc: Global) -> bool {
     is_text(alloc, 0x1030, &answer, text)
 }
 
-/// With and without a directory, a line, a module, a size, a place, inlined calls, and a symbol.
+/// With and without a directory, a line, a module, a size, a site, inlined calls, and a symbol.
 #[test]
-fn answers_print(rt: HostRuntime) {
+fn answers_print_with_and_without_each_part(rt: HostRuntime) {
     for row in &ANSWERS {
         assert!(rt; prints(rt.alloc(), row), "{}", row.5);
     }

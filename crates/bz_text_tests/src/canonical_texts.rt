@@ -5,8 +5,8 @@ use bz_breakpad::SymbolFile;
 use bz_canon::canonical;
 use std::alloc::Global;
 
-/// A file's text, and its canonical text: inlined calls inside one another; nothing that is kept; a
-/// module without name, and a function that is marked; records of every kind.
+/// A file's text, and its canonical text: of inlined calls inside one another, and of a record that isn't
+/// kept. Then of a module without name and a function that is marked, and of records of every kind.
 static KINDS: [(&[u8], &[u8]); 5] = [
     (
         b"FILE 15 o.c\nFILE 4 m.c\nFILE 8 i2.c\nFUNC 1000 30 10 outer_func()\nINLINE_ORIGIN 1 inner_func_2()\nINLINE_ORIGIN 2 mid_func()\nINLINE_ORIGIN 3 inner_func_1()\nINLINE 0 60 15 2 1000 20\nINLINE 1 12 4 3 1000 10\nINLINE 1 17 4 1 1010 10\n1000 10 42 7\n1010 10 52 8\n1020 10 62 15\n",
@@ -63,9 +63,9 @@ static ORDERS: [(&[u8], &[u8]); 8] = [
     ),
 ];
 
-/// The same of texts and numbers that may be written in several ways: blank lines and white space,
-/// zeros in front, upper case and marks; ids in any order, of which the last name counts; the greatest
-/// numbers; the greatest and least of so many digits.
+/// The same of texts and numbers that may be written in several ways. There are blank lines and white
+/// space, zeros in front, upper case and marks. Ids come in any order, and the last name of each counts. Numbers
+/// are the greatest ones, and the greatest and least of so many digits.
 static SPELLINGS: [(&[u8], &[u8]); 7] = [
     (
         b"PUBLIC m 00AB 0F x y\n\n \tPUBLIC\t0  0 \r\n",
@@ -94,11 +94,12 @@ static SPELLINGS: [(&[u8], &[u8]); 7] = [
     ),
 ];
 
-/// The lines of a function as the canonical text has them, and as they may be written: the same; in upper
-/// case; with zeros in front; with tabs or more blanks; with carriage returns; in another order.
+/// The lines of a function as the canonical text has them.
 const LINES: &[u8] =
     b"FUNC 1000 100 0 f\n1000 10 42 0\n1010 8 7 10\n1018 a8 100 1\n10c0 40 4294967295 20\n";
 
+/// The lines as they may be written: the same, in upper case, with zeros in front, and with tabs or more
+/// blanks. Then with carriage returns, and in another order.
 static LINES_WRITTEN: [&[u8]; 14] = [
     b"FUNC 1000 100 0 f\n1000 10 42 0\n1010 8 7 10\n1018 a8 100 1\n10c0 40 4294967295 20\n",
     b"FUNC 1000 100 0 f\n1000 10 42 0\n1010 8 7 10\n1018 a8 100 1\n10C0 40 4294967295 20\n",

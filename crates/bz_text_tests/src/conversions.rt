@@ -116,7 +116,7 @@ fn tells_a_fault(alloc: Global) -> bool {
 }
 
 #[test]
-fn files_are_converted(rt: HostRuntime) {
+fn files_are_converted_or_refused(rt: HostRuntime) {
     assert!(rt; converts_a_line(rt.alloc()), "a line");
     assert!(rt; calls_answer(rt.alloc()), "calls");
     assert!(rt; tells_a_fault(rt.alloc()), "a fault");

@@ -127,7 +127,7 @@ fn is_said(alloc: Global, text: &[u8], said: &str) -> bool {
 }
 
 #[test]
-fn finds_the_first_cause(rt: HostRuntime) {
+fn tells_the_first_fault_of_files_or_none(rt: HostRuntime) {
     for index in 0..CAUSES.len() {
         let (text, said) = CAUSES[index];
         assert!(rt; is_said(rt.alloc(), text, said), "row {index}");

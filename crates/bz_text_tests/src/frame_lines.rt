@@ -67,7 +67,7 @@ fn is_bad_at(alloc: Global, text: &[u8], line: u64) -> bool {
 }
 
 #[test]
-fn reads_frames_of_lines(rt: HostRuntime) {
+fn reads_frames_and_refuses_bad_lines(rt: HostRuntime) {
     for index in 0..WELL_FORMED.len() {
         let row = &WELL_FORMED[index];
         assert!(rt; says(rt.alloc(), row.0, row.1, &row.2), "row {index}");

@@ -67,7 +67,7 @@ fn is_one_line(alloc: Global) -> bool {
 }
 
 #[test]
-fn lays_out_a_line(rt: HostRuntime) {
+fn a_plan_is_laid_out_and_answers(rt: HostRuntime) {
     laws::numbers_are_read();
     laws::layouts_answer_as_planned();
     laws::entries_are_within();

@@ -78,7 +78,7 @@ fn is_refused(alloc: Global, row: &(&[u8], Option<Refused>)) -> bool {
 }
 
 #[test]
-fn refuses_texts_where_they_are_no_file(rt: HostRuntime) {
+fn tells_where_texts_are_refused_if_they_are(rt: HostRuntime) {
     for index in 0..TEXTS.len() {
         assert!(rt; is_refused(rt.alloc(), &TEXTS[index]), "row {index}");
     }

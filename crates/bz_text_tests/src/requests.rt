@@ -22,9 +22,9 @@ static SAID: [(&str, &str, &str, u32, usize, u64); 8] = [
     ("evict", "process", "", 4_294_967_295, 0, 0),
 ];
 
-/// An input, and its first line that isn't well formed, 0 for the input above: words that are none, too
-/// few fields and too many, two spaces and one at the end, texts that aren't UTF-8, and numbers that are
-/// too great.
+/// An input, and its first line that isn't well formed; 0 for the input above. Lines have words that are
+/// none, too few fields and too many, and spaces where none may be. There are texts that aren't UTF-8, and
+/// numbers that are too great.
 static INPUTS: [(&[u8], u64); 25] = [
     (INPUT, 0),
     (b"single breakpad /s.sym\n", 1),
@@ -123,7 +123,11 @@ fn is_absolute(target: &Target) -> bool {
 }
 
 #[test]
-fn reads_requests_of_every_kind(rt: HostRuntime) {
+fn reads_requests_of_every_kind_and_refuses_bad_lines(rt: HostRuntime) {
     assert!(rt; inputs_are_read(rt.alloc()), "inputs");
-    assert!(rt; is_absolute(&Target::Process(0)), "addresses of processes");
+}
+
+#[test]
+fn addresses_of_processes_are_absolute(rt: HostRuntime) {
+    assert!(rt; is_absolute(&Target::Process(0)));
 }

@@ -5,9 +5,9 @@ use bz_requests::{Config, Target};
 use bz_words::{BadWords, Command, Job, Product, complaint, read_command};
 use std::alloc::Global;
 
-/// A line whose words stand between its spaces; which flags it gives, as a sum of 1 for reload, 2
-/// for places, 4 for inlined calls and 8 for map files; what is to be done; what addresses are
-/// relative to; a path; and an id, or the numbers of a generated job.
+/// A line whose words stand between its spaces, and which flags it gives. They are a sum of 1 for reload,
+/// 2 for code info, 4 for inlined calls and 8 for map files. Then what is to be done, what addresses are
+/// relative to, a path, and an id or the numbers of a generated job.
 type Row = (
     &'static str,
     u8,
@@ -286,7 +286,7 @@ fn is_read(alloc: Global, line: &str, row: Option<&Row>) -> bool {
     }
 }
 
-/// Whether flags and values are taken in each place.
+/// Whether flags and values are taken wherever they stand.
 fn are_taken(alloc: Global) -> bool {
     for row in &TAKEN {
         if !is_read(alloc, row.0, Some(row)) {
@@ -307,7 +307,7 @@ fn are_refused(alloc: Global) -> bool {
 }
 
 #[test]
-fn reads_command_lines(rt: HostRuntime) {
+fn takes_and_refuses_command_lines(rt: HostRuntime) {
     assert!(rt; are_taken(rt.alloc()), "lines that are taken");
     assert!(rt; are_refused(rt.alloc()), "lines that are refused");
     assert!(rt; are_read(rt.alloc(), &[], None), "no words");

@@ -4,12 +4,13 @@ use crate::runs::Edit::Text;
 use crate::runs::{ADDRESSES, FIRST_RUN, Row};
 use bz_samples::BREAKPAD_CALLS;
 
+/// The first file's answers to the two addresses.
 const ANSWERS: &str =
     "0x1010: another func+0x10 start 0x1000 size 0x30 module bar at -\n0x1030: ? address not found in symbolization source\n";
 
-/// A file of several records, whose line record tells the place; the same with carriage returns before
-/// its line feeds follows.
-const PLACED: Row = Row {
+/// A file of several records, whose line record tells the site. The same with carriage returns before its
+/// line feeds follows.
+const WITH_LINE: Row = Row {
     edits: &[Text(
         "/a.sym",
         "MODULE Linux x86 ffff0000 bar\nFILE 53 bar.c\nPUBLIC 1234 10 some public\nFUNC 1000 30 10 another func\n1000 30 7 53\n",
@@ -19,13 +20,15 @@ const PLACED: Row = Row {
     ..FIRST_RUN
 };
 
+/// Its text, with a carriage return before each line feed.
 const ONE_RETURN: &str =
     "MODULE Linux x86 ffff0000 bar\r\nFILE 53 bar.c\r\nPUBLIC 1234 10 some public\r\nFUNC 1000 30 10 another func\r\n1000 30 7 53\r\n";
 
+/// The same with two of them.
 const TWO_RETURNS: &str =
     "MODULE Linux x86 ffff0000 bar\r\r\nFILE 53 bar.c\r\r\nPUBLIC 1234 10 some public\r\r\nFUNC 1000 30 10 another func\r\r\n1000 30 7 53\r\r\n";
 
-/// A file of every kind of record, with a blank line, and a place in a call that was inlined.
+/// A file of every kind of record, with a blank line, and an address in a call that was inlined.
 const EVERY_KIND: Row = Row {
     edits: &[Text(
         "/a.sym",
@@ -36,7 +39,7 @@ const EVERY_KIND: Row = Row {
     ..FIRST_RUN
 };
 
-/// Calls in calls: they stand below their caller, each with its place; outside of them the line record
+/// Calls in calls: they stand below their caller, each with its site; outside of them the line record
 /// has it.
 const CALLS: Row = Row {
     edits: &[Text("/a.sym", BREAKPAD_CALLS)],
@@ -45,8 +48,8 @@ const CALLS: Row = Row {
     ..FIRST_RUN
 };
 
-/// The file of a C program, as Breakpad writes it: a place in a call that was inlined, and a function
-/// of which a PUBLIC record alone tells.
+/// The file of a C program, as Breakpad writes it. One address is in a call that was inlined, and of the
+/// other's function a PUBLIC record alone tells.
 const PROGRAM: Row = Row {
     edits: &[Text(
         "/a.sym",
@@ -65,14 +68,14 @@ pub(crate) static ROWS: [Row; 15] = [
         ..FIRST_RUN
     },
     PROGRAM,
-    PLACED,
+    WITH_LINE,
     Row {
         edits: &[Text("/a.sym", ONE_RETURN)],
-        ..PLACED
+        ..WITH_LINE
     },
     Row {
         edits: &[Text("/a.sym", TWO_RETURNS)],
-        ..PLACED
+        ..WITH_LINE
     },
     EVERY_KIND,
     CALLS,

@@ -2,10 +2,11 @@
 
 use crate::runs::Edit::Text;
 use crate::runs::{FIRST_RUN, Row, USAGE};
+use bz_samples::BREAKPAD_CALLS;
 use bz_symq::Status;
 
-/// A run that makes the canonical text of the first file; a second look at files and a second piece of
-/// output, which would fail, don't come.
+/// A run that makes the canonical text of the first file. A second look at files and a second piece of
+/// output would fail, and don't come.
 const CANON: Row = Row {
     lines: &[&["canon", "/a.sym"]],
     faults: (2, 0, 2),
@@ -30,10 +31,7 @@ const FAULT: Row = Row {
 
 /// Inlined calls inside one another, out of order.
 const NESTED: Row = Row {
-    edits: &[Text(
-        "/a.sym",
-        "FILE 15 o.c\nFILE 4 m.c\nFILE 8 i2.c\nFUNC 1000 30 10 outer_func()\nINLINE_ORIGIN 1 inner_func_2()\nINLINE_ORIGIN 2 mid_func()\nINLINE_ORIGIN 3 inner_func_1()\nINLINE 0 60 15 2 1000 20\nINLINE 1 12 4 3 1000 10\nINLINE 1 17 4 1 1010 10\n1000 10 42 7\n1010 10 52 8\n1020 10 62 15\n",
-    )],
+    edits: &[Text("/a.sym", BREAKPAD_CALLS)],
     faults: (0, 0, 0),
     written: "FILE 4 m.c\nFILE 8 i2.c\nFILE 15 o.c\nINLINE_ORIGIN 1 inner_func_2()\nINLINE_ORIGIN 2 mid_func()\nINLINE_ORIGIN 3 inner_func_1()\nFUNC 1000 30 10 outer_func()\nINLINE 0 60 15 2 1000 20\nINLINE 1 12 4 3 1000 10\nINLINE 1 17 4 1 1010 10\n1000 10 42 7\n1010 10 52 8\n1020 10 62 15\n",
     ..CANON

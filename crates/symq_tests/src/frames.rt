@@ -1,23 +1,20 @@
 //! Frames of a crash, by the words `frames ROOT`.
 
-use crate::runs::Edit::{Deny, Text};
+use crate::runs::Edit::{Bytes, Deny, Text};
 use crate::runs::{FIRST_RUN, Row, USAGE};
+use bz_samples::BREAKPAD_KINDS;
 use bz_symq::Status;
 
-/// A Breakpad file of one function.
-const BAR: &str =
-    "MODULE Linux x86 ffff0000 bar\nFILE 53 bar.c\nPUBLIC 1234 10 some public\nFUNC 1000 30 10 another func\n1000 30 7 53\n";
-
-/// One of a function with an inlined call.
+/// A Breakpad file of a function with an inlined call.
 const CALLS: &str =
     "FILE 53 bar.c\nINLINE_ORIGIN 1 a\nFUNC 1000 30 10 f\nINLINE 0 5 53 1 1000 8\n1000 30 7 53\n";
 
-/// A run over a store of both, of one that is no Breakpad file, and of one that may not be read, for
-/// frames in one and in none.
+/// A run for frames in a file and in none. Its store has two Breakpad files, one file that is none, and
+/// one that may not be read.
 const FRAMES: Row = Row {
     lines: &[&["frames", "/r"], &["--no-inlined", "frames", "/r"]],
     edits: &[
-        Text("/r/bar/AA/bar.sym", BAR),
+        Bytes("/r/bar/AA/bar.sym", BREAKPAD_KINDS),
         Text("/r/calls/1/calls.sym", CALLS),
         Text("/r/bad/AA/bad.sym", "FUNC\n"),
         Deny("/r/shut/AA/shut.sym"),
@@ -53,6 +50,7 @@ const MISUSED: Row = Row {
     ..FRAMES
 };
 
+/// What frames are told, by their files, by words and by the input.
 pub(crate) static ROWS: [Row; 12] = [
     FRAMES,
     WHOLE,
@@ -124,8 +122,8 @@ const FAULT: Row = Row {
     ..FRAMES
 };
 
-/// Files fail at the first file and at the second, the input at its begin and at its end, the output
-/// under answers and under the name of a line.
+/// Files fail at the first file and at the second, and the input at its begin and at its end. The output
+/// fails under answers and under the name of a line.
 pub(crate) static FAULTS: [Row; 7] = [
     Row {
         faults: (1, 0, 0),

@@ -22,7 +22,7 @@ const CALLS: Row = Row {
     ..LINES
 };
 
-/// Symbols with their places, in the order of their addresses, and runs that answer nothing.
+/// Symbols with their sites, in the order of their addresses, and runs that answer nothing.
 pub(crate) static ROWS: [Row; 6] = [
     LINES,
     CALLS,

@@ -1,5 +1,5 @@
-//! Tests, by runs in memory, of the program's answers, jobs, products, inputs and endings; of parts of a
-//! run, of frames of lines, and of what is said of a run that did not end well.
+//! Tests of the program by runs in memory: of its answers, jobs, products, inputs and endings. Others are of
+//! parts of a run, and of what is said of a run that did not end well.
 #![tactic(auto)]
 
 #[cfg(test)]

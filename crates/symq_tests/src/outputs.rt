@@ -54,6 +54,6 @@ fn writes_many(alloc: Global) -> bool {
 }
 
 #[test]
-fn writes_many_answers(rt: HostRuntime) {
+fn many_answers_are_written_whole_or_up_to_a_fault(rt: HostRuntime) {
     assert!(rt; writes_many(rt.alloc()));
 }

@@ -35,8 +35,12 @@ const PROCESSES: &[Edit] = &[
     Deny("/proc/9/maps"),
 ];
 
-/// Answers outside of the three mappings, in a part of the system, in memory with a perf map, between
-/// two mappings, and in a mapped file that isn't an ELF file.
+/// Answers, in their order:
+/// - outside of the three mappings;
+/// - in a part of the system;
+/// - in memory with a perf map;
+/// - between two mappings;
+/// - in a mapped file that isn't an ELF file.
 const FIVE: Row = Row {
     lines: &[
         &["process", "7"],
@@ -74,8 +78,11 @@ const REFUSED: Row = Row {
     ..FIVE
 };
 
-/// Answers by mappings, mapped files and a perf map; words that name a process or don't; mappings that
-/// are absent, may not be read, aren't mappings, or are none.
+/// How runs over processes end:
+/// - by mappings, mapped files and a perf map;
+/// - by words that name a process or don't;
+/// - by an input with a bad line;
+/// - by mappings that are absent, may not be read, are bad, or are none.
 pub(crate) static ROWS: [Row; 12] = [
     FIVE,
     MISUSED,
@@ -158,7 +165,7 @@ pub(crate) static ROWS: [Row; 12] = [
     },
 ];
 
-/// A text of `/proc/self/stat`, and the id that begins it.
+/// A text of `/proc/self/stat`, and the id that begins it, or 0 where none does.
 static STATS: [(&[u8], u32); 7] = [
     (b"4242 (symq) R 1 4242", 4242),
     (b"4294967295 (x", 4294967295),
@@ -169,10 +176,10 @@ static STATS: [(&[u8], u32); 7] = [
     (b"", 0),
 ];
 
-/// The id of the own process.
 #[test]
-fn reads_the_own_id(rt: HostRuntime) {
-    for row in &STATS {
-        assert!(rt; own_pid(row.0) == row.1);
+fn reads_the_own_id_or_none(rt: HostRuntime) {
+    for index in 0..STATS.len() {
+        let (text, id) = STATS[index];
+        assert!(rt; own_pid(text) == id, "row {index}");
     }
 }

@@ -41,6 +41,7 @@ const REFUSED: &[Said] = &[
     ("process 7", ""),
 ];
 
+/// Words that are no command.
 const MISUSED: &[Said] = &[
     (
         "--bogus breakpad /bad",
@@ -82,6 +83,7 @@ const UNREAD: &[Said] = &[
     ("serve", "symq: reading a file failed"),
 ];
 
+/// Of each way to end what is said, if anything is.
 static RUNS: [Runs; 8] = [
     (Status::Refused, (0, 0, 0), REFUSED),
     (Status::Usage, (0, 0, 0), MISUSED),
@@ -136,6 +138,7 @@ fn files_of(alloc: Global) -> Result<MemFiles> {
     Ok(files)
 }
 
+/// The words, owned.
 fn words_of(alloc: Global, line: &str) -> Result<Vec<String>> {
     let mut words = Vec::new(alloc);
     for word in line.split(' ') {
@@ -186,10 +189,10 @@ fn first_of_unsaid(alloc: Global, runs: &Runs) -> &'static str {
 }
 
 #[test]
-fn says_what_a_run_lacks(rt: HostRuntime) {
-    for runs in &RUNS {
-        let unsaid = first_of_unsaid(rt.alloc(), runs);
-        assert!(rt; unsaid.is_empty(), "{unsaid}");
+fn says_what_a_run_lacks_or_nothing(rt: HostRuntime) {
+    for index in 0..RUNS.len() {
+        let unsaid = first_of_unsaid(rt.alloc(), &RUNS[index]);
+        assert!(rt; unsaid.is_empty(), "runs {index}: {unsaid}");
     }
 }
 
@@ -214,7 +217,7 @@ fn is_named(alloc: Global, words: &str, file: &str) -> Result<bool> {
 }
 
 #[test]
-fn names_the_file_that_is_read(rt: HostRuntime) {
+fn names_the_breakpad_file_that_is_read_or_none(rt: HostRuntime) {
     for index in 0..NAMED.len() {
         let (words, file) = NAMED[index];
         assert!(rt;

@@ -85,7 +85,7 @@ const CUT: Row = Row {
     ..CHANGING
 };
 
-/// The first two requests look for a stamp and for bytes, the third and the last one for a stamp that
+/// The first two requests look for a stamp and for bytes. The third and the last one look for a stamp that
 /// isn't there, and the fourth one doesn't look.
 pub(crate) static FAULTS: [Row; 8] = [
     Row {

@@ -31,8 +31,12 @@ const NAMES: Row = Row {
     ..STACKS
 };
 
-/// What folds: one path from two addresses, sums past 32 bits, and paths in the order of their bytes; a
-/// count of 0, no stacks, and an address that is refused.
+/// What folds:
+/// - one path from two addresses;
+/// - sums past 32 bits, and a count of 0;
+/// - paths in the order of their bytes;
+/// - no stacks;
+/// - an address that is refused.
 pub(crate) static FOLDED: [Row; 9] = [
     STACKS,
     Row {

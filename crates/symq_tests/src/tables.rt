@@ -34,7 +34,7 @@ fn first_of_files_to_fail(alloc: Global) -> &'static str {
 }
 
 #[test]
-fn files_answer_addresses(rt: HostRuntime) {
+fn runs_over_files_answer_or_end_by_their_cause(rt: HostRuntime) {
     let failed = first_of_files_to_fail(rt.alloc());
     assert!(rt; failed.is_empty(), "{failed}");
 }
@@ -63,7 +63,7 @@ fn first_of_jobs_to_fail(alloc: Global) -> &'static str {
 }
 
 #[test]
-fn jobs_are_done(rt: HostRuntime) {
+fn processes_frames_and_stacks_answer_or_end_by_their_cause(rt: HostRuntime) {
     let failed = first_of_jobs_to_fail(rt.alloc());
     assert!(rt; failed.is_empty(), "{failed}");
 }
@@ -83,7 +83,7 @@ fn first_of_requests_to_fail(alloc: Global) -> &'static str {
 }
 
 #[test]
-fn requests_are_served(rt: HostRuntime) {
+fn requests_are_served_or_end_by_their_cause(rt: HostRuntime) {
     let failed = first_of_requests_to_fail(rt.alloc());
     assert!(rt; failed.is_empty(), "{failed}");
 }
@@ -103,7 +103,7 @@ fn first_of_words_to_fail(alloc: Global) -> &'static str {
 }
 
 #[test]
-fn words_make_products_and_choose_flags(rt: HostRuntime) {
+fn words_make_products_and_choose_flags_or_end_by_their_cause(rt: HostRuntime) {
     let failed = first_of_words_to_fail(rt.alloc());
     assert!(rt; failed.is_empty(), "{failed}");
 }
@@ -126,7 +126,7 @@ fn first_of_inputs_to_fail(alloc: Global) -> &'static str {
 }
 
 #[test]
-fn inputs_are_read_to_their_bounds(rt: HostRuntime) {
+fn inputs_are_read_to_a_bad_line_or_their_bound(rt: HostRuntime) {
     let failed = first_of_inputs_to_fail(rt.alloc());
     assert!(rt; failed.is_empty(), "{failed}");
 }

@@ -21,7 +21,7 @@ pub(crate) const SOURCES: &[Edit] = &[
     ),
 ];
 
-/// An answer of the Breakpad file, and the same without a place.
+/// An answer of the Breakpad file, and the same without code info.
 pub(crate) const WHOLE: &str =
     "0x1010: another func+0x10 start 0x1000 size 0x30 module bar at bar.c:5\n  a at bar.c:7\n";
 
@@ -88,6 +88,7 @@ const MAPPED: Row = Row {
     ..ANSWERED
 };
 
+/// Flags, options and arguments, as far as they show.
 pub(crate) static ROWS: [Row; 10] = [
     ANSWERED,
     MISUSED,

@@ -31,7 +31,7 @@ const BAD: Look = (Some(Error::InvalidData), &[], &[]);
 
 const OTHER: Look = (Some(Error::Unsupported), &[], &[]);
 
-/// Bytes that stand in the file from a place on, and what it is then.
+/// A place in the file, the bytes that stand from there on, and what it is then.
 type Row = (usize, &'static [u8], Look);
 
 /// Each field is 0, its greatest value, the last one that the bytes hold, and one past that.
@@ -295,17 +295,23 @@ fn shows(alloc: Global, bytes: &[u8], (place, new, look): &Row) -> bool {
 }
 
 #[test]
-fn fields_are_checked(rt: HostRuntime) {
+fn files_are_taken_or_refused_by_fields_and_length(rt: HostRuntime) {
     laws::files_are_exact();
-    for row in &FIELDS {
-        assert!(rt; shows(rt.alloc(), &ELF_FUNCTION, row));
+    for index in 0..FIELDS.len() {
+        assert!(rt;
+            shows(rt.alloc(), &ELF_FUNCTION, &FIELDS[index]),
+            "row {index}"
+        );
     }
     // The class is looked at as soon as it stands there, before anything behind it.
     for len in 0..368usize {
         let front = &ELF_FUNCTION[..len];
         let of_32_bits = if len < 6 { BAD } else { OTHER };
-        assert!(rt; shows(rt.alloc(), front, &(0, b"", BAD)));
-        assert!(rt; shows(rt.alloc(), front, &(4, b"\x01", of_32_bits)));
+        assert!(rt; shows(rt.alloc(), front, &(0, b"", BAD)), "cut at {len}");
+        assert!(rt;
+            shows(rt.alloc(), front, &(4, b"\x01", of_32_bits)),
+            "32 bits, cut at {len}"
+        );
     }
 }
 
@@ -356,10 +362,16 @@ fn answers_by_order(alloc: Global) -> Result<bool, AllocError> {
 }
 
 #[test]
-fn answers_by_the_nearest_symbol(rt: HostRuntime) {
+fn answers_by_the_nearest_symbol_and_the_first_segment(rt: HostRuntime) {
     laws::answers_start_before();
-    for row in &ANSWERS {
-        assert!(rt; shows(rt.alloc(), &ELF_FUNCTION, row));
+    for index in 0..ANSWERS.len() {
+        assert!(rt;
+            shows(rt.alloc(), &ELF_FUNCTION, &ANSWERS[index]),
+            "row {index}"
+        );
     }
-    assert!(rt; answers_by_order(rt.alloc()) == Ok(true));
+    assert!(rt;
+        answers_by_order(rt.alloc()) == Ok(true),
+        "functions out of order"
+    );
 }

@@ -1,4 +1,4 @@
-//! What files answer for addresses: symbols, their places in the source code, and inlined calls.
+//! What files answer for addresses: symbols, their sites, and inlined calls.
 
 use bz_base::FindSymOpts::{Basic, CodeInfo, CodeInfoAndInlined};
 use bz_base::{Error, FindSymOpts, InlinedFn, Reason, ResolvedSym, Symbolize};
@@ -18,30 +18,31 @@ const MAIN: Symbol = ("main", 0x1000, 0x20);
 
 const SUB: Symbol = ("sub", 0x1040, 0);
 
-/// A directory, a file and a line. Without a line there is no place.
-pub(crate) type Place = (&'static str, &'static str, u32);
+/// A directory, a file and a line. Without a line there is no site.
+pub(crate) type Site = (&'static str, &'static str, u32);
 
-pub(crate) const NOWHERE: Place = ("", "", 0);
+pub(crate) const NOWHERE: Site = ("", "", 0);
 
-const LINE_5: Place = ("src", "a.c", 5);
+const LINE_5: Site = ("src", "a.c", 5);
 
-const LINE_7: Place = ("src", "a.c", 7);
+const LINE_7: Site = ("src", "a.c", 7);
 
-const LINE_9: Place = ("src", "a.c", 9);
+const LINE_9: Site = ("src", "a.c", 9);
 
-const LINE_10: Place = ("src", "a.c", 10);
+const LINE_10: Site = ("src", "a.c", 10);
 
-/// Bytes that stand in the file from a place on, an address, what is asked for; the symbol and its place,
-/// the name of its inlined call and the place in that. Without a name there is no call.
+/// A place in the file, the bytes that stand from there on, an address, and what is asked for. Then the
+/// symbol and its site, and the name of its inlined call and the site in that. Without a name there is
+/// no call.
 pub(crate) type Row = (
     usize,
     &'static [u8],
     u64,
     FindSymOpts,
     Symbol,
-    Place,
+    Site,
     &'static str,
-    Place,
+    Site,
 );
 
 /// `main` is at its start.
@@ -291,8 +292,8 @@ static CALLS: [Row; 17] = [
     ),
 ];
 
-/// Whether this is the place.
-fn is_place(found: &Option<bz_base::CodeInfo<'_>>, (dir, file, line): &Place) -> bool {
+/// Whether this is the site.
+fn is_site(found: &Option<bz_base::CodeInfo<'_>>, (dir, file, line): &Site) -> bool {
     match found {
         Some(found) => match &found.dir {
             Some(found_dir) => {
@@ -306,10 +307,10 @@ fn is_place(found: &Option<bz_base::CodeInfo<'_>>, (dir, file, line): &Place) ->
     }
 }
 
-/// Whether there is one call, of this name and place, or none where there is no name.
-fn is_call(found: &[InlinedFn<'_>], name: &str, place: &Place) -> bool {
+/// Whether there is one call, of this name and site, or none where there is no name.
+fn is_call(found: &[InlinedFn<'_>], name: &str, site: &Site) -> bool {
     match found {
-        [call] => call.name.as_str() == name && is_place(&call.code_info, place),
+        [call] => call.name.as_str() == name && is_site(&call.code_info, site),
         [] => name.is_empty(),
         _ => false,
     }
@@ -323,7 +324,7 @@ fn is_answer(found: &Result<Result<ResolvedSym<'_>, Reason>, Error>, row: &Row) 
             symbol.name == name
                 && symbol.addr == start
                 && symbol.size == Some(size)
-                && is_place(&symbol.code_info, &row.5)
+                && is_site(&symbol.code_info, &row.5)
                 && is_call(symbol.inlined.as_slice(), row.6, &row.7)
         }
         Ok(Err(reason)) => name.is_empty() && *reason == Reason::UnknownAddr,
@@ -336,8 +337,8 @@ pub(crate) fn tells<T: Symbolize>(alloc: Global, table: &T, row: &Row) -> bool {
     is_answer(&table.find_sym(alloc, row.2, &row.3), row)
 }
 
-/// Whether the file, read in place, answers so.
-fn tells_in_place(alloc: Global, context: &GsymContext<'_>, row: &Row) -> bool {
+/// Whether the file, whose bytes are lent, answers so.
+fn tells_lent(alloc: Global, context: &GsymContext<'_>, row: &Row) -> bool {
     is_answer(&context.find_sym(alloc, row.2, &row.3), row)
 }
 
@@ -353,21 +354,27 @@ pub(crate) fn answers(alloc: Global, file: &[u8], row: &Row) -> bool {
         Ok(table) => {
             tells(alloc, &resolver, row)
                 && tells(alloc, &table, row)
-                && tells_in_place(alloc, &table.context(), row)
+                && tells_lent(alloc, &table.context(), row)
         }
         Err(_) => false,
     }
 }
 
 #[test]
-fn files_answer_for_addresses(rt: HostRuntime) {
+fn files_answer_for_addresses_or_are_refused(rt: HostRuntime) {
     laws::the_symbol_that_is_found_answers();
     laws::answers_start_before();
     laws::calls_are_rotated();
-    for row in &LINES {
-        assert!(rt; answers(rt.alloc(), &GSYM_LINES, row));
+    for index in 0..LINES.len() {
+        assert!(rt;
+            answers(rt.alloc(), &GSYM_LINES, &LINES[index]),
+            "row {index} of lines"
+        );
     }
-    for row in &CALLS {
-        assert!(rt; answers(rt.alloc(), &GSYM_CALLS, row));
+    for index in 0..CALLS.len() {
+        assert!(rt;
+            answers(rt.alloc(), &GSYM_CALLS, &CALLS[index]),
+            "row {index} of calls"
+        );
     }
 }

@@ -5,7 +5,7 @@ use bz_gsym::{GsymContext, laws};
 use bz_samples::{GSYM_LINES, damaged};
 use std::alloc::Global;
 
-/// Bytes that stand in the file from a place on, and whether it is taken then.
+/// A place in the file, the bytes that stand from there on, and whether it is taken then.
 type Row = (usize, &'static [u8], bool);
 
 /// Each field of the head is 0, its greatest value, the last one that the bytes hold, and one past that.
@@ -73,13 +73,19 @@ fn is_taken(alloc: Global, file: &[u8], (place, new, expected): &Row) -> bool {
 }
 
 #[test]
-fn heads_are_taken_by_their_tables(rt: HostRuntime) {
+fn heads_are_taken_or_refused_by_fields_and_length(rt: HostRuntime) {
     laws::files_are_exact();
-    for row in &HEADS {
-        assert!(rt; is_taken(rt.alloc(), &GSYM_LINES, row));
+    for index in 0..HEADS.len() {
+        assert!(rt;
+            is_taken(rt.alloc(), &GSYM_LINES, &HEADS[index]),
+            "row {index}"
+        );
     }
     // Of a file that is cut the string table has to be whole: the last of the tables, which ends at 102.
     for len in 0..104usize {
-        assert!(rt; is_taken(rt.alloc(), &GSYM_LINES[..len], &(0, b"", len >= 102)));
+        assert!(rt;
+            is_taken(rt.alloc(), &GSYM_LINES[..len], &(0, b"", len >= 102)),
+            "cut at {len}"
+        );
     }
 }

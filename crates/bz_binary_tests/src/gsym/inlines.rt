@@ -52,6 +52,7 @@ const RANGES: &[u8] =
 /// 0x1000.
 type TreeRow = (&'static [u8], u64, bool, &'static [InlineFrame]);
 
+/// Trees that are taken for an address, and then ones that are refused for one.
 static TREES: [TreeRow; 19] = [
     (NESTED, 0x0fff, true, &[]),
     (NESTED, 0x1003, true, &[MAIN]),
@@ -123,7 +124,7 @@ fn gives(alloc: Global, bytes: &[u8], addr: u64, taken: bool, expected: &[Inline
 }
 
 /// Whether a tree of nodes one inside the other, each of 0x20 bytes, gives its frames inside and none
-/// outside, and is refused in both places without its last byte.
+/// outside. Without its last byte it is refused at both addresses.
 fn walks_deep(alloc: Global) -> Result<bool, AllocError> {
     let mut bytes = Vec::new(alloc);
     let mut levels = Vec::new(alloc);
@@ -145,11 +146,15 @@ fn walks_deep(alloc: Global) -> Result<bool, AllocError> {
 }
 
 #[test]
-fn trees_give_the_frames_around_an_address(rt: HostRuntime) {
+fn trees_give_the_frames_around_an_address_or_are_refused(rt: HostRuntime) {
     laws::trees_are_exact();
     laws::frames_are_the_trees();
-    for row in &TREES {
-        assert!(rt; gives(rt.alloc(), row.0, row.1, row.2, row.3));
+    for index in 0..TREES.len() {
+        let (bytes, addr, taken, frames) = TREES[index];
+        assert!(rt;
+            gives(rt.alloc(), bytes, addr, taken, frames),
+            "row {index}"
+        );
     }
-    assert!(rt; walks_deep(rt.alloc()) == Ok(true));
+    assert!(rt; walks_deep(rt.alloc()) == Ok(true), "a deep tree");
 }

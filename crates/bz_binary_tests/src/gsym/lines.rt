@@ -124,8 +124,8 @@ static TABLES: [Row; 50] = [
     (b"\x7c\x80", 0x1000, NO_HEAD),
 ];
 
-/// The state that answers for an address: that of the row before the first one above it, or without one
-/// above, if there is a row, the state at the end.
+/// The state that answers for an address: that of the row before the first one above it. Where none is
+/// above it, that is the state at the end, if there is a row.
 fn answering(table: &[u8], addr: u64) -> State {
     let mut ops = Cursor::new(table);
     let Some(header) = LineTableHeader::parse(&mut ops) else {
@@ -178,7 +178,7 @@ const FRONT: [u8; 148] = [
 /// What the file answers for an address by a state. Its symbol answers from its start on.
 fn answer_by(addr: u64, (_, file, line): &State) -> answers::Row {
     let main = ("main", 0x1000, 0);
-    let (symbol, place) = match (addr >= 0x1000, file, line) {
+    let (symbol, site) = match (addr >= 0x1000, file, line) {
         (false, _, _) => (UNKNOWN, NOWHERE),
         (true, 0, 0) => (main, NOWHERE),
         (true, 1, line) => (main, ("", "1", *line)),
@@ -186,7 +186,7 @@ fn answer_by(addr: u64, (_, file, line): &State) -> answers::Row {
         (true, 7, line) => (main, ("", "7", *line)),
         _ => (REFUSED, NOWHERE),
     };
-    (0, &[], addr, CodeInfo, symbol, place, "", NOWHERE)
+    (0, &[], addr, CodeInfo, symbol, site, "", NOWHERE)
 }
 
 /// Whether the file with the row's table answers for its address by its state.
@@ -198,18 +198,21 @@ fn answers_by_state(alloc: Global, (table, addr, state): &Row) -> Result<bool, A
 }
 
 #[test]
-fn lines_answer_for_addresses(rt: HostRuntime) {
+fn lines_answer_for_addresses_or_none_does(rt: HostRuntime) {
     laws::line_states_go_on();
     laws::lines_are_known_early();
-    for row in &TABLES {
+    for index in 0..TABLES.len() {
+        let row = &TABLES[index];
+        assert!(rt; answering(row.0, row.1) == row.2, "state of row {index}");
         assert!(rt;
-            answering(row.0, row.1) == row.2 && answers_by_state(rt.alloc(), row) == Ok(true)
+            answers_by_state(rt.alloc(), row) == Ok(true),
+            "file of row {index}"
         );
     }
 }
 
-/// The least and the greatest line delta, the operators' bytes, what the first one came to (or
-/// nothing), the line and the address then, and how many bytes are left.
+/// The least and the greatest line delta, the operators' bytes, and what the first one came to: nothing
+/// where none ran. Then the line, the address, and how many bytes are left.
 type Operator = (i64, i64, &'static [u8], &'static str, u32, u64, usize);
 
 static OPERATORS: [Operator; 13] = [
@@ -265,9 +268,9 @@ fn reads_a_head() -> bool {
 }
 
 #[test]
-fn operators_run_one_by_one(rt: HostRuntime) {
-    for row in &OPERATORS {
-        assert!(rt; runs(row));
+fn heads_are_read_and_operators_run_one_by_one(rt: HostRuntime) {
+    assert!(rt; reads_a_head(), "a head");
+    for index in 0..OPERATORS.len() {
+        assert!(rt; runs(&OPERATORS[index]), "row {index}");
     }
-    assert!(rt; reads_a_head());
 }

@@ -43,6 +43,7 @@ fn scanned(starts: &[u8], distance: u8) -> Option<usize> {
     below
 }
 
+/// The starts of files, in ascending order.
 static STARTS: [&[u8]; 8] = [
     &[],
     &[0],
@@ -54,10 +55,11 @@ static STARTS: [&[u8]; 8] = [
     &[0, 3, 3, 6, 8, 8, 9, 12, 15],
 ];
 
+/// The sizes of a start, in bytes.
 const SIZES: &[u8] = &[1, 2, 4, 8];
 
-/// Whether the search in a file with these starts, each of so many bytes, finds at each distance from the
-/// base address what a scan of the starts finds, and nothing below.
+/// Whether the search in a file with these starts, each of so many bytes, finds nothing below the base
+/// address. At each distance from that it finds what a scan of the starts finds.
 fn finds_as_scanned(alloc: Global, size: u8, starts: &[u8]) -> bool {
     let Ok(bytes) = file_of(alloc, size, starts) else {
         return false;
@@ -95,8 +97,8 @@ const WRITTEN: [u8; 216] = [
     0x00, 0x00,
 ];
 
-/// A file, bytes that stand in it from a place on, an address, and the index and the start that are found
-/// for it.
+/// A file, a place in it, and the bytes that stand from there on. Then an address, and the index and the
+/// start that are found for it.
 type Row = (
     &'static [u8],
     usize,
@@ -106,6 +108,7 @@ type Row = (
     Option<u64>,
 );
 
+/// Searches in a file that LLVM's tools wrote, and in one whose addresses are unknown.
 static FOUND: [Row; 5] = [
     // The last start is below the address.
     (&WRITTEN, 0, b"", 0x10635, Some(26), Some(0xff80)),
@@ -130,13 +133,16 @@ fn finds(alloc: Global, (file, place, new, addr, index, start): &Row) -> bool {
 }
 
 #[test]
-fn halving_finds_what_a_scan_finds(rt: HostRuntime) {
-    for starts in &STARTS {
+fn searches_find_the_nearest_start_or_none(rt: HostRuntime) {
+    for index in 0..STARTS.len() {
         for size in SIZES {
-            assert!(rt; finds_as_scanned(rt.alloc(), *size, starts));
+            assert!(rt;
+                finds_as_scanned(rt.alloc(), *size, STARTS[index]),
+                "starts {index} of size {size}"
+            );
         }
     }
-    for row in &FOUND {
-        assert!(rt; finds(rt.alloc(), row));
+    for index in 0..FOUND.len() {
+        assert!(rt; finds(rt.alloc(), &FOUND[index]), "row {index}");
     }
 }

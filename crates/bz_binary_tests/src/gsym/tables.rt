@@ -79,11 +79,12 @@ fn lists(bytes: &[u8], expected: &[(u32, usize)]) -> bool {
 }
 
 #[test]
-fn tables_are_read_by_index_and_place(rt: HostRuntime) {
+fn tables_and_data_entries_are_read(rt: HostRuntime) {
     laws::strings_are_exact();
     laws::entries_are_exact();
-    assert!(rt; reads_tables());
-    for row in &ENTRIES {
-        assert!(rt; lists(row.0, row.1));
+    assert!(rt; reads_tables(), "tables");
+    for index in 0..ENTRIES.len() {
+        let (bytes, expected) = ENTRIES[index];
+        assert!(rt; lists(bytes, expected), "entries of row {index}");
     }
 }

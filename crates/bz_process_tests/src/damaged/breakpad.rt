@@ -2,11 +2,8 @@
 
 use bz_base::Error;
 use bz_breakpad::SymbolFile;
+use bz_samples::BREAKPAD_KINDS;
 use std::alloc::Global;
-
-/// A text of five records, each of a kind of its own.
-const BAR: &[u8] =
-    b"MODULE Linux x86 ffff0000 bar\nFILE 53 bar.c\nPUBLIC 1234 10 some public\nFUNC 1000 30 10 another func\n1000 30 7 53\n";
 
 /// Whether the text is taken as is expected, or else refused as no Breakpad file.
 fn is_taken_as(alloc: Global, text: &[u8], expected: bool) -> bool {
@@ -29,8 +26,8 @@ static TEXTS: [(&[u8], bool); 3] = [
 
 /// Whether a cut text is taken where its last line is ended.
 fn cut_texts_are_taken(alloc: Global) -> bool {
-    for len in 0..BAR.len() {
-        let front = &BAR[..len];
+    for len in 0..BREAKPAD_KINDS.len() {
+        let front = &BREAKPAD_KINDS[..len];
         if !is_taken_as(alloc, front, front.ends_with(b"\n")) {
             return false;
         }

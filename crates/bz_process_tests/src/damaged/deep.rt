@@ -39,7 +39,7 @@ const WHOLE: &[u8] = b"\xe0\xc8\x10\0";
 
 const UNENDED: &[u8] = b"\xdf\xc8\x10\0";
 
-/// Whether the place is that line of `a.c`.
+/// Whether the site is that line of `a.c`.
 fn is_at(site: &Option<CodeInfo<'_>>, line: u32) -> bool {
     match site {
         Some(site) => site.file.as_str() == "a.c" && site.line == Some(line),
@@ -61,8 +61,8 @@ fn are_calls(calls: &[InlinedFn<'_>], name: &str) -> bool {
     last.name.as_str() == name && is_at(&last.code_info, LAST_LINE)
 }
 
-/// Whether the symbol that is found has so many calls of functions with this name in it, or none and
-/// the last line; or without a count it is refused.
+/// Whether the symbol that is found has so many calls of functions with this name in it. With none it
+/// has the last line. Without a count the address is refused.
 fn is_nest(
     found: &Result<Result<ResolvedSym<'_>, Reason>, Error>,
     name: &str,
@@ -93,8 +93,8 @@ fn has_calls(alloc: Global, context: &GsymContext<'_>, addr: u64, count: Option<
     )
 }
 
-/// Whether the file whose tree has so many bytes of one with nodes one inside the other, each of 0x20
-/// bytes, answers by so many calls in the nodes and behind them.
+/// Whether a file answers by so many calls in its nodes and behind them. Its tree has so many bytes, and
+/// the nodes are one inside the other, each of 0x20 bytes.
 fn has_tree(
     alloc: Global,
     len: &[u8],
@@ -155,7 +155,7 @@ fn trees_answer(alloc: Global) -> bool {
 }
 
 #[test]
-fn deep_calls_answer(rt: HostRuntime) {
+fn deep_calls_answer_if_their_tree_is_whole(rt: HostRuntime) {
     assert!(rt; trees_answer(rt.alloc()), "trees");
     assert!(rt; is_so(has_nest(rt.alloc())), "nested calls");
 }

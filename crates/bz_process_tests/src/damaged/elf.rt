@@ -5,7 +5,7 @@ use bz_elf::ElfResolver;
 use bz_samples::{ELF_FUNCTION, damaged};
 use std::alloc::Global;
 
-/// Bytes that stand in the file from a place on, and how it is refused then.
+/// A place in the file, the bytes that stand from there on, and how it is refused then.
 type Row = (usize, &'static [u8], Error);
 
 static FIELDS: [Row; 4] = [
@@ -31,7 +31,7 @@ fn is_refused(alloc: Global, (place, new, refusal): &Row) -> bool {
 
 #[test]
 fn damaged_fields_are_refused(rt: HostRuntime) {
-    for row in &FIELDS {
-        assert!(rt; is_refused(rt.alloc(), row));
+    for index in 0..FIELDS.len() {
+        assert!(rt; is_refused(rt.alloc(), &FIELDS[index]), "row {index}");
     }
 }

@@ -15,8 +15,11 @@ const LAST_BASE: [u8; 60] = [
     0x01, 0x00, 0x00, 0x00, 0x00, 0x00, 0x00, 0x00, 0x00, 0x00, 0x00, 0x00,
 ];
 
-/// A file, bytes that stand in it from a place on, how it is refused then, if it is, and the address that
-/// its only start stands for, or none where that is past 64 bits.
+/// A row has:
+/// - a file;
+/// - a place in it, and the bytes that stand from there on;
+/// - how the file is refused, if it is;
+/// - the address that its only start stands for, or none where that is past 64 bits.
 type Row = (
     &'static [u8],
     usize,
@@ -58,7 +61,7 @@ fn has_address(alloc: Global, (file, place, new, refusal, expected): &Row) -> bo
     }
 }
 
-/// The least and the greatest line delta, between which there is none.
+/// The least and the greatest line delta, between which there is no delta.
 static NO_DELTAS: [(i64, i64); 3] = [(1, 0), (2, 0), (i64::MAX, i64::MIN)];
 
 /// Whether a special operator ends the table, and leaves the state at line 5 as it is.
@@ -94,7 +97,7 @@ fn deltas_end_tables() -> bool {
 }
 
 #[test]
-fn numbers_reach_to_the_end_of_their_range(rt: HostRuntime) {
+fn starts_and_deltas_stay_in_their_ranges(rt: HostRuntime) {
     assert!(rt; starts_have_addresses(rt.alloc()), "starts");
     assert!(rt; deltas_end_tables(), "deltas");
 }

@@ -1,12 +1,13 @@
 //! Texts of the system that are cut: mappings, perf maps and a status.
 
+use crate::perf_maps::PYTHON;
 use bz_base::{Error, Pid};
 use bz_proc::{PerfMap, parse_maps, parse_ns_tgid};
 use bz_samples::THREE_MAPPINGS;
 use std::alloc::Global;
 
-/// From how many bytes on, up to how many, a text of three mappings tells so many; or it isn't of mappings,
-/// since its last line doesn't reach to its inode.
+/// From how many bytes on, up to how many, and how many mappings a text of three tells then. It is
+/// refused where its last line doesn't reach to its inode.
 static MAPPINGS: [(usize, usize, Option<usize>); 7] = [
     (0, 0, Some(0)),
     (1, 30, None),
@@ -28,12 +29,8 @@ fn tells_mappings(alloc: Global, len: usize, expected: Option<usize>) -> bool {
     }
 }
 
-/// A perf map of three functions.
-const PERF_MAP: &[u8] =
-    b"7fbf1fc21441 b py::MutableSequence:<frozen _collections_abc>\n7fbf1fc2144c b py::<module>:<frozen posixpath>\n7fbf1fc215ee b py::_getuserbase.<locals>.joinuser:<frozen sitej7fbf1fc215f9 b py::expanduser:<frozen posixpath>\n";
-
-/// From how many bytes on, up to how many, the text is taken, or it isn't, since its last line doesn't
-/// reach to its name.
+/// From how many bytes on, up to how many, and whether a perf map of three functions is taken then. It isn't
+/// where its last line doesn't reach to its name.
 static PERF_MAPS: [(usize, usize, bool); 7] = [
     (0, 0, true),
     (1, 14, false),
@@ -44,9 +41,9 @@ static PERF_MAPS: [(usize, usize, bool); 7] = [
     (123, 220, true),
 ];
 
-/// Whether the text, cut to this length, is taken as is expected, or else refused as no perf map.
+/// Whether the perf map, cut to this length, is taken as is expected, or else refused as no perf map.
 fn is_taken_as(alloc: Global, len: usize, expected: bool) -> bool {
-    let Some(front) = PERF_MAP.get(..len) else {
+    let Some(front) = PYTHON.get(..len) else {
         return false;
     };
     let Ok(bytes) = Vec::from_slice(alloc, front) else {
@@ -61,7 +58,7 @@ fn is_taken_as(alloc: Global, len: usize, expected: bool) -> bool {
 /// A status with three ids.
 const STATUS: &[u8] = b"Name:\tcat\nNStgid:\t1337\t12\t5\n";
 
-/// From how many bytes on, up to how many, the text tells this id, if it tells one, or is refused.
+/// From how many bytes on, up to how many, and what the status tells then: an id, none, or a refusal.
 static IDS: [(usize, usize, Result<Option<u32>, Error>); 9] = [
     (0, 16, Ok(None)),
     // The label alone, and with a blank behind it.
@@ -120,7 +117,7 @@ fn ids_are_told() -> bool {
 }
 
 #[test]
-fn cut_texts_are_told_as_far_as_they_reach(rt: HostRuntime) {
+fn cut_texts_are_told_or_refused(rt: HostRuntime) {
     assert!(rt; mappings_are_told(rt.alloc()), "mappings");
     assert!(rt; perf_maps_are_taken(rt.alloc()), "perf maps");
     assert!(rt; ids_are_told(), "ids");

@@ -36,9 +36,9 @@ fn input<T: Drop>(kind: Input<()>, addrs: T) -> Input<T> {
 /// Whether the answer is what is told at this place. No symbol has inlined calls.
 fn is_told(answer: &Symbolized<'_>, told: &[Told], place: usize) -> bool {
     match (answer, told.get(place)) {
-        (Symbolized::Sym(symbol), Some((name, None, placed))) => {
+        (Symbolized::Sym(symbol), Some((name, None, has_site))) => {
             symbol.name.as_str() == *name
-                && symbol.code_info.is_some() == *placed
+                && symbol.code_info.is_some() == *has_site
                 && symbol.inlined.is_empty()
         }
         (Symbolized::Unknown(given), Some((_, Some(reason), _))) => given == reason,
@@ -67,6 +67,7 @@ fn is_looked_up(alloc: Global, lookups: &Lookups<'_>, told: &[Told]) -> bool {
     }
 }
 
+/// Whether a batch is answered by what is told.
 fn batch(
     alloc: Global,
     symbolizer: &mut Symbolizer,
@@ -79,6 +80,7 @@ fn batch(
     Ok(are_told(&answers, told))
 }
 
+/// Whether an address alone is.
 fn single(
     alloc: Global,
     symbolizer: &mut Symbolizer,
@@ -91,6 +93,7 @@ fn single(
     Ok(is_told(&answer, told, 0))
 }
 
+/// Whether a batch is, with a count of its steps.
 fn counted<L: Ledger>(
     alloc: Global,
     symbolizer: &mut Symbolizer,
@@ -109,6 +112,7 @@ fn counted<L: Ledger>(
     Ok(are_told(&answers, told))
 }
 
+/// Whether an address that is looked up is.
 fn looked_up<L: Ledger>(
     alloc: Global,
     symbolizer: &mut Symbolizer,

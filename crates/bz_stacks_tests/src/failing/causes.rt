@@ -153,7 +153,11 @@ static STEPS: [Step; 4] = [
 
 #[test]
 fn each_call_is_refused_by_its_cause(rt: HostRuntime) {
-    for row in &CAUSES {
-        assert!(rt; hold(rt.alloc(), (row.0, &Call::Batch, 0, &row.1), &STEPS));
+    for index in 0..CAUSES.len() {
+        let row = &CAUSES[index];
+        assert!(rt;
+            hold(rt.alloc(), (row.0, &Call::Batch, 0, &row.1), &STEPS),
+            "row {index}"
+        );
     }
 }

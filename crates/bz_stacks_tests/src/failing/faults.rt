@@ -73,10 +73,17 @@ static FAULTS: [&[Step]; 5] = [
 
 #[test]
 fn a_call_on_a_file_fails_by_each_look(rt: HostRuntime) {
-    for asked in &FILES {
-        for call in &CALLS {
-            for steps in &FAULTS {
-                assert!(rt; hold(rt.alloc(), (*asked, call, 0, NO_CAUSE), steps));
+    for file in 0..FILES.len() {
+        for call in 0..CALLS.len() {
+            for row in 0..FAULTS.len() {
+                assert!(rt;
+                    hold(
+                        rt.alloc(),
+                        (FILES[file], &CALLS[call], 0, NO_CAUSE),
+                        FAULTS[row]
+                    ),
+                    "file {file}, call {call}, row {row}"
+                );
             }
         }
     }
@@ -101,7 +108,8 @@ fn a_batch_of_a_process_fails_by_any_look(rt: HostRuntime) {
                 rt.alloc(),
                 (MAPPED, &Call::Batch, look, NO_CAUSE),
                 &PROCESS_FAILS
-            )
+            ),
+            "look {look}"
         );
     }
 }
@@ -247,8 +255,12 @@ static ROWS: [(&Asked, &[Step]); 8] = [
 ];
 
 #[test]
-fn files_answer_by_what_they_are_then(rt: HostRuntime) {
-    for (asked, steps) in &ROWS {
-        assert!(rt; hold(rt.alloc(), (*asked, &Call::Batch, 0, NO_CAUSE), steps));
+fn files_answer_or_are_refused_by_what_they_are_then(rt: HostRuntime) {
+    for index in 0..ROWS.len() {
+        let (asked, steps) = ROWS[index];
+        assert!(rt;
+            hold(rt.alloc(), (asked, &Call::Batch, 0, NO_CAUSE), steps),
+            "row {index}"
+        );
     }
 }

@@ -120,9 +120,18 @@ static ROWS: [(&[(u64, Cause)], &[Step]); 3] = [
 
 #[test]
 fn a_refused_request_changes_nothing(rt: HostRuntime) {
-    for (refusals, steps) in &ROWS {
-        for (look, cause) in *refusals {
-            assert!(rt; hold(rt.alloc(), (ELF, &Call::Single, *look, cause), steps));
+    for row in 0..ROWS.len() {
+        let (refusals, steps) = ROWS[row];
+        for index in 0..refusals.len() {
+            let refused = &refusals[index];
+            assert!(rt;
+                hold(
+                    rt.alloc(),
+                    (ELF, &Call::Single, refused.0, &refused.1),
+                    steps
+                ),
+                "row {row}, refusal {index}"
+            );
         }
     }
 }

@@ -20,23 +20,26 @@ pub(crate) enum Kind {
 /// A path, and the bytes of the file that is put there, where others replace them from a place on.
 pub(crate) type File = (&'static str, &'static [u8], usize, &'static [u8]);
 
-/// What an address is told: the name of its symbol, or why it has none; and whether it has a place in the
-/// source code.
+/// What an address is told: the name of its symbol, or why it has none; and whether it has a site.
 pub(crate) type Told = (&'static str, Option<Reason>, bool);
 
 /// The kind of addresses, the addresses, and what they are told.
 pub(crate) type Question = (Input<()>, &'static [u64], &'static [Told]);
 
-/// A source, the path of the file that it names, good files for it, what it is asked then, and how many
-/// files are read for that.
+/// A source, and what it is asked.
 pub(crate) struct Asked {
     pub kind: Kind,
+    /// The path of the file that it names.
     pub path: &'static str,
+    /// Good files for it.
     pub files: &'static [File],
+    /// What it is asked then.
     pub question: Question,
+    /// How many files are read for that.
     pub reads: u64,
 }
 
+/// A Breakpad file of one function without a site.
 pub(crate) const BREAKPAD: &Asked = &Asked {
     kind: Kind::Breakpad,
     path: "/s.sym",
@@ -45,6 +48,7 @@ pub(crate) const BREAKPAD: &Asked = &Asked {
     reads: 1,
 };
 
+/// A GSYM file. The function that is asked has a site.
 pub(crate) const GSYM: &Asked = &Asked {
     kind: Kind::Gsym,
     path: "/m.gsym",
@@ -53,6 +57,7 @@ pub(crate) const GSYM: &Asked = &Asked {
     reads: 1,
 };
 
+/// An ELF file of one function.
 pub(crate) const ELF: &Asked = &Asked {
     kind: Kind::Elf,
     path: "/e",
@@ -61,7 +66,7 @@ pub(crate) const ELF: &Asked = &Asked {
     reads: 1,
 };
 
-/// Of a process the status and the perf map are read too.
+/// A process, of which the status and the perf map are read too.
 pub(crate) const PROCESS: &Asked = &Asked {
     kind: Kind::Process,
     path: "/proc/7/maps",
@@ -74,8 +79,12 @@ pub(crate) const PROCESS: &Asked = &Asked {
     reads: 3,
 };
 
-/// A process whose mapped file isn't an ELF file. It is asked outside the mappings, in a part of the system,
-/// in memory with a perf map, past the first mapping's end and before the next, and in the mapped file.
+/// A process whose mapped file isn't an ELF file. It is asked, in this order:
+/// - outside the mappings;
+/// - in a part of the system;
+/// - in memory with a perf map;
+/// - past the first mapping's end and before the next;
+/// - in the mapped file.
 pub(crate) const MAPPED: &Asked = &Asked {
     kind: Kind::Process,
     path: "/proc/7/maps",

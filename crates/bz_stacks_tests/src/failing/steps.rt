@@ -19,8 +19,8 @@ pub(crate) enum There {
     Bytes,
 }
 
-/// Why calls are refused: the kind of addresses that they ask for, and what is at the source's path, with
-/// which bytes; and how they are refused then.
+/// Why calls are refused: the kind of addresses that they ask for, what is at the source's path, and with
+/// which bytes. How they are refused then comes last.
 pub(crate) type Cause = (Input<()>, There, &'static [u8], Error);
 
 /// What is there where no cause is told.
