@@ -4,7 +4,8 @@ use crate::fact::Answer::{Located, Symbol, Unknown};
 use crate::fact::Fact::Answer;
 use crate::fact::Row;
 use crate::files::{BAR, NESTED, USUAL};
-use bz_base::{FindSymOpts, Reason};
+use bz_base::FindSymOpts::{Basic, CodeInfo, CodeInfoAndInlined};
+use bz_base::Reason;
 
 const UNKNOWN_FILE: &[u8] = b"FUNC 1000 10 0 f\n1000 10 5 9\n";
 
@@ -27,14 +28,10 @@ pub(crate) static CALLS: [Row; 3] = [
         &[
             Answer(
                 0x1010,
-                FindSymOpts::CodeInfoAndInlined,
+                CodeInfoAndInlined,
                 Located(("another func", "", "bar.c", 7), &[]),
             ),
-            Answer(
-                0x1010,
-                FindSymOpts::Basic,
-                Located(("another func", "", "", 0), &[]),
-            ),
+            Answer(0x1010, Basic, Located(("another func", "", "", 0), &[])),
         ],
     ),
     (
@@ -42,7 +39,7 @@ pub(crate) static CALLS: [Row; 3] = [
         &[
             Answer(
                 0x1010,
-                FindSymOpts::CodeInfoAndInlined,
+                CodeInfoAndInlined,
                 Located(
                     ("outer_func()", "", "o.c", 60),
                     &[
@@ -53,24 +50,16 @@ pub(crate) static CALLS: [Row; 3] = [
             ),
             Answer(
                 0x1010,
-                FindSymOpts::CodeInfo,
+                CodeInfo,
                 Located(("outer_func()", "", "i2.c", 52), &[]),
             ),
             Answer(
                 0x1020,
-                FindSymOpts::CodeInfoAndInlined,
+                CodeInfoAndInlined,
                 Located(("outer_func()", "", "o.c", 62), &[]),
             ),
-            Answer(
-                0x1000,
-                FindSymOpts::CodeInfoAndInlined,
-                Unknown(Reason::IgnoredError),
-            ),
-            Answer(
-                0x1000,
-                FindSymOpts::Basic,
-                Located(("outer_func()", "", "", 0), &[]),
-            ),
+            Answer(0x1000, CodeInfoAndInlined, Unknown(Reason::IgnoredError)),
+            Answer(0x1000, Basic, Located(("outer_func()", "", "", 0), &[])),
         ],
     ),
     (
@@ -78,7 +67,7 @@ pub(crate) static CALLS: [Row; 3] = [
         &[
             Answer(
                 0x1174,
-                FindSymOpts::CodeInfoAndInlined,
+                CodeInfoAndInlined,
                 Located(
                     ("main", "/src/app", "main.c", 12),
                     &[("clamp", "/src/app", "util.h", 4)],
@@ -86,27 +75,27 @@ pub(crate) static CALLS: [Row; 3] = [
             ),
             Answer(
                 0x1188,
-                FindSymOpts::CodeInfoAndInlined,
+                CodeInfoAndInlined,
                 Located(("main", "/src/app", "main.c", 13), &[]),
             ),
             Answer(
                 0x1020,
-                FindSymOpts::CodeInfoAndInlined,
+                CodeInfoAndInlined,
                 Located(("_start", "", "", 0), &[]),
             ),
             Answer(
                 0x1174,
-                FindSymOpts::CodeInfoAndInlined,
+                CodeInfoAndInlined,
                 Symbol("main", 0x1160, 0x14, Some(0x2a), "app", false),
             ),
             Answer(
                 0x1188,
-                FindSymOpts::CodeInfoAndInlined,
+                CodeInfoAndInlined,
                 Symbol("main", 0x1160, 0x28, Some(0x2a), "app", false),
             ),
             Answer(
                 0x1020,
-                FindSymOpts::CodeInfoAndInlined,
+                CodeInfoAndInlined,
                 Symbol("_start", 0x1020, 0, None, "app", true),
             ),
         ],
@@ -118,34 +107,22 @@ pub(crate) static UNKNOWN: [Row; 3] = [
     (
         UNKNOWN_FILE,
         &[
-            Answer(
-                0x1000,
-                FindSymOpts::CodeInfoAndInlined,
-                Unknown(Reason::IgnoredError),
-            ),
-            Answer(0x1000, FindSymOpts::Basic, Located(("f", "", "", 0), &[])),
+            Answer(0x1000, CodeInfoAndInlined, Unknown(Reason::IgnoredError)),
+            Answer(0x1000, Basic, Located(("f", "", "", 0), &[])),
         ],
     ),
     (
         NO_COMPONENT,
-        &[Answer(0x1000, FindSymOpts::CodeInfo, Unknown(Reason::IgnoredError))],
+        &[Answer(0x1000, CodeInfo, Unknown(Reason::IgnoredError))],
     ),
     (
         UNKNOWN_CALL,
         &[
-            Answer(
-                0x1000,
-                FindSymOpts::CodeInfoAndInlined,
-                Unknown(Reason::IgnoredError),
-            ),
-            Answer(
-                0x1000,
-                FindSymOpts::CodeInfo,
-                Located(("f", "", "a.c", 5), &[]),
-            ),
+            Answer(0x1000, CodeInfoAndInlined, Unknown(Reason::IgnoredError)),
+            Answer(0x1000, CodeInfo, Located(("f", "", "a.c", 5), &[])),
             Answer(
                 0x1008,
-                FindSymOpts::CodeInfoAndInlined,
+                CodeInfoAndInlined,
                 Located(("f", "", "a.c", 5), &[]),
             ),
         ],
@@ -157,52 +134,24 @@ pub(crate) static FROM_LISTS: [Row; 3] = [
     (
         DISORDERED,
         &[
-            Answer(
-                0x1005,
-                FindSymOpts::CodeInfo,
-                Located(("f", "", "a.c", 1), &[]),
-            ),
-            Answer(
-                0x1010,
-                FindSymOpts::CodeInfo,
-                Located(("f", "", "a.c", 9), &[]),
-            ),
-            Answer(
-                0x1011,
-                FindSymOpts::CodeInfo,
-                Located(("f", "", "a.c", 2), &[]),
-            ),
-            Answer(
-                0x102f,
-                FindSymOpts::CodeInfo,
-                Located(("f", "", "a.c", 3), &[]),
-            ),
-            Answer(
-                0x1030,
-                FindSymOpts::CodeInfo,
-                Located(("f", "", "a.c", 5), &[]),
-            ),
-            Answer(
-                0x1031,
-                FindSymOpts::CodeInfo,
-                Located(("f", "", "a.c", 6), &[]),
-            ),
+            Answer(0x1005, CodeInfo, Located(("f", "", "a.c", 1), &[])),
+            Answer(0x1010, CodeInfo, Located(("f", "", "a.c", 9), &[])),
+            Answer(0x1011, CodeInfo, Located(("f", "", "a.c", 2), &[])),
+            Answer(0x102f, CodeInfo, Located(("f", "", "a.c", 3), &[])),
+            Answer(0x1030, CodeInfo, Located(("f", "", "a.c", 5), &[])),
+            Answer(0x1031, CodeInfo, Located(("f", "", "a.c", 6), &[])),
         ],
     ),
     (
         GAP_OF_DEPTH,
         &[Answer(
             0x1000,
-            FindSymOpts::CodeInfoAndInlined,
+            CodeInfoAndInlined,
             Located(("f", "", "a.c", 7), &[("g", "", "a.c", 5)]),
         )],
     ),
     (
         BEYOND,
-        &[Answer(
-            1,
-            FindSymOpts::CodeInfoAndInlined,
-            Located(("x", "", "", 0), &[]),
-        )],
+        &[Answer(1, CodeInfoAndInlined, Located(("x", "", "", 0), &[]))],
     ),
 ];

@@ -1,7 +1,7 @@
 //! The answers of Breakpad files.
 
 use crate::runs::Edit::Text;
-use crate::runs::{ADDRESSES, FIRST_RUN, Row};
+use crate::runs::{ADDRESSES, FIRST_RUN, Row, SEVERAL_RECORDS};
 use bz_samples::BREAKPAD_CALLS;
 
 /// The first file's answers to the two addresses.
@@ -11,10 +11,7 @@ const ANSWERS: &str =
 /// A file of several records, whose line record tells the site. The same with carriage returns before its
 /// line feeds follows.
 const WITH_LINE: Row = Row {
-    edits: &[Text(
-        "/a.sym",
-        "MODULE Linux x86 ffff0000 bar\nFILE 53 bar.c\nPUBLIC 1234 10 some public\nFUNC 1000 30 10 another func\n1000 30 7 53\n",
-    )],
+    edits: SEVERAL_RECORDS,
     input: "1010\n0x1030\n",
     written: "0x1010: another func+0x10 start 0x1000 size 0x30 module bar at bar.c:7\n0x1030: ? address not found in symbolization source\n",
     ..FIRST_RUN

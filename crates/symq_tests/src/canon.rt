@@ -1,7 +1,7 @@
 //! Canonical texts.
 
 use crate::runs::Edit::Text;
-use crate::runs::{FIRST_RUN, Row, USAGE};
+use crate::runs::{FIRST_RUN, Row, SEVERAL_RECORDS, USAGE};
 use bz_samples::BREAKPAD_CALLS;
 use bz_symq::Status;
 
@@ -55,10 +55,7 @@ const NAMELESS: Row = Row {
 
 /// A module, a file, a PUBLIC record, and a function with a line, by their records.
 const RECORDS: Row = Row {
-    edits: &[Text(
-        "/a.sym",
-        "MODULE Linux x86 ffff0000 bar\nFILE 53 bar.c\nPUBLIC 1234 10 some public\nFUNC 1000 30 10 another func\n1000 30 7 53\n",
-    )],
+    edits: SEVERAL_RECORDS,
     faults: (0, 0, 0),
     written: "MODULE - - - bar\nFILE 53 bar.c\nPUBLIC 1234 10 some public\nFUNC 1000 30 10 another func\n1000 30 7 53\n",
     ..CANON

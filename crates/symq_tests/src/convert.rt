@@ -1,7 +1,7 @@
 //! Converted files.
 
 use crate::runs::Edit::{Deny, Text};
-use crate::runs::{FIRST_RUN, Row};
+use crate::runs::{FIRST_RUN, Row, SEVERAL_RECORDS};
 use bz_symq::Status;
 
 /// A conversion of a Breakpad file of one function with one line, to GSYM bytes.
@@ -23,10 +23,7 @@ const CONVERTED: Row = Row {
 const BY_WORDS: Row = Row {
     lines: &[&["convert", "/a.sym"]],
     converted: "",
-    edits: &[Text(
-        "/a.sym",
-        "MODULE Linux x86 ffff0000 bar\nFILE 53 bar.c\nPUBLIC 1234 10 some public\nFUNC 1000 30 10 another func\n1000 30 7 53\n",
-    )],
+    edits: SEVERAL_RECORDS,
     ..CONVERTED
 };
 

@@ -35,12 +35,8 @@ const PROCESSES: &[Edit] = &[
     Deny("/proc/9/maps"),
 ];
 
-/// Answers, in their order:
-/// - outside of the three mappings;
-/// - in a part of the system;
-/// - in memory with a perf map;
-/// - between two mappings;
-/// - in a mapped file that isn't an ELF file.
+/// Answers outside of the three mappings, in a part of the system, and in memory with a perf map. The last
+/// two are between two mappings, and in a mapped file that isn't an ELF file.
 const FIVE: Row = Row {
     lines: &[
         &["process", "7"],
@@ -78,11 +74,8 @@ const REFUSED: Row = Row {
     ..FIVE
 };
 
-/// How runs over processes end:
-/// - by mappings, mapped files and a perf map;
-/// - by words that name a process or don't;
-/// - by an input with a bad line;
-/// - by mappings that are absent, may not be read, are bad, or are none.
+/// How runs over processes end: by mappings, mapped files, a perf map, words, and an input with a bad line.
+/// The mappings may be absent, not to be read, bad, or none.
 pub(crate) static ROWS: [Row; 12] = [
     FIVE,
     MISUSED,

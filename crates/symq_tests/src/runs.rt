@@ -48,6 +48,12 @@ pub(crate) struct Row {
 /// A Breakpad file of one function.
 const FIRST: &str = "MODULE Linux x86 ffff0000 bar\nFUNC 1000 30 10 another func\n";
 
+/// A Breakpad file of a module, a file, a PUBLIC record, and a function with a line.
+pub(crate) const SEVERAL_RECORDS: &[Edit] = &[Text(
+    "/a.sym",
+    "MODULE Linux x86 ffff0000 bar\nFILE 53 bar.c\nPUBLIC 1234 10 some public\nFUNC 1000 30 10 another func\n1000 30 7 53\n",
+)];
+
 /// An address in the function, and the one at its end.
 pub(crate) const ADDRESSES: &str = "1010\n1030\n";
 

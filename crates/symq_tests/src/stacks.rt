@@ -31,12 +31,8 @@ const NAMES: Row = Row {
     ..STACKS
 };
 
-/// What folds:
-/// - one path from two addresses;
-/// - sums past 32 bits, and a count of 0;
-/// - paths in the order of their bytes;
-/// - no stacks;
-/// - an address that is refused.
+/// What folds: one path from two addresses, sums past 32 bits, a count of 0, and paths in the order of
+/// their bytes. Then no stacks, and an address that is refused.
 pub(crate) static FOLDED: [Row; 9] = [
     STACKS,
     Row {
