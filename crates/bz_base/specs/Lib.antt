@@ -19,6 +19,7 @@ pub mod Bind
 pub mod ErrorNames
 pub mod InputKind
 pub mod Lent
+pub mod Options
 pub mod Pid
 pub mod ReasonText
 pub mod Refusals

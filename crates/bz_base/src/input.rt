@@ -1,7 +1,7 @@
 //! What kind of address is looked up.
 
 ghost use Rattle.std.specs.Prelude.{◌≡◌};
-ghost use Rattle.bz_base.specs.InputKind.{payload, MapsTo};
+ghost use Rattle.bz_base.specs.InputKind.{address_kind, payload, MapsTo};
 
 /// An address, or several, with what they are relative to.
 #[derive(Clone, Copy, Debug, PartialEq)]
@@ -46,6 +46,20 @@ impl<T> Input<T> {
     {
         match self {
             Input::AbsAddr(x) | Input::VirtOffset(x) | Input::FileOffset(x) => x,
+        }
+    }
+}
+
+impl Input<()> {
+    /// The same kind of input, with a payload.
+    pub fn with<T>(self, inner: T) -> Input<T>
+        ensures kind { address_kind result ≡ address_kind self }
+        ensures payload { payload result ≡ inner }
+    {
+        match self {
+            Input::AbsAddr(()) => Input::AbsAddr(inner),
+            Input::VirtOffset(()) => Input::VirtOffset(inner),
+            Input::FileOffset(()) => Input::FileOffset(inner),
         }
     }
 }

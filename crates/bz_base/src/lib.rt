@@ -14,8 +14,9 @@ mod types;
 
 pub use batch::in_batch;
 pub use bz_bytes::{
-    ByteTest, Cursor, first_line, next_line, padding, read_decimal, read_hex, run_len,
-    split_source, text_before_zero, u8_at, u16_at, u32_at, u64_at, whole_decimal, whole_hex,
+    ByteTest, Cursor, begins_with_slash, first_line, next_line, padding, read_decimal, read_hex,
+    run_len, slash_after, split_source, text_before_zero, u8_at, u16_at, u32_at, u64_at,
+    whole_decimal, whole_hex, whole_u32,
 };
 pub use bz_search::{
     Addr, Nested, Place, Probe, Spanned, Starts, Steps, around_in, chain_in, covering_at,

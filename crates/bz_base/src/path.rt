@@ -1,12 +1,13 @@
 //! The path of a site in source code.
 
-ghost use Rattle.std.specs.Prelude.{◌≡◌, true, Some, length, IfOk, IfNone, IsOk, IsOkUnless};
+ghost use Rattle.std.specs.Prelude.{◌≡◌, true, Some, IfOk, IfNone, IsOk, IsOkUnless};
 ghost use Rattle.std.specs.Cow.{cow_str_bytes};
 ghost use Rattle.bz_base.specs.Answer.{site_of};
-ghost use Rattle.bz_bytes.specs.Path.{begins_with_slash, last_byte, path_text, slash_after};
+ghost use Rattle.bz_bytes.specs.Path.{begins_with_slash, path_text};
 
 use crate::error::{Error, Result};
 use crate::types::CodeInfo;
+use bz_bytes::{begins_with_slash, slash_after};
 use std::alloc::Global;
 use std::borrow::CowStr;
 
@@ -40,23 +41,4 @@ fn joined<'f>(alloc: Global, dir: &str, file: &'f str) -> Result<CowStr<'f>>
     path.push_str(slash_after(dir))?;
     path.push_str(file)?;
     Ok(CowStr::Owned(path))
-}
-
-fn begins_with_slash(path: &str) -> bool
-    ensures { result ≡ begins_with_slash path.now }
-{
-    match path.as_bytes() {
-        [first, ..] => *first == b'/',
-        [] => false,
-    }
-}
-
-/// The slash between a directory and a file in it.
-fn slash_after(dir: &str) -> &'static str
-    ensures { result.now ≡ slash_after (last_byte dir.now) }
-{
-    match dir.as_bytes().last() {
-        Some(last) => if *last == b'/' { "" } else { "/" },
-        None => "",
-    }
 }

@@ -39,7 +39,7 @@ impl From<u32> for Pid {
     }
 }
 
-/// Prints `self`, or the decimal number.
+/// Prints `self`, or the id in decimal.
 impl fmt::Display for Pid {
     ghost output = { λ pid. Some (pid_text pid) };
 

@@ -32,7 +32,7 @@ pub trait Symbolize {
         ensures refusal { IfErr result MayRefuse };
 }
 
-/// A file whose offsets are the table's addresses elsewhere.
+/// A file that translates its offsets into addresses, as its table of symbols has them.
 pub trait TranslateFileOffset {
     /// What it may answer for a file offset.
     ghost may_translate: { Self → ℕ → Result (Option ℕ) Error → Type 0 };

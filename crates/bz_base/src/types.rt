@@ -2,9 +2,10 @@
 
 ghost use Rattle.std.specs.Prelude.{◌≡◌, ◌≤◌, ◌++◌, ◌∷◌, [], Some, IfOk, IfSome, IsOkUnless, map, option_map, option_copied};
 ghost use Rattle.std.specs.Cow.{cow_str_bytes};
-ghost use Rattle.bz_base.specs.Answer.{site_of, call_of, resolved_of, symbol_of, sym_in};
+ghost use Rattle.bz_base.specs.Answer.{reading, site_of, call_of, resolved_of, symbol_of, sym_in};
 ghost use Rattle.bz_bytes.specs.Byte.{zero_byte};
 ghost use Rattle.bz_base.specs.Lent.{IsLentResolved, IsLentSymbol, IsLentText};
+ghost use Rattle.bz_base.specs.Options.{opts_by};
 ghost use Rattle.bz_base.specs.ReasonText.{text_of};
 ghost use Rattle.bz_base.specs.Resolution.{symbol_at};
 
@@ -47,6 +48,19 @@ pub enum FindSymOpts {
     CodeInfo,
     /// The site in source code and the inlined calls too.
     CodeInfoAndInlined,
+}
+
+impl FindSymOpts {
+    /// By whether sites in source code are looked up, and inlined calls: these only with sites.
+    pub fn by(code_info: bool, inlined: bool) -> FindSymOpts
+        ensures { result ≡ opts_by code_info inlined }
+    {
+        match (code_info, inlined) {
+            (false, _) => FindSymOpts::Basic,
+            (true, false) => FindSymOpts::CodeInfo,
+            (true, true) => FindSymOpts::CodeInfoAndInlined,
+        }
+    }
 }
 
 /// A site in source code.
@@ -144,7 +158,7 @@ pub enum Symbolized<'a> {
 impl CodeInfo<'_> {
     /// The same site, with texts of its own.
     pub fn into_owned(self, alloc: Global) -> Result<CodeInfo<'static>>
-        ensures ok { IfOk result (λ site. site_of site ≡ site_of self.entry) }
+        ensures same { IfOk result (λ site. site_of site ≡ site_of self.entry) }
         ensures memory { IsOkUnless result Error.OutOfMemory }
     {
         let dir = owned_option(alloc, self.dir)?;
@@ -161,7 +175,7 @@ impl CodeInfo<'_> {
 impl InlinedFn<'_> {
     /// The same call, with texts of its own.
     pub fn into_owned(self, alloc: Global) -> Result<InlinedFn<'static>>
-        ensures ok { IfOk result (λ call. call_of call ≡ call_of self.entry) }
+        ensures same { IfOk result (λ call. call_of call ≡ call_of self.entry) }
         ensures memory { IsOkUnless result Error.OutOfMemory }
     {
         let name = owned(alloc, self.name)?;
@@ -193,7 +207,7 @@ impl<'a> ResolvedSym<'a> {
 impl Sym<'_> {
     /// The same symbol, with texts of its own.
     pub fn into_owned(self, alloc: Global) -> Result<Sym<'static>>
-        ensures ok { IfOk result (λ symbol. symbol_of symbol ≡ symbol_of self.entry) }
+        ensures same { IfOk result (λ symbol. symbol_of symbol ≡ symbol_of self.entry) }
         ensures memory { IsOkUnless result Error.OutOfMemory }
     {
         let name = owned(alloc, self.name)?;
@@ -274,6 +288,20 @@ impl<'a> Symbolized<'a> {
             Symbolized::Unknown(_) => None,
         }
     }
+
+    /// The same answer, with texts of its own.
+    pub fn into_owned(self, alloc: Global) -> Result<Symbolized<'static>>
+        ensures same { IfOk result (λ own. reading own ≡ reading self.entry) }
+        ensures memory { IsOkUnless result Error.OutOfMemory }
+    {
+        match self {
+            Symbolized::Sym(symbol) => {
+                let symbol: Sym<'static> = symbol.into_owned(alloc)?;
+                Ok(Symbolized::Sym(symbol))
+            }
+            Symbolized::Unknown(reason) => Ok(Symbolized::Unknown(reason)),
+        }
+    }
 }
 
 fn lent_option(text: Option<&str>) -> Option<CowStr<'_>>
@@ -287,7 +315,7 @@ fn lent_option(text: Option<&str>) -> Option<CowStr<'_>>
 }
 
 fn owned(alloc: Global, text: CowStr<'_>) -> Result<CowStr<'static>>
-    ensures ok { IfOk result (λ own. cow_str_bytes own ≡ cow_str_bytes text.entry) }
+    ensures same { IfOk result (λ own. cow_str_bytes own ≡ cow_str_bytes text.entry) }
     ensures memory { IsOkUnless result Error.OutOfMemory }
 {
     let text = text.into_owned(alloc)?;
@@ -295,7 +323,7 @@ fn owned(alloc: Global, text: CowStr<'_>) -> Result<CowStr<'static>>
 }
 
 fn owned_option(alloc: Global, text: Option<CowStr<'_>>) -> Result<Option<CowStr<'static>>>
-    ensures ok { IfOk result (λ own. option_map cow_str_bytes own ≡ option_map cow_str_bytes text.entry) }
+    ensures same { IfOk result (λ own. option_map cow_str_bytes own ≡ option_map cow_str_bytes text.entry) }
     ensures memory { IsOkUnless result Error.OutOfMemory }
 {
     match text {
@@ -308,7 +336,7 @@ fn owned_option(alloc: Global, text: Option<CowStr<'_>>) -> Result<Option<CowStr
 }
 
 fn owned_site(alloc: Global, site: Option<CodeInfo<'_>>) -> Result<Option<CodeInfo<'static>>>
-    ensures ok { IfOk result (λ own. option_map site_of own ≡ option_map site_of site.entry) }
+    ensures same { IfOk result (λ own. option_map site_of own ≡ option_map site_of site.entry) }
     ensures memory { IsOkUnless result Error.OutOfMemory }
 {
     match site {
@@ -321,7 +349,7 @@ fn owned_site(alloc: Global, site: Option<CodeInfo<'_>>) -> Result<Option<CodeIn
 }
 
 fn owned_calls(alloc: Global, calls: Vec<InlinedFn<'_>>) -> Result<Vec<InlinedFn<'static>>>
-    ensures ok { IfOk result (λ own. map call_of own.items ≡ map call_of calls.entry.items) }
+    ensures same { IfOk result (λ own. map call_of own.items ≡ map call_of calls.entry.items) }
     ensures memory { IsOkUnless result Error.OutOfMemory }
 {
     let mut all = Vec::with_capacity(alloc, calls.len())?;

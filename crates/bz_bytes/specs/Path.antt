@@ -64,16 +64,16 @@ pub record IsLastLive (all before : List (List ℕ)) (piece : List ℕ) : Type 0
 abbrev pub text_to : List (List ℕ) → List ℕ → List ℕ
 text_to before piece = join_with_byte slash (before ++ piece ∷ [])
 
--- the directory of a file that these pieces come before is the text to the end of the last live one; without one it is the
--- root if the text begins with a slash, and else there is none
+-- these pieces come before the file. The directory is the text to the end of the last live one of them. Where none is live,
+-- it is the root if the text begins with a slash, and else there is none
 abbrev pub IsDirectory : List ℕ → List (List ℕ) → Option (List ℕ) → Type 0
 IsDirectory text before None = AreDead true before × (begins_with_slash text ≡ false)
 IsDirectory text before (Some directory) =
     ((earlier : List (List ℕ)) × (piece : List ℕ) × IsLastLive before earlier piece × (directory ≡ text_to earlier piece))
     ⊎ (AreDead true before × (begins_with_slash text ≡ true) × (directory ≡ root))
 
--- the file is the last live one of the text's pieces; without one it is the root, with no directory, if the text begins
--- with a slash
+-- the file is the last live one of the text's pieces. Where none is live, it is the root and has no directory, if the text
+-- begins with a slash
 pub record IsSplit (text : List ℕ) (directory : Option (List ℕ)) (file : List ℕ) : Type 0 where
   pub all : List (List ℕ)
   pub are_pieces : ArePieces text all

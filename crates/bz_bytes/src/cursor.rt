@@ -25,7 +25,7 @@ impl<'a> Model for Cursor<'a> {
     ghost invariant = { λ c. IsPlaced (record { all = c.bytes.now; left = c.rest.now }) };
 }
 
-/// How far a place lies before the next one that is divisible by 4.
+/// How many bytes lie from a place to the first one divisible by 4 that isn't before it.
 #[inline(always)]
 pub fn padding(place: usize) -> usize
     ensures { result ≡ padding place }
@@ -147,7 +147,7 @@ impl<'a> Cursor<'a> {
         ensures reads { with_rest (option_map (λ bytes. bytes.now) result) self.new.left ≡ slice_at count self.old.left }
         ensures all { self.new.all ≡ self.old.all }
         ensures count { IfSome result (λ bytes. length bytes.now ≡ count) }
-        ensures shorter { IfSome result (λ _. length self.new.left + count ≡ length self.old.left) }
+        ensures left { IfSome result (λ _. length self.new.left + count ≡ length self.old.left) }
         ensures none { IfNone result (self.new ≡ self.old) }
     {
         let left = self.rest;

@@ -49,6 +49,14 @@ pub fn whole_decimal(text: &[u8], most: usize, greatest: u64) -> Option<u64>
     alone(value, rest)
 }
 
+/// The number that the whole text is: one to ten decimal digits, of a number that 32 bits hold.
+pub fn whole_u32(text: &[u8]) -> Option<u32>
+    ensures { result ≡ whole (decimal_at 10 4294967295 text.now) }
+{
+    let value = whole_decimal(text, 10, u64::from(u32::MAX))?;
+    Some(value as u32)
+}
+
 /// The value, if nothing stands after it.
 fn alone(value: u64, rest: &[u8]) -> Option<u64>
     ensures reads { result ≡ alone value rest.now }

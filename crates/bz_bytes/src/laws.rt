@@ -33,8 +33,8 @@ pub fn paths_are_exact()
 {}
 
 /// The pieces that are read from the front of bytes are those that lie there. They are slices, words
-/// with the least byte first, and texts that a zero byte ends. What is passed over to align a place
-/// leads to the first one after it.
+/// with the least byte first, and texts that a zero byte ends. The padding of a place leads to the
+/// first one divisible by 4 that isn't before it.
 pub fn pieces_are_exact()
     ensures slice { (count : ℕ) (bytes slice rest : List ℕ) → (slice_at count bytes ≡ Some (slice, rest)) ↔ IsInFront (IsSlice count slice) bytes rest }
     ensures word { (size : ℕ) (bytes : List ℕ) (value : ℕ) (rest : List ℕ) → (word_at size bytes ≡ Some (value, rest)) ↔ IsInFront (IsWord size value) bytes rest }
@@ -48,8 +48,7 @@ pub fn lebs_are_exact()
     ensures signed { (bytes : List ℕ) (value : ℤ) (rest : List ℕ) → (sleb_at bytes ≡ Some (value, rest)) ↔ IsInFront (IsSleb value) bytes rest }
 {}
 
-/// A text in UTF-8 stands at a place of bytes exactly where a zero byte ends it in front of those from
-/// the place on.
+/// A text in UTF-8 stands at a place of bytes exactly where a zero byte ends it there.
 pub fn zero_ended_texts_are_exact()
     ensures { (bytes : List ℕ) (place : ℕ) (text : List ℕ) → ((zero_ended (drop place bytes) ≡ Some text) × IsUtf8 text) ↔ IsString bytes place text }
 {}

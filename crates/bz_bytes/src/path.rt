@@ -1,13 +1,34 @@
 //! Directory and file of a path.
 
 ghost use Rattle.std.specs.Prelude.{◌≡◌, ◌<◌, true, length, option_map, IfNone, IfSome};
-ghost use Rattle.bz_bytes.specs.Path.{begins_with_slash, last_live, pieces, split, CutsDead, EndsLive};
+ghost use Rattle.bz_bytes.specs.Path.{begins_with_slash, last_byte, last_live, pieces, slash_after, split, CutsDead, EndsLive};
 
-/// Directory and file of the path of a source file. Of the pieces between its slashes those are dead
-/// that are empty, or are a dot and aren't the first. The file is the last live one, and the
-/// directory is the text to the end of the live one before it. Where no live one is before it, the
-/// directory is `/` if the text begins with a slash, and else there is none; where none is live at
-/// all, the file is `/` and has no directory. The empty text has neither.
+/// Whether the path begins with a slash. A file's path that does so isn't relative to a directory.
+pub fn begins_with_slash(path: &str) -> bool
+    ensures { result ≡ begins_with_slash path.now }
+{
+    match path.as_bytes() {
+        [first, ..] => *first == b'/',
+        [] => false,
+    }
+}
+
+/// The slash to put between a directory and a file in it: none where the directory is empty or ends
+/// in a slash.
+pub fn slash_after(dir: &str) -> &'static str
+    ensures { result.now ≡ slash_after (last_byte dir.now) }
+{
+    match dir.as_bytes().last() {
+        Some(last) => if *last == b'/' { "" } else { "/" },
+        None => "",
+    }
+}
+
+/// Directory and file of the path of a source file. A piece between its slashes is dead if it is
+/// empty, or if it is a dot and isn't the first. The file is the last live piece. The directory is the
+/// text to the end of the live piece before that. Where none is before it, the directory is `/` if the
+/// text begins with a slash, and else there is none. Where no piece is live, the file is `/` and has
+/// no directory; but the empty text has neither.
 pub fn split_source<'a>(text: &'a str) -> Option<(Option<&'a str>, &'a str)>
     ensures { option_map (λ parts. (option_map (λ directory. directory.now) parts.0, parts.1.now)) result ≡ split text.now }
 {

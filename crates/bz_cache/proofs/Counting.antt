@@ -15,7 +15,7 @@ use Rattle.std.specs.FinMap.{FinMap, IsAntisymmetric, find, put, is_sorted, get-
 use Rattle.std.specs.FinMap.Entries.{below_all, by_order, where_key, find-where_key, is_sorted-where_key, same_entries}
 use Rattle.bz_files.specs.declared.stamp.Stamp.{Stamp}
 use Rattle.bz_cache.specs.Cache.{PathState, Paths, names, stamp_eq}
-use Rattle.bz_cache.specs.Counts.{names_at, naming_paths}
+use Rattle.bz_cache.specs.Counts.{names_at, naming_path_count}
 use Rattle.bz_cache.specs.Eviction.{is_named}
 use Rattle.bz_cache.specs.Look.{moved}
 use Rattle.bz_cache.proofs.FiniteMaps.{insert_removed, get_removed}
@@ -98,33 +98,33 @@ module _ {K X : Type 0} {R : K → K → Ordering} (o : IsTotalOrder R) where
 
 module _ (paths : Paths) (s : Stamp) where
   -- a stamp is named exactly where the number of paths that name it isn't 0
-  pub is_named-counted : is_named paths s ≡ ltb 0 (naming_paths paths s)
+  pub is_named-counted : is_named paths s ≡ ltb 0 (naming_path_count paths s)
   is_named-counted = any_passing (λ (e : List ℕ × PathState). names e.1 s) (map.entries paths)
 
   -- no more paths name a stamp than are held
-  pub naming-bound : naming_paths paths s ≤ map.len paths
+  pub naming-bound : naming_path_count paths s ≤ map.len paths
   naming-bound = omega (arith, len-entries paths, length-filter_both (λ (e : List ℕ × PathState). names e.1 s) (λ e. not (names e.1 s)) (λ _. refl) (map.entries paths))
 
   -- a stamp that no path names
-  pub naming-none : ((q : List ℕ) (e : PathState) → map.get paths q ≡ Some e → names e s ≡ true → ⊥) → naming_paths paths s ≡ 0
+  pub naming-none : ((q : List ℕ) (e : PathState) → map.get paths q ≡ Some e → names e s ≡ true → ⊥) → naming_path_count paths s ≡ 0
   naming-none never =
       let unnamed : is_named paths s ≡ false = false_from_ne_true (is_named paths s) (λ named_s. let by = named_by paths s named_s in never by.0 by.1 by.2 by.3) in
-      let none : ltb 0 (naming_paths paths s) ≡ false = sym is_named-counted ∙ unnamed in
+      let none : ltb 0 (naming_path_count paths s) ≡ false = sym is_named-counted ∙ unnamed in
       grind (arith, nat_tests)
 
   -- a path that is put in counts in place of what it was
-  pub naming-insert : (p : List ℕ) (e : PathState) → naming_paths (map.insert paths p e) s + one (names_at (map.get paths p) s) ≡ naming_paths paths s + one (names e s)
+  pub naming-insert : (p : List ℕ) (e : PathState) → naming_path_count (map.insert paths p e) s + one (names_at (map.get paths p) s) ≡ naming_path_count paths s + one (names e s)
   naming-insert p e = passing_insert nat_list_cmp_total (λ (x : PathState). names x s) paths p e
 
   -- a path that is seen with a stamp names that one besides
-  pub naming-moved : (p : List ℕ) (t : Stamp) → naming_paths (map.insert paths p (moved t (map.get paths p))) s + one (names_at (map.get paths p) s) ≡ naming_paths paths s + one (names_at (map.get paths p) s || stamp_eq t s)
-  naming-moved p t = naming-insert p (moved t (map.get paths p)) ∙ ap (λ b. naming_paths paths s + one b) (moved_is t (map.get paths p) s)
+  pub naming-moved : (p : List ℕ) (t : Stamp) → naming_path_count (map.insert paths p (moved t (map.get paths p))) s + one (names_at (map.get paths p) s) ≡ naming_path_count paths s + one (names_at (map.get paths p) s || stamp_eq t s)
+  naming-moved p t = naming-insert p (moved t (map.get paths p)) ∙ ap (λ b. naming_path_count paths s + one b) (moved_is t (map.get paths p) s)
 
 -- a path that is taken out counts no more
-pub naming-remove : (paths : Paths) (s : Stamp) (p : List ℕ) (e : PathState) → map.get paths p ≡ Some e → naming_paths paths s ≡ naming_paths (map.remove paths p) s + one (names e s)
+pub naming-remove : (paths : Paths) (s : Stamp) (p : List ℕ) (e : PathState) → map.get paths p ≡ Some e → naming_path_count paths s ≡ naming_path_count (map.remove paths p) s + one (names e s)
 naming-remove paths s p e held =
     let back : map.insert (map.remove paths p) p e ≡ paths = insert_removed nat_list_cmp_total paths_apart paths p e held in
     let gone : map.get (map.remove paths p) p ≡ None = get_removed nat_list_cmp_total paths_apart paths p in
-    let again : naming_paths (map.insert (map.remove paths p) p e) s + one (names_at (map.get (map.remove paths p) p) s) ≡ naming_paths (map.remove paths p) s + one (names e s) = naming-insert (map.remove paths p) s p e in
+    let again : naming_path_count (map.insert (map.remove paths p) p e) s + one (names_at (map.get (map.remove paths p) p) s) ≡ naming_path_count (map.remove paths p) s + one (names e s) = naming-insert (map.remove paths p) s p e in
     let plain = rw (back, gone) at again in
     omega arith

@@ -76,11 +76,11 @@ pub record Consistent (test : List ℕ → Option Error) (cache : Cache) : Type 
 abbrev pub new_cache : Bool → Cache
 new_cache reload = record { reload = reload; kept = map.empty; paths = map.empty }
 
--- the paths, where this one has the pin if it is held
+-- the paths, with this one pinned or unpinned, by the flag, if it is held
 abbrev pub with_pinned : Bool → Paths → List ℕ → Paths
 with_pinned pinned paths path = option_map_or (λ state. map.insert paths path (record state { pinned = pinned })) (map.get paths path) paths
 
--- the cache, where the path has the pin if it is held
+-- the cache, with the path pinned or unpinned, by the flag, if it is held
 abbrev pub with_pin : Bool → Cache → List ℕ → Cache
 with_pin pinned cache path = record cache { paths = with_pinned pinned cache.paths path }
 

@@ -12,8 +12,8 @@ abbrev pub names_at : Option PathState → Stamp → Bool
 names_at state stamp = option_map_or (λ held. names held stamp) state false
 
 -- how many paths name the stamp, each counted once
-abbrev pub naming_paths : Paths → Stamp → ℕ
-naming_paths paths stamp = length (filter (λ entry. names entry.1 stamp) (map.entries paths))
+abbrev pub naming_path_count : Paths → Stamp → ℕ
+naming_path_count paths stamp = length (filter (λ entry. names entry.1 stamp) (map.entries paths))
 
 -- a kept version: its bytes, and a count of paths
 pub record Counted : Type 0 where
@@ -26,7 +26,7 @@ CountedVersions = FinMap stamp_cmp Counted
 
 -- the count of each kept version is that of the paths that name its stamp
 abbrev pub HasCounts : Paths → CountedVersions → Type 0
-HasCounts paths versions = (stamp : Stamp) (version : Counted) → map.get versions stamp ≡ Some version → version.paths ≡ naming_paths paths stamp
+HasCounts paths versions = (stamp : Stamp) (version : Counted) → map.get versions stamp ≡ Some version → version.paths ≡ naming_path_count paths stamp
 
 -- the version with one path more, and with one path fewer
 abbrev pub one_more : Counted → Counted

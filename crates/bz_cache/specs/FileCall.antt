@@ -17,8 +17,8 @@ use Rattle.bz_cache.specs.Format.{GivesOrFaults, MayFail}
 use Rattle.bz_cache.specs.Look.{look, will_open, opens_after, IsKeptAt, IsSomeLook}
 use Rattle.bz_cache.specs.View.{View, Absent, Hidden, Shown, fixed, view}
 
--- what a call asks of a file: which refusal bytes give, and what bytes in the format answer. Whether the kind of address is
--- taken is seen before the look
+-- what a call asks of a file: which refusal bytes give, whether the kind of address is taken, and what bytes in the format
+-- answer. The kind is seen before the look
 pub record Question (B : Type 0) : Type 0 where
   pub test : List ℕ → Option Error
   pub taken : Bool
@@ -52,7 +52,7 @@ by_view asked (Shown bytes) = by_version asked bytes
 abbrev pub shown_answer : {B : Type 0} → Question B → View → Result B Error
 shown_answer asked shown = cond asked.taken (by_view asked shown) (Err errors.Unsupported)
 
--- what a call on one file answers by the version in view
+-- what a call on the file at a path answers, by the cache and the world in view
 abbrev pub view_answer : {B : Type 0} → Question B → Cache → World → List ℕ → Result B Error
 view_answer asked cache world path = shown_answer asked (view cache world path)
 
@@ -80,8 +80,8 @@ pub record FileTold {A B : Type 0} (reading : A → B) (asked : Question B) (pat
   pub opened : OnOk result (after ≡ opens_after (file_opens asked.taken old path there) before)
   pub spared : file_opens asked.taken old path there ≡ false → after ≡ before
 
--- whatever is told, a call that no version answered is refused as a look at files of its format; or by `Unsupported` for its
--- kind of address, of which this holds
+-- a call that no version answered is refused as a look at files of its format is. It may also be refused by
+-- `Unsupported`, if this holds: its kind of address isn't taken
 abbrev pub MayBeRefused : Type 0 → (List ℕ → Option Error) → Error → Type 0
 MayBeRefused untaken test errors.Unsupported = untaken ⊎ MayFail test errors.Unsupported
 MayBeRefused untaken test e = MayFail test e

@@ -48,8 +48,8 @@ MayMiss errors.ReadFault = Unit {0}
 MayMiss errors.OutOfMemory = Unit {0}
 MayMiss _ = ⊥
 
--- a look through the cache at files of a format is refused by one of the four of a look at a file; or by a refusal that the
--- format gives to some bytes
+-- a look through the cache is refused by one of the four refusals of a look at a file, or by one that the format
+-- gives to some bytes
 abbrev pub MayFail : (List ℕ → Option Error) → Error → Type 0
 MayFail test errors.NotFound = Unit {0}
 MayFail test errors.PermissionDenied = Unit {0}

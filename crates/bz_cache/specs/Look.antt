@@ -89,8 +89,8 @@ pub record Unanswered (old new : Cache) (path : List ℕ) : Type 0 where
   pub unchanged : new ≡ old
   pub not_fixed : IsSome (fixed old path) → ⊥
 
--- what a call that shares the version of a look leaves: what an answered look lends and leaves, also where memory ran out for
--- the share; or the look wasn't answered
+-- what a call that shares the version of a look leaves. An answer leaves what an answered look does. Where memory
+-- ran out, the look was answered or not. Any other refusal is that of the look
 abbrev pub Shares : {A : Type 0} → (A → List ℕ) → (List ℕ → Option Error) → Result A Error → Cache → Cache → List ℕ → Option World → Type 0
 Shares bytes_of test (Ok version) old new path in_view = Lends test old new path (bytes_of version) in_view
 Shares bytes_of test (Err errors.OutOfMemory) old new path in_view = Unanswered old new path ⊎ ((bytes : List ℕ) × Lends test old new path bytes in_view)

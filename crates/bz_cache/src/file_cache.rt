@@ -207,7 +207,7 @@ impl<T: Version + Drop> FileCache<T> {
     /// The version of the file at the path. A path that is pinned, or that is held where the cache
     /// doesn't reload, answers by the version that it has. Any other is looked at, and read where no
     /// version with its stamp is kept. It is refused by `NotFound`, `PermissionDenied` and `ReadFault` as a
-    /// look is, by `OutOfMemory`, and by the refusal that the format gives to the file's bytes. After a
+    /// look is, and by `OutOfMemory`. It is also refused as the format refuses the file's bytes. After a
     /// refusal the cache is as before.
     pub fn entry<F: Files>(&mut self, alloc: Global, files: &mut F, path: &str) -> Result<&T>
         ensures* after { sem 𝓛 (follows_so (the_row T.row T.Version) (the_row T.row T.Version) self.entry.ghost_name none (λ _ _. ⊤) (λ n. MatchResult result (λ v. Lends T.test self.old n path.now (T.bytes_of v.now) (in_view (F.worlds files.old))) (λ _. n ≡ self.old))) }
@@ -224,9 +224,9 @@ impl<T: Version + Drop> FileCache<T> {
         Ok(self.version(&stamp))
     }
 
-    /// The same version, shared: the caller keeps it also where the cache lets it go. It is refused as
-    /// that is. After a refusal the cache is as before; where memory ran out, the file may have been
-    /// taken in.
+    /// The version that `entry` gives, shared: the caller keeps it also where the cache lets it go. It is
+    /// refused as `entry` is. After a refusal the cache is as before; where memory ran out, the file may
+    /// have been taken in.
     pub fn shared<F: Files>(&mut self, alloc: Global, files: &mut F, path: &str) -> Result<Rc<T>>
         ensures after { Shares (λ v. T.bytes_of v.value) T.test result self.old self.new path.now (in_view (F.worlds files.old)) }
         ensures answer { Told (in_view (F.worlds files.old)) (λ w. GivesOrFaults (λ v. T.bytes_of v.value) (look T.test self.old path.now (entry_at w path.now)).0 result) }

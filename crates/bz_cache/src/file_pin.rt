@@ -9,7 +9,7 @@ use bz_files::Files;
 use std::alloc::Global;
 
 /// Looks at the file at the path as if the path weren't pinned, and pins it at the version that the
-/// look gives. It is refused as that look is. After a refusal, whichever it is, everything is as before.
+/// look gives. It is refused as that look is. After a refusal, whichever it is, the cache is as before.
 pub fn pin_file<T: Version + Drop, F: Files>(
     cache: &mut FileCache<T>,
     alloc: Global,

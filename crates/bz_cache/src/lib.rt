@@ -7,12 +7,10 @@ mod file_cache;
 mod file_pin;
 mod insert_map;
 pub mod laws;
-mod owned;
 mod version;
 
 pub use builder::CacheBuilder;
 pub use file_cache::FileCache;
 pub use file_pin::pin_file;
 pub use insert_map::InsertMap;
-pub use owned::owned_answer;
 pub use version::Version;

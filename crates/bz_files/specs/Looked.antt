@@ -10,7 +10,7 @@ abbrev pub Faulted : {A : Type 0} → Result A Error → Type 0
 Faulted (Ok given) = ⊥
 Faulted (Err e) = e ≡ errors.ReadFault
 
--- the call only looked at files: the worlds to come and the process are as before, and faults are counted
+-- the call only looked at files: the worlds and the own process are as before, and faults are counted
 pub record Looked {X : Type 0} (files : Ghosts X) (before after : X) (failed : Type 0) : Type 0 where
   pub worlds : files.worlds after ≡ files.worlds before
   pub pid : files.pid after ≡ files.pid before

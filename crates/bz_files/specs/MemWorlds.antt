@@ -8,8 +8,8 @@ use Rattle.bz_files.specs.declared.files.FileError.{FileError}
 use Rattle.bz_files.specs.Count.{counted}
 use Rattle.bz_files.specs.World.{World, Entry, Denied, Present, entry_at, with_entry, coded_world}
 
--- the worlds to come, how many fresh stamps were given, how many looks there were and the numbers of those that fail,
--- how many failed, how many files were read, and the id of the own process
+-- the world in view and those to come, and how many fresh stamps were given; how many looks there were, the numbers of
+-- those that fail, and how many failed. Then how many files were read, and the id of the own process
 pub record MemWorlds : Type 0 where
   pub worlds : List World
   pub stamps : ℕ

@@ -33,7 +33,7 @@ pub struct StampedBytes {
 
 /// Files by their paths, one world of them in view. What a world holds may be told or not.
 pub trait Files {
-    /// The worlds to come, the first of them in view; none where nothing is told.
+    /// The world in view, and after it those to come; none where nothing is told.
     ghost worlds: { Self → Option (List World) };
 
     /// How many looks have failed. It rises by one at a fault, unless it is at its last value, and at no

@@ -123,8 +123,8 @@ impl MemFiles {
         self.worlds.hold(alloc, path, Held::Denied)
     }
 
-    /// Puts a copy of the last world at the end of the list, on which edits act from now on. Each
-    /// `begin` brings the list one world further.
+    /// Puts a copy of the last world at the end of the list, and edits act on that from now on. Each
+    /// `begin` goes one world further.
     pub fn schedule(&mut self, alloc: Global) -> Result<(), Error>
         ensures ok { OnOk result (self.new ≡ after_schedule self.old) }
         ensures err { OnErr result (self.new ≡ self.old) }
@@ -222,10 +222,8 @@ impl Files for MemFiles {
         ensures faults { CountsFaults self.old.faults self.new.faults (IsErrOf result FileError.Fault) }
         ensures tells { 0 < length self.old.worlds }
     {
-        match self.read_stamped(alloc, path) {
-            Ok(read) => Ok(read.bytes),
-            Err(failed) => Err(failed),
-        }
+        let read = self.read_stamped(alloc, path)?;
+        Ok(read.bytes)
     }
 
     fn read_stamped(&mut self, alloc: Global, path: &str) -> Result<StampedBytes, FileError>

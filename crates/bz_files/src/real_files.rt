@@ -116,10 +116,8 @@ impl<R: rt::Files + Drop> Files for RealFiles<R> {
         ensures state { self.new ≡ after_read result self.old }
         ensures faults { CountsFaults self.old.faults self.new.faults (IsErrOf result FileError.Fault) }
     {
-        match self.read_stamped(alloc, path) {
-            Ok(read) => Ok(read.bytes),
-            Err(failed) => Err(failed),
-        }
+        let read = self.read_stamped(alloc, path)?;
+        Ok(read.bytes)
     }
 
     fn read_stamped(&mut self, alloc: Global, path: &str) -> Result<StampedBytes, FileError>
@@ -217,9 +215,9 @@ fn cause_of(path: &str, failed: io::Error) -> FileError
     ensures { result ≡ failure_of (list_any (λ byte. byte == 0) path.now) (error_kind failed) }
 {
     match failed.kind() {
-        ErrorKind::NotFound => FileError::NotFound,
-        ErrorKind::NotADirectory => FileError::NotFound,
-        ErrorKind::InvalidFilename => FileError::NotFound,
+        ErrorKind::NotFound | ErrorKind::NotADirectory | ErrorKind::InvalidFilename => {
+            FileError::NotFound
+        }
         ErrorKind::InvalidInput if path.as_bytes().contains(&0) => FileError::NotFound,
         ErrorKind::PermissionDenied => FileError::Denied,
         ErrorKind::OutOfMemory => FileError::OutOfMemory,

@@ -86,8 +86,5 @@ group_cost done now most more =
     more_searches done (now - done) most ∙ ap (λ (n : ℕ). n * most) e
 
 -- the bound of a batch by search grows with the bound of a search
-pub batch_bound : (count most p starts : ℕ) → 2 ^ most ≤ 2 * starts + 1 → 2 * (2 * starts + 1) < 2 ^ (p + 1) →
-    count * (most + 1) ≤ count * p
-batch_bound count most p starts needed greatest =
-    let h : most + 1 < p + 1 = lesser_exponent (most + 1) (p + 1) (omega (arith, power_more most)) in
-    mul-le-mul_left count (omega arith)
+pub batch_bound : (count most p starts : ℕ) → 2 ^ most ≤ 2 * starts + 1 → starts < 2 ^ p → count * most ≤ count * p
+batch_bound count most p starts needed enough = mul-le-mul_left count (few_within most starts p needed enough)

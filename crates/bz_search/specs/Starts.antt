@@ -29,7 +29,7 @@ HaveShortPlaces starts = length starts < 2 ^ 32
 
 -- so many probes are few enough for a search among so many starts
 abbrev pub AreFew : ℕ → ℕ → Type 0
-AreFew probes count = 2 ^ probes ≤ 2 * (2 * count + 1)
+AreFew probes count = 2 ^ probes ≤ 2 * count + 1
 
 -- the places are found one by one, each for the address that stands at the same index
 abbrev pub AreFound : List ℕ → List ℕ → List (Option ℕ) → Type 0

@@ -28,7 +28,7 @@ struct Search {
     beside: [Addr; 2],
 }
 
-/// The places of the next addresses, after those of the ones before them.
+/// Puts the places of the next addresses, at most `ABREAST` of them, after the places found so far.
 pub(crate) fn search_group<L: Ledger>(
     alloc: Global,
     table: &Starts,

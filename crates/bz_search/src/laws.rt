@@ -13,8 +13,8 @@ pub fn covers_is_exact()
 {}
 
 /// Over records of any kind with a start and a size, `candidate` gives the record that is to be tried.
-/// It gives none exactly where each starts above the address. With the test it gives the nearest one if it
-/// covers the address; and what is nearest is what it gives.
+/// It gives none exactly where each starts above the address. `nearest_covering` gives that record if it
+/// covers the address, and else none. No other answer is right.
 pub fn nearest_is_exact<T>()
     ensures tried { (start size : T → ℕ) (records : List T) (addr : ℕ) (x : T) → (candidate start size addr records ≡ Some x) ↔ ((place : ℕ) × IsCandidate start size records addr place x) }
     ensures none { (start size : T → ℕ) (records : List T) (addr : ℕ) → (candidate start size addr records ≡ None) ↔ ((i : ℕ) (y : T) → slice_get records i ≡ Some y → addr < start y) }
@@ -39,7 +39,8 @@ pub fn sorted_tables_are_one<T>()
 {}
 
 /// At a depth the search gives the record with the nearest start not above an address. It gives none
-/// exactly where each of that depth starts above it. The chain has those around the address, depth by depth.
+/// exactly where each of that depth starts above it. The chain has those around the address, depth by
+/// depth.
 pub fn inner_is_exact<T>()
     ensures tried { (depth start : T → ℕ) (records : List T) (at addr : ℕ) (x : T) → (inner depth start at addr records ≡ Some x) ↔ ((place : ℕ) × IsInner depth start records at addr place x) }
     ensures none { (depth start : T → ℕ) (records : List T) (at addr : ℕ) → (inner depth start at addr records ≡ None) ↔ ((i : ℕ) (y : T) → slice_get records i ≡ Some y → depth y ≡ at → addr < start y) }

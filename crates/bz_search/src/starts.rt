@@ -91,7 +91,6 @@ pub fn nearest<T: Probe, L: Ledger>(
     ensures found { IsFound (T.starts table.now) addr result }
     ensures more { steps.old ≤ steps.new }
     ensures few { AreFew (steps.new - steps.old) (length (T.starts table.now)) }
-    ensures fewer { 2 ^ (steps.new - steps.old) ≤ 2 * length (T.starts table.now) + 1 }
 {
     let mut low = 0;
     let mut high = table.len();

@@ -14,8 +14,8 @@ use std::alloc::{AllocError, Global};
 use std::sync::ledger::Ledger;
 
 /// For each address of the batch the place that `nearest` gives for it. They are found by a pass along
-/// the starts or by a search for each, whichever has the lesser bound. Want of memory also from 2^32 starts on,
-/// since places are kept in four bytes.
+/// the starts or by a search for each, whichever has the lesser bound. Want of memory comes also from
+/// 2^32 starts on, since a place is kept in four bytes.
 pub fn nearest_each<L: Ledger>(
     alloc: Global,
     table: &Starts,
@@ -26,7 +26,7 @@ pub fn nearest_each<L: Ledger>(
     ensures count { IfOk result (λ places. length places.items ≡ length addrs.now) }
     ensures more { steps.old ≤ steps.new }
     ensures swept { steps.new - steps.old ≤ length addrs.now + length table.now }
-    ensures searched { (p : ℕ) → 2 * (2 * length table.now + 1) < 2 ^ (p + 1) → steps.new - steps.old ≤ length addrs.now * p }
+    ensures searched { (p : ℕ) → length table.now < 2 ^ p → steps.new - steps.old ≤ length addrs.now * p }
 {
     let count = table.len();
     if count > u32::MAX as usize {
@@ -34,7 +34,7 @@ pub fn nearest_each<L: Ledger>(
     }
     let most = most_probes(count);
     let swept = addrs.len() as u128 + count as u128;
-    let searched = addrs.len() as u128 * (most as u128 + 1);
+    let searched = addrs.len() as u128 * most as u128;
     if swept <= searched {
         sweep(alloc, table, addrs, steps)
     } else {
@@ -67,7 +67,7 @@ fn search_each<L: Ledger>(
     ensures found { IfOk result (λ places. AreFound table.now addrs.now places.items) }
     ensures count { IfOk result (λ places. length places.items ≡ length addrs.now) }
     ensures more { steps.old ≤ steps.new }
-    ensures cost { (most : ℕ) → length table.now < 2 ^ most → steps.new ≤ steps.old + length addrs.now * (most + 1) }
+    ensures cost { (most : ℕ) → length table.now < 2 ^ most → steps.new ≤ steps.old + length addrs.now * most }
 {
     let mut places = Vec::with_capacity(alloc, addrs.len())?;
     while places.len() < addrs.len() {
@@ -144,7 +144,7 @@ fn entries(alloc: Global, addrs: &[Addr]) -> Result<Vec<(Addr, usize)>, AllocErr
     Ok(order)
 }
 
-/// A place among the starts, with the start at it.
+/// A place among the starts or after the last, with the start at it where there is one.
 #[derive(Clone, Copy)]
 pub(crate) struct Gap {
     pub(crate) place: usize,

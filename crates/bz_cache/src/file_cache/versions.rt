@@ -84,15 +84,16 @@ pub fn remove<T: Version + Drop>(versions: &mut BTreeMap<Stamp, KeptVersion<T>>,
     versions.remove(stamp);
 }
 
-/// Counts one path more that names the stamp.
+/// Counts one path more that names the stamp of a kept version.
 pub fn raise<T: Version + Drop>(versions: &mut BTreeMap<Stamp, KeptVersion<T>>, stamp: &Stamp)
-    requires { option_map_or (λ version. version.paths) (map.get (counted_of T.bytes_of versions.old) stamp.now) 0 < 2 ^ 63 }
+    requires kept { IsSome (map.get (kept_of T.bytes_of versions.old) stamp.now) }
+    requires few { option_map_or (λ version. version.paths) (map.get (counted_of T.bytes_of versions.old) stamp.now) 0 < 2 ^ 63 }
     ensures counted { (s : Stamp) → map.get (counted_of T.bytes_of versions.new) s ≡ cond (stamp_eq stamp.now s) (option_map one_more (map.get (counted_of T.bytes_of versions.old) s)) (map.get (counted_of T.bytes_of versions.old) s) }
     ensures kept { kept_of T.bytes_of versions.new ≡ kept_of T.bytes_of versions.old }
 {
     match versions.get_mut(stamp) {
         Some(kept) => kept.paths += 1,
-        None => {}
+        None => unreachable!(),
     }
 }
 

@@ -26,8 +26,11 @@ returns-then-was_named-clause-consistent g c =
     consistent_pointed g.T.Version.test old c.args.path.now c.args.stamp c.self.invariant.0 (paths_of c.update.new.paths) c.in_ok-update.ensures.ok there
 
 -- it names the stamp from now on
-pub raise-requires : goal.raise-requires
-raise-requires g c =
+pub raise-requires-clause-kept : goal.raise-requires-clause-kept
+raise-requires-clause-kept g c = subst (λ (v : Cache). IsSome (map.get v.kept c.args.stamp)) (sym c.self.view_is) c.requires
+
+pub raise-requires-clause-few : goal.raise-requires-clause-few
+raise-requires-clause-few g c =
     let old : Cache = record { reload = c.self.inside.reload; kept = kept_of g.T.Version.bytes_of c.self.inside.versions; paths = paths_of c.self.inside.paths } in
     let below = count_below old.paths (counted_of g.T.Version.bytes_of c.self.inside.versions) c.self.invariant.1 c.args.path.now c.args.stamp (paths_of c.update.new.paths) c.in_ok-update.ensures.ok (sym c.path_names-was_named.ensures ∙ c.if-was_named.false) in
     omega (arith, below)
