@@ -76,7 +76,7 @@ abbrev pub by_function : Table → FindSymOpts → ℕ → Option Function → R
 by_function table opts addr None = Ok (by_public table addr (public_at addr table.publics))
 by_function table opts addr (Some f) = by_location table f addr (location_at table opts f addr)
 
--- where there are no functions and PUBLIC records at all
+-- the answer of the records: where there are no functions and no PUBLIC records at all, symbols are missing
 abbrev pub by_records : Table → FindSymOpts → ℕ → List Function → List PublicSymbol → Result Answer Error
 by_records table opts addr [] [] = Ok (Unknown reasons.MissingSyms)
 by_records table opts addr [] (p ∷ publics) = by_function table opts addr None

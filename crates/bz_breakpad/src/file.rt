@@ -32,16 +32,14 @@ use crate::found::{FoundAddr, FoundRecord};
 use crate::inspect::{SymInfo, each_info, infos_named};
 use crate::lookups::{FoundAddrs, answer_from};
 use crate::publics::{lend_public, lend_publics};
-use crate::symbol::symbol_from;
+use crate::symbol::{module_name, symbol_from};
 use crate::types::PublicSymbol;
 use bz_base::{
     Addr, Error, FindSymOpts, Reason, ResolvedSym, Result, Starts, Steps, Symbolized, nearest,
     place_found,
 };
 use bz_breakpad_function::{Cuts, Function};
-use bz_breakpad_table::{
-    KeptTable, PublicTable, name_of, names_of, read_table, sorted_publics, text_of,
-};
+use bz_breakpad_table::{KeptTable, PublicTable, name_of, names_of, read_table, sorted_publics};
 use std::alloc::Global;
 use std::marker::Model;
 use std::sync::ledger::Ledger;
@@ -107,10 +105,7 @@ impl SymbolFile {
     pub fn module(&self) -> Option<&str>
         ensures { option_map (λ table. table.«module») (table_in self.now) ≡ Some (option_map (λ name. name.now) result) }
     {
-        match &self.table.module {
-            Some(part) => Some(text_of(self.bytes.as_slice(), part)),
-            None => None,
-        }
+        module_name(self.bytes.as_slice(), &self.table)
     }
 
     /// The name in the last FILE record of the id.

@@ -187,7 +187,7 @@ pub(crate) fn function_index(kept: &KeptTable, place: Option<usize>, addr: Addr)
 
 /// Whether a function starts between two addresses, or at one of them. For the second one a search among
 /// the functions' starts found the place.
-pub(crate) fn starts_between(code: &FunctionTable, from: u64, place: Option<usize>) -> bool
+fn starts_between(code: &FunctionTable, from: u64, place: Option<usize>) -> bool
     requires within { IfSome place (λ p. p < length (starts_of code.now)) }
     ensures { (addr : ℕ) → NeverDescends (starts_of code.now) → IsAt (starts_of code.now) addr place → result ≡ any_between from addr (starts_of code.now) }
 {

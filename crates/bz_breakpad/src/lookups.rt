@@ -272,10 +272,8 @@ pub(crate) fn answer_from<'a>(
     ensures refusal { IfErr result IsAnswerRefusal }
     ensures memory { IfErr result (WantsMemory (opts.now ≡ FindSymOpts.CodeInfoAndInlined)) }
 {
-    match symbol_from(alloc, bytes, kept, opts, at) {
-        Ok(symbol) => Ok(answer_of(symbol, at.found, at.addr)),
-        Err(error) => Err(error),
-    }
+    let symbol = symbol_from(alloc, bytes, kept, opts, at)?;
+    Ok(answer_of(symbol, at.found, at.addr))
 }
 
 /// The symbol of a record, or why there is none, as the answer at the address.

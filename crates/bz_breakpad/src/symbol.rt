@@ -42,10 +42,8 @@ pub(crate) fn symbol_from<'a>(
     match at.found {
         FoundRecord::Function(index) => {
             let function = &kept.code.functions[index as usize];
-            match location_at(alloc, bytes, kept, opts, function, at.hints, at.addr) {
-                Ok(location) => Ok(Ok(function_symbol(bytes, kept, function, location))),
-                Err(error) => Err(error),
-            }
+            let location = location_at(alloc, bytes, kept, opts, function, at.hints, at.addr)?;
+            Ok(Ok(function_symbol(bytes, kept, function, location)))
         }
         FoundRecord::Public(index) => {
             let public = &kept.publics[index as usize];
@@ -119,7 +117,7 @@ fn public_symbol<'a>(
 }
 
 /// The module, lent.
-fn module_name<'a>(bytes: &'a [u8], kept: &KeptTable) -> Option<&'a str>
+pub(crate) fn module_name<'a>(bytes: &'a [u8], kept: &KeptTable) -> Option<&'a str>
     requires { IfSome kept.now.«module» (IsTextAt bytes.now) }
     ensures { option_map (λ name. name.now) result ≡ option_map (text_at bytes.now) kept.now.«module» }
 {

@@ -41,7 +41,7 @@ abbrev pub inlinee_at : ℕ → ℕ → List Inlinee → Option Inlinee
 inlinee_at depth addr inlinees =
     around (λ i. i.depth) (λ i. i.start) (λ i. i.size) addr (inner (λ i. i.depth) (λ i. i.start) depth addr inlinees)
 
--- a line of the file of an id, whose name is cut into directory and file; none where the name isn't known or has no component
+-- a line of the file of an id, whose name is cut into directory and file. None where the name isn't known or has no component
 abbrev pub site_in : Table → ℕ → ℕ → Option Site
 site_in table file line = option_map (λ cut. record { dir = cut.0; file = cut.1; line = Some line; column = None }) (name_for file table.files >>= split)
 

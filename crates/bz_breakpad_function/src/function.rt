@@ -36,7 +36,7 @@ pub struct Function<'a> {
     bytes: &'a [u8],
     code: &'a FunctionTable,
     kept: &'a KeptFunction,
-    /// Its index in the file, whose order of calls contracts see.
+    /// Its index in the order of the file, by which contracts know the function.
     index: u32,
 }
 
@@ -120,8 +120,8 @@ impl<'a> Function<'a> {
         Ok(lines)
     }
 
-    /// The text of its line records, if they stand in the file one after another, each starting after the
-    /// one before it. The last line may have its end or not.
+    /// The text of its line records, if they are known to stand in the file one after another, each
+    /// starting after the one before it. The last line may have its end or not.
     pub fn line_text(&self) -> Option<&'a [u8]>
         ensures { IfSome result (λ text. IsTextOfLines text.now (lines_in_order self.now)) }
     {

@@ -17,13 +17,13 @@ use bz_breakpad_table::Part;
 /// About how long a line record is, in bytes.
 pub(crate) const LINE_LEN: usize = 16;
 
-/// Where a run may be cut first and then, in front of lines; 0 where that isn't known.
+/// Two places where a run is likely to be cut, each where a line begins; 0 where none is known.
 #[derive(Clone, Copy)]
 pub struct Cuts {
     /// The first place, from the run's beginning.
-    pub first: usize,
+    first: usize,
     /// The second one, from there too.
-    pub second: usize,
+    second: usize,
 }
 
 impl Cuts {
@@ -93,16 +93,16 @@ fn line_in_front(text: &[u8], len: usize, hints: Cuts, addr: Addr) -> Option<Sou
     only_line(rest, len, addr)
 }
 
-/// Where the line record for an address is likely to stand in a run: each byte of code is taken to need
-/// as much text as any other.
+/// Where the line record for an address is likely to stand in a run. Each byte of code is taken to
+/// need as much text as any other.
 #[derive(Clone, Copy)]
 pub struct Guess {
     /// The run, in the file's bytes.
-    pub run: Part,
+    run: Part,
     /// How many bytes of text 65536 bytes of code take.
-    pub pace: u64,
+    pace: u64,
     /// The place of the record, from the run's beginning.
-    pub near: usize,
+    near: usize,
 }
 
 impl Guess {
@@ -136,8 +136,9 @@ impl Guess {
         (self.run.to as usize).saturating_sub(1)
     }
 
-    /// Where its run is to be cut for the address. The first place is the line after a place a little
-    /// before the guess. The second lies as far from there as that line's start lies from the address.
+    /// Where its run is to be cut for the address. The first place is the line after a place a
+    /// little before the guess. The second is guessed again, from that line and its start, and a
+    /// little past.
     pub fn cuts(&self, bytes: &[u8], addr: Addr) -> Cuts {
         match bytes.get(self.run.from as usize..) {
             Some(text) => self.cuts_in(text, addr),
@@ -181,8 +182,10 @@ fn paced(code: u64, pace: u64) -> usize {
 
 /// Where the next line after a place within so many bytes of the text begins; 0 if one load doesn't
 /// show it.
-fn cut_if_near(text: &[u8], len: usize, place: usize) -> usize {
-    if len > text.len() || place > len {
+fn cut_if_near(text: &[u8], len: usize, place: usize) -> usize
+    requires { len ≤ length text.now }
+{
+    if place > len {
         return 0;
     }
     cut_near(text, len, place).unwrap_or(0)
@@ -194,7 +197,7 @@ fn cut_if_near(text: &[u8], len: usize, place: usize) -> usize {
 #[inline(always)]
 fn cut_by(text: &[u8], len: usize, hint: usize) -> Option<usize>
     requires { len ≤ length text.now }
-    ensures some { IfSome result (IsCut (take len text.now)) }
+    ensures cut { IfSome result (IsCut (take len text.now)) }
     ensures none { IfNone result (length (all_lines (take len text.now)) ≤ 1) }
 {
     if is_cut(&text[..len], hint) {
@@ -216,7 +219,7 @@ fn is_cut(text: &[u8], place: usize) -> bool
 /// first line. None if they have one line at most.
 fn cut_of(text: &[u8], len: usize) -> Option<usize>
     requires { len ≤ length text.now }
-    ensures some { IfSome result (IsCut (take len text.now)) }
+    ensures cut { IfSome result (IsCut (take len text.now)) }
     ensures none { IfNone result (length (all_lines (take len text.now)) ≤ 1) }
 {
     match cut_near(text, len, len / 2) {
@@ -246,7 +249,7 @@ fn cut_near(text: &[u8], len: usize, place: usize) -> Option<usize>
 /// Where the second line begins.
 fn first_cut(text: &[u8], len: usize) -> Option<usize>
     requires { len ≤ length text.now }
-    ensures some { IfSome result (IsCut (take len text.now)) }
+    ensures cut { IfSome result (IsCut (take len text.now)) }
     ensures none { IfNone result (length (all_lines (take len text.now)) ≤ 1) }
 {
     let cut = line_len(text) + 1;

@@ -59,7 +59,7 @@ pub(crate) fn line_at_index(
     }
 }
 
-/// The text of the function's line records, if they stand in their order where the file has them.
+/// The text of the function's line records, if they are kept as a run in the file's bytes.
 pub(crate) fn line_text<'a>(
     bytes: &'a [u8],
     code: &FunctionTable,

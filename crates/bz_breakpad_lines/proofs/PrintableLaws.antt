@@ -18,7 +18,7 @@ use Rattle.bz_breakpad_lines.specs.Printed.{AreAscending, FunctionFits, IsPrinta
 use Rattle.bz_breakpad_lines.specs.Records.{TOP, INNER, INLINE, RANGE}
 use Rattle.bz_breakpad_lines.specs.Kinds.{InnerRecord, inlinees_in, inner_of, top_of}
 use Rattle.bz_breakpad_lines.specs.Kinds.InnerRecord.{Line, Inline, InnerOrigin}
-use Rattle.bz_breakpad_lines.specs.Says.{file_of, functions_of, inlinees_of, line_of, module_first, module_of, origin_of, inner_records, public_of, table_of, function_with}
+use Rattle.bz_breakpad_lines.specs.Says.{file_of, functions_of, inlinees_of, line_of, first_module, module_of, origin_of, inner_records, public_of, table_of, function_with}
 use Rattle.bz_breakpad_lines.specs.Table.{Named, Table}
 use Rattle.bz_breakpad_lines.specs.Contexts.{Context, Record, IsBodyOf}
 use Rattle.bz_breakpad_lines.specs.Contexts.Context.{Outside, InFunc, InCfi}
@@ -190,9 +190,9 @@ module_of_fits (Top (inr (inr (inr (inr (inr (inr (inr cfi)))))))) fits = tt
 module_of_fits (OfFunc one) fits = tt
 module_of_fits OfCfi fits = tt
 
-module_first_fits : (records : List Record) → AllByRecursion RecordFits records → AllByRecursion RecordFits (module_records (module_first records))
-module_first_fits [] fit = tt
-module_first_fits (r ∷ records) fit = module_of_fits r fit.0
+first_module_fits : (records : List Record) → AllByRecursion RecordFits records → AllByRecursion RecordFits (module_records (first_module records))
+first_module_fits [] fit = tt
+first_module_fits (r ∷ records) fit = module_of_fits r fit.0
 
 -- Names by ids.
 
@@ -293,7 +293,7 @@ functions_fit (OfCfi ∷ records) fit = functions_fit records fit.1
 -- what records say that lines have can be said
 records_printable : (records : List Record) → AllByRecursion RecordFits records → IsPrintable (table_of records)
 records_printable records fit = record {
-  module_fits = module_first_fits records fit;
+  module_fits = first_module_fits records fit;
   files_fit = names_fit (λ n. RecordFits (file_record n)) (λ a b x y. (tt, (tt, (x.1.1.0, (tt, y.1.1.1.1))))) (filter_map file_of records) []
       (all_there (λ n. RecordFits (file_record (named_pair n))) file_of file_fits records fit) tt;
   origins_fit = names_fit (λ n. RecordFits (origin_record n)) (λ a b x y. (tt, (tt, (x.1.1.0, (tt, y.1.1.1.1))))) (filter_map origin_of records) []

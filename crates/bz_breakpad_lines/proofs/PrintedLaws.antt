@@ -11,7 +11,7 @@ use Rattle.bz_breakpad_lines.specs.Printed.{AreAscending, FunctionFits, IsPrinta
 use Rattle.bz_breakpad_lines.specs.Reads.{piece_at, run_at}
 use Rattle.bz_breakpad_lines.specs.Records.{INNER}
 use Rattle.bz_breakpad_lines.specs.Kinds.{as_module, inner_of}
-use Rattle.bz_breakpad_lines.specs.Says.{file_of, functions_of, inlinees_of, line_of, module_first, origin_of, inner_records, public_of, table_of, with_inner}
+use Rattle.bz_breakpad_lines.specs.Says.{file_of, functions_of, inlinees_of, line_of, first_module, origin_of, inner_records, public_of, table_of, with_inner}
 use Rattle.bz_breakpad_lines.specs.Table.{Function, Inlinee, Named, PublicSymbol, SourceLine, Table}
 use Rattle.bz_breakpad_lines.specs.Contexts.{Context, Record}
 use Rattle.bz_breakpad_lines.specs.Contexts.Context.{Outside, InFunc}
@@ -116,18 +116,18 @@ drop_first : (records : List Record) → AllByRecursion IsNoModule records → A
 drop_first [] none = tt
 drop_first (r ∷ records) none = none.1
 
-first_module : (name : Option (List ℕ)) (rest : List Record) → AllByRecursion IsNoModule rest → AllByRecursion IsNoModule (drop 1 (or_info (module_records name ++ rest)))
-first_module None rest none = drop_first rest none
-first_module (Some name) rest none = none
+module_stands_first : (name : Option (List ℕ)) (rest : List Record) → AllByRecursion IsNoModule rest → AllByRecursion IsNoModule (drop 1 (or_info (module_records name ++ rest)))
+module_stands_first None rest none = drop_first rest none
+module_stands_first (Some name) rest none = none
 
 -- What they say.
 
-no_module_first : (rest : List Record) → AllByRecursion IsNoModule rest → module_first rest ≡ None
-no_module_first [] none = refl
-no_module_first (r ∷ rest) none = none.0
+no_first_module : (rest : List Record) → AllByRecursion IsNoModule rest → first_module rest ≡ None
+no_first_module [] none = refl
+no_first_module (r ∷ rest) none = none.0
 
-module_again : (name : Option (List ℕ)) (rest : List Record) → AllByRecursion IsNoModule rest → module_first (module_records name ++ rest) ≡ name
-module_again None rest none = no_module_first rest none
+module_again : (name : Option (List ℕ)) (rest : List Record) → AllByRecursion IsNoModule rest → first_module (module_records name ++ rest) ≡ name
+module_again None rest none = no_first_module rest none
 module_again (Some name) rest none = refl
 
 -- a function again
@@ -345,7 +345,7 @@ printed_accepted t is =
     let told : table_of records ≡ t = info_says (table_records t) ∙ table_again t is.files_ascend is.origins_ascend in
     let accepted = written_accepted records (some_record (table_records t)) (info_fits (table_records t) (records_fit t is))
     (info_stands (table_records t) (module_stands t.«module» (files_part t) (files_stand t)))
-    (first_module t.«module» (files_part t) (files_no_module t)) in
+    (module_stands_first t.«module» (files_part t) (files_no_module t)) in
     let P : Table → Type 0 = λ u. Accepted (printed t) u (length records) in
     (length records, subst P told accepted)
 

@@ -170,13 +170,15 @@ module _ (text : List ℕ) (room : 8 ≤ length text) (small : (k : ℕ) → get
       sym (ap₂ (λ n k. n / 2 ^ k) whole long ∙ first_bytes back front (folded_bytes rest (bytes_past digits (8 - digits) text small)))
 
   -- the digits in front, with their number
-  pub text_is : (digits : ℕ) → digits ≤ 8 → digits_len 16 text ≡ digits → (load : ℕ) → load ≡ number_from_digits 256 (take 8 text) →
+  pub text_is : (digits : ℕ) → 0 < digits → digits ≤ 8 → digits_len 16 text ≡ digits → (load : ℕ) → load ≡ number_from_digits 256 (take 8 text) →
       IsStartText (digits_value 16 (take digits text)) (record { digits = digits; key = bit_or load 2314885530818453536 / 2 ^ (64 - 8 * digits) })
-  text_is digits few len load is = record {
+  text_is digits some few len load is = record {
     digits = take digits text;
     are_digits = subst (λ n. AllDigits 16 (take n text)) len (front_digits 16 text);
     spell = refl;
     count = length-take-le digits text (omega (arith, few, room));
+    some = some;
+    few = few;
     key = key_is digits few load is;
   }
 

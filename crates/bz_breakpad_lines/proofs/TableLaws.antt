@@ -9,7 +9,7 @@ use Rattle.bz_breakpad_lines.specs.Reader.{Reading, nothing_read, listed, functi
 use Rattle.bz_breakpad_lines.specs.Records.{TOP, INNER}
 use Rattle.bz_breakpad_lines.specs.Kinds.{TopRecord, InnerRecord, top_of, inner_of}
 use Rattle.bz_breakpad_lines.specs.Kinds.TopRecord.{Module, Info, File, Origin, Public, Func, StackWin, StackCfiInit}
-use Rattle.bz_breakpad_lines.specs.Says.{module_of, file_of, origin_of, public_of, line_of, inlinees_of, inner_records, with_inner, function_with, functions_of, module_first, table_of}
+use Rattle.bz_breakpad_lines.specs.Says.{module_of, file_of, origin_of, public_of, line_of, inlinees_of, inner_records, with_inner, function_with, functions_of, first_module, table_of}
 use Rattle.bz_breakpad_lines.specs.Table.{SourceLine, Inlinee, Function, Named, PublicSymbol}
 use Rattle.bz_breakpad_lines.specs.Contexts.{Record}
 use Rattle.bz_breakpad_lines.specs.Contexts.Record.{Top, OfFunc, OfCfi}
@@ -146,7 +146,7 @@ module_alone None = refl
 module_alone (Some name) = refl
 
 -- the module is the one of the first record
-module_read : (records : List Record) → Follow false records → (folded nothing_read records).«module» ≡ module_first records
+module_read : (records : List Record) → Follow false records → (folded nothing_read records).«module» ≡ first_module records
 module_read [] follow = refl
 module_read (r ∷ records) follow =
     folded_module records (with_record nothing_read r) follow ∙ module_alone (module_of r)

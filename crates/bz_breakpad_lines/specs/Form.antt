@@ -12,7 +12,7 @@ pub data Piece : Type 0 where
   Separator : Piece  -- one or more blanks
   ModuleSeparator : Piece  -- a space, and any number of blanks: what divides the fields of a MODULE record
   Gap : Piece  -- any number of blanks
-  Word : Piece  -- bytes other than space, of which the first is no tab
+  Word : Piece  -- one or more bytes other than space, of which the first is no tab
   Hex : ℕ → Piece  -- one to so many hexadecimal digits
   Decimal : Piece  -- one to ten decimal digits, of a number of 32 bits
 

@@ -17,8 +17,8 @@ pub data Role : Type 0 where
   Blank : Role
   Is : Record → Role
 
--- white space may stand before a line where the line before it is blank, or a record by itself;
--- of the lines before, the last one's role stands first
+-- white space may stand before a line where the line before it is blank, or a record by itself.
+-- Of the lines before, the last one's role stands first
 abbrev pub allows_white : List Role → Bool
 allows_white [] = false
 allows_white (Blank ∷ before) = true
@@ -62,8 +62,8 @@ records_of roles = filter_map record_of roles
 abbrev pub IsNoModule : Record → Type 0
 IsNoModule r = module_of r ≡ None
 
--- the bytes are a Breakpad file of one line at least, in which a MODULE record is the first record or there is none;
--- the table is what it says, and so many of its lines are records
+-- the bytes are a Breakpad file of one line at least, in which a MODULE record is the first record or there is none.
+-- The table is what it says, and so many of its lines are records
 pub record Accepted (bytes : List ℕ) (table : Table) (count : ℕ) : Type 0 where
   pub lines : List (List ℕ)
   pub roles : List Role

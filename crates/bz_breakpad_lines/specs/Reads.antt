@@ -40,7 +40,7 @@ abbrev pub joined : {A : Type 0} → A → List ℕ → (List ℕ → Option (Li
 joined a [] next = Some (a ∷ [])
 joined a (b ∷ text) next = option_map (λ rest. a ∷ rest) (next (b ∷ text))
 
--- all of the text, by one reading after another
+-- the whole text, by one reading after another, and by at most so many
 unfoldable pub turns_at : {A : Type 0} → ℕ → (List ℕ → Option (A × List ℕ)) → List ℕ → Option (List A)
 turns_at zero read text = None
 turns_at (suc n) read text = read text >>= (λ x. joined x.0 x.1 (turns_at n read))

@@ -87,14 +87,14 @@ functions_of (OfFunc one ∷ records) = functions_of records
 functions_of (OfCfi ∷ records) = functions_of records
 
 -- the module is the one that the first record names
-abbrev pub module_first : List Record → Option (List ℕ)
-module_first [] = None
-module_first (r ∷ records) = module_of r
+abbrev pub first_module : List Record → Option (List ℕ)
+first_module [] = None
+first_module (r ∷ records) = module_of r
 
 -- the table that the records make
 abbrev pub table_of : List Record → Table
 table_of records = record {
-  «module» = module_first records;
+  «module» = first_module records;
   functions = functions_of records;
   files = names_in (filter_map file_of records);
   origins = names_in (filter_map origin_of records);

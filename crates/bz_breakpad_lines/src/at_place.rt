@@ -117,13 +117,10 @@ pub fn start_at(bytes: &[u8], place: usize) -> u64
     requires { ReadsLine bytes.now place }
     ensures { result ≡ line_start bytes.now place }
 {
-    if place > bytes.len() {
-        return 0;
-    }
     start_of(&bytes[place..])
 }
 
-/// The number of the hexadecimal digits at the front; 0 if there are none.
+/// The number that the hexadecimal digits at the front spell; 0 if there are none, or more than 16.
 #[inline(always)]
 pub fn start_of(text: &[u8]) -> u64
     ensures { result ≡ unwrap_or (option_map (λ read. read.0) (piece_at (Hex 16) text.now)) 0 }
@@ -134,7 +131,7 @@ pub fn start_of(text: &[u8]) -> u64
     }
 }
 
-/// The number of the one to eight hexadecimal digits at the front, the quick way.
+/// The number that the digits at the front spell, the quick way, if there are one to eight.
 #[inline(always)]
 fn quick_start(text: &[u8]) -> Option<u64>
     ensures { IfSome result (λ start. option_map (λ read. read.0) (piece_at (Hex 16) text.now) ≡ Some start) }

@@ -129,7 +129,7 @@ pub fn hex_field(text: &[u8], most: usize) -> Option<(u64, &[u8])>
 pub fn decimal_field(text: &[u8]) -> Option<(u32, &[u8])>
     ensures { option_map (λ read. (read.0, read.1.now)) result ≡ piece_at Decimal text.now }
 {
-    let (value, rest) = read_decimal(text, 10, 4294967295)?;
+    let (value, rest) = read_decimal(text, 10, u64::from(u32::MAX))?;
     Some((value as u32, rest))
 }
 

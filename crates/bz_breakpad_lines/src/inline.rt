@@ -37,7 +37,7 @@ pub fn call_line(text: &[u8]) -> Option<(InlineCall, Shown<'_>)>
     Some((call, shown.after(origin)))
 }
 
-/// The range at the front, as far as its bytes are shown, and what comes after it.
+/// The range at the front, if all its bytes are shown, and what comes after it.
 #[inline(always)]
 fn shown_range(shown: Shown<'_>) -> Option<(Range, Shown<'_>)>
     requires { AreStops shown.text.now shown.stops }
@@ -66,7 +66,7 @@ fn next_range(shown: Shown<'_>) -> Option<(Range, Shown<'_>)>
     if let Some(read) = shown_range(shown) {
         return Some(read);
     }
-    // The load before showed a part of it.
+    // The load before may have shown only a part of it.
     shown_range(Shown::at_front(shown.text)?)
 }
 

@@ -8,7 +8,7 @@ ghost use lib.Lanes.{mask_l};
 
 use std::simd::prelude::*;
 
-/// A bit for each byte that is shown at once, as far as they haven't been read.
+/// Bits for the bytes that one load shows and that haven't been read yet, one for each.
 #[derive(Clone, Copy)]
 pub struct Stops {
     /// Whether it is no hexadecimal digit.
@@ -36,7 +36,7 @@ impl Stops {
 
     /// The first 32 bytes, which show nearly all line records.
     #[inline(always)]
-    pub fn of_line(text: &[u8]) -> Stops
+    pub(crate) fn of_line(text: &[u8]) -> Stops
         requires { 32 ≤ length text.now }
         ensures { AreStops text.now result }
     {

@@ -36,7 +36,7 @@ pub fn printed_tables_are_files()
     ensures { (table : Table) → IsPrintable table → IsFile (printed table) table }
 {}
 
-/// Every file says such a table.
+/// In the table that a file says, numbers and names can stand in lines, and ids ascend.
 pub fn tables_of_files_are_printable()
     ensures { (bytes : List ℕ) (table : Table) → IsFile bytes table → IsPrintable table }
 {}

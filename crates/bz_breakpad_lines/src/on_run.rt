@@ -39,7 +39,7 @@ pub fn next_on_run(shown: Shown<'_>, last: StartText) -> Option<RunLine>
     shown_on_run(Shown { text, stops }, last)
 }
 
-/// The same, as far as its bytes are shown.
+/// The same, if all its bytes are shown.
 #[inline(always)]
 fn shown_on_run(shown: Shown<'_>, last: StartText) -> Option<RunLine>
     requires stops { AreStops shown.text.now shown.stops }

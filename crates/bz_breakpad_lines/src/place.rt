@@ -70,7 +70,7 @@ fn is_white(byte: u8) -> bool
     byte == b' ' || byte == b'\t' || byte == b'\r'
 }
 
-/// Whether the line may be blank and is, of which this is left after white space.
+/// Whether a line is blank where it may be. The text is what is left of it after white space.
 pub fn is_blank_line(white_allowed: bool, text: &[u8]) -> bool
     ensures { result ≡ (white_allowed && is_nothing text.now) }
 {

@@ -1,6 +1,7 @@
-//! The quick way to read a record: by loads of many bytes, where it has single spaces, numbers of at
-//! most eight digits and a text in ASCII. Nearly all records have these. Where a quick function gives None,
-//! that tells nothing of the text: it is read the general way.
+//! The quick way to read a record, by loads of many bytes. It must have single spaces, and a text
+//! in ASCII if it has one. Its numbers have at most eight digits, but a line record may start at
+//! one of sixteen. Nearly all records are so. Where a quick function gives None, that tells nothing
+//! of the text: it is read the general way.
 
 ghost use Rattle.std.specs.Prelude.{◌≡◌, ◌<◌, ◌≤◌, ◌+◌, true, length, drop, IfSome, slice_index};
 ghost use Rattle.bz_base.specs.Byte.{space};
@@ -20,9 +21,10 @@ pub struct Shown<'a> {
 }
 
 impl<'a> Shown<'a> {
-    /// What a load shows of the text, if that has room for the numbers from each shown place on.
+    /// The text with what a load shows of its first 64 bytes. None if it hasn't the eight bytes
+    /// more that a number at the last of them may take.
     #[inline(always)]
-    pub fn at_front(text: &'a [u8]) -> Option<Shown<'a>>
+    pub(crate) fn at_front(text: &'a [u8]) -> Option<Shown<'a>>
         ensures text { IfSome result (λ shown. shown.text.now ≡ text.now) }
         ensures room { IfSome result (λ shown. 72 ≤ length text.now) }
         ensures stops { IfSome result (λ shown. AreStops text.now shown.stops) }
@@ -38,7 +40,7 @@ impl<'a> Shown<'a> {
 
     /// What a load shows of the text's first line, if that has room for the numbers of a line record.
     #[inline(always)]
-    pub fn of_line(text: &'a [u8]) -> Option<Shown<'a>>
+    pub(crate) fn of_line(text: &'a [u8]) -> Option<Shown<'a>>
         ensures text { IfSome result (λ shown. shown.text.now ≡ text.now) }
         ensures room { IfSome result (λ shown. 40 ≤ length text.now) }
         ensures stops { IfSome result (λ shown. AreStops text.now shown.stops) }
@@ -54,7 +56,7 @@ impl<'a> Shown<'a> {
 
     /// The text after so many bytes, and what is left of what was shown.
     #[inline(always)]
-    pub fn after(self, len: u32) -> Shown<'a>
+    pub(crate) fn after(self, len: u32) -> Shown<'a>
         requires stops { AreStops self.text.now self.stops }
         requires few { len < 64 }
         requires within { len ≤ length self.text.now }
@@ -69,7 +71,7 @@ impl<'a> Shown<'a> {
 
     /// Whether so many hexadecimal digits stand at the front, and a shown byte ends them.
     #[inline(always)]
-    pub fn has_hex(self, digits: u32) -> bool
+    pub(crate) fn has_hex(self, digits: u32) -> bool
         requires stops { AreStops self.text.now self.stops }
         requires few { digits < 64 }
         ensures { result ≡ true → (digits < length self.entry.text.now) × (digits_len 16 self.entry.text.now ≡ digits) }
@@ -79,7 +81,7 @@ impl<'a> Shown<'a> {
 
     /// Where the one to `most` hexadecimal digits from a place on end, if a shown byte ends them.
     #[inline(always)]
-    pub fn hex_end(self, from: u32, most: u32) -> Option<u32>
+    pub(crate) fn hex_end(self, from: u32, most: u32) -> Option<u32>
         requires stops { AreStops self.text.now self.stops }
         requires within { from < 64 }
         requires few { most < 64 }
@@ -95,7 +97,7 @@ impl<'a> Shown<'a> {
 
     /// Where the one to eight decimal digits from a place on end, if a shown byte ends them.
     #[inline(always)]
-    pub fn dec_end(self, from: u32) -> Option<u32>
+    pub(crate) fn dec_end(self, from: u32) -> Option<u32>
         requires stops { AreStops self.text.now self.stops }
         requires within { from < 64 }
         ensures { IfSome result (AreDigits 10 8 self.entry.text.now from) }
@@ -110,7 +112,7 @@ impl<'a> Shown<'a> {
 
     /// Where the hexadecimal digits end that stand after a single space at a place.
     #[inline(always)]
-    pub fn hex_after(self, at: u32) -> Option<u32>
+    pub(crate) fn hex_after(self, at: u32) -> Option<u32>
         requires stops { AreStops self.text.now self.stops }
         requires few { at < 63 }
         requires within { at < length self.text.now }
@@ -125,7 +127,7 @@ impl<'a> Shown<'a> {
 
     /// Where the decimal digits end that stand after a single space at a place.
     #[inline(always)]
-    pub fn dec_after(self, at: u32) -> Option<u32>
+    pub(crate) fn dec_after(self, at: u32) -> Option<u32>
         requires stops { AreStops self.text.now self.stops }
         requires few { at < 63 }
         requires within { at < length self.text.now }
@@ -138,9 +140,9 @@ impl<'a> Shown<'a> {
         self.dec_end(at + 1)
     }
 
-    /// The number of the hexadecimal digits from a place to another.
+    /// The number that the hexadecimal digits from a place to another spell.
     #[inline(always)]
-    pub fn hex(self, from: u32, end: u32) -> u32
+    pub(crate) fn hex(self, from: u32, end: u32) -> u32
         requires room { from + 8 ≤ length self.text.now }
         requires digits { AreDigits 16 8 self.text.now from end }
         ensures { result ≡ number_between 16 self.entry.text.now from end }
@@ -148,9 +150,9 @@ impl<'a> Shown<'a> {
         hex_front(&self.text[from as usize..], end - from)
     }
 
-    /// The number of the decimal digits from a place to another.
+    /// The number that the decimal digits from a place to another spell.
     #[inline(always)]
-    pub fn dec(self, from: u32, end: u32) -> u32
+    pub(crate) fn dec(self, from: u32, end: u32) -> u32
         requires room { from + 8 ≤ length self.text.now }
         requires digits { AreDigits 10 8 self.text.now from end }
         ensures { result ≡ number_between 10 self.entry.text.now from end }

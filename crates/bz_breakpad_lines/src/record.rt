@@ -1,4 +1,4 @@
-//! The records of a line.
+//! The records that lines are, read the general way.
 
 ghost use Rattle.std.specs.Prelude.{◌≡◌, option_map, IfOk};
 ghost use Rattle.bz_breakpad_lines.specs.Choice.{one_at};
@@ -31,7 +31,7 @@ pub struct SourceLine {
 /// A FUNC record in the text.
 #[derive(Drop)]
 pub struct FuncLine<'a> {
-    /// Where the function starts.
+    /// Where the function starts, relative to the module's base.
     pub start: u64,
     /// Its size, in bytes.
     pub size: u32,
@@ -96,7 +96,7 @@ fn module_name(line: &[u8]) -> Option<&str>
 /// A range of code, where a function was inlined.
 #[derive(Clone, Copy)]
 pub struct Range {
-    /// Where it starts.
+    /// Where it starts, relative to the module's base.
     pub addr: u64,
     /// Its size, in bytes.
     pub size: u32,
@@ -175,7 +175,7 @@ fn inline(ranges: &mut Vec<Range>, line: &[u8]) -> Result<Option<InlineCall>, Al
 /// A PUBLIC record in the text.
 #[derive(Drop)]
 pub struct PublicLine<'a> {
-    /// Where the symbol starts.
+    /// Where the symbol starts, relative to the module's base.
     pub addr: u64,
     /// The size of its parameters, in bytes.
     pub parameter_size: u32,

@@ -17,7 +17,7 @@ pub struct StartText {
 impl StartText {
     /// The text of so many digits at the front, if there aren't too many.
     #[inline(always)]
-    pub fn at_front(text: &[u8], digits: u32) -> Option<StartText>
+    pub(crate) fn at_front(text: &[u8], digits: u32) -> Option<StartText>
         requires room { 8 ≤ length text.now }
         requires some { 0 < digits }
         requires digits { digits_len 16 text.now ≡ digits }
@@ -32,7 +32,7 @@ impl StartText {
 
     /// The text of so many digits at the front.
     #[inline(always)]
-    pub fn of_front(text: &[u8], digits: u32) -> StartText
+    pub(crate) fn of_front(text: &[u8], digits: u32) -> StartText
         requires room { 8 ≤ length text.now }
         requires some { 0 < digits }
         requires few { digits ≤ 8 }

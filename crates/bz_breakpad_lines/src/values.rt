@@ -19,7 +19,7 @@ fn bytes_front(text: &[u8], count: u32) -> u64
     bytes >> (64 - 8 * count)
 }
 
-/// The number of so many decimal digits at the front.
+/// The number that so many decimal digits at the front spell.
 #[inline(always)]
 pub fn dec_front(text: &[u8], digits: u32) -> u32
     requires room { 8 ≤ length text.now }
@@ -35,7 +35,7 @@ pub fn dec_front(text: &[u8], digits: u32) -> u32
     ((fours + 10_000 * (fours >> 32)) & 0xffff_ffff) as u32
 }
 
-/// The number of so many hexadecimal digits at the front.
+/// The number that so many hexadecimal digits at the front spell.
 #[inline(always)]
 pub fn hex_front(text: &[u8], digits: u32) -> u32
     requires room { 8 ≤ length text.now }

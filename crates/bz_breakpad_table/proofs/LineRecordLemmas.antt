@@ -1,6 +1,6 @@
 -- A line record that is read quickly under a FUNC record: where it stands, and what is read of it and the lines after it.
-use Rattle.std.proofs.Common.{◌≡◌, ℕ, ◌+◌, ◌-◌, false, inl, List, drop, length, Some, refl, sym, ap, subst, ◌∙◌, arith, length-drop}
-use Rattle.bz_breakpad_table.specs.Kept.{IsSoFar}
+use Rattle.std.proofs.Common.{◌≡◌, ℕ, ◌<◌, ◌≤◌, ◌+◌, ◌-◌, false, inl, List, drop, length, Some, refl, sym, ap, subst, ◌∙◌, arith, length-drop}
+use Rattle.bz_breakpad_table.specs.Kept.{IsSoFar, LinesFitSoFar}
 use Rattle.bz_breakpad_lines.specs.Line.{line_in, source_line}
 use Rattle.bz_breakpad_lines.specs.QuickLine.{IsOnRun, IsQuickLine}
 use Rattle.bz_breakpad_lines.specs.Reader.{with_record}
@@ -30,6 +30,14 @@ module _ (rest : List ℕ) (found : QuickLine) (p : IsQuickLine rest found) wher
       new.white_allowed ≡ false → new.count ≡ old.count + 1 → IsSoFar bytes new.kept (with_record m.reading (OfFunc (inl p.value))) → IsMidway bytes (drop found.len rest) new
   line_on bytes old new m =
       quick_on InFunc rest (OfFunc (inl p.value)) (drop found.len rest) (quick_line rest (drop found.len rest) p.value p.form) bytes old new m refl
+
+-- the last start of the walk's run has one to eight digits
+pub run_start : (bytes rest : List ℕ) (walk : Walk) (run : Part) (last : StartText) → walk.kept.functions.lines ≡ sofar.Run run last → IsMidway bytes rest walk →
+    (0 < last.digits) × (last.digits ≤ 8)
+run_start bytes rest walk run last is m =
+    let fits = subst (LinesFitSoFar bytes walk.kept.functions.listed.items) is m.walked.so_far.functions.lines_fit in
+    let text = fits.0.run.starts.text_is in
+    (text.some, text.few)
 
 -- the walk whose run is this one, up to the rest, has it as its run
 pub begins_run : (bytes rest : List ℕ) (walk : Walk) (run : Part) (last : StartText) → walk.kept.functions.lines ≡ sofar.Run run last → run.to ≡ length bytes - length rest →

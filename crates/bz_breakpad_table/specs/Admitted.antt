@@ -15,7 +15,7 @@ pub record AreAdmitted (lines : List (List ℕ)) : Type 0 where
   pub are_roles : AreRoles [] lines roles
   pub module_first : AllByRecursion IsNoModule (drop 1 (records_of roles))
 
--- what lines tell of the next one: the record under which it may stand, whether white space may come before it, and
+-- what lines tell: the record under which the next may stand, whether white space may come before it, and
 -- whether they have a record
 pub record Before : Type 0 where
   pub context : Context

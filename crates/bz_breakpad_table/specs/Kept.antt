@@ -166,7 +166,7 @@ pub record IsOpenRunAt (bytes : List ℕ) (part : Part) (last : StartText) : Typ
   pub within : IsPart (length bytes) part
   pub run : IsOpenRun (text_at bytes part) last
 
--- and those that have been read so far, with the keys of those that are listed
+-- the line records that have been read so far are none, a run that may go on, or those of the keys
 abbrev pub LinesFitSoFar : List ℕ → List LineKey → LinesSoFar → Type 0
 LinesFitSoFar bytes keys sofar.Empty = keys ≡ []
 LinesFitSoFar bytes keys (sofar.Run part last) = IsOpenRunAt bytes part last × (keys ≡ [])
@@ -206,7 +206,7 @@ pub record FunctionFits (bytes places : List ℕ) (calls : List CallRange) (f : 
   pub lines : LinesFit bytes places f.lines
   pub inlinees : AreCallsAt calls f.inlinees
 
--- the same for a function whose records are being read
+-- the name of a function whose records are being read is a text
 pub record CurrentFits (bytes : List ℕ) (f : KeptFunction) : Type 0 where
   pub name : IsTextAt bytes f.name
 
@@ -219,7 +219,7 @@ NamesFit bytes names = AllByRecursion (IsTextAt bytes) (values_of names)
 abbrev pub PublicsFit : List ℕ → List KeptPublic → Type 0
 PublicsFit bytes publics = AllByRecursion (λ p. IsTextAt bytes p.name) publics
 
--- all names are texts, and all parts lie in their tables
+-- all names are texts, all parts lie in their tables, and the records of each function stand in order
 pub record TableFits (bytes : List ℕ) (t : KeptTable) : Type 0 where
   pub module_fits : IfSome t.«module» (IsTextAt bytes)
   pub functions : FunctionsFit bytes t.code
@@ -260,6 +260,6 @@ pub record IsSoFar (bytes : List ℕ) (kept : KeptReading) (reading : Reading) :
   pub origins : NamesSoFar bytes kept.origins reading.origins
   pub publics : PublicsSoFar bytes kept.publics.items reading.publics
 
--- a function of the table
+-- a function with its records, from the table's lists
 abbrev pub function_seen : List ℕ → FunctionTable → KeptFunction → Function
 function_seen bytes code f = kept_function bytes code.lines.items code.inlinees.items f

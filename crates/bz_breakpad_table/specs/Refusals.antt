@@ -7,8 +7,8 @@ use Rattle.bz_breakpad_table.specs.Admitted.{AreAdmitted, at_front, refused_from
 use Rattle.bz_breakpad_table.specs.declared.refused.Refused.{Refused}
 use Rattle.bz_breakpad_table.specs.declared.refused.Refused.TheVariants.{Line, NoEnd, Empty}
 
--- the line of this number is the first that isn't admitted after those before it;
--- lines count from 1, and the last one may lack its end
+-- the line of this number is the first that isn't admitted after those before it.
+-- Lines count from 1, and the last one may lack its end
 pub record IsFirstRefused (bytes : List ℕ) (number : ℕ) : Type 0 where
   pub before : List (List ℕ)
   pub line : List ℕ

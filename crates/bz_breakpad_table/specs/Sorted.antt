@@ -11,8 +11,8 @@ use Rattle.bz_breakpad_table.specs.declared.types.FunctionKey.{FunctionKey}
 use Rattle.bz_breakpad_table.specs.declared.types.FunctionTable.{FunctionTable}
 use Rattle.bz_breakpad_table.specs.declared.types.KeptTable.{KeptTable}
 
--- the names, functions and PUBLIC records are the table's, and the keys are those of the functions in order;
--- every part is one of the bytes
+-- the names, functions and PUBLIC records are the table's, and the keys are those of the functions in order.
+-- Every part is one of the bytes
 pub record StandsFor (bytes : List ℕ) (table : Table) (kept : KeptTable) : Type 0 where
   pub module_is : option_map (text_at bytes) kept.«module» ≡ table.«module»
   pub count : length table.functions ≡ length kept.code.functions.items

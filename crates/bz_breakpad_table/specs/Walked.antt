@@ -28,7 +28,7 @@ pub record IsWalked (bytes : List ℕ) (walk : Walk) (reading : Reading) : Type 
 abbrev pub walked_on : Walk → Reading → List (List ℕ) → Option Reading
 walked_on walk reading lines = lines_read (context_told walk.context) walk.white_allowed reading lines
 
--- after the line the walk gives of the further lines what it gave before it of the line and them
+-- the walk after the line gives of the further lines what the walk before it gave of the line and them
 pub record IsStep (bytes : List ℕ) (old new : Walk) (line : List ℕ) (reading : Reading) : Type 0 where
   pub next : Reading
   pub walked : IsWalked bytes new next

@@ -73,7 +73,7 @@ impl Before {
     }
 }
 
-/// The record of a line that isn't blank, of which this is left after white space, and its body. The
+/// The record of a line, and its body. The text is what is left of the line after white space. The
 /// ranges of an INLINE record stand beside it.
 #[tactic(auto, unfolding(bz_breakpad_lines::specs::Contexts::record_at))]
 pub fn record_in<'a>(

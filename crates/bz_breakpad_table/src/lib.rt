@@ -3,6 +3,7 @@
 
 mod before;
 mod calls;
+mod function_key;
 mod functions;
 pub mod laws;
 mod line_key;
@@ -11,7 +12,6 @@ mod publics;
 mod read;
 mod reading;
 mod refused;
-mod search;
 mod sorting;
 mod standing;
 mod table;

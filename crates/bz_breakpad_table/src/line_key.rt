@@ -1,11 +1,11 @@
 //! By what line records are put in order.
 
-ghost use Rattle.std.specs.Prelude.{◌≡◌, Some};
+ghost use Rattle.std.specs.Prelude.{◌≡◌};
 ghost use Rattle.bz_breakpad_table.specs.LineKeys.{line_key};
 
 use crate::types::LineKey;
 use bz_base::Spanned;
-use bz_breakpad_lines::line_record_at;
+use bz_breakpad_lines::line_or_zeros;
 
 impl Spanned for LineKey {
     ghost start = { λ k. k.start };
@@ -25,9 +25,10 @@ impl Spanned for LineKey {
 pub fn line_key(bytes: &[u8], place: usize) -> LineKey
     ensures { result ≡ line_key bytes.now place }
 {
-    let (start, size) = match line_record_at(bytes, place) {
-        Some(line) => (line.addr, line.size),
-        None => (0, 0),
-    };
-    LineKey { start, size, place }
+    let line = line_or_zeros(bytes, place);
+    LineKey {
+        start: line.addr,
+        size: line.size,
+        place,
+    }
 }

@@ -146,8 +146,7 @@ pub fn names_of<'a>(
     ensures { IfOk result (λ named. map (λ n. (n.0, n.1.now)) named.items ≡ kept_names bytes.now names.now) }
 {
     let entries = names.entries(alloc)?;
-    let named = lent_names(alloc, bytes, &entries)?;
-    Ok(named)
+    lent_names(alloc, bytes, &entries)
 }
 
 /// Names as texts, with their ids.

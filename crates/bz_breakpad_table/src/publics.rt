@@ -66,8 +66,8 @@ pub fn sorted_publics(alloc: Global, publics: &[KeptPublic]) -> Result<Vec<KeptP
     Ok(sorted)
 }
 
-/// The table of PUBLIC records. Keys are made only of records that aren't in the order of their
-/// addresses, and are gone once the table is made.
+/// The table of PUBLIC records. Keys are made only where the records don't stand in the order of
+/// their addresses, and are gone once the table is made.
 pub fn public_table(alloc: Global, publics: &[KeptPublic]) -> Result<PublicTable, AllocError>
     ensures { IfOk result (IsPublicTable publics.now) }
 {

@@ -11,7 +11,7 @@ use crate::laws;
 use bz_base::first_line;
 use std::alloc::{AllocError, Global};
 
-/// Where a Breakpad file is refused.
+/// Why and where bytes are refused as a Breakpad file.
 #[derive(Clone, Copy, Debug, PartialEq, Eq)]
 pub enum Refused {
     /// The number, from 1, of the first line that isn't admitted after those before it.

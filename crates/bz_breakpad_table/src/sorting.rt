@@ -9,7 +9,7 @@ use bz_base::sort_table;
 use std::alloc::{AllocError, Global};
 
 /// The keys of the functions in the order of start and size; those that are alike in both stand as
-/// the functions do. The functions aren't moved: a key has a fifth of a function's bytes.
+/// the functions do. The functions aren't moved: a key has a third of a function's bytes.
 pub fn sorted_keys(
     alloc: Global,
     functions: &[KeptFunction],

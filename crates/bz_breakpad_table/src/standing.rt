@@ -1,7 +1,7 @@
 //! The line records of a function as they are read. They are a run, as long as the texts of their
 //! starts tell that they stand in order.
 
-ghost use Rattle.std.specs.Prelude.{◌≡◌, ◌<◌, ◌≤◌, ◌+◌, ℕ, List, drop, IfSome};
+ghost use Rattle.std.specs.Prelude.{◌≡◌, ◌+◌, ℕ, List, drop, IfSome};
 ghost use Rattle.bz_breakpad_lines.specs.Line.{source_line};
 ghost use Rattle.bz_breakpad_lines.specs.QuickLine.{IsQuickLine};
 ghost use Rattle.bz_breakpad_lines.specs.declared.line.QuickLine.{QuickLine};
@@ -54,16 +54,10 @@ impl LinesSoFar {
     pub fn run_up_to(self, place: usize) -> Option<(Part, StartText)>
         ensures run { IfSome result (λ found. self ≡ LinesSoFar.Run found.0 found.1) }
         ensures ends { IfSome result (λ found. found.0.to ≡ place) }
-        ensures some { IfSome result (λ found. 0 < found.1.digits) }
-        ensures few { IfSome result (λ found. found.1.digits ≤ 8) }
     {
         let LinesSoFar::Run(run, last) = self else {
             return None;
         };
-        // Never so: a last start has one to eight digits.
-        if last.digits == 0 || last.digits > 8 {
-            return None;
-        }
         if run.to as usize == place {
             Some((run, last))
         } else {

@@ -21,7 +21,7 @@ use bz_breakpad_lines::{
     Context, Range, Shown, StartText, Stops, after_white, cfi_line, func_line, inline_line,
     is_blank_line, next_on_run, quick_line,
 };
-use std::alloc::Global;
+use std::alloc::{AllocError, Global};
 
 /// The walk, at the end of a line.
 #[derive(Drop)]
@@ -103,7 +103,7 @@ impl Walk {
     #[inline(always)]
     fn cfi<'a>(&mut self, text: &[u8], rest: &'a [u8]) -> Option<&'a [u8]>
         requires midway { IsMidway text.now rest.now self.old }
-        ensures some { IfSome result (λ after. IsMidway text.now after.now self.new) }
+        ensures ok { IfSome result (λ after. IsMidway text.now after.now self.new) }
         ensures shorter { IfSome result (λ after. length after.now < length rest.now) }
         ensures none { IfNone result (IsMidway text.now rest.now self.new) }
     {
@@ -163,31 +163,35 @@ impl Walk {
             .line(text, text.len() - rest.len(), line)?;
         self.white_allowed = false;
         self.count += 1;
-        Ok(Some(self.run_on(text, &rest[line.len..], stops.after(line.len))))
+        let left = self.run_on(text, &rest[line.len..], stops.after(line.len))?;
+        Ok(Some(left))
     }
 
     /// Reads the line records quickly that go on the run of the last one, of which bytes may be shown.
     /// Returns the rest after them.
     #[inline(always)]
-    fn run_on<'a>(&mut self, text: &[u8], rest: &'a [u8], stops: Stops) -> &'a [u8]
+    fn run_on<'a>(
+        &mut self,
+        text: &[u8],
+        rest: &'a [u8],
+        stops: Stops,
+    ) -> std::result::Result<&'a [u8], AllocError>
         requires midway { IsMidway text.now rest.now self.old }
         requires stops { AreStops rest.now stops }
         requires in_func { context_told self.old.context ≡ InFunc }
-        requires bound { self.old.white_allowed ≡ false }
-        ensures midway { IsMidway text.now result.now self.new }
-        ensures within { length result.now ≤ length rest.now }
+        requires white_allowed { self.old.white_allowed ≡ false }
+        ensures midway { IfOk result (λ after. IsMidway text.now after.now self.new) }
+        ensures within { IfOk result (λ after. length after.now ≤ length rest.now) }
     {
         let place = text.len() - rest.len();
         let Some((run, start)) = self.kept.functions.lines.run_up_to(place) else {
-            return rest;
+            return Ok(rest);
         };
         let end = pass_run(rest, start, stops);
-        let Ok(whole) = Part::new(run.from as usize, text.len() - end.left.len()) else {
-            return rest;
-        };
+        let whole = Part::new(run.from as usize, text.len() - end.left.len())?;
         self.kept.functions.lines = LinesSoFar::Run(whole, end.last);
         self.count += end.count;
-        end.left
+        Ok(end.left)
     }
 
     /// Reads the first line of the rest of a text, in any form, and returns the rest after it.

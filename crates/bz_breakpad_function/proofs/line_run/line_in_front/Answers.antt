@@ -4,7 +4,7 @@ use Rattle.bz_breakpad_function.proofs.RunFrontLemmas.{back_front, back_tries, f
 use Rattle.bz_breakpad_function.proofs.line_run.line_in_front.Goals as goal
 
 pub start_at-requires : goal.start_at-requires
-start_at-requires c = read_in_front c.loop-cut.rest.now c.loop-cut.len c.loop-cut.invariant.front c.in-Some.cut c.in-Some.ensures.some
+start_at-requires c = read_in_front c.loop-cut.rest.now c.loop-cut.len c.loop-cut.invariant.front c.in-Some.cut c.in-Some.ensures.cut
 
 pub loop-cut-preserved-then-start_at-addr : goal.loop-cut-preserved-then-start_at-addr
 loop-cut-preserved-then-start_at-addr c =
@@ -12,7 +12,7 @@ loop-cut-preserved-then-start_at-addr c =
     let len = c.loop-cut.len in
     let cut = c.in-Some.cut in
     let run = c.loop-cut.invariant.front in
-    let is = c.in-Some.ensures.some in
+    let is = c.in-Some.ensures.cut in
     rw (take_rest rest cut) (record {
       front = back_front rest len run cut is;
       same = back_tries rest len run cut is c.args.addr (omega arith) ∙ c.loop-cut.invariant.same;
@@ -24,7 +24,7 @@ loop-cut-preserved c =
     let len = c.loop-cut.len in
     let cut = c.in-Some.cut in
     let run = c.loop-cut.invariant.front in
-    let is = c.in-Some.ensures.some in
+    let is = c.in-Some.ensures.cut in
     record {
       front = front_front_run rest len run cut is;
       same = front_tries rest len run cut is c.args.addr (omega arith) ∙ c.loop-cut.invariant.same;

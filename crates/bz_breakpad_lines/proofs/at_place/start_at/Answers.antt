@@ -1,13 +1,15 @@
-use Rattle.std.proofs.Common.{sym, drop, option_map, unwrap_or, arith, ap, ◌∙◌}
+use Rattle.std.proofs.Common.{drop, option_map, unwrap_or, ap, ◌∙◌}
 use Rattle.std.proofs.lemmas.List.{take_rest}
 use Rattle.bz_breakpad_lines.specs.Form.Piece.{Hex}
-use Rattle.bz_breakpad_lines.specs.LineStarts.{no_line}
 use Rattle.bz_breakpad_lines.specs.Reads.{piece_at}
-use Rattle.bz_breakpad_lines.proofs.AtPlaceLemmas.{read_there, start_in_front, past_end}
+use Rattle.bz_breakpad_lines.proofs.AtPlaceLemmas.{read_there, read_within, start_in_front}
 use Rattle.bz_breakpad_lines.proofs.at_place.start_at.Goals as goal
 
-pub returns-then-place-bytes : goal.returns-then-place-bytes
-returns-then-place-bytes c = sym (ap (λ o. (unwrap_or o no_line).start) (past_end c.args.bytes.now c.args.place (omega arith)))
+pub slice_bounds-start_of-count : goal.slice_bounds-start_of-count
+slice_bounds-start_of-count c = read_within c.args.bytes.now c.args.place c.requires
+
+pub slice_bounds-start_of-start : goal.slice_bounds-start_of-start
+slice_bounds-start_of-start c = read_within c.args.bytes.now c.args.place c.requires
 
 pub returns : goal.returns
 returns c =

@@ -1,6 +1,6 @@
-use Rattle.std.proofs.Common.{ℕ, List, ap, subst, sym, ◌∙◌}
+use Rattle.std.proofs.Common.{ℕ, List, subst, sym, ◌∙◌}
 use Rattle.std.specs.List.{AllByRecursion}
-use Rattle.bz_breakpad_table.specs.Kept.{IsTextAt, kept_names}
+use Rattle.bz_breakpad_table.specs.Kept.{IsTextAt}
 use Rattle.bz_breakpad_table.specs.declared.types.Part.{Part}
 use Rattle.bz_breakpad_table.proofs.KeptLemmas.{each_value}
 use Rattle.bz_breakpad_table.proofs.names.names_of.Goals as goal
@@ -11,4 +11,4 @@ lent_names-requires c =
     (each_value (IsTextAt c.args.bytes.now) c.args.names.now c.requires)
 
 pub returns : goal.returns
-returns c = c.in_ok-named.ensures ∙ ap (kept_names c.args.bytes.now) (c.deref.ensures.value ∙ c.in_ok-entries.ensures)
+returns c = rw (sym (c.deref.ensures.value ∙ c.in_ok-entries.ensures)) c.lent_names.ensures

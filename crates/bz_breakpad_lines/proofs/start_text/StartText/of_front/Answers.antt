@@ -7,4 +7,4 @@ returns-clause-text c =
     let text = c.args.text.now in
     let room = c.requires.room in
     let small : (k : ℕ) → get_or text k 0 < 256 = λ k. (c.type_inv.text k).fits in
-    text_is text room small c.args.digits (omega arith) c.requires.digits c.from_be_bytes-bytes.result (c.from_be_bytes-bytes.ensures ∙ loaded text room small)
+    text_is text room small c.args.digits (omega arith) (omega arith) c.requires.digits c.from_be_bytes-bytes.result (c.from_be_bytes-bytes.ensures ∙ loaded text room small)

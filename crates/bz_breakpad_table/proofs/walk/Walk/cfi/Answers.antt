@@ -7,8 +7,8 @@ use Rattle.bz_breakpad_table.proofs.QuickStep.{quick_on}
 use Rattle.bz_breakpad_lines.proofs.QuickLemmas.{quick_shorter}
 use Rattle.bz_breakpad_table.proofs.walk.Walk.cfi.Goals as goal
 
-pub returns-clause-some : goal.returns-clause-some
-returns-clause-some c =
+pub returns-clause-ok : goal.returns-clause-ok
+returns-clause-ok c =
     let m = c.requires.midway in
     let old = c.args.self.now in
     let in_cfi : context_told old.context ≡ InCfi = ap context_told c.in-InCfi.is in
