@@ -3,16 +3,15 @@ use Rattle.std.proofs.Common.{◌≡◌, ◌<◌, ◌-◌, ℕ, zero, suc, List,
 use Rattle.bz_canon.specs.Generated.{address_by, addresses_after, function_text, functions_text, next_number}
 
 -- one address more
-pub address_first : (functions x left : ℕ) → 0 < left → addresses_after functions x left ≡ address_by functions (next_number x) ∷ addresses_after functions (next_number x) (left - 1)
+address_first : (functions x left rest : ℕ) → left ≡ suc rest → addresses_after functions x left ≡ address_by functions (next_number x) ∷ addresses_after functions (next_number x) rest
 unfolding addresses_after
-address_first functions x zero more = absurd (omega (arith, more))
-address_first functions x (suc n) more = let same : suc n - 1 ≡ n = omega arith in rw same refl
+address_first functions x left rest one_more = rw one_more refl
 
-pub addresses_more : (functions x next left : ℕ) (so_far pushed all : List ℕ) (address : ℕ) → 0 < left → next ≡ next_number x → address ≡ address_by functions next →
-    pushed ≡ so_far ++ address ∷ [] → so_far ++ addresses_after functions x left ≡ all → pushed ++ addresses_after functions next (left - 1) ≡ all
-addresses_more functions x next left so_far pushed all address more next_is address_is pushed_is whole =
-    rw (pushed_is, address_is, next_is) (append_assoc so_far (address_by functions (next_number x) ∷ []) (addresses_after functions (next_number x) (left - 1))
-    ∙ ap (λ rest. so_far ++ rest) (sym (address_first functions x left more)) ∙ whole)
+pub addresses_more : (functions x next left rest : ℕ) (so_far pushed all : List ℕ) (address : ℕ) → left ≡ suc rest → next ≡ next_number x → address ≡ address_by functions next →
+    pushed ≡ so_far ++ address ∷ [] → so_far ++ addresses_after functions x left ≡ all → pushed ++ addresses_after functions next rest ≡ all
+addresses_more functions x next left rest so_far pushed all address one_more next_is address_is pushed_is whole =
+    rw (pushed_is, address_is, next_is) (append_assoc so_far (address_by functions (next_number x) ∷ []) (addresses_after functions (next_number x) rest)
+    ∙ ap (λ rest. so_far ++ rest) (sym (address_first functions x left rest one_more)) ∙ whole)
 
 pub addresses_none : (functions x left : ℕ) (so_far all : List ℕ) → left ≡ 0 → so_far ++ addresses_after functions x left ≡ all → so_far ≡ all
 unfolding addresses_after

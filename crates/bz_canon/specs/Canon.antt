@@ -2,7 +2,7 @@
 -- functions, and of a function's lines and inlined calls. What is alike in an order stands as in the table.
 use Rattle.std.specs.Prelude.{ℕ, List, map}
 use Rattle.bz_base.specs.Sorting.{sorted}
-use Rattle.bz_breakpad.specs.InOrder.{calls_in_order, lines_in_order}
+use Rattle.bz_breakpad.specs.InOrder.{calls_in_order, lines_in_order, ordered_functions}
 use Rattle.bz_breakpad_lines.specs.Printed.{printed}
 use Rattle.bz_breakpad_lines.specs.Table.{Function, Table}
 
@@ -21,7 +21,7 @@ canon_function f = record {
 abbrev pub canon : Table → Table
 canon t = record {
   «module» = t.«module»;
-  functions = sorted (λ f. f.start) (λ f. f.size) (map canon_function t.functions);
+  functions = ordered_functions (map canon_function t.functions);
   files = t.files;
   origins = t.origins;
   publics = sorted (λ p. p.start) (λ p. 0) t.publics;

@@ -2,11 +2,11 @@
 use Rattle.std.specs.Prelude.{◌≡◌, ◌+◌, ◌<◌, ◌++◌, ◌∷◌, [], ℕ, Bool, true, false, not, ◌==◌, ◌&&◌, ◌||◌, nat_le, bit_and, List, length, slice_index}
 use Rattle.bz_base.specs.Byte.{line_feed, space}
 
--- the digit that leads no others in a canonical number
+-- the digit 0: no number in a canonical text has it in front of other digits
 abbrev pub zero_digit : ℕ
 zero_digit = 48
 
--- the space and all bytes below it: those among them that a line record has stand between fields, or end lines
+-- the space, and all bytes below it. Where a line record has such a byte, it stands between fields or ends the line
 abbrev pub is_gap : ℕ → Bool
 is_gap b = nat_le b space
 

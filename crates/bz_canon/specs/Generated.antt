@@ -40,7 +40,7 @@ generated_text functions = head_text ++ functions_text functions
 abbrev pub next_number : ℕ → ℕ
 next_number x = (x * 1103515245 + 12345) % 2147483648
 
--- the address that a number gives
+-- the address that a number gives; one below 2 ^ 31 gives one in the 32768 bytes from 4096 on
 abbrev pub address_by : ℕ → ℕ → ℕ
 address_by functions x = 4096 + (x / 65536) % (64 * functions + 64)
 

@@ -1,16 +1,18 @@
 //! The text of an answer.
 
-ghost use Rattle.std.specs.Prelude.{◌≡◌, ◌+◌, ◌++◌, ◌≤◌, if◌then◌else◌, [], Some, map, option_map, codes, length, string_bytes, OnOk, IfOk, IsOkUnless};
+ghost use Rattle.std.specs.Prelude.{◌≡◌, ◌+◌, ◌++◌, ◌≤◌, Some, map, option_map, codes, length, string_bytes, OnOk, IfOk, IsOkUnless};
 ghost use Rattle.std.specs.Cow.{cow_str_bytes};
 ghost use Rattle.std.specs.Str.{IsUtf8};
 ghost use Rattle.bz_base.specs.Answer.{site_of, call_of, symbol_of, reading};
 ghost use Rattle.bz_base.specs.Answer.Answer.{Unknown};
-ghost use Rattle.bz_base.specs.Path.{begins_with_slash, last_byte, path_text, slash_after};
+ghost use Rattle.bz_base.specs.Path.{path_text};
 ghost use Rattle.bz_canon.specs.AnswerText.{hex, size_text, module_text, line_text, site_text, end_text, line_end, numbers_text, call_text, calls_text, symbol_text, result_text, answer_text};
 
 use crate::piece::Piece;
 use crate::text_piece::{push_piece, put_hex_after, put_str};
-use bz_base::{CodeInfo, Error, InlinedFn, Reason, Result, Sym, Symbolized};
+use bz_base::{
+    CodeInfo, Error, InlinedFn, Reason, Result, Sym, Symbolized, begins_with_slash, slash_after,
+};
 use std::alloc::Global;
 use std::borrow::CowStr;
 
@@ -198,29 +200,8 @@ fn push_joined(text: &mut String, dir: &str, file: &str) -> Result<()>
 {
     if !begins_with_slash(file) {
         text.push_str(dir)?;
-        if lacks_slash(dir) {
-            text.push('/')?;
-        }
+        text.push_str(slash_after(dir))?;
     }
     text.push_str(file)?;
     Ok(())
-}
-
-fn begins_with_slash(path: &str) -> bool
-    ensures { result ≡ begins_with_slash path.now }
-{
-    match path.as_bytes() {
-        [first, ..] => *first == b'/',
-        [] => false,
-    }
-}
-
-// Tells if a slash has to stand between a directory and a file in it.
-fn lacks_slash(dir: &str) -> bool
-    ensures { (if result then codes "/" else []) ≡ slash_after (last_byte dir.now) }
-{
-    match dir.as_bytes().last() {
-        Some(last) => *last != b'/',
-        None => false,
-    }
 }

@@ -18,10 +18,8 @@ pub fn gen_text(alloc: Global, functions: u64) -> Result<Vec<u8>>
         alloc,
         "MODULE Linux x86_64 0 gen\nFILE 0 gen.c\nINLINE_ORIGIN 0 g\n",
     )?;
-    let mut left = functions;
-    while left > 0 {
-        left -= 1;
-        push_function(&mut text, left)?;
+    for i in (0..functions).rev() {
+        push_function(&mut text, i)?;
     }
     Ok(text.into_bytes())
 }
@@ -71,8 +69,9 @@ fn push_line_record(text: &mut String, start: u64, size: &str, line: u64) -> Res
     Ok(())
 }
 
-/// So many addresses among the functions and a little past the last one. They come of the numbers after
-/// the seed, each made of the one before it.
+/// So many addresses, by the numbers after the seed, each made of the one before it. They lie among
+/// the functions or a little past the last one, but in 32768 bytes: none lies in function 512 or a
+/// later one.
 pub fn gen_addrs(alloc: Global, seed: u64, functions: u64, addresses: u64) -> Result<Vec<u64>>
     requires seed { seed < 2147483648 }
     requires functions { functions ≤ 100000 }
@@ -82,9 +81,7 @@ pub fn gen_addrs(alloc: Global, seed: u64, functions: u64, addresses: u64) -> Re
 {
     let mut addrs = Vec::new(alloc);
     let mut number = seed;
-    let mut left = addresses;
-    while left > 0 {
-        left -= 1;
+    for _ in 0..addresses {
         number = next_number(number);
         addrs.push(address_by(functions, number))?;
     }

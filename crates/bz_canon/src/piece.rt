@@ -12,7 +12,7 @@ pub(crate) const ROOM: usize = 96;
 
 /// A piece of text that grows at its front. Contracts see the text.
 #[derive(Drop)]
-pub struct Piece {
+pub(crate) struct Piece {
     room: [u8; ROOM],
     /// Where the text begins in the room. It ends where the room does.
     from: usize,

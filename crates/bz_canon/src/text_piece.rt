@@ -8,7 +8,7 @@ use crate::piece::Piece;
 use std::alloc::AllocError;
 
 /// Puts a piece to the end of a text.
-pub fn push_piece(text: &mut String, piece: &Piece) -> Result<(), AllocError>
+pub(crate) fn push_piece(text: &mut String, piece: &Piece) -> Result<(), AllocError>
     requires { IsUtf8 piece.now }
     ensures { OnOk result (string_bytes text.new ≡ string_bytes text.old ++ piece.now) }
 {
@@ -18,7 +18,7 @@ pub fn push_piece(text: &mut String, piece: &Piece) -> Result<(), AllocError>
 
 /// Puts a text in front of a piece.
 #[inline(always)]
-pub fn put_str(piece: &mut Piece, text: &str)
+pub(crate) fn put_str(piece: &mut Piece, text: &str)
     requires { length piece.old + length text.now ≤ 96 }
     ensures text { piece.new ≡ text.now ++ piece.old }
     ensures short { length piece.new ≤ length piece.old + length text.now }
@@ -29,7 +29,7 @@ pub fn put_str(piece: &mut Piece, text: &str)
 
 /// Puts a text and a number's hexadecimal digits behind it in front of a piece.
 #[inline(always)]
-pub fn put_hex_after(piece: &mut Piece, text: &str, number: u64)
+pub(crate) fn put_hex_after(piece: &mut Piece, text: &str, number: u64)
     requires { length piece.old + (length text.now + 16) ≤ 96 }
     ensures text { piece.new ≡ text.now ++ (digits 16 false number ++ piece.old) }
     ensures short { length piece.new ≤ length piece.old + (length text.now + 16) }

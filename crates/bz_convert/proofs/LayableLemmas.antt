@@ -14,8 +14,8 @@ use Rattle.bz_convert.specs.Bounds.{AreBounded, In, IsBounded}
 use Rattle.bz_gsym_layout.specs.Nesting.{Forest, map_forest, nested}
 use Rattle.bz_gsym_layout.specs.Nesting.Forest.{NoCalls, Call}
 use Rattle.bz_gsym_layout.specs.Numbering.{call_texts, calls_of, row_texts, source_texts, texts_of}
-use Rattle.bz_convert.specs.Plan.{called, calls_by, changes, code_of, distinct_calls, has_size, is_checked, line_in, line_of, located, same_line, sized_calls}
-use Rattle.bz_gsym_layout.specs.Layable.{CallsDescend, IsLayable, IsStorable, RowsAscend}
+use Rattle.bz_convert.specs.Plan.{called, calls_by, changes, code_of, distinct_calls, has_size, is_checked, line_of, located, same_line, sized_calls, source_named}
+use Rattle.bz_gsym_layout.specs.Layable.{CallsStartInside, IsLayable, IsStorable, RowsAscend}
 use Rattle.bz_gsym_layout.specs.Plan.{Source, no_source}
 use Rattle.bz_convert.specs.Rows.{row_by, rows_from}
 use Rattle.bz_convert.proofs.CallLemmas.{is_table, lies_within}
@@ -38,20 +38,20 @@ module _ (table : Table) (good : AreBounded table) where
   name_utf8 None each = empty_utf8
   name_utf8 (Some n) each = each n refl
 
-  line_utf8 : (id line : ℕ) → AllByRecursion IsUtf8 (source_texts (line_in table id line))
-  line_utf8 id line = let two = source_utf8 (located table id) (good.files id) in (two.0, (two.1, tt))
+  file_utf8 : (id : ℕ) → AllByRecursion IsUtf8 (source_texts (source_named table id))
+  file_utf8 id = let two = source_utf8 (located table id) (good.files id) in (two.0, (two.1, tt))
 
   rows_utf8 : (rows : List (ℕ × SourceLine)) → AllByRecursion IsUtf8 (flat_map row_texts (map (λ (row : ℕ × SourceLine). (row.0, line_of table row.1)) rows))
   rows_utf8 [] = tt
   rows_utf8 (row ∷ rows) =
-      all_append IsUtf8 (row_texts (row.0, line_of table row.1)) (flat_map row_texts (map (λ (row : ℕ × SourceLine). (row.0, line_of table row.1)) rows)) (line_utf8 row.1.file row.1.line) (rows_utf8 rows)
+      all_append IsUtf8 (row_texts (row.0, line_of table row.1)) (flat_map row_texts (map (λ (row : ℕ × SourceLine). (row.0, line_of table row.1)) rows)) (file_utf8 row.1.file) (rows_utf8 rows)
 
   calls_utf8 : (calls : Forest Inlinee) → AllByRecursion IsUtf8 (flat_map call_texts (calls_of (map_forest (called table) calls)))
   calls_utf8 NoCalls = tt
   calls_utf8 (Call i within after) =
       let inner = calls_of (map_forest (called table) within) in
       let later = calls_of (map_forest (called table) after) in
-      all_append IsUtf8 (call_texts (called table i)) (flat_map call_texts (inner ++ later)) (name_utf8 (name_for i.origin table.origins) (good.origins i.origin), line_utf8 i.call_file i.call_line)
+      all_append IsUtf8 (call_texts (called table i)) (flat_map call_texts (inner ++ later)) (name_utf8 (name_for i.origin table.origins) (good.origins i.origin), file_utf8 i.call_file)
       (subst (AllByRecursion IsUtf8) (sym (flat_map-append call_texts inner later)) (all_append IsUtf8 (flat_map call_texts inner) (flat_map call_texts later) (calls_utf8 within) (calls_utf8 after)))
 
   all_storable : (texts : List (List ℕ)) → AllByRecursion IsUtf8 texts → ((text : List ℕ) → In texts text → has_zero text ≡ false) → AllByRecursion IsStorable texts
@@ -86,13 +86,13 @@ module _ (table : Table) (good : AreBounded table) where
   lower (i ∷ calls) base less down up = (omega (arith, up.0), up.1, up.2, up.3)
 
   nested_by : (a d : Bool) (base : ℕ) (i : Inlinee) (within after : Forest Inlinee) → (base ≤ i.start) × (i.start + i.size ≤ last_address) × (i.call_line < 2 ^ 32) →
-      CallsDescend i.start (map_forest (called table) within) → CallsDescend base (map_forest (called table) after) →
-      CallsDescend base (map_forest (called table) (cond a NoCalls (cond d (Call i within after) after)))
+      CallsStartInside i.start (map_forest (called table) within) → CallsStartInside base (map_forest (called table) after) →
+      CallsStartInside base (map_forest (called table) (cond a NoCalls (cond d (Call i within after) after)))
   nested_by true d base i within after own inner later = tt
   nested_by false true base i within after own inner later = (own.0, own.1, own.2, inner, later)
   nested_by false false base i within after own inner later = later
 
-  nested_down : (at base : ℕ) (calls : List Inlinee) → Ascends base calls → CallsDescend base (map_forest (called table) (nested (λ (i : Inlinee). i.depth) at calls))
+  nested_down : (at base : ℕ) (calls : List Inlinee) → Ascends base calls → CallsStartInside base (map_forest (called table) (nested (λ (i : Inlinee). i.depth) at calls))
   nested_down at base [] up = tt
   nested_down at base (i ∷ calls) up =
       nested_by (nat_lt i.depth at) (i.depth == at) base i (nested (λ (i : Inlinee). i.depth) (at + 1) calls) (nested (λ (i : Inlinee). i.depth) at calls) (up.0, up.1, up.2)
@@ -125,9 +125,9 @@ module _ (table : Table) (good : AreBounded table) where
         let within = lies_within f (clean.nested ok) ok x.depth x found.0 (ltb-true 0 x.size found.1) refl in
         (within.0, omega (arith, within.1, fits), bounded.calls x (from_distinct f.inlinees x found.0)))
 
-    calls_down : f.start + f.size ≤ last_address → CallsDescend f.start (code_of table f).calls
+    calls_down : f.start + f.size ≤ last_address → CallsStartInside f.start (code_of table f).calls
     calls_down fits = by (changes f) where
-      by : (rows : List (ℕ × SourceLine)) → CallsDescend f.start (map_forest (called table) (calls_by rows (nested (λ (i : Inlinee). i.depth) 0 (sized_calls f))))
+      by : (rows : List (ℕ × SourceLine)) → CallsStartInside f.start (map_forest (called table) (calls_by rows (nested (λ (i : Inlinee). i.depth) 0 (sized_calls f))))
       by [] = tt
       by (row ∷ rows) = nested_down 0 f.start (sized_calls f) (sized_up fits)
 

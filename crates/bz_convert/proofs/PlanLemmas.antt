@@ -25,7 +25,7 @@ use Rattle.bz_convert.specs.Bounds.{AreBounded, In}
 use Rattle.bz_convert.specs.Fault.{fault_in}
 use Rattle.bz_gsym_layout.specs.Nesting.{Forest, calls_in, map_forest, nested}
 use Rattle.bz_gsym_layout.specs.Nesting.Forest.{NoCalls, Call}
-use Rattle.bz_convert.specs.Plan.{called, calls_by, changes, code_of, distinct_calls, has_size, is_checked, line_of, located, plan, same_line, sized_calls, source_by}
+use Rattle.bz_convert.specs.Plan.{called, calls_by, changes, code_of, distinct_calls, has_size, is_checked, line_of, located, origin_named, plan, same_line, sized_calls, source_by}
 use Rattle.bz_gsym_layout.specs.Plan.{Called, Code, Line, no_source}
 use Rattle.bz_gsym_layout.specs.Planned.{by_code, location, planned, seen, site_of, symbol_at, symbol_by}
 use Rattle.bz_convert.specs.Rows.{rows_from}
@@ -147,7 +147,7 @@ module _ (table : Table) where
       let next = seen_alike calls l known.1 here in
       let at = site_alike (name_for c.call_file table.files >>= split) c.call_line known.0.0 in
       let name = some_is (name_for c.origin table.origins) known.0.1 in
-      let called_name : unwrap_or (name_for c.origin table.origins) [] ≡ name.0 = ap (λ (o : Option (List ℕ)). unwrap_or o []) name.1 in
+      let called_name : origin_named table c.origin ≡ name.0 = ap (λ (o : Option (List ℕ)). unwrap_or o []) name.1 in
       record {
         found = (at.site, record { name = name.0; site = Some next.found.0 } ∷ next.found.1);
         known = ap (option_and_then (seen_outside table c)) next.known ∙ outside_known c next.found name.0 at.site name.1 at.known;

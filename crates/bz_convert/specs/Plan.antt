@@ -23,14 +23,21 @@ source_by cut = record { dir = unwrap_or cut.0 []; file = cut.1 }
 abbrev pub located : Table → ℕ → Option Source
 located table id = option_map source_by (name_for id table.files >>= split)
 
+-- the source file of an id, and the text of an origin; an empty one if it isn't known
+abbrev pub source_named : Table → ℕ → Source
+source_named table id = unwrap_or (located table id) no_source
+
+abbrev pub origin_named : Table → ℕ → List ℕ
+origin_named table id = unwrap_or (name_for id table.origins) []
+
 abbrev pub line_in : Table → ℕ → ℕ → Line
-line_in table id line = record { source = unwrap_or (located table id) no_source; line = line }
+line_in table id line = record { source = source_named table id; line = line }
 
 abbrev pub line_of : Table → SourceLine → Line
 line_of table r = line_in table r.file r.line
 
 abbrev pub called : Table → Inlinee → Called
-called table i = record { start = i.start; size = i.size; name = unwrap_or (name_for i.origin table.origins) []; at = line_in table i.call_file i.call_line }
+called table i = record { start = i.start; size = i.size; name = origin_named table i.origin; at = line_in table i.call_file i.call_line }
 
 -- two line records say the same
 abbrev pub same_line : SourceLine → SourceLine → Bool

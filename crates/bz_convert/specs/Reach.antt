@@ -1,4 +1,4 @@
--- How far the calls of a depth reach that don't start above an address.
+-- How far calls reach, each with those of its depth in front of it.
 use Rattle.std.specs.Prelude.{◌≡◌, ℕ, ◌+◌, ◌≤◌, ◌==◌, nat_lt, List, length, Option, Some, None, slice_get, if◌then◌else◌}
 use Rattle.bz_breakpad_lines.specs.Table.{Inlinee}
 use Rattle.bz_convert.specs.declared.calls.Reach.{Reach}

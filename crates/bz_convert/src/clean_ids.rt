@@ -1,12 +1,12 @@
 //! Which ids of a file are known to name texts without a zero byte.
 
-ghost use Rattle.std.specs.Prelude.{◌≡◌, ℕ, true, is_none, Some, slice_get, unwrap_or, [], IfOk};
+ghost use Rattle.std.specs.Prelude.{◌≡◌, ℕ, true, is_none, Some, slice_get, IfOk};
 ghost use Rattle.bz_breakpad_lines.specs.Names.{name_for};
 ghost use Rattle.bz_breakpad_lines.specs.Reader.{table_in};
 ghost use Rattle.bz_breakpad_lines.specs.Table.{Table};
 ghost use Rattle.bz_convert.specs.Fault.{has_zero};
 ghost use Rattle.bz_convert.specs.Ids.{AreClean, IsCleanFile, IsCleanOrigin, file_has_zero};
-ghost use Rattle.bz_convert.specs.Plan.{located};
+ghost use Rattle.bz_convert.specs.Plan.{located, origin_named};
 
 use crate::ids::{file_has_zero, has_zero, located};
 use bz_breakpad::SymbolFile;
@@ -71,7 +71,7 @@ impl<'a> CleanIds<'a> {
 
     /// Whether the name of an origin holds a zero byte.
     pub(crate) fn origin_has_zero(&self, id: u32) -> bool
-        ensures { (table : Table) → table_in self.now ≡ Some table → result ≡ has_zero (unwrap_or (name_for id table.origins) []) }
+        ensures { (table : Table) → table_in self.now ≡ Some table → result ≡ has_zero (origin_named table id) }
     {
         !is_set(&self.origins, id) && self.file.origin(id).is_some_and(has_zero)
     }

@@ -52,7 +52,7 @@ pub enum ConvertError {
         addr: u64,
     },
     /// No FILE record has an id that is asked for, or its name has no component.
-    #[error("the function at {func:#x} asks for a file of id {id}")]
+    #[error("the function at {func:#x} asks for a file of id {id}, which isn't known")]
     NoFile {
         /// Where the function starts.
         func: u64,
@@ -60,7 +60,7 @@ pub enum ConvertError {
         id: u32,
     },
     /// No INLINE_ORIGIN record has an id that is asked for.
-    #[error("the function at {func:#x} asks for an origin of id {id}")]
+    #[error("the function at {func:#x} asks for an origin of id {id}, which isn't known")]
     NoOrigin {
         /// Where the function starts.
         func: u64,
@@ -73,13 +73,14 @@ pub enum ConvertError {
         /// Where the function starts.
         func: u64,
     },
-    /// The GSYM file would have more bytes than places of 32 bits reach.
-    #[error("the converted file has {bytes} bytes")]
+    /// The GSYM file would have more bytes than 32 bits count.
+    #[error("the converted file would have {bytes} bytes, which is too many")]
     TooLarge {
         /// How many bytes it would have.
         bytes: u64,
     },
-    /// Memory ran out.
+    /// Memory ran out. Also where 32 bits don't count the texts or source files, or 64 bits the
+    /// bytes.
     #[error("memory ran out")]
     OutOfMemory,
 }

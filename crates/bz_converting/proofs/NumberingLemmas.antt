@@ -14,9 +14,10 @@ use Rattle.std.proofs.lemmas.Bool.{and_parts, eq-eqb, eqb-true, true≢false}
 use Rattle.std.proofs.lemmas.List.{length-map, map-append}
 use Rattle.std.proofs.lemmas.Option.{none-some, same_Some, slice_get_within, slice_get-get_or}
 use Rattle.bz_breakpad_lines.specs.Table.{Table}
+use Rattle.bz_convert.specs.Plan.{origin_named, source_named}
 use Rattle.bz_convert.proofs.DistinctLemmas.{any_in}
 use Rattle.bz_converting.specs.Listed.{HasIndexes, index_if, with_one}
-use Rattle.bz_converting.specs.Numbered.{AreFiles, AreKnown, AreNumbered, AreTexts, IsNumbering, IsRemembered, Uses, origin_named, source_named, file_of, listed_sources, listed_texts, pair_cmp, same_file, same_text, text_of}
+use Rattle.bz_converting.specs.Numbered.{AreKnown, AreNumbered, AreTexts, HasFileIndexes, IsNumbering, IsRemembered, Uses, file_of, listed_sources, listed_texts, pair_cmp, same_file, same_text, text_of}
 use Rattle.bz_converting.specs.declared.numbering.Numbering.{Numbering}
 use Rattle.bz_converting.specs.declared.sources.Sources.{Sources}
 use Rattle.bz_converting.specs.declared.texts.Texts.{Texts}
@@ -194,12 +195,12 @@ module _ (texts : List (List ℕ)) (sources : List Source) (old : Numbering) (is
       (g.0, is_new.sources ∙ g.1 ∙ ap (λ l. l ++ g.0) (sym is_old.sources))
 
 -- A source file that wasn't used before.
-module _ (s : Sources) (has : AreFiles s) (file : SourceFile) (new : Sources) (index : ℕ) (counted : index ≡ length s.listed.items) (pushed : new.listed.items ≡ s.listed.items ++ file ∷ []) where
+module _ (s : Sources) (has : HasFileIndexes s) (file : SourceFile) (new : Sources) (index : ℕ) (counted : index ≡ length s.listed.items) (pushed : new.listed.items ≡ s.listed.items ++ file ∷ []) where
   pub file_listed : btree.get pair_cmp s.indexes (file.dir, file.name) ≡ None → new.listed.items ≡ with_one same_file s.listed.items file
   file_listed none = pushed ∙ sym (one_new same_file s.listed.items file (sym (has (file.dir, file.name)) ∙ none))
 
   pub files_inserted : btree.get pair_cmp s.indexes (file.dir, file.name) ≡ None →
-      ((q : ℕ × ℕ) → btree.get pair_cmp new.indexes q ≡ cond (is_eq (pair_cmp (file.dir, file.name) q)) (Some index) (btree.get pair_cmp s.indexes q)) → AreFiles new
+      ((q : ℕ × ℕ) → btree.get pair_cmp new.indexes q ≡ cond (is_eq (pair_cmp (file.dir, file.name) q)) (Some index) (btree.get pair_cmp s.indexes q)) → HasFileIndexes new
   files_inserted none updates =
       subst (HasIndexes (btree.get pair_cmp new.indexes) file_of same_file) (sym pushed)
       (indexes_more same_file files_same (λ a b. is_eq (pair_cmp a b)) file_of files_tied (btree.get pair_cmp s.indexes) (btree.get pair_cmp new.indexes) s.listed.items (file.dir, file.name) has
@@ -237,7 +238,7 @@ module _ (texts : List (List ℕ)) (sources : List Source) (n : Numbering) (is :
   dir_at : slice_get (listed_texts second) f.dir ≡ Some s.dir
   dir_at = grown_at (listed_texts first) (listed_texts second) (texts_grow (texts ++ dir ∷ []) (s.file ∷ []) first second one two) f.dir dir at_dir ∙ ap Some named
 
-  pub both_numbered : files.listed.items ≡ with_one same_file n.sources.listed.items f → AreFiles files → AreNumbered (texts ++ s.dir ∷ s.file ∷ []) (sources ++ s ∷ []) (record { texts = second; sources = files; files = n.files; origins = n.origins })
+  pub both_numbered : files.listed.items ≡ with_one same_file n.sources.listed.items f → HasFileIndexes files → AreNumbered (texts ++ s.dir ∷ s.file ∷ []) (sources ++ s ∷ []) (record { texts = second; sources = files; files = n.files; origins = n.origins })
   both_numbered listed has = source_numbered (texts ++ s.dir ∷ s.file ∷ []) sources middle middle_is f s dir_at at_file (record { texts = second; sources = files; files = n.files; origins = n.origins }) refl listed has
 
   pub source_at : (index : ℕ) → slice_get files.listed.items index ≡ Some f → slice_get (listed_sources (record { texts = second; sources = files; files = n.files; origins = n.origins })) index ≡ Some s
@@ -324,7 +325,7 @@ module _ (table : Table) (texts : List (List ℕ)) (sources : List Source) (old 
   same_numbered = record {
     texts = subst (AreTexts texts) (sym same_texts) is.numbered.texts;
     sources = ap₂ (λ t s. map (source_of (listed_texts t)) s.listed.items) same_texts same_sources ∙ is.numbered.sources;
-    files = subst AreFiles (sym same_sources) is.numbered.files;
+    files = subst HasFileIndexes (sym same_sources) is.numbered.files;
     within = subst (λ t. indexed.AreFiles (length (listed_texts t)) new.sources.listed.items) (sym same_texts) (subst (λ s. indexed.AreFiles (length (listed_texts old.texts)) s.listed.items) (sym same_sources) is.numbered.within);
   }
 
@@ -384,7 +385,7 @@ none_more (x ∷ xs) none zero j at = none 0 j at
 none_more (x ∷ xs) none (suc i) j at = none_more xs (λ k l there. none (suc k) l there) i j at
 
 -- Nothing is used yet.
-pub none_numbered : (table : Table) (n : Numbering) → AreTexts [] n.texts → n.sources.listed.items ≡ [] → AreFiles n.sources → ((i j : ℕ) → slice_get n.files.items i ≡ Some (Some j) → ⊥) → ((i j : ℕ) → slice_get n.origins.items i ≡ Some (Some j) → ⊥) → IsNumbering table [] [] n
+pub none_numbered : (table : Table) (n : Numbering) → AreTexts [] n.texts → n.sources.listed.items ≡ [] → HasFileIndexes n.sources → ((i j : ℕ) → slice_get n.files.items i ≡ Some (Some j) → ⊥) → ((i j : ℕ) → slice_get n.origins.items i ≡ Some (Some j) → ⊥) → IsNumbering table [] [] n
 none_numbered table n texts empty has files origins = record {
   numbered = record {
     texts = texts;

@@ -1,14 +1,13 @@
 -- Texts and source files of a plan that is collected, numbered where they are first used.
-use Rattle.std.specs.Prelude.{◌≡◌, ◌⊎◌, ℕ, Bool, ◌==◌, ◌&&◌, List, [], ◌∷◌, ◌++◌, length, map, Option, Some, slice_get, unwrap_or}
+use Rattle.std.specs.Prelude.{◌≡◌, ◌⊎◌, ℕ, Bool, ◌==◌, ◌&&◌, List, ◌++◌, length, map, Option, Some, slice_get}
 use Rattle.std.specs.BTreeMap as btree
 use Rattle.std.specs.Borrow.{Bor}
 use Rattle.std.specs.HashMap.{get}
 use Rattle.std.specs.Ordering.{nat_cmp, ordering_then}
 use Rattle.std.specs.Str.{bytes_eq}
 use Rattle.std.specs.declared.cmp.Ordering.{Ordering}
-use Rattle.bz_breakpad_lines.specs.Names.{name_for}
 use Rattle.bz_breakpad_lines.specs.Table.{Table}
-use Rattle.bz_convert.specs.Plan.{located}
+use Rattle.bz_convert.specs.Plan.{origin_named, source_named}
 use Rattle.bz_converting.specs.Listed.{HasIndexes}
 use Rattle.bz_converting.specs.declared.numbering.Numbering.{Numbering}
 use Rattle.bz_converting.specs.declared.sources.Sources.{Sources}
@@ -16,7 +15,7 @@ use Rattle.bz_converting.specs.declared.texts.Texts.{Texts}
 use Rattle.bz_gsym_layout.specs.Indexed as indexed
 use Rattle.bz_gsym_layout.specs.Indexed.{source_of}
 use Rattle.bz_gsym_layout.specs.Numbering.{firsts, same_source}
-use Rattle.bz_gsym_layout.specs.Plan.{Source, no_source}
+use Rattle.bz_gsym_layout.specs.Plan.{Source}
 use Rattle.bz_gsym_layout.specs.declared.plan.SourceFile.{SourceFile}
 
 abbrev pub listed_texts : Texts → List (List ℕ)
@@ -43,8 +42,8 @@ abbrev pub file_of : ℕ × ℕ → SourceFile
 file_of pair = record { dir = pair.0; name = pair.1 }
 
 -- the map has the indexes of the source files
-abbrev pub AreFiles : Sources → Type 0
-AreFiles s = HasIndexes (btree.get pair_cmp s.indexes) file_of same_file s.listed.items
+abbrev pub HasFileIndexes : Sources → Type 0
+HasFileIndexes s = HasIndexes (btree.get pair_cmp s.indexes) file_of same_file s.listed.items
 
 -- the source files, in texts
 abbrev pub listed_sources : Numbering → List Source
@@ -54,15 +53,8 @@ listed_sources n = map (source_of (listed_texts n.texts)) n.sources.listed.items
 pub record AreNumbered (used : List (List ℕ)) (used_sources : List Source) (n : Numbering) : Type 0 where
   pub texts : AreTexts used n.texts
   pub sources : listed_sources n ≡ firsts same_source used_sources
-  pub files : AreFiles n.sources
+  pub files : HasFileIndexes n.sources
   pub within : indexed.AreFiles (length (listed_texts n.texts)) n.sources.listed.items
-
--- the source file of an id, and the text of an origin, as a plan has them
-abbrev pub source_named : Table → ℕ → Source
-source_named table id = unwrap_or (located table id) no_source
-
-abbrev pub origin_named : Table → ℕ → List ℕ
-origin_named table id = unwrap_or (name_for id table.origins) []
 
 -- an index that is known is that of an id's source file, or of an origin's text
 pub record AreKnown (table : Table) (n : Numbering) : Type 0 where
@@ -81,10 +73,6 @@ IsNumbered table n = (texts : List (List ℕ)) × (sources : List Source) × IsN
 -- these texts and source files are used, behind those that were used before
 abbrev pub Uses : Table → List (List ℕ) → List Source → Numbering → Numbering → Type 0
 Uses table more more_sources old new = (texts : List (List ℕ)) (sources : List Source) → IsNumbering table texts sources old → IsNumbering table (texts ++ more) (sources ++ more_sources) new
-
--- the texts of a source file
-abbrev pub parts_of : Source → List (List ℕ)
-parts_of s = s.dir ∷ s.file ∷ []
 
 -- each index that is known was so before, or is that of the id
 abbrev pub IsRemembered : List (Option ℕ) → List (Option ℕ) → ℕ → ℕ → Type 0

@@ -20,8 +20,9 @@ use bz_convert::RowsAndCalls;
 use bz_gsym_layout::Node;
 use std::alloc::{AllocError, Global};
 
-/// An inlined call of the file, which goes by depth and start there. A plan has calls by start and depth.
-/// `sort_table` goes by start and size, so the depth stands for the size here.
+/// An inlined call that is sorted for a plan. The file's calls come by depth and start, and a plan
+/// has them by start and depth. `sort_table` goes by start and size, so the depth stands for the
+/// size here.
 #[derive(Clone, Copy)]
 pub(crate) struct PlacedCall {
     pub call: Inlinee,

@@ -19,10 +19,11 @@ use bz_convert::laws::conversions_answer_alike;
 use bz_gsym_layout::{LayoutError, write};
 use std::alloc::Global;
 
-/// The bytes of the GSYM file of version 1 that answers as a Breakpad file does. Where a function answers
-/// there, it answers with that function, its line and its inlined calls, and elsewhere with nothing.
-/// TooLarge: the file has no fault, but 32 bits don't count the bytes of its GSYM file. OutOfMemory: memory
-/// ran out. Any other refusal is the first fault of the file.
+/// The bytes of the GSYM file of version 1 that answers as a Breakpad file does. Where a function
+/// answers there, it answers with that function, its line and its inlined calls, and elsewhere with
+/// nothing. TooLarge: the file has no fault, but 32 bits don't count the bytes of its GSYM file.
+/// OutOfMemory: memory ran out, or 32 bits don't count the texts or source files, or 64 bits the
+/// bytes. Any other refusal is the first fault of the file.
 pub fn convert(alloc: Global, file: &SymbolFile) -> Result<Vec<u8>, ConvertError>
     ensures ok { IfOk result (λ bytes. (table : Table) → table_in file.now ≡ Some table → IsConversion table bytes.items) }
     ensures answers { IfOk result (λ bytes. (table : Table) → table_in file.now ≡ Some table → (addr : ℕ) →

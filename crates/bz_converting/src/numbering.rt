@@ -4,7 +4,9 @@ ghost use Rattle.std.specs.Prelude.{◌≡◌, ◌∷◌, ℕ, [], Some, option_
 ghost use Rattle.bz_breakpad_lines.specs.Reader.{table_in};
 ghost use Rattle.bz_breakpad_lines.specs.Table.{Table};
 ghost use Rattle.bz_convert.specs.Ids.{lent_source};
-ghost use Rattle.bz_converting.specs.Numbered.{IsNumbered, IsNumbering, IsRemembered, Uses, listed_sources, listed_texts, origin_named, parts_of, source_named};
+ghost use Rattle.bz_convert.specs.Plan.{origin_named, source_named};
+ghost use Rattle.bz_converting.specs.Numbered.{IsNumbered, IsNumbering, IsRemembered, Uses, listed_sources, listed_texts};
+ghost use Rattle.bz_gsym_layout.specs.Numbering.{source_texts};
 
 use crate::sources::Sources;
 use crate::texts::Texts;
@@ -48,8 +50,8 @@ impl<'a> Numbering<'a> {
     }
 
     /// The index of a source file, which is listed if it wasn't used before.
-    pub fn source(&mut self, source: Source<'a>) -> Result<usize, AllocError>
-        ensures numbering { OnOk result ((table : Table) → Uses table (parts_of (lent_source source.entry)) (lent_source source.entry ∷ []) self.old self.new) }
+    fn source(&mut self, source: Source<'a>) -> Result<usize, AllocError>
+        ensures numbering { OnOk result ((table : Table) → Uses table (source_texts (lent_source source.entry)) (lent_source source.entry ∷ []) self.old self.new) }
         ensures index { IfOk result (λ index. (table : Table) → IsNumbered table self.old → slice_get (listed_sources self.new) index ≡ Some (lent_source source.entry)) }
     {
         let (dir, name) = source;
@@ -60,7 +62,7 @@ impl<'a> Numbering<'a> {
 
     /// The index of the source file of an id.
     pub fn file_source(&mut self, file: &'a SymbolFile, id: u32) -> Result<u32, AllocError>
-        ensures numbering { OnOk result ((table : Table) → table_in file.now ≡ Some table → Uses table (parts_of (source_named table id)) (source_named table id ∷ []) self.old self.new) }
+        ensures numbering { OnOk result ((table : Table) → table_in file.now ≡ Some table → Uses table (source_texts (source_named table id)) (source_named table id ∷ []) self.old self.new) }
         ensures index { IfOk result (λ index. (table : Table) → table_in file.now ≡ Some table → IsNumbered table self.old → slice_get (listed_sources self.new) index ≡ Some (source_named table id)) }
     {
         if let Some(index) = known_at(&self.files, id) {

@@ -17,8 +17,8 @@ use std::alloc::Global;
 use std::marker::Brand;
 use std::sync::ledger::{Blank, Ledger};
 
-/// The plan of what is laid out of a file. OutOfMemory: memory ran out. Any other refusal is the first
-/// fault of the file.
+/// The plan of what is laid out of a file. OutOfMemory: memory ran out, or 32 bits don't count the
+/// texts or source files. Any other refusal is the first fault of the file.
 pub(crate) fn plan_of(alloc: Global, file: &SymbolFile) -> Result<Plan<'_>, ConvertError>
     ensures plan { IfOk result (λ plan. (table : Table) × (table_in file.now ≡ Some table) × IsPlanOf table plan) }
     ensures fault { IfErr result (λ e. e ≢ ConvertError.OutOfMemory → (table : Table) → table_in file.now ≡ Some table → fault_in table ≡ Some e) }

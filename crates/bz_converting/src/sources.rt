@@ -2,7 +2,7 @@
 
 ghost use Rattle.std.specs.Prelude.{◌≡◌, ℕ, List, [], Some, slice_get, IfOk, OnOk};
 ghost use Rattle.bz_converting.specs.Listed.{with_one};
-ghost use Rattle.bz_converting.specs.Numbered.{AreFiles, same_file};
+ghost use Rattle.bz_converting.specs.Numbered.{HasFileIndexes, same_file};
 
 use bz_gsym_layout::SourceFile;
 use std::alloc::{AllocError, Global};
@@ -21,7 +21,7 @@ impl Sources {
     /// No source files.
     pub fn new(alloc: Global) -> Sources
         ensures empty { result.listed.items ≡ [] }
-        ensures files { AreFiles result }
+        ensures files { HasFileIndexes result }
     {
         Sources {
             listed: Vec::new(alloc),
@@ -31,9 +31,9 @@ impl Sources {
 
     /// The index of a source file, which is listed if it wasn't used before.
     pub fn index_of(&mut self, file: SourceFile) -> Result<usize, AllocError>
-        ensures listed { OnOk result (AreFiles self.old → self.new.listed.items ≡ with_one same_file self.old.listed.items file) }
-        ensures files { OnOk result (AreFiles self.old → AreFiles self.new) }
-        ensures index { IfOk result (λ index. AreFiles self.old → slice_get self.new.listed.items index ≡ Some file) }
+        ensures listed { OnOk result (HasFileIndexes self.old → self.new.listed.items ≡ with_one same_file self.old.listed.items file) }
+        ensures files { OnOk result (HasFileIndexes self.old → HasFileIndexes self.new) }
+        ensures index { IfOk result (λ index. HasFileIndexes self.old → slice_get self.new.listed.items index ≡ Some file) }
     {
         let key = (file.dir, file.name);
         if let Some(index) = self.indexes.get(&key) {

@@ -1,7 +1,9 @@
 -- What stands in the tables of a file, by a head that is the file's.
-use Rattle.std.proofs.Common.{◌≡◌, ℕ, ◌+◌, ◌*◌, ◌<◌, ◌≤◌, Bool, true, false, List, drop, Option, Some, None, refl, sym, ap, subst, ◌∙◌, arith}
+use Rattle.std.proofs.Common.{◌≡◌, ℕ, ◌+◌, ◌*◌, ◌<◌, ◌≤◌, Bool, true, false, List, drop, Option, Some, None, Result, Ok, Err, Bor, option_map, refl, sym, ap, subst, ◌∙◌, arith}
+use Rattle.std.specs.Prelude.{MatchResult}
 use Rattle.std.specs.List.{slice_get}
 use Rattle.std.specs.Option.{SomeIff, option_and_then}
+use Rattle.std.specs.Result.{result_ok}
 use Rattle.std.specs.Str.{IsUtf8, is_utf8}
 use Rattle.std.proofs.lemmas.Bool.{le-leb, lt-leb, false_from_ne_true}
 use Rattle.std.proofs.lemmas.Str.{IsUtf8-from_is_utf8, is_utf8-from_IsUtf8}
@@ -77,8 +79,14 @@ module _ (bytes : List ℕ) (header : Header) (head : header ≡ header_of bytes
 
 -- a text before a zero byte is a string where it is UTF-8
 module _ (table : List ℕ) (place : ℕ) (text : List ℕ) (before : Some text ≡ zero_ended (drop place table)) where
-  pub string_there : IsUtf8 text → Some text ≡ string_at table place
+  string_there : IsUtf8 text → Some text ≡ string_at table place
   string_there good = sym (ap (option_and_then checked) (sym before) ∙ rw (is_utf8-from_IsUtf8 text good) refl)
 
-  pub no_text : ¬ (IsUtf8 text) → None ≡ string_at table place
+  no_text : ¬ (IsUtf8 text) → None ≡ string_at table place
   no_text bad = sym (ap (option_and_then checked) (sym before) ∙ rw (false_from_ne_true (is_utf8 text) (λ good. bad (IsUtf8-from_is_utf8 text good))) refl)
+
+  -- and one is read of it just there
+  pub text_read : {E : Type 0} (Q : E → Type 0) (r : Result (Bor (List ℕ)) E) →
+      MatchResult r (λ s. (s.now ≡ text) × IsUtf8 text) (λ e. ¬ (IsUtf8 text) × Q e) → option_map (λ text. text.now) (result_ok r) ≡ string_at table place
+  text_read Q (Ok s) is = ap Some is.0 ∙ string_there is.1
+  text_read Q (Err e) is = no_text is.0

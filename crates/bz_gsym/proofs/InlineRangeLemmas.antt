@@ -7,8 +7,12 @@ use Rattle.bz_base.specs.Leb128.{uleb_at}
 use Rattle.bz_gsym.specs.InlineReader.{range_at, before, ranges_at, Tail, tail_at, head_of, filled_at, head_at, there}
 use Rattle.bz_gsym.specs.declared.inline.node.Level.{Level}
 use Rattle.bz_gsym.specs.declared.inline.node.Level.TheVariants.{PassedOver, Read}
-use Rattle.bz_gsym.specs.InlineWalk.{Visit, visit, visit_next, visit_at, passed_at, node_at}
+use Rattle.bz_gsym.specs.InlineWalk.{Visit, visit, visit_next, visit_at, passed_at}
 use Rattle.bz_gsym.specs.InlineRanges.{Span, span_from, span_at, after_ranges, read_by, read_at}
+
+-- what a node with so many ranges gives, where it is read
+unfoldable node_at : ℕ → ℕ → ℕ → List ℕ → Option (Visit × List ℕ)
+node_at addr base count bytes = filled_at count bytes >>= (λ head. option_map (λ found. (found, head.1)) (visit addr (Read base) head.0))
 
 -- one range more
 left_is : (count seen : ℕ) → seen < count → count - seen ≡ suc (count - (seen + 1))
@@ -120,7 +124,7 @@ module _ (addr base : ℕ) where
   by_ranges None = refl
   by_ranges (Some r) = by_fit r.0 r.1 (all_fit base r.0) refl
 
-  pub node_at-read : (count : ℕ) (bytes : List ℕ) → node_at addr base count bytes ≡ read_at addr base count bytes
+  node_at-read : (count : ℕ) (bytes : List ℕ) → node_at addr base count bytes ≡ read_at addr base count bytes
   unfolding node_at read_at filled_at span_at
   node_at-read count bytes = by_ranges (ranges_at count bytes)
 

@@ -8,8 +8,20 @@ use Rattle.bz_gsym.specs.InlineTree.Nodes.{Ended, Node}
 use Rattle.bz_gsym.specs.InlineReader.{head_at, node_before, children_by, node_by, root_by, nodes_at, tree_at, frames_at}
 use Rattle.bz_gsym.specs.declared.inline.node.Level.{Level}
 use Rattle.bz_gsym.specs.declared.inline.node.Level.TheVariants.{PassedOver, Read}
-use Rattle.bz_gsym.specs.InlineWalk.{Visit, is_refused, own_frame, inner_level, visit_next, visit_at, level_frames, open_frames, entered, walked, walked_root}
+use Rattle.bz_gsym.specs.InlineWalk.{Visit, is_refused, own_frame, inner_level, visit_next, visit_at, level_frames, open_frames, entered}
 use Rattle.bz_gsym.proofs.InlineReaderLemmas.{nodes_at-step}
+
+-- the frames of what is left once the next node gave this
+abbrev pub walked : ℕ → Level → List Level → Option Visit × List ℕ → Option (List Frame)
+walked addr level levels (None, bytes) = open_frames addr levels bytes
+walked addr level levels (Some found, bytes) =
+    option_map (with_frame found.frame) (open_frames addr (entered found.inside (level ∷ levels)) bytes)
+
+-- the frames of the whole once the root gave this
+abbrev pub walked_root : ℕ → Option Visit × List ℕ → Option (List Frame)
+walked_root addr (None, bytes) = Some []
+walked_root addr (Some found, bytes) =
+    option_map (with_frame found.frame) (open_frames addr (entered found.inside []) bytes)
 
 both_nothing : {A : Type 0} (o : Option (List A)) → both (Some []) o ≡ o
 both_nothing None = refl

@@ -6,11 +6,11 @@ use Rattle.bz_base.specs.Bind.{◌>>=◌}
 use Rattle.bz_base.proofs.PieceOfBytesLemmas.{map_some}
 use Rattle.bz_gsym.specs.InlineReader.{head_at, frames_at}
 use Rattle.bz_gsym.specs.InlineTree.{Head, Frame, with_frame}
-use Rattle.bz_gsym.specs.InlineWalk.{Visit, visit, visit_next, visit_at, open_frames, entered, walked, walked_root, after_front}
+use Rattle.bz_gsym.specs.InlineWalk.{Visit, visit, visit_next, visit_at, open_frames, entered, after_front}
 use Rattle.bz_gsym.specs.declared.inline.node.Level.{Level}
 use Rattle.bz_gsym.specs.declared.inline.node.Level.TheVariants.{Read}
 use Rattle.bz_gsym.proofs.InlineReaderLemmas.{bind_then, head_at-shorter}
-use Rattle.bz_gsym.proofs.InlineStepLemmas.{frames_at-step, open_frames-step}
+use Rattle.bz_gsym.proofs.InlineStepLemmas.{frames_at-step, open_frames-step, walked, walked_root}
 
 after_front-with : (front : List Frame) (f : Option Frame) (left : Option (List Frame)) →
     after_front front (option_map (with_frame f) left) ≡ after_front (front ++ with_frame f []) left

@@ -2,7 +2,7 @@
 -- it is held how its siblings are taken.
 use Rattle.std.specs.Prelude.{ℕ, Bool, false, not, List, [], ◌∷◌, ◌++◌, Option, Some, None, option_map, if◌then◌else◌}
 use Rattle.bz_base.specs.Bind.{◌>>=◌}
-use Rattle.bz_gsym.specs.InlineTree.{Head, Nodes, Frame, is_sound, matches, children_base, frame_of, with_frame, both, frames}
+use Rattle.bz_gsym.specs.InlineTree.{Head, Nodes, Frame, is_sound, matches, children_base, frame_of, both, frames}
 use Rattle.bz_gsym.specs.declared.inline.node.Level.{Level}
 use Rattle.bz_gsym.specs.declared.inline.node.Level.TheVariants.{PassedOver, Read}
 use Rattle.bz_gsym.specs.InlineReader.{filled_at, head_at, nodes_at}
@@ -48,10 +48,6 @@ visit_at addr level bytes = head_at bytes >>= visit_next addr level
 unfoldable pub passed_at : ℕ → List ℕ → Option (Visit × List ℕ)
 passed_at count bytes = option_map (λ head. (record { frame = None; inside = if head.0.has_children then Some PassedOver else None }, head.1)) (filled_at count bytes)
 
--- what a node with so many ranges gives, where it is read
-unfoldable pub node_at : ℕ → ℕ → ℕ → List ℕ → Option (Visit × List ℕ)
-node_at addr base count bytes = filled_at count bytes >>= (λ head. option_map (λ found. (found, head.1)) (visit addr (Read base) head.0))
-
 -- the frames of siblings
 abbrev pub level_frames : ℕ → Level → Nodes → Option (List Frame)
 level_frames addr PassedOver nodes = Some []
@@ -67,18 +63,6 @@ open_frames addr (level ∷ levels) bytes =
 abbrev pub entered : Option Level → List Level → List Level
 entered None levels = levels
 entered (Some level) levels = level ∷ levels
-
--- the frames of what is left once the next node gave this
-abbrev pub walked : ℕ → Level → List Level → Option Visit × List ℕ → Option (List Frame)
-walked addr level levels (None, bytes) = open_frames addr levels bytes
-walked addr level levels (Some found, bytes) =
-    option_map (with_frame found.frame) (open_frames addr (entered found.inside (level ∷ levels)) bytes)
-
--- the frames of the whole once the root gave this
-abbrev pub walked_root : ℕ → Option Visit × List ℕ → Option (List Frame)
-walked_root addr (None, bytes) = Some []
-walked_root addr (Some found, bytes) =
-    option_map (with_frame found.frame) (open_frames addr (entered found.inside []) bytes)
 
 -- the frames so far, and those of what is left
 abbrev pub after_front : List Frame → Option (List Frame) → Option (List Frame)

@@ -38,8 +38,8 @@ pub fn strings_are_exact()
     ensures { (table : List ℕ) (place : ℕ) (text : List ℕ) → (string_at table place ≡ Some text) ↔ IsString table place text }
 {}
 
-/// The symbol whose index is found for an address is the one that answers there.
-pub fn the_symbol_that_is_found_answers()
+/// The symbol whose index is found for an address is the one that the plain answer tries.
+pub fn the_symbol_that_is_found_is_tried()
     ensures { (bytes : List ℕ) (addr index at place : ℕ) → IsGsym bytes → IsTried bytes addr index at → slice_get (data_places bytes) index ≡ Some place →
         nearest_symbol bytes addr ≡ Some (at, place) }
 {}

@@ -248,7 +248,7 @@ fn next_row(row: LineTableRow, header: &LineTableHeader, ops: &Cursor<'_>) -> Op
     ensures some { IfSome result (λ state. 0 < length ops.now.left) }
 {
     let operators = ops.rest();
-    if operators.len() == 0 || operators[0] < FIRST_SPECIAL {
+    if operators.is_empty() || operators[0] < FIRST_SPECIAL {
         return None;
     }
     special(row, header, operators[0] - FIRST_SPECIAL)

@@ -122,10 +122,8 @@ fn seen_from<'a>(
         return Err(Error::InvalidData);
     };
     let mut inlined = Vec::with_capacity(alloc, calls.len())?;
-    let mut left = calls.len();
-    while left > 0 {
-        left -= 1;
-        let Some((call, outer)) = seen_outside(context, &calls[left], site) else {
+    for index in (0..calls.len()).rev() {
+        let Some((call, outer)) = seen_outside(context, &calls[index], site) else {
             return Err(Error::InvalidData);
         };
         inlined.push(call)?;

@@ -91,7 +91,7 @@ impl<'a> GsymContext<'a> {
     }
 
     /// The address that the symbol of an index begins at. None: the index is outside the address
-    /// table, or the sum doesn't fit 64 bits.
+    /// table, the size of addresses isn't 1, 2, 4 or 8, or the sum doesn't fit 64 bits.
     pub fn addr_at(&self, idx: usize) -> Option<Addr>
         ensures { result ≡ address_at self.now idx }
     {

@@ -16,7 +16,7 @@ use Rattle.bz_gsym.specs.Strings.{string_at}
 use Rattle.bz_gsym.specs.Tables as gsym
 use Rattle.bz_gsym.specs.Tables.{files, strings}
 use Rattle.bz_gsym.specs.declared.types.Header.{Header}
-use Rattle.bz_gsym_layout.specs.Layable.{CallsDescend, IsLayable, IsStorable, RowsAscend}
+use Rattle.bz_gsym_layout.specs.Layable.{CallsStartInside, IsLayable, IsStorable, RowsAscend}
 use Rattle.bz_gsym_layout.specs.Layout.{Tables, code_bytes, data_places, entry_bytes, inline_entry, layout, line_entry, line_table_bytes, source_index, tables_of, text_place, tree_bytes, word, zeros}
 use Rattle.bz_gsym_layout.specs.Nesting.{Forest}
 use Rattle.bz_gsym_layout.specs.Nesting.Forest.{NoCalls, Call}
@@ -141,7 +141,7 @@ module _ (codes : List Code) (small : length (layout codes) < 2 ^ 32) (layable :
   some_name : (text : List ℕ) → 0 < text_place t text
   some_name text = omega (arith, some_place t.texts 1 text)
 
-  calls_fit : (calls : Forest Called) (base : ℕ) → CallsDescend base calls → CallsFit t base calls
+  calls_fit : (calls : Forest Called) (base : ℕ) → CallsStartInside base calls → CallsFit t base calls
   calls_fit NoCalls base down = tt
   calls_fit (Call call within after) base down = (
     record {

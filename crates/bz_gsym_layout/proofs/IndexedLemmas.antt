@@ -1,9 +1,9 @@
 -- The functions of a well-formed plan have the numbers of what they say.
-use Rattle.std.proofs.Common.{◌≡◌, ℕ, suc, ◌+◌, ◌<◌, ◌≤◌, List, [], ◌∷◌, ◌++◌, flat_map, length, map, refl, sym, ap, ◌∙◌, arith}
+use Rattle.std.proofs.Common.{◌≡◌, ℕ, suc, ◌+◌, ◌<◌, List, [], ◌∷◌, ◌++◌, flat_map, length, map, refl, sym, ap, ◌∙◌, arith}
 use Rattle.std.specs.Prelude.{slice_index_or}
 use Rattle.std.specs.Str.{bytes_eq}
 use Rattle.std.proofs.lemmas.Option.{slice_get-get_or}
-use Rattle.bz_gsym_layout.specs.Indexed.{AreFiles, AreFunctions, IsFunction, call_of, code_of, row_of, source_of, text_at}
+use Rattle.bz_gsym_layout.specs.Indexed.{AreFiles, IsFunction, call_of, code_of, row_of, source_of, text_at}
 use Rattle.bz_gsym_layout.specs.Layout.{Tables, file_bytes, source_index, text_place, word}
 use Rattle.bz_gsym_layout.specs.Numbering.{same_source}
 use Rattle.bz_gsym_layout.specs.Pass.{IsCodeOf, place_at, source_bytes}
@@ -15,18 +15,6 @@ use Rattle.bz_gsym_layout.specs.declared.plan.Row.{Row}
 use Rattle.bz_gsym_layout.specs.declared.plan.SourceFile.{SourceFile}
 use Rattle.bz_gsym_layout.proofs.DistinctLemmas.{Differ, index_there, place_there}
 use Rattle.bz_gsym_layout.proofs.NumberingLemmas.{source_is_same}
-
--- a greater limit
-pub more_sources : (texts least most : ℕ) (functions : List Function) → least ≤ most → AreFunctions texts least functions → AreFunctions texts most functions
-more_sources texts least most functions less are i f there =
-    let is = are i f there in
-    record {
-      name = is.name;
-      rows = λ k row at. omega (arith, is.rows k row at);
-      calls = λ k node at. let both = is.calls k node at in (both.0, omega (arith, both.1));
-      ascend = is.ascend;
-      order = is.order;
-    }
 
 module _ (t : Tables) (texts_differ : Differ bytes_eq t.texts) (sources_differ : Differ same_source t.sources) where
   abbrev places : List ℕ

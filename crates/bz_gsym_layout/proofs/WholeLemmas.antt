@@ -15,7 +15,7 @@ use Rattle.bz_gsym_layout.specs.declared.plan.Function.{Function}
 use Rattle.bz_gsym_layout.specs.declared.plan.Plan.{Plan}
 use Rattle.bz_gsym_layout.specs.declared.plan.SourceFile.{SourceFile}
 use Rattle.bz_gsym_layout.proofs.DistinctLemmas.{Differ, firsts_differ}
-use Rattle.bz_gsym_layout.proofs.IndexedLemmas.{code_is, files_are, more_sources, starts_are}
+use Rattle.bz_gsym_layout.proofs.IndexedLemmas.{code_is, files_are, starts_are}
 use Rattle.bz_gsym_layout.proofs.LayoutLemmas.{length_is, to_data}
 use Rattle.bz_gsym_layout.proofs.PlaceLemmas.{length_text_places}
 
@@ -175,10 +175,10 @@ module _ (plan : Plan) (is : IsPlan plan) where
     many_places : length plan.texts.items ≡ length found
     many_places = sym (ap length same_places ∙ length_text_places 1 (texts_listed plan) ∙ texts_many)
 
-    pub within : (most : ℕ) → length plan.sources.items ≤ most → AreFunctions (length found) most functions
-    within most few =
-        subst (AreFunctions (length found) most) (sym same_functions)
-        (subst (λ n. AreFunctions n most plan.functions.items) many_places (more_sources (length plan.texts.items) (length plan.sources.items) most plan.functions.items few is.functions))
+    pub within : AreFunctions (length found) (length plan.sources.items) functions
+    within =
+        subst (AreFunctions (length found) (length plan.sources.items)) (sym same_functions)
+        (subst (λ n. AreFunctions n (length plan.sources.items) plan.functions.items) many_places is.functions)
 
     pub files_within : (files : List SourceFile) → files ≡ plan.sources.items → AreFiles (length found) files
     files_within files same = subst (AreFiles (length found)) (sym same) (subst (λ n. AreFiles n plan.sources.items) many_places is.files)

@@ -55,8 +55,8 @@ tables_listed plan = record { texts = texts_listed plan; sources = sources_liste
 abbrev pub codes_of : Plan → List Code
 codes_of plan = map (code_of (texts_listed plan) (sources_listed plan)) plan.functions.items
 
--- a function refers to so many texts and source files; its rows ascend from its start on, and its calls stand behind those
--- around them
+-- the indexes of a function are below so many texts and source files. Its rows ascend from its start on, and its calls stand
+-- behind those around them
 pub record IsFunction (texts sources : ℕ) (f : Function) : Type 0 where
   pub name : f.name < texts
   pub rows : AreSourced sources f.rows.items
@@ -64,11 +64,11 @@ pub record IsFunction (texts sources : ℕ) (f : Function) : Type 0 where
   pub ascend : NeverBefore f.start f.rows.items
   pub order : AreInOrder f.start f.calls.items
 
--- each function refers to so many texts and source files
+-- each function is such a one
 abbrev pub AreFunctions : ℕ → ℕ → List Function → Type 0
 AreFunctions texts sources functions = (i : ℕ) (f : Function) → slice_get functions i ≡ Some f → IsFunction texts sources f
 
--- each source file refers to so many texts
+-- the indexes of each source file are below so many texts
 abbrev pub AreFiles : ℕ → List SourceFile → Type 0
 AreFiles texts sources = (i : ℕ) (s : SourceFile) → slice_get sources i ≡ Some s → (s.dir < texts) × (s.name < texts)
 

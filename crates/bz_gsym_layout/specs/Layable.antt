@@ -18,9 +18,9 @@ RowsAscend addr [] = Unit {0}
 RowsAscend addr (row ∷ rows) = (addr ≤ row.0) × (row.0 < 2 ^ 64) × (row.1.line < 2 ^ 32) × RowsAscend row.0 rows
 
 -- calls none of which starts before the one around it, of numbers that fit
-abbrev pub CallsDescend : ℕ → Forest Called → Type 0
-CallsDescend base NoCalls = Unit {0}
-CallsDescend base (Call c within after) = (base ≤ c.start) × (c.start + c.size ≤ last_address) × (c.at.line < 2 ^ 32) × CallsDescend c.start within × CallsDescend base after
+abbrev pub CallsStartInside : ℕ → Forest Called → Type 0
+CallsStartInside base NoCalls = Unit {0}
+CallsStartInside base (Call c within after) = (base ≤ c.start) × (c.start + c.size ≤ last_address) × (c.at.line < 2 ^ 32) × CallsStartInside c.start within × CallsStartInside base after
 
 -- a function that can be laid out; rows and calls are asked only where its end fits 64 bits
 pub record IsLayable (c : Code) : Type 0 where
@@ -29,7 +29,7 @@ pub record IsLayable (c : Code) : Type 0 where
   pub start : c.start < 2 ^ 64
   pub texts : AllByRecursion IsStorable (texts_of c)
   pub rows : c.start + c.size ≤ last_address → RowsAscend c.start c.rows
-  pub calls : c.start + c.size ≤ last_address → CallsDescend c.start c.calls
+  pub calls : c.start + c.size ≤ last_address → CallsStartInside c.start c.calls
 
 -- the starts of functions never descend
 abbrev pub StartsAscend : List Code → Type 0

@@ -12,14 +12,14 @@ abbrev pub calls_of : {X : Type 0} → Forest X → List X
 calls_of NoCalls = []
 calls_of (Call x within after) = x ∷ (calls_of within ++ calls_of after)
 
-abbrev pub source_texts : Line → List (List ℕ)
-source_texts at = at.source.dir ∷ at.source.file ∷ []
+abbrev pub source_texts : Source → List (List ℕ)
+source_texts s = s.dir ∷ s.file ∷ []
 
 abbrev pub row_texts : ℕ × Line → List (List ℕ)
-row_texts row = source_texts row.1
+row_texts row = source_texts row.1.source
 
 abbrev pub call_texts : Called → List (List ℕ)
-call_texts c = c.name ∷ source_texts c.at
+call_texts c = c.name ∷ source_texts c.at.source
 
 -- the texts of a function, in the order of their use
 abbrev pub texts_of : Code → List (List ℕ)

@@ -1,6 +1,6 @@
 //! The lists of inlined calls of an inline tree.
 
-ghost use Rattle.std.specs.Prelude.{◌≡◌, ◌≤◌, ◌<◌, ◌+◌, ◌-◌, ◌^◌, ◌++◌, ◌∷◌, ℕ, suc, true, false, List, Some, length, reverse, drop, slice_get, slice_index_or, if◌then◌else◌, IfOk, IsOkUnless, OnOk};
+ghost use Rattle.std.specs.Prelude.{◌≡◌, ◌≤◌, ◌<◌, ◌+◌, ◌++◌, ◌∷◌, ℕ, suc, true, false, List, Some, length, reverse, drop, slice_get, if◌then◌else◌, IfOk, IsOkUnless, OnOk};
 ghost use Rattle.bz_gsym.specs.InlineTree.{no_children};
 ghost use Rattle.bz_gsym_layout.specs.Format.{some_children};
 ghost use Rattle.bz_gsym_layout.specs.InOrder.{AreInOrder, depth_of};
@@ -104,7 +104,6 @@ fn push_call(
     requires deep { node.now.depth ≤ length outer.old.items }
     requires low { innermost ≤ node.now.start }
     requires lower { AreAtMost node.now.start outer.old.items }
-    requires sourced { node.now.source < 2 ^ 64 - 1 }
     ensures count { OnOk result (length outer.new.items ≡ node.now.depth + (if inside then 1 else 0)) }
     ensures low { IfOk result (λ base. (base ≤ node.now.start) × AreAtMost node.now.start outer.new.items) }
     ensures left { IfOk result (λ base. (t : Tables) (places : List ℕ) (view : Node → Called) (nodes : List Node) (index : ℕ) (whole : List ℕ) →
@@ -139,7 +138,7 @@ pub(crate) fn push_calls(
     places: &[u64],
 ) -> Result<()>
     requires order { AreInOrder start nodes.now }
-    requires within { AreWithin (length places.now) (2 ^ 64 - 1) nodes.now }
+    requires within { (sources : ℕ) × AreWithin (length places.now) sources nodes.now }
     ensures ok { OnOk result ((t : Tables) (view : Node → Called) → AreNodesOf t places.now view nodes.now →
         out.new.items ≡ out.old.items ++ calls_bytes t start (map_forest view (nested depth_of 0 nodes.now))) }
     ensures memory { IsOkUnless result LayoutError.OutOfMemory }

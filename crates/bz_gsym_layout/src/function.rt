@@ -1,13 +1,13 @@
 //! What stands at a function's data place: its size, its name, and its entries.
 
-ghost use Rattle.std.specs.Prelude.{◌≡◌, ◌<◌, ◌-◌, ◌^◌, ◌++◌, ◌∷◌, ℕ, List, length, IfOk, IsOkUnless, OnOk};
+ghost use Rattle.std.specs.Prelude.{◌≡◌, ◌++◌, ℕ, List, length, IsOkUnless, OnOk};
 ghost use Rattle.bz_gsym.specs.Entries.{entry_head_len};
 ghost use Rattle.bz_gsym_layout.specs.Indexed.{IsFunction};
 ghost use Rattle.bz_gsym_layout.specs.InOrder.{NeverBefore};
 ghost use Rattle.bz_gsym_layout.specs.Layout.{Tables, code_bytes, entry_bytes, inline_entry, line_entry, zeros};
 ghost use Rattle.bz_gsym_layout.specs.Plan.{Code, Line};
 ghost use Rattle.bz_gsym_layout.specs.Pass.{IsCodeOf};
-ghost use Rattle.bz_gsym_layout.specs.RowPass.{AreRowsOf, AreSourced};
+ghost use Rattle.bz_gsym_layout.specs.RowPass.{AreRowsOf};
 ghost use Rattle.bz_gsym_layout.specs.declared.error.LayoutError.{LayoutError};
 
 use crate::calls::{NodeNumbers, push_calls, push_numbers};
@@ -57,8 +57,7 @@ fn push_end(out: &mut Vec<u8>) -> Result<()>
 
 /// Writes the line table of a function that starts there, if it has rows.
 fn push_line_entry(alloc: Global, out: &mut Vec<u8>, start: u64, rows: &[Row]) -> Result<()>
-    requires ascend { NeverBefore start rows.now }
-    requires sourced { AreSourced (2 ^ 64 - 1) rows.now }
+    requires { NeverBefore start rows.now }
     ensures ok { OnOk result ((t : Tables) (lines : List (ℕ × Line)) → AreRowsOf t lines rows.now → out.new.items ≡ out.old.items ++ line_entry t start lines) }
     ensures memory { IsOkUnless result LayoutError.OutOfMemory }
 {
@@ -77,7 +76,7 @@ fn push_inline_entry(
     function: &Function,
     places: &[u64],
 ) -> Result<()>
-    requires { IsFunction (length places.now) (2 ^ 64 - 1) function.now }
+    requires { (sources : ℕ) × IsFunction (length places.now) sources function.now }
     ensures ok { OnOk result ((t : Tables) (c : Code) → IsCodeOf t places.now c function.now → out.new.items ≡ out.old.items ++ inline_entry t c c.calls) }
     ensures memory { IsOkUnless result LayoutError.OutOfMemory }
 {
@@ -104,7 +103,7 @@ pub(crate) fn push_function(
     function: &Function,
     places: &[u64],
 ) -> Result<()>
-    requires { IsFunction (length places.now) (2 ^ 64 - 1) function.now }
+    requires { (sources : ℕ) × IsFunction (length places.now) sources function.now }
     ensures ok { OnOk result ((t : Tables) (c : Code) → IsCodeOf t places.now c function.now → out.new.items ≡ out.old.items ++ code_bytes t c) }
     ensures memory { IsOkUnless result LayoutError.OutOfMemory }
 {

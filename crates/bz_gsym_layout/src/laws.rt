@@ -22,8 +22,9 @@ pub fn numbers_are_read()
     ensures negative { (below : ℕ) (rest : List ℕ) → below < 2 ^ 63 → sleb_at (sleb (negsuc below) ++ rest) ≡ Some (negsuc below, rest) }
 {}
 
-/// The bytes of functions that can be laid out are a GSYM file, whose plain answer at each address is
-/// that of the functions. Each inline entry has a tree.
+/// Where 32 bits count the bytes of functions that can be laid out, their plain answer at each
+/// address is that of the functions, and each inline entry has a tree. Where the starts ascend too,
+/// they are a GSYM file.
 pub fn layouts_answer_as_planned()
     ensures format { (codes : List Code) → AllByRecursion IsLayable codes → StartsAscend codes → length (layout codes) < 2 ^ 32 → IsGsym (layout codes) }
     ensures answers { (codes : List Code) → AllByRecursion IsLayable codes → length (layout codes) < 2 ^ 32 → (addr : ℕ) →

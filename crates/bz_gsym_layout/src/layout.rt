@@ -1,6 +1,6 @@
 //! The bytes of a file that is laid out from a plan.
 
-ghost use Rattle.std.specs.Prelude.{◌≡◌, ◌≤◌, ◌<◌, ◌+◌, ◌-◌, ◌^◌, ◌++◌, ◌∷◌, ℕ, List, drop, flat_map, length, map, IfErr, IfOk, IsOkUnless, OnOk};
+ghost use Rattle.std.specs.Prelude.{◌≡◌, ◌≤◌, ◌<◌, ◌+◌, ◌^◌, ◌++◌, ℕ, drop, flat_map, length, map, IfErr, IfOk, IsOkUnless, OnOk};
 ghost use Rattle.bz_gsym_layout.specs.Indexed.{AreFunctions, IsPlan, codes_of, tables_listed, texts_listed};
 ghost use Rattle.bz_gsym_layout.specs.Layout.{Tables, data_bytes, data_places, layout, strings_place};
 ghost use Rattle.bz_gsym_layout.specs.Numbering.{stored};
@@ -40,7 +40,7 @@ fn push_data(
     functions: &[Function],
     texts: &[u64],
 ) -> Result<Vec<u64>>
-    requires { AreFunctions (length texts.now) (2 ^ 64 - 1) functions.now }
+    requires { (sources : ℕ) × AreFunctions (length texts.now) sources functions.now }
     ensures ok { OnOk result ((t : Tables) (view : Function → Code) → AreCodesOf t texts.now view functions.now →
         out.new.items ≡ out.old.items ++ data_bytes t (length out.old.items) (map view functions.now)) }
     ensures places { IfOk result (λ places. (t : Tables) (view : Function → Code) → AreCodesOf t texts.now view functions.now →
@@ -108,8 +108,9 @@ fn put_front(out: &mut Vec<u8>, front: &[u8])
     overwrite(out, front);
 }
 
-/// The bytes of a GSYM file of version 1 that a plan is laid out in. TooLarge: they would be more than
-/// 32 bits count. OutOfMemory: memory ran out, or they would be more than 64 bits count.
+/// The bytes that a plan is laid out in. Where its functions ascend and its numbers and texts fit
+/// the format, they are a GSYM file of version 1. TooLarge: they would be more than 32 bits count.
+/// OutOfMemory: memory ran out, or they would be more than 64 bits count.
 pub fn write(alloc: Global, plan: &Plan<'_>) -> Result<Vec<u8>>
     requires { IsPlan plan.now }
     ensures ok { IfOk result (λ bytes. (bytes.items ≡ layout (codes_of plan.now)) × (length bytes.items < 2 ^ 32)) }

@@ -1,12 +1,12 @@
 //! The operators of a line table.
 
-ghost use Rattle.std.specs.Prelude.{◌≡◌, ◌≤◌, ◌<◌, ◌^◌, ◌+◌, ◌-◌, ◌-ℤ◌, ◌++◌, ◌∷◌, ℕ, pos, List, IsOkUnless, OnOk};
+ghost use Rattle.std.specs.Prelude.{◌≡◌, ◌≤◌, ◌+◌, ◌-ℤ◌, ◌++◌, ℕ, pos, List, IsOkUnless, OnOk};
 ghost use Rattle.bz_gsym_layout.specs.declared.error.LayoutError.{LayoutError};
 ghost use Rattle.bz_gsym_layout.specs.InOrder.{NeverBefore};
 ghost use Rattle.bz_gsym_layout.specs.Layout.{Tables, line_table_bytes, row_numbers, rows_bytes};
 ghost use Rattle.bz_gsym_layout.specs.Leb.{sleb};
 ghost use Rattle.bz_gsym_layout.specs.Plan.{Line};
-ghost use Rattle.bz_gsym_layout.specs.RowPass.{AreRowsOf, AreSourced};
+ghost use Rattle.bz_gsym_layout.specs.RowPass.{AreRowsOf};
 
 use crate::error::Result;
 use crate::format::{FIRST_LINE, MAX_DELTA, MIN_DELTA};
@@ -28,8 +28,7 @@ fn push_delta(out: &mut Vec<u8>, from: u32, to: u32) -> Result<()>
 
 /// Writes a row, by the address and the line before it.
 fn push_row(out: &mut Vec<u8>, addr: u64, line: u32, row: &Row) -> Result<()>
-    requires low { addr ≤ row.now.addr }
-    requires sourced { row.now.source < 2 ^ 64 - 1 }
+    requires { addr ≤ row.now.addr }
     ensures ok { OnOk result (out.new.items ≡ out.old.items ++ row_numbers addr line row.now.addr (row.now.source + 1) row.now.line) }
     ensures memory { IsOkUnless result LayoutError.OutOfMemory }
 {
@@ -44,8 +43,7 @@ fn push_row(out: &mut Vec<u8>, addr: u64, line: u32, row: &Row) -> Result<()>
 
 /// Writes the rows of a function that starts there, and the end.
 fn push_rows(out: &mut Vec<u8>, start: u64, rows: &[Row]) -> Result<()>
-    requires ascend { NeverBefore start rows.now }
-    requires sourced { AreSourced (2 ^ 64 - 1) rows.now }
+    requires { NeverBefore start rows.now }
     ensures ok { OnOk result ((t : Tables) (lines : List (ℕ × Line)) → AreRowsOf t lines rows.now → out.new.items ≡ out.old.items ++ rows_bytes t start 0 lines) }
     ensures memory { IsOkUnless result LayoutError.OutOfMemory }
 {
@@ -62,8 +60,7 @@ fn push_rows(out: &mut Vec<u8>, start: u64, rows: &[Row]) -> Result<()>
 
 /// Writes the line table of a function that starts there: a header of zeros, the rows, and the end.
 pub(crate) fn push_line_table(out: &mut Vec<u8>, start: u64, rows: &[Row]) -> Result<()>
-    requires ascend { NeverBefore start rows.now }
-    requires sourced { AreSourced (2 ^ 64 - 1) rows.now }
+    requires { NeverBefore start rows.now }
     ensures ok { OnOk result ((t : Tables) (lines : List (ℕ × Line)) → AreRowsOf t lines rows.now → out.new.items ≡ out.old.items ++ line_table_bytes t start lines) }
     ensures memory { IsOkUnless result LayoutError.OutOfMemory }
 {

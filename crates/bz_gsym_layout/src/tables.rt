@@ -26,7 +26,8 @@ pub(crate) const TEXT_END: u8 = 0;
 /// How many bytes a function has in the tables: its start and its data place.
 const SYMBOL_LEN: u64 = ADDR_OFF_SIZE as u64 + DATA_PLACE_LEN as u64;
 
-/// How many bytes the head has, the count of source files, and the first of these, which is none.
+/// How many bytes the head, the count of source files, and the entry of file 0, which is none, have
+/// together.
 const FIXED_LEN: u64 = (HEADER_LEN + FILE_COUNT_LEN + FILE_ENTRY_LEN) as u64;
 
 /// Where texts lie in the string table, and how many bytes that has.
@@ -36,7 +37,8 @@ pub(crate) struct TextPlaces {
     pub end: u64,
 }
 
-/// Where texts lie that a zero byte each ends, behind the one that the string table begins with.
+/// Where each text lies in the string table. This begins with a zero byte, and a zero byte ends
+/// each text.
 pub(crate) fn place_texts(alloc: Global, texts: &[&str]) -> Result<TextPlaces>
     ensures places { IfOk result (λ found. found.places.items ≡ text_places 1 (map (λ text. text.now) texts.now)) }
     ensures end { IfOk result (λ found. found.end ≡ 1 + length (flat_map stored (map (λ text. text.now) texts.now))) }

@@ -11,8 +11,7 @@ pub(crate) fn push_short(out: &mut Vec<u8>, number: u16) -> Result<()>
     ensures ok { OnOk result (out.new.items ≡ out.old.items ++ word 2 number) }
     ensures memory { IsOkUnless result LayoutError.OutOfMemory }
 {
-    out.push((number % 256) as u8)?;
-    out.push((number / 256 % 256) as u8)?;
+    out.extend_from_slice(&number.to_le_bytes())?;
     Ok(())
 }
 
@@ -21,7 +20,8 @@ pub(crate) fn push_word(out: &mut Vec<u8>, number: u32) -> Result<()>
     ensures ok { OnOk result (out.new.items ≡ out.old.items ++ word 4 number) }
     ensures memory { IsOkUnless result LayoutError.OutOfMemory }
 {
-    push_low_word(out, u64::from(number))
+    out.extend_from_slice(&number.to_le_bytes())?;
+    Ok(())
 }
 
 /// Writes the low 32 bits of a number in four bytes, and drops the rest. A place, a length or a count
@@ -30,11 +30,7 @@ pub(crate) fn push_low_word(out: &mut Vec<u8>, number: u64) -> Result<()>
     ensures ok { OnOk result (out.new.items ≡ out.old.items ++ word 4 number) }
     ensures memory { IsOkUnless result LayoutError.OutOfMemory }
 {
-    out.push((number % 256) as u8)?;
-    out.push((number / 256 % 256) as u8)?;
-    out.push((number / 65536 % 256) as u8)?;
-    out.push((number / 16777216 % 256) as u8)?;
-    Ok(())
+    push_word(out, (number % 4294967296) as u32)
 }
 
 /// Writes a number in eight bytes.
@@ -42,8 +38,8 @@ pub(crate) fn push_long(out: &mut Vec<u8>, number: u64) -> Result<()>
     ensures ok { OnOk result (out.new.items ≡ out.old.items ++ word 8 number) }
     ensures memory { IsOkUnless result LayoutError.OutOfMemory }
 {
-    push_low_word(out, number)?;
-    push_low_word(out, number / 4294967296)
+    out.extend_from_slice(&number.to_le_bytes())?;
+    Ok(())
 }
 
 /// Writes so many zero bytes.

@@ -30,10 +30,7 @@ fn checked_text(bytes: &[u8]) -> Option<&str>
     ensures { option_map (λ text. text.now) result ≡ string_at bytes.now 0 }
 {
     let text = text_before_zero(bytes)?;
-    match std::str::from_utf8(text) {
-        Ok(text) => Some(text),
-        Err(_) => None,
-    }
+    std::str::from_utf8(text).ok()
 }
 
 /// The test of the bytes of a text in ASCII.

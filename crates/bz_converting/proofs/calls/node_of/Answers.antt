@@ -1,6 +1,8 @@
 use Rattle.std.proofs.Common.{[], ◌∷◌, ◌++◌, refl}
 use Rattle.bz_breakpad.specs.Lent.{kept_inlinee}
-use Rattle.bz_converting.specs.Numbered.{listed_texts, origin_named, parts_of, source_named}
+use Rattle.bz_convert.specs.Plan.{origin_named, source_named}
+use Rattle.bz_converting.specs.Numbered.{listed_texts}
+use Rattle.bz_gsym_layout.specs.Numbering.{source_texts}
 use Rattle.bz_converting.proofs.ListedLemmas.{grown_at}
 use Rattle.bz_converting.proofs.NumberingLemmas.{call_numbered, listed_grow, texts_alone}
 use Rattle.bz_converting.proofs.calls.node_of.Goals as goal
@@ -22,7 +24,7 @@ returns-clause-node c table read has =
     let before = texts ++ name ∷ [] in
     let named = texts_alone table (name ∷ []) c.args.numbering.now c.origin_text.new.self (c.in_ok-name.ensures.numbering table read) texts sources has.2 in
     let both = c.in_ok-source.ensures.numbering table read before sources named in
-    let grows = listed_grow before sources c.origin_text.new.self named.numbered (parts_of s) (s ∷ []) c.file_source.new.self both.numbered in
+    let grows = listed_grow before sources c.origin_text.new.self named.numbered (source_texts s) (s ∷ []) c.file_source.new.self both.numbered in
     record {
       depth = refl;
       start = refl;

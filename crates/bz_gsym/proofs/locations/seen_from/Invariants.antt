@@ -9,13 +9,9 @@ use Rattle.bz_gsym.specs.Seen.{frame_seen}
 use Rattle.bz_gsym.proofs.locations.seen_from.Given as goal
 
 -- the site and the calls so far are what is seen from outside the calls that were taken, of which the innermost came first
-abbrev pub invariant-loop-left : goal.invariant-loop-left
-invariant-loop-left l = record {
-  within : l.left ≤ length l.calls;
-  seen : seen_from l.context l.fn.row (map frame_seen (drop l.left l.calls)) ≡ Some (line_seen l.site, reverse (map call_of l.inlined.items));
+abbrev pub invariant-loop-index : goal.invariant-loop-index
+invariant-loop-index l = record {
+  within : l.index ≤ length l.calls;
+  seen : seen_from l.context l.fn.row (map frame_seen (drop l.index l.calls)) ≡ Some (line_seen l.site, reverse (map call_of l.inlined.items));
   calls : AllByRecursion IsLentCall l.inlined.items;
 }
-
--- what is left
-abbrev pub decreases-loop-left : goal.decreases-loop-left
-decreases-loop-left l = l.left

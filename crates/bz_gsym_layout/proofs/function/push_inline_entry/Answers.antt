@@ -18,7 +18,7 @@ returns-clause-ok c =
     let root = c.push_numbers.new.out.items in
     let same : c.deref.result.now ≡ f.calls.items = c.deref.ensures.value in
     let some : 0 < length f.calls.items = omega (arith, eqb-false _ _ (sym c.if-is_empty.ensures)) in
-    tree_written t places code f is c.requires.order some old c.push_entry.new.out.items root c.push_calls.new.out.items
+    tree_written t places code f is c.requires.1.order some old c.push_entry.new.out.items root c.push_calls.new.out.items
     (c.in_ok-push_numbers.ensures.ok ∙ ap (λ l. l ++ numbers_bytes 0 c.from.result (place_at places f.name) 1 0 0) c.in_ok-text.ensures.items
     ∙ ap (λ n. numbers_bytes 0 n (place_at places f.name) 1 0 0) c.from.ensures)
     (c.in_ok-push_calls.ensures.ok t is.view (subst (AreNodesOf t places is.view) (sym same) is.nodes)

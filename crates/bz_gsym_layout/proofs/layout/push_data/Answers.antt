@@ -17,7 +17,7 @@ push_function-requires c =
     let i = s.function-index in
     let x = c.function-item.result in
     let y = slice_index_or fs i x in
-    subst (IsFunction (length c.args.texts.now) 18446744073709551615) (sym c.function-item.is) (c.requires i y (slice_get-get_or fs i x c.loop-function-test.true))
+    (c.requires.0, subst (IsFunction (length c.args.texts.now) c.requires.0) (sym c.function-item.is) (c.requires.1 i y (slice_get-get_or fs i x c.loop-function-test.true)))
 
 pub loop-function-preserved : goal.loop-function-preserved
 loop-function-preserved c =

@@ -1,4 +1,4 @@
-use Rattle.std.proofs.Common.{◌≡◌, ◌≤◌, ◌+◌, ◌++◌, ◌∙◌, drop, flat_map, length, map, ap, sym, arith}
+use Rattle.std.proofs.Common.{◌≡◌, ◌+◌, ◌++◌, ◌∙◌, drop, flat_map, length, map, ap, sym, arith}
 use Rattle.std.proofs.lemmas.List.{length-append}
 use Rattle.bz_gsym_layout.specs.Indexed.{codes_of, tables_listed, texts_listed}
 use Rattle.bz_gsym_layout.specs.Layout.{data_bytes, data_places, layout}
@@ -11,8 +11,7 @@ pub push_data-requires : goal.push_data-requires
 push_data-requires c =
     let plan = c.args.plan.now in
     let found : c.in_ok-texts.texts.places.items ≡ text_places 1 (texts_listed plan) = c.in_ok-texts.ensures.places ∙ ap (λ l. text_places 1 (map (λ text. text.now) l)) c.deref.ensures.value in
-    let few : length plan.sources.items ≤ 18446744073709551615 = omega (arith, plan.sources.ok.0, plan.sources.ok.1, plan.sources.small) in
-    within plan c.requires c.deref-3.result.now c.deref-4.result.now c.deref-3.ensures.value (c.deref-4.ensures.value ∙ found) 18446744073709551615 few
+    (length plan.sources.items, within plan c.requires c.deref-3.result.now c.deref-4.result.now c.deref-3.ensures.value (c.deref-4.ensures.value ∙ found))
 
 pub returns-then-len-clause-refusal : goal.returns-then-len-clause-refusal
 returns-then-len-clause-refusal c =

@@ -8,7 +8,7 @@ abbrev no_row : Row
 no_row = record { addr = 0; source = 0; line = 0 }
 
 pub loop-row-init : goal.loop-row-init
-loop-row-init c = record { low = c.requires.ascend; left = λ t lines are. record { lines = lines; are = are; all = refl } }
+loop-row-init c = record { low = c.requires; left = λ t lines are. record { lines = lines; are = are; all = refl } }
 
 pub loop-row-preserved : goal.loop-row-preserved
 loop-row-preserved c =

@@ -1,7 +1,8 @@
 use Rattle.std.proofs.Common.{Some, [], ◌∷◌, ◌++◌, ap, refl, subst, sym, ◌∙◌}
 use Rattle.std.specs.List.{slice_get}
 use Rattle.std.specs.Vec.{with_items}
-use Rattle.bz_converting.specs.Numbered.{IsNumbering, IsRemembered, listed_sources, source_named}
+use Rattle.bz_convert.specs.Plan.{source_named}
+use Rattle.bz_converting.specs.Numbered.{IsNumbering, IsRemembered, listed_sources}
 use Rattle.bz_converting.specs.declared.numbering.Numbering.{Numbering}
 use Rattle.bz_converting.proofs.NumberingLemmas.{file_again, file_known, remembers_all}
 use Rattle.bz_gsym_layout.specs.Plan.{Source}

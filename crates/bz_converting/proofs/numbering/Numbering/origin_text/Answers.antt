@@ -1,7 +1,8 @@
 use Rattle.std.proofs.Common.{ℕ, List, Some, [], ◌∷◌, ◌++◌, ap, refl, subst, sym, ◌∙◌}
 use Rattle.std.specs.List.{slice_get}
 use Rattle.std.specs.Vec.{with_items}
-use Rattle.bz_converting.specs.Numbered.{IsNumbering, IsRemembered, listed_texts, origin_named}
+use Rattle.bz_convert.specs.Plan.{origin_named}
+use Rattle.bz_converting.specs.Numbered.{IsNumbering, IsRemembered, listed_texts}
 use Rattle.bz_converting.specs.declared.numbering.Numbering.{Numbering}
 use Rattle.bz_converting.proofs.NumberingLemmas.{no_source_more, origin_again, origin_known, remembers_all}
 use Rattle.bz_converting.proofs.numbering.Numbering.origin_text.Goals as goal
