@@ -8,13 +8,14 @@ use Rattle.bz_base.specs.declared.error.Error.TheVariants as errors
 use Rattle.bz_base.specs.ZeroEnded.{IsString}
 use Rattle.bz_base.specs.Little.{number_at}
 use Rattle.bz_cache.specs.Format.{GivesOrFaults, FailsAs, IsRefusalBy}
+use Rattle.bz_cache.specs.View.{by_format}
 use Rattle.bz_files.specs.World.{Entry, Present}
 use Rattle.bz_files.specs.declared.stamp.Stamp.{Stamp}
 use Rattle.bz_elf.specs.Checks.{pn_xnum, has_head, has_names, has_program_headers, has_sections, has_strings, has_symbols, if_there, is_elf, is_supported, is_symbol_table, is_there, section_lies}
 use Rattle.bz_elf.specs.Format.{checks, format_test}
 use Rattle.bz_elf.specs.Head.{elfmag, ei_class, elfclass64, ei_data, elfdata2lsb, identity_len, head_len, program_place, program_size, program_count, section_place, section_size, section_count}
 use Rattle.bz_elf.specs.Profile.{HasEntries, HaveProgramHeaders, HaveSections, IsElf, SectionLies}
-use Rattle.bz_elf.specs.Resolver.{Resolver, opened, unless_refused}
+use Rattle.bz_elf.specs.Resolver.{Resolver, opened}
 use Rattle.bz_elf.specs.Sections.{section_header_len, string_table, strings, symbol_table}
 use Rattle.bz_elf.specs.Segments.{program_header_len}
 use Rattle.bz_elf.specs.Symbols.{entries, is_named, symbol_len}
@@ -168,7 +169,7 @@ module _ (bytes : List ℕ) where
       all_pass (is_named (strings bytes)) (entries bytes)
       (λ index symbol there. let name = has index symbol there in (found (strings bytes) symbol.name name.0 name.1).0)
 
-  -- what is refused by no check is a file of the profile
+  -- what is refused by no check is an ELF file by the relation
   pub profile : format_test bytes ≡ None → IsElf bytes
   profile none =
       let pass = each_passes bytes checks none in
@@ -200,17 +201,17 @@ module _ (bytes : List ℕ) where
       )
       refl
 
--- a file that lies there is opened where it is one of the profile, and else refused
+-- a file that lies there is opened where it is taken as an ELF file, and else refused
 module _ (bytes read : List ℕ) (stamp : Stamp) (there : Option Entry) (is : there ≡ Some (Present stamp bytes)) (same : read ≡ bytes) where
-  opened_by : opened there ≡ unless_refused read (format_test read)
+  opened_by : opened there ≡ by_format read (format_test read)
   opened_by = ap opened (is ∙ ap (λ (b : List ℕ). Some (Present stamp b)) (sym same))
 
-  fails : (given : Option Error) (e : Error) → IsRefusalBy given e → FailsAs (unless_refused read given) e
+  fails : (given : Option Error) (e : Error) → IsRefusalBy given e → FailsAs (by_format read given) e
   fails given errors.OutOfMemory by = tt
   fails given errors.ReadFault by = tt
-  fails given e by = ap (unless_refused read) by
+  fails given e by = ap (by_format read) by
 
   pub opens : (path : List ℕ) (r : Result Resolver Error) → IfOk r (λ x. x ≡ record { bytes = read; path = path }) → IfOk r (λ x. IsElf read) →
       IfErr r (IsRefusalBy (format_test read)) → GivesOrFaults (λ (x : Resolver). x.bytes) (opened there) r
-  opens path (Ok x) holds formed refused = opened_by ∙ ap (unless_refused read) (taken read formed) ∙ ap (λ (y : Resolver). Ok y.bytes) (sym holds)
+  opens path (Ok x) holds formed refused = opened_by ∙ ap (by_format read) (taken read formed) ∙ ap (λ (y : Resolver). Ok y.bytes) (sym holds)
   opens path (Err e) holds formed refused = subst (λ (r : Result (List ℕ) Error). FailsAs r e) (sym opened_by) (fails (format_test read) e refused)

@@ -9,11 +9,11 @@ use Rattle.bz_elf.specs.Segments.{program_header_len}
 use Rattle.bz_elf.specs.Symbols.{entries, is_named, symbol_len}
 use Rattle.bz_elf.specs.declared.types.Section.{Section}
 
--- the bytes are those of an ELF file: they reach as far as what says so, and begin with its number
+-- the bytes begin as an ELF file: they hold magic number, class and order of bytes, and the magic number is ELF's
 unfoldable pub is_elf : List ℕ → Bool
 is_elf bytes = nat_le identity_len (length bytes) && number_at 4 bytes 0 == elfmag
 
--- it has 64 bits, and the least byte of each number first
+-- it is of 64 bits and little-endian
 unfoldable pub is_supported : List ℕ → Bool
 is_supported bytes = number_at 1 bytes ei_class == elfclass64 && number_at 1 bytes ei_data == elfdata2lsb
 

@@ -1,4 +1,4 @@
--- Which bytes are ELF files of the profile, and how other bytes are refused: by the first check that they fail.
+-- Which bytes are taken as ELF files, and how other bytes are refused: by the first check that they fail.
 use Rattle.std.specs.Prelude.{◌≡◌, ℕ, ◌<◌, Bool, true, false, if◌then◌else◌, List, [], ◌∷◌, Option, Some, None, slice_get}
 use Rattle.bz_base.specs.declared.error.Error.{Error}
 use Rattle.bz_base.specs.declared.error.Error.TheVariants as errors
@@ -30,7 +30,7 @@ abbrev pub first_refusal : List Check → List ℕ → Option Error
 first_refusal [] bytes = None
 first_refusal (check ∷ later) bytes = if check.test bytes then first_refusal later bytes else Some check.refusal
 
--- which refusal the bytes give; none where they are an ELF file of the profile
+-- which refusal the bytes give; none where they are taken as an ELF file
 abbrev pub format_test : List ℕ → Option Error
 format_test bytes = first_refusal checks bytes
 

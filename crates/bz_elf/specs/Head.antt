@@ -1,4 +1,4 @@
--- The head of an ELF file of 64 bits with the least byte first: Elf64_Ehdr of the System V gABI, chapter 4.
+-- The head of a little-endian ELF file of 64 bits: Elf64_Ehdr of the System V gABI, chapter 4.
 use Rattle.std.specs.Prelude.{ℕ, List}
 use Rattle.bz_base.specs.Little.{number_at}
 
@@ -13,7 +13,7 @@ ei_class = 4
 abbrev pub elfclass64 : ℕ
 elfclass64 = 2
 
--- the place of the order of bytes, and the order whose first byte is the least
+-- the place of the order of bytes, and the order of little-endian files
 abbrev pub ei_data : ℕ
 ei_data = 5
 

@@ -32,7 +32,7 @@ pub record IsSymbolTable (bytes : List ℕ) (table : SymbolTable) : Type 0 where
   pub places_are : places_of (symbol_table bytes) ≡ places table.offset symbol_len table.count
   pub strings_are : AreStrings bytes table.strings
 
--- the bytes are an ELF file; its strings lie in the part, its symbols that count stand in the order of start and size, and
+-- the bytes are an ELF file, and its strings lie in the part. The symbols that count stand in the order of start and size, and
 -- the load segments in that of the file
 pub record IsKept (bytes : List ℕ) (kept : KeptFile) : Type 0 where
   pub formed : format_test bytes ≡ None

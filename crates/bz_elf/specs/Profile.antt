@@ -1,4 +1,4 @@
--- Which bytes are ELF files of the profile, as a relation.
+-- Which bytes are taken as ELF files, as a relation.
 use Rattle.std.specs.Prelude.{◌≡◌, ◌≢◌, ◌⊎◌, ℕ, ◌+◌, ◌*◌, ◌%◌, ◌≤◌, List, length, Some, slice_get}
 use Rattle.bz_base.specs.ZeroEnded.{IsString}
 use Rattle.bz_base.specs.Little.{number_at}
@@ -31,7 +31,7 @@ pub record HasEntries (bytes : List ℕ) (table : Section) : Type 0 where
   pub entry_size : table.entry_size ≡ symbol_len
   pub whole : table.size % symbol_len ≡ 0
 
--- the bytes are an ELF file of 64 bits with the least byte first. Its program headers, section headers and symbol table lie in
+-- the bytes are a little-endian ELF file of 64 bits. Its program headers, section headers and symbol table lie in
 -- the bytes, where there are any, and so do its strings. Each symbol that counts has a name there
 pub record IsElf (bytes : List ℕ) : Type 0 where
   pub identity : identity_len ≤ length bytes

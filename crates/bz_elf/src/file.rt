@@ -42,8 +42,9 @@ impl Model for ElfFile {
 }
 
 impl ElfFile {
-    /// Takes the bytes of an ELF file. Unsupported: the file hasn't 64 bits, or the greatest byte of
-    /// its numbers is first. InvalidData: the bytes aren't a file of the profile.
+    /// Takes the bytes of an ELF file. Unsupported: the file isn't of 64 bits and little-endian.
+    /// InvalidData: the bytes don't begin as an ELF file's. Or its headers, its symbol table or a
+    /// function's name don't lie in them as the format says.
     pub fn from_bytes(alloc: Global, bytes: Vec<u8>) -> Result<ElfFile>
         ensures ok { IfOk result (λ file. file ≡ bytes.items) }
         ensures accepted { IfOk result (λ file. IsElf bytes.items) }
@@ -117,6 +118,7 @@ impl Symbolize for ElfFile {
     ) -> Result<std::result::Result<ResolvedSym<'_>, Reason>>
         ensures answer { MayGive found_of (λ answer. answer ≡ Ok (plain None self.now addr)) result }
         ensures starts { IfOk result (λ found. StartsBefore addr (found_of found)) }
+        ensures lent { IfOk result (λ found. IfOk found IsLentResolved) }
         ensures refusal { IfErr result MayRefuse }
         ensures exact { answer_seen result ≡ Ok (plain None self.now addr) }
     {

@@ -1,6 +1,7 @@
 //! What answers addresses by an ELF file.
 
 ghost use Rattle.std.specs.Prelude.{◌≡◌, None, Some, Ok, false, IfOk, IfErr, OnOk};
+ghost use Rattle.bz_base.specs.Lent.{IsLentResolved};
 ghost use Rattle.bz_base.specs.Refusals.{IsFormatRefusal, MayRefuse};
 ghost use Rattle.bz_base.specs.Resolution.{MayGive, StartsBefore, answer_seen, found_of};
 ghost use Rattle.bz_cache.specs.Format.{GivesOrFaults, IsRefusalBy, MayFail};
@@ -54,9 +55,8 @@ impl ElfResolver {
         ElfResolver::from_bytes(alloc, path, bytes)
     }
 
-    /// Takes the bytes of a file. The path names the module, and isn't looked at. Unsupported: the file
-    /// hasn't 64 bits, or the greatest byte of its numbers is first. InvalidData: the bytes aren't a file
-    /// of the profile.
+    /// Takes the bytes of a file. The path names the module, and isn't looked at. Unsupported and
+    /// InvalidData: as `ElfFile::from_bytes` refuses them.
     pub fn from_bytes(alloc: Global, path: &str, bytes: Vec<u8>) -> Result<ElfResolver>
         ensures ok { IfOk result (λ r. r ≡ record { bytes = bytes.items; path = path.now }) }
         ensures accepted { IfOk result (λ r. IsElf bytes.items) }
@@ -87,6 +87,7 @@ impl Symbolize for ElfResolver {
     ) -> Result<std::result::Result<ResolvedSym<'_>, Reason>>
         ensures answer { MayGive found_of (λ answer. answer ≡ Ok (plain (Some self.now.path) self.now.bytes addr)) result }
         ensures starts { IfOk result (λ found. StartsBefore addr (found_of found)) }
+        ensures lent { IfOk result (λ found. IfOk found IsLentResolved) }
         ensures refusal { IfErr result MayRefuse }
         ensures exact { answer_seen result ≡ Ok (plain (Some self.now.path) self.now.bytes addr) }
     {

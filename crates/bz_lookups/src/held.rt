@@ -83,7 +83,7 @@ impl<'d> Held<'d> {
         addrs: &[u64],
         steps: &mut Steps<L>,
     ) -> Result<Vec<FoundRecord>>
-        ensures found { IfOk result (λ records. AreFoundIn self.now addrs.now records.items) }
+        ensures found { IfOk result (λ records. AreFoundIn (version_of self.now) addrs.now records.items) }
         ensures steps { VersionSteps (version_of self.now) (length addrs.now) steps.old steps.new }
         ensures memory { IsOkUnless result Error.OutOfMemory }
     {
@@ -95,7 +95,7 @@ impl<'d> Held<'d> {
 
     /// The same records, with no count of the steps.
     pub(crate) fn find_uncounted(&self, alloc: Global, addrs: &[u64]) -> Result<Vec<FoundRecord>>
-        ensures found { IfOk result (λ records. AreFoundIn self.now addrs.now records.items) }
+        ensures found { IfOk result (λ records. AreFoundIn (version_of self.now) addrs.now records.items) }
         ensures memory { IsOkUnless result Error.OutOfMemory }
     {
         self.find_blank::<Brand>(alloc, addrs, Blank::new(1))
@@ -111,7 +111,7 @@ impl<'d> Held<'d> {
         requires name { blank.name ≡ L.name }
         requires parts { blank.parts ≡ L.parts }
         requires some { 0 < L.parts }
-        ensures found { IfOk result (λ records. AreFoundIn self.now addrs.now records.items) }
+        ensures found { IfOk result (λ records. AreFoundIn (version_of self.now) addrs.now records.items) }
         ensures memory { IsOkUnless result Error.OutOfMemory }
     {
         let mut steps = Steps::<L>::new(blank);
@@ -127,7 +127,7 @@ impl<'d> Held<'d> {
         addr: Addr,
         found: FoundRecord,
     ) -> Result<Symbolized<'_>>
-        requires { IsFoundIn self.now addr found }
+        requires { IsFoundIn (version_of self.now) addr found }
         ensures answer { Gives reading (single_by (version_of self.now) opts.now addr) result }
         ensures lent { IfOk result IsLent }
         ensures refusal { IfErr result MayRefuse }
@@ -150,7 +150,7 @@ impl<'d> Held<'d> {
         addrs: &[Addr],
         records: &[FoundRecord],
     ) -> Result<Vec<Symbolized<'_>>>
-        requires found { AreFoundIn self.now addrs.now records.now }
+        requires found { AreFoundIn (version_of self.now) addrs.now records.now }
         ensures answers { IfOk result (λ answers. map reading answers.items ≡ map (λ addr. entry_by (version_of self.now) opts.now addr) addrs.now) }
         ensures lent { IfOk result (λ answers. AllByRecursion IsLent answers.items) }
         ensures memory { IsOkUnless result Error.OutOfMemory }
@@ -171,7 +171,7 @@ impl<'d> Held<'d> {
         addrs: &[Addr],
         records: &[FoundRecord],
     ) -> Result<Vec<Symbolized<'_>>>
-        requires found { AreFoundIn self.now addrs.now records.now }
+        requires found { AreFoundIn (version_of self.now) addrs.now records.now }
         ensures answers { IfOk result (λ answers. map reading answers.items ≡ map (λ addr. entry_by (version_of self.now) opts.now addr) addrs.now) }
         ensures lent { IfOk result (λ answers. AllByRecursion IsLent answers.items) }
         ensures memory { IsOkUnless result Error.OutOfMemory }

@@ -8,7 +8,7 @@ ghost use Rattle.bz_base.specs.Refusals.{MayRefuse, WantsMemory};
 ghost use Rattle.bz_base.specs.declared.error.Error.{Error};
 ghost use Rattle.bz_lookups.specs.Batch.{MayWantMemory, answer_at, answers_there, answers_to, batch_by, heeds_order, single_by, version_of};
 ghost use Rattle.bz_lookups.specs.Counted.{VersionSteps};
-ghost use Rattle.bz_lookups.specs.Found.{AreFoundIn};
+ghost use Rattle.bz_lookups.specs.Found.{AreFoundIn, IsFoundIn};
 
 use crate::held::{Held, record_at};
 use bz_base::{Addr, FindSymOpts, Result, Steps, Symbolized, in_batch};
@@ -17,10 +17,11 @@ use std::alloc::Global;
 use std::marker::Model;
 use std::sync::ledger::Ledger;
 
-/// Addresses whose source was looked at, and which were searched for in it. Their answers are made one
-/// by one or some at a time, without a search. They lend their texts from the version that the look gave.
-/// It stays as long as this does, whatever becomes of the file and of the symbolizer. Contracts see the
-/// addresses, the version, and its answers.
+/// Addresses whose source was looked at. Their answers are made one by one or some at a time. In a
+/// Breakpad file the addresses were searched for already. GSYM and ELF are searched as each answer
+/// is made. Answers lend their texts from the version that the look gave. It stays as long as this
+/// does, whatever becomes of the file and of the symbolizer. Contracts see the addresses, the
+/// version, and its answers.
 #[derive(Drop)]
 pub struct Lookups<'d> {
     held: Held<'d>,
@@ -38,11 +39,12 @@ impl<'d> Model for Lookups<'d> {
 
     ghost view = { λ l. batch_by (version_of l.held) l.opts l.addrs.items };
 
-    ghost invariant = { λ l. AreFoundIn l.held l.addrs.items l.records.items };
+    ghost invariant = { λ l. AreFoundIn (version_of l.held) l.addrs.items l.records.items };
 }
 
 impl<'d> Lookups<'d> {
-    /// The addresses, searched for in what is held at this call.
+    /// The addresses, with what is held to answer them. In a Breakpad file they are searched for at
+    /// this call.
     pub fn find<L: Ledger>(
         alloc: Global,
         held: Held<'d>,
@@ -139,7 +141,7 @@ impl<'d> Lookups<'d> {
         ensures lent { IfOk result (λ answers. AllByRecursion IsLent answers.items) }
         ensures memory { IsOkUnless result Error.OutOfMemory }
     {
-        let some = found_at(alloc, &self.held, &self.addrs, &self.records, indices)?;
+        let some = self.found_at(alloc, indices)?;
         self.held
             .answers_by(alloc, &self.opts, &some.addrs, &some.records)
     }
@@ -154,6 +156,32 @@ impl<'d> Lookups<'d> {
         let records = self.held.find_uncounted(alloc, addrs)?;
         self.held.answers_by(alloc, &self.opts, addrs, &records)
     }
+
+    // The addresses of some indices, in their order, with the records that were found for them.
+    fn found_at(&self, alloc: Global, indices: &[usize]) -> Result<Found>
+        requires { All (λ index. index < length self.now.addrs) indices.now }
+        ensures addrs { IfOk result (λ some. some.addrs.items ≡ map (λ index. slice_index self.now.addrs index) indices.now) }
+        ensures found { IfOk result (λ some. AreFoundIn self.now.version some.addrs.items some.records.items) }
+        ensures memory { IsOkUnless result Error.OutOfMemory }
+    {
+        let mut some = Found {
+            addrs: Vec::with_capacity(alloc, indices.len())?,
+            records: Vec::with_capacity(alloc, indices.len())?,
+        };
+        for index in indices {
+            some.addrs.push(self.addr(*index))?;
+            some.records.push(self.record(*index))?;
+        }
+        Ok(some)
+    }
+
+    // The record that was found for the address of an index.
+    fn record(&self, index: usize) -> FoundRecord
+        requires { index < length self.now.addrs }
+        ensures { IsFoundIn self.now.version (slice_index self.now.addrs index) result }
+    {
+        record_at(&self.records, index)
+    }
 }
 
 // Addresses of a batch, and what was found for them.
@@ -161,31 +189,4 @@ impl<'d> Lookups<'d> {
 struct Found {
     addrs: Vec<u64>,
     records: Vec<FoundRecord>,
-}
-
-// The addresses of some indices, in their order, with the records that were found for them.
-fn found_at(
-    alloc: Global,
-    held: &Held<'_>,
-    addrs: &[u64],
-    records: &[FoundRecord],
-    indices: &[usize],
-) -> Result<Found>
-    requires found { AreFoundIn held.now addrs.now records.now }
-    requires within { All (λ index. index < length addrs.now) indices.now }
-    ensures addrs { IfOk result (λ some. some.addrs.items ≡ map (λ index. slice_index addrs.now index) indices.now) }
-    ensures found { IfOk result (λ some. AreFoundIn held.now some.addrs.items some.records.items) }
-    ensures memory { IsOkUnless result Error.OutOfMemory }
-{
-    // What is held matters to the contract alone.
-    let _held = held;
-    let mut some = Found {
-        addrs: Vec::with_capacity(alloc, indices.len())?,
-        records: Vec::with_capacity(alloc, indices.len())?,
-    };
-    for index in indices {
-        some.addrs.push(addrs[*index])?;
-        some.records.push(record_at(records, *index))?;
-    }
-    Ok(some)
 }

@@ -8,7 +8,6 @@ ghost use Rattle.bz_lookups.specs.Together.{AnswersMore, AreNext, Grows};
 
 use crate::lookups::Lookups;
 use bz_base::{Addr, Reason, Result, Symbolized};
-use bz_cache::owned_answer;
 use std::alloc::Global;
 
 /// How many answers are made together.
@@ -109,7 +108,7 @@ impl<'d> Lookups<'d> {
         let mut lent = self.answers_of(alloc, indices)?;
         while let Some(answer) = lent.pop() {
             let index = indices[lent.len()];
-            answers[index] = owned_answer(alloc, answer)?;
+            answers[index] = answer.into_owned(alloc)?;
         }
         Ok(())
     }

@@ -1,5 +1,5 @@
 -- The id by which a process knows itself. The line `NStgid` of `/proc/PID/status` has the ids of the process in the namespaces
--- around it, and its own last: see proc_pid_status(5) of the Linux manual pages, a part of proc(5).
+-- around it, and its own last. See proc_pid_status(5) of the Linux manual pages, a part of proc(5).
 use Rattle.std.specs.Prelude.{◌≡◌, ◌⊎◌, ℕ, ◌-◌, ◌<◌, ◌≤◌, Bool, true, false, ◌==◌, ◌&&◌, ◌||◌, nat_eq, nat_lt, nat_le, List, [], ◌∷◌, ◌++◌, length, take, drop, codes, Option, Some, None, option_map, if◌then◌else◌}
 use Rattle.std.specs.Char.{is_digit}
 use Rattle.std.specs.List.{AllByRecursion, find, list_all, starts_with, suffix_len, after_last}
@@ -106,6 +106,6 @@ abbrev pub id_behind : Option (List ℕ) → Option (Option ℕ)
 id_behind None = Some None
 id_behind (Some text) = option_map (λ id. Some id) (number_in (last_word text))
 
--- the id that a status tells, if it has such a line; nothing is told by a text that isn't UTF-8, or without a number there
+-- the id that a status tells, if it has such a line. A text that isn't UTF-8, or has no number there, tells nothing
 abbrev pub ns_tgid_in : List ℕ → Option (Option ℕ)
 ns_tgid_in status = if is_utf8 status then id_behind (labelled status) else None

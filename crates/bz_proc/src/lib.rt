@@ -1,5 +1,5 @@
-//! The texts of a process under Linux: its mappings, the id that its status tells, and its perf map. The
-//! last has the functions that it compiled for itself.
+//! The texts of a process under Linux: its mappings, the id that its status tells, and its perf map. In
+//! the last stand the functions that the process compiled for itself.
 #![tactic(auto)]
 
 pub mod laws;

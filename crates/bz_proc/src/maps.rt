@@ -69,7 +69,7 @@ impl PathName {
     }
 }
 
-/// A range of a process's addresses.
+/// A mapping of a process.
 #[derive(Drop)]
 pub struct MapsEntry {
     /// The addresses, absolute in the process.

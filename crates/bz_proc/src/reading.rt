@@ -1,8 +1,9 @@
 //! The mappings of a process, read from its files.
 
-ghost use Rattle.std.specs.Prelude.{◌≡◌, false, map, string_bytes, IfOk, IfErr, IsOkUnless};
+ghost use Rattle.std.specs.Prelude.{◌≡◌, false, map, string_bytes, IfOk, IfErr, IsOkUnless, OnOk};
 ghost use Rattle.bz_base.specs.declared.error.Error.{Error};
 ghost use Rattle.bz_cache.specs.Format.{GivesOrFaults};
+ghost use Rattle.bz_files.specs.Count.{counted};
 ghost use Rattle.bz_files.specs.Looked.{Faulted, Looked, ReadsOne};
 ghost use Rattle.bz_files.specs.World.{Told, entry_at, has_file, in_view};
 ghost use Rattle.bz_proc.specs.Maps.{mapping_of};
@@ -19,6 +20,7 @@ use std::alloc::Global;
 /// failed.
 pub fn read_maps<F: Files>(alloc: Global, files: &mut F, pid: Pid) -> Result<Vec<MapsEntry>>
     ensures answer { Told (in_view (F.worlds files.old)) (λ world. GivesOrFaults (λ entries. map mapping_of entries.items) (maps_told pid (entry_at world (maps_path pid))) result) }
+    ensures opened { OnOk result (F.opens files.new ≡ counted (F.opens files.old)) }
     ensures spared { Told (in_view (F.worlds files.old)) (λ world. has_file (entry_at world (maps_path pid)) ≡ false → F.opens files.new ≡ F.opens files.old) }
     ensures most { ReadsOne F.Files files.old files.new }
     ensures files { Looked F.Files files.old files.new (Faulted result) }

@@ -14,8 +14,8 @@ const LABEL: &[u8] = b"NStgid:";
 pub(crate) const FORM_FEED: u8 = b'\x0c';
 
 /// The id by which the process knows itself, as the text of its status tells it. It is the last word
-/// behind `NStgid:` in the first line that begins so. There is none where no line does. InvalidData: the text
-/// isn't UTF-8, or that word isn't a number of 32 bits.
+/// behind `NStgid:` in the first line that begins so. There is none where no line does. InvalidData: the
+/// text isn't UTF-8, or that word isn't a number of 32 bits.
 pub fn parse_ns_tgid(status: &[u8]) -> Result<Option<u32>>
     ensures ok { IfOk result (λ id. ns_tgid_in status.now ≡ Some id) }
     ensures refusal { IfErr result (λ e. (ns_tgid_in status.now ≡ None) × (e ≡ Error.InvalidData)) }
@@ -26,7 +26,8 @@ pub fn parse_ns_tgid(status: &[u8]) -> Result<Option<u32>>
     }
 }
 
-/// The id that stands last behind a label, if there is such a line; none where no number does.
+/// The id that stands last behind the label. Some(None): no line has the label. None: the last word
+/// behind it isn't a number of 32 bits.
 fn id_behind(text: Option<&[u8]>) -> Option<Option<u32>>
     ensures { result ≡ id_behind (option_map (λ text. text.now) text.entry) }
 {

@@ -21,7 +21,7 @@ use Rattle.bz_proc.specs.PerfLine.{PerfFunction}
 use Rattle.bz_proc.specs.PerfLines.{perf_functions_in}
 use Rattle.bz_proc.specs.SystemText.{IsReadRefusal}
 use Rattle.bz_process.specs.Caches.{ProcessCaches}
-use Rattle.bz_process.specs.Caching.{is_absent, perf_map_pinning, pins_perf_map, pinned_if_absent}
+use Rattle.bz_process.specs.Caching.{perf_map_pinning, pins_perf_map, pinned_if_absent}
 use Rattle.bz_process.specs.CachingCall.{CachingChange, Called, PinPerfMap, CachingReaches, HasWhole, IsCachedTold, PinsKnown, TakesWhole, after_caching, cached_so}
 use Rattle.bz_process.specs.Process.{StepOutcome, Step, and_then, followed, gives, pid_cmp}
 use Rattle.bz_process.specs.ProcessCall.{Change, LookPerfMap, IsTold, Reaches, TakesStep, after_changes, changed}
@@ -77,14 +77,14 @@ module _ (cache : Cache) (path : List ℕ) where
   absent_pinned (Err e, left) is = let same : e ≡ errors.NotFound = cc is in rw same refl
 
   -- another refusal stays
-  same_refusal : (e : Error) (left : Cache) → is_absent (Err e) ≡ false → (pinned_if_absent cache path (Err e, left)).0 ≡ Err e
-  same_refusal errors.NotFound left stays = absurd (false≢true (sym stays))
+  same_refusal : (e : Error) (left : Cache) → (e ≡ errors.NotFound → ⊥) → (pinned_if_absent cache path (Err e, left)).0 ≡ Err e
+  same_refusal errors.NotFound left stays = absurd (stays refl)
   same_refusal _ left stays = refl
 
-  fails_pinned : (pinned : Result (Unit {0}) Error × Cache) (e : Error) → is_absent (Err e) ≡ false → FailsAs pinned.0 e → FailsAs (pinned_if_absent cache path pinned).0 e
+  fails_pinned : (pinned : Result (Unit {0}) Error × Cache) (e : Error) → (e ≡ errors.NotFound → ⊥) → FailsAs pinned.0 e → FailsAs (pinned_if_absent cache path pinned).0 e
   fails_pinned pinned errors.ReadFault stays fails = tt
   fails_pinned pinned errors.OutOfMemory stays fails = tt
-  fails_pinned pinned errors.NotFound stays fails = absurd (false≢true (sym stays))
+  fails_pinned pinned errors.NotFound stays fails = absurd (stays refl)
   fails_pinned (Ok tt, left) _ stays fails = cc fails
   fails_pinned (Err x, left) e stays fails = let same : x ≡ e = cc fails in rw same (same_refusal e left stays)
 
@@ -190,9 +190,8 @@ module _ {X : Type 0} (files : Ghosts X) (own : ℕ) where
     opened_at pinned did world seen = opened_by (will_open (with_pin false kept.perf_maps path) path (entry_at world path)) _ _ (did.reads.spared world seen) did.reads.most
 
     -- a perf map that is absent is pinned as it is held
-    pub pins_absent : (pinned : Result (Unit {0}) Error) → is_absent pinned ≡ true → Pins pinned → Whole_pins (Ok tt) (with_pin true mid path)
-    pins_absent (Ok tt) is did = absurd (false≢true is)
-    pins_absent (Err errors.NotFound) is did = rw did.err (record {
+    pub pins_absent : Pins (Err errors.NotFound) → Whole_pins (Ok tt) (with_pin true mid path)
+    pins_absent did = rw did.err (record {
       told = λ world seen.
           let pinned_anyway : perf_map_pinning kept.perf_maps path (entry_at world path) ≡ (Ok tt, with_pin true kept.perf_maps path) =
           absent_pinned kept.perf_maps path (pinning perf.format_test kept.perf_maps path (entry_at world path)) (did.answer world seen) in
@@ -206,10 +205,9 @@ module _ {X : Type 0} (files : Ghosts X) (own : ℕ) where
       perf_maps = record { consistent = λ well. consistent_pinned perf.format_test kept.perf_maps path true well; reload = refl };
       looked = unfaulting before after did.looked (λ is. cc is);
     })
-    pins_absent (Err _) is did = absurd (false≢true is)
 
     -- any other is pinned at the version of a look, or refused
-    pub pins_stays : (pinned : Result (Unit {0}) Error) → is_absent pinned ≡ false → Pins pinned → Whole_pins pinned mid
+    pub pins_stays : (pinned : Result (Unit {0}) Error) → IfErr pinned (λ e. e ≡ errors.NotFound → ⊥) → Pins pinned → Whole_pins pinned mid
     pins_stays (Ok tt) is did = record {
       told = λ world seen.
           let there : pinning perf.format_test kept.perf_maps path (entry_at world path) ≡ (Ok tt, mid) =
@@ -285,10 +283,8 @@ module _ {X : Type 0} (files : Ghosts X) (path : List ℕ) (cache mid : Cache) (
   }
 
   -- whatever is told, a perf map that is absent is pinned as it is held
-  pub left_absent : (pinned : Result (Unit {0}) Error) → is_absent pinned ≡ true → Pins_file pinned → Is_left (in_view (files.worlds before)) (with_pin true mid path)
-  left_absent (Ok tt) is did = absurd (false≢true is)
-  left_absent (Err errors.NotFound) is did = rw did.err (as_held (in_view (files.worlds before)) did.answer (λ held. false≢true ((did.sure held).0)))
-  left_absent (Err _) is did = absurd (false≢true is)
+  pub left_absent : Pins_file (Err errors.NotFound) → Is_left (in_view (files.worlds before)) (with_pin true mid path)
+  left_absent did = rw did.err (as_held (in_view (files.worlds before)) did.answer (λ held. false≢true ((did.sure held).0)))
 
   -- any other at the version of a look
   pub left_stays : (pinned : Result (Unit {0}) Error) → Pins_file pinned → OnOk pinned (Is_left (in_view (files.worlds before)) mid)

@@ -4,7 +4,6 @@ pub mod CachingLaws
 pub mod CachingLemmas
 pub mod CachingPromise
 pub mod DispatchLemmas
-pub mod ElfLemmas
 pub mod EntryLemmas
 pub mod ForgettingLemmas
 pub mod KeptLemmas

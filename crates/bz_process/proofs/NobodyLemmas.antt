@@ -16,14 +16,14 @@ use Rattle.bz_cache.specs.Format.{FailsAs}
 use Rattle.bz_proc.specs.Maps.{Mapping, Name, name_of, owner_of}
 use Rattle.bz_proc.specs.declared.maps.PathName.{PathName}
 use Rattle.bz_process.specs.Dispatch.{Answers, IsSaid, Keeps, SaysKept, Test, kept_for}
-use Rattle.bz_process.specs.Mapped.{AreByMappings, AsksProcess, AsksProcessAt, IsByMappings, asks_process, asks_process_at, some_mappings}
+use Rattle.bz_process.specs.Mapped.{AreByMappings, AsksProcess, AsksProcessAt, IsByMappings, RefusedUnmapped, UsesMappings, asks_process, asks_process_at, some_mappings}
 use Rattle.bz_process.specs.Member.{Member, as_member}
 use Rattle.bz_process.specs.Process.{Said, at_address, at_addresses, batched, by_mapping, by_owner, by_said, followed, offset_in, unsaid}
 use Rattle.bz_process.specs.ProcessAsk.{AddsAmong, AreAllowed, GivesNone, IsAdded, IsSaidAt, IsSaidBy, IsSaidIn, SaidInTurn, come_to, next_of}
 use Rattle.bz_process.specs.ProcessCall.{HasOutcome, TakesStep, UnlessFailed}
 use Rattle.bz_process.specs.Asked.{Asked}
 use Rattle.bz_process.specs.Caches.{ProcessCaches}
-use Rattle.bz_process.specs.Untold.{SomeAtAddress, SomeAtAddresses}
+use Rattle.bz_process.specs.Untold.{SomeAtAddress, SomeAtAddresses, as_read}
 use Rattle.bz_process.proofs.AskLemmas.{comes_failed, left_failed}
 
 -- kept answers stay allowed, as each that is added is
@@ -204,19 +204,31 @@ module _ {R : Type 0} (test : Test R) (translates : Translates R) (finds : Finds
         by_result (Err errors.OutOfMemory) said step = failed_so errors.OutOfMemory asks.said tt step
         by_result (Err _) said step = nothing (Err _) said step
 
-    -- and whatever is told, its answer is by some mappings
+    -- and whatever is told, its answer or refusal is by some mappings, or it lacks them
     pub by_mappings_at : (result : Result Symbolized Error) (answers answers_now : Answers R) → AreAllowed test answers →
         AsksProcessAt files reading test translates finds opts asked known addr result old now answers answers_now before after →
-        IfOk result (λ given. IsByMappings asked known addr (reading given) old now)
-    by_mappings_at (Err e) answers answers_now allowed asks = tt
-    by_mappings_at (Ok given) answers answers_now allowed asks =
-        let still : AreAllowed test answers_now = allowed_after test asks.mappings (addr ∷ []) answers answers_now allowed asks.adds in
-        let nothing : asks.said ≡ None = none_by test translates finds opts none (owner_of asks.mappings addr) addr answers answers_now asks.said still asks.allowed in
-        elim asks.used [
-          | inl used ↦ record {
-            mappings = asks.mappings;
-            used = used.0;
-            some = subst (λ (said : Said). SomeAtAddress asked (Ok (reading given)) old now asks.mappings (addr, said)) nothing used.1;
-          }
-          | inr refused ↦ absurd (false≢true refused.refused)
-        ]
+        UnlessFailed result (IsByMappings asked known addr (as_read reading result) old now ⊎ RefusedUnmapped known result old now answers answers_now)
+    by_mappings_at result answers answers_now allowed asks = by_result result asks.allowed asks.used
+      where
+        still : AreAllowed test answers_now
+        still = allowed_after test asks.mappings (addr ∷ []) answers answers_now allowed asks.adds
+
+        by_used : (result : Result Symbolized Error) → IsSaidAt test translates finds opts asks.mappings addr answers answers_now asks.said →
+            UsesMappings (SomeAtAddress asked (as_read reading result) old now asks.mappings (addr, asks.said)) asked.pid known asks.mappings result old now answers answers_now →
+            IsByMappings asked known addr (as_read reading result) old now ⊎ RefusedUnmapped known result old now answers answers_now
+        by_used result said (inl used) =
+            let nothing : asks.said ≡ None = none_by test translates finds opts none (owner_of asks.mappings addr) addr answers answers_now asks.said still said in
+            inl (record {
+              mappings = asks.mappings;
+              used = used.0;
+              some = subst (λ (said : Said). SomeAtAddress asked (as_read reading result) old now asks.mappings (addr, said)) nothing used.1;
+            })
+        by_used result said (inr lacks) = inr lacks
+
+        by_result : (result : Result Symbolized Error) → UnlessFailed result (IsSaidAt test translates finds opts asks.mappings addr answers answers_now asks.said) →
+            UsesMappings (SomeAtAddress asked (as_read reading result) old now asks.mappings (addr, asks.said)) asked.pid known asks.mappings result old now answers answers_now →
+            UnlessFailed result (IsByMappings asked known addr (as_read reading result) old now ⊎ RefusedUnmapped known result old now answers answers_now)
+        by_result (Ok x) said used = by_used (Ok x) said used
+        by_result (Err errors.ReadFault) said used = tt
+        by_result (Err errors.OutOfMemory) said used = tt
+        by_result (Err _) said used = by_used (Err _) said used

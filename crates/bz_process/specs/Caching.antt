@@ -34,11 +34,6 @@ abbrev pub pinned_if_absent : Cache → List ℕ → Result (Unit {0}) Error × 
 pinned_if_absent cache path (Err errors.NotFound, left) = (Ok tt, with_pin true cache path)
 pinned_if_absent cache path (answer, left) = (answer, left)
 
--- whether a file is refused since it is absent
-abbrev pub is_absent : Result (Unit {0}) Error → Bool
-is_absent (Err errors.NotFound) = true
-is_absent _ = false
-
 -- a perf map is looked at as if it weren't pinned, and is pinned then
 abbrev pub perf_map_pinning : Cache → List ℕ → Option Entry → Result (Unit {0}) Error × Cache
 perf_map_pinning cache path there = pinned_if_absent cache path (pinning perf.format_test cache path there)

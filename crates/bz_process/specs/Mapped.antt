@@ -78,18 +78,18 @@ pub record RefusedUnmapped {A R : Type 0} (kept : Option (List Mapping)) (result
 abbrev pub UsesMappings : {A R : Type 0} → Type 0 → Pid → Option (List Mapping) → List Mapping → Result A Error → ProcessCaches → ProcessCaches → Answers R → Answers R → Type 0
 UsesMappings Follows pid kept mappings result old now answers answers_now = (AreUsed pid kept mappings × Follows) ⊎ RefusedUnmapped kept result old now answers answers_now
 
--- whatever is told, a process with nobody in charge gave these answers: by the kept mappings, or else those of some text, and each
--- by some version that a look gave, or refused as a look is
+-- whatever is told, a process with nobody in charge gave these answers, by the kept mappings or else those of some text. Each is
+-- by some version that a look gave, or refused as a look is, or such as no look is needed for
 pub record AreByMappings (asked : Asked) (kept : Option (List Mapping)) (addrs : List ℕ) (answers : List Answer) (old now : ProcessCaches) : Type 0 where
   pub mappings : List Mapping
   pub used : AreUsed asked.pid kept mappings
   pub some : SomeAtAddresses asked mappings (map unsaid addrs) answers old now
 
--- and for an address alone
-pub record IsByMappings (asked : Asked) (kept : Option (List Mapping)) (addr : ℕ) (answer : Answer) (old now : ProcessCaches) : Type 0 where
+-- and so it answered or refused an address alone
+pub record IsByMappings (asked : Asked) (kept : Option (List Mapping)) (addr : ℕ) (given : Result Answer Error) (old now : ProcessCaches) : Type 0 where
   pub mappings : List Mapping
   pub used : AreUsed asked.pid kept mappings
-  pub some : SomeAtAddress asked (Ok answer) old now mappings (unsaid addr)
+  pub some : SomeAtAddress asked given old now mappings (unsaid addr)
 
 -- all that is asked of a process: its mappings, and the addresses one after another
 abbrev pub asks_process : Asked → Option (List Mapping) → List (ℕ × Said) → Step (List Answer)

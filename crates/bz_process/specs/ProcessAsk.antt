@@ -22,7 +22,7 @@ use Rattle.bz_process.specs.Terms.{KeptToAnswer, Terms}
 use Rattle.bz_process.specs.Untold.{SaysNoFault, SomeAtAddress, SomeAtAddresses, SomeBatch, SomeByMapping, as_read}
 
 -- something allowed was said, and the step is the one that is expected then; after a failure nothing needs to have been said.
--- Where nothing is told, what was given and is left is what may be shown then
+-- Whatever is told, what was given and is left is what may be shown then
 pub record AsksOne {A B X : Type 0} (files : Ghosts X) (own : ℕ) (reading : A → B) (IsAllowed Shows : Said → Type 0) (expected : Said → Step B) (result : Result A Error)
     (old now : ProcessCaches) (before after : X) : Type 0 where
   pub said : Said

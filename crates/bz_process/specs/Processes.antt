@@ -1,5 +1,5 @@
 -- What is kept to answer for processes, beside the ELF files, and what a call on a process promises.
-use Rattle.std.specs.Prelude.{◌≡◌, ℕ, Bool, true, false, List, [], map, Option, Result, IfOk, IsErrOf, refl}
+use Rattle.std.specs.Prelude.{◌≡◌, ◌⊎◌, ℕ, Bool, true, false, List, [], map, Option, Result, IfOk, IsErrOf, refl}
 use Rattle.std.specs.Global.{Vec}
 use Rattle.std.specs.Coded.{Coded, code_by, coded×, coded_list, coded_option}
 use Rattle.bz_base.specs.Answer.{Answer, reading}
@@ -22,10 +22,11 @@ use Rattle.bz_proc.specs.declared.maps.PathName.{PathName}
 use Rattle.bz_process.specs.Asked.{Asked}
 use Rattle.bz_process.specs.Caches.{ProcessCaches}
 use Rattle.bz_process.specs.Dispatch.{Answers, Test}
-use Rattle.bz_process.specs.Mapped.{AreByMappings, AsksProcess, AsksProcessAt, IsByMappings, asks_process, asks_process_at}
+use Rattle.bz_process.specs.Mapped.{AreByMappings, AsksProcess, AsksProcessAt, IsByMappings, RefusedUnmapped, asks_process, asks_process_at}
 use Rattle.bz_process.specs.Process.{pid_cmp, unsaid}
 use Rattle.bz_process.specs.ProcessAsk.{AreAllowed, GivesNone, readings}
-use Rattle.bz_process.specs.ProcessCall.{TakesStep}
+use Rattle.bz_process.specs.ProcessCall.{TakesStep, UnlessFailed}
+use Rattle.bz_process.specs.Untold.{as_read}
 use Rattle.bz_process.specs.Remembered.{Remembered, coded_remembered}
 use Rattle.bz_process.specs.Terms.{Terms}
 use Rattle.bz_process.specs.contracts.mapped.Mapped as mappeds
@@ -97,8 +98,9 @@ pub record SymbolizesAddress {A D R X : Type 0} (files : Ghosts X) (reading : A 
   -- with a dispatcher that gives no resolver and refuses nothing, answer and state are those of the definitions
   pub exact : GivesNone test → is_in_process kind ≡ true →
       TakesStep files asked.own reading (asks_process_at asked (kept_mappings old asked.pid) (unsaid addr)) result (caches_of elf old) (caches_of elf_now now) before after
-  -- and whatever is told, the answer is by some mappings
-  pub some : GivesNone test → is_in_process kind ≡ true → IfOk result (λ given. IsByMappings asked (kept_mappings old asked.pid) addr (reading given) (caches_of elf old) (caches_of elf_now now))
+  -- and whatever is told, the answer or refusal is by some mappings, or it is refused for want of mappings
+  pub some : GivesNone test → is_in_process kind ≡ true → UnlessFailed result (IsByMappings asked (kept_mappings old asked.pid) addr (as_read reading result) (caches_of elf old) (caches_of elf_now now)
+      ⊎ RefusedUnmapped (kept_mappings old asked.pid) result (caches_of elf old) (caches_of elf_now now) old.answers now.answers)
   -- nothing else changes
   pub mappings : now.mappings ≡ old.mappings
   pub dispatcher : now.dispatcher ≡ old.dispatcher

@@ -134,11 +134,10 @@ impl<D: ProcessDispatch + Drop> Answering<D> {
                 .answer_without_name(alloc, files, question.query, addr),
             Some(name) => match self
                 .dispatching
-                .say(alloc, question.opts, entry, name, addr)
+                .say(alloc, question.opts, entry, name, addr)?
             {
-                Ok(None) => answer_by_name(elf, alloc, files, question.query, entry, name, addr),
-                Ok(Some(answer)) => Ok(answer),
-                Err(error) => Err(error),
+                Some(answer) => Ok(answer),
+                None => answer_by_name(elf, alloc, files, question.query, entry, name, addr),
             },
         }
     }

@@ -11,7 +11,7 @@ ghost use Rattle.bz_proc.specs.Maps.{Mapping};
 ghost use Rattle.bz_proc.specs.MapsFile.{AreOfText, maps_path, maps_told};
 ghost use Rattle.bz_proc.specs.SystemText.{IsReadRefusal};
 ghost use Rattle.bz_process.specs.Caches.{ProcessCaches, caches};
-ghost use Rattle.bz_process.specs.Caching.{after_mappings, caches_perf_map, caches_process, caching_of, is_absent, mappings_after, perf_map_pinning, pins_perf_map, with_former, with_mappings, with_told};
+ghost use Rattle.bz_process.specs.Caching.{after_mappings, caches_perf_map, caches_process, caching_of, mappings_after, perf_map_pinning, pins_perf_map, with_former, with_mappings, with_told};
 ghost use Rattle.bz_process.specs.CachingCall.{MayKeep, MayPin, PinsKnown, StepsPerfMapsWhole, TakesWhole};
 ghost use Rattle.bz_process.specs.Process.{and_then, pid_cmp, remember};
 
@@ -35,7 +35,7 @@ pub struct ProcessCaching {
 }
 
 /// Reads and keeps the mappings of a process, and then pins its perf map, each where it is asked for.
-/// After a refusal everything is as before.
+/// After a refusal mappings, perf maps and ids are as before.
 pub(crate) fn cache_process<F: Files>(
     perf_maps: &mut PerfMaps,
     mappings: &mut InsertMap<Pid, Mapped>,
@@ -187,21 +187,12 @@ fn pin_perf_map<F: Files>(
     ensures left { OnOk result (IsLeft (perf_map_pinning cache.old path.now) path.now (in_view (F.worlds files.old)) cache.new) }
     ensures refusal { IfErr result IsReadRefusal }
 {
-    let pinned = pin_file(cache, alloc, files, path);
-    if is_absent(&pinned) {
-        let _held = cache.pin(path);
-        return Ok(());
-    }
-    pinned
-}
-
-// Whether a file is refused since it is absent.
-fn is_absent(answer: &Result<()>) -> bool
-    ensures { result ≡ is_absent answer.now }
-{
-    match answer {
-        Ok(()) => false,
-        Err(Error::NotFound) => true,
-        Err(_) => false,
+    match pin_file(cache, alloc, files, path) {
+        Ok(()) => Ok(()),
+        Err(Error::NotFound) => {
+            let _held = cache.pin(path);
+            Ok(())
+        }
+        Err(error) => Err(error),
     }
 }

@@ -29,10 +29,12 @@ pub trait ProcessDispatch {
     /// beside that.
     ghost may_dispatch: { Self → Member → Result (Option Self.Resolver) Error → Type 0 };
 
-    /// The resolver for a member; none where the mapped file itself is to answer. It is asked where no
-    /// answer is kept for the name of what is mapped. What it gave, a resolver or none, is kept for all
-    /// mappings with an equal name, in each process and whatever their addresses. It stays until one of the
-    /// name's paths is forgotten. A refusal isn't kept. It refuses a member by Unsupported, NotFound,
+    /// The resolver for a member; none where the mapped file itself is to answer. It is asked where
+    /// no answer is kept for the name of what is mapped. What it gave, a resolver or none, is kept
+    /// for all mappings with an equal name. A file's name tells process and addresses, by its path
+    /// in `/proc`. So a file is asked for at each of its mappings. The name of a part of the
+    /// system, as `[vdso]`, is equal in each process. What was given stays until one of the name's
+    /// paths is forgotten. A refusal isn't kept. It refuses a member by Unsupported, NotFound,
     /// PermissionDenied, InvalidInput, InvalidData or UnexpectedEof alone, or by OutOfMemory.
     fn dispatch(&self, alloc: Global, info: ProcessMemberInfo<'_>) -> Result<Option<Self::Resolver>>
         ensures answer { MayGive (λ given. given) (may_dispatch self.now (member_of info.entry)) result }
@@ -48,13 +50,11 @@ impl ProcessDispatch for NoDispatch {
 
     ghost may_dispatch = { λ _ member answer. answer ≡ Ok None };
 
-    fn dispatch(&self, alloc: Global, info: ProcessMemberInfo<'_>) -> Result<Option<ElfResolver>>
+    fn dispatch(&self, _alloc: Global, _info: ProcessMemberInfo<'_>) -> Result<Option<ElfResolver>>
         ensures answer { MayGive (λ given. given) (λ answer. answer ≡ Ok None) result }
         ensures refusal { IfErr result MayRefuseMember }
         ensures exact { result ≡ Ok None }
     {
-        let _alloc = alloc;
-        let _info = info;
         Ok(None)
     }
 }

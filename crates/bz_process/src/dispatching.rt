@@ -15,7 +15,7 @@ ghost use Rattle.bz_process.specs.Untold.{as_read};
 use crate::dispatch::{ProcessDispatch, ProcessMemberInfo};
 use crate::mapped_file::offset_in;
 use bz_base::{Addr, Error, FindSymOpts, Reason, Resolve, Result, Symbolized};
-use bz_cache::{InsertMap, owned_answer};
+use bz_cache::InsertMap;
 use bz_proc::{MapsEntry, PathName};
 use std::alloc::Global;
 
@@ -50,7 +50,9 @@ impl<D: ProcessDispatch + Drop> Dispatching<D> {
                 let answer = say_by(alloc, resolver, opts, offset_in(entry, addr))?;
                 Ok(Some(answer))
             }
-            Some(None) | None => Ok(None),
+            Some(None) => Ok(None),
+            // What was asked for is kept.
+            None => unreachable!(),
         }
     }
 
@@ -99,7 +101,7 @@ fn say_by<R: Resolve>(
         return Ok(Symbolized::Unknown(Reason::InvalidFileOffset));
     };
     match resolver.find_sym(alloc, addr, opts)? {
-        Ok(symbol) => owned_answer(alloc, Symbolized::Sym(symbol.into_sym(addr))),
+        Ok(symbol) => Symbolized::Sym(symbol.into_sym(addr)).into_owned(alloc),
         Err(reason) => Ok(Symbolized::Unknown(reason)),
     }
 }

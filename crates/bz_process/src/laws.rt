@@ -59,10 +59,11 @@ pub fn entries_are_in_view<D: ProcessDispatch + Drop, F: Files, A>()
         CoheresIn world kept → (asks_process_at asked known (unsaid addr) world kept).answer ≡ process_in_view asked world kept known addr }
 {}
 
-/// Where the world is told, a call on a process reads no more files than were left to read, each once.
-/// These are the text of the mappings where none are kept, and the status of a process that isn't
-/// remembered. With them go each mapped file and perf map whose present stamp isn't kept. A batch may
-/// read one more for each address that is refused. The paths are any that have those of the mapped files.
+/// Where the world is told, a call on a process reads no more files than were left to read, each
+/// once. These are the text of the mappings where none are kept, and the status of a process that
+/// isn't remembered. With them go each mapped file and perf map whose present stamp isn't kept. An
+/// answered batch may read one more for each address that is refused, a refused batch one more for
+/// each address. `paths` may be any list that has the paths of the mapped files.
 pub fn reads_are_few<D: ProcessDispatch + Drop, F: Files, A>()
     ensures batch { (call : BatchCalled A F.Files D.may_dispatch D.Resolver.TranslateFileOffset D.Resolver.Symbolize) (world : World) (paths : List (List ℕ)) →
         SymbolizesBatch call → view_before call ≡ Some world → CoverAddresses world paths call call.input →

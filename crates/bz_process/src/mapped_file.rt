@@ -19,7 +19,7 @@ use bz_base::{
     Addr, Error, FindSymOpts, Reason, ResolvedSym, Result, Symbolize, Symbolized,
     TranslateFileOffset,
 };
-use bz_cache::{FileCache, owned_answer};
+use bz_cache::FileCache;
 use bz_elf::ElfFile;
 use bz_files::Files;
 use bz_proc::{EntryPath, MapsEntry, PathName};
@@ -95,7 +95,7 @@ fn at_offset(
     match loaded_at(file, offset)? {
         Some(addr) => {
             let answer = elf_answer_at(alloc, file, module_path, addr)?;
-            owned_answer(alloc, answer)
+            answer.into_owned(alloc)
         }
         None => Ok(Symbolized::Unknown(Reason::InvalidFileOffset)),
     }

@@ -22,7 +22,7 @@ ghost use Rattle.bz_process.specs.Untold.{IsKnown, LooksAtPerfMap, LooksSoftly, 
 use crate::query::ProcessQuery;
 use crate::remembered::RememberedProcess;
 use bz_base::{Addr, Error, FindSymOpts, Pid, Reason, Result, Symbolize, Symbolized};
-use bz_cache::{FileCache, InsertMap, owned_answer};
+use bz_cache::{FileCache, InsertMap};
 use bz_files::Files;
 use bz_proc::PerfMap;
 use std::alloc::Global;
@@ -161,7 +161,7 @@ fn in_map(alloc: Global, map: &PerfMap, addr: Addr) -> Result<Symbolized<'static
     ensures memory { IsOkUnless result Error.OutOfMemory }
 {
     match map.find_sym(alloc, addr, &FindSymOpts::Basic)? {
-        Ok(symbol) => owned_answer(alloc, Symbolized::Sym(symbol.into_sym(addr))),
+        Ok(symbol) => Symbolized::Sym(symbol.into_sym(addr)).into_owned(alloc),
         Err(reason) => Ok(Symbolized::Unknown(reason)),
     }
 }

@@ -8,8 +8,8 @@ use Rattle.bz_symbolize.specs.History.{ChangesLead}
 use Rattle.bz_symbolize.specs.Requests.{ToEvict, EvictElf, EvictProcess}
 use Rattle.bz_symbolize.specs.State.{WellKept, WholeState}
 
--- what is left then. Of an ELF file, neither its path nor a dispatcher's answer for a mapped file with this path is. Of a process,
--- neither its mappings nor its id nor its perf map is
+-- what is left then. Of an ELF file its path is gone, and so is what a dispatcher gave for a mapped file with this path. Of a
+-- process its mappings, its id and its perf map are gone
 abbrev pub evicting : {D R : Type 0} → ToEvict → WholeState D R → WholeState D R
 evicting (EvictElf path) whole = record { files = record whole.files { elf = evicted whole.files.elf path }; processes = without_path path whole.processes }
 evicting (EvictProcess pid) whole = record whole { processes = without_process pid whole.processes }

@@ -39,7 +39,8 @@ pub record Registers {A X : Type 0} (files : Ghosts X) (path bytes : List ℕ) (
   pub rest : now ≡ record old { elf = now.elf }
   -- a refused call leaves the symbolizer as it was
   pub err : OnErr result (now ≡ old)
-  -- at a path that is held and isn't looked at anew there is a version, and the files are as they were
+  -- a path that is held and isn't looked at anew has a version: the call is refused for it, or since memory ran out. The files
+  -- are as they were
   pub kept_out : IsSome (fixed old.elf path) → IsKeptOut result × (after ≡ before)
   pub refusal : IfErr result (MayKeepOut old.elf path)
   pub caches : WellKept now

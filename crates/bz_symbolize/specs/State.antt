@@ -3,7 +3,7 @@ use Rattle.std.specs.Prelude.{◌≡◌, ℕ, Bool, true, false, List, Option, N
 use Rattle.std.specs.Coded.{Coded, code_by, coded×, coded_ℕ, coded_bool, coded_list, coded_option}
 use Rattle.bz_base.specs.declared.error.Error.{Error}
 use Rattle.bz_base.specs.declared.types.FindSymOpts.{FindSymOpts}
-use Rattle.bz_base.specs.declared.types.FindSymOpts.TheVariants.{Basic, CodeInfo, CodeInfoAndInlined}
+use Rattle.bz_base.specs.Options.{opts_by}
 use Rattle.bz_cache.specs.Cache.{Cache, Consistent, new_cache, coded_cache}
 use Rattle.bz_breakpad.specs.Version.{format_test}
 use Rattle.bz_elf.specs.Format as elf
@@ -22,12 +22,6 @@ pub record Settings : Type 0 where
 -- all features on, and no directories
 abbrev pub default_settings : Settings
 default_settings = record { reload = true; code_info = true; inlined = true; demangling = true; debug_dirs = None }
-
--- the options of a look-up, by whether answers have code info, and inlined calls: these only with code info
-abbrev pub opts_by : Bool → Bool → FindSymOpts
-opts_by false inlined = Basic
-opts_by true false = CodeInfo
-opts_by true true = CodeInfoAndInlined
 
 -- the options of a look-up
 abbrev pub opts_of : Settings → FindSymOpts

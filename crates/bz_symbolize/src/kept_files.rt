@@ -25,7 +25,7 @@ use crate::settings::Settings;
 use crate::source::{Gsym, Source};
 use bz_base::{Addr, Error, FindSymOpts, Input, Result, Steps, Symbolized};
 use bz_breakpad::SymbolFile;
-use bz_cache::{FileCache, Version, owned_answer, pin_file};
+use bz_cache::{FileCache, Version, pin_file};
 use bz_elf::{ElfFile, ElfResolver};
 use bz_files::Files;
 use bz_gsym::GsymTable;
@@ -105,7 +105,8 @@ impl KeptFiles {
         answer_alone(alloc, held, opts, input.into_inner())
     }
 
-    /// The addresses, searched for in the version that answers, with a count of the steps.
+    /// The addresses, with the version that answers them. In a Breakpad file they are searched for
+    /// at this call, with a count of the steps.
     pub(crate) fn look_up<'d, F: Files, L: Ledger>(
         &mut self,
         alloc: Global,
@@ -288,7 +289,7 @@ fn answer_alone(
     ensures refusal { IfErr result MayRefuse }
 {
     let answer = held.single(alloc, &opts, addr)?;
-    owned_answer(alloc, answer)
+    answer.into_owned(alloc)
 }
 
 // A cache that keeps nothing.

@@ -15,9 +15,9 @@ pub(crate) struct Settings {
     pub(crate) code_info: bool,
     /// Whether answers with code info have inlined calls too.
     pub(crate) inlined: bool,
-    /// Whether names are demangled.
+    /// Whether names are demangled. It is kept and has no effect.
     pub(crate) demangling: bool,
-    /// Where debug files are looked for.
+    /// Where debug files are looked for. It is kept and has no effect.
     pub(crate) debug_dirs: Option<Vec<String>>,
 }
 
@@ -37,10 +37,6 @@ impl Settings {
     pub(crate) fn opts(&self) -> FindSymOpts
         ensures { result ≡ opts_of self.now }
     {
-        match (self.code_info, self.inlined) {
-            (false, _) => FindSymOpts::Basic,
-            (true, false) => FindSymOpts::CodeInfo,
-            (true, true) => FindSymOpts::CodeInfoAndInlined,
-        }
+        FindSymOpts::by(self.code_info, self.inlined)
     }
 }

@@ -130,10 +130,12 @@ impl<D: ProcessDispatch + Drop> Symbolizer<D> {
         }
     }
 
-    /// The same answers as `symbolize`, made one by one or some at a time. They lend their texts from the
-    /// version of the file that the call found. So neither a list of them nor texts of their own are in
-    /// memory. The addresses are searched for at this call, and its steps are counted. Making the answers
-    /// searches no more. A process, whose answers are of many files, is refused by `Unsupported`.
+    /// The same answers as `symbolize`, made one by one or some at a time. They lend their texts
+    /// from the version of the file that the call found. So neither a list of them nor texts of
+    /// their own are in memory. In a Breakpad file the addresses are searched for at this call, and
+    /// the steps are counted. Making the answers then searches no more. GSYM and ELF are searched
+    /// as each answer is made, with no count. A process, whose answers are of many files, is
+    /// refused by `Unsupported`.
     pub fn look_up<'d, F: Files, L: Ledger>(
         &mut self,
         alloc: Global,
@@ -180,11 +182,11 @@ impl<D: ProcessDispatch + Drop> Symbolizer<D> {
     }
 
     /// Takes in the file of a resolver as the ELF file at the path, under the path's present stamp,
-    /// without reading the file there. Sources at the path are then answered by the resolver's file,
-    /// as long as the path is at that stamp and this stamp stays kept. It is refused by
-    /// `AlreadyExists` where a version with the present stamp is kept, or where the path is held and isn't
-    /// looked at anew. It is refused by `NotFound`, `PermissionDenied` and `ReadFault` as a look at the path
-    /// is, and by `OutOfMemory`. After a refusal the symbolizer is as before.
+    /// without reading the file there. ELF sources at the path are then answered by the resolver's
+    /// file, as long as the path is at that stamp and this stamp stays kept. It is refused by
+    /// `AlreadyExists` where a version with the present stamp is kept, or where the path is held
+    /// and isn't looked at anew. It is refused by `NotFound`, `PermissionDenied` and `ReadFault` as
+    /// a look at the path is, and by `OutOfMemory`. After a refusal the symbolizer is as before.
     pub fn register_elf_resolver<F: Files>(
         &mut self,
         alloc: Global,

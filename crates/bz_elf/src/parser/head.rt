@@ -48,7 +48,7 @@ fn is_elf(bytes: &[u8]) -> bool
     bytes.len() >= IDENTITY_LEN && u32_at(bytes, EI_MAG0) == ELFMAG
 }
 
-/// Whether the file has 64 bits, and the least byte of each number first.
+/// Whether the file is of 64 bits and little-endian.
 #[tactic(auto, unfolding(crate::specs::Checks::is_supported))]
 fn is_supported(bytes: &[u8]) -> bool
     requires { identity_len ≤ length bytes.now }

@@ -19,7 +19,7 @@ pub(super) const EI_DATA: usize = 5;
 /// The class of files of 64 bits.
 pub(super) const ELFCLASS64: u8 = 2;
 
-/// The order of bytes whose first is the least.
+/// The order of bytes of little-endian files.
 pub(super) const ELFDATA2LSB: u8 = 1;
 
 /// How many bytes hold the magic number, the class and the order of bytes.

@@ -76,7 +76,7 @@ fn first_of_kind(bytes: &[u8], kind: u32) -> Option<Section>
     None
 }
 
-/// The section of an index. None: there are no more than so many.
+/// The section of an index. None: there is none of that index.
 fn section(bytes: &[u8], index: u32) -> Option<Section>
     requires { TablesLie bytes.now }
     ensures { result ≡ slice_get (sections bytes.now) index }

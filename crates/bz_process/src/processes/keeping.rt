@@ -19,7 +19,7 @@ impl<D: ProcessDispatch + Drop> Processes<D> {
     /// held, if one is. NotFound: the mappings or the status are absent. PermissionDenied, InvalidData: the
     /// mappings, the status or the perf map may not be read, or isn't in its format. ReadFault: a file
     /// failed. OutOfMemory: memory ran out. Mappings come first, then the status, then the perf map, and the
-    /// first that can't be had refuses. After a refusal everything is as before.
+    /// first that can't be had refuses. After a refusal all that is kept is as before.
     pub fn cache<F: Files>(
         &mut self,
         alloc: Global,

@@ -21,11 +21,13 @@ impl<D: ProcessDispatch + Drop> Symbolizer<D> {
     /// that this look gives. A symbolizer that doesn't look at files anew pins a held path as it is. It
     /// is refused as the look is: by `NotFound`, `PermissionDenied`, `Unsupported` or `InvalidData`.
     ///
-    /// Of a process, where they are asked for, the mappings are read and kept. Then its id is remembered, for
-    /// which its status is read unless it is remembered already. Then its perf map is looked at as if it
-    /// weren't pinned, and pinned. An absent perf map is no refusal: a version that is held is pinned then.
-    /// It is refused by the first of the three files that is absent (`NotFound`), may not be read
-    /// (`PermissionDenied`) or isn't in its format (`InvalidData`).
+    /// Of a process, where they are asked for, the mappings are read and kept. Then its id is
+    /// remembered, for which its status is read unless it is remembered already. Then its perf map
+    /// is looked at as if it weren't pinned, and pinned. An absent perf map is no refusal: a
+    /// version that is held is pinned then. Absent mappings or an absent status refuse it by
+    /// `NotFound`. Any of the three files refuses it by `PermissionDenied` where it may not be
+    /// read, and by `InvalidData` where it isn't in its format. The first that can't be had
+    /// refuses.
     ///
     /// Either may be refused by `ReadFault` and `OutOfMemory` too. After a refusal, whichever it is, the
     /// symbolizer is as before.

@@ -11,4 +11,4 @@ returns-in_err-answer-clause-answer c =
 -- its answer
 pub returns-clause-answer : goal.returns-clause-answer
 returns-clause-answer c =
-    gives_owned _ c.in_ok-answer.answer c.owned_answer.result c.in_ok-answer.ensures.answer c.owned_answer.ensures.same c.owned_answer.ensures.memory
+    gives_owned _ c.in_ok-answer.answer c.into_owned.result c.in_ok-answer.ensures.answer c.into_owned.ensures.same c.into_owned.ensures.memory

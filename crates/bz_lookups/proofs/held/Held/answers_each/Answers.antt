@@ -7,7 +7,7 @@ use Rattle.bz_lookups.proofs.held.Held.answers_each.Goals as goal
 
 -- the record is the one for the address
 pub answer_by-answer-requires : goal.answer_by-answer-requires
-answer_by-answer-requires c = rw c.record_at-found.ensures (found_there c.args.addrs.now c.args.records.now c.loop-index.index (search rules) c.args.self.now c.requires.found)
+answer_by-answer-requires c = rw c.record_at-found.ensures (found_there c.args.addrs.now c.args.records.now c.loop-index.index (search rules) (version_of c.args.self.now) c.requires.found)
 
 -- the answer that is pushed is the one at the next address
 pub loop-index-preserved : goal.loop-index-preserved

@@ -1,4 +1,4 @@
-use Rattle.std.proofs.Common.{◌≡◌, map, subst, IfOk}
+use Rattle.std.proofs.Common.{◌≡◌, ap, map, subst, sym, IfOk}
 use Rattle.bz_base.specs.Answer.{reading}
 use Rattle.bz_lookups.proofs.BatchLemmas.{there_of_some}
 use Rattle.bz_lookups.specs.Batch.{Batch, answers_there, version_of}
@@ -10,4 +10,4 @@ returns-clause-answers c =
     let inside = c.self.inside in
     subst (λ (b : Batch). IfOk c.answers_by.result (λ answers. map reading answers.items ≡ answers_there c.args.indices.now b)) c.self.view_is
     (there_of_some (version_of inside.held) inside.opts inside.addrs.items c.args.indices.now c.in_ok-some.some.addrs.items c.answers_by.result
-    (rw c.deref.ensures.value at c.in_ok-some.ensures.addrs) (rw c.deref-3.ensures.value at c.answers_by.ensures.answers))
+    (rw (sym (ap (λ (b : Batch). b.addrs) c.self.view_is)) at c.in_ok-some.ensures.addrs) (rw c.deref.ensures.value at c.answers_by.ensures.answers))
