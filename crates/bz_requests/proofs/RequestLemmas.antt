@@ -1,5 +1,5 @@
 -- The request that is read of a text is the one that it spells.
-use Rattle.std.proofs.Common.{◌≡◌, ℕ, Bool, true, false, ◌&&◌, nat_lt, cond, List, [], ◌∷◌, length, codes, Option, Some, None, option_map, option_and_then, bytes_eq, refl, sym, ap, subst, ◌∙◌}
+use Rattle.std.proofs.Common.{◌≡◌, ℕ, Bool, true, false, ◌&&◌, nat_lt, cond, List, [], ◌∷◌, length, codes, Some, None, option_map, option_and_then, bytes_eq, refl, sym, ap, subst, ◌∙◌}
 use Rattle.std.specs.List.{AllZip}
 use Rattle.std.specs.Str.{is_utf8}
 use Rattle.std.proofs.lemmas.Bool.{and_parts, cond_both, ltb-true}
@@ -13,7 +13,7 @@ use Rattle.bz_requests.specs.Lines.{ReadsAsSpelled}
 use Rattle.bz_requests.proofs.AddressLemmas.{address_found, address_again, addresses_found, addresses_again}
 use Rattle.bz_requests.proofs.FieldLemmas.{are_fields, fields_are}
 use Rattle.bz_requests.proofs.OptionLemmas.{map_some, then_some}
-use Rattle.bz_requests.specs.Requests.{Target, Breakpad, Gsym, Elf, Process, Request, Batch, Single, CacheElf, CacheProcess, EvictElf, EvictProcess, IsPath, IsTarget, IsRequest, Spell, path_in, pid_in, target_in, batch_in, single_in, target_alone_in, request_to_cache, request_to_evict, other_in, request_by, request_in}
+use Rattle.bz_requests.specs.Requests.{Target, Breakpad, Gsym, Elf, Process, Request, Batch, Single, CacheElf, CacheProcess, EvictElf, EvictProcess, IsPath, IsPid, IsTarget, IsRequest, Spell, path_in, pid_in, target_in, batch_in, single_in, target_alone_in, request_to, cache_in, evict_in, other_in, request_by, request_in}
 use Rattle.bz_requests.proofs.ReadingLemmas.{path_some}
 
 -- a text that is tested to be a word is the word
@@ -64,34 +64,32 @@ single_found (kind ∷ field ∷ other ∷ []) request read =
     subst (Spell (codes "single" ∷ kind ∷ field ∷ other ∷ [])) addr.2 (kind, field, other, refl, target_found kind field target.0 target.1, address_found other addr.0 addr.1)
 single_found (kind ∷ field ∷ other ∷ more ∷ others) request read = cc
 
-cache_spelled : (kind field : List ℕ) (target : Target) (request : Request) → IsTarget kind field target → request_to_cache target ≡ Some request →
-    Spell (codes "cache" ∷ kind ∷ field ∷ []) request
-cache_spelled kind field (Breakpad path) request named made = cc
-cache_spelled kind field (Gsym path) request named made = cc
-cache_spelled kind field (Elf path) request (is, spelled) made =
-    subst (Spell (codes "cache" ∷ kind ∷ field ∷ [])) (same_Some (CacheElf path) request made) (field, ap (λ k. codes "cache" ∷ k ∷ field ∷ []) is, spelled)
-cache_spelled kind field (Process pid) request (is, spelled) made =
-    subst (Spell (codes "cache" ∷ kind ∷ field ∷ [])) (same_Some (CacheProcess pid) request made) (field, ap (λ k. codes "cache" ∷ k ∷ field ∷ []) is, spelled)
+-- a request that an ELF file or a process alone makes, behind a word
+module _ (word : List ℕ) (of_path : List ℕ → Request) (of_pid : ℕ → Request)
+    (by_path : (field path : List ℕ) → IsPath field path → Spell (word ∷ codes "elf" ∷ field ∷ []) (of_path path))
+    (by_pid : (field : List ℕ) (pid : ℕ) → IsPid field pid → Spell (word ∷ codes "process" ∷ field ∷ []) (of_pid pid)) where
+  alone_spelled : (kind field : List ℕ) (target : Target) (request : Request) → IsTarget kind field target → request_to of_path of_pid target ≡ Some request →
+      Spell (word ∷ kind ∷ field ∷ []) request
+  alone_spelled kind field (Breakpad path) request named made = cc
+  alone_spelled kind field (Gsym path) request named made = cc
+  alone_spelled kind field (Elf path) request (is, spelled) made =
+      subst (λ k. Spell (word ∷ k ∷ field ∷ []) request) (sym is) (subst (Spell (word ∷ codes "elf" ∷ field ∷ [])) (same_Some (of_path path) request made) (by_path field path spelled))
+  alone_spelled kind field (Process pid) request (is, spelled) made =
+      subst (λ k. Spell (word ∷ k ∷ field ∷ []) request) (sym is) (subst (Spell (word ∷ codes "process" ∷ field ∷ [])) (same_Some (of_pid pid) request made) (by_pid field pid spelled))
 
-evict_spelled : (kind field : List ℕ) (target : Target) (request : Request) → IsTarget kind field target → request_to_evict target ≡ Some request →
-    Spell (codes "evict" ∷ kind ∷ field ∷ []) request
-evict_spelled kind field (Breakpad path) request named made = cc
-evict_spelled kind field (Gsym path) request named made = cc
-evict_spelled kind field (Elf path) request (is, spelled) made =
-    subst (Spell (codes "evict" ∷ kind ∷ field ∷ [])) (same_Some (EvictElf path) request made) (field, ap (λ k. codes "evict" ∷ k ∷ field ∷ []) is, spelled)
-evict_spelled kind field (Process pid) request (is, spelled) made =
-    subst (Spell (codes "evict" ∷ kind ∷ field ∷ [])) (same_Some (EvictProcess pid) request made) (field, ap (λ k. codes "evict" ∷ k ∷ field ∷ []) is, spelled)
+  alone_found : (all : List (List ℕ)) (request : Request) → option_and_then (request_to of_path of_pid) (target_alone_in all) ≡ Some request → Spell (word ∷ all) request
+  alone_found [] request read = cc
+  alone_found (kind ∷ []) request read = cc
+  alone_found (kind ∷ field ∷ []) request read =
+      let target = then_some (request_to of_path of_pid) (target_in kind field) request read in
+      alone_spelled kind field target.0 request (target_found kind field target.0 target.1) target.2
+  alone_found (kind ∷ field ∷ more ∷ others) request read = cc
 
--- a request that is made of a target alone, behind a word
-alone_found : (word : List ℕ) (make : Target → Option Request) →
-    ((kind field : List ℕ) (target : Target) (request : Request) → IsTarget kind field target → make target ≡ Some request → Spell (word ∷ kind ∷ field ∷ []) request) →
-    (all : List (List ℕ)) (request : Request) → option_and_then make (target_alone_in all) ≡ Some request → Spell (word ∷ all) request
-alone_found word make spells [] request read = cc
-alone_found word make spells (kind ∷ []) request read = cc
-alone_found word make spells (kind ∷ field ∷ []) request read =
-    let target = then_some make (target_in kind field) request read in
-    spells kind field target.0 request (target_found kind field target.0 target.1) target.2
-alone_found word make spells (kind ∷ field ∷ more ∷ others) request read = cc
+cache_found : (all : List (List ℕ)) (request : Request) → cache_in all ≡ Some request → Spell (codes "cache" ∷ all) request
+cache_found = alone_found (codes "cache") CacheElf CacheProcess (λ field path is. (field, refl, is)) (λ field pid is. (field, refl, is))
+
+evict_found : (all : List (List ℕ)) (request : Request) → evict_in all ≡ Some request → Spell (codes "evict" ∷ all) request
+evict_found = alone_found (codes "evict") EvictElf EvictProcess (λ field path is. (field, refl, is)) (λ field pid is. (field, refl, is))
 
 other_found : (kind : List ℕ) (all : List (List ℕ)) (request : Request) → other_in kind all ≡ Some request → Spell (kind ∷ all) request
 other_found kind [] request read = cc
@@ -110,9 +108,9 @@ fields_found (first ∷ others) request read = by_word read
         cond_both (bytes_eq first (codes "single")) _ _ (λ found. found ≡ Some request → Spell (first ∷ others) request)
         (λ is from. behind (codes "single") (is_word first (codes "single") is) (single_found others request from))
         (λ other. cond_both (bytes_eq first (codes "cache")) _ _ (λ found. found ≡ Some request → Spell (first ∷ others) request)
-        (λ is from. behind (codes "cache") (is_word first (codes "cache") is) (alone_found (codes "cache") request_to_cache cache_spelled others request from))
+        (λ is from. behind (codes "cache") (is_word first (codes "cache") is) (cache_found others request from))
         (λ other. cond_both (bytes_eq first (codes "evict")) _ _ (λ found. found ≡ Some request → Spell (first ∷ others) request)
-        (λ is from. behind (codes "evict") (is_word first (codes "evict") is) (alone_found (codes "evict") request_to_evict evict_spelled others request from))
+        (λ is from. behind (codes "evict") (is_word first (codes "evict") is) (evict_found others request from))
         (λ other from. other_found first others request from)))
 
 -- What the fields spell is read.
@@ -143,12 +141,12 @@ fields_again all (Batch target addrs) (kind, field, others, are, named, each) =
     ap request_by are ∙ by_kind kind field others target named ∙ batch_again kind field others target addrs named each
 fields_again all (Single target addr) (kind, field, other, are, named, spelled) =
     ap request_by are ∙ rw (target_again kind field target named, address_again other addr spelled) refl
-fields_again all (CacheElf path) (field, are, spelled) = ap request_by are ∙ ap (option_and_then request_to_cache) (target_again (codes "elf") field (Elf path) (refl, spelled))
+fields_again all (CacheElf path) (field, are, spelled) = ap request_by are ∙ ap (option_and_then (request_to CacheElf CacheProcess)) (target_again (codes "elf") field (Elf path) (refl, spelled))
 fields_again all (CacheProcess pid) (field, are, spelled) =
-    ap request_by are ∙ ap (option_and_then request_to_cache) (target_again (codes "process") field (Process pid) (refl, spelled))
-fields_again all (EvictElf path) (field, are, spelled) = ap request_by are ∙ ap (option_and_then request_to_evict) (target_again (codes "elf") field (Elf path) (refl, spelled))
+    ap request_by are ∙ ap (option_and_then (request_to CacheElf CacheProcess)) (target_again (codes "process") field (Process pid) (refl, spelled))
+fields_again all (EvictElf path) (field, are, spelled) = ap request_by are ∙ ap (option_and_then (request_to EvictElf EvictProcess)) (target_again (codes "elf") field (Elf path) (refl, spelled))
 fields_again all (EvictProcess pid) (field, are, spelled) =
-    ap request_by are ∙ ap (option_and_then request_to_evict) (target_again (codes "process") field (Process pid) (refl, spelled))
+    ap request_by are ∙ ap (option_and_then (request_to EvictElf EvictProcess)) (target_again (codes "process") field (Process pid) (refl, spelled))
 
 -- Texts.
 

@@ -19,8 +19,8 @@ pub data Target : Type 0 where
   Elf : List ℕ → Target
   Process : ℕ → Target
 
--- what a symbolizer is asked: the answers of a target to addresses, or to one alone; or that an ELF file or a process's files are
--- to be kept, or to be forgotten
+-- what a symbolizer is asked: the answers of a target to addresses, or to one alone. Or it is to keep, or to forget, an ELF file
+-- or the files of a process
 pub data Request : Type 0 where
   Batch : Target → List ℕ → Request
   Single : Target → ℕ → Request
@@ -118,22 +118,17 @@ abbrev pub target_alone_in : List (List ℕ) → Option Target
 target_alone_in (kind ∷ field ∷ []) = target_in kind field
 target_alone_in _ = None
 
--- only ELF files and the files of processes are cached or evicted
-abbrev pub request_to_cache : Target → Option Request
-request_to_cache (Elf path) = Some (CacheElf path)
-request_to_cache (Process pid) = Some (CacheProcess pid)
-request_to_cache _ = None
-
-abbrev pub request_to_evict : Target → Option Request
-request_to_evict (Elf path) = Some (EvictElf path)
-request_to_evict (Process pid) = Some (EvictProcess pid)
-request_to_evict _ = None
+-- only an ELF file or a process is cached or evicted: the request of its path, or of its id
+abbrev pub request_to : (List ℕ → Request) → (ℕ → Request) → Target → Option Request
+request_to of_path of_pid (Elf path) = Some (of_path path)
+request_to of_path of_pid (Process pid) = Some (of_pid pid)
+request_to of_path of_pid _ = None
 
 abbrev pub cache_in : List (List ℕ) → Option Request
-cache_in all = option_and_then request_to_cache (target_alone_in all)
+cache_in all = option_and_then (request_to CacheElf CacheProcess) (target_alone_in all)
 
 abbrev pub evict_in : List (List ℕ) → Option Request
-evict_in all = option_and_then request_to_evict (target_alone_in all)
+evict_in all = option_and_then (request_to EvictElf EvictProcess) (target_alone_in all)
 
 abbrev pub other_in : List ℕ → List (List ℕ) → Option Request
 other_in kind (field ∷ others) = batch_in kind field others

@@ -18,9 +18,9 @@ pub fn fields_are_exact()
     ensures { (text : List ℕ) (all : List (List ℕ)) → (fields text ≡ all) ↔ AreFields text all }
 {}
 
-/// The request that is read of a line's content is the one that it spells; those that are read of
-/// an input are those that its lines say; and the number that is read of another one is that of its
-/// first line that isn't well formed.
+/// The request that is read of a line's content is the one that it spells. The requests that are
+/// read of an input are those that its lines say. Of any other input, the number of its first line
+/// that isn't well formed is read.
 pub fn requests_are_read()
     ensures request { (text : List ℕ) (request : Request) → (request_in text ≡ Some request) ↔ IsRequest text request }
     ensures requests { (text : List ℕ) (requests : List Request) → (requests_in text ≡ Ok requests) ↔ AreRequests text requests }

@@ -1,5 +1,5 @@
-//! Lines of an input, each of which is empty, and skipped, or says one item: an address, or a request to a
-//! symbolizer; the fields of a line; and settings.
+//! What the lines of an input say: one item each, as an address or a request to a symbolizer. Empty
+//! lines are skipped. Also the fields of a line, and the settings of a symbolizer.
 #![tactic(auto)]
 
 mod addresses;

@@ -1,13 +1,13 @@
 //! The requests that lines spell.
 
 ghost use Rattle.std.specs.Prelude.{◌≡◌, ◌∷◌, ℕ, Ok, Err, Some, None, bytes_eq, map, option_map, string_bytes, IfOk, IsErrOf};
-ghost use Rattle.bz_requests.specs.Requests.{batch_in, cache_in, evict_in, other_in, path_in, pid_in, request_by, request_in, request_of, request_to_cache, request_to_evict, requests_in, single_in, target_alone_in, target_in, target_of};
+ghost use Rattle.bz_requests.specs.Requests.{CacheElf, CacheProcess, EvictElf, EvictProcess, batch_in, cache_in, evict_in, other_in, path_in, request_by, request_in, request_of, request_to, requests_in, single_in, target_alone_in, target_in, target_of};
 
 use crate::addresses::{address, each_address};
 use crate::field::fields;
 use crate::lines::{BadInput, FromLine, read_lines};
 use crate::requests::{Request, Target};
-use bz_base::whole_decimal;
+use bz_base::whole_u32;
 use std::alloc::{AllocError, Global};
 
 /// The requests that the lines of the input say: one on each line, or none where it is empty.
@@ -100,7 +100,7 @@ fn evict(alloc: Global, fields: &[&[u8]]) -> Result<Option<Request>, AllocError>
 }
 
 fn request_to_cache(target: Target) -> Option<Request>
-    ensures { option_map request_of result ≡ request_to_cache (target_of target) }
+    ensures { option_map request_of result ≡ request_to CacheElf CacheProcess (target_of target) }
 {
     match target {
         Target::Elf(path) => Some(Request::CacheElf(path)),
@@ -110,7 +110,7 @@ fn request_to_cache(target: Target) -> Option<Request>
 }
 
 fn request_to_evict(target: Target) -> Option<Request>
-    ensures { option_map request_of result ≡ request_to_evict (target_of target) }
+    ensures { option_map request_of result ≡ request_to EvictElf EvictProcess (target_of target) }
 {
     match target {
         Target::Elf(path) => Some(Request::EvictElf(path)),
@@ -174,7 +174,7 @@ fn named_target(alloc: Global, kind: &[u8], text: &[u8]) -> Result<Option<Target
             None => Ok(None),
         }
     } else if is(kind, "process") {
-        match pid(text) {
+        match whole_u32(text) {
             Some(pid) => Ok(Some(Target::Process(pid))),
             None => Ok(None),
         }
@@ -197,13 +197,6 @@ fn path(alloc: Global, text: &[u8]) -> Result<Option<String>, AllocError>
         }
         Err(_) => Ok(None),
     }
-}
-
-fn pid(text: &[u8]) -> Option<u32>
-    ensures { result ≡ pid_in text.now }
-{
-    let pid = whole_decimal(text, 10, 4_294_967_295)?;
-    Some(pid as u32)
 }
 
 // Whether the text is the word.

@@ -16,9 +16,9 @@ use Rattle.bz_requests.specs.Requests as requests
 use Rattle.bz_requests.specs.declared.requests.Config.{Config}
 use Rattle.bz_run.specs.Generating.{generated_summary}
 use Rattle.bz_symq.proofs.FaultLemmas.{counts_still}
-use Rattle.bz_serve.specs.Serving.{served}
 use Rattle.bz_symq.proofs.EndLemmas.{failed_ends, runs_without_reply}
 use Rattle.bz_symq.specs.Command as asked
+use Rattle.bz_symq.specs.Outcome.{done_with}
 use Rattle.bz_symq.specs.Reply.{IsDoneReply}
 use Rattle.bz_symq.specs.Run as one_command
 use Rattle.bz_symq.specs.Run.{Fails, IsOrFails}
@@ -152,7 +152,7 @@ module _ {R W F : Type 0} (reads : input_trait.Ghosts R) (writes : output_trait.
   job_unstarted config (Make product) = command_unstarted _ (record { most = inl refl; opened = λ world seen done. absurd done })
   job_unstarted config (Generate seed functions addresses) = record {
     generated = record {
-      ends = λ old written. failed_ends (served (generated_summary config seed functions addresses)) old statuses.Memory _ (inr refl) written;
+      ends = λ old written. failed_ends (done_with (generated_summary config seed functions addresses)) old statuses.Memory _ (inr refl) written;
       status = inr (inr refl);
       fails = counts_still _ _ _ (λ other. cc) refl;
     };

@@ -1,6 +1,6 @@
 -- What the outcome of a run says of its input and its file.
-use Rattle.std.proofs.Common.{◌≡◌, ◌⊎◌, ℕ, ◌≤◌, ◌<◌, Bool, true, false, List, ◌++◌, length, Option, Some, Result, Ok, Err, IsErr, refl, sym, ap, ◌∙◌, inl, inr, arith, ltb}
-use Rattle.std.proofs.lemmas.Bool.{false≢true, le-ltb, lt-ltb, ltb-false, ltb-true}
+use Rattle.std.proofs.Common.{◌≡◌, ◌⊎◌, ℕ, ◌≤◌, Bool, true, false, List, ◌++◌, length, Option, Some, Result, Ok, Err, refl, sym, ap, ◌∙◌, inl, inr, ltb}
+use Rattle.std.proofs.lemmas.Bool.{false≢true, le-ltb, ltb-false, ltb-true}
 use Rattle.bz_base.specs.Answer.{Answer}
 use Rattle.bz_base.specs.InputKind.{InFile}
 use Rattle.bz_base.specs.declared.error.Error.{Error}
@@ -19,7 +19,7 @@ use Rattle.bz_symq.specs.declared.status.Status.TheVariants as statuses
 use Rattle.bz_symq.proofs.InputTextLemmas.{asks_from_read, bad_from_read}
 use Rattle.bz_symq.proofs.TargetLemmas.{answers_found, answers_given, cause_found, refusal_given}
 use Rattle.bz_stacks.specs.Fold.{addrs_of}
-use Rattle.bz_run.specs.StackOutcome.{answers_in, by_stacks, by_text, folded_by, stacks_outcome}
+use Rattle.bz_run.specs.StackOutcome.{answers_in, by_text, folded_by, stacks_outcome}
 use Rattle.bz_run.specs.StackRun.{IsFoldable, IsFolded, IsRefusable, IsRefused}
 
 -- the Breakpad file at a path is asked for offsets in it

@@ -7,7 +7,6 @@ use Rattle.bz_cache.specs.Format.{FailsAs}
 use Rattle.bz_files.specs.World.{World, Told}
 use Rattle.bz_requests.specs.declared.requests.Config.{Config}
 use Rattle.bz_stacks.specs.Spelling.{IsStack, stack_in, stacks_in}
-use Rattle.bz_stacks.specs.Stack.{CountedStack}
 use Rattle.bz_stacks.proofs.SpellingLemmas.{stack_agrees}
 use Rattle.bz_symq.proofs.InputTextLemmas.{asks_from_read, bad_from_read, err_from_bad}
 use Rattle.bz_symq.proofs.ReplyLemmas.{input_iff, names_bad, never_usage, no_failure_from, refused_read}

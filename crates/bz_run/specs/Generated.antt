@@ -10,6 +10,6 @@ pub record RunsGenerated {R W F : Type 0} (writes : output_trait.Ghosts W) (conf
     (input_before input_after : R) (output_before output_after : W) (files_before files_after : F) : Type 0 where
   -- its summary was written, or a front of it
   pub generated : Generates writes config seed functions addresses ended output_before output_after
-  -- neither the input nor a file is come to
+  -- neither the input nor a file is touched
   pub unread : input_after ≡ input_before
   pub unlooked : files_after ≡ files_before

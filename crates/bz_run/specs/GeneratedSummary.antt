@@ -45,7 +45,7 @@ with_answer answer tally = record {
   offsets = tally.offsets + offset_in answer;
 }
 
--- each number of the tally has 64 bits
+-- each number of the tally fits in 64 bits
 pub record Fits (tally : Tally) : Type 0 where
   pub known : tally.known ≤ 18446744073709551615
   pub unknown : tally.unknown ≤ 18446744073709551615

@@ -9,7 +9,7 @@ use Rattle.bz_canon.specs.Generated.{addresses_after}
 use Rattle.bz_canon.specs.GeneratedTable.{generated_table}
 use Rattle.bz_requests.specs.declared.requests.Config.{Config}
 use Rattle.bz_symq.specs.Kept.{settings_of}
-use Rattle.bz_serve.specs.Serving.{served}
+use Rattle.bz_symq.specs.Outcome.{done_with}
 use Rattle.bz_symbolize.specs.State.{opts_of}
 use Rattle.bz_symq.specs.Run.{Ends, IsOrFails}
 use Rattle.bz_symq.specs.declared.status.Status.{Status}
@@ -26,7 +26,7 @@ generated_summary config seed functions addresses = summary_text functions addre
 -- all that the generated job promises
 pub record Generates {W : Type 0} (writes : output_trait.Ghosts W) (config : Config) (seed functions addresses : ℕ) (ended : Status) (before after : W) : Type 0 where
   -- status 0 means that the summary is what was written, and status 4 or 5 that a front of it is
-  pub ends : Told (writes.written before) (λ was. Ends (served (generated_summary config seed functions addresses)) was ended (writes.written after))
+  pub ends : Told (writes.written before) (λ was. Ends (done_with (generated_summary config seed functions addresses)) was ended (writes.written after))
   -- no other status comes
   pub status : IsOrFails statuses.Done ended
   -- a fault comes exactly where one call of the output failed

@@ -10,8 +10,7 @@ use Rattle.bz_stacks.specs.Text.{folded_text}
 use Rattle.bz_symbolize.specs.Lookup.{breakpad_answer, fresh_answer}
 use Rattle.bz_symq.specs.InputText.{by_length}
 use Rattle.bz_symq.specs.Kept.{opts_in}
-use Rattle.bz_symq.specs.Outcome.{Outcome, bad_line, refused, too_long}
-use Rattle.bz_symq.specs.declared.status.Status.TheVariants as statuses
+use Rattle.bz_symq.specs.Outcome.{Outcome, bad_line, done_with, refused, too_long}
 use Rattle.bz_stacks.specs.Fold.{addrs_of, seen_by}
 
 -- what the Breakpad file at the path answers to the addresses of the stacks, set side by side
@@ -25,7 +24,7 @@ folded_by stacks (Err e) = Err e
 
 -- the text is written, or the refusal
 abbrev pub by_text : Result (List ℕ) Error → Outcome
-by_text (Ok text) = record { status = statuses.Done; text = text }
+by_text (Ok text) = done_with text
 by_text (Err e) = refused e
 
 -- stacks are folded, and a bad line is named

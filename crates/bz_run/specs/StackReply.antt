@@ -1,4 +1,4 @@
--- What the reply to an input of stacks is, and what it comes to of input and files.
+-- What the reply to an input of stacks is, and what is done to input and files for it.
 use Rattle.std.specs.Prelude.{◌≡◌, ◌≢◌, ◌⊎◌, ◌↔◌, ℕ, ◌+◌, List, Option, Result, Ok, IfOk}
 use Rattle.bz_base.specs.Answer.{Answer}
 use Rattle.bz_base.specs.declared.error.Error.{Error}
@@ -16,7 +16,6 @@ use Rattle.bz_symq.specs.Reply.{IsBadReply, IsSomeRefusal, Replies, text_of}
 use Rattle.bz_symq.specs.Run.{IsNoFailure}
 use Rattle.bz_symq.specs.Targets.{IsSomeFileCause}
 use Rattle.bz_symq.specs.declared.reply.Reply.{Reply}
-use Rattle.bz_symq.specs.declared.status.Status.{Status}
 use Rattle.bz_symq.specs.declared.status.Status.TheVariants as statuses
 use Rattle.bz_stacks.specs.Fold.{addrs_of, seen_by}
 use Rattle.bz_run.specs.StackOutcome.{stacks_outcome}

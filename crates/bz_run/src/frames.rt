@@ -1,8 +1,6 @@
 //! The frames of a crash, as words ask for them.
 
-ghost use Rattle.std.specs.Prelude.{◌≡◌};
 ghost use Rattle.bz_run.specs.Run.{RunsJob};
-ghost use Rattle.bz_symq.specs.Kept.{opts_in};
 ghost use Rattle.bz_words.specs.Command.{Frames};
 
 use bz_base::FindSymOpts;
@@ -24,17 +22,6 @@ pub(crate) fn answer_frames<R: TextIn, W: TextOut, F: Files>(
 ) -> Status
     ensures { RunsJob R.TextIn W.TextOut F.Files config (Frames root.now) result input.old input.new output.old output.new files.old files.new }
 {
-    let opts = options(config);
+    let opts = FindSymOpts::by(config.code_info, config.inlined);
     run_frames(alloc, root, &opts, input, output, files)
-}
-
-// What answers have beside their symbols.
-fn options(config: Config) -> FindSymOpts
-    ensures { result ≡ opts_in config }
-{
-    match (config.code_info, config.inlined) {
-        (false, _) => FindSymOpts::Basic,
-        (true, false) => FindSymOpts::CodeInfo,
-        (true, true) => FindSymOpts::CodeInfoAndInlined,
-    }
 }

@@ -1,6 +1,6 @@
 //! The generated job.
 
-ghost use Rattle.std.specs.Prelude.{◌≡◌, ◌<◌, ◌≤◌};
+ghost use Rattle.std.specs.Prelude.{◌<◌, ◌≤◌};
 ghost use Rattle.bz_run.specs.Generating.{Generates};
 
 mod asking;
@@ -11,9 +11,8 @@ mod tally;
 use crate::generating::summary::generated_summary;
 use bz_files::TextOut;
 use bz_requests::Config;
-use bz_symq::{Reply, Said, Status, finish};
+use bz_symq::{Status, finish, text_reply};
 use std::alloc::Global;
-use std::borrow::CowStr;
 
 /// Puts the text of so many functions at a path in memory. It asks a new symbolizer for so many addresses,
 /// by the numbers after the seed. It writes what it counts, a line each: functions, addresses, known and
@@ -34,10 +33,7 @@ pub fn generate<W: TextOut>(
 {
     match generated_summary(alloc, config, seed, functions, addresses) {
         Ok(text) => {
-            let summary = Reply {
-                status: Status::Done,
-                said: Said::Text(CowStr::Owned(text)),
-            };
+            let summary = text_reply(Status::Done, text);
             finish(alloc, output, &summary)
         }
         Err(_) => Status::Memory,

@@ -1,5 +1,5 @@
 -- What an input of frames asks for, when it is bad, and what a run over it comes to.
-use Rattle.std.proofs.Common.{◌≡◌, ◌⊎◌, ◌↔◌, ◌≤◌, ◌<◌, ℕ, Bool, true, false, List, length, Option, Result, Ok, Err, IsErr, cond, refl, sym, ap, ◌∙◌, inl, inr, ltb, arith}
+use Rattle.std.proofs.Common.{◌≡◌, ◌⊎◌, ◌↔◌, ◌≤◌, ◌<◌, ℕ, Bool, true, false, List, length, Option, Result, Ok, Err, cond, refl, sym, ap, ◌∙◌, inl, inr, ltb}
 use Rattle.std.proofs.lemmas.Bool.{false≢true, le-ltb, lt-ltb, ltb-false}
 use Rattle.bz_base.specs.declared.types.FindSymOpts.{FindSymOpts}
 use Rattle.bz_files.specs.World.{World}

@@ -1,5 +1,5 @@
 -- From what a call of the symbolizer does to what is said.
-use Rattle.std.proofs.Common.{◌≡◌, ℕ, List, Result, Ok, Err, refl, sym, ap, ◌∙◌, inl, inr, arith}
+use Rattle.std.proofs.Common.{◌≡◌, ℕ, List, Result, Ok, Err, IfOk, refl, sym, ap, ◌∙◌, arith}
 use Rattle.bz_base.specs.declared.error.Error.{Error}
 use Rattle.bz_base.specs.declared.error.Error.TheVariants as errors
 use Rattle.bz_files.specs.Looked.{Looked}
@@ -7,13 +7,18 @@ use Rattle.bz_files.specs.declared.files.Files as files_trait
 use Rattle.bz_symbolize.specs.Evicting.{evicting}
 use Rattle.bz_symbolize.specs.Requests.{ToEvict}
 use Rattle.bz_symq.specs.Outcome.{Outcome}
-use Rattle.bz_symq.specs.Reply.{RepliesTo}
+use Rattle.bz_symq.specs.Reply.{RepliesTo, text_of}
 use Rattle.bz_symq.specs.declared.reply.Reply.{Reply}
 use Rattle.bz_symq.specs.declared.reply.Said.{Said}
 use Rattle.bz_symq.proofs.FaultLemmas.{counts_as, counts_still}
 use Rattle.bz_symq.specs.Kept.{KeptState}
 use Rattle.bz_serve.specs.Serving.{Does, Replied, Says, SaysRefusal}
 use Rattle.bz_serve.specs.RequestSteps.{Doing, done_by, forgetting, okay, said}
+
+-- what is said is the text
+pub some_said : (text : List ℕ) (result : Result Said Error) → Says text result → IfOk result (λ say. text_of say ≡ text)
+some_said text (Ok say) says = says
+some_said text (Err e) says = tt
 
 -- what is said of a refusal is what the reply to it says
 pub says_given : (error : Error) (reply : Reply) → RepliesTo error (Ok reply) → SaysRefusal error (Ok reply.said)
@@ -46,7 +51,7 @@ module _ {F : Type 0} (looks : files_trait.Ghosts F) (before after : F) where
       said = λ world told. tt;
       state = λ world told. tt;
       reads = does.reads;
-      failure = inr refl;
+      failure = tt;
       looked = looked_as (λ never. absurd never) (λ is. cc) does.looked;
     })
 
@@ -54,9 +59,9 @@ module _ {F : Type 0} (looks : files_trait.Ghosts F) (before after : F) where
     pub replied_refused : (error : Error) (result : Result Said Error) → Does looks reading doing (Err error) old now before after → SaysRefusal error result →
         Replied looks (done_by texts doing) result old now before after
     replied_refused errors.ReadFault result does says =
-        rw says (record { said = λ world told. tt; state = λ world told. tt; reads = does.reads; failure = inl refl; looked = does.looked })
+        rw says (record { said = λ world told. tt; state = λ world told. tt; reads = does.reads; failure = tt; looked = does.looked })
     replied_refused errors.OutOfMemory result does says =
-        rw says (record { said = λ world told. tt; state = λ world told. tt; reads = does.reads; failure = inr refl; looked = does.looked })
+        rw says (record { said = λ world told. tt; state = λ world told. tt; reads = does.reads; failure = tt; looked = does.looked })
     replied_refused error (Ok say) does says = record {
       said = λ world told. says ∙ sym (ap (said texts) (does.answer world told));
       state = does.state;
@@ -68,7 +73,7 @@ module _ {F : Type 0} (looks : files_trait.Ghosts F) (before after : F) where
       said = λ world told. tt;
       state = λ world told. tt;
       reads = does.reads;
-      failure = inr refl;
+      failure = tt;
       looked = looked_as (λ is. cc) (λ is. cc) does.looked;
     })
 
@@ -86,6 +91,6 @@ module _ {F : Type 0} (looks : files_trait.Ghosts F) (before after : F) where
     said = λ world told. tt;
     state = λ world told. tt;
     reads = λ world told. omega arith;
-    failure = inr refl;
+    failure = tt;
     looked = record { worlds = refl; pid = refl; faults = counts_still _ _ _ (λ other. cc) refl };
   })

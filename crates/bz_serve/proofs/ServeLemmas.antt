@@ -1,11 +1,11 @@
 -- One request: from what is said to what is written.
-use Rattle.std.proofs.Common.{◌≡◌, ◌⊎◌, List, [], ◌++◌, ℕ, Some, Result, Ok, Err, refl, sym, ap, subst, ◌∙◌, inl, inr, append-nil}
+use Rattle.std.proofs.Common.{◌≡◌, List, [], ◌++◌, ℕ, Some, Result, Ok, Err, refl, sym, ap, subst, ◌∙◌, append-nil}
 use Rattle.bz_base.specs.declared.error.Error.{Error}
 use Rattle.bz_base.specs.declared.error.Error.TheVariants as errors
 use Rattle.bz_files.specs.World.{World}
 use Rattle.bz_files.specs.declared.files.Files as files_trait
-use Rattle.bz_files.specs.declared.text.IoFault.{IoFault}
-use Rattle.bz_files.specs.declared.text.IoFault.TheVariants as faults
+use Rattle.bz_files.specs.declared.text.TextError.{TextError}
+use Rattle.bz_files.specs.declared.text.TextError.TheVariants as faults
 use Rattle.bz_files.specs.declared.text.TextOut as output_trait
 use Rattle.bz_symq.specs.Reply.{text_of}
 use Rattle.bz_symq.specs.Run.{WritesFront}
@@ -21,7 +21,7 @@ use Rattle.bz_serve.proofs.RequestReplyLemmas.{looked_as}
 module _ {W F : Type 0} (writes : output_trait.Ghosts W) (looks : files_trait.Ghosts F) (step : KeptState → World → RequestOutcome) (MaySay : List ℕ → Type 0) (old now : KeptState)
     (output_before output_after : W) (files_before files_after : F) where
   -- what is said is written, or a front of it
-  pub served_said : (say : Said) (put : Result (Unit {0}) IoFault) (result : Result (Unit {0}) Stop) → Replied looks step (Ok say) old now files_before files_after → MaySay (text_of say) →
+  pub served_said : (say : Said) (put : Result (Unit {0}) TextError) (result : Result (Unit {0}) Stop) → Replied looks step (Ok say) old now files_before files_after → MaySay (text_of say) →
       WritesText writes (text_of say) put output_before output_after → StopsAs put result → Served writes looks step MaySay result old now output_before output_after files_before files_after
   served_said say (Ok given) result replied may wrote is = rw is (record {
     whole = λ world told was written. wrote.whole was written ∙ ap (λ text. Some (was ++ text)) (replied.said world told);
@@ -60,26 +60,24 @@ module _ {W F : Type 0} (writes : output_trait.Ghosts W) (looks : files_trait.Gh
 
   -- where nothing is said, nothing is written
   pub served_failed : (error : Error) → Replied looks step (Err error) old now files_before files_after → Served writes looks step MaySay (Err (stop_by error)) old now output output files_before files_after
-  served_failed error replied = by_failure replied.failure
-    where
-      by_failure : (error ≡ errors.ReadFault) ⊎ (error ≡ errors.OutOfMemory) → Served writes looks step MaySay (Err (stop_by error)) old now output output files_before files_after
-      by_failure (inl is) = rw is (record {
-        whole = λ world told was written. tt;
-        front = λ world told was written. front_of_none _ was written;
-        some = λ was written. tt;
-        silent = λ world told nothing. refl;
-        state = λ world told. tt;
-        reads = replied.reads;
-        output_faults = counts_still _ _ _ (λ other. cc) refl;
-        looked = looked_as looks files_before files_after (λ failed. refl) (λ failed. is) replied.looked;
-      })
-      by_failure (inr is) = rw is (record {
-        whole = λ world told was written. tt;
-        front = λ world told was written. front_of_none _ was written;
-        some = λ was written. tt;
-        silent = λ world told nothing. refl;
-        state = λ world told. tt;
-        reads = replied.reads;
-        output_faults = counts_still _ _ _ (λ other. cc) refl;
-        looked = looked_as looks files_before files_after (λ failed. cc) (λ other. cc) replied.looked;
-      })
+  served_failed errors.ReadFault replied = record {
+    whole = λ world told was written. tt;
+    front = λ world told was written. front_of_none _ was written;
+    some = λ was written. tt;
+    silent = λ world told nothing. refl;
+    state = λ world told. tt;
+    reads = replied.reads;
+    output_faults = counts_still _ _ _ (λ other. cc) refl;
+    looked = looked_as looks files_before files_after (λ failed. refl) (λ failed. refl) replied.looked;
+  }
+  served_failed errors.OutOfMemory replied = record {
+    whole = λ world told was written. tt;
+    front = λ world told was written. front_of_none _ was written;
+    some = λ was written. tt;
+    silent = λ world told nothing. refl;
+    state = λ world told. tt;
+    reads = replied.reads;
+    output_faults = counts_still _ _ _ (λ other. cc) refl;
+    looked = looked_as looks files_before files_after (λ failed. cc) (λ other. cc) replied.looked;
+  }
+  served_failed _ replied = absurd replied.failure

@@ -1,7 +1,6 @@
 -- What is said to a request whatever the files tell, from what the calls of the symbolizer promise.
-use Rattle.std.proofs.Common.{String, Global, string_bytes, ◌≡◌, ◌⊎◌, ℕ, true, List, [], ◌∷◌, length, map, Option, Some, None, Result, Ok, Err, IfOk, refl, sym, ap, subst, inl, inr, length-append, arith}
+use Rattle.std.proofs.Common.{String, Global, string_bytes, ◌≡◌, ◌⊎◌, ℕ, Bool, true, List, [], ◌∷◌, Option, Some, None, Result, Ok, Err, IfOk, refl, sym, ap, subst, inl, inr}
 use Rattle.std.proofs.lemmas.Bool.{false≢true}
-use Rattle.std.proofs.lemmas.List.{length-map}
 use Rattle.bz_base.specs.Answer.{Answer}
 use Rattle.bz_base.specs.InputKind.{InFile, InProcess, InTable}
 use Rattle.bz_base.specs.Refusals.{IsFailure}
@@ -18,15 +17,15 @@ use Rattle.bz_proc.specs.SystemText.{IsReadRefusal}
 use Rattle.bz_process.specs.Asked.{Asked, asked_of}
 use Rattle.bz_process.specs.Caches.{ProcessCaches}
 use Rattle.bz_process.specs.Dispatch.{Answers, Test}
-use Rattle.bz_process.specs.Mapped.{AsksProcess, LacksMappings, if_some}
-use Rattle.bz_process.specs.Process as stepped
-use Rattle.bz_process.specs.Processes.{SymbolizesProcess}
-use Rattle.bz_process.specs.Untold.{SomeAtAddresses}
+use Rattle.bz_process.specs.Mapped.{AsksProcess, IsByMappings, LacksMappings, RefusedUnmapped, if_some}
+use Rattle.bz_process.specs.ProcessAsk.{GivesNone}
+use Rattle.bz_process.specs.ProcessCall.{UnlessFailed}
+use Rattle.bz_process.specs.Processes.{SymbolizesAddress, SymbolizesProcess, caches_of, kept_mappings}
 use Rattle.bz_process.specs.declared.query.ProcessQuery.{ProcessQuery}
 use Rattle.bz_symbolize.specs.Caching.{CachesAsAsked}
 use Rattle.bz_symbolize.specs.Evicting.{evicting}
 use Rattle.bz_symbolize.specs.FileCall.{MayBeRefused, Query, batch_of, single_of}
-use Rattle.bz_symbolize.specs.OfProcess.{BatchOfProcess}
+use Rattle.bz_symbolize.specs.OfProcess.{AddressOfProcess, BatchOfProcess}
 use Rattle.bz_symbolize.specs.Promise.{AnswersKept, IsOwnRefusal, IsUnserved, Symbolizes}
 use Rattle.bz_symbolize.specs.Requests.{ToCache, ToEvict, CacheElf as KeepElf, CacheProcess as KeepProcess, EvictElf as ForgetElf, EvictProcess as ForgetProcess, cache_read}
 use Rattle.bz_symbolize.specs.Sources.{OnFile, OneProcess, OnProcessForm, SourceForm, form_of}
@@ -44,14 +43,15 @@ use Rattle.bz_requests.specs.declared.requests.Target as made
 use Rattle.bz_requests.specs.declared.requests.Target.TheVariants as made_targets
 use Rattle.bz_canon.specs.AnswerText.{answer_text, answer_texts}
 use Rattle.bz_symq.specs.Command.{FileTarget, Breakpad as BreakpadFile, Elf as ElfFile, Gsym as GsymFile}
+use Rattle.bz_symq.specs.Processes.{pid_of}
 use Rattle.bz_symq.specs.Reply.{IsSomeCauseOrFails, text_of}
 use Rattle.bz_symq.specs.Targets.{IsSomeFileCause, IsSomeProcessCause, IsSourceOf, file_takes}
 use Rattle.bz_symq.specs.declared.reply.Said.{Said}
 use Rattle.bz_symq.proofs.CauseLemmas.{file_causes}
 use Rattle.bz_symq.proofs.TargetLemmas.{by_source}
-use Rattle.bz_serve.specs.RequestSteps.{okay}
+use Rattle.bz_serve.specs.RequestSteps.{okay, query_by, target_form}
 use Rattle.bz_serve.specs.Serving.{Says, SaysRefusal}
-use Rattle.bz_serve.specs.SomeReplies.{FileSays, IsAskedCause, IsSomeAnswer, IsSomeKeepingCause, IsSomeReadCause, IsSourceFor, KeepingSays, MayReply, ProcessSays, ProcessSaysAlone, SaysSome}
+use Rattle.bz_serve.specs.SomeReplies.{AreSomeGiven, Circumstances, FileMaySay, IsAddressCause, IsAskedCause, IsSomeAnswer, IsSomeGiven, IsSomeKeepingCause, IsSomeReadCause, IsSourceFor, KeepingMaySay, MayReply, ProcessMaySay, ProcessMaySayAlone, SaysSome}
 
 -- What is said.
 
@@ -85,12 +85,6 @@ cause_failed : (Cause : Error → Type 0) (e : Error) → IsFailure e → IsSome
 cause_failed Cause errors.ReadFault failed = tt
 cause_failed Cause errors.OutOfMemory failed = tt
 cause_failed Cause _ failed = absurd failed
-
--- no failure, or one
-cause_unfailing : (e : Error) → IsSomeCauseOrFails (λ e. IsFailure e → ⊥) e
-cause_unfailing errors.ReadFault = tt
-cause_unfailing errors.OutOfMemory = tt
-cause_unfailing _ = λ failed. failed
 
 -- a refusal of a call
 abbrev refused_so : Error → Result (Unit {0}) Error
@@ -150,11 +144,11 @@ module _ {B : Type 0} (opts : FindSymOpts) (query : Query B) where
 
   -- so that is what is said
   module _ (texts : B → List ℕ) (file : FileTarget) (source : Source) (result : Result Said Error) (is : IsSourceOf file source) where
-    pub file_given : (now : State) (given : B) → IsKeptAnswer now given source → Says (texts given) result → IfOk result (λ say. FileSays texts opts file query (text_of say))
+    pub file_given : (now : State) (given : B) → IsKeptAnswer now given source → Says (texts given) result → IfOk result (λ say. FileMaySay texts opts file query (text_of say))
     file_given now given kept says =
         says_given texts (λ given. IsSomeAnswer opts file query (Ok given)) (λ e. IsAskedCause opts file query e) given result (some_answered now given file source is kept) says
 
-    pub file_refused : (e : Error) → file_takes file query.kind ≡ true → MayRefuse e source → SaysRefusal e result → IfOk result (λ say. FileSays texts opts file query (text_of say))
+    pub file_refused : (e : Error) → file_takes file query.kind ≡ true → MayRefuse e source → SaysRefusal e result → IfOk result (λ say. FileMaySay texts opts file query (text_of say))
     file_refused e took may says =
         says_refused texts (λ given. IsSomeAnswer opts file query (Ok given)) (λ e. IsAskedCause opts file query e) e result (some_cause e file source is took may) says
 
@@ -162,7 +156,7 @@ module _ {B : Type 0} (opts : FindSymOpts) (query : Query B) where
 pub some_by_file : (opts : FindSymOpts) (target : made.Target) (addrs : List ℕ) (source : Source) (result : Result Said Error) → IsSourceFor (target_of target) source →
     ((path : String Global) × (target ≡ made_targets.Breakpad path)) ⊎ (((path : String Global) × (target ≡ made_targets.Gsym path)) ⊎ ((path : String Global) × (target ≡ made_targets.Elf path))) →
     ((file : FileTarget) → IsSourceOf file source → file_takes file (usual_kind (target_of target)) ≡ true →
-    IfOk result (λ say. FileSays (answer_texts addrs) opts file (batch_of (usual_kind (target_of target)) addrs) (text_of say))) →
+    IfOk result (λ say. FileMaySay (answer_texts addrs) opts file (batch_of (usual_kind (target_of target)) addrs) (text_of say))) →
     IfOk result (λ say. MayReply opts (Batch (target_of target) addrs) (text_of say))
 some_by_file opts (made_targets.Breakpad path) addrs source result source_is is holds = holds (BreakpadFile (string_bytes path)) source_is refl
 some_by_file opts (made_targets.Gsym path) addrs source result source_is is holds = holds (GsymFile (string_bytes path)) source_is refl
@@ -171,40 +165,15 @@ some_by_file opts (made_targets.Process number) addrs source result source_is (i
 some_by_file opts (made_targets.Process number) addrs source result source_is (inr (inl is)) holds = cc is.1
 some_by_file opts (made_targets.Process number) addrs source result source_is (inr (inr is)) holds = cc is.1
 
--- An address alone.
-
--- an answer or a refusal of a process
-alone_given : (addr : ℕ) (answer : Answer) (result : Result Said Error) → Says (answer_text addr answer) result → IfOk result (λ say. ProcessSaysAlone addr (text_of say))
-alone_given addr answer result says = says_given (answer_text addr) (λ answer. Unit {0}) (λ e. IsFailure e → ⊥) answer result tt says
-
-alone_refused : (addr : ℕ) (e : Error) (result : Result Said Error) → SaysRefusal e result → IfOk result (λ say. ProcessSaysAlone addr (text_of say))
-alone_refused addr e result says = says_refused (answer_text addr) (λ answer. Unit {0}) (λ e. IsFailure e → ⊥) e result (cause_unfailing e) says
-
-module _ {A X : Type 0} (looks : files_trait.Ghosts X) (reading : A → Answer) (source : Source) (addr : ℕ) (result : Result Said Error) (old now : State) (before after : X) where
-  -- of a target, whichever it is
-  pub single_given : (target : Target) (given : A) → IsSourceFor target source → Symbolizes looks reading source (single_of (usual_kind target) addr) (Ok given) old now before after →
-      Says (answer_text addr (reading given)) result → IfOk result (λ say. MayReply (opts_of old.settings) (Single target addr) (text_of say))
-  single_given (Breakpad path) given is promise says = file_given (opts_of old.settings) (single_of InFile addr) (answer_text addr) (BreakpadFile path) source result is now (reading given) promise.kept says
-  single_given (Gsym path) given is promise says = file_given (opts_of old.settings) (single_of InTable addr) (answer_text addr) (GsymFile path) source result is now (reading given) promise.kept says
-  single_given (Elf path) given is promise says = file_given (opts_of old.settings) (single_of InTable addr) (answer_text addr) (ElfFile path) source result is now (reading given) promise.kept says
-  single_given (OfProcess number) given is promise says = alone_given addr (reading given) result says
-
-  pub single_refused : (target : Target) (e : Error) → IsSourceFor target source → Symbolizes looks reading source (single_of (usual_kind target) addr) (Err e) old now before after →
-      SaysRefusal e result → IfOk result (λ say. MayReply (opts_of old.settings) (Single target addr) (text_of say))
-  single_refused (Breakpad path) e is promise says = file_refused (opts_of old.settings) (single_of InFile addr) (answer_text addr) (BreakpadFile path) source result is e refl promise.refusal says
-  single_refused (Gsym path) e is promise says = file_refused (opts_of old.settings) (single_of InTable addr) (answer_text addr) (GsymFile path) source result is e refl promise.refusal says
-  single_refused (Elf path) e is promise says = file_refused (opts_of old.settings) (single_of InTable addr) (answer_text addr) (ElfFile path) source result is e refl promise.refusal says
-  single_refused (OfProcess number) e is promise says = alone_refused addr e result says
+-- and what is said for the process that it is, where it is one
+pub some_by_process : (opts : FindSymOpts) (map_files : Bool) (target : made.Target) (addrs : List ℕ) (source : Source) (result : Result Said Error) → form_of source ≡ target_form map_files (target_of target) →
+    (number : ℕ) → target ≡ made_targets.Process number →
+    ((map_files : Bool) (number : ℕ) → form_of source ≡ OneProcess (query_by map_files number) → IfOk result (λ say. ProcessMaySay number addrs (text_of say))) →
+    IfOk result (λ say. MayReply opts (Batch (target_of target) addrs) (text_of say))
+some_by_process opts map_files target addrs source result form number is holds =
+    subst (λ (target : made.Target). IfOk result (λ say. MayReply opts (Batch (target_of target) addrs) (text_of say))) (sym is) (holds map_files number (rw is at form))
 
 -- Addresses of a process.
-
--- answers one after another are as many as the addresses
-answers_counted : (asked : Asked) (mappings : List Mapping) (items : List (ℕ × stepped.Said)) (answers : List Answer) (old now : ProcessCaches) → SomeAtAddresses asked mappings items answers old now →
-    length answers ≡ length items
-answers_counted asked mappings [] answers old now some = ap length some.0
-answers_counted asked mappings (item ∷ items) answers old now some =
-    let later = answers_counted asked mappings items some.2 some.1 now some.5 in
-    omega (arith, ap length some.3, later)
 
 -- mappings are lacked only where there are none
 only_eof : (mappings : List Mapping) (e : Error) → if_some mappings ≡ Err e → e ≡ errors.UnexpectedEof
@@ -230,45 +199,104 @@ module _ {A R X : Type 0} (files : files_trait.Ghosts X) (reading : A → List A
   abbrev AsksSo : Result A Error → Type 0
   AsksSo result = AsksProcess files reading test translates finds opts asked kept addrs result old now answers answers_now before after
 
-  -- a batch that is answered has an answer to each address
-  batch_counted : (given : A) → AsksSo (Ok given) → length (reading given) ≡ length addrs
-  batch_counted given asks = elim asks.used [
-    | inl mapped ↦
-        omega (
-          arith,
-          answers_counted asked asks.mappings asks.front (reading given) old now mapped.1,
-          ap length asks.addrs_are,
-          length-append (map (λ (item : ℕ × stepped.Said). item.0) asks.front) asks.rest,
-          length-map asks.front (λ (item : ℕ × stepped.Said). item.0),
-          ap length asks.all,
-        )
-    | inr unmapped ↦ absurd (false≢true unmapped.refused)
-  ]
-
-  -- and one that isn't lacks mappings, or something failed
+  -- a batch that isn't answered lacks mappings, or something failed
   batch_cause : (e : Error) → AsksSo (Err e) → IsSomeCauseOrFails IsSomeProcessCause e
   batch_cause e asks = elim asks.used [
     | inl mapped ↦ cause_failed IsSomeProcessCause e mapped.1.failure
     | inr unmapped ↦ lacks_cause kept e unmapped.refusal
   ]
 
-module _ {A D R X : Type 0} (looks : files_trait.Ghosts X) (reading : A → List Answer) (test : Test R) (translates : Translates R) (finds : Finds R) (source : Source) (query : ProcessQuery) (is : form_of source ≡ OneProcess query)
-    (addrs : List ℕ) (old now : WholeState D R) (before after : X) where
+-- what a process was asked under in a call
+abbrev under : {D R : Type 0} → ℕ → Bool → ℕ → WholeState D R → WholeState D R → Circumstances
+under own map_files number old now = record {
+  own = own;
+  map_files = map_files;
+  mappings = kept_mappings old.processes (pid_of number);
+  old = caches_of old.files.elf old.processes;
+  now = caches_of now.files.elf now.processes;
+}
+
+module _ {A D R X : Type 0} (looks : files_trait.Ghosts X) (reading : A → List Answer) (test : Test R) (translates : Translates R) (finds : Finds R) (source : Source) (map_files : Bool) (number : ℕ)
+    (is : form_of source ≡ OneProcess (query_by map_files number)) (addrs : List ℕ) (old now : WholeState D R) (before after : X) where
   abbrev BatchSo : Result A Error → Type 0
   BatchSo result = BatchOfProcess looks reading test translates finds source InProcess addrs result old now before after
 
   abbrev AsksOf : Result A Error → ProcessQuery → Type 0
   AsksOf result query = SymbolizesProcess looks reading test translates finds (opts_of old.files.settings) (asked_of (looks.pid before) query) InProcess addrs result old.files.elf now.files.elf old.processes now.processes before after
 
-  of_form : (result : Result A Error) → BatchSo result → AsksOf result query
+  of_form : (result : Result A Error) → BatchSo result → AsksOf result (query_by map_files number)
   of_form result promise = subst (λ (f : SourceForm). OnProcessForm f (AsksOf result)) is promise.asked
 
-  pub process_counted : (given : A) → BatchSo (Ok given) → length (reading given) ≡ length addrs
-  process_counted given promise = batch_counted _ reading _ _ _ _ _ _ addrs _ _ _ _ _ _ given ((of_form (Ok given) promise).asks refl)
+  pub process_given : (given : A) → BatchSo (Ok given) → GivesNone test → AreSomeGiven number addrs (reading given)
+  process_given given promise none = (under (looks.pid before) map_files number old now, (of_form (Ok given) promise).some none refl)
 
-  pub process_refused : (e : Error) (result : Result Said Error) → BatchSo (Err e) → SaysRefusal e result → IfOk result (λ say. ProcessSays addrs (text_of say))
+  pub process_refused : (e : Error) (result : Result Said Error) → BatchSo (Err e) → SaysRefusal e result → IfOk result (λ say. ProcessMaySay number addrs (text_of say))
   process_refused e result promise says =
-      says_refused (answer_texts addrs) (λ answers. length answers ≡ length addrs) IsSomeProcessCause e result (batch_cause _ reading _ _ _ _ _ _ addrs _ _ _ _ _ _ e ((of_form (Err e) promise).asks refl)) says
+      says_refused (answer_texts addrs) (λ answers. AreSomeGiven number addrs answers) IsSomeProcessCause e result (batch_cause _ reading _ _ _ _ _ _ addrs _ _ _ _ _ _ e ((of_form (Err e) promise).asks refl)) says
+
+-- An address alone.
+
+module _ {A D R X : Type 0} (looks : files_trait.Ghosts X) (reading : A → Answer) (test : Test R) (translates : Translates R) (finds : Finds R) (source : Source) (map_files : Bool) (number : ℕ)
+    (is : form_of source ≡ OneProcess (query_by map_files number)) (addr : ℕ) (old now : WholeState D R) (before after : X) where
+  abbrev AddressSo : Result A Error → Type 0
+  AddressSo result = AddressOfProcess looks reading test translates finds source InProcess addr result old now before after
+
+  abbrev AsksAt : Result A Error → ProcessQuery → Type 0
+  AsksAt result query = SymbolizesAddress looks reading test translates finds (opts_of old.files.settings) (asked_of (looks.pid before) query) InProcess addr result old.files.elf now.files.elf old.processes now.processes before after
+
+  at_form : (result : Result A Error) → AddressSo result → AsksAt result (query_by map_files number)
+  at_form result promise = subst (λ (f : SourceForm). OnProcessForm f (AsksAt result)) is promise.asked
+
+  abbrev known : Option (List Mapping)
+  known = kept_mappings old.processes (pid_of number)
+
+  -- an answer of a process
+  address_given : (given : A) → AddressSo (Ok given) → GivesNone test → IsSomeGiven number addr (Ok (reading given))
+  address_given given promise none = elim ((at_form (Ok given) promise).some none refl) [
+    | inl by ↦ (under (looks.pid before) map_files number old now, by)
+    | inr lacks ↦ absurd (false≢true lacks.refused)
+  ]
+
+  -- or a refusal of it, unless something failed
+  by_error : (e : Error) →
+      UnlessFailed {A = A} (Err e) (IsByMappings (asked_of (looks.pid before) (query_by map_files number)) known addr (Err e) (caches_of old.files.elf old.processes) (caches_of now.files.elf now.processes)
+      ⊎ RefusedUnmapped {A = A} known (Err e) (caches_of old.files.elf old.processes) (caches_of now.files.elf now.processes) old.processes.answers now.processes.answers) →
+      IsSomeCauseOrFails (λ e. IsAddressCause number addr e) e
+  by_error errors.ReadFault some = tt
+  by_error errors.OutOfMemory some = tt
+  by_error e (inl by) = inr (λ failed. failed, (under (looks.pid before) map_files number old now, by))
+  by_error e (inr lacks) = inl (lacks_cause known e lacks.refusal)
+
+  pub process_given_alone : (given : A) (result : Result Said Error) → AddressSo (Ok given) → GivesNone test → Says (answer_text addr (reading given)) result →
+      IfOk result (λ say. ProcessMaySayAlone number addr (text_of say))
+  process_given_alone given result promise none says =
+      says_given (answer_text addr) (λ answer. IsSomeGiven number addr (Ok answer)) (λ e. IsAddressCause number addr e) (reading given) result (address_given given promise none) says
+
+  pub process_refused_alone : (e : Error) (result : Result Said Error) → AddressSo (Err e) → GivesNone test → SaysRefusal e result →
+      IfOk result (λ say. ProcessMaySayAlone number addr (text_of say))
+  process_refused_alone e result promise none says =
+      says_refused (answer_text addr) (λ answer. IsSomeGiven number addr (Ok answer)) (λ e. IsAddressCause number addr e) e result (by_error e ((at_form (Err e) promise).some none refl)) says
+
+module _ {A D R X : Type 0} (looks : files_trait.Ghosts X) (reading : A → Answer) (source : Source) (addr : ℕ) (result : Result Said Error) (old now : WholeState D R) (before after : X)
+    (test : Test R) (translates : Translates R) (finds : Finds R) (map_files : Bool) where
+  -- of a target, whichever it is
+  pub single_given : (target : Target) (given : A) → form_of source ≡ target_form map_files target → IsSourceFor target source →
+      Symbolizes looks reading source (single_of (usual_kind target) addr) (Ok given) old.files now.files before after →
+      AddressOfProcess looks reading test translates finds source (usual_kind target) addr (Ok given) old now before after → GivesNone test →
+      Says (answer_text addr (reading given)) result → IfOk result (λ say. MayReply (opts_of old.files.settings) (Single target addr) (text_of say))
+  single_given (Breakpad path) given form is promise process none says = file_given (opts_of old.files.settings) (single_of InFile addr) (answer_text addr) (BreakpadFile path) source result is now.files (reading given) promise.kept says
+  single_given (Gsym path) given form is promise process none says = file_given (opts_of old.files.settings) (single_of InTable addr) (answer_text addr) (GsymFile path) source result is now.files (reading given) promise.kept says
+  single_given (Elf path) given form is promise process none says = file_given (opts_of old.files.settings) (single_of InTable addr) (answer_text addr) (ElfFile path) source result is now.files (reading given) promise.kept says
+  single_given (OfProcess number) given form is promise process none says = process_given_alone looks reading test translates finds source map_files number form addr old now before after given result process none says
+
+  pub single_refused : (target : Target) (e : Error) → form_of source ≡ target_form map_files target → IsSourceFor target source →
+      Symbolizes looks reading source (single_of (usual_kind target) addr) (Err e) old.files now.files before after →
+      AddressOfProcess looks reading test translates finds source (usual_kind target) addr (Err e) old now before after → GivesNone test →
+      SaysRefusal e result → IfOk result (λ say. MayReply (opts_of old.files.settings) (Single target addr) (text_of say))
+  single_refused (Breakpad path) e form is promise process none says = file_refused (opts_of old.files.settings) (single_of InFile addr) (answer_text addr) (BreakpadFile path) source result is e refl promise.refusal says
+  single_refused (Gsym path) e form is promise process none says = file_refused (opts_of old.files.settings) (single_of InTable addr) (answer_text addr) (GsymFile path) source result is e refl promise.refusal says
+  single_refused (Elf path) e form is promise process none says = file_refused (opts_of old.files.settings) (single_of InTable addr) (answer_text addr) (ElfFile path) source result is e refl promise.refusal says
+  single_refused (OfProcess number) e form is promise process none says = process_refused_alone looks reading test translates finds source map_files number form addr old now before after e result process none says
 
 -- Keeping and forgetting.
 
@@ -298,9 +326,9 @@ module _ {D R X : Type 0} (looks : files_trait.Ghosts X) (old now : WholeState D
   keep_cause (caches.Process request) e called = read_cause e called.keeps.refusal
 
   pub keep_refused : (cache : Cache) (asked : ToCache) (e : Error) (result : Result Said Error) → cache_read cache ≡ asked → CachesAsAsked looks asked (Err e) old now before after → SaysRefusal e result →
-      IfOk result (λ say. KeepingSays asked (text_of say))
+      IfOk result (λ say. KeepingMaySay asked (text_of say))
   keep_refused cache asked e result is called says =
-      subst (λ (asked : ToCache). IfOk result (λ say. KeepingSays asked (text_of say))) is
+      subst (λ (asked : ToCache). IfOk result (λ say. KeepingMaySay asked (text_of say))) is
       (says_refused okay (λ done. Unit {0}) (IsSomeKeepingCause (cache_read cache)) e result (keep_cause cache e (subst (λ (asked : ToCache). CachesAsAsked looks asked (Err e) old now before after) (sym is) called)) says)
 
   -- and the settings stay

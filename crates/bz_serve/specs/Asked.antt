@@ -4,11 +4,10 @@ use Rattle.bz_files.specs.World.{World}
 use Rattle.bz_requests.specs.Requests.{IsRequest, Request, requests_in}
 use Rattle.bz_requests.specs.declared.requests.Config.{Config}
 use Rattle.bz_serve.specs.RequestRuns.{run_reads, run_text}
-use Rattle.bz_serve.specs.Serving.{served}
 use Rattle.bz_serve.specs.SomeReplies.{MayReply, WritesReplies}
 use Rattle.bz_symq.specs.InputText.{AsksFor, by_length}
 use Rattle.bz_symq.specs.Kept.{opts_in}
-use Rattle.bz_symq.specs.Outcome.{Outcome, bad_line, too_long}
+use Rattle.bz_symq.specs.Outcome.{Outcome, bad_line, done_with, too_long}
 use Rattle.bz_symq.specs.Reply.{outcome_of}
 use Rattle.bz_requests.specs.Requests.{request_of}
 use Rattle.bz_serve.specs.declared.input.Asked.{Asked}
@@ -30,7 +29,7 @@ asked_of (askeds.Bad reply) = Err (outcome_of reply)
 
 -- what a run comes to over a list of worlds, where the own process has this id: each request is answered in its world
 abbrev pub outcome_by : Config → List World → ℕ → Result (List Request) Outcome → Outcome
-outcome_by config worlds own (Ok requests) = served (run_text config requests worlds own)
+outcome_by config worlds own (Ok requests) = done_with (run_text config requests worlds own)
 outcome_by config worlds own (Err bad) = bad
 
 -- and how many files it reads at most

@@ -11,7 +11,7 @@ use Rattle.bz_store.specs.Frames.{Frame, FrameReading}
 use Rattle.bz_store.specs.Plain.{answer_in, opens_after_all}
 use Rattle.bz_store.specs.Shelf.{new_shelf}
 use Rattle.bz_store.specs.Visits.{Found, visited}
-use Rattle.bz_symq.specs.Outcome.{Outcome, bad_line}
+use Rattle.bz_symq.specs.Outcome.{Outcome, bad_line, done_with}
 use Rattle.bz_symq.specs.Reply.{Replies, outcome_of, text_of}
 use Rattle.bz_symq.specs.Run.{IsNoFailure}
 use Rattle.bz_symq.specs.declared.reply.Reply.{Reply}
@@ -25,7 +25,7 @@ capacity = 64
 
 -- frames were answered
 abbrev pub done : List Frame → List FrameReading → Outcome
-done frames readings = record { status = statuses.Done; text = frame_texts frames readings }
+done frames readings = done_with (frame_texts frames readings)
 
 -- each frame is answered as the world alone answers it, and a bad line is named
 abbrev pub by_frames : World → List ℕ → FindSymOpts → Result (List Frame) ℕ → Outcome
@@ -71,7 +71,7 @@ pub record RepliesFrames {X : Type 0} (files : Ghosts X) (root : List ℕ) (opts
   -- frames or bad line alone decide on the status, and only a failure comes in place of a reply
   pub status : IfOk result (λ reply. IsFrameStatus asked reply.status)
   pub no_failure : IfOk result (λ reply. IsNoFailure reply.status)
-  pub refusal : IfErr result IsFailure
+  pub failure : IfErr result IsFailure
   -- for a bad line no file is looked at
   pub unlooked : IsErr asked → new ≡ old
   -- of the files only counts have moved; a fault was counted

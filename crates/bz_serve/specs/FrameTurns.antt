@@ -1,4 +1,4 @@
--- What a reply to an input of frames comes to of input and files, and in which turn.
+-- What is done to input and files for a reply to an input of frames, and in which order.
 use Rattle.std.specs.Prelude.{◌≡◌, ◌⊎◌, ◌↔◌, ◌+◌, ◌≤◌, ℕ, List, length, Result, IfOk}
 use Rattle.bz_base.specs.declared.error.Error.{Error}
 use Rattle.bz_base.specs.declared.types.FindSymOpts.{FindSymOpts}

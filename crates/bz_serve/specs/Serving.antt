@@ -1,19 +1,20 @@
 -- What a run of requests promises, and each of its parts.
 use Rattle.std.specs.Prelude.{◌≡◌, ◌⊎◌, ◌≤◌, ◌+◌, ℕ, List, [], ◌∷◌, ◌++◌, Option, Some, option_map, Result, Ok, Err, IfOk, IfErr, OnOk, OnErr}
+use Rattle.bz_base.specs.Refusals.{IsFailure}
 use Rattle.bz_base.specs.declared.error.Error.{Error}
 use Rattle.bz_base.specs.declared.error.Error.TheVariants as errors
 use Rattle.bz_files.specs.Count.{CountsFaults}
 use Rattle.bz_files.specs.Looked.{Faulted, Looked}
 use Rattle.bz_files.specs.World.{World, Told, in_view}
 use Rattle.bz_files.specs.declared.files.Files as files_trait
-use Rattle.bz_files.specs.declared.text.IoFault.{IoFault}
-use Rattle.bz_files.specs.declared.text.IoFault.TheVariants as faults
+use Rattle.bz_files.specs.declared.text.TextError.{TextError}
+use Rattle.bz_files.specs.declared.text.TextError.TheVariants as faults
 use Rattle.bz_files.specs.declared.text.TextOut as output_trait
 use Rattle.bz_cache.specs.Format.{GivesOrFaults}
 use Rattle.bz_process.specs.ProcessCall.{LeavesUnlessFailed}
 use Rattle.bz_requests.specs.Requests.{Request}
 use Rattle.bz_requests.specs.declared.requests.Config.{Config}
-use Rattle.bz_symq.specs.Outcome.{Outcome, refused}
+use Rattle.bz_symq.specs.Outcome.{done_with, refused}
 use Rattle.bz_symq.specs.Reply.{text_of}
 use Rattle.bz_symq.specs.Run.{Ends, IsOrFails, WritesFront}
 use Rattle.bz_symq.specs.declared.reply.Said.{Said}
@@ -44,7 +45,7 @@ StopsBy stop (Ok given) = ⊥
 StopsBy stop (Err e) = e ≡ stop
 
 -- the writing of a text stopped the run, or it didn't
-abbrev pub StopsAs : Result (Unit {0}) IoFault → Result (Unit {0}) Stop → Type 0
+abbrev pub StopsAs : Result (Unit {0}) TextError → Result (Unit {0}) Stop → Type 0
 StopsAs (Ok given) result = result ≡ Ok tt
 StopsAs (Err faults.Fault) result = result ≡ Err stops.Output
 StopsAs (Err faults.OutOfMemory) result = result ≡ Err stops.Memory
@@ -70,7 +71,7 @@ pub record Replied {F : Type 0} (looks : files_trait.Ghosts F) (step : KeptState
   pub said : Told (in_view (looks.worlds before)) (λ world. IfOk result (λ given. text_of given ≡ (step old world).text))
   pub state : Told (in_view (looks.worlds before)) (λ world. OnOk result (now ≡ (step old world).state))
   pub reads : Told (in_view (looks.worlds before)) (λ world. looks.opens after ≤ looks.opens before + (step old world).reads)
-  pub failure : IfErr result (λ e. (e ≡ errors.ReadFault) ⊎ (e ≡ errors.OutOfMemory))
+  pub failure : IfErr result IsFailure
   pub looked : Looked looks before after (Faulted result)
 
 -- a request was answered in the world in view, and its text was written, or a front of it; of an empty text nothing was.
@@ -112,16 +113,12 @@ EndsAs (Err stops.Files) status = status ≡ statuses.Fault
 EndsAs (Err stops.Output) status = status ≡ statuses.Fault
 EndsAs (Err stops.Memory) status = status ≡ statuses.Memory
 
--- the outcome of a run of requests where nothing fails
-abbrev pub served : List ℕ → Outcome
-served text = record { status = statuses.Done; text = text }
-
 -- all that a run of requests promises
 pub record Serves {W F : Type 0} (writes : output_trait.Ghosts W) (looks : files_trait.Ghosts F) (config : Config) (requests : List Request) (ended : Status)
     (output_before output_after : W) (files_before files_after : F) : Type 0 where
   -- status 0 means that the run is what was written, and status 4 or 5 that a front of it is
   pub ends : ToldWorlds (looks.worlds files_before) (λ worlds. Told (writes.written output_before) (λ was.
-      Ends (served (run_text config requests worlds (looks.pid files_before))) was ended (writes.written output_after)))
+      Ends (done_with (run_text config requests worlds (looks.pid files_before))) was ended (writes.written output_after)))
   -- whatever the files tell, status 0 means that what was written is replies that the requests may have
   pub answered : ended ≡ statuses.Done → Told (writes.written output_before) (λ was. WritesReplies (MayReply (opts_in config)) requests was (writes.written output_after))
   -- where there is nothing to write, the output is left alone

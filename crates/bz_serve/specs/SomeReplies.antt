@@ -1,10 +1,15 @@
 -- What may be replied to a request, whatever the files tell.
-use Rattle.std.specs.Prelude.{◌≡◌, ◌⊎◌, ℕ, List, ◌++◌, length, Option, Some, Result, Ok, Err}
+use Rattle.std.specs.Prelude.{◌≡◌, ◌⊎◌, ℕ, Bool, List, ◌++◌, Option, Some, Result, Ok, Err}
 use Rattle.std.specs.List.{AllZip, concat}
-use Rattle.bz_base.specs.Refusals.{IsFailure}
+use Rattle.bz_base.specs.Answer.{Answer}
 use Rattle.bz_base.specs.declared.error.Error.{Error}
 use Rattle.bz_base.specs.declared.error.Error.TheVariants as errors
 use Rattle.bz_base.specs.declared.types.FindSymOpts.{FindSymOpts}
+use Rattle.bz_proc.specs.Maps.{Mapping}
+use Rattle.bz_process.specs.Asked.{Asked, asked_of}
+use Rattle.bz_process.specs.Caches.{ProcessCaches}
+use Rattle.bz_process.specs.Mapped.{AreByMappings, IsByMappings}
+use Rattle.bz_process.specs.Untold.{Unfailing}
 use Rattle.bz_symbolize.specs.FileCall.{Query, batch_of, single_of}
 use Rattle.bz_symbolize.specs.Promise.{IsBreakpadAnswer, IsElfAnswer, IsGsymAnswer}
 use Rattle.bz_symbolize.specs.Requests.{ToCache, CacheElf as KeepElf, CacheProcess as KeepProcess}
@@ -14,7 +19,7 @@ use Rattle.bz_canon.specs.AnswerText.{answer_text, answer_texts}
 use Rattle.bz_symq.specs.Command.{FileTarget, Breakpad as BreakpadFile, Elf as ElfFile, Gsym as GsymFile}
 use Rattle.bz_symq.specs.Reply.{IsSomeRefusal}
 use Rattle.bz_symq.specs.Targets.{IsSomeFileCause, IsSomeProcessCause, IsSourceOf}
-use Rattle.bz_serve.specs.RequestSteps.{okay, process_by}
+use Rattle.bz_serve.specs.RequestSteps.{okay, process_by, query_by}
 
 -- where the target is a file, the source is that file
 abbrev pub IsSourceFor : Target → Source → Type 0
@@ -41,24 +46,49 @@ SaysSome {B} text_of Given Cause text = ((given : B) × Given given × (text ≡
 abbrev pub IsAskedCause : {B : Type 0} → FindSymOpts → FileTarget → Query B → Error → Type 0
 IsAskedCause opts file query e = IsSomeFileCause file e ⊎ IsSomeAnswer opts file query (Err e)
 
--- the text is what a file may say
-abbrev pub FileSays : {B : Type 0} → (B → List ℕ) → FindSymOpts → FileTarget → Query B → List ℕ → Type 0
-FileSays text_of opts file query text = SaysSome text_of (λ given. IsSomeAnswer opts file query (Ok given)) (λ e. IsAskedCause opts file query e) text
+-- a file may say such a text
+abbrev pub FileMaySay : {B : Type 0} → (B → List ℕ) → FindSymOpts → FileTarget → Query B → List ℕ → Type 0
+FileMaySay text_of opts file query text = SaysSome text_of (λ given. IsSomeAnswer opts file query (Ok given)) (λ e. IsAskedCause opts file query e) text
 
--- and a process, to addresses: some answers, one to each of them, or why it lacks mappings
-abbrev pub ProcessSays : List ℕ → List ℕ → Type 0
-ProcessSays addrs text = SaysSome (answer_texts addrs) (λ answers. length answers ≡ length addrs) IsSomeProcessCause text
+-- what a process is asked under: the id of the own one, the setting for paths that stand for mappings, the mappings that are kept
+-- of it, if any, and the files that are kept before the request and after it
+pub record Circumstances : Type 0 where
+  pub own : ℕ
+  pub map_files : Bool
+  pub mappings : Option (List Mapping)
+  pub old : ProcessCaches
+  pub now : ProcessCaches
 
--- and to an address alone: some answer, or a refusal that is no failure
-abbrev pub ProcessSaysAlone : ℕ → List ℕ → Type 0
-ProcessSaysAlone addr text = SaysSome (answer_text addr) (λ answer. Unit {0}) (λ e. IsFailure e → ⊥) text
+-- how the process with a number is asked under them
+abbrev pub asked_under : Circumstances → ℕ → Asked
+asked_under so number = asked_of so.own (query_by so.map_files number)
+
+-- the process with this number gave these answers, by kept mappings or else those of some text
+abbrev pub AreSomeGiven : ℕ → List ℕ → List Answer → Type 0
+AreSomeGiven number addrs answers = (so : Circumstances) × AreByMappings (asked_under so number) so.mappings addrs answers so.old so.now
+
+-- and so it answered or refused an address alone
+abbrev pub IsSomeGiven : ℕ → ℕ → Result Answer Error → Type 0
+IsSomeGiven number addr given = (so : Circumstances) × IsByMappings (asked_under so number) so.mappings addr given so.old so.now
+
+-- a process may say such a text to addresses: answers, or why it lacks mappings
+abbrev pub ProcessMaySay : ℕ → List ℕ → List ℕ → Type 0
+ProcessMaySay number addrs text = SaysSome (answer_texts addrs) (λ answers. AreSomeGiven number addrs answers) IsSomeProcessCause text
+
+-- it may refuse an address alone where it lacks mappings, or by them, without a failure
+abbrev pub IsAddressCause : ℕ → ℕ → Error → Type 0
+IsAddressCause number addr e = IsSomeProcessCause e ⊎ (Unfailing (Err e) × IsSomeGiven number addr (Err e))
+
+-- and so it may say such a text to it
+abbrev pub ProcessMaySayAlone : ℕ → ℕ → List ℕ → Type 0
+ProcessMaySayAlone number addr text = SaysSome (answer_text addr) (λ answer. IsSomeGiven number addr (Ok answer)) (λ e. IsAddressCause number addr e) text
 
 -- and a target: its file, or else its process
-abbrev pub TargetSays : {B : Type 0} → (B → List ℕ) → FindSymOpts → Query B → (List ℕ → Type 0) → Target → List ℕ → Type 0
-TargetSays text_of opts query OfProcess (Breakpad path) text = FileSays text_of opts (BreakpadFile path) query text
-TargetSays text_of opts query OfProcess (Gsym path) text = FileSays text_of opts (GsymFile path) query text
-TargetSays text_of opts query OfProcess (Elf path) text = FileSays text_of opts (ElfFile path) query text
-TargetSays text_of opts query OfProcess (Process number) text = OfProcess text
+abbrev pub TargetMaySay : {B : Type 0} → (B → List ℕ) → FindSymOpts → Query B → (ℕ → List ℕ → Type 0) → Target → List ℕ → Type 0
+TargetMaySay text_of opts query OfProcess (Breakpad path) text = FileMaySay text_of opts (BreakpadFile path) query text
+TargetMaySay text_of opts query OfProcess (Gsym path) text = FileMaySay text_of opts (GsymFile path) query text
+TargetMaySay text_of opts query OfProcess (Elf path) text = FileMaySay text_of opts (ElfFile path) query text
+TargetMaySay text_of opts query OfProcess (Process number) text = OfProcess number text
 
 -- a text of the system may be absent, may not be read, or is malformed
 abbrev pub IsSomeReadCause : Error → Type 0
@@ -73,15 +103,15 @@ IsSomeKeepingCause (KeepElf path) e = IsSomeFileCause (ElfFile path) e
 IsSomeKeepingCause (KeepProcess asked) e = IsSomeReadCause e
 
 -- the text says that something is kept, or why it may not be
-abbrev pub KeepingSays : ToCache → List ℕ → Type 0
-KeepingSays asked text = SaysSome okay (λ done. Unit {0}) (IsSomeKeepingCause asked) text
+abbrev pub KeepingMaySay : ToCache → List ℕ → Type 0
+KeepingMaySay asked text = SaysSome okay (λ done. Unit {0}) (IsSomeKeepingCause asked) text
 
 -- the text may be replied to the request, under these options of a look-up
 abbrev pub MayReply : FindSymOpts → Request → List ℕ → Type 0
-MayReply opts (Batch target addrs) text = TargetSays (answer_texts addrs) opts (batch_of (usual_kind target) addrs) (ProcessSays addrs) target text
-MayReply opts (Single target addr) text = TargetSays (answer_text addr) opts (single_of (usual_kind target) addr) (ProcessSaysAlone addr) target text
-MayReply opts (CacheElf path) text = KeepingSays (KeepElf path) text
-MayReply opts (CacheProcess number) text = KeepingSays (process_by number) text
+MayReply opts (Batch target addrs) text = TargetMaySay (answer_texts addrs) opts (batch_of (usual_kind target) addrs) (λ number. ProcessMaySay number addrs) target text
+MayReply opts (Single target addr) text = TargetMaySay (answer_text addr) opts (single_of (usual_kind target) addr) (λ number. ProcessMaySayAlone number addr) target text
+MayReply opts (CacheElf path) text = KeepingMaySay (KeepElf path) text
+MayReply opts (CacheProcess number) text = KeepingMaySay (process_by number) text
 MayReply opts (EvictElf path) text = text ≡ okay tt
 MayReply opts (EvictProcess number) text = text ≡ okay tt
 

@@ -14,7 +14,7 @@ mod sources;
 
 use crate::serving::replies::reply_to_request;
 use bz_base::{Error, Steps};
-use bz_files::{Files, IoFault, TextOut};
+use bz_files::{Files, TextError, TextOut};
 use bz_requests::{Config, Request};
 use bz_symbolize::Symbolizer;
 use bz_symq::{Status, new_symbolizer, write_said};
@@ -86,8 +86,7 @@ fn status_of(served: Result<(), Stop>) -> Status
 {
     match served {
         Ok(()) => Status::Done,
-        Err(Stop::Files) => Status::Fault,
-        Err(Stop::Output) => Status::Fault,
+        Err(Stop::Files | Stop::Output) => Status::Fault,
         Err(Stop::Memory) => Status::Memory,
     }
 }
@@ -104,9 +103,7 @@ fn serve_all<W: TextOut, F: Files, L: Ledger>(
 {
     for request in requests {
         files.begin();
-        if let Err(stop) = serve_one(alloc, server, request, output, files, steps) {
-            return Err(stop);
-        }
+        serve_one(alloc, server, request, output, files, steps)?;
     }
     Ok(())
 }
@@ -130,13 +127,13 @@ fn serve_one<W: TextOut, F: Files, L: Ledger>(
     }
 }
 
-fn stopped(put: Result<(), IoFault>) -> Result<(), Stop>
+fn stopped(put: Result<(), TextError>) -> Result<(), Stop>
     ensures { StopsAs put result }
 {
     match put {
         Ok(()) => Ok(()),
-        Err(IoFault::Fault) => Err(Stop::Output),
-        Err(IoFault::OutOfMemory) => Err(Stop::Memory),
+        Err(TextError::Fault) => Err(Stop::Output),
+        Err(TextError::OutOfMemory) => Err(Stop::Memory),
     }
 }
 

@@ -1,5 +1,5 @@
 -- Stacks as lines spell them: one or more addresses and then a count, with one space between each two.
-use Rattle.std.specs.Prelude.{ℕ, ◌<◌, List, [], ◌∷◌, ◌++◌, length, Option, Some, None, Result, option_map, option_and_then}
+use Rattle.std.specs.Prelude.{ℕ, ◌<◌, List, [], ◌∷◌, ◌++◌, length, Option, None, Result, option_map, option_and_then}
 use Rattle.std.specs.List.{AllZip}
 use Rattle.bz_base.specs.Number.{IsDecimal, decimal_at, whole}
 use Rattle.bz_requests.specs.Addresses.{IsAddress, address_in}

@@ -2,7 +2,7 @@
 
 ghost use Rattle.std.specs.Prelude.{◌≡◌, ◌<◌, length, map, IfOk, IsOkUnless};
 ghost use Rattle.bz_base.specs.Answer.{reading};
-ghost use Rattle.bz_base.specs.InputKind.{address_kind, payload};
+ghost use Rattle.bz_base.specs.InputKind.{address_kind};
 ghost use Rattle.bz_base.specs.declared.error.Error.{Error};
 ghost use Rattle.bz_lookups.specs.Batch.{answers_to};
 ghost use Rattle.bz_process.specs.declared.query.ProcessQuery.{ProcessQuery};
@@ -59,7 +59,7 @@ fn fold_blank<D: ProcessDispatch + Drop, F: Files, L: Ledger>(
     ensures { Folds F.Files (D.may_dispatch symbolizer.old.processes.dispatcher) D.Resolver.TranslateFileOffset D.Resolver.Symbolize src.now (address_kind kind) stacks.now result symbolizer.old symbolizer.new files.old files.new }
 {
     let mut steps = Steps::<L>::new(blank);
-    let none = of_kind(kind, Vec::new(alloc));
+    let none = kind.with(Vec::new(alloc));
     match symbolizer.look_up(alloc, files, src, none, &mut steps) {
         Ok(lookups) => fold_lookups(alloc, &lookups, stacks),
         Err(error) => {
@@ -113,7 +113,7 @@ fn fold_lookups(alloc: Global, lookups: &Lookups<'_>, stacks: &[Stack]) -> Resul
         let answers = lookups.answers_at(alloc, stack.addrs())?;
         folded.add(stack, &answers)?;
     }
-    folded.text(alloc)
+    folded.text()
 }
 
 // The text by answers that stand side by side.
@@ -130,7 +130,7 @@ fn fold_answers(alloc: Global, answers: &[Symbolized<'_>], stacks: &[Stack]) -> 
         folded.add(stack, &answers[from..to])?;
         from = to;
     }
-    folded.text(alloc)
+    folded.text()
 }
 
 // The addresses of all stacks, side by side.
@@ -143,16 +143,4 @@ fn all_addrs(alloc: Global, stacks: &[Stack]) -> Result<Vec<u64>>
         addrs.extend_from_slice(stack.addrs())?;
     }
     Ok(addrs)
-}
-
-// Addresses of this kind.
-fn of_kind(kind: Input<()>, addrs: Vec<u64>) -> Input<Vec<u64>>
-    ensures kind { address_kind result ≡ address_kind kind }
-    ensures addrs { payload result ≡ addrs }
-{
-    match kind {
-        Input::AbsAddr(_) => Input::AbsAddr(addrs),
-        Input::VirtOffset(_) => Input::VirtOffset(addrs),
-        Input::FileOffset(_) => Input::FileOffset(addrs),
-    }
 }

@@ -7,7 +7,7 @@ ghost use Rattle.bz_stacks.specs.Stack.{CountedStack};
 
 use crate::error::StackError;
 use crate::stack::Stack;
-use bz_base::whole_decimal;
+use bz_base::whole_u32;
 use bz_requests::{BadInput, FromLine, each_address, fields, read_lines};
 use std::alloc::{AllocError, Global};
 
@@ -66,16 +66,8 @@ fn counted_stack(alloc: Global, front: &[&[u8]], last: &[u8]) -> Result<Option<S
     let Some(addrs) = each_address(alloc, front)? else {
         return Ok(None);
     };
-    match count(last) {
+    match whole_u32(last) {
         Some(count) => Ok(Some(Stack::new(addrs, count))),
         None => Ok(None),
     }
-}
-
-// A field as a count: decimal digits of a number of 32 bits.
-fn count(text: &[u8]) -> Option<u32>
-    ensures { result ≡ count_in text.now }
-{
-    let count = whole_decimal(text, 10, 4_294_967_295)?;
-    Some(count as u32)
 }

@@ -1,7 +1,7 @@
 -- The frames in front that are answered together.
 use Rattle.std.proofs.Common.{◌≡◌, ℕ, suc, ◌+◌, ◌<◌, ◌≤◌, true, false, cond, List, [], ◌∷◌, ◌++◌, length, map, take, Some, None, Ok, Err, refl, sym, ap, ap₂, subst, ◌∙◌, inl, inr, is_some, slice_get, slice_index_or, arith}
 use Rattle.std.proofs.lemmas.List.{length-append, length-map, length-take-le}
-use Rattle.std.specs.List.{AllByRecursion, prefix_len}
+use Rattle.std.specs.List.{prefix_len}
 use Rattle.bz_base.specs.declared.error.Error.{Error}
 use Rattle.bz_base.specs.declared.error.Error.TheVariants as errors
 use Rattle.bz_base.specs.declared.types.FindSymOpts.{FindSymOpts}
@@ -63,7 +63,7 @@ module _ {X : Type 0} (files : Ghosts X) (opts : FindSymOpts) (frames : List Fra
     most = few_read files frames old new some sought.most;
     place = sought.place;
     looked = sought.looked;
-    refusal = sought.refusal;
+    failure = sought.failure;
   }
 
   -- the frame in front
@@ -92,7 +92,7 @@ module _ {X : Type 0} (files : Ghosts X) (opts : FindSymOpts) (frames : List Fra
         most = few_read files frames old new (some_front f frames front) sought.most;
         place = sought.place;
         looked = sought.looked;
-        refusal = tt;
+        failure = tt;
       }
 
       pub visits_unpushed : (answers : List FrameReading) → Visits {A = Unit {0}} files opts frames (Err errors.OutOfMemory) earlier answers before after old new
@@ -107,7 +107,7 @@ module _ {X : Type 0} (files : Ghosts X) (opts : FindSymOpts) (frames : List Fra
         most = few_read files frames old new (some_front f frames front) sought.most;
         place = sought.place;
         looked = looked_unfailed files old new _ (unfaulted {A = Unit {0}} (Err errors.OutOfMemory) refl) sought.looked;
-        refusal = tt;
+        failure = tt;
       }
 
     -- their file answers it, and those of a run with it
@@ -138,7 +138,7 @@ module _ {X : Type 0} (files : Ghosts X) (opts : FindSymOpts) (frames : List Fra
         most = few_read files frames old new (some_front f frames front) sought.most;
         place = sought.place;
         looked = sought.looked;
-        refusal = tt;
+        failure = tt;
       }
 
       pub visits_unrun : (answers : List FrameReading) → Visits {A = Unit {0}} files opts frames (Err errors.OutOfMemory) earlier answers before after old new
@@ -153,7 +153,7 @@ module _ {X : Type 0} (files : Ghosts X) (opts : FindSymOpts) (frames : List Fra
         most = few_read files frames old new (some_front f frames front) sought.most;
         place = sought.place;
         looked = looked_unfailed files old new _ (unfaulted {A = Unit {0}} (Err errors.OutOfMemory) refl) sought.looked;
-        refusal = tt;
+        failure = tt;
       }
 
 -- the frame in front

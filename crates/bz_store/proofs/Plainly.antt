@@ -13,7 +13,7 @@ use Rattle.bz_store.specs.Calls.{found_each}
 use Rattle.bz_store.specs.Frames.{Key, Frame, FrameReading, BadName, is_good, key_eq}
 use Rattle.bz_store.specs.Plain.{AreOfWorld, IsOf, answer_in, answered, is_opened_by, keep_key, keep_answered, keys, keys_after, opens_after_all, without}
 use Rattle.bz_store.specs.Shelf.{ShelfFiles, keep}
-use Rattle.bz_store.specs.Visits.{Found, Holds, Absent, Barred, State, by_found, by_source, by_table, found_at, is_opened, is_read, kept_after, source, stays, visit, visited}
+use Rattle.bz_store.specs.Visits.{Found, Holds, Absent, Denied, State, by_found, by_source, by_table, found_at, is_opened, is_read, kept_after, source, stays, visit, visited}
 use Rattle.bz_store.proofs.Keeping.{key_is}
 
 module _ (world : World) (root : List ℕ) where
@@ -60,7 +60,7 @@ module _ (world : World) (root : List ℕ) where
     at_found : (key : Key) (good : Bool) (found : Found) (kept : ShelfFiles) → found_at world root key ≡ found → AreOfWorld world root kept → AreOfWorld world root (kept_after cap key (alone good found) kept)
     at_found key false found kept is all = all
     at_found key true Absent kept is all = all
-    at_found key true Barred kept is all = all
+    at_found key true Denied kept is all = all
     at_found key true (Holds bytes) kept is all = at_table key bytes (table_in bytes) kept is all
 
     answer_alone : (offset : ℕ) (good : Bool) (found : Found) → by_source opts offset (alone good found) ≡ cond good (by_found opts offset found) BadName
@@ -106,7 +106,7 @@ module _ (cap : ℕ) (opts : FindSymOpts) where
   keys_source : (key : Key) (offset : ℕ) (from : Option Found) (kept : ShelfFiles) → keys (kept_after cap key from kept) ≡ keep_answered cap key (by_source opts offset from) (keys kept)
   keys_source key offset None kept = refl
   keys_source key offset (Some Absent) kept = refl
-  keys_source key offset (Some Barred) kept = refl
+  keys_source key offset (Some Denied) kept = refl
   keys_source key offset (Some (Holds bytes)) kept = keys_table key offset bytes (table_in bytes) kept
 
   opened_there : (v : Frame × Found) (kept : ShelfFiles) → is_opened kept v.0.file v.1 ≡ is_opened_by (keys kept) v

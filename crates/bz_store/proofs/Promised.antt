@@ -20,7 +20,7 @@ module _ {X A : Type 0} (files : Ghosts X) (readings : A → List FrameReading) 
 
   pub promised : (r : Result A Error) → OneByOne files readings opts frames r before after old new → files.opens new ≤ files.opens old + length frames → after ≡ with_files before after.files → Looked files old new (Faulted r) → IfErr r IsFailure →
       AnswersFrames files readings opts frames r before after old new
-  promised (Ok a) each most place looked refusal =
+  promised (Ok a) each most place looked failure =
       let end = each.ok.1 in
       let seen : (world : World) → in_view (files.worlds old) ≡ Some world → each.visits ≡ found_each world before.root frames = λ world told. each.told world told ∙ ap (found_each world before.root) each.ok.0 in
       record {
@@ -35,9 +35,9 @@ module _ {X A : Type 0} (files : Ghosts X) (readings : A → List FrameReading) 
         each = each;
         place = place;
         looked = looked;
-        refusal = refusal;
+        failure = failure;
       }
-  promised (Err e) each most place looked refusal =
+  promised (Err e) each most place looked failure =
       let n = each.err.0 in
       let seen : (world : World) → in_view (files.worlds old) ≡ Some world → each.visits ≡ found_each world before.root (take n frames) = λ world told. each.told world told ∙ ap (found_each world before.root) each.err.1 in
       record {
@@ -55,5 +55,5 @@ module _ {X A : Type 0} (files : Ghosts X) (readings : A → List FrameReading) 
         each = each;
         place = place;
         looked = looked;
-        refusal = refusal;
+        failure = failure;
       }

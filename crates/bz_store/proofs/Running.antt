@@ -73,7 +73,7 @@ module _ {X : Type 0} (files : Ghosts X) (opts : FindSymOpts) (frames : List Fra
     most = omega arith;
     place = refl;
     looked = same_looked files old ⊥ (λ never. never);
-    refusal = tt;
+    failure = tt;
   }
 
   module _ (before mid after : Shelf) (old midway new : X) (answers answers' : List FrameReading) (so_far : Visits {A = Unit {0}} files opts frames (Ok tt) [] answers before mid old midway)
@@ -123,7 +123,7 @@ module _ {X : Type 0} (files : Ghosts X) (opts : FindSymOpts) (frames : List Fra
       most = most_then;
       place = here.place ∙ ap (λ s. with_files s after.files) so_far.place;
       looked = looked_then files old midway (Faulted r) new so_far.looked here.looked;
-      refusal = here.refusal;
+      failure = here.failure;
     }
 
   module _ {A : Type 0} (readings : A → List FrameReading) (before after : Shelf) (old new : X) where
@@ -146,7 +146,7 @@ module _ {X : Type 0} (files : Ghosts X) (opts : FindSymOpts) (frames : List Fra
       told = run.told;
       ok = tt;
       err = (run.count, run.first, run.err);
-    }) run.most run.place run.looked run.refusal
+    }) run.most run.place run.looked run.failure
 
   pub answers_unmade : {A : Type 0} (readings : A → List FrameReading) (before : Shelf) (old : X) → AnswersFrames files readings opts frames (Err errors.OutOfMemory) before before old old
   answers_unmade {A} readings before old = promised files readings opts frames before before old old (Err errors.OutOfMemory) (record {

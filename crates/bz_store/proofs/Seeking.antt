@@ -155,7 +155,7 @@ module _ {X : Type 0} (files : Ghosts X) (key : Key) (before after : Shelf) (old
     place = same ∙ ap (with_files before) (sym (ap (λ s. s.files) same));
     err = ap (λ s. s.files) same;
     looked = looked;
-    refusal = refused;
+    failure = refused;
   }
 
   -- nothing lies under a bad name
@@ -172,7 +172,7 @@ module _ {X : Type 0} (files : Ghosts X) (key : Key) (before after : Shelf) (old
         place = refl;
         err = tt;
         looked = same_looked files old ⊥ (λ never. never);
-        refusal = tt;
+        failure = tt;
       }
 
   -- a file that is kept is put in front
@@ -190,7 +190,7 @@ module _ {X : Type 0} (files : Ghosts X) (key : Key) (before after : Shelf) (old
         place = placed before after _ moved;
         err = tt;
         looked = same_looked files old ⊥ (λ never. never);
-        refusal = tt;
+        failure = tt;
       }
 
   module _ (good : is_good key ≡ true) (none : lookup (key_eq key) before.files ≡ None) (found : Found) (told : Told (in_view (files.worlds old)) (λ world. found ≡ found_at world before.root key))
@@ -212,7 +212,7 @@ module _ {X : Type 0} (files : Ghosts X) (key : Key) (before after : Shelf) (old
           place = same ∙ ap (with_files before) (sym (ap (λ s. s.files) same));
           err = tt;
           looked = looked;
-          refusal = tt;
+          failure = tt;
         }
 
     -- a file was read, and is in front
@@ -229,7 +229,7 @@ module _ {X : Type 0} (files : Ghosts X) (key : Key) (before after : Shelf) (old
           place = placed before after _ moved;
           err = tt;
           looked = looked;
-          refusal = tt;
+          failure = tt;
         }
 
 -- the answers of a batch, as those of frames

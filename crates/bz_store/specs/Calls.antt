@@ -41,7 +41,7 @@ pub record Seeks {X : Type 0} (files : Ghosts X) (key : Key) (result : Result (O
   pub place : after ≡ with_files before after.files
   pub err : OnErr result (after.files ≡ before.files)
   pub looked : Looked files old new (Faulted result)
-  pub refusal : IfErr result IsFailure
+  pub failure : IfErr result IsFailure
 
 -- the first frames were answered behind earlier answers, each by what was found for it. That is what the world in view has, where
 -- it is told. After a refusal the store keeps what it keeps after some of the frames. No more files are read than there are frames
@@ -56,7 +56,7 @@ pub record Visits {X A : Type 0} (files : Ghosts X) (opts : FindSymOpts) (frames
   pub most : files.opens new ≤ files.opens old + length frames
   pub place : after ≡ with_files before after.files
   pub looked : Looked files old new (Faulted result)
-  pub refusal : IfErr result IsFailure
+  pub failure : IfErr result IsFailure
 
 -- told or not, each frame has the answer of the kept bytes of its file, else of what was found. That is what the world in view has,
 -- where it is told. A refusal leaves what is kept after some of the frames, none skipped
@@ -81,11 +81,11 @@ pub record AnswersFrames {X A : Type 0} (files : Ghosts X) (readings : A → Lis
   pub opens : Told (in_view (files.worlds old)) (λ world. IfOk result (λ a. files.opens new ≡ opens_after_all before.cap (found_each world before.root frames) (readings a) (keys before.files) (files.opens old)))
   -- no more files are read than there are frames, whatever is answered
   pub most : files.opens new ≤ files.opens old + length frames
-  -- the same of any files
+  -- whatever the files tell, each frame is answered by the kept bytes of its file, or else by what was found
   pub each : OneByOne files readings opts frames result before after old new
   -- root and capacity stay
   pub place : after ≡ with_files before after.files
   -- of the files only counts have moved; a fault was counted
   pub looked : Looked files old new (Faulted result)
   -- nothing is refused but by a fault, or for want of memory
-  pub refusal : IfErr result IsFailure
+  pub failure : IfErr result IsFailure

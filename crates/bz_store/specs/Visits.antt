@@ -10,18 +10,19 @@ use Rattle.bz_breakpad.specs.Table.{Table}
 use Rattle.bz_cache.specs.Look.{opens_after}
 use Rattle.bz_files.specs.World as worlds
 use Rattle.bz_files.specs.World.{World, Entry, entry_at}
-use Rattle.bz_store.specs.Frames.{Key, Frame, FrameReading, Known, BadName, NoFile, Denied, BadFile, is_good, key_eq, symbol_path}
+use Rattle.bz_store.specs.Frames as frames
+use Rattle.bz_store.specs.Frames.{Key, Frame, FrameReading, Known, BadName, NoFile, BadFile, is_good, key_eq, symbol_path}
 use Rattle.bz_store.specs.Shelf.{ShelfFiles, keep}
 
 -- what may be found at the path of a file: nothing, a file that may not be read, or bytes
 pub data Found : Type 0 where
   Absent : Found
-  Barred : Found
+  Denied : Found
   Holds : List ℕ → Found
 
 abbrev pub found_by : Option Entry → Found
 found_by None = Absent
-found_by (Some worlds.Denied) = Barred
+found_by (Some worlds.Denied) = Denied
 found_by (Some (worlds.Present stamp bytes)) = Holds bytes
 
 -- what a world has at the path of a file
@@ -36,7 +37,7 @@ by_table opts offset (Some table) = Known (in_batch (plain table opts offset))
 -- the answer at an offset of a file, by what is found of it
 abbrev pub by_found : FindSymOpts → ℕ → Found → FrameReading
 by_found opts offset Absent = NoFile
-by_found opts offset Barred = Denied
+by_found opts offset Denied = frames.Denied
 by_found opts offset (Holds bytes) = by_table opts offset (table_in bytes)
 
 -- what answers for a file: nothing under a bad name, the kept bytes of a file that is kept, and else what is found

@@ -21,7 +21,7 @@ pub(crate) enum FoundFile {
     /// Nothing.
     Absent,
     /// A file that may not be read.
-    Barred,
+    Denied,
     /// A file with these bytes.
     Holds(Vec<u8>),
 }
@@ -38,13 +38,13 @@ pub(crate) fn find_file<F: Files>(
     ensures opens { IfOk result (λ found. F.opens files.new ≡ opens_after (is_read (found_of found)) (F.opens files.old)) }
     ensures most { ReadsOne F.Files files.old files.new }
     ensures files { Looked F.Files files.old files.new (Faulted result) }
-    ensures refusal { IfErr result IsFailure }
+    ensures failure { IfErr result IsFailure }
 {
     let path = symbol_path(alloc, root, key)?;
     match files.read(alloc, path.as_str()) {
         Ok(bytes) => Ok(FoundFile::Holds(bytes)),
         Err(FileError::NotFound) => Ok(FoundFile::Absent),
-        Err(FileError::Denied) => Ok(FoundFile::Barred),
+        Err(FileError::Denied) => Ok(FoundFile::Denied),
         Err(FileError::Fault) => Err(Error::ReadFault),
         Err(FileError::OutOfMemory) => Err(Error::OutOfMemory),
     }

@@ -10,7 +10,6 @@ ghost use Rattle.bz_store.specs.Visits.{by_table};
 use crate::frame::{CrashFrame, FrameAnswer, offsets};
 use bz_base::{FindSymOpts, Result, Steps, Symbolized};
 use bz_breakpad::SymbolFile;
-use bz_cache::owned_answer;
 use std::alloc::Global;
 use std::marker::Brand;
 use std::sync::ledger::{Blank, Ledger};
@@ -60,7 +59,7 @@ fn push_owned(
     ensures memory { IsOkUnless result Error.OutOfMemory }
 {
     for answer in batch {
-        let answer = owned_answer(alloc, answer)?;
+        let answer = answer.into_owned(alloc)?;
         answers.push(FrameAnswer::Known(answer))?;
     }
     Ok(())

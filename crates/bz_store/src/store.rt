@@ -54,7 +54,7 @@ impl Store {
     }
 
     /// How many files are kept.
-    pub fn kept(&self) -> usize
+    pub fn kept_count(&self) -> usize
         ensures { result ≡ length self.now.files }
     {
         self.files.len()
@@ -124,7 +124,7 @@ impl Store {
         }
         match find_file(alloc, files, self.root.as_str(), key)? {
             FoundFile::Absent => Ok(Some(FrameAnswer::NoFile)),
-            FoundFile::Barred => Ok(Some(FrameAnswer::Denied)),
+            FoundFile::Denied => Ok(Some(FrameAnswer::Denied)),
             FoundFile::Holds(bytes) => {
                 if self.take_in(alloc, key, bytes)? {
                     Ok(None)

@@ -25,10 +25,12 @@ use Rattle.bz_process.specs.Caches.{ProcessCaches}
 use Rattle.bz_process.specs.Dispatch.{Answers, Test}
 use Rattle.bz_process.specs.Mapped.{AreByMappings, AreUsed, AsksProcess, LacksMappings}
 use Rattle.bz_process.specs.Process.{batched, unsaid}
-use Rattle.bz_process.specs.Processes.{is_in_process}
+use Rattle.bz_process.specs.Processes.{caches_of, is_in_process}
 use Rattle.bz_process.specs.Untold.{SomeAtAddresses}
 use Rattle.bz_requests.specs.declared.requests.Config.{Config}
+use Rattle.bz_symbolize.specs.State.{WholeState}
 use Rattle.bz_symq.specs.Command.{of_process}
+use Rattle.bz_symq.specs.Kept.{KeptState, caches_in, kept_of, new_kept, settings_of}
 use Rattle.bz_symq.specs.Processes.{IsMapsCause, IsProcessBatch, IsSomeProcessBatch, TellsMappings, asked_by, maps_of, nothing_kept, pid_of, process_batch}
 use Rattle.bz_symq.specs.Reply.{IsSomeCauseOrFails}
 use Rattle.bz_symq.specs.Targets.{HasFile, IsFileCause, IsSomeCause}
@@ -40,6 +42,14 @@ number_named (suc n) = refl
 
 pub process_named : (number : ℕ) (pid : Pid) → number_of pid ≡ number → pid ≡ pid_of number
 process_named number pid same = pids_same pid (pid_of number) (same ∙ sym (number_named number))
+
+-- a symbolizer that was just made keeps nothing that answers for processes
+pub record KeepsNothing {D R : Type 0} (config : Config) (whole : WholeState D R) : Type 0 where
+  pub caches : caches_of whole.files.elf whole.processes ≡ nothing_kept config
+  pub mappings : whole.processes.mappings ≡ []
+
+pub keeps_nothing : {D R : Type 0} (config : Config) (whole : WholeState D R) → kept_of whole ≡ new_kept (settings_of config) → KeepsNothing config whole
+keeps_nothing config whole kept = record { caches = ap caches_in kept; mappings = ap (λ (k : KeptState). k.processes.mappings) kept }
 
 -- the answers that are read of those that are given
 abbrev pub views : {G : Type 0} → Vec Symbolized G → List Answer

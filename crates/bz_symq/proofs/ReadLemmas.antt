@@ -8,13 +8,13 @@ use Rattle.bz_requests.specs.Addresses.{addresses_in}
 use Rattle.bz_requests.specs.declared.requests.Config.{Config}
 use Rattle.bz_symq.specs.Command.{Asking, Command, Batch, Make, Target, OneFile, OneProcess, seen_by}
 use Rattle.bz_symq.specs.Processes.{process_batch}
-use Rattle.bz_symq.specs.Run.{Asks, UnlessProcess, UnlessTarget}
+use Rattle.bz_symq.specs.Run.{Asks, UnlessProcess, UnlessProcessTarget}
 use Rattle.bz_symq.specs.Turns.{ReadsFor, ReadsForBatch, ReadsForInput}
 use Rattle.bz_symq.proofs.InputTextLemmas.{addresses_again}
 
 module _ {F : Type 0} (looks : files_trait.Ghosts F) (answered : Type 0) (before after : F) where
   -- one file at most was read, unless a process was asked
-  most_by_target : (config : Config) (target : Target) (left : Option (List ℕ)) → ReadsForBatch looks config target left answered before after → UnlessTarget target (ReadsOne looks before after)
+  most_by_target : (config : Config) (target : Target) (left : Option (List ℕ)) → ReadsForBatch looks config target left answered before after → UnlessProcessTarget target (ReadsOne looks before after)
   most_by_target config (OneFile file) left reads = reads.most
   most_by_target config (OneProcess number) left reads = tt
 
@@ -24,7 +24,7 @@ module _ {F : Type 0} (looks : files_trait.Ghosts F) (answered : Type 0) (before
 
   -- and one where the run is done
   opened_by_target : (config : Config) (done : Type 0) (target : Target) (left : Option (List ℕ)) → (done → answered) → ReadsForBatch looks config target left answered before after →
-      UnlessTarget target (Told (in_view (looks.worlds before)) (λ world. done → looks.opens after ≡ counted (looks.opens before)))
+      UnlessProcessTarget target (Told (in_view (looks.worlds before)) (λ world. done → looks.opens after ≡ counted (looks.opens before)))
   opened_by_target config done (OneFile file) left from reads = λ world seen is. reads.opened world seen (from is)
   opened_by_target config done (OneProcess number) left from reads = tt
 

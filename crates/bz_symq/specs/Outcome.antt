@@ -34,6 +34,10 @@ pub record Outcome : Type 0 where
   pub status : Status
   pub text : List ℕ
 
+-- a run is done, and this is its text
+abbrev pub done_with : List ℕ → Outcome
+done_with text = record { status = statuses.Done; text = text }
+
 -- a refusal is written by its name
 abbrev pub refused_as : List ℕ → Outcome
 refused_as name = record { status = statuses.Refused; text = codes "refused: " ++ (name ++ codes "\n") }
@@ -43,7 +47,7 @@ refused e = refused_as (name_of e)
 
 -- the answers' texts, or the refusal
 abbrev pub by_answer : List ℕ → Result (List Answer) Error → Outcome
-by_answer addrs (Ok answers) = record { status = statuses.Done; text = answer_texts addrs answers }
+by_answer addrs (Ok answers) = done_with (answer_texts addrs answers)
 by_answer addrs (Err e) = refused e
 
 -- an input with a line that isn't well formed is named by the number of the first such line, in decimal
@@ -70,7 +74,7 @@ outcome asking input world own = by_length input too_long (by_addresses asking w
 
 -- what was made, or the refusal
 abbrev pub by_product : Result (List ℕ) (List ℕ) → Outcome
-by_product (Ok made) = record { status = statuses.Done; text = made }
+by_product (Ok made) = done_with made
 by_product (Err name) = refused_as name
 
 -- by the command

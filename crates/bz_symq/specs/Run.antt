@@ -61,7 +61,7 @@ pub record IsDone (command : Command) (input : List ℕ) (world : World) (own : 
   pub written : new ≡ Some (old ++ answer_texts addrs answers)
 
 -- whatever the files tell, the run was asked for addresses, and wrote the texts of answers to them in order. Of a file these are the
--- plain answers of some bytes in its format; of a process they are by some text of its mappings, and by some versions of its files
+-- plain answers of some bytes in its format. Of a process they are by some text of its mappings and some versions of its files
 pub record IsSomeDone (command : Command) (input : List ℕ) (own : ℕ) (old : List ℕ) (new : Option (List ℕ)) : Type 0 where
   pub asking : Asking
   pub addrs : List ℕ
@@ -156,14 +156,14 @@ abbrev pub IsReadWhole : Command → Option (List ℕ) → Option (List ℕ) →
 IsReadWhole command before after = (asking : Asking) → command ≡ Batch asking → inputs.IsReadWhole before after
 
 -- this holds, unless a process is asked
-abbrev pub UnlessTarget : Target → Type 0 → Type 0
-UnlessTarget (OneFile file) P = P
-UnlessTarget (OneProcess number) P = Unit {0}
+abbrev pub UnlessProcessTarget : Target → Type 0 → Type 0
+UnlessProcessTarget (OneFile file) P = P
+UnlessProcessTarget (OneProcess number) P = Unit {0}
 
 -- the same by the command
 abbrev pub UnlessProcess : Command → Type 0 → Type 0
 UnlessProcess (Make product) P = P
-UnlessProcess (Batch asking) P = UnlessTarget asking.target P
+UnlessProcess (Batch asking) P = UnlessProcessTarget asking.target P
 
 -- the sides of a run: what it reads, what it looks at and what it writes to
 pub data Side : Type 0 where

@@ -141,7 +141,8 @@ pub record AnswersSome (asking : Asking) (own : ℕ) (addrs : List ℕ) (answers
   pub served : serves asking.target asking.kind ≡ true
   pub are : AreSomeAnswers asking.target asking.kind asking.config own addrs answers
 
--- whatever the files tell, a file may have no answers for one of these: it is absent, may not be read, or isn't in the format
+-- whatever the files tell, a file may have no answers for one of these. It is absent, may not be read, or isn't in the format;
+-- or it is an ELF file that doesn't answer the kind of address
 abbrev pub IsSomeFileCause : FileTarget → Error → Type 0
 IsSomeFileCause file errors.NotFound = Unit {0}
 IsSomeFileCause file errors.PermissionDenied = Unit {0}

@@ -1,4 +1,4 @@
--- What a reply comes to of input and files, and in which turn.
+-- What is done to input and files for a reply, and in which order.
 use Rattle.std.specs.Prelude.{◌≡◌, ◌⊎◌, ℕ, ◌+◌, ◌≤◌, false, List, Option, Result, Ok, Err, IfOk}
 use Rattle.bz_base.specs.declared.error.Error.{Error}
 use Rattle.bz_files.specs.Count.{CountsFaults, counted}
@@ -18,7 +18,7 @@ use Rattle.bz_symq.specs.declared.reply.Reply.{Reply}
 -- a reply was to be made: the input comes first, then the files
 pub record TakesTurns {R F : Type 0} (reads : input_trait.Ghosts R) (looks : files_trait.Ghosts F) (command : Command) (result : Result Reply Error)
     (input_before input_after : R) (files_before files_after : F) : Type 0 where
-  -- what isn't come to is left alone
+  -- what isn't asked is left alone
   pub unasked : (product : Product) → command ≡ Make product → input_after ≡ input_before
   pub unlooked : Told (reads.left input_before) (λ text. IsBadInput command text → files_after ≡ files_before)
   pub untaken : (asking : Asking) → command ≡ Batch asking → takes asking.target asking.kind ≡ false → files_after ≡ files_before

@@ -1,10 +1,8 @@
-//! How the symbolizer of a run is made, and how it is asked.
+//! How the symbolizer of a run is made.
 
 ghost use Rattle.std.specs.Prelude.{◌≡◌};
-ghost use Rattle.bz_base.specs.InputKind.{address_kind, payload};
 ghost use Rattle.bz_symq.specs.Kept.{kept_of, new_kept, settings_of};
 
-use bz_base::Input;
 use bz_requests::Config;
 use bz_symbolize::Symbolizer;
 use std::alloc::Global;
@@ -18,16 +16,4 @@ pub fn new_symbolizer(alloc: Global, config: Config) -> Symbolizer
         .enable_code_info(config.code_info)
         .enable_inlined_fns(config.inlined)
         .build(alloc)
-}
-
-/// Addresses, or one, of a kind.
-pub fn input_for<T>(kind: Input<()>, addrs: T) -> Input<T>
-    ensures kind { address_kind result ≡ address_kind kind }
-    ensures addrs { payload result ≡ addrs }
-{
-    match kind {
-        Input::FileOffset(()) => Input::FileOffset(addrs),
-        Input::VirtOffset(()) => Input::VirtOffset(addrs),
-        Input::AbsAddr(()) => Input::AbsAddr(addrs),
-    }
 }

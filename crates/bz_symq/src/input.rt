@@ -6,7 +6,7 @@ ghost use Rattle.bz_files.specs.World.{Told};
 ghost use Rattle.bz_requests.specs.Addresses.{addresses_in};
 ghost use Rattle.bz_symq.specs.InputText.{greatest_input, left_over, room_after, Moves, MovesAtMost};
 
-use bz_files::{IoFault, TextIn};
+use bz_files::{TextError, TextIn};
 use bz_requests::{BadInput, read_lines};
 use std::alloc::Global;
 
@@ -19,7 +19,7 @@ const READ_SIZE: usize = 16_384;
 /// Why the input wasn't read to its end.
 #[derive(Drop)]
 pub enum ReadStop {
-    /// It is longer than any input.
+    /// It is longer than an input may be.
     TooLong,
     /// Reading failed.
     Fault,
@@ -64,8 +64,8 @@ fn read_piece<R: TextIn>(input: &mut R, all: &mut Vec<u8>) -> std::result::Resul
             Ok(()) => Ok(n),
             Err(_) => Err(ReadStop::Memory),
         },
-        Err(IoFault::Fault) => Err(ReadStop::Fault),
-        Err(IoFault::OutOfMemory) => Err(ReadStop::Memory),
+        Err(TextError::Fault) => Err(ReadStop::Fault),
+        Err(TextError::OutOfMemory) => Err(ReadStop::Memory),
     }
 }
 

@@ -12,8 +12,8 @@ ghost use Rattle.bz_symq.specs.Run.{ComesExactlyWhere, EndsOnlyWhere, IsAnswerab
 ghost use Rattle.bz_symq.specs.Targets.{AnswersIn};
 ghost use Rattle.bz_symq.specs.declared.status.Status.TheVariants as statuses;
 
-/// The outcome of a run is each status exactly where the status has its cause; that of words that give
-/// no command is never one.
+/// The outcome of a run has status `Done`, `Refused` or `Input` exactly where that status has its
+/// cause. Its status is never `Usage`, which is that of words that give no command.
 pub fn outcomes_have_causes()
     ensures done { ComesExactlyWhere statuses.Done (λ command input world. IsAnswerable command input world ⊎ IsMakeable command world) }
     ensures refused { ComesExactlyWhere statuses.Refused (λ command input world. IsRefusable command input world ⊎ IsUnmakeable command world) }

@@ -14,11 +14,13 @@ mod reply;
 mod status;
 mod texts;
 
-pub use asking::{input_for, new_symbolizer};
+pub use asking::new_symbolizer;
 pub use command::{Batch, Command, FileTarget, Product, Target};
 pub use input::{ReadStop, read_addrs, read_input};
 pub use output::{finish, write_said};
 pub use own_process::own_pid;
 pub use program::{failed, run_command, run_counted, unread};
-pub use reply::{OwnedAnswers, Reply, Said, bad_line, made_reply, refusal, stored_reply};
+pub use reply::{
+    OwnedAnswers, Reply, Said, bad_line, made_reply, refusal, stored_reply, text_reply,
+};
 pub use status::Status;

@@ -13,7 +13,7 @@ ghost use Rattle.bz_symq.specs.Processes.{IsSomeProcessBatch, process_batch};
 ghost use Rattle.bz_symq.specs.Reply.{IsBatchReply, IsInputStatus, IsRefusalReply, IsSomeCauseOrFails, Replies};
 ghost use Rattle.bz_symq.specs.Targets.{answer_to, IsSomeCause};
 
-use crate::asking::{input_for, new_symbolizer};
+use crate::asking::new_symbolizer;
 use crate::command::ProcessBatch;
 use crate::reply::{OwnedAnswers, Reply, Said, refusal};
 use crate::status::Status;
@@ -26,7 +26,7 @@ use std::sync::ledger::Ledger;
 
 /// The reply of a process: its answers at the addresses, or the refusal. Addresses that aren't absolute
 /// in it are refused without a look.
-pub fn reply_of_process<F: Files, L: Ledger>(
+pub(crate) fn reply_of_process<F: Files, L: Ledger>(
     alloc: Global,
     batch: ProcessBatch,
     addrs: Vec<u64>,
@@ -72,5 +72,5 @@ fn answers_of<F: Files, L: Ledger>(
     process.map_files = batch.config.map_files;
     let src = Source::from(process);
     let mut symbolizer = new_symbolizer(alloc, batch.config);
-    symbolizer.symbolize_counted(alloc, files, &src, input_for(batch.kind, addrs), steps)
+    symbolizer.symbolize_counted(alloc, files, &src, batch.kind.with(addrs), steps)
 }

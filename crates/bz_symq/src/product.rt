@@ -31,7 +31,7 @@ use bz_files::Files;
 use std::alloc::Global;
 
 /// The reply to a command that asks for a product: what its file makes, or the refusal.
-pub fn reply_with_product<F: Files>(
+pub(crate) fn reply_with_product<F: Files>(
     alloc: Global,
     product: &Product<'_>,
     files: &mut F,
@@ -54,8 +54,7 @@ fn path_of<'a>(product: &Product<'a>) -> &'a str
     ensures { result.now ≡ path_of (product_of product.now) }
 {
     match product {
-        Product::Converted(path) => path,
-        Product::Canonical(path) => path,
+        Product::Converted(path) | Product::Canonical(path) => path,
     }
 }
 

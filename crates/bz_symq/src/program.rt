@@ -14,7 +14,7 @@ ghost use Rattle.bz_symq.specs.Run.{Runs};
 ghost use Rattle.bz_symq.specs.Targets.{answer_to, file_takes, takes, AnswersSome, IsSomeCause, IsSourceOf};
 ghost use Rattle.bz_symq.specs.Turns.{FailsAtOne, ReadsFor, ReadsForInput, ReadsOneFor, TakesTurns};
 
-use crate::asking::{input_for, new_symbolizer};
+use crate::asking::new_symbolizer;
 use crate::command::{Batch, Command, FileBatch, FileTarget, ProcessBatch, Target};
 use crate::input::{self, ReadStop};
 use crate::output::finish;
@@ -251,7 +251,7 @@ fn look_up<F: Files, L: Ledger>(
 {
     let src = source(alloc, &batch.file)?;
     let mut symbolizer = new_symbolizer(alloc, batch.config);
-    symbolizer.look_up(alloc, files, &src, input_for(batch.kind, addrs), steps)
+    symbolizer.look_up(alloc, files, &src, batch.kind.with(addrs), steps)
 }
 
 // The source that is the file's.

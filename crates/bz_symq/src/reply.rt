@@ -1,8 +1,8 @@
 //! What a run is about to end with and write.
 
-ghost use Rattle.std.specs.Prelude.{◌≡◌, ◌↔◌, IfOk, IsOkUnless};
+ghost use Rattle.std.specs.Prelude.{◌≡◌, ◌↔◌, IfOk, IsOkUnless, string_bytes};
 ghost use Rattle.bz_files.specs.Looked.{Faulted};
-ghost use Rattle.bz_symq.specs.Outcome.{bad_line, refused_as};
+ghost use Rattle.bz_symq.specs.Outcome.{bad_line, done_with, refused_as};
 ghost use Rattle.bz_symq.specs.Reply.{outcome_of, RepliesTo};
 
 use crate::status::Status;
@@ -25,7 +25,8 @@ pub struct Reply {
 pub enum Said {
     /// A text.
     Text(CowStr<'static>),
-    /// The texts of the answers at the addresses, which are made, answer by answer, as they are written.
+    /// The texts of the answers at the addresses. A part of them is made at a time, as they are
+    /// written.
     Answers(Lookups<'static>),
     /// The texts of answers that were all given, which are made as they are written.
     Owned(OwnedAnswers),
@@ -52,9 +53,19 @@ pub fn stored_reply(status: Status, text: &'static str) -> Reply
     }
 }
 
+/// A reply whose text was made for it.
+pub fn text_reply(status: Status, text: String) -> Reply
+    ensures { outcome_of result ≡ record { status = status; text = string_bytes text } }
+{
+    Reply {
+        status,
+        said: Said::Text(CowStr::Owned(text)),
+    }
+}
+
 /// The reply that says what was made of a file.
 pub fn made_reply(bytes: Vec<u8>) -> Reply
-    ensures { outcome_of result ≡ record { status = Status.Done; text = bytes.items } }
+    ensures { outcome_of result ≡ done_with bytes.items }
 {
     Reply {
         status: Status::Done,
@@ -68,22 +79,16 @@ pub fn bad_line(alloc: Global, number: u64) -> Result<Reply>
     ensures memory { IsOkUnless result Error.OutOfMemory }
 {
     let text = format!(in alloc; "input: line {number}\n")?;
-    Ok(Reply {
-        status: Status::Input,
-        said: Said::Text(CowStr::Owned(text)),
-    })
+    Ok(text_reply(Status::Input, text))
 }
 
 /// The reply to what is refused by a name.
-pub fn refused_as(alloc: Global, name: &str) -> Result<Reply>
+pub(crate) fn refused_as(alloc: Global, name: &str) -> Result<Reply>
     ensures reply { IfOk result (λ given. outcome_of given ≡ refused_as name.now) }
     ensures memory { IsOkUnless result Error.OutOfMemory }
 {
     let text = format!(in alloc; "refused: {name}\n")?;
-    Ok(Reply {
-        status: Status::Refused,
-        said: Said::Text(CowStr::Owned(text)),
-    })
+    Ok(text_reply(Status::Refused, text))
 }
 
 /// The reply to a refused call; a failure stays one, and so ends the run by status 4 or 5.
@@ -97,10 +102,7 @@ pub fn refusal(alloc: Global, error: Error) -> Result<Reply>
         Error::OutOfMemory => Err(Error::OutOfMemory),
         _ => {
             let text = format!(in alloc; "refused: {error}\n")?;
-            Ok(Reply {
-                status: Status::Refused,
-                said: Said::Text(CowStr::Owned(text)),
-            })
+            Ok(text_reply(Status::Refused, text))
         }
     }
 }

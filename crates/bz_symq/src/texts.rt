@@ -14,8 +14,8 @@ use bz_canon::push_answer;
 use bz_symbolize::{Lookups, TOGETHER};
 use std::alloc::Global;
 
-/// How long the texts grow that are made ahead at a time, in bytes. What is left then is made as it is
-/// written.
+/// Behind texts that are longer than this, in bytes, no more are made ahead. What is left then is
+/// made as it is written.
 const ROOM: usize = 16_777_216;
 
 /// Behind texts that are longer than this, in bytes, answers are made one by one, so that long ones
@@ -24,24 +24,24 @@ const LONG: usize = 65_536;
 
 /// Where a text stands among others.
 #[derive(Clone, Copy)]
-pub(crate) struct TextPart {
+struct TextPart {
     /// Where it begins.
-    pub from: usize,
+    from: usize,
     /// Where it ends.
-    pub to: usize,
+    to: usize,
 }
 
 /// The texts of some answers of a batch.
 #[derive(Drop)]
 pub(crate) struct Texts {
     /// The index of the first of these answers.
-    pub first: usize,
+    first: usize,
     /// The texts, in the order in which they were made.
-    pub text: String,
+    text: String,
     /// Where the text of each answer stands, if it was made.
-    pub parts: Vec<Option<TextPart>>,
+    parts: Vec<Option<TextPart>>,
     /// Whether the next answer is made alone: the last texts were long, or there are none.
-    pub alone: bool,
+    alone: bool,
 }
 
 impl Texts {

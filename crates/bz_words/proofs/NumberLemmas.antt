@@ -3,8 +3,9 @@ use Rattle.std.proofs.Common.{◌≡◌, ℕ, ◌≤◌, Bool, true, false, cond
 use Rattle.std.proofs.lemmas.Bool.{cond_both}
 use Rattle.bz_base.proofs.NumberLemmas.{decimal_whole_found}
 use Rattle.bz_requests.proofs.OptionLemmas.{map_some, then_some}
+use Rattle.bz_requests.specs.Requests.{Target, Breakpad, Elf, Gsym, Process}
 use Rattle.clap.specs.Words.{Row, Text, all_of, first_of}
-use Rattle.bz_words.specs.Command.{Batch, Canonical, Command, Converted, Frames, Generate, HasSmallNumbers, Job, Make, Serve, Stacks, batch_in, command_by, command_in, command_read, config_in, generate_in, is_source, job_by, job_by_rows, job_in, kind_for, number_in, numbers_in, on_path_in, path_job, positive_in, serve_in, target_in, unless_faulty}
+use Rattle.bz_words.specs.Command.{Batch, Canonical, Command, Converted, Frames, Generate, HasSmallNumbers, Job, Make, Serve, Stacks, batch_in, command_by, command_in, command_read, config_in, generate_in, job_by, job_by_rows, job_in, job_on, kind_for, number_in, numbers_in, on_path_in, path_job, positive_in, process_in, serve_in, unless_faulty, with_argument}
 use Rattle.bz_words.specs.Definition.{faults, rows}
 
 if_some : (b : Bool) (m n : ℕ) → cond b (Some m) None ≡ Some n → m ≡ n
@@ -40,13 +41,15 @@ generate_small None (seed ∷ functions ∷ addresses ∷ []) job is = numbers_s
 generate_small None (a ∷ b ∷ c ∷ d ∷ args) job is = cc
 generate_small (Some text) args job is = cc
 
-batch_small : (kind : Text) (input : Option Text) (args : List Text) (job : Job) → batch_in kind input args ≡ Some job → HasSmallNumbers job
-batch_small kind input [] job is = cc
-batch_small kind input (arg ∷ []) job is =
-    let target = then_some (λ target. option_map (λ relative. Batch target relative) (kind_for target input)) (target_in kind arg) job is in
-    let relative = map_some (λ relative. Batch target.0 relative) (kind_for target.0 input) job target.2 in
-    subst HasSmallNumbers relative.2 tt
-batch_small kind input (a ∷ b ∷ args) job is = cc
+batch_small : (input : Option Text) (target : Target) (job : Job) → batch_in input target ≡ Some job → HasSmallNumbers job
+batch_small input target job is =
+    let kind = map_some (λ kind. Batch target kind) (kind_for target input) job is in
+    subst HasSmallNumbers kind.2 tt
+
+process_small : (input : Option Text) (text : Text) (job : Job) → process_in input text ≡ Some job → HasSmallNumbers job
+process_small input text job is =
+    let pid = then_some (λ pid. batch_in input (Process pid)) (number_in 4294967295 text) job is in
+    batch_small input (Process pid.0) job pid.2
 
 path_small : (kind path : Text) (job : Job) → path_job kind path ≡ Some job → HasSmallNumbers job
 path_small kind path job =
@@ -60,11 +63,26 @@ path_small kind path job =
     (λ here is. let same : Frames path ≡ job = cc in subst HasSmallNumbers same tt)
     (λ other is. cc))))
 
-on_path_small : (kind : Text) (input : Option Text) (args : List Text) (job : Job) → on_path_in kind input args ≡ Some job → HasSmallNumbers job
-on_path_small kind None [] job is = cc
-on_path_small kind None (path ∷ []) job is = path_small kind path job is
-on_path_small kind None (a ∷ b ∷ args) job is = cc
-on_path_small kind (Some text) args job is = cc
+on_path_small : (kind : Text) (input : Option Text) (path : Text) (job : Job) → on_path_in kind input path ≡ Some job → HasSmallNumbers job
+on_path_small kind None path job is = path_small kind path job is
+on_path_small kind (Some text) path job is = cc
+
+on_small : (kind : Text) (input : Option Text) (arg : Text) (job : Job) → job_on kind input arg ≡ Some job → HasSmallNumbers job
+on_small kind input arg job =
+    cond_both (bytes_eq kind (codes "breakpad")) _ _ (λ read. read ≡ Some job → HasSmallNumbers job)
+    (λ here is. batch_small input (Breakpad arg) job is)
+    (λ other. cond_both (bytes_eq kind (codes "gsym")) _ _ (λ read. read ≡ Some job → HasSmallNumbers job)
+    (λ here is. batch_small input (Gsym arg) job is)
+    (λ other. cond_both (bytes_eq kind (codes "elf")) _ _ (λ read. read ≡ Some job → HasSmallNumbers job)
+    (λ here is. batch_small input (Elf arg) job is)
+    (λ other. cond_both (bytes_eq kind (codes "process")) _ _ (λ read. read ≡ Some job → HasSmallNumbers job)
+    (λ here is. process_small input arg job is)
+    (λ other is. on_path_small kind input arg job is))))
+
+argument_small : (kind : Text) (input : Option Text) (args : List Text) (job : Job) → with_argument kind input args ≡ Some job → HasSmallNumbers job
+argument_small kind input [] job is = cc
+argument_small kind input (arg ∷ []) job is = on_small kind input arg job is
+argument_small kind input (a ∷ b ∷ args) job is = cc
 
 job_small : (kind : Text) (input : Option Text) (args : List Text) (job : Job) → job_by kind input args ≡ Some job → HasSmallNumbers job
 job_small kind input args job =
@@ -72,9 +90,7 @@ job_small kind input args job =
     (λ here is. serve_small input args job is)
     (λ other. cond_both (bytes_eq kind (codes "gen")) _ _ (λ read. read ≡ Some job → HasSmallNumbers job)
     (λ here is. generate_small input args job is)
-    (λ other. cond_both (is_source kind) _ _ (λ read. read ≡ Some job → HasSmallNumbers job)
-    (λ here is. batch_small kind input args job is)
-    (λ other is. on_path_small kind input args job is)))
+    (λ other is. argument_small kind input args job is))
 
 given_small : (kind : Option Text) (input : Option Text) (args : List Text) (job : Job) → job_in kind input args ≡ Some job → HasSmallNumbers job
 given_small None input args job is = cc

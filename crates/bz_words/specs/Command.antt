@@ -1,5 +1,5 @@
 -- What the words of the command line ask for.
-use Rattle.std.specs.Prelude.{◌≡◌, ◌<◌, ◌≤◌, ℕ, Bool, false, not, ◌||◌, List, [], ◌∷◌, codes, Option, Some, None, Result, Ok, Err, option_map, option_and_then, unwrap_or, if◌then◌else◌, bytes_eq, nat_le, string_bytes}
+use Rattle.std.specs.Prelude.{◌≡◌, ◌<◌, ◌≤◌, ℕ, Bool, false, not, List, [], ◌∷◌, codes, Option, Some, None, Result, Ok, Err, option_map, option_and_then, unwrap_or, if◌then◌else◌, bytes_eq, nat_le, string_bytes}
 use Rattle.bz_base.specs.InputKind.{AddressKind, InProcess, InTable, InFile, address_kind}
 use Rattle.bz_base.specs.Number.{decimal_at, whole}
 use Rattle.bz_requests.specs.Requests.{Target, Breakpad, Gsym, Elf, Process, target_of, usual_kind}
@@ -65,14 +65,6 @@ HasSmallNumbers other = Unit {0}
 abbrev pub number_in : ℕ → Text → Option ℕ
 number_in greatest text = whole (decimal_at 10 greatest text)
 
--- `breakpad`, `gsym` and `elf` name a path, and `process` an id
-abbrev pub target_in : Text → Text → Option Target
-target_in kind text =
-    if bytes_eq kind (codes "breakpad") then Some (Breakpad text)
-    else (if bytes_eq kind (codes "gsym") then Some (Gsym text)
-    else (if bytes_eq kind (codes "elf") then Some (Elf text)
-    else (if bytes_eq kind (codes "process") then option_map (λ pid. Process pid) (number_in 4294967295 text) else None)))
-
 -- the kind of address `abs`, `virt` or `file`
 abbrev pub kind_named : Text → Option AddressKind
 kind_named text =
@@ -83,10 +75,13 @@ abbrev pub kind_for : Target → Option Text → Option AddressKind
 kind_for target None = Some (usual_kind target)
 kind_for target (Some text) = kind_named text
 
--- a batch has one argument
-abbrev pub batch_in : Text → Option Text → List Text → Option Job
-batch_in kind input (arg ∷ []) = option_and_then (λ target. option_map (λ relative. Batch target relative) (kind_for target input)) (target_in kind arg)
-batch_in kind input _ = None
+-- a target is asked for addresses of the kind that is named, or else of the usual one
+abbrev pub batch_in : Option Text → Target → Option Job
+batch_in input target = option_map (λ kind. Batch target kind) (kind_for target input)
+
+-- a process is named by its id
+abbrev pub process_in : Option Text → Text → Option Job
+process_in input text = option_and_then (λ pid. batch_in input (Process pid)) (number_in 4294967295 text)
 
 -- `serve` has no argument, and no kind of address
 abbrev pub serve_in : Option Text → List Text → Option Job
@@ -114,20 +109,28 @@ path_job kind path =
     else (if bytes_eq kind (codes "stacks") then Some (Stacks path)
     else (if bytes_eq kind (codes "frames") then Some (Frames path) else None)))
 
--- with one argument, and no kind of address
-abbrev pub on_path_in : Text → Option Text → List Text → Option Job
-on_path_in kind None (path ∷ []) = path_job kind path
-on_path_in kind _ _ = None
+-- with no kind of address
+abbrev pub on_path_in : Text → Option Text → Text → Option Job
+on_path_in kind None path = path_job kind path
+on_path_in kind (Some text) path = None
 
--- a kind of command that asks one source for the addresses of the input
-abbrev pub is_source : Text → Bool
-is_source kind = bytes_eq kind (codes "breakpad") || bytes_eq kind (codes "gsym") || bytes_eq kind (codes "elf") || bytes_eq kind (codes "process")
+-- `breakpad PATH`, `gsym PATH` and `elf PATH` ask a file for addresses, and `process PID` a process; others are work on a path
+abbrev pub job_on : Text → Option Text → Text → Option Job
+job_on kind input arg =
+    if bytes_eq kind (codes "breakpad") then batch_in input (Breakpad arg)
+    else (if bytes_eq kind (codes "gsym") then batch_in input (Gsym arg)
+    else (if bytes_eq kind (codes "elf") then batch_in input (Elf arg)
+    else (if bytes_eq kind (codes "process") then process_in input arg else on_path_in kind input arg)))
+
+-- they all take one argument
+abbrev pub with_argument : Text → Option Text → List Text → Option Job
+with_argument kind input (arg ∷ []) = job_on kind input arg
+with_argument kind input _ = None
 
 abbrev pub job_by : Text → Option Text → List Text → Option Job
 job_by kind input args =
     if bytes_eq kind (codes "serve") then serve_in input args
-    else (if bytes_eq kind (codes "gen") then generate_in input args
-    else (if is_source kind then batch_in kind input args else on_path_in kind input args))
+    else (if bytes_eq kind (codes "gen") then generate_in input args else with_argument kind input args)
 
 abbrev pub job_in : Option Text → Option Text → List Text → Option Job
 job_in None input args = None

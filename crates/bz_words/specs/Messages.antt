@@ -33,8 +33,8 @@ breakpad_path (Stacks path) = Some path
 breakpad_path _ = None
 
 -- the path of the file that the words ask to read so
-abbrev pub file_named : List (List ℕ) → Option (List ℕ)
-file_named words = option_and_then (λ (command : Command). breakpad_path command.job) (command_in words)
+abbrev pub named_file : List (List ℕ) → Option (List ℕ)
+named_file words = option_and_then (λ (command : Command). breakpad_path command.job) (command_in words)
 
 -- the line says where the bytes at a path are refused as a Breakpad file
 pub record SaysOf (path bytes line : List ℕ) : Type 0 where
@@ -58,14 +58,14 @@ pub record SaysWhere (words : List (List ℕ)) (world : World) (line : List ℕ)
   pub says : SaysAt path world line
 
 -- the path of the one file that a job reads, whatever it asks of it
-abbrev pub read_path : Job → Option (List ℕ)
-read_path (Batch (Breakpad path) kind) = Some path
-read_path (Batch (Gsym path) kind) = Some path
-read_path (Batch (Elf path) kind) = Some path
-read_path (Make (Canonical path)) = Some path
-read_path (Make (Converted path)) = Some path
-read_path (Stacks path) = Some path
-read_path _ = None
+abbrev pub file_path : Job → Option (List ℕ)
+file_path (Batch (Breakpad path) kind) = Some path
+file_path (Batch (Gsym path) kind) = Some path
+file_path (Batch (Elf path) kind) = Some path
+file_path (Make (Canonical path)) = Some path
+file_path (Make (Converted path)) = Some path
+file_path (Stacks path) = Some path
+file_path _ = None
 
 -- why a file can't be read
 abbrev pub IsCause : List ℕ → Type 0
@@ -80,7 +80,7 @@ pub record IsOnNamed (words : List (List ℕ)) (line : List ℕ) : Type 0 where
   pub command : Command
   pub path : List ℕ
   pub given : command_in words ≡ Some command
-  pub named : read_path command.job ≡ Some path
+  pub named : file_path command.job ≡ Some path
   pub says : IsOnFile path line
 
 -- a line that says so, or that a file couldn't be read
@@ -111,7 +111,7 @@ pub record ReadsForMessage {F : Type 0} (looks : files_trait.Ghosts F) (status :
 abbrev pub Tells : Option (List ℕ) → (List ℕ → Type 0) → Type 0
 Tells said Says = (line : List ℕ) → (said ≡ Some line) ↔ Says line
 
--- a run of which nothing is said: it is done, or standard output says which line of the input is bad
+-- a run of which nothing is said: it is done, or standard output says what is bad of the input
 abbrev pub IsSilent : Status → Type 0
 IsSilent statuses.Done = Unit {0}
 IsSilent statuses.Input = Unit {0}

@@ -1,6 +1,6 @@
-//! What `clap` is told: the flags, and that words follow.
+//! What `clap` is told: the flags, the option with a value, and that words follow.
 
-ghost use Rattle.std.specs.Prelude.{◌≡◌, false, codes, IfOk};
+ghost use Rattle.std.specs.Prelude.{◌≡◌, false, IfOk};
 ghost use Rattle.clap.specs.Words.{app_of, rule_of};
 ghost use Rattle.bz_words.specs.Definition.{argument_rule, flag_rule, input_rule, kind_rule, program};
 

@@ -2,7 +2,7 @@
 
 ghost use Rattle.std.specs.Prelude.{◌≡◌, map, option_map, string_bytes, IfOk, IfSome};
 ghost use Rattle.std.specs.Cow.{cow_str_bytes};
-ghost use Rattle.bz_words.specs.Messages.{IsAboutFailed, IsCause, IsOnFile, IsOnNamed, read_path};
+ghost use Rattle.bz_words.specs.Messages.{IsAboutFailed, IsCause, IsOnFile, IsOnNamed, file_path};
 ghost use Rattle.bz_words.specs.Command.{job_of};
 
 use crate::given::{Job, Product};
@@ -50,8 +50,7 @@ pub(crate) fn failure<F: Files>(
     }
     match failed_file(alloc, words, files) {
         Ok(Some(line)) => CowStr::Owned(line),
-        Ok(None) => CowStr::Borrowed("symq: reading a file failed"),
-        Err(_) => CowStr::Borrowed("symq: reading a file failed"),
+        Ok(None) | Err(_) => CowStr::Borrowed("symq: reading a file failed"),
     }
 }
 
@@ -64,7 +63,7 @@ fn failed_file<F: Files>(alloc: Global, words: &[String], files: &mut F) -> Resu
     let Ok(command) = read_command(alloc, words) else {
         return Ok(None);
     };
-    let Some(path) = read_path(&command.job) else {
+    let Some(path) = file_path(&command.job) else {
         return Ok(None);
     };
     let line = line_on_file(alloc, path, files)?;
@@ -72,16 +71,13 @@ fn failed_file<F: Files>(alloc: Global, words: &[String], files: &mut F) -> Resu
 }
 
 // The path of the one file that the job reads, whatever it asks of it.
-fn read_path(job: &Job) -> Option<&str>
-    ensures { option_map (λ path. path.now) result ≡ read_path (job_of job.now) }
+fn file_path(job: &Job) -> Option<&str>
+    ensures { option_map (λ path. path.now) result ≡ file_path (job_of job.now) }
 {
     match job {
-        Job::Batch(Target::Breakpad(path), _) => Some(path.as_str()),
-        Job::Batch(Target::Gsym(path), _) => Some(path.as_str()),
-        Job::Batch(Target::Elf(path), _) => Some(path.as_str()),
-        Job::Make(Product::Converted(path)) => Some(path.as_str()),
-        Job::Make(Product::Canonical(path)) => Some(path.as_str()),
-        Job::Stacks(path) => Some(path.as_str()),
+        Job::Batch(Target::Breakpad(path) | Target::Gsym(path) | Target::Elf(path), _)
+        | Job::Make(Product::Converted(path) | Product::Canonical(path))
+        | Job::Stacks(path) => Some(path.as_str()),
         _ => None,
     }
 }
@@ -117,7 +113,7 @@ fn is_folder<F: Files>(alloc: Global, path: &str, files: &mut F) -> Result<bool>
     ensures unopened { F.opens files.new ≡ F.opens files.old }
     ensures worlds { F.worlds files.new ≡ F.worlds files.old }
 {
-    // A folder alone has itself in it.
+    // Only a folder has an entry named by a dot.
     let within = format!(in alloc; "{path}/.")?;
     Ok(files.stat(within.as_str()).is_ok())
 }

@@ -21,7 +21,7 @@ pub enum Job {
     Serve,
     /// The generated job; the input isn't read.
     Generate {
-        /// The number that its numbers begin with.
+        /// The number before the first of its numbers, each of which is made of the one before it.
         seed: u64,
         /// How many functions its text has.
         functions: u64,
@@ -32,7 +32,7 @@ pub enum Job {
     Make(Product),
     /// The stacks on the input, folded; their addresses are those of the Breakpad file at a path.
     Stacks(String),
-    /// The frames on the input, which are those of the files of the store at a path.
+    /// The frames on the input, answered by the symbol files of the store at a path.
     Frames(String),
 }
 

@@ -15,7 +15,7 @@ use bz_symq::Status;
 use std::alloc::{AllocError, Global};
 use std::borrow::CowStr;
 
-/// Of words that `clap` takes, and that are no command.
+/// What command lines there are: said of faulty words of which nothing closer is known.
 const NO_COMMAND: &str =
     "symq: not a command line: one of breakpad PATH, gsym PATH, elf PATH, process PID, canon PATH, convert PATH, stacks PATH, frames ROOT, serve, gen SEED FUNCTIONS ADDRESSES; --input abs, virt or file goes with the first four";
 
@@ -78,8 +78,7 @@ pub fn message<F: Files>(
     ensures files { ReadsForMessage F.Files status files.old files.new }
 {
     match status {
-        Status::Done => None,
-        Status::Input => None,
+        Status::Done | Status::Input => None,
         Status::Refused => where_refused(alloc, words, files),
         Status::Usage => Some(usage(alloc, words)),
         Status::Fault => Some(failure(alloc, words, failed, files)),
@@ -109,8 +108,7 @@ fn where_refused<F: Files>(
 {
     match refused_file(alloc, words, files) {
         Ok(Some(line)) => Some(CowStr::Owned(line)),
-        Ok(None) => None,
-        Err(_) => None,
+        Ok(None) | Err(_) => None,
     }
 }
 

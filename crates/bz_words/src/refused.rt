@@ -5,7 +5,7 @@ ghost use Rattle.bz_base.specs.Refusals.{IsFailure};
 ghost use Rattle.bz_base.specs.declared.error.Error.{Error};
 ghost use Rattle.bz_files.specs.Looked.{Faulted, Looked, ReadsOne};
 ghost use Rattle.bz_files.specs.World.{Told, in_view};
-ghost use Rattle.bz_words.specs.Messages.{SaysAt, SaysOf, SaysWhere, Tells, breakpad_path, file_named, line_about, said_of};
+ghost use Rattle.bz_words.specs.Messages.{SaysAt, SaysOf, SaysWhere, Tells, breakpad_path, named_file, line_about, said_of};
 ghost use Rattle.bz_words.specs.Command.{job_of};
 
 use crate::given::{Job, Product};
@@ -24,7 +24,7 @@ pub fn refused_file<F: Files>(
     files: &mut F,
 ) -> Result<Option<String>>
     ensures tells { Told (in_view (F.worlds files.old)) (λ world. IfOk result (λ said. Tells (option_map string_bytes said) (SaysWhere (map string_bytes words.now) world))) }
-    ensures spared { file_named (map string_bytes words.now) ≡ None → F.opens files.new ≡ F.opens files.old }
+    ensures spared { named_file (map string_bytes words.now) ≡ None → F.opens files.new ≡ F.opens files.old }
     ensures most { ReadsOne F.Files files.old files.new }
     ensures files { Looked F.Files files.old files.new (Faulted result) }
     ensures failure { IfErr result IsFailure }
@@ -41,18 +41,18 @@ pub fn refused_file<F: Files>(
 
 /// The path of the file that the words ask to read as a Breakpad file, if they do.
 pub fn named_file(alloc: Global, words: &[String]) -> Result<Option<String>>
-    ensures named { IfOk result (λ path. option_map string_bytes path ≡ file_named (map string_bytes words.now)) }
+    ensures named { IfOk result (λ path. option_map string_bytes path ≡ named_file (map string_bytes words.now)) }
     ensures memory { IsOkUnless result Error.OutOfMemory }
 {
     match read_command(alloc, words) {
-        Ok(command) => path_read(alloc, &command.job),
+        Ok(command) => owned_breakpad_path(alloc, &command.job),
         Err(BadWords::Usage) => Ok(None),
         Err(BadWords::OutOfMemory) => Err(Error::OutOfMemory),
     }
 }
 
 // The path of the file that the job reads as a Breakpad file, as a text of its own.
-fn path_read(alloc: Global, job: &Job) -> Result<Option<String>>
+fn owned_breakpad_path(alloc: Global, job: &Job) -> Result<Option<String>>
     ensures named { IfOk result (λ path. option_map string_bytes path ≡ breakpad_path (job_of job.now)) }
     ensures memory { IsOkUnless result Error.OutOfMemory }
 {
@@ -70,10 +70,9 @@ fn breakpad_path(job: &Job) -> Option<&str>
     ensures { option_map (λ path. path.now) result ≡ breakpad_path (job_of job.now) }
 {
     match job {
-        Job::Batch(Target::Breakpad(path), Input::FileOffset(())) => Some(path.as_str()),
-        Job::Make(Product::Canonical(path)) => Some(path.as_str()),
-        Job::Make(Product::Converted(path)) => Some(path.as_str()),
-        Job::Stacks(path) => Some(path.as_str()),
+        Job::Batch(Target::Breakpad(path), Input::FileOffset(()))
+        | Job::Make(Product::Canonical(path) | Product::Converted(path))
+        | Job::Stacks(path) => Some(path.as_str()),
         _ => None,
     }
 }
@@ -87,8 +86,7 @@ fn refused_at<F: Files>(alloc: Global, path: &str, files: &mut F) -> Result<Opti
 {
     match files.read(alloc, path) {
         Ok(bytes) => refused_of(alloc, path, bytes.as_slice()),
-        Err(FileError::NotFound) => Ok(None),
-        Err(FileError::Denied) => Ok(None),
+        Err(FileError::NotFound | FileError::Denied) => Ok(None),
         Err(FileError::Fault) => Err(Error::ReadFault),
         Err(FileError::OutOfMemory) => Err(Error::OutOfMemory),
     }

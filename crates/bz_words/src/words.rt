@@ -1,17 +1,17 @@
 //! The command that words give: its kind, arguments and flags are read here.
 
-ghost use Rattle.std.specs.Prelude.{◌≡◌, ◌≢◌, ◌≤◌, true, Ok, Some, None, [], map, not, option_map, codes, string_bytes, unwrap_or, IfOk, IfSome};
+ghost use Rattle.std.specs.Prelude.{◌≡◌, ◌≢◌, ◌≤◌, true, Ok, Some, None, [], map, option_map, string_bytes, IfOk, IfSome};
 ghost use Rattle.bz_base.specs.InputKind.{address_kind};
 ghost use Rattle.bz_requests.specs.Requests.{target_of};
 ghost use Rattle.clap.specs.Words.{first_of, found_of, kind_of, rows_of};
 ghost use Rattle.clap.specs.declared.error.kind.ErrorKind.TheVariants as kinds;
-ghost use Rattle.bz_words.specs.Command.{IsUsage, batch_in, command_by, command_in, command_of, config_in, generate_in, has_flag, is_source, job_by_rows, job_in, job_of, kind_for, kind_named, number_in, numbers_in, on_path_in, path_job, positive_in, serve_in, target_in};
+ghost use Rattle.bz_words.specs.Command.{IsUsage, batch_in, command_by, command_in, command_of, config_in, generate_in, has_flag, job_by_rows, job_in, job_of, job_on, kind_for, kind_named, number_in, numbers_in, on_path_in, path_job, positive_in, process_in, serve_in, with_argument};
 ghost use Rattle.bz_words.specs.Definition.{IsTakenByClap, faults, rows};
 ghost use Rattle.bz_words.specs.declared.words.BadWords.TheVariants.{OutOfMemory};
 
 use crate::definition::program;
 use crate::given::{Command, Job, Product};
-use bz_base::{Input, whole_decimal};
+use bz_base::{Input, whole_decimal, whole_u32};
 use bz_requests::{Config, Target};
 use clap::error::ErrorKind;
 use clap::{ArgMatches, Error};
@@ -41,10 +41,8 @@ pub fn read_command(alloc: Global, words: &[String]) -> Result<Command, BadWords
     // What `clap` says of its own accord: words that it takes are refused only where they read as no command.
     ensures taken { IsUsage result → IsTakenByClap (map string_bytes words.now) → command_by (rows (map string_bytes words.now)) ≡ None }
 {
-    match matches(alloc, words) {
-        Ok(matches) => command_given(alloc, &matches),
-        Err(bad) => Err(bad),
-    }
+    let matches = matches(alloc, words)?;
+    command_given(alloc, &matches)
 }
 
 // What `clap` makes of the words.
@@ -136,16 +134,9 @@ fn job_given(
     match kind {
         Some("serve") => Ok(serve(input, args)),
         Some("gen") => Ok(generate(input, args)),
-        Some(kind) if is_source(kind) => batch(alloc, kind, input, args),
-        Some(kind) => on_path(alloc, kind, input, args),
+        Some(kind) => with_argument(alloc, kind, input, args),
         None => Ok(None),
     }
-}
-
-fn is_source(kind: &str) -> bool
-    ensures { result ≡ is_source kind.now }
-{
-    kind == "breakpad" || kind == "gsym" || kind == "elf" || kind == "process"
 }
 
 fn serve(input: Option<&str>, args: &[&str]) -> Option<Job>
@@ -194,83 +185,79 @@ fn number(text: &str, greatest: u64) -> Option<u64>
     whole_decimal(text.as_bytes(), 10, greatest)
 }
 
-// The work on one path, which takes no kind of address.
-fn on_path(
+// Any other kind of command takes one argument.
+fn with_argument(
     alloc: Global,
     kind: &str,
     input: Option<&str>,
     args: &[&str],
 ) -> Result<Option<Job>, AllocError>
-    ensures { IfOk result (λ job. option_map job_of job ≡ on_path_in kind.now (option_map (λ text. text.now) input.entry) (map (λ text. text.now) args.now)) }
+    ensures { IfOk result (λ job. option_map job_of job ≡ with_argument kind.now (option_map (λ text. text.now) input.entry) (map (λ text. text.now) args.now)) }
 {
-    match (input, args) {
-        (None, [path]) => path_job(alloc, kind, path),
+    match args {
+        [arg] => job_on(alloc, kind, input, arg),
         _ => Ok(None),
+    }
+}
+
+fn job_on(
+    alloc: Global,
+    kind: &str,
+    input: Option<&str>,
+    arg: &str,
+) -> Result<Option<Job>, AllocError>
+    ensures { IfOk result (λ job. option_map job_of job ≡ job_on kind.now (option_map (λ text. text.now) input.entry) arg.now) }
+{
+    match kind {
+        "breakpad" => Ok(batch(Target::Breakpad(String::from_str(alloc, arg)?), input)),
+        "gsym" => Ok(batch(Target::Gsym(String::from_str(alloc, arg)?), input)),
+        "elf" => Ok(batch(Target::Elf(String::from_str(alloc, arg)?), input)),
+        "process" => Ok(process(input, arg)),
+        _ => on_path(alloc, kind, input, arg),
+    }
+}
+
+// The addresses on the input, asked of the target.
+fn batch(target: Target, input: Option<&str>) -> Option<Job>
+    ensures { option_map job_of result ≡ batch_in (option_map (λ text. text.now) input.entry) (target_of target) }
+{
+    let kind = kind_for(&target, input)?;
+    Some(Job::Batch(target, kind))
+}
+
+fn process(input: Option<&str>, text: &str) -> Option<Job>
+    ensures { option_map job_of result ≡ process_in (option_map (λ text. text.now) input.entry) text.now }
+{
+    let number = whole_u32(text.as_bytes())?;
+    batch(Target::Process(number), input)
+}
+
+// The work on one path, which takes no kind of address.
+fn on_path(
+    alloc: Global,
+    kind: &str,
+    input: Option<&str>,
+    path: &str,
+) -> Result<Option<Job>, AllocError>
+    ensures { IfOk result (λ job. option_map job_of job ≡ on_path_in kind.now (option_map (λ text. text.now) input.entry) path.now) }
+{
+    match input {
+        None => path_job(alloc, kind, path),
+        Some(_) => Ok(None),
     }
 }
 
 fn path_job(alloc: Global, kind: &str, path: &str) -> Result<Option<Job>, AllocError>
     ensures { IfOk result (λ job. option_map job_of job ≡ path_job kind.now path.now) }
 {
-    let path = String::from_str(alloc, path)?;
-    if kind == "convert" {
-        Ok(Some(Job::Make(Product::Converted(path))))
-    } else if kind == "canon" {
-        Ok(Some(Job::Make(Product::Canonical(path))))
-    } else if kind == "stacks" {
-        Ok(Some(Job::Stacks(path)))
-    } else if kind == "frames" {
-        Ok(Some(Job::Frames(path)))
-    } else {
-        Ok(None)
-    }
-}
-
-fn batch(
-    alloc: Global,
-    kind: &str,
-    input: Option<&str>,
-    args: &[&str],
-) -> Result<Option<Job>, AllocError>
-    ensures { IfOk result (λ job. option_map job_of job ≡ batch_in kind.now (option_map (λ text. text.now) input.entry) (map (λ text. text.now) args.now)) }
-{
-    let [arg] = args else {
-        return Ok(None);
+    let job = match kind {
+        "convert" => Job::Make(Product::Converted(String::from_str(alloc, path)?)),
+        "canon" => Job::Make(Product::Canonical(String::from_str(alloc, path)?)),
+        "stacks" => Job::Stacks(String::from_str(alloc, path)?),
+        "frames" => Job::Frames(String::from_str(alloc, path)?),
+        _ => return Ok(None),
     };
-    let Some(target) = named_target(alloc, kind, arg)? else {
-        return Ok(None);
-    };
-    Ok(of_kind(target, input))
-}
-
-fn of_kind(target: Target, input: Option<&str>) -> Option<Job>
-    ensures { option_map job_of result ≡ option_map (λ kind. Rattle.bz_words.specs.Command.Batch (target_of target) kind) (kind_for (target_of target) (option_map (λ text. text.now) input.entry)) }
-{
-    let kind = kind_for(&target, input)?;
-    Some(Job::Batch(target, kind))
-}
-
-fn named_target(alloc: Global, kind: &str, text: &str) -> Result<Option<Target>, AllocError>
-    ensures { IfOk result (λ target. option_map target_of target ≡ target_in kind.now text.now) }
-{
-    if kind == "breakpad" {
-        Ok(Some(Target::Breakpad(String::from_str(alloc, text)?)))
-    } else if kind == "gsym" {
-        Ok(Some(Target::Gsym(String::from_str(alloc, text)?)))
-    } else if kind == "elf" {
-        Ok(Some(Target::Elf(String::from_str(alloc, text)?)))
-    } else if kind == "process" {
-        Ok(process(text))
-    } else {
-        Ok(None)
-    }
-}
-
-fn process(text: &str) -> Option<Target>
-    ensures { option_map target_of result ≡ option_map (λ pid. Rattle.bz_requests.specs.Requests.Process pid) (number_in 4294967295 text.now) }
-{
-    let pid = number(text, 4_294_967_295)?;
-    Some(Target::Process(pid as u32))
+    Ok(Some(job))
 }
 
 fn kind_for(target: &Target, input: Option<&str>) -> Option<Input<()>>

@@ -55,8 +55,8 @@ fn run_real(rt: &HostRuntime) -> (Status, Option<CowStr<'static>>) {
     (status, message)
 }
 
-// Whether the words name a Breakpad file that can't be read once more; so they may, where there is no
-// memory to tell.
+// Whether the words name a Breakpad file that can't be read once more. Where memory runs out, they are
+// taken to name one.
 fn names_a_special_file(rt: &HostRuntime, words: &[String]) -> bool {
     match named_file(rt.alloc(), words) {
         Ok(Some(path)) => is_special_file(rt, path.as_str()),
@@ -90,7 +90,7 @@ fn own_pid_for(rt: &HostRuntime, words: &[String]) -> u32 {
     }
 }
 
-// Whether a word is a kind that answers processes.
+// Whether a word may be a kind of command that asks processes.
 fn names_processes(words: &[String]) -> bool {
     for word in words {
         if word.as_str() == "process" || word.as_str() == "serve" {

@@ -22,7 +22,7 @@ use bz_symq::{Reply, bad_line, made_reply, new_symbolizer, read_input, refusal, 
 use std::alloc::Global;
 
 /// What a run over an input of stacks ends with and writes, before any of it is written.
-pub fn reply_with_stacks<R: TextIn, F: Files>(
+pub(crate) fn reply_with_stacks<R: TextIn, F: Files>(
     alloc: Global,
     path: &str,
     config: Config,

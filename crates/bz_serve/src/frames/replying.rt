@@ -1,6 +1,6 @@
 //! What an input of frames is answered.
 
-ghost use Rattle.std.specs.Prelude.{◌≡◌, Ok, map, IfOk, IsOkUnless, string_bytes};
+ghost use Rattle.std.specs.Prelude.{◌≡◌, Ok, map, IfOk, IsOkUnless};
 ghost use Rattle.bz_base.specs.declared.error.Error.{Error};
 ghost use Rattle.bz_store.specs.Frames.{frame_of, reading_of};
 ghost use Rattle.bz_store.specs.Shelf.{new_shelf};
@@ -14,9 +14,8 @@ use bz_base::{Error, FindSymOpts, Result};
 use bz_files::Files;
 use bz_requests::BadInput;
 use bz_store::{CrashFrame, FrameAnswer, Store};
-use bz_symq::{Reply, Said, Status, bad_line};
+use bz_symq::{Reply, Status, bad_line, text_reply};
 use std::alloc::Global;
-use std::borrow::CowStr;
 
 /// How many symbol files are kept at most.
 const CAPACITY: usize = 64;
@@ -51,10 +50,8 @@ fn answered<F: Files>(
     ensures reply { RepliesFrames F.Files root.now opts.now (Ok (map frame_of frames.now)) result files.old files.new }
     ensures answered { IfOk result (IsFramesReply root.now opts.now (Ok (map frame_of frames.now)) (F.Files.opens files.old) (F.Files.opens files.new)) }
 {
-    match new_store(alloc, root) {
-        Ok(store) => answered_by(alloc, store, opts, frames, files),
-        Err(error) => Err(error),
-    }
+    let store = new_store(alloc, root)?;
+    answered_by(alloc, store, opts, frames, files)
 }
 
 fn answered_by<F: Files>(
@@ -88,8 +85,5 @@ fn texts_reply(alloc: Global, frames: &[CrashFrame], answers: &[FrameAnswer]) ->
     ensures memory { IsOkUnless result Error.OutOfMemory }
 {
     let text = frame_texts(alloc, frames, answers)?;
-    Ok(Reply {
-        status: Status::Done,
-        said: Said::Text(CowStr::Owned(text)),
-    })
+    Ok(text_reply(Status::Done, text))
 }

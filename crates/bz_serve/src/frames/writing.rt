@@ -1,6 +1,6 @@
 //! The texts of frames' answers.
 
-ghost use Rattle.std.specs.Prelude.{◌≡◌, ◌++◌, codes, map, string_bytes, OnOk, IfOk, IsOkUnless};
+ghost use Rattle.std.specs.Prelude.{◌≡◌, ◌++◌, map, string_bytes, OnOk, IfOk, IsOkUnless};
 ghost use Rattle.bz_base.specs.declared.error.Error.{Error};
 ghost use Rattle.bz_store.specs.Frames.{frame_of, reading_of};
 ghost use Rattle.bz_serve.specs.FrameText.{file_text, frame_text, frame_texts, reply_text, unknown_text};
@@ -16,9 +16,8 @@ pub fn frame_texts(alloc: Global, frames: &[CrashFrame], answers: &[FrameAnswer]
     ensures memory { IsOkUnless result Error.OutOfMemory }
 {
     let mut text = String::new(alloc);
-    let count = frames.len().min(answers.len());
-    for index in 0..count {
-        push_frame(&mut text, &frames[index], &answers[index])?;
+    for (frame, answer) in frames.iter().zip(answers) {
+        push_frame(&mut text, frame, answer)?;
     }
     Ok(text)
 }

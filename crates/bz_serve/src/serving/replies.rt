@@ -1,12 +1,13 @@
 //! What is said to a request in the world in view. A refusal is said, and a failure isn't.
 
-ghost use Rattle.std.specs.Prelude.{◌≡◌, true, IfOk};
+ghost use Rattle.std.specs.Prelude.{◌≡◌, ℕ, Bool, true, IfOk};
 ghost use Rattle.bz_base.specs.InputKind.{InProcess, address_kind, payload};
 ghost use Rattle.bz_process.specs.declared.query.ProcessQuery.{ProcessQuery};
 ghost use Rattle.bz_requests.specs.Requests.{request_of, target_of, Batch, Single};
-ghost use Rattle.bz_serve.specs.Serving.{Replied};
-ghost use Rattle.bz_serve.specs.RequestSteps.{asking, asking_batch, done_by, forgetting, keeping, okay, step};
-ghost use Rattle.bz_serve.specs.SomeReplies.{FileSays, KeepingSays, MayReply, ProcessSays};
+ghost use Rattle.bz_serve.specs.Serving.{Replied, Says};
+ghost use Rattle.bz_serve.specs.RequestSteps.{asking, asking_batch, done_by, keeping, okay, query_by, step};
+ghost use Rattle.bz_serve.specs.SomeReplies.{FileMaySay, KeepingMaySay, MayReply, ProcessMaySay};
+ghost use Rattle.bz_symbolize.specs.Evicting.{evicting};
 ghost use Rattle.bz_symbolize.specs.FileCall.{batch_of};
 ghost use Rattle.bz_symbolize.specs.Requests.{ToCache, ToEvict, cache_read, evict_read};
 ghost use Rattle.bz_symbolize.specs.Sources.{FileSource, OneFile, OneProcess, form_of};
@@ -61,11 +62,11 @@ pub(crate) fn reply_to_request<F: Files, L: Ledger>(
         }
         Request::EvictElf(path) => {
             let evict = elf_to_evict(alloc, path.as_str())?;
-            reply_to_evict(&mut server.symbolizer, &evict, files)
+            reply_to_evict(&mut server.symbolizer, &evict)
         }
         Request::EvictProcess(number) => {
             let evict = process_to_evict(*number);
-            reply_to_evict(&mut server.symbolizer, &evict, files)
+            reply_to_evict(&mut server.symbolizer, &evict)
         }
     }
 }
@@ -107,7 +108,7 @@ fn reply_by_file<F: Files, L: Ledger>(
     ensures reply { (file : FileSource) → form_of src.now ≡ OneFile file →
         Replied F.Files (done_by (answer_texts (payload input).items) (asking (OneFile file) (batch_of (address_kind input) (payload input).items))) result (kept_of symbolizer.old) (kept_of symbolizer.new) files.old files.new }
     ensures some { (file : FileTarget) → IsSourceOf file src.now → file_takes file (address_kind input) ≡ true →
-        IfOk result (λ said. FileSays (answer_texts (payload input).items) (opts_of symbolizer.old.files.settings) file (batch_of (address_kind input) (payload input).items) (text_of said)) }
+        IfOk result (λ said. FileMaySay (answer_texts (payload input).items) (opts_of symbolizer.old.files.settings) file (batch_of (address_kind input) (payload input).items) (text_of said)) }
     ensures settings { symbolizer.new.files.settings ≡ symbolizer.old.files.settings }
 {
     match symbolizer.look_up(alloc, files, src, input, steps) {
@@ -127,7 +128,7 @@ fn reply_by_process<F: Files, L: Ledger>(
 ) -> Result<Said>
     ensures reply { (query : ProcessQuery) → form_of src.now ≡ OneProcess query →
         Replied F.Files (done_by (answer_texts addrs.items) (asking_batch (F.pid files.old) (OneProcess query) InProcess addrs.items)) result (kept_of symbolizer.old) (kept_of symbolizer.new) files.old files.new }
-    ensures some { (query : ProcessQuery) → form_of src.now ≡ OneProcess query → IfOk result (λ said. ProcessSays addrs.items (text_of said)) }
+    ensures some { (map_files : Bool) (number : ℕ) → form_of src.now ≡ OneProcess (query_by map_files number) → IfOk result (λ said. ProcessMaySay number addrs.items (text_of said)) }
     ensures settings { symbolizer.new.files.settings ≡ symbolizer.old.files.settings }
 {
     match symbolizer.symbolize_counted(alloc, files, src, Input::AbsAddr(addrs.as_slice()), steps) {
@@ -166,7 +167,7 @@ fn reply_to_cache<F: Files>(
     files: &mut F,
 ) -> Result<Said>
     ensures reply { (asked : ToCache) → cache_read cache.now ≡ asked → Replied F.Files (done_by okay (keeping (F.pid files.old) asked)) result (kept_of symbolizer.old) (kept_of symbolizer.new) files.old files.new }
-    ensures some { (asked : ToCache) → cache_read cache.now ≡ asked → IfOk result (λ said. KeepingSays asked (text_of said)) }
+    ensures some { (asked : ToCache) → cache_read cache.now ≡ asked → IfOk result (λ said. KeepingMaySay asked (text_of said)) }
     ensures settings { symbolizer.new.files.settings ≡ symbolizer.old.files.settings }
 {
     match symbolizer.cache(alloc, files, cache) {
@@ -176,14 +177,11 @@ fn reply_to_cache<F: Files>(
 }
 
 // No file is looked at.
-fn reply_to_evict<F: Files>(symbolizer: &mut Symbolizer, evict: &Evict, files: &F) -> Result<Said>
-    ensures reply { (asked : ToEvict) → evict_read evict.now ≡ asked → Replied F.Files (done_by okay (forgetting asked)) result (kept_of symbolizer.old) (kept_of symbolizer.new) files.now files.now }
-    ensures some { IfOk result (λ said. text_of said ≡ okay tt) }
+fn reply_to_evict(symbolizer: &mut Symbolizer, evict: &Evict) -> Result<Said>
+    ensures says { Says (okay tt) result }
+    ensures state { (asked : ToEvict) → evict_read evict.now ≡ asked → kept_of symbolizer.new ≡ evicting asked (kept_of symbolizer.old) }
     ensures settings { symbolizer.new.files.settings ≡ symbolizer.old.files.settings }
 {
-    let _unlooked = files;
-    match symbolizer.evict(evict) {
-        Ok(()) => Ok(said_okay()),
-        Err(error) => Err(error),
-    }
+    symbolizer.evict(evict)?;
+    Ok(said_okay())
 }

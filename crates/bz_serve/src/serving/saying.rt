@@ -25,10 +25,8 @@ pub(crate) fn said_answer(alloc: Global, addr: Addr, answer: &Symbolized<'_>) ->
 pub(crate) fn said_refusal(alloc: Global, error: Error) -> Result<Said>
     ensures { SaysRefusal error result }
 {
-    match refusal(alloc, error) {
-        Ok(reply) => Ok(reply.said),
-        Err(error) => Err(error),
-    }
+    let reply = refusal(alloc, error)?;
+    Ok(reply.said)
 }
 
 /// That it was done.

@@ -16,7 +16,6 @@ use bz_symbolize::Pid;
 use bz_symbolize::cache::{self, Cache};
 use bz_symbolize::evict::{self, Evict};
 use bz_symbolize::source::{Breakpad, Elf, GsymFile, Process, Source};
-use bz_symq::input_for;
 use std::alloc::Global;
 
 /// The source that the target is. Mapped files of a process are looked at by the paths that stand for
@@ -59,7 +58,7 @@ pub(crate) fn input_of<T>(target: &Target, addrs: T) -> Input<T>
     ensures kind { address_kind result ≡ usual_kind (target_of target.now) }
     ensures addrs { payload result ≡ addrs }
 {
-    input_for(target.usual_kind(), addrs)
+    target.usual_kind().with(addrs)
 }
 
 /// The ELF file at a path, as what is to be kept.

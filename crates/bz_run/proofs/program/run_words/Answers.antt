@@ -4,7 +4,7 @@ use Rattle.bz_words.proofs.NumberLemmas.{command_small}
 use Rattle.bz_run.proofs.RunLemmas.{unstarted}
 use Rattle.bz_run.proofs.program.run_words.Goals as goal
 
--- nothing was come to
+-- nothing was touched
 pub returns-in-Err-OutOfMemory : goal.returns-in-Err-OutOfMemory
 returns-in-Err-OutOfMemory g c = unstarted g.R.TextIn g.W.TextOut g.F.Files _ _ _ (command_in (map string_bytes c.args.words.now))
 

@@ -12,7 +12,7 @@ pub returns-in-Ok : goal.returns-in-Ok
 returns-in-Ok g c =
     folds_file g.F.Files (g.D.ProcessDispatch.may_dispatch c.args.symbolizer.now.processes.dispatcher) g.D.Resolver.TranslateFileOffset g.D.Resolver.Symbolize c.args.src.now (address_kind c.args.kind) c.args.stacks.now
     (answers_to (addrs_of c.args.stacks.now)) (Ok c.in-Ok.lookups) c.fold_lookups.result c.args.symbolizer.now c.look_up.new.self c.args.files.now c.look_up.new.files
-    (rw c.of_kind-none.ensures.kind at (c.in-Ok.ensures.every (addrs_of c.args.stacks.now)))
+    (rw c.with-none.ensures.kind at (c.in-Ok.ensures.every (addrs_of c.args.stacks.now)))
     (c.fold_lookups.ensures.ok, c.fold_lookups.ensures.memory)
     (on_process_by (form_of c.args.src.now) (λ query refused. cc refused.0) c.in-Ok.ensures.process)
     c.in-Ok.ensures.processes
@@ -22,7 +22,7 @@ pub returns : goal.returns
 returns g c =
     folds_file g.F.Files (g.D.ProcessDispatch.may_dispatch c.args.symbolizer.now.processes.dispatcher) g.D.Resolver.TranslateFileOffset g.D.Resolver.Symbolize c.args.src.now (address_kind c.args.kind) c.args.stacks.now
     (answers_to (addrs_of c.args.stacks.now)) (Err c.in-Err.error) (Err c.in-Err.error) c.args.symbolizer.now c.look_up.new.self c.args.files.now c.look_up.new.files
-    (rw c.of_kind-none.ensures.kind at (c.in-Err.ensures.every (addrs_of c.args.stacks.now)))
+    (rw c.with-none.ensures.kind at (c.in-Err.ensures.every (addrs_of c.args.stacks.now)))
     refl
     (never_process (form_of c.args.src.now) (sym c.is_process.ensures ∙ c.if-is_process.false))
     c.in-Err.ensures.processes

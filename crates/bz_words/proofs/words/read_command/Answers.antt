@@ -1,10 +1,11 @@
-use Rattle.std.proofs.Common.{map, string_bytes}
+use Rattle.std.proofs.Common.{◌≡◌, Err, map, string_bytes, rules}
 use Rattle.bz_words.specs.Command.{command_read}
 use Rattle.bz_words.specs.Definition.{faults}
 use Rattle.bz_words.proofs.ProgramLemmas.{faulty}
 use Rattle.bz_words.proofs.words.read_command.Goals as goal
 
-pub returns-in-Err-clause-usage : goal.returns-in-Err-clause-usage
-returns-in-Err-clause-usage c usage =
+pub returns-in_err-matches-clause-usage : goal.returns-in_err-matches-clause-usage
+returns-in_err-matches-clause-usage c usage =
     let words = map string_bytes c.args.words.now in
-    faulty (faults words) (command_read words) (c.in-Err.ensures.usage usage)
+    let same : c.from_residual.result ≡ Err c.in_err-matches.field-0.0 = search rules in
+    faulty (faults words) (command_read words) (c.in_err-matches.ensures.usage (rw same at usage))

@@ -3,7 +3,7 @@ use Rattle.bz_base.specs.Answer.{reading}
 use Rattle.bz_canon.specs.AnswerText.{answer_texts}
 use Rattle.bz_serve.proofs.DoesLemmas.{does_batch}
 use Rattle.bz_serve.proofs.RequestReplyLemmas.{replied_given, replied_refused}
-use Rattle.bz_serve.proofs.SomeReplyLemmas.{process_counted, process_refused}
+use Rattle.bz_serve.proofs.SomeReplyLemmas.{process_given, process_refused}
 use Rattle.bz_serve.proofs.serving.replies.reply_by_process.Goals as goal
 
 -- the answers are said
@@ -13,12 +13,12 @@ returns-in-Ok-clause-reply g c query is =
     (does_batch g.F.Files c.args.src.now _ _ _ _ _ query is _ _ _ _ c.args.addrs.items (rw c.as_slice.ensures.value at c.in-Ok.ensures.process) (λ member answer is. is))
     refl
 
--- one to each address, whatever the files tell
+-- they are by some mappings, whatever the files tell
 pub returns-in-Ok-clause-some : goal.returns-in-Ok-clause-some
-returns-in-Ok-clause-some g c query is =
+returns-in-Ok-clause-some g c map_files number is =
     inl (
       map reading c.in-Ok.answers.items,
-      process_counted g.F.Files (λ answers. map reading answers.items) _ _ _ c.args.src.now query is c.args.addrs.items _ _ _ _ c.in-Ok.answers (rw c.as_slice.ensures.value at c.in-Ok.ensures.process),
+      process_given g.F.Files (λ answers. map reading answers.items) _ _ _ c.args.src.now map_files number is c.args.addrs.items _ _ _ _ c.in-Ok.answers (rw c.as_slice.ensures.value at c.in-Ok.ensures.process) (λ member answer is. is),
       refl,
     )
 
@@ -31,5 +31,5 @@ returns-in-Err-clause-reply g c query is =
 
 -- for want of mappings
 pub returns-in-Err-clause-some : goal.returns-in-Err-clause-some
-returns-in-Err-clause-some g c query is =
-    process_refused g.F.Files (λ answers. map reading answers.items) _ _ _ c.args.src.now query is c.args.addrs.items _ _ _ _ c.in-Err.error c.said_refusal.result (rw c.as_slice.ensures.value at c.in-Err.ensures.process) c.said_refusal.ensures
+returns-in-Err-clause-some g c map_files number is =
+    process_refused g.F.Files (λ answers. map reading answers.items) _ _ _ c.args.src.now map_files number is c.args.addrs.items _ _ _ _ c.in-Err.error c.said_refusal.result (rw c.as_slice.ensures.value at c.in-Err.ensures.process) c.said_refusal.ensures

@@ -31,10 +31,12 @@ pub returns-in-Ok-clause-some : goal.returns-in-Ok-clause-some
 returns-in-Ok-clause-some g c =
     let kind = c.input_of-input.ensures.kind in
     let addr = c.input_of-input.ensures.addrs in
-    single_given g.F.Files reading c.in_ok-src.src c.args.addr c.said_answer.result _ _ _ _ (target_of c.args.target.now) c.in-Ok.answer c.in_ok-src.ensures.source (rw (kind, addr) at c.in-Ok.ensures.call) c.said_answer.ensures
+    single_given g.F.Files reading c.in_ok-src.src c.args.addr c.said_answer.result _ _ _ _ _ _ _ c.args.server.now.map_files (target_of c.args.target.now) c.in-Ok.answer c.in_ok-src.ensures.ok c.in_ok-src.ensures.source
+    (rw (kind, addr) at c.in-Ok.ensures.call) (rw (kind, addr) at c.in-Ok.ensures.process) (λ member answer is. is) c.said_answer.ensures
 
 pub returns-clause-some : goal.returns-clause-some
 returns-clause-some g c =
     let kind = c.input_of-input.ensures.kind in
     let addr = c.input_of-input.ensures.addrs in
-    single_refused g.F.Files reading c.in_ok-src.src c.args.addr c.said_refusal.result _ _ _ _ (target_of c.args.target.now) c.in-Err.error c.in_ok-src.ensures.source (rw (kind, addr) at c.in-Err.ensures.call) c.said_refusal.ensures
+    single_refused g.F.Files reading c.in_ok-src.src c.args.addr c.said_refusal.result _ _ _ _ _ _ _ c.args.server.now.map_files (target_of c.args.target.now) c.in-Err.error c.in_ok-src.ensures.ok c.in_ok-src.ensures.source
+    (rw (kind, addr) at c.in-Err.ensures.call) (rw (kind, addr) at c.in-Err.ensures.process) (λ member answer is. is) c.said_refusal.ensures

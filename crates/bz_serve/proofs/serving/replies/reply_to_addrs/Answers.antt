@@ -7,7 +7,7 @@ use Rattle.bz_symq.specs.Kept.{kept_of}
 use Rattle.bz_serve.specs.Serving.{Replied}
 use Rattle.bz_serve.specs.RequestSteps.{Doing, done_by}
 use Rattle.bz_serve.proofs.DoesLemmas.{by_file}
-use Rattle.bz_serve.proofs.SomeReplyLemmas.{some_by_file}
+use Rattle.bz_serve.proofs.SomeReplyLemmas.{some_by_file, some_by_process}
 use Rattle.bz_serve.proofs.serving.replies.reply_to_addrs.Goals as goal
 
 -- the target is a file, of the addresses that were copied
@@ -25,3 +25,9 @@ returns-clause-some g c =
     let items : (payload c.input_of-input.result).items ≡ c.args.addrs.now = ap (λ addrs. addrs.items) c.input_of-input.ensures.addrs ∙ c.in_ok-addrs.ensures.items in
     some_by_file (opts_of c.args.server.now.symbolizer.files.settings) c.args.target.now c.args.addrs.now c.in_ok-src.src c.reply_by_file.result c.in_ok-src.ensures.source c.in-Breakpad.is
     (rw (c.input_of-input.ensures.kind, items) at c.reply_by_file.ensures.some)
+
+-- the target is a process, of the addresses that were copied
+pub returns-in-Process-clause-some : goal.returns-in-Process-clause-some
+returns-in-Process-clause-some g c =
+    some_by_process (opts_of c.args.server.now.symbolizer.files.settings) c.args.server.now.map_files c.args.target.now c.args.addrs.now c.in_ok-src.src c.reply_by_process.result c.in_ok-src.ensures.ok c.in-Process.field-0 c.in-Process.is
+    (rw c.in_ok-addrs.ensures.items at c.reply_by_process.ensures.some)

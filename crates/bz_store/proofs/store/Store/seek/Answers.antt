@@ -19,7 +19,7 @@ returns-in_err-find_file g c =
     let same = err_from_is_err_and c.from_residual.result c.from_residual.ensures.1 in
     rw (same.1, same.2) (seeks_failed g.F.Files (key_of c.args.key.now) c.args.self.now c.bring.new.self c.args.files.now c.find_file.new.files c.in_err-find_file.field-0.0
     (stayed c.args.self.now c.bring.new.self c.args.self.now.cap (key_of c.args.key.now) _ (not_there _ (sym c.bring.ensures.kept ∙ c.if-bring.false)) c.bring.ensures.state)
-    c.in_err-find_file.ensures.most c.in_err-find_file.ensures.files c.in_err-find_file.ensures.refusal)
+    c.in_err-find_file.ensures.most c.in_err-find_file.ensures.files c.in_err-find_file.ensures.failure)
 
 pub returns-in_err-take_in-in-Holds : goal.returns-in_err-take_in-in-Holds
 returns-in_err-take_in-in-Holds g c =
