@@ -1,6 +1,8 @@
 //! Answers, errors and inputs.
 
-use bz_base::{CodeInfo, Error, ErrorKind, InlinedFn, Input, Reason, Result, Sym, Symbolized};
+use bz_base::{
+    CodeInfo, Error, ErrorKind, InlinedFn, Input, Reason, Result, Sym, Symbolized, in_batch,
+};
 use std::alloc::Global;
 use std::borrow::CowStr;
 
@@ -177,4 +179,22 @@ fn answers_are_cloned_and_given_and_their_parts_cloned(rt: HostRuntime) {
 fn calls_and_sites_are_owned(rt: HostRuntime) {
     assert!(rt; call_is_owned(rt.alloc()), "a call");
     assert!(rt; site_is_owned(rt.alloc()), "a site");
+}
+
+/// Whether a batch keeps an answer and ignores a refused address. A failed read and want of memory
+/// refuse it.
+fn becomes_an_entry() -> bool {
+    let kept = in_batch(Ok(Symbolized::Unknown(Reason::Unmapped)));
+    matches!(kept, Ok(Symbolized::Unknown(Reason::Unmapped)))
+        && matches!(
+            in_batch(Err(Error::InvalidData)),
+            Ok(Symbolized::Unknown(Reason::IgnoredError))
+        )
+        && matches!(in_batch(Err(Error::ReadFault)), Err(Error::ReadFault))
+        && matches!(in_batch(Err(Error::OutOfMemory)), Err(Error::OutOfMemory))
+}
+
+#[test]
+fn answers_become_entries_of_batches_or_refuse_them(rt: HostRuntime) {
+    assert!(rt; becomes_an_entry());
 }

@@ -109,7 +109,7 @@ fn reads_rest(cursor: &mut Cursor<'_>) -> bool {
 }
 
 #[test]
-fn reads_numbers_of_any_length(rt: HostRuntime) {
+fn reads_leb128_of_up_to_ten_bytes_or_none(rt: HostRuntime) {
     for index in 0..UNSIGNED.len() {
         let (bytes, want) = UNSIGNED[index];
         assert!(rt; unsigned_is_read(bytes, want), "unsigned {index}");

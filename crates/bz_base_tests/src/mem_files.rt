@@ -9,7 +9,7 @@ use bz_files::{FileError, Files, MemFiles, Stamp};
 use std::alloc::Global;
 
 /// Whether the file at `/a` has this text.
-fn has_text(files: &mut MemFiles, alloc: Global, text: &str) -> bool {
+fn has_text(alloc: Global, files: &mut MemFiles, text: &str) -> bool {
     match files.read(alloc, "/a") {
         Ok(bytes) => bytes.as_slice() == text.as_bytes(),
         Err(_) => false,
@@ -17,7 +17,7 @@ fn has_text(files: &mut MemFiles, alloc: Global, text: &str) -> bool {
 }
 
 /// Whether the file at `/a` comes with this stamp and this text.
-fn has_version(files: &mut MemFiles, alloc: Global, stamp: Stamp, text: &str) -> bool {
+fn has_version(alloc: Global, files: &mut MemFiles, stamp: Stamp, text: &str) -> bool {
     match files.read_stamped(alloc, "/a") {
         Ok(read) => read.stamp == stamp && read.bytes.as_slice() == text.as_bytes(),
         Err(_) => false,
@@ -25,14 +25,14 @@ fn has_version(files: &mut MemFiles, alloc: Global, stamp: Stamp, text: &str) ->
 }
 
 /// Puts a text at `/a`. Gives its stamp, where the file is seen.
-fn put(files: &mut MemFiles, alloc: Global, text: &str) -> Result<Option<Stamp>, Error> {
+fn put(alloc: Global, files: &mut MemFiles, text: &str) -> Result<Option<Stamp>, Error> {
     files.put(alloc, "/a", text.as_bytes().to_vec(alloc)?)
 }
 
 /// Puts a text at `/a`, the same file at `/b`, and then another text at `/a` under the same stamp.
 /// Gives this stamp.
-fn put_two(files: &mut MemFiles, alloc: Global) -> Result<Option<Stamp>, Error> {
-    let Some(stamp) = put(files, alloc, "one")? else {
+fn put_two(alloc: Global, files: &mut MemFiles) -> Result<Option<Stamp>, Error> {
+    let Some(stamp) = put(alloc, files, "one")? else {
         return Ok(None);
     };
     let linked = files.link(alloc, "/b", "/a")?;
@@ -41,9 +41,9 @@ fn put_two(files: &mut MemFiles, alloc: Global) -> Result<Option<Stamp>, Error> 
 }
 
 /// Whether the looks answer by what was put, and the fourth one fails.
-fn answers_in_turn(files: &mut MemFiles, alloc: Global, stamp: Stamp) -> bool {
+fn answers_in_turn(alloc: Global, files: &mut MemFiles, stamp: Stamp) -> bool {
     files.stat("/b") == Ok(stamp)
-        && has_version(files, alloc, stamp, "two")
+        && has_version(alloc, files, stamp, "two")
         && files.stat("/c") == Err(FileError::Denied)
         && files.stat("/b") == Err(FileError::Fault)
 }
@@ -55,19 +55,19 @@ fn removes_and_counts(files: &mut MemFiles) -> bool {
 }
 
 /// Whether files hold what is put, one that may not be read, and a look that fails.
-fn holds(files: &mut MemFiles, alloc: Global) -> Result<bool, Error> {
+fn holds(alloc: Global, files: &mut MemFiles) -> Result<bool, Error> {
     files.begin();
-    let Some(stamp) = put_two(files, alloc)? else {
+    let Some(stamp) = put_two(alloc, files)? else {
         return Ok(false);
     };
     files.deny(alloc, "/c")?;
     files.fail_call(alloc, 4)?;
-    Ok(answers_in_turn(files, alloc, stamp) && removes_and_counts(files))
+    Ok(answers_in_turn(alloc, files, stamp) && removes_and_counts(files))
 }
 
 #[test]
 fn memory_files_answer_as_they_were_edited(rt: HostRuntime) {
-    let held = holds(&mut MemFiles::new(rt.alloc(), 7), rt.alloc()) == Ok(true);
+    let held = holds(rt.alloc(), &mut MemFiles::new(rt.alloc(), 7)) == Ok(true);
     assert!(rt; held);
 }
 
@@ -75,24 +75,24 @@ fn memory_files_answer_as_they_were_edited(rt: HostRuntime) {
 static TEXTS: [&str; 3] = ["one", "two", "three"];
 
 /// Schedules these worlds, behind a first one that is empty.
-fn schedule(files: &mut MemFiles, alloc: Global) -> Result<(), Error> {
+fn schedule(alloc: Global, files: &mut MemFiles) -> Result<(), Error> {
     for text in &TEXTS {
         files.schedule(alloc)?;
-        put(files, alloc, text)?;
+        put(alloc, files, text)?;
     }
     Ok(())
 }
 
 /// Whether the scheduled worlds come into view one by one, and the last one stays.
-fn come_in_turn(files: &mut MemFiles, alloc: Global) -> bool {
+fn come_in_turn(alloc: Global, files: &mut MemFiles) -> bool {
     for text in &TEXTS {
         files.begin();
-        if !has_text(files, alloc, text) {
+        if !has_text(alloc, files, text) {
             return false;
         }
     }
     files.begin();
-    has_text(files, alloc, "three")
+    has_text(alloc, files, "three")
 }
 
 /// Whether nothing is at the path in the world in view. Files in memory always have one.
@@ -103,12 +103,12 @@ fn is_absent(files: &mut MemFiles, path: &str) -> bool
 }
 
 /// Whether the worlds are seen in turn, and an edit of the last one too.
-fn are_seen(files: &mut MemFiles, alloc: Global) -> Result<bool, Error> {
-    schedule(files, alloc)?;
+fn are_seen(alloc: Global, files: &mut MemFiles) -> Result<bool, Error> {
+    schedule(alloc, files)?;
     // The last world is in view once all have come, and it is the one that edits change.
     Ok(
         is_absent(files, "/a")
-            && come_in_turn(files, alloc)
+            && come_in_turn(alloc, files)
             && files.remove("/a")
             && is_absent(files, "/a"),
     )
@@ -116,6 +116,6 @@ fn are_seen(files: &mut MemFiles, alloc: Global) -> Result<bool, Error> {
 
 #[test]
 fn memory_worlds_come_in_turn_and_the_last_is_edited(rt: HostRuntime) {
-    let seen = are_seen(&mut MemFiles::new(rt.alloc(), 7), rt.alloc()) == Ok(true);
+    let seen = are_seen(rt.alloc(), &mut MemFiles::new(rt.alloc(), 7)) == Ok(true);
     assert!(rt; seen);
 }

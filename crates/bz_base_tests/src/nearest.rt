@@ -1,11 +1,11 @@
 //! Which record answers for an address, and which are around it, of small tables.
 
-ghost use Rattle.std.specs.Prelude.{◌≡◌, ◌<◌, length, map};
+ghost use Rattle.std.specs.Prelude.{◌≡◌, ◌<◌, map};
 ghost use Rattle.bz_search.specs.Starts.{NeverDescends};
 
 use bz_base::{
-    Nested, Place, Spanned, Starts, Steps, chain_in, covering_at, covering_in, covers, inner_in,
-    nearest, nearest_each, place_found, sort_nested, sort_table, starts_of,
+    Nested, Place, Spanned, Starts, Steps, around_in, chain_in, covering_at, covering_in, covers,
+    inner_in, inside, nearest, nearest_each, place_found, sort_nested, sort_table, starts_of,
 };
 use std::alloc::{AllocError, Global};
 use std::marker::Brand;
@@ -74,10 +74,18 @@ fn is_around(chain: &[&Entry]) -> bool {
     chain.len() == 3 && chain[0].id == 1 && chain[1].id == 2 && chain[2].id == 3
 }
 
-/// Whether the records around 6 are found, and the last one of depth 1 that begins before it.
+/// Whether the last record of a depth that begins before an address is found where it is around it.
+fn has_inner(table: &[Entry]) -> bool {
+    id_of(inner_in(table, 1, 6)) == 2
+        && id_of(inner_in(table, 3, 6)) == 4
+        && id_of(around_in(table, 1, 6)) == 2
+        && id_of(around_in(table, 3, 6)) == 99
+}
+
+/// Whether the records around 6 are found, in all and by their depths.
 fn has_around(alloc: Global, table: &[Entry]) -> bool {
     match chain_in(alloc, table, 6) {
-        Ok(chain) => is_around(&chain) && id_of(inner_in(table, 1, 6)) == 2,
+        Ok(chain) => is_around(&chain) && has_inner(table),
         Err(_) => false,
     }
 }
@@ -145,19 +153,33 @@ fn search_answers<L: Ledger>(table: &[Entry], starts: &Starts, steps: &mut Steps
     place_found(nearest(starts, 17, steps)) == Some(4)
 }
 
-/// Whether the address of this number has this place, found with others.
-fn is_placed<L: Ledger>(
+/// Whether each address that is found with others has the place that it has by a search alone.
+fn are_places<L: Ledger>(
+    starts: &Starts,
+    addrs: &[u64],
+    places: &[Place],
+    steps: &mut Steps<L>,
+) -> bool {
+    if places.len() != addrs.len() {
+        return false;
+    }
+    for index in 0..addrs.len() {
+        if places[index].get() != place_found(nearest(starts, addrs[index], steps)) {
+            return false;
+        }
+    }
+    true
+}
+
+/// Whether addresses that are found together have their places.
+fn have_places<L: Ledger>(
     alloc: Global,
     starts: &Starts,
     addrs: &[u64],
-    number: usize,
-    want: Option<usize>,
     steps: &mut Steps<L>,
-) -> bool
-    requires { number < length addrs.now }
-{
+) -> bool {
     match nearest_each(alloc, starts, addrs, steps) {
-        Ok(places) => places[number].get() == want,
+        Ok(places) => are_places(starts, addrs, &places, steps),
         Err(_) => false,
     }
 }
@@ -165,11 +187,11 @@ fn is_placed<L: Ledger>(
 /// Addresses that are searched together.
 static TOGETHER: [u64; 9] = [17, 16, 40, 7, 32, 8, 15, 23, 24];
 
-/// Whether many addresses, which are found in one sweep, have the places that one has by a search.
+/// Whether many addresses, which are found in one sweep, have their places, and so has one alone.
 fn places_agree<L: Ledger>(alloc: Global, starts: &Starts, steps: &mut Steps<L>) -> bool {
-    is_placed(alloc, starts, &TOGETHER, 0, Some(4), steps)
-        && is_placed(alloc, starts, &TOGETHER[..1], 0, Some(4), steps)
-        && is_placed(alloc, starts, &TOGETHER, 3, Place::none().get(), steps)
+    Place::none().get() == None
+        && have_places(alloc, starts, &TOGETHER, steps)
+        && have_places(alloc, starts, &TOGETHER[..1], steps)
 }
 
 /// Whether searches find the record that answers, in a table that is sorted.
@@ -241,6 +263,15 @@ fn covers_up_to_its_end() -> bool {
         && !covers(u64::MAX - 3, 4, u64::MAX - 3)
 }
 
+/// Whether it has the same addresses inside, but for the start where it has no size.
+fn has_inside_up_to_its_end() -> bool {
+    !inside(5, 0, 5)
+        && inside(16, 4, 19)
+        && inside(u64::MAX - 4, 4, u64::MAX - 1)
+        && !inside(16, 4, 20)
+        && !inside(u64::MAX - 3, 4, u64::MAX - 3)
+}
+
 #[test]
 fn counted_steps_take_no_bytes_and_places_four(rt: HostRuntime) {
     assert!(rt; size_of::<Steps<Brand>>() == 0, "steps");
@@ -250,6 +281,7 @@ fn counted_steps_take_no_bytes_and_places_four(rt: HostRuntime) {
 #[test]
 fn finds_records_and_places_of_addresses(rt: HostRuntime) {
     assert!(rt; covers_up_to_its_end(), "records up to their ends");
+    assert!(rt; has_inside_up_to_its_end(), "addresses inside records");
     assert!(rt;
         finds_around(rt.alloc()) == Ok(true),
         "records around an address"

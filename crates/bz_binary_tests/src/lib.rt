@@ -4,4 +4,6 @@
 #[cfg(test)]
 mod elf;
 #[cfg(test)]
+mod files;
+#[cfg(test)]
 mod gsym;

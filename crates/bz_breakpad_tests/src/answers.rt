@@ -3,9 +3,10 @@
 use crate::fact::Answer::{Symbol, Unknown};
 use crate::fact::Fact::{Answer, Batch};
 use crate::fact::Row;
-use crate::files::{BAR, OVERLAPPING};
+use crate::files::OVERLAPPING;
 use bz_base::{FindSymOpts, Reason};
 use bz_breakpad::FoundRecord;
+use bz_samples::BREAKPAD_KINDS;
 
 const GAP: &[u8] = b"FUNC 1000 100 0 outer\nFUNC 1010 10 0 inner\n";
 
@@ -34,19 +35,14 @@ const BEYOND: &[u8] = b"PUBLIC 10 0 p\nFUNC ffffffffffffffff 10 0 f\n";
 const TOP: u64 = 0xffffffffffffffff;
 
 /// Answers by the nearest function, and nowhere else.
-pub(crate) static BY_FUNCTIONS: [Row; 7] = [
+pub(crate) const BY_FUNCTIONS: &[Row] = &[
     (
-        BAR,
+        BREAKPAD_KINDS,
         &[
             Answer(
                 0x1010,
                 FindSymOpts::Basic,
                 Symbol("another func", 0x1000, 0x10, Some(0x30), "bar", false),
-            ),
-            Answer(
-                0x1234,
-                FindSymOpts::Basic,
-                Symbol("some public", 0x1234, 0, None, "bar", true),
             ),
             Answer(0xfff, FindSymOpts::Basic, Unknown(Reason::UnknownAddr)),
             Answer(0x1030, FindSymOpts::Basic, Unknown(Reason::UnknownAddr)),
@@ -119,7 +115,7 @@ pub(crate) static BY_FUNCTIONS: [Row; 7] = [
 ];
 
 /// Answers by PUBLIC records, after which no function starts.
-pub(crate) static BY_PUBLICS: [Row; 3] = [
+pub(crate) const BY_PUBLICS: &[Row] = &[
     (
         PUBLICS,
         &[
@@ -178,7 +174,7 @@ pub(crate) static BY_PUBLICS: [Row; 3] = [
 ];
 
 /// Answers where a PUBLIC record is at a function's start, within it, behind it or before it.
-pub(crate) static BY_BOTH: [Row; 5] = [
+pub(crate) const BY_BOTH: &[Row] = &[
     (
         SAME,
         &[
@@ -251,9 +247,9 @@ pub(crate) static BY_BOTH: [Row; 5] = [
 ];
 
 /// Functions, PUBLIC records and addresses with neither, together.
-pub(crate) static BATCHES: [Row; 2] = [
+pub(crate) const BATCHES: &[Row] = &[
     (
-        BAR,
+        BREAKPAD_KINDS,
         &[Batch(
             &[0x1010, 0x1234, 0xfff],
             FindSymOpts::CodeInfoAndInlined,

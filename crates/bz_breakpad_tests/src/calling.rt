@@ -4,10 +4,11 @@ ghost use Rattle.std.specs.Prelude.{option_map, string_bytes, IfOk};
 ghost use Rattle.bz_breakpad_tests.specs.Calling.{HasName, IsNamed};
 ghost use Rattle.bz_files.specs.World.{in_view};
 
-use crate::files::{USUAL, put};
+use crate::files::put;
 use bz_base::{Addr, FindSymOpts, Result, Symbolize};
 use bz_breakpad::BreakpadResolver;
 use bz_files::{Files, MemFiles};
+use bz_samples::BREAKPAD_PROGRAM;
 use std::alloc::Global;
 
 /// The name of the symbol at an address of the Breakpad file at a path, as its plain answer has it.
@@ -30,7 +31,7 @@ fn name_in(alloc: Global, resolver: &BreakpadResolver, addr: Addr) -> Result<Opt
 
 /// Whether the name at an address of the file that `dump_syms` writes is that.
 fn is_named(alloc: Global, files: &mut MemFiles, addr: Addr, expected: &str) -> Result<bool> {
-    put(alloc, files, "/app.sym", USUAL)?;
+    put(alloc, files, "/app.sym", BREAKPAD_PROGRAM)?;
     match name_at(alloc, files, "/app.sym", addr)? {
         Some(name) => Ok(name.as_str() == expected),
         None => Ok(false),

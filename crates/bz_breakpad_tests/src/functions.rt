@@ -3,8 +3,9 @@
 use crate::fact::Fact::{Function, Functions};
 use crate::fact::Row;
 use crate::fact::Told::{CallAtDepth, Calls, CallsAround, LineRecord, Lines, Nothing, Parts};
-use crate::files::{BAR, NESTED};
+use crate::files::NESTED;
 use bz_breakpad::{Inlinee, SourceLine};
+use bz_samples::BREAKPAD_KINDS;
 
 /// The line of NESTED at 0x1010.
 const LINE: SourceLine = SourceLine {
@@ -35,9 +36,9 @@ const INNER: Inlinee = Inlinee {
 };
 
 /// The function at an address, and the line and the calls at one.
-pub(crate) static FOUND: [Row; 2] = [
+pub(crate) const FOUND: &[Row] = &[
     (
-        BAR,
+        BREAKPAD_KINDS,
         &[
             Function(0xfff, Nothing),
             Function(0x1000, Parts("another func", 0x1000, 0x30, 0x10)),
@@ -102,7 +103,7 @@ const INLINEES: &[Inlinee] = &[
 ];
 
 /// Functions and lines in the order of start and size, and calls in the order of depth and start.
-pub(crate) static IN_ORDER: [Row; 9] = [
+pub(crate) const IN_ORDER: &[Row] = &[
     (b"FUNC 10 8 0 a\nFUNC 20 8 0 b\n", &[Functions(&["a", "b"])]),
     (
         b"FUNC 30 10 0 c\nFUNC 10 20 0 b\nFUNC m 10 8 0 a\nFUNC 30 10 4 d\n",

@@ -16,16 +16,18 @@ use std::alloc::Global;
 use std::marker::Brand;
 use std::sync::ledger::{Blank, Ledger};
 
-/// Whether each row's text is a file that shows the row's facts.
-pub(crate) fn hold(alloc: Global, rows: &[Row], way: &Way) -> bool {
-    for (text, facts) in rows {
+/// How many rows have a text whose file shows the row's facts, before one that hasn't.
+pub(crate) fn count_until_failure(alloc: Global, rows: &[Row], way: &Way) -> usize {
+    for index in 0..rows.len() {
+        let (text, facts) = rows[index];
         if !holds(alloc, text, facts, way) {
-            return false;
+            return index;
         }
     }
-    true
+    rows.len()
 }
 
+/// Whether the text is a file that shows the facts.
 fn holds(alloc: Global, text: &[u8], facts: &[Fact], way: &Way) -> bool {
     match file_of(alloc, text, way) {
         Ok(file) => shows_all::<Brand>(alloc, Blank::new(1), text, &file, facts),

@@ -55,7 +55,7 @@ const LAST: SymInfo<'static> = SymInfo {
 };
 
 /// Walks in the order of start, size and place in the file.
-pub(crate) static WALKS: [Row; 1] = [(
+pub(crate) const WALKS: &[Row] = &[(
     TWINS,
     &[
         Walk("twin", &[OTHER, SHORT_TWIN]),

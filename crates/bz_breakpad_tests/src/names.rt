@@ -18,7 +18,7 @@ const REPEATED: &[u8] = b"FILE 0 a\nFILE 0 b\nFILE 2 c\nFILE 1 d\nFILE 1 e\nFILE
 const LAST: &[u8] = b"FILE 0 a\nFILE 4294967295 y\nFILE 4294967295 z\n";
 
 /// Names by ids, of PUBLIC records and of a module.
-pub(crate) static NAMES: [Row; 1] = [(
+pub(crate) const NAMES: &[Row] = &[(
     NAMED,
     &[
         Name(0, ABSENT, ABSENT),
@@ -51,7 +51,7 @@ pub(crate) static NAMES: [Row; 1] = [(
 )];
 
 /// Names of modules.
-pub(crate) static MODULES: [Row; 6] = [
+pub(crate) const MODULES: &[Row] = &[
     (b"MODULE a b c \r\n", &[Module("")]),
     (b"MODULE  a \tb\t c \t d \r\r\n", &[Module("d ")]),
     (b"MODULE a\tb c d e\n", &[Module("e")]),
@@ -61,7 +61,7 @@ pub(crate) static MODULES: [Row; 6] = [
 ];
 
 /// Names by ids in order, out of order and with a gap.
-pub(crate) static ONCE: [Row; 3] = [
+pub(crate) const ONCE: &[Row] = &[
     (
         IN_ORDER,
         &[
@@ -95,7 +95,7 @@ pub(crate) static ONCE: [Row; 3] = [
 ];
 
 /// Names by ids of several records, and by the last id.
-pub(crate) static AGAIN: [Row; 2] = [
+pub(crate) const AGAIN: &[Row] = &[
     (
         REPEATED,
         &[
@@ -119,7 +119,7 @@ pub(crate) static AGAIN: [Row; 2] = [
 ];
 
 /// Ids one after another, out of order, with gaps and repeated, and none.
-pub(crate) static IDS: [Row; 4] = [
+pub(crate) const IDS: &[Row] = &[
     (
         b"FILE 0 a\nINLINE_ORIGIN 0 f\nFILE 1 b\nFILE 2 c\n",
         &[Names(&[(0, "a"), (1, "b"), (2, "c")], &[(0, "f")])],
@@ -139,7 +139,7 @@ pub(crate) static IDS: [Row; 4] = [
 ];
 
 /// PUBLIC records in order, out of order with some of one address, and none.
-pub(crate) static PUBLICS: [Row; 3] = [
+pub(crate) const PUBLICS: &[Row] = &[
     (
         b"PUBLIC 10 0 a\nPUBLIC 20 4 b\n",
         &[Publics(&[

@@ -1,6 +1,6 @@
 //! Resolvers: what opening one answers, and the symbols that one finds.
 
-use crate::files::{BAR, OVERLAPPING, put};
+use crate::files::{OVERLAPPING, put};
 use crate::inspected::{LATE_TWIN, LONG_TWIN, SHORT_TWIN, TWINS};
 use crate::resolved::Found::{Refused, Symbol, Unknown};
 use crate::resolved::Resolved::{At, Named, NoVariables, Printed};
@@ -8,6 +8,7 @@ use crate::resolved::{Row, is_resolved};
 use bz_base::{Error, ErrorKind, FindSymOpts, Reason, Result, SymType};
 use bz_breakpad::{BreakpadResolver, SymInfo};
 use bz_files::MemFiles;
+use bz_samples::BREAKPAD_KINDS;
 use std::alloc::Global;
 
 /// A function whose line record has a file that no FILE record names.
@@ -26,9 +27,9 @@ const X: SymInfo<'static> = SymInfo {
 /// What a resolver prints, and what it finds at addresses. A site is refused where it is asked for, and
 /// there alone. Then the functions of a name, and no variables.
 static RESOLVED: [Row; 16] = [
-    (BAR, Printed("Breakpad /p")),
+    (BREAKPAD_KINDS, Printed("Breakpad /p")),
     (
-        BAR,
+        BREAKPAD_KINDS,
         At(
             0x1010,
             FindSymOpts::CodeInfoAndInlined,
@@ -36,7 +37,7 @@ static RESOLVED: [Row; 16] = [
         ),
     ),
     (
-        BAR,
+        BREAKPAD_KINDS,
         At(
             0x1234,
             FindSymOpts::CodeInfoAndInlined,
@@ -44,7 +45,7 @@ static RESOLVED: [Row; 16] = [
         ),
     ),
     (
-        BAR,
+        BREAKPAD_KINDS,
         At(
             0x1300,
             FindSymOpts::CodeInfoAndInlined,
@@ -60,11 +61,11 @@ static RESOLVED: [Row; 16] = [
         ),
     ),
     (
-        BAR,
+        BREAKPAD_KINDS,
         At(0xfff, FindSymOpts::Basic, Unknown(Reason::UnknownAddr)),
     ),
     (
-        BAR,
+        BREAKPAD_KINDS,
         At(0x1030, FindSymOpts::Basic, Unknown(Reason::UnknownAddr)),
     ),
     (
@@ -124,9 +125,10 @@ static REFUSED: [(&str, ErrorKind); 4] = [
     ("/p", ErrorKind::ReadFault),
 ];
 
-/// Puts BAR, a text whose line has no end, and a path that is denied. The fourth call fails.
+/// Puts a good file, a text whose line has no end, and a path that is denied. The fourth call
+/// fails.
 fn fill(alloc: Global, files: &mut MemFiles) -> Result<()> {
-    put(alloc, files, "/p", BAR)?;
+    put(alloc, files, "/p", BREAKPAD_KINDS)?;
     put(alloc, files, "/cut", b"MODULE Linux x86 ffff0000 bar")?;
     files.deny(alloc, "/denied")?;
     files.fail_call(alloc, 4)

@@ -3,9 +3,10 @@
 use crate::fact::Answer::{Located, Symbol, Unknown};
 use crate::fact::Fact::Answer;
 use crate::fact::Row;
-use crate::files::{BAR, NESTED, USUAL};
+use crate::files::NESTED;
 use bz_base::FindSymOpts::{Basic, CodeInfo, CodeInfoAndInlined};
 use bz_base::Reason;
+use bz_samples::{BREAKPAD_KINDS, BREAKPAD_PROGRAM};
 
 const UNKNOWN_FILE: &[u8] = b"FUNC 1000 10 0 f\n1000 10 5 9\n";
 
@@ -22,9 +23,9 @@ const GAP_OF_DEPTH: &[u8] =
 const BEYOND: &[u8] = b"FUNC 1 2 3 x\nffffffffffffffff 2 0 0\n";
 
 /// Sites by lines and inlined calls, as far as they are asked for.
-pub(crate) static CALLS: [Row; 3] = [
+pub(crate) const CALLS: &[Row] = &[
     (
-        BAR,
+        BREAKPAD_KINDS,
         &[
             Answer(
                 0x1010,
@@ -63,7 +64,7 @@ pub(crate) static CALLS: [Row; 3] = [
         ],
     ),
     (
-        USUAL,
+        BREAKPAD_PROGRAM,
         &[
             Answer(
                 0x1174,
@@ -103,7 +104,7 @@ pub(crate) static CALLS: [Row; 3] = [
 ];
 
 /// Sites that are refused where they are asked for, and there alone.
-pub(crate) static UNKNOWN: [Row; 3] = [
+pub(crate) const UNKNOWN: &[Row] = &[
     (
         UNKNOWN_FILE,
         &[
@@ -130,7 +131,7 @@ pub(crate) static UNKNOWN: [Row; 3] = [
 ];
 
 /// Lines out of order, a depth without a call, and a line that ends past 64 bits.
-pub(crate) static FROM_LISTS: [Row; 3] = [
+pub(crate) const FROM_LISTS: &[Row] = &[
     (
         DISORDERED,
         &[
@@ -152,6 +153,9 @@ pub(crate) static FROM_LISTS: [Row; 3] = [
     ),
     (
         BEYOND,
-        &[Answer(1, CodeInfoAndInlined, Located(("x", "", "", 0), &[]))],
+        &[
+            Answer(1, CodeInfoAndInlined, Located(("x", "", "", 0), &[])),
+            Answer(0xffffffffffffffff, Basic, Unknown(Reason::UnknownAddr)),
+        ],
     ),
 ];

@@ -1,122 +1,81 @@
 //! All tables of what files show.
 
-use crate::holding::hold;
-use crate::read::Way::{Bytes, Version};
+use crate::fact::Row;
+use crate::holding::count_until_failure;
+use crate::read::Way::{self, Bytes, Version};
 use crate::{answers, functions, inspected, lines, names, sites, texts};
-use std::alloc::Global;
 
-/// What the first table of texts tells of that doesn't hold; nothing where all hold.
-fn first_of_texts_to_fail(alloc: Global) -> &'static str {
-    if !hold(alloc, &texts::COUNTED, &Bytes) {
-        return "records of bytes";
-    }
-    if !hold(alloc, &texts::COUNTED, &Version) {
-        return "records of a version";
-    }
-    if !hold(alloc, &texts::NUMBERS, &Bytes) {
-        return "numbers";
-    }
-    if !hold(alloc, &texts::SEPARATORS, &Bytes) {
-        return "separators";
-    }
-    if !hold(alloc, &texts::NAMES, &Bytes) {
-        return "names";
-    }
-    if !hold(alloc, &texts::ROLES, &Bytes) {
-        return "records in their roles";
-    }
-    if !hold(alloc, &texts::LINE_ENDS, &Bytes) {
-        return "line ends and white space";
-    }
-    ""
-}
+/// What the rows of a table tell of, how their files are made, and the rows.
+type Table = (&'static str, Way, &'static [Row]);
+
+/// Tables of texts and the records of their files.
+static TEXTS: [Table; 7] = [
+    ("records of bytes", Bytes, texts::COUNTED),
+    ("records of a version", Version, texts::COUNTED),
+    ("numbers", Bytes, texts::NUMBERS),
+    ("separators", Bytes, texts::SEPARATORS),
+    ("names", Bytes, texts::NAMES),
+    ("records in their roles", Bytes, texts::ROLES),
+    ("line ends and white space", Bytes, texts::LINE_ENDS),
+];
 
 #[test]
 fn files_have_the_records_of_their_texts(rt: HostRuntime) {
-    let failed = first_of_texts_to_fail(rt.alloc());
-    assert!(rt; failed.is_empty(), "{failed}");
+    for (told, way, rows) in &TEXTS {
+        let shown = count_until_failure(rt.alloc(), rows, way);
+        assert!(rt; shown == rows.len(), "{told}: row {shown}");
+    }
 }
 
-/// The same of names.
-fn first_of_names_to_fail(alloc: Global) -> &'static str {
-    if !hold(alloc, &names::NAMES, &Bytes) {
-        return "names by ids";
-    }
-    if !hold(alloc, &names::MODULES, &Bytes) {
-        return "names of modules";
-    }
-    if !hold(alloc, &names::ONCE, &Bytes) {
-        return "ids of one record";
-    }
-    if !hold(alloc, &names::AGAIN, &Bytes) {
-        return "ids of several records";
-    }
-    if !hold(alloc, &names::IDS, &Bytes) {
-        return "lists of names";
-    }
-    if !hold(alloc, &names::PUBLICS, &Bytes) {
-        return "lists of PUBLIC records";
-    }
-    ""
-}
+/// Tables of names.
+static NAMES: [Table; 6] = [
+    ("names by ids", Bytes, names::NAMES),
+    ("names of modules", Bytes, names::MODULES),
+    ("ids of one record", Bytes, names::ONCE),
+    ("ids of several records", Bytes, names::AGAIN),
+    ("lists of names", Bytes, names::IDS),
+    ("lists of PUBLIC records", Bytes, names::PUBLICS),
+];
 
 #[test]
 fn files_have_the_names_of_their_records(rt: HostRuntime) {
-    let failed = first_of_names_to_fail(rt.alloc());
-    assert!(rt; failed.is_empty(), "{failed}");
+    for (told, way, rows) in &NAMES {
+        let shown = count_until_failure(rt.alloc(), rows, way);
+        assert!(rt; shown == rows.len(), "{told}: row {shown}");
+    }
 }
 
-/// The same of functions.
-fn first_of_functions_to_fail(alloc: Global) -> &'static str {
-    if !hold(alloc, &functions::FOUND, &Bytes) {
-        return "functions, lines and calls";
-    }
-    if !hold(alloc, &functions::IN_ORDER, &Bytes) {
-        return "their order";
-    }
-    if !hold(alloc, &lines::LINES, &Bytes) {
-        return "lines of runs and lists";
-    }
-    if !hold(alloc, &inspected::WALKS, &Bytes) {
-        return "walks in order";
-    }
-    ""
-}
+/// Tables of functions.
+static FUNCTIONS: [Table; 4] = [
+    ("functions, lines and calls", Bytes, functions::FOUND),
+    ("their order", Bytes, functions::IN_ORDER),
+    ("lines of runs and lists", Bytes, lines::LINES),
+    ("walks in order", Bytes, inspected::WALKS),
+];
 
 #[test]
-fn files_have_their_functions(rt: HostRuntime) {
-    let failed = first_of_functions_to_fail(rt.alloc());
-    assert!(rt; failed.is_empty(), "{failed}");
+fn functions_have_their_order_lines_and_calls(rt: HostRuntime) {
+    for (told, way, rows) in &FUNCTIONS {
+        let shown = count_until_failure(rt.alloc(), rows, way);
+        assert!(rt; shown == rows.len(), "{told}: row {shown}");
+    }
 }
 
-/// The same of answers.
-fn first_of_answers_to_fail(alloc: Global) -> &'static str {
-    if !hold(alloc, &answers::BY_FUNCTIONS, &Bytes) {
-        return "the nearest functions";
-    }
-    if !hold(alloc, &answers::BY_PUBLICS, &Bytes) {
-        return "PUBLIC records";
-    }
-    if !hold(alloc, &answers::BY_BOTH, &Bytes) {
-        return "PUBLIC records beside functions";
-    }
-    if !hold(alloc, &answers::BATCHES, &Bytes) {
-        return "both together";
-    }
-    if !hold(alloc, &sites::CALLS, &Bytes) {
-        return "sites by lines and calls";
-    }
-    if !hold(alloc, &sites::UNKNOWN, &Bytes) {
-        return "unknown sites";
-    }
-    if !hold(alloc, &sites::FROM_LISTS, &Bytes) {
-        return "sites by records out of order";
-    }
-    ""
-}
+/// Tables of answers.
+static ANSWERS: [Table; 7] = [
+    ("the nearest functions", Bytes, answers::BY_FUNCTIONS),
+    ("PUBLIC records", Bytes, answers::BY_PUBLICS),
+    ("PUBLIC records beside functions", Bytes, answers::BY_BOTH),
+    ("both together", Bytes, answers::BATCHES),
+    ("sites by lines and calls", Bytes, sites::CALLS),
+    ("unknown sites", Bytes, sites::UNKNOWN),
+    ("sites by records out of order", Bytes, sites::FROM_LISTS),
+];
 
 #[test]
 fn files_answer_addresses(rt: HostRuntime) {
-    let failed = first_of_answers_to_fail(rt.alloc());
-    assert!(rt; failed.is_empty(), "{failed}");
+    for (told, way, rows) in &ANSWERS {
+        let shown = count_until_failure(rt.alloc(), rows, way);
+        assert!(rt; shown == rows.len(), "{told}: row {shown}");
+    }
 }

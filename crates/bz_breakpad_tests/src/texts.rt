@@ -2,11 +2,12 @@
 
 use crate::fact::Fact::{Counts, Records};
 use crate::fact::Row;
-use crate::files::{BAR, NESTED, USUAL};
+use crate::files::NESTED;
+use bz_samples::{BREAKPAD_KINDS, BREAKPAD_PROGRAM};
 
 /// Files of every kind of record but STACK WIN, with other line ends, with blank lines, and with equal records.
-pub(crate) static COUNTED: [Row; 10] = [
-    (BAR, &[Records(5), Counts(1, 1, 1)]),
+pub(crate) const COUNTED: &[Row] = &[
+    (BREAKPAD_KINDS, &[Records(5), Counts(1, 1, 1)]),
     (
         b"MODULE Linux x86 ffff0000 bar\r\nFILE 53 bar.c\r\nPUBLIC 1234 10 some public\r\nFUNC 1000 30 10 another func\r\n1000 30 7 53\r\n",
         &[Records(5), Counts(1, 1, 1)],
@@ -25,7 +26,7 @@ pub(crate) static COUNTED: [Row; 10] = [
         b"FILE 1 a\n \t\n  FILE 1 b\r\n",
         &[Records(2), Counts(0, 1, 0)],
     ),
-    (USUAL, &[Records(13), Counts(1, 2, 1)]),
+    (BREAKPAD_PROGRAM, &[Records(13), Counts(1, 2, 1)]),
     (
         b"FUNC 1 2 3 x\nFUNC 1 2 3 x\nPUBLIC 1 2 x\nPUBLIC 1 2 x\nFILE 1 a\nFILE 0000000001 a\nFILE 2 a\n",
         &[Records(7), Counts(2, 2, 2)],
@@ -34,7 +35,7 @@ pub(crate) static COUNTED: [Row; 10] = [
 ];
 
 /// Numbers of the most digits, of the greatest values and in either case.
-pub(crate) static NUMBERS: [Row; 13] = [
+pub(crate) const NUMBERS: &[Row] = &[
     (
         b"FUNC 0000000000000001 00000002 00000003 x\n",
         &[Records(1)],
@@ -66,7 +67,7 @@ pub(crate) static NUMBERS: [Row; 13] = [
 ];
 
 /// Tabs and spaces between fields.
-pub(crate) static SEPARATORS: [Row; 21] = [
+pub(crate) const SEPARATORS: &[Row] = &[
     (b"MODULE  a  b  c  d\n", &[Records(1)]),
     (b"MODULE\ta \tb \tc \td\n", &[Records(1)]),
     (b"MODULE a\tb c\t d \t \n", &[Records(1)]),
@@ -100,7 +101,7 @@ pub(crate) static SEPARATORS: [Row; 21] = [
 ];
 
 /// Names that are empty, `m` or beyond ASCII, and fields of any bytes.
-pub(crate) static NAMES: [Row; 14] = [
+pub(crate) const NAMES: &[Row] = &[
     (b"PUBLIC m 1 2 m\n", &[Records(1)]),
     (b"PUBLIC 1 2 m\n", &[Records(1)]),
     (b"PUBLIC 1 2 \n", &[Records(1)]),
@@ -118,7 +119,7 @@ pub(crate) static NAMES: [Row; 14] = [
 ];
 
 /// Records under their owners, also behind others, and records that look like others.
-pub(crate) static ROLES: [Row; 8] = [
+pub(crate) const ROLES: &[Row] = &[
     (b"FUNC 1 2 3 x\nINLINE 0 1 0 5 1 1 2 2 3 3\n", &[Records(2)]),
     (b"STACK CFI INIT a\nSTACK WIN a\n\n", &[Records(2)]),
     (b"FUNC 1 2 3 x\nFUNC 1 2 3 y\n1 1 1 1\n", &[Records(3)]),
@@ -142,7 +143,7 @@ pub(crate) static ROLES: [Row; 8] = [
 ];
 
 /// Carriage returns at line ends, blank lines and white space in front of records.
-pub(crate) static LINE_ENDS: [Row; 11] = [
+pub(crate) const LINE_ENDS: &[Row] = &[
     (b"FILE 1 a\n\r\n\n \t\r \n", &[Records(1)]),
     (b"FUNC 1 2 3 x\r\r\r\n1 1 1 1\r\n", &[Records(2)]),
     (b"FUNC 1 2 3 x\n\n \n\r1 1 1 1\n", &[Records(2)]),

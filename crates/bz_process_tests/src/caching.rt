@@ -5,7 +5,6 @@ use crate::steps::{Step, Told, holds};
 use bz_base::{Error, Reason};
 use bz_process::NoDispatch;
 use bz_samples::ELF_FUNCTION;
-use std::alloc::Global;
 
 /// All is cached of the first files.
 pub(crate) const CACHED: &[Step] = &[Step::Files(FIRST), Step::Cache(true, true, Ok(()))];
@@ -92,16 +91,6 @@ static STORIES: [&[&[Step]]; 6] = [
     &[CACHED, &[Step::ForgetPath("/bin/bad")], STANDS_ALONE],
 ];
 
-/// Whether each of these stories holds.
-fn all_hold(alloc: Global) -> bool {
-    for story in &STORIES {
-        if !holds(alloc, NoDispatch, story) {
-            return false;
-        }
-    }
-    true
-}
-
 /// A file is pinned, and stays so where it is refused, until it is evicted.
 static PINNED_FILE: [Step; 14] = [
     Step::Put("/e", &ELF_FUNCTION),
@@ -122,7 +111,12 @@ static PINNED_FILE: [Step; 14] = [
 
 #[test]
 fn processes_and_files_are_kept_until_they_are_evicted(rt: HostRuntime) {
-    assert!(rt; all_hold(rt.alloc()), "processes");
+    for index in 0..STORIES.len() {
+        assert!(rt;
+            holds(rt.alloc(), NoDispatch, STORIES[index]),
+            "story {index}"
+        );
+    }
     assert!(rt;
         holds(rt.alloc(), NoDispatch, &[&PINNED_FILE]),
         "a pinned file"

@@ -1,8 +1,6 @@
-//! Damaged files of each format, deep trees, and numbers at the ends of their ranges.
+//! Texts that are cut, deep trees, and offsets at the ends of what a file has.
 
 mod breakpad;
 mod deep;
-mod elf;
-mod gsym;
 mod processes;
 mod system_texts;

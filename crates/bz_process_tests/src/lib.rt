@@ -1,4 +1,5 @@
-//! Tests of bz_proc and bz_process, over what they make public; and of every format over damaged files.
+//! Tests of bz_proc and bz_process, over what they make public; and of texts that are cut, and deep
+//! trees.
 #![tactic(auto)]
 
 #[cfg(test)]

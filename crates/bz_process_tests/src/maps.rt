@@ -188,16 +188,6 @@ fn texts_tell(alloc: Global) -> bool {
     tells(alloc, Pid::from(7), THREE_MAPPINGS, &THREE_TOLD) && tells(alloc, Pid::from(7), b"", &[])
 }
 
-/// Whether each line tells its mapping.
-fn lines_tell(alloc: Global) -> bool {
-    for (line, told) in &LINES {
-        if !tells(alloc, Pid::Slf, line, &[*told]) {
-            return false;
-        }
-    }
-    true
-}
-
 /// Texts of which some line is no mapping.
 static REFUSED: [&[u8]; 53] = [
     // A field is empty or absent.
@@ -264,19 +254,17 @@ static REFUSED: [&[u8]; 53] = [
     b"1-2 r--p 3 0:0 4 /a\n\xed\xa0\x80",
 ];
 
-/// Whether each of these texts is refused.
-fn others_are_refused(alloc: Global) -> bool {
-    for text in &REFUSED {
-        if !is_refused(alloc, text) {
-            return false;
-        }
-    }
-    true
-}
-
 #[test]
 fn a_text_tells_its_mappings_or_is_refused(rt: HostRuntime) {
     assert!(rt; texts_tell(rt.alloc()), "texts");
-    assert!(rt; lines_tell(rt.alloc()), "lines");
-    assert!(rt; others_are_refused(rt.alloc()), "other lines");
+    for index in 0..LINES.len() {
+        let (line, told) = LINES[index];
+        assert!(rt; tells(rt.alloc(), Pid::Slf, line, &[told]), "line {index}");
+    }
+    for index in 0..REFUSED.len() {
+        assert!(rt;
+            is_refused(rt.alloc(), REFUSED[index]),
+            "refused text {index}"
+        );
+    }
 }

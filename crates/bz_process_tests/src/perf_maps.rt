@@ -175,32 +175,12 @@ fn answers(alloc: Global, bytes: &[u8], addr: u64, told: &Told) -> bool {
     }
 }
 
-/// Whether the nearest function answers each address.
-fn nearest_answer(alloc: Global) -> bool {
-    for (bytes, addr, told) in &ANSWERS {
-        if !answers(alloc, bytes, *addr, told) {
-            return false;
-        }
-    }
-    true
-}
-
 /// Whether the bytes are refused as no perf map.
 fn is_refused(alloc: Global, bytes: &[u8]) -> bool {
     match parsed(alloc, bytes) {
         Ok(_) => false,
         Err(error) => error == Error::InvalidData,
     }
-}
-
-/// Whether lines of another form are refused.
-fn others_are_refused(alloc: Global) -> bool {
-    for bytes in &REFUSED {
-        if !is_refused(alloc, bytes) {
-            return false;
-        }
-    }
-    true
 }
 
 /// Processes, of which 0 is the own one, their own ids, and where their perf maps lie.
@@ -224,16 +204,6 @@ fn lies_at(alloc: Global, process: u32, ns_tgid: u32, want: &str) -> bool {
     }
 }
 
-/// Whether perf maps lie in the folders that processes see.
-fn lie_at_their_paths(alloc: Global) -> bool {
-    for (process, ns_tgid, want) in &PATHS {
-        if !lies_at(alloc, *process, *ns_tgid, want) {
-            return false;
-        }
-    }
-    true
-}
-
 /// Whether a perf map of the files answers from the cache.
 fn answers_from(alloc: Global, files: &mut MemFiles, cache: &mut FileCache<PerfMap>) -> bool {
     put(alloc, files, "/map", PYTHON)
@@ -255,8 +225,19 @@ fn perf_maps_lie_at_their_paths_and_answer_or_are_refused(rt: HostRuntime) {
     perf_laws::perf_maps_are_cut();
     perf_laws::perf_maps_are_exact();
     perf_laws::perf_answers_start_before();
-    assert!(rt; nearest_answer(rt.alloc()), "the nearest functions");
-    assert!(rt; others_are_refused(rt.alloc()), "other lines");
-    assert!(rt; lie_at_their_paths(rt.alloc()), "paths");
+    for index in 0..ANSWERS.len() {
+        let (bytes, addr, told) = ANSWERS[index];
+        assert!(rt; answers(rt.alloc(), bytes, addr, &told), "answer {index}");
+    }
+    for index in 0..REFUSED.len() {
+        assert!(rt;
+            is_refused(rt.alloc(), REFUSED[index]),
+            "refused text {index}"
+        );
+    }
+    for index in 0..PATHS.len() {
+        let (process, ns_tgid, path) = PATHS[index];
+        assert!(rt; lies_at(rt.alloc(), process, ns_tgid, path), "path {index}");
+    }
     assert!(rt; cached_answers(rt.alloc()), "a cached perf map");
 }

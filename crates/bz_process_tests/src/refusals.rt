@@ -5,7 +5,6 @@ use crate::files::LATER;
 use crate::steps::{Step, holds};
 use bz_base::Error;
 use bz_process::NoDispatch;
-use std::alloc::Global;
 
 /// Steps by which process 7 isn't cached of the later files: a file is absent, denied or damaged, or a
 /// look fails.
@@ -81,23 +80,22 @@ static REFUSED_UNKNOWN: [&[Step]; 4] = [
     ],
 ];
 
-/// Whether nothing is kept after each of these.
-fn keep_nothing(alloc: Global, refusals: &[&[Step]]) -> bool {
-    for refused in refusals {
-        if !holds(alloc, NoDispatch, &[*refused, IS_UNKEPT]) {
-            return false;
-        }
-    }
-    true
-}
-
 #[test]
 fn a_refusal_keeps_nothing(rt: HostRuntime) {
-    assert!(rt; keep_nothing(rt.alloc(), &REFUSED), "remembered");
-    assert!(rt;
-        keep_nothing(rt.alloc(), &REFUSED_UNKNOWN),
-        "not remembered"
-    );
+    for index in 0..REFUSED.len() {
+        let story = &[REFUSED[index], IS_UNKEPT];
+        assert!(rt;
+            holds(rt.alloc(), NoDispatch, story),
+            "remembered, row {index}"
+        );
+    }
+    for index in 0..REFUSED_UNKNOWN.len() {
+        let story = &[REFUSED_UNKNOWN[index], IS_UNKEPT];
+        assert!(rt;
+            holds(rt.alloc(), NoDispatch, story),
+            "not remembered, row {index}"
+        );
+    }
 }
 
 /// Steps by which process 7 is cached anew, though its status is absent, denied or damaged.
@@ -119,18 +117,20 @@ static CACHED_ANEW: [&[Step]; 3] = [
     ],
 ];
 
-/// Whether a process that was cached stands so after each of these.
-fn leave(alloc: Global, tries: &[&[Step]], after: &[Step]) -> bool {
-    for steps in tries {
-        if !holds(alloc, NoDispatch, &[CACHED, *steps, after]) {
-            return false;
-        }
-    }
-    true
-}
-
 #[test]
 fn a_cached_process_stays_or_is_cached_anew(rt: HostRuntime) {
-    assert!(rt; leave(rt.alloc(), &REFUSED, STANDS_ALONE), "refused");
-    assert!(rt; leave(rt.alloc(), &CACHED_ANEW, IS_LATER), "cached anew");
+    for index in 0..REFUSED.len() {
+        let story = &[CACHED, REFUSED[index], STANDS_ALONE];
+        assert!(rt;
+            holds(rt.alloc(), NoDispatch, story),
+            "refused, row {index}"
+        );
+    }
+    for index in 0..CACHED_ANEW.len() {
+        let story = &[CACHED, CACHED_ANEW[index], IS_LATER];
+        assert!(rt;
+            holds(rt.alloc(), NoDispatch, story),
+            "cached anew, row {index}"
+        );
+    }
 }

@@ -59,28 +59,14 @@ static REFUSED: [&[u8]; 21] = [
     b"NStgid:\t\xff\n",
 ];
 
-/// Whether each status tells its id.
-fn ids_are_told() -> bool {
-    for (status, id) in &TOLD {
-        if parse_ns_tgid(status) != Ok(*id) {
-            return false;
-        }
-    }
-    true
-}
-
-/// Whether the other texts are refused.
-fn others_are_refused() -> bool {
-    for status in &REFUSED {
-        if parse_ns_tgid(status) != Err(Error::InvalidData) {
-            return false;
-        }
-    }
-    true
-}
-
 #[test]
 fn a_status_tells_its_last_id_or_is_refused(rt: HostRuntime) {
-    assert!(rt; ids_are_told(), "statuses");
-    assert!(rt; others_are_refused(), "other texts");
+    for index in 0..TOLD.len() {
+        let (status, id) = TOLD[index];
+        assert!(rt; parse_ns_tgid(status) == Ok(id), "status {index}");
+    }
+    for index in 0..REFUSED.len() {
+        let told = parse_ns_tgid(REFUSED[index]);
+        assert!(rt; told == Err(Error::InvalidData), "refused text {index}");
+    }
 }

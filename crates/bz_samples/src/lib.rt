@@ -13,6 +13,14 @@ pub const BREAKPAD_CALLS: &str =
 pub const BREAKPAD_KINDS: &[u8] =
     b"MODULE Linux x86 ffff0000 bar\nFILE 53 bar.c\nPUBLIC 1234 10 some public\nFUNC 1000 30 10 another func\n1000 30 7 53\n";
 
+/// A Breakpad file of a C program, as `dump_syms` writes it: records of every kind but STACK WIN.
+pub const BREAKPAD_PROGRAM: &[u8] =
+    b"MODULE Linux x86_64 D3096ED481217FD4C16B29CD9BC208BA0 app\nINFO CODE_ID D46E09D32181D47FC16B29CD9BC208BA\nFILE 0 /src/app/main.c\nFILE 1 /src/app/util.h\nINLINE_ORIGIN 0 clamp\nFUNC 1160 2a 0 main\nINLINE 0 12 0 0 1170 8\n1160 10 10 0\n1170 8 4 1\n1178 12 13 0\nPUBLIC 1020 0 _start\nSTACK CFI INIT 1160 2a .cfa: $rsp 8 + .ra: .cfa -8 + ^\nSTACK CFI 1161 .cfa: $rsp 16 +\n";
+
+/// The GSYM file that `BREAKPAD_KINDS` is converted to: its function with its line, and no more.
+pub const GSYM_CONVERTED: &[u8] =
+    b"MYSG\x01\0\x08\0\0\0\0\0\0\0\0\0\x01\0\0\0\x50\0\0\0\x15\0\0\0\0\0\0\0\0\0\0\0\0\0\0\0\0\0\0\0\0\0\0\0\0\x10\0\0\0\0\0\0\x68\0\0\0\x02\0\0\0\0\0\0\0\0\0\0\0\x0e\0\0\0\x0f\0\0\0\0another func\0\0bar.c\0\0\0\0\x30\0\0\0\x01\0\0\0\x01\0\0\0\x0a\0\0\0\0\0\0\x01\x01\x03\x07\x02\0\0\0\0\0\0\0\0\0\0";
+
 /// A GSYM file of two functions: `main` from 0x1000 on with 0x20 bytes, on lines 5, 7 and 10 of
 /// `src/a.c`, and `sub` at 0x1040 with size 0.
 pub const GSYM_LINES: [u8; 148] = [
@@ -107,17 +115,25 @@ pub const THREE_MAPPINGS: &[u8] =
 /// A perf map of one function: `jit` from 0x3000 on with 0x10 bytes.
 pub const PERF_FUNCTION: &[u8] = b"3000 10 jit\n";
 
-/// A copy of the bytes with new ones from a place on. Those that would lie past the end are left out.
+/// Writes new bytes over those from a place on. Those that would lie past the end are left out.
+pub fn write(bytes: &mut Vec<u8>, place: usize, new: &[u8])
+    ensures { length bytes.new.items ≡ length bytes.old.items }
+{
+    let mut at = place;
+    for byte in new {
+        if at < bytes.len() {
+            bytes[at] = *byte;
+            at += 1;
+        }
+    }
+}
+
+/// A copy of the bytes with new ones from a place on. Those that would lie past the end are left
+/// out.
 pub fn damaged(alloc: Global, bytes: &[u8], place: usize, new: &[u8]) -> Result<Vec<u8>, AllocError>
     ensures length { IfOk result (λ all. length all.items ≡ length bytes.now) }
 {
     let mut all = Vec::from_slice(alloc, bytes)?;
-    let mut at = place;
-    for byte in new {
-        if at < all.len() {
-            all[at] = *byte;
-            at += 1;
-        }
-    }
+    write(&mut all, place, new);
     Ok(all)
 }

@@ -1,5 +1,6 @@
 //! Stacks that are folded by what sources answer, and refused as these refuse.
 
+use crate::files::put;
 use bz_base::Error::{NotFound, Unsupported};
 use bz_base::Input::{AbsAddr, FileOffset, VirtOffset};
 use bz_base::{Input, Result};
@@ -230,10 +231,7 @@ fn source(alloc: Global, asked: &Asked) -> Result<Source<'static>> {
 /// Puts the files. Says whether memory was left.
 fn put_all(alloc: Global, files: &mut MemFiles, all: &[Put]) -> bool {
     for (path, text) in all {
-        let Ok(copy) = Vec::from_slice(alloc, text.as_bytes()) else {
-            return false;
-        };
-        if files.put(alloc, path, copy).is_err() {
+        if put(alloc, files, path, text.as_bytes()).is_err() {
             return false;
         }
     }

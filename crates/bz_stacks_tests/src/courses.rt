@@ -1,5 +1,6 @@
 //! What stores answer frames, and which files they keep.
 
+use crate::files::put;
 use bz_base::{Error, FindSymOpts, Sym, Symbolized};
 use bz_files::MemFiles;
 use bz_samples::BREAKPAD_KINDS;
@@ -126,12 +127,6 @@ static COURSES: [Course; 10] = [
     ),
 ];
 
-/// Puts a file at the path.
-fn put(alloc: Global, files: &mut MemFiles, path: &str, text: &[u8]) -> Result<(), Error> {
-    files.put(alloc, path, text.to_vec(alloc)?)?;
-    Ok(())
-}
-
 /// The files, and one that may not be read.
 fn files(alloc: Global) -> Result<MemFiles, Error> {
     let mut files = MemFiles::new(alloc, 0);
@@ -229,7 +224,7 @@ fn holds(
             put(alloc, files, "/r/a/AA/a.sym", OTHER)?;
         }
         let answered = answers(alloc, store, files, rows, letters)?;
-        if !answered || store.kept() != *kept || files.opens() != *opens {
+        if !answered || store.kept_count() != *kept || files.opens() != *opens {
             return Ok(false);
         }
     }

@@ -8,6 +8,8 @@ mod courses;
 #[cfg(test)]
 mod failing;
 #[cfg(test)]
+mod files;
+#[cfg(test)]
 mod frames;
 #[cfg(test)]
 mod reading;

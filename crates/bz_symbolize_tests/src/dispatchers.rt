@@ -3,7 +3,7 @@
 ghost use Rattle.std.specs.Prelude.{◌≡◌, Some, Ok, IfErr};
 ghost use Rattle.bz_base.specs.Resolution.{MayGive};
 ghost use Rattle.bz_process.specs.Member.{MayRefuseMember};
-ghost use Rattle.bz_symbolize_tests.specs.Dispatchers.{given_for_vdso, given_or_refused, vdso_resolver};
+ghost use Rattle.bz_symbolize_tests.specs.Dispatchers.{given_or_refused, vdso_resolver};
 
 use crate::asking::{answers, answers_single};
 use crate::steps::put;
@@ -11,35 +11,15 @@ use crate::told::Told;
 use bz_base::{Error, Input, Reason, Result};
 use bz_elf::ElfResolver;
 use bz_files::MemFiles;
-use bz_samples::{ELF_FUNCTION, THREE_MAPPINGS};
+use bz_samples::ELF_FUNCTION;
 use bz_symbolize::source::{Process, Source};
 use bz_symbolize::{
     Builder, Pid, ProcessDispatch, ProcessMemberInfo, ProcessMemberType, Symbolizer,
 };
 use std::alloc::Global;
 
-/// Gives a resolver for the part of the system that is called `[vdso]`, and none for anything else.
-#[derive(Drop)]
-struct ForVdso;
-
-impl ProcessDispatch for ForVdso {
-    type Resolver = ElfResolver;
-
-    ghost may_dispatch = { λ _ member answer. answer ≡ given_for_vdso member.name };
-
-    fn dispatch(&self, alloc: Global, info: ProcessMemberInfo<'_>) -> Result<Option<ElfResolver>> {
-        match info.member_entry {
-            ProcessMemberType::Component(part) => if part.as_str() == "[vdso]" {
-                vdso(alloc)
-            } else {
-                Ok(None)
-            },
-            ProcessMemberType::Path(_) => Ok(None),
-        }
-    }
-}
-
-/// Gives the same resolver, and refuses every other part of the system.
+/// Gives a resolver for the part of the system that is called `[vdso]`, and refuses every other
+/// part.
 #[derive(Drop)]
 struct ForVdsoAlone;
 
@@ -72,49 +52,16 @@ fn vdso(alloc: Global) -> Result<Option<ElfResolver>>
     }
 }
 
-/// Puts the mappings of process 7, and an ill-formed ELF file that it maps. Says whether memory was left.
-fn put_process(alloc: Global, files: &mut MemFiles, mappings: &[u8]) -> bool {
-    put(alloc, files, "/proc/7/maps", mappings)
-        && put(alloc, files, "/proc/7/map_files/1000-2000", b"\x7fELF")
-}
-
-/// In the part with a resolver, and in the file, which isn't an ELF file.
-const IN_EACH: Input<&[u64]> = Input::AbsAddr(&[0x5088, 0x1004]);
-
-/// What is told of them.
-static RESOLVED: [Told; 2] = [
-    Told::InModule("/vdso.so"),
-    Told::Unknown(Reason::IgnoredError),
-];
-
-/// What is told of them where the mappings may not be read.
-static DENIED: [Told; 1] = [Told::Refused(Error::PermissionDenied)];
-
-/// Whether the resolver answers for the part of the system, and for a mapped file no one does. Where the
-/// mappings may not be read, the batch is refused.
-fn asks_resolver(
-    alloc: Global,
-    symbolizer: &mut Symbolizer<ForVdso>,
-    files: &mut MemFiles,
-    src: &Source<'_>,
-) -> bool {
-    put_process(alloc, files, THREE_MAPPINGS)
-        && answers(alloc, symbolizer, files, src, IN_EACH, &RESOLVED)
-        && files.deny(alloc, "/proc/7/maps").is_ok()
-        && answers(alloc, symbolizer, files, src, IN_EACH, &DENIED)
-}
-
-/// Whether all holds of a symbolizer with the dispatcher.
-fn resolver_answers(alloc: Global) -> bool {
-    let mut files = MemFiles::new(alloc, 0);
-    let mut symbolizer = Builder::new().set_process_dispatcher(ForVdso).build(alloc);
-    let src = Source::from(Process::new(Pid::from(7)));
-    asks_resolver(alloc, &mut symbolizer, &mut files, &src)
-}
-
 /// The mappings of a process that maps a file and two parts of the system.
 const THREE: &[u8] =
     b"1000-2000 r-xp 00000000 08:01 11 /bin/bad\n5000-6000 r-xp 00000000 00:00 0 [vdso]\n7000-8000 rw-p 00000000 00:00 0 [stack]\n";
+
+/// Puts the mappings of process 7, and an ill-formed ELF file that it maps. Says whether memory was
+/// left.
+fn put_process(alloc: Global, files: &mut MemFiles) -> bool {
+    put(alloc, files, "/proc/7/maps", THREE)
+        && put(alloc, files, "/proc/7/map_files/1000-2000", b"\x7fELF")
+}
 
 /// In the part with a resolver, in the other one, and in the file, which isn't an ELF file.
 const ADDRS: &[u64] = &[0x5088, 0x7008, 0x1004];
@@ -134,7 +81,7 @@ fn asks_refusing(
     src: &Source<'_>,
 ) -> bool {
     let alone = Input::AbsAddr(0x7008);
-    put_process(alloc, files, THREE)
+    put_process(alloc, files)
         && answers(alloc, symbolizer, files, src, Input::AbsAddr(ADDRS), &TOLD)
         && answers_single(
             alloc,
@@ -158,6 +105,5 @@ fn refusing_answers(alloc: Global) -> bool {
 
 #[test]
 fn dispatchers_answer_for_parts_of_the_system_or_refuse_them(rt: HostRuntime) {
-    assert!(rt; resolver_answers(rt.alloc()), "a resolver");
-    assert!(rt; refusing_answers(rt.alloc()), "refused parts");
+    assert!(rt; refusing_answers(rt.alloc()));
 }

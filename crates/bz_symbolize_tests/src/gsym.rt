@@ -8,7 +8,7 @@ use crate::steps::{ALL, Script, Start, hold};
 use crate::told::Told::{Located, Named, Refused, Unknown};
 use crate::told::{Code, Told};
 use bz_base::{Error, Input, Reason};
-use bz_samples::{GSYM_CALLS, GSYM_LINES, damaged};
+use bz_samples::{GSYM_CALLS, GSYM_CONVERTED, GSYM_LINES, damaged};
 use std::alloc::Global;
 
 /// An address past the end of `main`, and one in it: not in the order in which they are found.
@@ -97,14 +97,8 @@ const WITHOUT_CALLS: Script = &[Ask(
     Single(Input::VirtOffset(0x1005), Located(CODE, "main", 5, 5, 0)),
 )];
 
-/// There is no site, and there are no inlined calls.
-const WITHOUT_CODE_INFO: Script = &[Ask(
-    Bytes,
-    Single(Input::VirtOffset(0x1005), Located(CODE, "main", 5, 0, 0)),
-)];
-
-/// The same, of the function of size 0 too.
-const WITHOUT_BOTH: Script = &[
+/// Neither function has a site or inlined calls.
+const WITHOUT_CODE_INFO: Script = &[
     Ask(
         Bytes,
         Single(Input::VirtOffset(0x1005), Located(CODE, "main", 5, 0, 0)),
@@ -118,11 +112,7 @@ const WITHOUT_BOTH: Script = &[
 /// Bytes short of a head are refused as what isn't GSYM.
 const REFUSED: Script = &[Ask(Bytes, Batch(ADDRESSES, &[Refused(Error::InvalidData)]))];
 
-/// A converted Breakpad file of one function with one line.
-const CONVERTED_BYTES: &[u8] =
-    b"MYSG\x01\0\x08\0\0\0\0\0\0\0\0\0\x01\0\0\0\x50\0\0\0\x15\0\0\0\0\0\0\0\0\0\0\0\0\0\0\0\0\0\0\0\0\0\0\0\0\x10\0\0\0\0\0\0\x68\0\0\0\x02\0\0\0\0\0\0\0\0\0\0\0\x0e\0\0\0\x0f\0\0\0\0another func\0\0bar.c\0\0\0\0\x30\0\0\0\x01\0\0\0\x01\0\0\0\x0a\0\0\0\0\0\0\x01\x01\x03\x07\x02\0\0\0\0\0\0\0\0\0\0";
-
-/// Its source code.
+/// The source code of a converted Breakpad file of one function with one line.
 const CONVERTED_CODE: &Code = &Code {
     module: "",
     dir: "",
@@ -201,9 +191,8 @@ fn damage_holds(alloc: Global, damage: &Damage) -> bool {
     match damaged(alloc, damage.0, damage.1, damage.2) {
         Ok(bytes) => {
             let start = Start {
-                code_info: true,
-                calls: true,
                 bytes: bytes.as_slice(),
+                ..ALL
             };
             hold(alloc, &start, &[damage.3])
         }
@@ -243,7 +232,7 @@ const BOTH_OFF: Start<'static> = Start {
 
 /// The converted file is handed in.
 const OVER_CONVERTED: Start<'static> = Start {
-    bytes: CONVERTED_BYTES,
+    bytes: GSYM_CONVERTED,
     ..ALL
 };
 
@@ -256,7 +245,7 @@ static SCRIPTS: [(Start<'static>, Script); 9] = [
     (OVER_CALLS, INLINED),
     (CALLS_OFF, WITHOUT_CALLS),
     (CODE_INFO_OFF, WITHOUT_CODE_INFO),
-    (BOTH_OFF, WITHOUT_BOTH),
+    (BOTH_OFF, WITHOUT_CODE_INFO),
     (OVER_CONVERTED, CONVERTED),
 ];
 
@@ -270,9 +259,8 @@ fn calls_on_gsym_answer_or_are_refused(rt: HostRuntime) {
         assert!(rt; damage_holds(rt.alloc(), &DAMAGED[index]), "damage {index}");
     }
     let cut = Start {
-        code_info: true,
-        calls: true,
         bytes: &GSYM_LINES[..47],
+        ..ALL
     };
     assert!(rt; hold(rt.alloc(), &cut, &[REFUSED]), "a cut head");
 }

@@ -9,6 +9,7 @@ use crate::steps::Step::{Ask, Opens, PutGenerated};
 use crate::steps::{ALL, CODE_INFO_OFF, Script, hold};
 use crate::told::{Code, is_located};
 use bz_base::{Input, Reason, Result, Steps, Sym, Symbolized, whole_decimal};
+use bz_canon::gen_text;
 use bz_files::MemFiles;
 use bz_symbolize::source::Source;
 use bz_symbolize::{Lookups, Symbolizer};
@@ -32,29 +33,16 @@ pub(crate) struct Batch {
     pub(crate) times: u32,
 }
 
-/// Pushes a function. The first eight of its 48 bytes are of a call that was inlined, and the first
-/// sixteen and the others have a line each.
-fn push_function(text: &mut String, number: u32) -> Result<()> {
-    let start = 4096 + 64 * u64::from(number);
-    let later = start.wrapping_add(16);
-    let first = u64::from(number) + 1;
-    let second = u64::from(number) + 2;
-    write!(
-        text,
-        "FUNC {start:x} 30 0 f{number}\nINLINE 0 7 0 0 {start:x} 8\n{start:x} 10 {first} 0\n{later:x} 20 {second} 0\n"
-    )?;
-    Ok(())
-}
-
-/// Puts a file of so many functions, the last one first, at `/s.sym`.
-pub(crate) fn put_generated(alloc: Global, files: &mut MemFiles, functions: u32) -> Result<()> {
-    let head = "MODULE Linux x86_64 0 gen\nFILE 0 gen.c\nINLINE_ORIGIN 0 g\n";
-    let mut text = String::from_str(alloc, head)?;
-    for number in (0..functions).rev() {
-        push_function(&mut text, number)?;
+/// Puts the generated file of so many functions at `/s.sym`. Says whether they aren't too many, and
+/// memory was left.
+pub(crate) fn put_generated(alloc: Global, files: &mut MemFiles, functions: u64) -> bool {
+    if functions > 100_000 {
+        return false;
     }
-    files.put(alloc, "/s.sym", text.into_bytes())?;
-    Ok(())
+    match gen_text(alloc, functions) {
+        Ok(text) => files.put(alloc, "/s.sym", text).is_ok(),
+        Err(_) => false,
+    }
 }
 
 /// The step that comes at an index in the order of a batch.

@@ -45,8 +45,8 @@ pub(crate) enum Step {
     PutText(&'static str, &'static str),
     /// The bytes are put at the path under the stamp that it has.
     PutUnderItsStamp(&'static str, &'static [u8]),
-    /// A file of so many functions is put at `/s.sym`.
-    PutGenerated(u32),
+    /// The generated file of so many functions is put at `/s.sym`.
+    PutGenerated(u64),
     /// The path gets what is at the other one, under the same stamp.
     Link(&'static str, &'static str),
     /// What is at the path is taken away.
@@ -126,7 +126,7 @@ fn holds_of_files(alloc: Global, files: &mut MemFiles, step: &Step) -> bool {
         Step::Put(path, bytes) => put(alloc, files, path, bytes),
         Step::PutText(path, text) => put(alloc, files, path, text.as_bytes()),
         Step::PutUnderItsStamp(path, bytes) => put_under_its_stamp(alloc, files, path, bytes),
-        Step::PutGenerated(functions) => put_generated(alloc, files, *functions).is_ok(),
+        Step::PutGenerated(functions) => put_generated(alloc, files, *functions),
         Step::Link(path, old) => files.link(alloc, path, old).is_ok(),
         Step::Remove(path) => files.remove(path),
         Step::NoFiles => {

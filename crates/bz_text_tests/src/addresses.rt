@@ -29,7 +29,7 @@ static INPUTS: [(&[u8], usize, u64, u64); 20] = [
     (b"1\n2\n10 20", 0, 0, 3),
 ];
 
-/// A text, how many fields it has, and the last of them.
+/// A text, how many fields it has, and the last of them. Fields are cut at each space.
 static FIELDS: [(&[u8], usize, &[u8]); 6] = [
     (b"", 1, b""),
     (b"a", 1, b"a"),
@@ -58,31 +58,20 @@ fn has_fields(alloc: Global, text: &[u8], count: usize, last: &[u8]) -> bool {
     }
 }
 
-/// Whether all inputs are read so.
-fn inputs_are_read(alloc: Global) -> bool {
-    for row in &INPUTS {
-        if !says(alloc, row.0, row.1, row.2, row.3) {
-            return false;
-        }
-    }
-    true
-}
-
-/// Whether fields are cut at each space.
-fn fields_are_cut(alloc: Global) -> bool {
-    for row in &FIELDS {
-        if !has_fields(alloc, row.0, row.1, row.2) {
-            return false;
-        }
-    }
-    true
-}
-
-/// An address is a whole text.
 #[test]
 fn reads_addresses_refuses_bad_lines_and_cuts_fields(rt: HostRuntime) {
-    assert!(rt; inputs_are_read(rt.alloc()), "inputs");
-    assert!(rt; fields_are_cut(rt.alloc()), "fields");
+    for index in 0..INPUTS.len() {
+        let (text, count, last, line) = INPUTS[index];
+        assert!(rt; says(rt.alloc(), text, count, last, line), "row {index}");
+    }
+    for index in 0..FIELDS.len() {
+        let (text, count, last) = FIELDS[index];
+        assert!(rt;
+            has_fields(rt.alloc(), text, count, last),
+            "fields of row {index}"
+        );
+    }
+    // An address is a whole text.
     assert!(rt;
         address(b"0x1f") == Some(31) && address(b"1f ") == None,
         "whole texts"

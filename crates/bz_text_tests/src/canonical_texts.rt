@@ -1,13 +1,17 @@
 //! Texts of files, and their canonical texts.
 
+use crate::files::file_of;
 use bz_base::Error;
-use bz_breakpad::SymbolFile;
 use bz_canon::canonical;
+use bz_samples::{BREAKPAD_KINDS, BREAKPAD_PROGRAM};
 use std::alloc::Global;
 
-/// A file's text, and its canonical text: of inlined calls inside one another, and of a record that isn't
-/// kept. Then of a module without name and a function that is marked, and of records of every kind.
-static KINDS: [(&[u8], &[u8]); 5] = [
+/// A file's text, and its canonical text.
+type Row = (&'static [u8], &'static [u8]);
+
+/// Texts of inlined calls inside one another, and of a record that isn't kept. Then of a module
+/// without name and a function that is marked, and of records of every kind.
+const KINDS: &[Row] = &[
     (
         b"FILE 15 o.c\nFILE 4 m.c\nFILE 8 i2.c\nFUNC 1000 30 10 outer_func()\nINLINE_ORIGIN 1 inner_func_2()\nINLINE_ORIGIN 2 mid_func()\nINLINE_ORIGIN 3 inner_func_1()\nINLINE 0 60 15 2 1000 20\nINLINE 1 12 4 3 1000 10\nINLINE 1 17 4 1 1010 10\n1000 10 42 7\n1010 10 52 8\n1020 10 62 15\n",
         b"FILE 4 m.c\nFILE 8 i2.c\nFILE 15 o.c\nINLINE_ORIGIN 1 inner_func_2()\nINLINE_ORIGIN 2 mid_func()\nINLINE_ORIGIN 3 inner_func_1()\nFUNC 1000 30 10 outer_func()\nINLINE 0 60 15 2 1000 20\nINLINE 1 12 4 3 1000 10\nINLINE 1 17 4 1 1010 10\n1000 10 42 7\n1010 10 52 8\n1020 10 62 15\n",
@@ -18,17 +22,17 @@ static KINDS: [(&[u8], &[u8]); 5] = [
         b"MODULE - - - \nFUNC 1 2 3 x\nFUNC 1 3 3 y\n",
     ),
     (
-        b"MODULE Linux x86 ffff0000 bar\nFILE 53 bar.c\nPUBLIC 1234 10 some public\nFUNC 1000 30 10 another func\n1000 30 7 53\n",
+        BREAKPAD_KINDS,
         b"MODULE - - - bar\nFILE 53 bar.c\nPUBLIC 1234 10 some public\nFUNC 1000 30 10 another func\n1000 30 7 53\n",
     ),
     (
-        b"MODULE Linux x86_64 D3096ED481217FD4C16B29CD9BC208BA0 app\nINFO CODE_ID D46E09D32181D47FC16B29CD9BC208BA\nFILE 0 /src/app/main.c\nFILE 1 /src/app/util.h\nINLINE_ORIGIN 0 clamp\nFUNC 1160 2a 0 main\nINLINE 0 12 0 0 1170 8\n1160 10 10 0\n1170 8 4 1\n1178 12 13 0\nPUBLIC 1020 0 _start\nSTACK CFI INIT 1160 2a .cfa: $rsp 8 + .ra: .cfa -8 + ^\nSTACK CFI 1161 .cfa: $rsp 16 +\n",
+        BREAKPAD_PROGRAM,
         b"MODULE - - - app\nFILE 0 /src/app/main.c\nFILE 1 /src/app/util.h\nINLINE_ORIGIN 0 clamp\nPUBLIC 1020 0 _start\nFUNC 1160 2a 0 main\nINLINE 0 12 0 0 1170 8\n1160 10 10 0\n1170 8 4 1\n1178 12 13 0\n",
     ),
 ];
 
 /// The same of records in several orders. Those that are alike stand as in the file.
-static ORDERS: [(&[u8], &[u8]); 8] = [
+const ORDERS: &[Row] = &[
     (
         b"PUBLIC 20 0 r\nPUBLIC 10 0 p\nPUBLIC 10 4 q\n",
         b"PUBLIC 10 0 p\nPUBLIC 10 4 q\nPUBLIC 20 0 r\n",
@@ -66,7 +70,7 @@ static ORDERS: [(&[u8], &[u8]); 8] = [
 /// The same of texts and numbers that may be written in several ways. There are blank lines and white
 /// space, zeros in front, upper case and marks. Ids come in any order, and the last name of each counts. Numbers
 /// are the greatest ones, and the greatest and least of so many digits.
-static SPELLINGS: [(&[u8], &[u8]); 7] = [
+const SPELLINGS: &[Row] = &[
     (
         b"PUBLIC m 00AB 0F x y\n\n \tPUBLIC\t0  0 \r\n",
         b"PUBLIC 0 0 \nPUBLIC ab f x y\n",
@@ -101,7 +105,7 @@ const LINES: &[u8] =
 /// The lines as they may be written: the same, in upper case, with zeros in front, and with tabs or more
 /// blanks. Then with carriage returns, and in another order.
 static LINES_WRITTEN: [&[u8]; 14] = [
-    b"FUNC 1000 100 0 f\n1000 10 42 0\n1010 8 7 10\n1018 a8 100 1\n10c0 40 4294967295 20\n",
+    LINES,
     b"FUNC 1000 100 0 f\n1000 10 42 0\n1010 8 7 10\n1018 a8 100 1\n10C0 40 4294967295 20\n",
     b"FUNC 1000 100 0 f\n1000 10 42 0\n1010 8 7 10\n1018 A8 100 1\n10c0 40 4294967295 20\n",
     b"FUNC 1000 100 0 f\n01000 10 42 0\n1010 8 7 10\n1018 a8 100 1\n10c0 40 4294967295 20\n",
@@ -119,9 +123,7 @@ static LINES_WRITTEN: [&[u8]; 14] = [
 
 /// The canonical text of a text.
 fn canonical_of(alloc: Global, text: &[u8]) -> Result<Vec<u8>, Error> {
-    let bytes = Vec::from_slice(alloc, text)?;
-    let file = SymbolFile::from_bytes(alloc, bytes)?;
-    canonical(alloc, &file)
+    canonical(alloc, &file_of(alloc, text)?)
 }
 
 /// Whether a text has this canonical text.
@@ -132,45 +134,31 @@ fn has_canonical(alloc: Global, text: &[u8], expected: &[u8]) -> bool {
     }
 }
 
-/// Whether each text has its canonical text, which is its own.
-fn all_hold(alloc: Global, rows: &[(&[u8], &[u8])]) -> bool {
-    for row in rows {
-        if !has_canonical(alloc, row.0, row.1) || !has_canonical(alloc, row.1, row.1) {
-            return false;
-        }
-    }
-    true
+/// Whether a text has this canonical text, which is its own.
+fn holds(alloc: Global, text: &[u8], expected: &[u8]) -> bool {
+    has_canonical(alloc, text, expected) && has_canonical(alloc, expected, expected)
 }
 
-/// Whether the lines have one canonical text, however they are written.
-fn lines_hold(alloc: Global) -> bool {
-    for text in &LINES_WRITTEN {
-        if !has_canonical(alloc, text, LINES) {
-            return false;
-        }
-    }
-    true
-}
-
-/// What the first table has that doesn't hold; nothing where all hold.
-fn first_to_fail(alloc: Global) -> &'static str {
-    if !all_hold(alloc, &KINDS) {
-        return "records of every kind";
-    }
-    if !all_hold(alloc, &ORDERS) {
-        return "orders";
-    }
-    if !all_hold(alloc, &SPELLINGS) {
-        return "spellings";
-    }
-    if !lines_hold(alloc) {
-        return "lines";
-    }
-    ""
-}
+/// The texts, by what they show.
+static TABLES: [(&str, &[Row]); 3] = [
+    ("records of every kind", KINDS),
+    ("orders", ORDERS),
+    ("spellings", SPELLINGS),
+];
 
 #[test]
 fn texts_have_their_canonical_texts(rt: HostRuntime) {
-    let failed = first_to_fail(rt.alloc());
-    assert!(rt; failed.is_empty(), "{failed}");
+    for (told, rows) in &TABLES {
+        for index in 0..rows.len() {
+            let (text, expected) = rows[index];
+            assert!(rt; holds(rt.alloc(), text, expected), "{told}: row {index}");
+        }
+    }
+    for index in 0..LINES_WRITTEN.len() {
+        let text = LINES_WRITTEN[index];
+        assert!(rt;
+            has_canonical(rt.alloc(), text, LINES),
+            "lines: row {index}"
+        );
+    }
 }

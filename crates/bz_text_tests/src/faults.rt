@@ -1,6 +1,6 @@
 //! Files that aren't converted, and why.
 
-use bz_base::Error;
+use crate::files::file_of;
 use bz_breakpad::SymbolFile;
 use bz_convert::ConvertError;
 use bz_converting::convert;
@@ -9,11 +9,7 @@ use std::alloc::Global;
 /// A file's text, and what is said of its first fault: nothing where it has none. Each cause once; sizes
 /// of 0, equal calls, and functions whose end passes 64 bits. Then files with several causes: in one
 /// function the first by the kinds' order, in several the one of the least start.
-static CAUSES: [(&[u8], &str); 23] = [
-    (
-        b"MODULE Linux x86 ffff0000 bar\nFILE 53 bar.c\nPUBLIC 1234 10 some public\nFUNC 1000 30 10 another func\n1000 30 7 53\n",
-        "",
-    ),
+static CAUSES: [(&[u8], &str); 22] = [
     (b"INFO x\n", ""),
     (b"FUNC 10 0 0 f\n", "the function at 0x10 has size 0"),
     (
@@ -47,7 +43,7 @@ static CAUSES: [(&[u8], &str); 23] = [
     ),
     (
         b"FILE 15 o.c\nFILE 4 m.c\nFILE 8 i2.c\nFUNC 1000 30 10 outer_func()\nINLINE_ORIGIN 1 inner_func_2()\nINLINE_ORIGIN 2 mid_func()\nINLINE_ORIGIN 3 inner_func_1()\nINLINE 0 60 15 2 1000 20\nINLINE 1 12 4 3 1000 10\nINLINE 1 17 4 1 1010 10\n1000 10 42 7\n1010 10 52 8\n1020 10 62 15\n",
-        "the function at 0x1000 asks for a file of id 7",
+        "the function at 0x1000 asks for a file of id 7, which isn't known",
     ),
     (
         b"FILE 7 p.c\nFILE 15 o.c\nFILE 4 m.c\nFILE 8 i2.c\nFUNC 1000 30 10 outer_func()\nINLINE_ORIGIN 1 inner_func_2()\nINLINE_ORIGIN 2 mid_func()\nINLINE_ORIGIN 3 inner_func_1()\nINLINE 0 60 15 2 1000 20\nINLINE 1 12 4 3 1000 10\nINLINE 1 17 4 1 1010 10\n1000 10 42 7\n1010 10 52 8\n1020 10 62 15\n",
@@ -55,7 +51,7 @@ static CAUSES: [(&[u8], &str); 23] = [
     ),
     (
         b"FILE 0 a.c\nINLINE_ORIGIN 0 g\nFUNC 10 8 0 f\nINLINE 0 1 5 0 10 4\n10 8 1 0\n",
-        "the function at 0x10 asks for a file of id 5",
+        "the function at 0x10 asks for a file of id 5, which isn't known",
     ),
     (
         b"FILE 0 a.c\nFUNC 10 8 0 f\nINLINE 0 1 5 0 10 0\n10 8 1 0\n",
@@ -63,7 +59,7 @@ static CAUSES: [(&[u8], &str); 23] = [
     ),
     (
         b"FILE 0 a.c\nFUNC 10 8 0 f\nINLINE 0 1 0 3 10 4\n10 8 1 0\n",
-        "the function at 0x10 asks for an origin of id 3",
+        "the function at 0x10 asks for an origin of id 3, which isn't known",
     ),
     (
         b"FUNC 10 4 0 a\x00b\n",
@@ -84,7 +80,7 @@ static CAUSES: [(&[u8], &str); 23] = [
     ),
     (
         b"FUNC 20 0 0 g\nFUNC 10 8 0 f\n10 8 1 9\n",
-        "the function at 0x10 asks for a file of id 9",
+        "the function at 0x10 asks for a file of id 9, which isn't known",
     ),
     (
         b"FUNC 10 8 0 f\n10 8 1 9\nFUNC 10 0 0 g\n",
@@ -102,12 +98,11 @@ fn is_message(alloc: Global, error: ConvertError, expected: &str) -> bool {
 /// The length of a file that is too large is said in decimal digits.
 fn tells_the_length_of_a_large_file(alloc: Global) -> bool {
     let error = ConvertError::TooLarge { bytes: 4294967296 };
-    is_message(alloc, error, "the converted file has 4294967296 bytes")
-}
-
-/// The file of a text.
-fn file_of(alloc: Global, text: &[u8]) -> Result<SymbolFile, Error> {
-    SymbolFile::from_bytes(alloc, Vec::from_slice(alloc, text)?)
+    is_message(
+        alloc,
+        error,
+        "the converted file would have 4294967296 bytes, which is too many",
+    )
 }
 
 /// Whether this is said of the first fault of a file, or nothing where the file is converted.

@@ -14,6 +14,8 @@ mod conversions;
 #[cfg(test)]
 mod faults;
 #[cfg(test)]
+mod files;
+#[cfg(test)]
 mod frame_lines;
 #[cfg(test)]
 mod generated;

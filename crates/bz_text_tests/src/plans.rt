@@ -5,14 +5,11 @@ ghost use Rattle.bz_gsym_layout.specs.Indexed.{IsPlan};
 
 use bz_base::{FindSymOpts, Symbolize};
 use bz_gsym::GsymTable;
-use bz_gsym_layout::{Function, LayoutError, Plan, Row, SourceFile, laws, write};
+use bz_gsym_layout::{Function, LayoutError, Plan, Row, SourceFile, write};
+use bz_samples::GSYM_CONVERTED;
 use std::alloc::Global;
 
-/// A function of 48 bytes with one line.
-const ONE_LINE: &[u8] =
-    b"MYSG\x01\0\x08\0\0\0\0\0\0\0\0\0\x01\0\0\0\x50\0\0\0\x15\0\0\0\0\0\0\0\0\0\0\0\0\0\0\0\0\0\0\0\0\0\0\0\0\x10\0\0\0\0\0\0\x68\0\0\0\x02\0\0\0\0\0\0\0\0\0\0\0\x0e\0\0\0\x0f\0\0\0\0another func\0\0bar.c\0\0\0\0\x30\0\0\0\x01\0\0\0\x01\0\0\0\x0a\0\0\0\0\0\0\x01\x01\x03\x07\x02\0\0\0\0\0\0\0\0\0\0";
-
-/// The plan of that function.
+/// The plan of the converted sample: a function of 48 bytes with one line.
 fn one_line(alloc: Global) -> Result<Plan<'static>, LayoutError>
     ensures { IfOk result IsPlan }
 {
@@ -41,9 +38,9 @@ fn one_line(alloc: Global) -> Result<Plan<'static>, LayoutError>
     })
 }
 
-/// Whether the bytes are those, and answer for the line.
+/// Whether the bytes are the sample's, and answer for the line.
 fn is_read(alloc: Global, bytes: Vec<u8>) -> bool {
-    if bytes.as_slice() != ONE_LINE {
+    if bytes.as_slice() != GSYM_CONVERTED {
         return false;
     }
     let Ok(table) = GsymTable::from_bytes(bytes) else {
@@ -68,8 +65,5 @@ fn is_one_line(alloc: Global) -> bool {
 
 #[test]
 fn a_plan_is_laid_out_and_answers(rt: HostRuntime) {
-    laws::numbers_are_read();
-    laws::layouts_answer_as_planned();
-    laws::entries_are_within();
     assert!(rt; is_one_line(rt.alloc()));
 }

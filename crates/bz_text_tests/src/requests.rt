@@ -107,16 +107,6 @@ fn is_read(alloc: Global, text: &[u8], line: u64) -> bool {
     }
 }
 
-/// Whether all inputs are read so.
-fn inputs_are_read(alloc: Global) -> bool {
-    for (text, line) in &INPUTS {
-        if !is_read(alloc, text, *line) {
-            return false;
-        }
-    }
-    true
-}
-
 /// Whether addresses of the target are absolute.
 fn is_absolute(target: &Target) -> bool {
     target.usual_kind() == Input::AbsAddr(())
@@ -124,7 +114,10 @@ fn is_absolute(target: &Target) -> bool {
 
 #[test]
 fn reads_requests_of_every_kind_and_refuses_bad_lines(rt: HostRuntime) {
-    assert!(rt; inputs_are_read(rt.alloc()), "inputs");
+    for index in 0..INPUTS.len() {
+        let (text, line) = INPUTS[index];
+        assert!(rt; is_read(rt.alloc(), text, line), "row {index}");
+    }
 }
 
 #[test]

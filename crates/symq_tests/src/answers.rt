@@ -1,8 +1,8 @@
 //! The answers of Breakpad files.
 
-use crate::runs::Edit::Text;
-use crate::runs::{ADDRESSES, FIRST_RUN, Row, SEVERAL_RECORDS};
-use bz_samples::BREAKPAD_CALLS;
+use crate::runs::Edit::{Bytes, Text};
+use crate::runs::{ADDRESSES, FIRST_RUN, Row};
+use bz_samples::{BREAKPAD_CALLS, BREAKPAD_KINDS, BREAKPAD_PROGRAM};
 
 /// The first file's answers to the two addresses.
 const ANSWERS: &str =
@@ -11,7 +11,7 @@ const ANSWERS: &str =
 /// A file of several records, whose line record tells the site. The same with carriage returns before its
 /// line feeds follows.
 const WITH_LINE: Row = Row {
-    edits: SEVERAL_RECORDS,
+    edits: &[Bytes("/a.sym", BREAKPAD_KINDS)],
     input: "1010\n0x1030\n",
     written: "0x1010: another func+0x10 start 0x1000 size 0x30 module bar at bar.c:7\n0x1030: ? address not found in symbolization source\n",
     ..FIRST_RUN
@@ -48,10 +48,7 @@ const CALLS: Row = Row {
 /// The file of a C program, as Breakpad writes it. One address is in a call that was inlined, and of the
 /// other's function a PUBLIC record alone tells.
 const PROGRAM: Row = Row {
-    edits: &[Text(
-        "/a.sym",
-        "MODULE Linux x86_64 D3096ED481217FD4C16B29CD9BC208BA0 app\nINFO CODE_ID D46E09D32181D47FC16B29CD9BC208BA\nFILE 0 /src/app/main.c\nFILE 1 /src/app/util.h\nINLINE_ORIGIN 0 clamp\nFUNC 1160 2a 0 main\nINLINE 0 12 0 0 1170 8\n1160 10 10 0\n1170 8 4 1\n1178 12 13 0\nPUBLIC 1020 0 _start\nSTACK CFI INIT 1160 2a .cfa: $rsp 8 + .ra: .cfa -8 + ^\nSTACK CFI 1161 .cfa: $rsp 16 +\n",
-    )],
+    edits: &[Bytes("/a.sym", BREAKPAD_PROGRAM)],
     input: "1174\n1020\n",
     written: "0x1174: main+0x14 start 0x1160 size 0x2a module app at /src/app/main.c:12\n  clamp at /src/app/util.h:4\n0x1020: _start+0x0 start 0x1020 size - module app at - public\n",
     ..FIRST_RUN

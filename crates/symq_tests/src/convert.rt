@@ -1,7 +1,8 @@
 //! Converted files.
 
-use crate::runs::Edit::{Deny, Text};
-use crate::runs::{FIRST_RUN, Row, SEVERAL_RECORDS};
+use crate::runs::Edit::{Bytes, Deny, Text};
+use crate::runs::{FIRST_RUN, Row};
+use bz_samples::BREAKPAD_KINDS;
 use bz_symq::Status;
 
 /// A conversion of a Breakpad file of one function with one line, to GSYM bytes.
@@ -23,7 +24,7 @@ const CONVERTED: Row = Row {
 const BY_WORDS: Row = Row {
     lines: &[&["convert", "/a.sym"]],
     converted: "",
-    edits: SEVERAL_RECORDS,
+    edits: &[Bytes("/a.sym", BREAKPAD_KINDS)],
     ..CONVERTED
 };
 

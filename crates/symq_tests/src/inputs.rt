@@ -10,38 +10,11 @@ const BAD: Row = Row {
 };
 
 /// The first line that is neither empty nor an address is named by its number.
-pub(crate) static BAD_LINES: [Row; 6] = [
-    Row {
-        input: "10\nxyz\n",
-        written: "input: line 2\n",
-        ..BAD
-    },
-    Row {
-        input: "\n\n 10\n",
-        written: "input: line 3\n",
-        ..BAD
-    },
-    Row {
-        input: "0x\n",
-        written: "input: line 1\n",
-        ..BAD
-    },
-    Row {
-        input: "10\r\r\n",
-        written: "input: line 1\n",
-        ..BAD
-    },
-    Row {
-        input: "0X10\n",
-        written: "input: line 1\n",
-        ..BAD
-    },
-    Row {
-        input: "00000000000000010\n",
-        written: "input: line 1\n",
-        ..BAD
-    },
-];
+pub(crate) static BAD_LINES: [Row; 1] = [Row {
+    input: "10\nxyz\n",
+    written: "input: line 2\n",
+    ..BAD
+}];
 
 /// The longest input may be empty lines alone, or end in a line; one byte more is too long.
 pub(crate) static LONGEST: [Row; 4] = [

@@ -48,12 +48,6 @@ pub(crate) struct Row {
 /// A Breakpad file of one function.
 const FIRST: &str = "MODULE Linux x86 ffff0000 bar\nFUNC 1000 30 10 another func\n";
 
-/// A Breakpad file of a module, a file, a PUBLIC record, and a function with a line.
-pub(crate) const SEVERAL_RECORDS: &[Edit] = &[Text(
-    "/a.sym",
-    "MODULE Linux x86 ffff0000 bar\nFILE 53 bar.c\nPUBLIC 1234 10 some public\nFUNC 1000 30 10 another func\n1000 30 7 53\n",
-)];
-
 /// An address in the function, and the one at its end.
 pub(crate) const ADDRESSES: &str = "1010\n1030\n";
 
@@ -76,19 +70,17 @@ pub(crate) const FIRST_RUN: Row = Row {
     opens: None,
 };
 
-/// Puts the bytes at the path. Says whether memory was left.
-fn put(alloc: Global, files: &mut MemFiles, path: &str, bytes: &[u8]) -> bool {
-    match Vec::from_slice(alloc, bytes) {
-        Ok(copy) => files.put(alloc, path, copy).is_ok(),
-        Err(_) => false,
-    }
+/// Puts the bytes at the path.
+pub(crate) fn put(alloc: Global, files: &mut MemFiles, path: &str, bytes: &[u8]) -> Result<()> {
+    files.put(alloc, path, Vec::from_slice(alloc, bytes)?)?;
+    Ok(())
 }
 
 /// Makes an edit. Says whether memory was left, and what is removed was there.
 fn make_edit(alloc: Global, files: &mut MemFiles, edit: &Edit) -> bool {
     match edit {
-        Text(path, text) => put(alloc, files, path, text.as_bytes()),
-        Bytes(path, bytes) => put(alloc, files, path, bytes),
+        Text(path, text) => put(alloc, files, path, text.as_bytes()).is_ok(),
+        Bytes(path, bytes) => put(alloc, files, path, bytes).is_ok(),
         Deny(path) => files.deny(alloc, path).is_ok(),
         Remove(path) => files.remove(path),
         Next => files.schedule(alloc).is_ok(),

@@ -1,5 +1,6 @@
 //! Runs, and what standard error says of them.
 
+use crate::runs::put;
 use bz_base::Result;
 use bz_files::{MemFiles, Stamp};
 use bz_symq::Status;
@@ -13,7 +14,8 @@ type Said = (&'static str, &'static str);
 /// said of them.
 type Runs = (Status, (u64, u64, u64), &'static [Said]);
 
-/// Refused files, and files that are refused for something else.
+/// Runs refused for the text of a Breakpad file, and runs refused for something else, of which
+/// nothing is said.
 const REFUSED: &[Said] = &[
     (
         "breakpad /bad",
@@ -111,21 +113,14 @@ static RUNS: [Runs; 8] = [
     ),
 ];
 
-/// Puts a text at a path.
-fn put(files: &mut MemFiles, alloc: Global, path: &str, text: &[u8]) -> Result<()> {
-    let bytes = Vec::from_slice(alloc, text)?;
-    files.put(alloc, path, bytes)?;
-    Ok(())
-}
-
 /// A folder has itself in it; a long file has its length in its stamp.
 fn files_of(alloc: Global) -> Result<MemFiles> {
     let mut files = MemFiles::new(alloc, 7);
-    put(&mut files, alloc, "/good", b"FUNC 1 2 3 x\n1 2 3 4\n")?;
-    put(&mut files, alloc, "/bad", b"FUNC 1 2 3 x\n1 2 3 4\n1 2 3\n")?;
-    put(&mut files, alloc, "/cut", b"FUNC 1 2 3 x\n1 2 3 4")?;
-    put(&mut files, alloc, "/empty", b"")?;
-    put(&mut files, alloc, "/folder/.", b"")?;
+    put(alloc, &mut files, "/good", b"FUNC 1 2 3 x\n1 2 3 4\n")?;
+    put(alloc, &mut files, "/bad", b"FUNC 1 2 3 x\n1 2 3 4\n1 2 3\n")?;
+    put(alloc, &mut files, "/cut", b"FUNC 1 2 3 x\n1 2 3 4")?;
+    put(alloc, &mut files, "/empty", b"")?;
+    put(alloc, &mut files, "/folder/.", b"")?;
     files.deny(alloc, "/denied")?;
     let stamp = Stamp {
         dev: 1,

@@ -20,8 +20,8 @@ const STACKS: Row = Row {
     ..FIRST_RUN
 };
 
-/// Functions whose names are in another order than their addresses, and names with a `;` and with
-/// returns at the end.
+/// Functions whose names are in another order than their addresses. The last name is a `;`, and its
+/// record ends in two carriage returns.
 const NAMES: Row = Row {
     lines: &[&["stacks", "/s.sym"]],
     edits: &[Text(
@@ -32,8 +32,8 @@ const NAMES: Row = Row {
 };
 
 /// What folds: one path from two addresses, sums past 32 bits, a count of 0, and paths in the order of
-/// their bytes. Then no stacks, and an address that is refused.
-pub(crate) static FOLDED: [Row; 9] = [
+/// their bytes. Then no stacks.
+pub(crate) static FOLDED: [Row; 7] = [
     STACKS,
     Row {
         input: "4 1\r\n\n5 2\n",
@@ -55,25 +55,6 @@ pub(crate) static FOLDED: [Row; 9] = [
         written: "B;ab;b 1\nb;ab;B 1\n",
         ..NAMES
     },
-    // An inlined call has no origin, and another address is answered.
-    Row {
-        edits: &[Text(
-            "/s.sym",
-            "FILE 0 a.c\nFUNC 10 8 0 f\nINLINE 0 1 0 3 10 4\n10 8 1 0\n",
-        )],
-        input: "10 1\n14 2\n",
-        written: "[unknown] 1\nf 2\n",
-        ..NAMES
-    },
-    Row {
-        lines: &[
-            &["stacks", "/n.sym", "--no-inlined"],
-            &["stacks", "--no-code-info", "/n.sym"],
-        ],
-        input: "1010 2\n1020 3\n",
-        written: "outer_func() 5\n",
-        ..STACKS
-    },
     Row {
         lines: &[&["stacks", "/o.sym"]],
         input: "\n\r\n",
@@ -93,7 +74,7 @@ const BAD: Row = Row {
     lines: &[&["stacks", "/absent"]],
     faults: (1, 0, 0),
     status: Status::Input,
-    written: "input: line 1\n",
+    written: "input: line 3\n",
     opens: Some(0),
     ..STACKS
 };
@@ -118,37 +99,14 @@ const UNFORMED: Row = Row {
 };
 
 /// How runs end that fold nothing.
-pub(crate) static ENDINGS: [Row; 16] = [
-    // No address, lines that are counted though they are empty, an eleventh digit, a count past 32 bits,
-    // two spaces, two returns, and no count.
+pub(crate) static ENDINGS: [Row; 11] = [
+    // A line of one word, and one with a bad address. Empty lines are counted too.
     Row {
         input: "1 4\n\n4",
-        written: "input: line 3\n",
-        ..BAD
-    },
-    Row {
-        input: "1 00000000004\n",
-        ..BAD
-    },
-    Row {
-        input: "1 4294967296\n",
-        ..BAD
-    },
-    Row {
-        input: "1  4\n",
         ..BAD
     },
     Row {
         input: "\r\n1 4\n1 x 4\n",
-        written: "input: line 3\n",
-        ..BAD
-    },
-    Row {
-        input: "1 4\r\r\n",
-        ..BAD
-    },
-    Row {
-        input: "1\n",
         ..BAD
     },
     UNFORMED,
@@ -202,11 +160,12 @@ pub(crate) static LONGEST: [Row; 1] = [Row {
 }];
 
 /// Flags and words.
-pub(crate) static ROWS: [Row; 7] = [
+pub(crate) static ROWS: [Row; 6] = [
     Row {
         lines: &[
             &["stacks", "/n.sym", "--no-inlined"],
             &["--no-code-info", "stacks", "/n.sym"],
+            &["stacks", "--no-code-info", "/n.sym"],
         ],
         written: "[unknown];outer_func() 1\nouter_func() 10\n",
         ..STACKS
@@ -221,14 +180,6 @@ pub(crate) static ROWS: [Row; 7] = [
         lines: &[&["stacks", "/o.sym"]],
         input: "",
         written: "",
-        ..STACKS
-    },
-    Row {
-        lines: &[&["stacks", "/o.sym"]],
-        input: "1\n",
-        status: Status::Input,
-        written: "input: line 1\n",
-        opens: Some(0),
         ..STACKS
     },
     Row {

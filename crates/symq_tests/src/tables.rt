@@ -6,127 +6,78 @@ use crate::{
 };
 use std::alloc::Global;
 
-/// Whether each row's runs end as it says.
-fn all_end_so(alloc: Global, rows: &[Row]) -> bool {
-    for row in rows {
-        if !ends_so(alloc, row) {
-            return false;
+/// A table of runs, and what it is about.
+type Table = (&'static str, &'static [Row]);
+
+/// The first table of which some row has a run that doesn't end as it says, and that row. The name
+/// is empty where there is none.
+fn first_to_fail(alloc: Global, tables: &[Table]) -> (&'static str, usize) {
+    for (name, rows) in tables {
+        for index in 0..rows.len() {
+            if !ends_so(alloc, &rows[index]) {
+                return (*name, index);
+            }
         }
     }
-    true
-}
-
-/// What the first table of answers tells of whose runs don't all end as it says; nothing where all do.
-fn first_of_files_to_fail(alloc: Global) -> &'static str {
-    if !all_end_so(alloc, &answers::ROWS) {
-        return "answers of Breakpad files";
-    }
-    if !all_end_so(alloc, &gsym::ROWS) {
-        return "answers of GSYM files";
-    }
-    if !all_end_so(alloc, &elf::ROWS) {
-        return "answers of ELF files";
-    }
-    if !all_end_so(alloc, &endings::ROWS) {
-        return "endings";
-    }
-    ""
+    ("", 0)
 }
 
 #[test]
 fn runs_over_files_answer_or_end_by_their_cause(rt: HostRuntime) {
-    let failed = first_of_files_to_fail(rt.alloc());
-    assert!(rt; failed.is_empty(), "{failed}");
-}
-
-/// The same of jobs.
-fn first_of_jobs_to_fail(alloc: Global) -> &'static str {
-    if !all_end_so(alloc, &processes::ROWS) {
-        return "answers of processes";
-    }
-    if !all_end_so(alloc, &frames::ROWS) {
-        return "frames";
-    }
-    if !all_end_so(alloc, &frames::FAULTS) {
-        return "faults under frames";
-    }
-    if !all_end_so(alloc, &stacks::FOLDED) {
-        return "folded stacks";
-    }
-    if !all_end_so(alloc, &stacks::ROWS) {
-        return "words of stacks";
-    }
-    if !all_end_so(alloc, &stacks::ENDINGS) {
-        return "endings of stacks";
-    }
-    ""
+    let tables: [Table; 4] = [
+        ("answers of Breakpad files", answers::ROWS.as_slice()),
+        ("answers of GSYM files", gsym::ROWS.as_slice()),
+        ("answers of ELF files", elf::ROWS.as_slice()),
+        ("endings", endings::ROWS.as_slice()),
+    ];
+    let (failed, row) = first_to_fail(rt.alloc(), &tables);
+    assert!(rt; failed.is_empty(), "{failed}, row {row}");
 }
 
 #[test]
 fn processes_frames_and_stacks_answer_or_end_by_their_cause(rt: HostRuntime) {
-    let failed = first_of_jobs_to_fail(rt.alloc());
-    assert!(rt; failed.is_empty(), "{failed}");
-}
-
-/// The same of requests.
-fn first_of_requests_to_fail(alloc: Global) -> &'static str {
-    if !all_end_so(alloc, &serve::ROWS) {
-        return "requests";
-    }
-    if !all_end_so(alloc, &serve::PROCESSES) {
-        return "requests of processes";
-    }
-    if !all_end_so(alloc, &serve::FAULTS) {
-        return "faults under requests";
-    }
-    ""
+    let tables: [Table; 6] = [
+        ("answers of processes", processes::ROWS.as_slice()),
+        ("frames", frames::ROWS.as_slice()),
+        ("faults under frames", frames::FAULTS.as_slice()),
+        ("folded stacks", stacks::FOLDED.as_slice()),
+        ("words of stacks", stacks::ROWS.as_slice()),
+        ("endings of stacks", stacks::ENDINGS.as_slice()),
+    ];
+    let (failed, row) = first_to_fail(rt.alloc(), &tables);
+    assert!(rt; failed.is_empty(), "{failed}, row {row}");
 }
 
 #[test]
 fn requests_are_served_or_end_by_their_cause(rt: HostRuntime) {
-    let failed = first_of_requests_to_fail(rt.alloc());
-    assert!(rt; failed.is_empty(), "{failed}");
-}
-
-/// The same of words.
-fn first_of_words_to_fail(alloc: Global) -> &'static str {
-    if !all_end_so(alloc, &canon::ROWS) {
-        return "canonical texts";
-    }
-    if !all_end_so(alloc, &convert::ROWS) {
-        return "converted files";
-    }
-    if !all_end_so(alloc, &words::ROWS) {
-        return "flags";
-    }
-    ""
+    let tables: [Table; 3] = [
+        ("requests", serve::ROWS.as_slice()),
+        ("requests of processes", serve::PROCESSES.as_slice()),
+        ("faults under requests", serve::FAULTS.as_slice()),
+    ];
+    let (failed, row) = first_to_fail(rt.alloc(), &tables);
+    assert!(rt; failed.is_empty(), "{failed}, row {row}");
 }
 
 #[test]
 fn words_make_products_and_choose_flags_or_end_by_their_cause(rt: HostRuntime) {
-    let failed = first_of_words_to_fail(rt.alloc());
-    assert!(rt; failed.is_empty(), "{failed}");
-}
-
-/// The same of inputs.
-fn first_of_inputs_to_fail(alloc: Global) -> &'static str {
-    if !all_end_so(alloc, &inputs::BAD_LINES) {
-        return "bad lines";
-    }
-    if !all_end_so(alloc, &inputs::LONGEST) {
-        return "the longest inputs";
-    }
-    if !all_end_so(alloc, &serve::LONGEST) {
-        return "the longest requests";
-    }
-    if !all_end_so(alloc, &stacks::LONGEST) {
-        return "the longest stacks";
-    }
-    ""
+    let tables: [Table; 3] = [
+        ("canonical texts", canon::ROWS.as_slice()),
+        ("converted files", convert::ROWS.as_slice()),
+        ("flags", words::ROWS.as_slice()),
+    ];
+    let (failed, row) = first_to_fail(rt.alloc(), &tables);
+    assert!(rt; failed.is_empty(), "{failed}, row {row}");
 }
 
 #[test]
 fn inputs_are_read_to_a_bad_line_or_their_bound(rt: HostRuntime) {
-    let failed = first_of_inputs_to_fail(rt.alloc());
-    assert!(rt; failed.is_empty(), "{failed}");
+    let tables: [Table; 4] = [
+        ("bad lines", inputs::BAD_LINES.as_slice()),
+        ("the longest inputs", inputs::LONGEST.as_slice()),
+        ("the longest requests", serve::LONGEST.as_slice()),
+        ("the longest stacks", stacks::LONGEST.as_slice()),
+    ];
+    let (failed, row) = first_to_fail(rt.alloc(), &tables);
+    assert!(rt; failed.is_empty(), "{failed}, row {row}");
 }

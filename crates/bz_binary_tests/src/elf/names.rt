@@ -3,7 +3,7 @@
 use crate::elf::files::tells;
 use crate::elf::made::with_symbols;
 use bz_base::Error;
-use bz_elf::{ElfFile, laws};
+use bz_elf::ElfFile;
 use std::alloc::{AllocError, Global};
 
 /// Strings that are UTF-8.
@@ -95,7 +95,6 @@ fn has_names(alloc: Global, (strings, places, names): &Row) -> bool {
 
 #[test]
 fn names_are_utf_8_that_a_zero_byte_ends(rt: HostRuntime) {
-    laws::names_are_exact();
     for index in 0..NAMES.len() {
         assert!(rt; has_names(rt.alloc(), &NAMES[index]), "row {index}");
     }

@@ -1,18 +1,13 @@
 //! Resolvers, and files in a cache.
 
 use crate::elf::files::{F, UNKNOWN, tells};
+use crate::files::put;
 use bz_base::{Error, ErrorKind, TranslateFileOffset};
 use bz_cache::FileCache;
 use bz_elf::{ElfFile, ElfResolver};
 use bz_files::MemFiles;
 use bz_samples::ELF_FUNCTION;
 use std::alloc::Global;
-
-/// Puts a copy of the bytes at the path.
-fn put(alloc: Global, files: &mut MemFiles, path: &str, bytes: &[u8]) -> Result<(), Error> {
-    files.put(alloc, path, Vec::from_slice(alloc, bytes)?)?;
-    Ok(())
-}
 
 /// The example file, its front, and the front of one of 32 bits.
 static FILES: [(&str, &[u8]); 3] = [

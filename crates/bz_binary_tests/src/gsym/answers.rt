@@ -2,7 +2,7 @@
 
 use bz_base::FindSymOpts::{Basic, CodeInfo, CodeInfoAndInlined};
 use bz_base::{Error, FindSymOpts, InlinedFn, Reason, ResolvedSym, Symbolize};
-use bz_gsym::{GsymContext, GsymResolver, GsymTable, laws};
+use bz_gsym::{GsymContext, GsymResolver, GsymTable};
 use bz_samples::{GSYM_CALLS, GSYM_LINES, damaged};
 use std::alloc::Global;
 
@@ -362,9 +362,6 @@ pub(crate) fn answers(alloc: Global, file: &[u8], row: &Row) -> bool {
 
 #[test]
 fn files_answer_for_addresses_or_are_refused(rt: HostRuntime) {
-    laws::the_symbol_that_is_found_answers();
-    laws::answers_start_before();
-    laws::calls_are_rotated();
     for index in 0..LINES.len() {
         assert!(rt;
             answers(rt.alloc(), &GSYM_LINES, &LINES[index]),

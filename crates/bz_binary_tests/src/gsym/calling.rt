@@ -25,8 +25,7 @@ fn name_at(alloc: Global, bytes: &[u8], addr: Addr) -> Result<Option<String>>
 fn is_named(alloc: Global) -> bool {
     match name_at(alloc, &GSYM_LINES, 0x100c) {
         Ok(Some(name)) => name.as_str() == "main",
-        Ok(None) => false,
-        Err(_) => false,
+        Ok(None) | Err(_) => false,
     }
 }
 

@@ -1,7 +1,7 @@
 //! Which heads are taken.
 
 use bz_base::Error;
-use bz_gsym::{GsymContext, laws};
+use bz_gsym::GsymContext;
 use bz_samples::{GSYM_LINES, damaged};
 use std::alloc::Global;
 
@@ -74,7 +74,6 @@ fn is_taken(alloc: Global, file: &[u8], (place, new, expected): &Row) -> bool {
 
 #[test]
 fn heads_are_taken_or_refused_by_fields_and_length(rt: HostRuntime) {
-    laws::files_are_exact();
     for index in 0..HEADS.len() {
         assert!(rt;
             is_taken(rt.alloc(), &GSYM_LINES, &HEADS[index]),

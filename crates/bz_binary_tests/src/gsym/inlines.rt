@@ -1,7 +1,7 @@
 //! Inline trees, and the frames that they give.
 
 use bz_base::Error;
-use bz_gsym::{InlineFrame, InlineInfo, laws};
+use bz_gsym::{InlineFrame, InlineInfo};
 use std::alloc::{AllocError, Global};
 
 /// The function itself, which nothing calls, and two calls in it.
@@ -147,8 +147,6 @@ fn walks_deep(alloc: Global) -> Result<bool, AllocError> {
 
 #[test]
 fn trees_give_the_frames_around_an_address_or_are_refused(rt: HostRuntime) {
-    laws::trees_are_exact();
-    laws::frames_are_the_trees();
     for index in 0..TREES.len() {
         let (bytes, addr, taken, frames) = TREES[index];
         assert!(rt;

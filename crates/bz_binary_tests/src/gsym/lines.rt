@@ -3,7 +3,7 @@
 use crate::gsym::answers::{self, NOWHERE, REFUSED, UNKNOWN, answers};
 use bz_base::Cursor;
 use bz_base::FindSymOpts::CodeInfo;
-use bz_gsym::{LineTableHeader, LineTableRow, RunResult, laws, run_op};
+use bz_gsym::{LineTableHeader, LineTableRow, RunResult, run_op};
 use std::alloc::{AllocError, Global};
 
 /// Address, file and line of a state.
@@ -143,8 +143,7 @@ fn answering(table: &[u8], addr: u64) -> State {
                 }
                 last = (row.addr, row.file_idx, row.file_line);
             }
-            Some(RunResult::End) => break,
-            None => break,
+            Some(RunResult::End) | None => break,
         }
     }
     if last == NO_ROW {
@@ -199,8 +198,6 @@ fn answers_by_state(alloc: Global, (table, addr, state): &Row) -> Result<bool, A
 
 #[test]
 fn lines_answer_for_addresses_or_none_does(rt: HostRuntime) {
-    laws::line_states_go_on();
-    laws::lines_are_known_early();
     for index in 0..TABLES.len() {
         let row = &TABLES[index];
         assert!(rt; answering(row.0, row.1) == row.2, "state of row {index}");
@@ -212,35 +209,35 @@ fn lines_answer_for_addresses_or_none_does(rt: HostRuntime) {
 }
 
 /// The least and the greatest line delta, the operators' bytes, and what the first one came to: nothing
-/// where none ran. Then the line, the address, and how many bytes are left.
-type Operator = (i64, i64, &'static [u8], &'static str, u32, u64, usize);
+/// where none ran. Then the state, and how many bytes are left.
+type Operator = (i64, i64, &'static [u8], &'static str, State, usize);
 
-static OPERATORS: [Operator; 13] = [
-    (i64::MIN, i64::MAX, b"\x04", "row", 5, 0x1000, 0),
-    (i64::MIN, i64::MAX, b"\xff", "row", 256, 0x1000, 0),
-    (1, 0, b"\x04", "", 5, 0x1000, 0),
-    (2, 0, b"\x04\x01", "", 5, 0x1000, 1),
+static OPERATORS: [Operator; 14] = [
+    (i64::MIN, i64::MAX, b"\x04", "row", (0x1000, 1, 5), 0),
+    (i64::MIN, i64::MAX, b"\xff", "row", (0x1000, 1, 256), 0),
+    (1, 0, b"\x04", "", (0x1000, 1, 5), 0),
+    (2, 0, b"\x04\x01", "", (0x1000, 1, 5), 1),
+    (i64::MAX, i64::MIN, b"\x04", "", (0x1000, 1, 5), 0),
     (
         -4,
         10,
         b"\x02\xff\xff\xff\xff\xff\xff\xff\xff\xff\x01",
         "row",
-        5,
-        0xfff,
+        (0xfff, 1, 5),
         0,
     ),
-    (-4, 10, b"\x03\x7a", "state", 4294967295, 0x1000, 0),
-    (-4, 10, b"\x01\x02\x00", "state", 5, 0x1000, 1),
-    (-4, 10, b"\x82\x00", "row", 7, 0x1008, 1),
-    (-4, 10, b"", "", 5, 0x1000, 0),
-    (-4, 10, b"\x01", "", 5, 0x1000, 0),
-    (-4, 10, b"\x02\x80\x80", "", 5, 0x1000, 2),
-    (-4, 10, b"\x03\x80", "", 5, 0x1000, 1),
-    (-4, 10, b"\x00", "end", 5, 0x1000, 0),
+    (-4, 10, b"\x03\x7a", "state", (0x1000, 1, 4294967295), 0),
+    (-4, 10, b"\x01\x02\x00", "state", (0x1000, 2, 5), 1),
+    (-4, 10, b"\x82\x00", "row", (0x1008, 1, 7), 1),
+    (-4, 10, b"", "", (0x1000, 1, 5), 0),
+    (-4, 10, b"\x01", "", (0x1000, 1, 5), 0),
+    (-4, 10, b"\x02\x80\x80", "", (0x1000, 1, 5), 2),
+    (-4, 10, b"\x03\x80", "", (0x1000, 1, 5), 1),
+    (-4, 10, b"\x00", "end", (0x1000, 1, 5), 0),
 ];
 
 /// Whether the operator at the front runs as its row says.
-fn runs((min_delta, max_delta, bytes, came, line, addr, left): &Operator) -> bool {
+fn runs((min_delta, max_delta, bytes, came, state, left): &Operator) -> bool {
     let header = LineTableHeader {
         min_delta: *min_delta,
         max_delta: *max_delta,
@@ -254,7 +251,7 @@ fn runs((min_delta, max_delta, bytes, came, line, addr, left): &Operator) -> boo
         Some(RunResult::End) => "end",
         None => "",
     };
-    given == *came && row.file_line == *line && row.addr == *addr && ops.rest().len() == *left
+    given == *came && (row.addr, row.file_idx, row.file_line) == *state && ops.rest().len() == *left
 }
 
 /// Whether the head of the example's table has its deltas and its line.

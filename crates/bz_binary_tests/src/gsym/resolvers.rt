@@ -1,5 +1,6 @@
 //! Resolvers, and files in a cache.
 
+use crate::files::put;
 use crate::gsym::answers::{AT_MAIN, tells};
 use bz_base::{Error, ErrorKind};
 use bz_cache::FileCache;
@@ -7,12 +8,6 @@ use bz_files::MemFiles;
 use bz_gsym::{GsymResolver, GsymTable};
 use bz_samples::GSYM_LINES;
 use std::alloc::Global;
-
-/// Puts a copy of the bytes at the path.
-fn put(alloc: Global, files: &mut MemFiles, path: &str, bytes: &[u8]) -> Result<(), Error> {
-    files.put(alloc, path, Vec::from_slice(alloc, bytes)?)?;
-    Ok(())
-}
 
 /// Puts the example file, its front and a path that is denied. The fifth look at files fails.
 fn fill(alloc: Global, files: &mut MemFiles) -> Result<(), Error> {

@@ -97,6 +97,17 @@ const WRITTEN: [u8; 216] = [
     0x00, 0x00,
 ];
 
+/// A file of one start of one byte, behind a base address that is the last one. Its symbol has no
+/// data.
+const LAST_BASE: [u8; 60] = [
+    // The head: magic, version, address size 1, the base address, one address, no strings.
+    0x4d, 0x59, 0x53, 0x47, 0x01, 0x00, 0x01, 0x00, 0xff, 0xff, 0xff, 0xff, 0xff, 0xff, 0xff, 0xff,
+    0x01, 0x00, 0x00, 0x00, 0x00, 0x00, 0x00, 0x00, 0x00, 0x00, 0x00, 0x00, 0x00, 0x00, 0x00, 0x00,
+    0x00, 0x00, 0x00, 0x00, 0x00, 0x00, 0x00, 0x00, 0x00, 0x00, 0x00, 0x00, 0x00, 0x00, 0x00, 0x00,
+    // The start 1 and filling; the data place 0; no files.
+    0x01, 0x00, 0x00, 0x00, 0x00, 0x00, 0x00, 0x00, 0x00, 0x00, 0x00, 0x00,
+];
+
 /// A file, a place in it, and the bytes that stand from there on. Then an address, and the index and the
 /// start that are found for it.
 type Row = (
@@ -108,8 +119,9 @@ type Row = (
     Option<u64>,
 );
 
-/// Searches in a file that LLVM's tools wrote, and in one whose addresses are unknown.
-static FOUND: [Row; 5] = [
+/// Searches in a file that LLVM's tools wrote, in one whose addresses are unknown, and in one whose
+/// start is within 64 bits or past them.
+static FOUND: [Row; 11] = [
     // The last start is below the address.
     (&WRITTEN, 0, b"", 0x10635, Some(26), Some(0xff80)),
     // Addresses of 3 bytes are unknown.
@@ -117,16 +129,26 @@ static FOUND: [Row; 5] = [
     (&GSYM_LINES, 6, b"\x03", 0x1000, None, None),
     (&GSYM_LINES, 6, b"\x03", 0x1040, None, None),
     (&GSYM_LINES, 6, b"\x03", 18446744073709551615, None, None),
+    // The start stands for no address, or for the last one.
+    (&LAST_BASE, 48, b"\x01", u64::MAX, None, None),
+    (&LAST_BASE, 48, b"\x01", u64::MAX - 1, None, None),
+    (&LAST_BASE, 48, b"\xff", u64::MAX, None, None),
+    (&LAST_BASE, 48, b"\xff", u64::MAX - 1, None, None),
+    (&LAST_BASE, 48, b"\0", u64::MAX, Some(0), Some(u64::MAX)),
+    (&LAST_BASE, 48, b"\0", u64::MAX - 1, None, Some(u64::MAX)),
 ];
 
 /// Whether the file finds what the row says: the start of the index, or that of the first one.
+/// No start is behind its last one.
 fn finds(alloc: Global, (file, place, new, addr, index, start): &Row) -> bool {
     let Ok(bytes) = damaged(alloc, file, *place, new) else {
         return false;
     };
     match GsymContext::parse_header(bytes.as_slice()) {
         Ok(context) => {
-            context.find_addr(*addr) == *index && context.addr_at(index.unwrap_or(0)) == *start
+            context.find_addr(*addr) == *index
+                && context.addr_at(index.unwrap_or(0)) == *start
+                && context.addr_at(context.header().num_addrs as usize) == None
         }
         Err(_) => false,
     }

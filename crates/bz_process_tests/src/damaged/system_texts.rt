@@ -80,45 +80,30 @@ fn tells_id(len: usize, expected: &Result<Option<u32>, Error>) -> bool {
     }
 }
 
-/// Whether cut mappings are told so.
-fn mappings_are_told(alloc: Global) -> bool {
-    for row in &MAPPINGS {
-        for len in row.0..=row.1 {
-            if !tells_mappings(alloc, len, row.2) {
-                return false;
-            }
-        }
-    }
-    true
-}
-
-/// Whether cut perf maps are taken or refused so.
-fn perf_maps_are_taken(alloc: Global) -> bool {
-    for row in &PERF_MAPS {
-        for len in row.0..=row.1 {
-            if !is_taken_as(alloc, len, row.2) {
-                return false;
-            }
-        }
-    }
-    true
-}
-
-/// Whether cut statuses tell these ids.
-fn ids_are_told() -> bool {
-    for row in &IDS {
-        for len in row.0..=row.1 {
-            if !tells_id(len, &row.2) {
-                return false;
-            }
-        }
-    }
-    true
-}
-
 #[test]
 fn cut_texts_are_told_or_refused(rt: HostRuntime) {
-    assert!(rt; mappings_are_told(rt.alloc()), "mappings");
-    assert!(rt; perf_maps_are_taken(rt.alloc()), "perf maps");
-    assert!(rt; ids_are_told(), "ids");
+    for index in 0..MAPPINGS.len() {
+        let (from, to, count) = MAPPINGS[index];
+        for len in from..=to {
+            assert!(rt;
+                tells_mappings(rt.alloc(), len, count),
+                "{len} bytes of mappings"
+            );
+        }
+    }
+    for index in 0..PERF_MAPS.len() {
+        let (from, to, is_taken) = PERF_MAPS[index];
+        for len in from..=to {
+            assert!(rt;
+                is_taken_as(rt.alloc(), len, is_taken),
+                "{len} bytes of a perf map"
+            );
+        }
+    }
+    for index in 0..IDS.len() {
+        let (from, to, id) = IDS[index];
+        for len in from..=to {
+            assert!(rt; tells_id(len, &id), "{len} bytes of a status");
+        }
+    }
 }

@@ -1,74 +1,61 @@
-//! Calls in which a look at a file fails, and files that change, are gone or are damaged.
+//! Calls in which a look at a file fails, and files that change or are gone.
 
 use crate::failing::asking::{CALLS, Call};
-use crate::failing::sources::{Asked, BREAKPAD, ELF, File, GSYM, Kind, MAPPED, Question};
+use crate::failing::sources::{Asked, BREAKPAD, ELF, GSYM, MAPPED, Question};
 use crate::failing::steps::{NO_CAUSE, Step, hold};
-use bz_base::Input::{AbsAddr, FileOffset};
-use bz_base::{Error, Reason};
-use bz_samples::ELF_FUNCTION;
+use bz_base::Error;
+use bz_base::Input::FileOffset;
 
 /// The sources that name one file.
 static FILES: [&Asked; 3] = [BREAKPAD, GSYM, ELF];
 
-/// How a call fails by a look, as the only one, and the next one answers. A file is looked at for its stamp
-/// and for its bytes.
-static FAULTS: [&[Step]; 5] = [
+/// Looks, and how a call fails by each of them, as the only one, and the next one answers. A file
+/// is looked at for its stamp and for its bytes.
+static FAULTS: [(&[u64], &[Step]); 3] = [
     // The first call on a file, by either look.
-    &[
-        Step::PutGood,
-        Step::Fail(1),
-        Step::Answer(Err(Error::ReadFault)),
-        Step::Failed(1),
-        Step::Read(0),
-        Step::Answer(Ok(true)),
-        Step::Read(1),
-    ],
-    &[
-        Step::PutGood,
-        Step::Fail(2),
-        Step::Answer(Err(Error::ReadFault)),
-        Step::Failed(1),
-        Step::Read(0),
-        Step::Answer(Ok(true)),
-        Step::Read(1),
-    ],
+    (
+        &[1, 2],
+        &[
+            Step::PutGood,
+            Step::Fail(0),
+            Step::Answer(Err(Error::ReadFault)),
+            Step::Failed(1),
+            Step::Read(0),
+            Step::Answer(Ok(true)),
+            Step::Read(1),
+        ],
+    ),
     // A call on a file that is kept, by its only look.
-    &[
-        Step::PutGood,
-        Step::Fail(3),
-        Step::Answer(Ok(true)),
-        Step::Read(1),
-        Step::Answer(Err(Error::ReadFault)),
-        Step::Failed(1),
-        Step::Read(1),
-        Step::Answer(Ok(true)),
-        Step::Read(1),
-    ],
+    (
+        &[3],
+        &[
+            Step::PutGood,
+            Step::Fail(0),
+            Step::Answer(Ok(true)),
+            Step::Read(1),
+            Step::Answer(Err(Error::ReadFault)),
+            Step::Failed(1),
+            Step::Read(1),
+            Step::Answer(Ok(true)),
+            Step::Read(1),
+        ],
+    ),
     // A call on a file that has changed, by either look.
-    &[
-        Step::PutGood,
-        Step::Fail(3),
-        Step::Answer(Ok(true)),
-        Step::Read(1),
-        Step::PutGood,
-        Step::Answer(Err(Error::ReadFault)),
-        Step::Failed(1),
-        Step::Read(1),
-        Step::Answer(Ok(true)),
-        Step::Read(2),
-    ],
-    &[
-        Step::PutGood,
-        Step::Fail(4),
-        Step::Answer(Ok(true)),
-        Step::Read(1),
-        Step::PutGood,
-        Step::Answer(Err(Error::ReadFault)),
-        Step::Failed(1),
-        Step::Read(1),
-        Step::Answer(Ok(true)),
-        Step::Read(2),
-    ],
+    (
+        &[3, 4],
+        &[
+            Step::PutGood,
+            Step::Fail(0),
+            Step::Answer(Ok(true)),
+            Step::Read(1),
+            Step::PutGood,
+            Step::Answer(Err(Error::ReadFault)),
+            Step::Failed(1),
+            Step::Read(1),
+            Step::Answer(Ok(true)),
+            Step::Read(2),
+        ],
+    ),
 ];
 
 #[test]
@@ -76,14 +63,17 @@ fn a_call_on_a_file_fails_by_each_look(rt: HostRuntime) {
     for file in 0..FILES.len() {
         for call in 0..CALLS.len() {
             for row in 0..FAULTS.len() {
-                assert!(rt;
-                    hold(
-                        rt.alloc(),
-                        (FILES[file], &CALLS[call], 0, NO_CAUSE),
-                        FAULTS[row]
-                    ),
-                    "file {file}, call {call}, row {row}"
-                );
+                let (looks, steps) = FAULTS[row];
+                for look in looks {
+                    assert!(rt;
+                        hold(
+                            rt.alloc(),
+                            (FILES[file], &CALLS[call], *look, NO_CAUSE),
+                            steps
+                        ),
+                        "file {file}, call {call}, row {row}, look {look}"
+                    );
+                }
             }
         }
     }
@@ -117,28 +107,8 @@ fn a_batch_of_a_process_fails_by_any_look(rt: HostRuntime) {
 /// What the changed file is asked.
 const TWO: &Question = &(FileOffset(()), &[0x1010], &[("two", None, false)]);
 
-/// A function `x` whose line record ends past 64 bits.
-const FAR_LINE: &[File] = &[("/s.sym", b"FUNC 1 2 3 x\nffffffffffffffff 2 0 0\n", 0, b"")];
-
-/// An ELF file whose segment is loaded at the last address.
-const LAST_SEGMENT: &[File] = &[("/e", &ELF_FUNCTION, 80, b"\xff\xff\xff\xff\xff\xff\xff\xff")];
-
-/// An ELF file that a process has mapped from its last offset on.
-const LAST_OFFSET: &[File] = &[
-    (
-        "/proc/7/maps",
-        b"1000-2000 r-xp ffffffffffffffff 00:00 1 /e\n",
-        0,
-        b"",
-    ),
-    ("/proc/7/map_files/1000-2000", &ELF_FUNCTION, 0, b""),
-];
-
-/// The good files answer so, to a batch and to an address alone.
-const ANSWERED: &[Step] = &[Step::PutGood, Step::Answer(Ok(true)), Step::AnswerAlone];
-
 /// A source, and what becomes of it.
-static ROWS: [(&Asked, &[Step]); 8] = [
+static ROWS: [(&Asked, &[Step]); 2] = [
     // Each of two versions is read once, whatever becomes of the path.
     (
         BREAKPAD,
@@ -146,7 +116,7 @@ static ROWS: [(&Asked, &[Step]); 8] = [
             Step::PutGood,
             Step::Answer(Ok(true)),
             Step::Read(1),
-            Step::Put(&[("/s.sym", b"FUNC 1000 20 0 two\n", 0, b"")]),
+            Step::Put(&[("/s.sym", b"FUNC 1000 20 0 two\n")]),
             Step::Link("/t.sym", "/s.sym"),
             Step::AnswerTo(TWO, Ok(true)),
             Step::Read(2),
@@ -165,92 +135,11 @@ static ROWS: [(&Asked, &[Step]); 8] = [
         MAPPED,
         &[
             Step::PutGood,
-            Step::Put(&[("/proc/7/maps", b"", 0, b"")]),
+            Step::Put(&[("/proc/7/maps", b"")]),
             Step::Answer(Err(Error::UnexpectedEof)),
             Step::PutGood,
             Step::Answer(Ok(true)),
         ],
-    ),
-    // A file whose numbers are at the ends of their ranges answers by what it says.
-    (
-        &Asked {
-            kind: Kind::Breakpad,
-            path: "/s.sym",
-            files: FAR_LINE,
-            question: (FileOffset(()), &[1], &[("x", None, false)]),
-            reads: 1,
-        },
-        ANSWERED,
-    ),
-    (
-        &Asked {
-            kind: Kind::Breakpad,
-            path: "/s.sym",
-            files: FAR_LINE,
-            question: (
-                FileOffset(()),
-                &[u64::MAX],
-                &[("", Some(Reason::UnknownAddr), false)],
-            ),
-            reads: 1,
-        },
-        ANSWERED,
-    ),
-    (
-        &Asked {
-            kind: Kind::Elf,
-            path: "/e",
-            files: LAST_SEGMENT,
-            question: (
-                FileOffset(()),
-                &[0x88],
-                &[("", Some(Reason::InvalidFileOffset), false)],
-            ),
-            reads: 1,
-        },
-        ANSWERED,
-    ),
-    (
-        &Asked {
-            kind: Kind::Elf,
-            path: "/e",
-            files: LAST_SEGMENT,
-            question: (
-                FileOffset(()),
-                &[0],
-                &[("", Some(Reason::UnknownAddr), false)],
-            ),
-            reads: 1,
-        },
-        ANSWERED,
-    ),
-    (
-        &Asked {
-            kind: Kind::Process,
-            path: "/proc/7/maps",
-            files: LAST_OFFSET,
-            question: (
-                AbsAddr(()),
-                &[0x1001],
-                &[("", Some(Reason::InvalidFileOffset), false)],
-            ),
-            reads: 2,
-        },
-        ANSWERED,
-    ),
-    (
-        &Asked {
-            kind: Kind::Process,
-            path: "/proc/7/maps",
-            files: LAST_OFFSET,
-            question: (
-                AbsAddr(()),
-                &[0x1000],
-                &[("", Some(Reason::InvalidFileOffset), false)],
-            ),
-            reads: 2,
-        },
-        ANSWERED,
     ),
 ];
 

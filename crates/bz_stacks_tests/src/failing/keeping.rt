@@ -76,7 +76,8 @@ const REGISTRATIONS: &[(u64, Cause)] = &[
 
 /// What is refused, and what holds of it.
 static ROWS: [(&[(u64, Cause)], &[Step]); 3] = [
-    // A refused request leaves the path unpinned: once the file is asked and gone it is absent.
+    // A refused request leaves a path unpinned that wasn't asked before: once the file is asked and
+    // gone it is absent.
     (
         REFUSALS,
         &[

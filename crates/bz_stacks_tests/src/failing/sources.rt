@@ -1,9 +1,10 @@
 //! The sources that are asked, what their files are, and what they answer.
 
+use crate::files::put;
 use bz_base::Input::{AbsAddr, FileOffset, VirtOffset};
 use bz_base::{Input, Reason, Result};
 use bz_files::MemFiles;
-use bz_samples::{ELF_FUNCTION, GSYM_LINES, PERF_FUNCTION, THREE_MAPPINGS, damaged};
+use bz_samples::{ELF_FUNCTION, GSYM_LINES, PERF_FUNCTION, THREE_MAPPINGS};
 use bz_symbolize::Pid;
 use bz_symbolize::source::{Breakpad, Elf, GsymFile, Process, Source};
 use std::alloc::Global;
@@ -17,8 +18,8 @@ pub(crate) enum Kind {
     Process,
 }
 
-/// A path, and the bytes of the file that is put there, where others replace them from a place on.
-pub(crate) type File = (&'static str, &'static [u8], usize, &'static [u8]);
+/// A path, and the bytes of the file that is put there.
+pub(crate) type File = (&'static str, &'static [u8]);
 
 /// What an address is told: the name of its symbol, or why it has none; and whether it has a site.
 pub(crate) type Told = (&'static str, Option<Reason>, bool);
@@ -43,7 +44,7 @@ pub(crate) struct Asked {
 pub(crate) const BREAKPAD: &Asked = &Asked {
     kind: Kind::Breakpad,
     path: "/s.sym",
-    files: &[("/s.sym", b"FUNC 1000 20 0 one\n", 0, b"")],
+    files: &[("/s.sym", b"FUNC 1000 20 0 one\n")],
     question: (FileOffset(()), &[0x1010], &[("one", None, false)]),
     reads: 1,
 };
@@ -52,7 +53,7 @@ pub(crate) const BREAKPAD: &Asked = &Asked {
 pub(crate) const GSYM: &Asked = &Asked {
     kind: Kind::Gsym,
     path: "/m.gsym",
-    files: &[("/m.gsym", &GSYM_LINES, 0, b"")],
+    files: &[("/m.gsym", &GSYM_LINES)],
     question: (VirtOffset(()), &[0x1004], &[("main", None, true)]),
     reads: 1,
 };
@@ -61,7 +62,7 @@ pub(crate) const GSYM: &Asked = &Asked {
 pub(crate) const ELF: &Asked = &Asked {
     kind: Kind::Elf,
     path: "/e",
-    files: &[("/e", &ELF_FUNCTION, 0, b"")],
+    files: &[("/e", &ELF_FUNCTION)],
     question: (VirtOffset(()), &[0x400088], &[("f", None, false)]),
     reads: 1,
 };
@@ -71,9 +72,9 @@ pub(crate) const PROCESS: &Asked = &Asked {
     kind: Kind::Process,
     path: "/proc/7/maps",
     files: &[
-        ("/proc/7/maps", b"3000-4000 rw-p 00000000 00:00 0\n", 0, b""),
-        ("/proc/7/status", b"Name:\tx\n", 0, b""),
-        ("/proc/7/root/tmp/perf-7.map", PERF_FUNCTION, 0, b""),
+        ("/proc/7/maps", b"3000-4000 rw-p 00000000 00:00 0\n"),
+        ("/proc/7/status", b"Name:\tx\n"),
+        ("/proc/7/root/tmp/perf-7.map", PERF_FUNCTION),
     ],
     question: (AbsAddr(()), &[0x3008], &[("jit", None, false)]),
     reads: 3,
@@ -89,10 +90,10 @@ pub(crate) const MAPPED: &Asked = &Asked {
     kind: Kind::Process,
     path: "/proc/7/maps",
     files: &[
-        ("/proc/7/maps", THREE_MAPPINGS, 0, b""),
-        ("/proc/7/map_files/1000-2000", b"\x7fELF", 0, b""),
-        ("/proc/7/status", b"Name:\tx\n", 0, b""),
-        ("/proc/7/root/tmp/perf-7.map", PERF_FUNCTION, 0, b""),
+        ("/proc/7/maps", THREE_MAPPINGS),
+        ("/proc/7/map_files/1000-2000", b"\x7fELF"),
+        ("/proc/7/status", b"Name:\tx\n"),
+        ("/proc/7/root/tmp/perf-7.map", PERF_FUNCTION),
     ],
     question: (
         AbsAddr(()),
@@ -121,11 +122,8 @@ pub(crate) fn source(alloc: Global, asked: &Asked) -> Result<Source<'static>> {
 
 /// Puts the files. Says whether memory was left.
 pub(crate) fn put_all(alloc: Global, files: &mut MemFiles, all: &[File]) -> bool {
-    for (path, bytes, place, new) in all {
-        let Ok(copy) = damaged(alloc, bytes, *place, new) else {
-            return false;
-        };
-        if files.put(alloc, path, copy).is_err() {
+    for (path, bytes) in all {
+        if put(alloc, files, path, bytes).is_err() {
             return false;
         }
     }

@@ -46,8 +46,6 @@ pub(crate) enum Step {
     Answer(Result<bool>),
     /// The call answers this question, or is refused so.
     AnswerTo(&'static Question, Result<bool>),
-    /// An address alone is answered too.
-    AnswerAlone,
     /// The call answers, and reads as many files as it has to.
     AnswerAnew,
     /// The call answers where no look fails in it, and else is refused by that.
@@ -73,7 +71,7 @@ fn put_cause(alloc: Global, files: &mut MemFiles, path: &'static str, cause: &Ca
     match cause.1 {
         There::Nothing => true,
         There::Denied => files.deny(alloc, path).is_ok(),
-        There::Bytes => put_all(alloc, files, &[(path, cause.2, 0, b"")]),
+        There::Bytes => put_all(alloc, files, &[(path, cause.2)]),
     }
 }
 
@@ -177,16 +175,6 @@ fn holds_step(
         }
         Step::AnswerTo(question, expected) => {
             ask(alloc, symbolizer, files, src, call, question) == *expected
-        }
-        Step::AnswerAlone => {
-            ask(
-                alloc,
-                symbolizer,
-                files,
-                src,
-                &Call::Single,
-                &asked.question,
-            ) == Ok(true)
         }
         Step::AnswerAnew => answer_anew(alloc, symbolizer, files, src, asked, call),
         Step::AnswerOrFail => answer_or_fail(alloc, symbolizer, files, src, asked, call),
