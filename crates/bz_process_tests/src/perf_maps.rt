@@ -4,7 +4,7 @@ use crate::files::put;
 use bz_base::{Error, FindSymOpts, Pid, Reason, ResolvedSym, Symbolize};
 use bz_cache::FileCache;
 use bz_files::MemFiles;
-use bz_proc::{PerfMap, perf_laws};
+use bz_proc::PerfMap;
 use std::alloc::Global;
 
 /// A function's name, start and size, or that none is there.
@@ -222,9 +222,6 @@ fn cached_answers(alloc: Global) -> bool {
 
 #[test]
 fn perf_maps_lie_at_their_paths_and_answer_or_are_refused(rt: HostRuntime) {
-    perf_laws::perf_maps_are_cut();
-    perf_laws::perf_maps_are_exact();
-    perf_laws::perf_answers_start_before();
     for index in 0..ANSWERS.len() {
         let (bytes, addr, told) = ANSWERS[index];
         assert!(rt; answers(rt.alloc(), bytes, addr, &told), "answer {index}");

@@ -60,7 +60,7 @@ static REFUSED: [&[u8]; 21] = [
 ];
 
 #[test]
-fn a_status_tells_its_last_id_or_is_refused(rt: HostRuntime) {
+fn a_status_tells_its_last_id_or_none_or_is_refused(rt: HostRuntime) {
     for index in 0..TOLD.len() {
         let (status, id) = TOLD[index];
         assert!(rt; parse_ns_tgid(status) == Ok(id), "status {index}");
