@@ -1,4 +1,5 @@
--- Values that are equal exactly where their readings are the same, in options, lists and records of them.
+-- Values that are equal exactly where their readings are the same, in options, lists and records of
+-- them.
 use Rattle.std.proofs.Common.{◌≡◌, ◌↔◌, ℕ, true, false, ◌&&◌, Bool, IsTrue, List, [], ◌∷◌, Option, Some, None, map, option_map, nat_eq, rules, refl, sym, ap, ◌∙◌}
 use Rattle.std.specs.Cow.{cow_str_bytes}
 use Rattle.std.specs.Option.{option_eq}

@@ -25,8 +25,8 @@ pub record Call : Type 0 where
   pub name : List ℕ
   pub site : Option Site
 
--- a symbol at an address: its start as the source has it, how far the address lies past that, and whether a PUBLIC record
--- gives it
+-- a symbol at an address: its start as the source has it, how far the address lies past that, and
+-- whether a PUBLIC record gives it
 pub record Symbol : Type 0 where
   pub name : List ℕ
   pub «module» : Option (List ℕ)

@@ -35,7 +35,8 @@ abbrev pub answer_at : ℕ → Result Resolved Reason → Answer
 answer_at addr (Ok r) = Known (symbol_at addr r)
 answer_at addr (Err reason) = Unknown reason
 
--- a table that knows no languages finds this answer: its symbol, its reason, or the refusal of the address
+-- a table that knows no languages finds this answer: its symbol, its reason, or the refusal of the
+-- address
 abbrev pub Finds : ℕ → Result Answer Error → Result (Result Resolved Reason) Error → Type 0
 Finds addr expected (Ok (Ok r)) = (expected ≡ Ok (Known (symbol_at addr r))) × (r.lang ≡ languages.Unknown)
 Finds addr expected (Ok (Err reason)) = expected ≡ Ok (Unknown reason)

@@ -16,7 +16,8 @@ same_bits g h agree zero (b ∷ text) bytes = refl
 same_bits g h agree (suc n) (b ∷ text) bytes =
     ap₂ (λ bit bits. bit ∷ bits) (agree_below_at g h 256 b agree (bytes 0)) (same_bits g h agree n text (λ k. bytes (suc k)))
 
--- the top bits of lanes that are computed from the bytes are those of a test that agrees with them on each byte
+-- the top bits of lanes that are computed from the bytes are those of a test that agrees with them on
+-- each byte
 pub bits_are : (n : ℕ) (test : ℕ → Bool) (text lanes : List ℕ) → n ≤ 64 → n ≤ length text → ((k : ℕ) → Fits w8 (get_or text k 0)) →
     (lane : ℕ → ℕ) → lanes ≡ map lane (take n text) → agree_below (λ b. top 7 (lane b)) test 256 ≡ true →
     mask_l (map (top 7) lanes) % 2 ^ 64 ≡ mask_l (map test (take n text))

@@ -61,7 +61,7 @@ module _ (base : ℕ) where
           front = take n text;
           split = sym (take-append-drop n text) ∙ ap (λ r. take n text ++ r) after;
           number = record {
-            some = rw len (ltb-true 0 n tests.0);
+            positive = rw len (ltb-true 0 n tests.0);
             few = rw len (leb-true n most tests.1);
             digits = front_digits text;
             valued = sym (ap (λ r. r.0) parts.1);
@@ -77,7 +77,7 @@ module _ (base : ℕ) where
     number_again digits rest value is ends =
         rw (
           digits_len-front digits rest is.digits ends,
-          lt-ltb 0 (length digits) is.some,
+          lt-ltb 0 (length digits) is.positive,
           le-leb (length digits) most is.few,
           take-append_seam digits rest,
           drop-append_seam digits rest,

@@ -27,7 +27,7 @@ pieces_plain (b ∷ text) = by_test (nat_eq b slash) refl (pieces_plain text) wh
 
 -- a text is its pieces
 are_pieces : (text : List ℕ) → ArePieces text (pieces text)
-are_pieces text = record { some = pieces_some text; whole = sym (join_with_byte-slice_split slash text); no_slash = pieces_plain text }
+are_pieces text = record { positive = pieces_some text; whole = sym (join_with_byte-slice_split slash text); no_slash = pieces_plain text }
 
 -- what stands before a slash is the first piece
 pieces_next : (piece rest : List ℕ) → HasNo slash piece → pieces (piece ++ slash ∷ rest) ≡ piece ∷ pieces rest
@@ -45,7 +45,7 @@ joined_again (piece ∷ next ∷ all) some none =
 
 -- the pieces of a text are those that it is cut into
 pieces_are : (text : List ℕ) (all : List (List ℕ)) → ArePieces text all → pieces text ≡ all
-pieces_are text all are = ap pieces are.whole ∙ joined_again all are.some are.no_slash
+pieces_are text all are = ap pieces are.whole ∙ joined_again all are.positive are.no_slash
 
 -- The last live piece, of pieces whose first is that of the text or isn't.
 

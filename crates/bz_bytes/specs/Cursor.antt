@@ -1,5 +1,5 @@
--- Bytes that are read from their front, piece by piece, as little-endian files have them. The pieces are
--- numbers of a fixed width with the least byte first, slices, and texts of C.
+-- Bytes that are read from their front, piece by piece, as little-endian files have them. The pieces
+-- are numbers of a fixed width with the least byte first, slices, and texts of C.
 use Rattle.std.specs.Prelude.{◌≡◌, ℕ, ◌+◌, ◌-◌, ◌*◌, ◌^◌, ◌%◌, ◌≤◌, ◌==◌, nat_le, List, [], ◌∷◌, ◌++◌, length, take, drop, Option, Some, None, option_map, if◌then◌else◌}
 use Rattle.bz_bytes.specs.Byte.{zero_byte, HasNo}
 

@@ -1,5 +1,6 @@
--- LEB128 numbers, of the DWARF standard: 7 bits a byte, the least first, and all bytes but the last have
--- their top bit set. Here a number has at most 10 bytes and 64 bits; longer forms of small numbers count.
+-- LEB128 numbers, of the DWARF standard: 7 bits a byte, the least first, and all bytes but the last
+-- have their top bit set. Here a number has at most 10 bytes and 64 bits; longer forms of small numbers
+-- count.
 use Rattle.std.specs.Prelude.{◌≡◌, ℕ, ℤ, pos, ◌-ℤ◌, ◌+◌, ◌*◌, ◌^◌, ◌%◌, ◌<◌, ◌≤◌, ◌&&◌, ◌⊎◌, nat_lt, nat_le, List, [], ◌∷◌, ◌++◌, length, take, drop, Option, Some, None, option_map, option_and_then, if◌then◌else◌}
 use Rattle.std.specs.List.{AllByRecursion}
 use Rattle.bz_bytes.specs.Cursor.{with_first, with_rest}
@@ -62,7 +63,8 @@ positive bits = if nat_lt bits (2 ^ 63) then Some (pos bits) else None
 abbrev pub negative : ℕ → ℕ → Option ℤ
 negative bits less = if nat_le less (bits + 2 ^ 63) then Some (pos bits -ℤ pos less) else None
 
--- the signed number of so many bytes with these bits: two's complement, in which the upper half is negative
+-- the signed number of so many bytes with these bits: two's complement, in which the upper half is
+-- negative
 abbrev pub signed : ℕ → ℕ → Option ℤ
 signed count bits =
     if nat_le count 10

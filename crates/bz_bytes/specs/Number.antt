@@ -7,7 +7,7 @@ use Rattle.bz_bytes.specs.Byte.{begins_with}
 
 -- one to so many digits of the base, and the number that they spell
 pub record IsNumber (base most : ℕ) (text : List ℕ) (value : ℕ) : Type 0 where
-  pub some : 0 < length text
+  pub positive : 0 < length text
   pub few : length text ≤ most
   pub digits : AllDigits base text
   pub valued : value ≡ digits_value base text
@@ -21,7 +21,8 @@ pub record IsDecimal (most greatest : ℕ) (text : List ℕ) (value : ℕ) : Typ
   pub number : IsNumber 10 most text value
   pub fits : value ≤ greatest
 
--- the number stands at the front of the text, no digit stands after its digits, and the rest is what does
+-- the number stands at the front of the text, no digit stands after its digits, and the rest is what
+-- does
 pub record IsAtFront (base most : ℕ) (text : List ℕ) (value : ℕ) (rest : List ℕ) : Type 0 where
   pub front : List ℕ
   pub split : text ≡ front ++ rest

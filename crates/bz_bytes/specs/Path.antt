@@ -13,7 +13,8 @@ begins_with_slash path = begins_with (λ b. b == slash) path
 abbrev pub last_byte : List ℕ → Option ℕ
 last_byte text = slice_get text (length text - 1)
 
--- the slash between a directory and a file, by the directory's last byte: none if it is empty or ends in a slash
+-- the slash between a directory and a file, by the directory's last byte: none if it is empty or ends
+-- in a slash
 abbrev pub slash_after : Option ℕ → List ℕ
 slash_after None = []
 slash_after (Some last) = if last == slash then [] else codes "/"
@@ -33,7 +34,7 @@ root = slash ∷ []
 
 -- the text is these pieces, with a slash between each two
 pub record ArePieces (text : List ℕ) (all : List (List ℕ)) : Type 0 where
-  pub some : 0 < length all
+  pub positive : 0 < length all
   pub whole : text ≡ join_with_byte slash all
   pub no_slash : AllByRecursion (HasNo slash) all
 
@@ -64,16 +65,16 @@ pub record IsLastLive (all before : List (List ℕ)) (piece : List ℕ) : Type 0
 abbrev pub text_to : List (List ℕ) → List ℕ → List ℕ
 text_to before piece = join_with_byte slash (before ++ piece ∷ [])
 
--- these pieces come before the file. The directory is the text to the end of the last live one of them. Where none is live,
--- it is the root if the text begins with a slash, and else there is none
+-- these pieces come before the file. The directory is the text to the end of the last live one of them.
+-- Where none is live, it is the root if the text begins with a slash, and else there is none
 abbrev pub IsDirectory : List ℕ → List (List ℕ) → Option (List ℕ) → Type 0
 IsDirectory text before None = AreDead true before × (begins_with_slash text ≡ false)
 IsDirectory text before (Some directory) =
     ((earlier : List (List ℕ)) × (piece : List ℕ) × IsLastLive before earlier piece × (directory ≡ text_to earlier piece))
     ⊎ (AreDead true before × (begins_with_slash text ≡ true) × (directory ≡ root))
 
--- the file is the last live one of the text's pieces. Where none is live, it is the root and has no directory, if the text
--- begins with a slash
+-- the file is the last live one of the text's pieces. Where none is live, it is the root and has no
+-- directory, if the text begins with a slash
 pub record IsSplit (text : List ℕ) (directory : Option (List ℕ)) (file : List ℕ) : Type 0 where
   pub all : List (List ℕ)
   pub are_pieces : ArePieces text all

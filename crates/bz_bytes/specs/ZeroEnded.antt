@@ -15,7 +15,8 @@ before_zero bytes = before_first is_zero bytes
 abbrev pub zero_ended : List ℕ → Option (List ℕ)
 zero_ended bytes = if list_any is_zero bytes then Some (before_zero bytes) else None
 
--- the text stands at the place: the bytes are what lies before it, the text, which is UTF-8, a zero byte, and what lies behind
+-- the text stands at the place: the bytes are what lies before it, the text, which is UTF-8, a zero
+-- byte, and what lies behind
 pub record IsString (bytes : List ℕ) (place : ℕ) (text : List ℕ) : Type 0 where
   pub before : List ℕ
   pub after : List ℕ

@@ -72,7 +72,7 @@ fn alone(value: u64, rest: &[u8]) -> Option<u64>
 #[inline(always)]
 #[tactic(auto, unfolding(crate::specs::Number::digits_at))]
 fn digits_at(text: &[u8], base: u64, most: usize) -> Option<(u64, &[u8])>
-    requires some { 0 < base }
+    requires positive { 0 < base }
     requires fits { base ^ most ≤ 2 ^ 64 }
     ensures reads { option_map (λ read. (read.0, read.1.now)) result ≡ digits_at base most text.now }
     ensures small { IfSome result (λ read. read.0 < base ^ most) }

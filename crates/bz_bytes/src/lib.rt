@@ -1,4 +1,5 @@
-//! Texts and the pieces of binary files: lines, numbers, paths, and what is read one after another or at places.
+//! Texts and the pieces of binary files: lines, numbers, paths, and what is read one after another or
+//! at places.
 #![tactic(auto)]
 
 mod cursor;

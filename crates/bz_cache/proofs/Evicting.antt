@@ -1,4 +1,5 @@
--- A cache stays consistent once a path is forgotten, and forgetting a path that isn't held changes nothing.
+-- A cache stays consistent once a path is forgotten, and forgetting a path that isn't held changes
+-- nothing.
 use Rattle.std.proofs.Common.{◌≡◌, ℕ, Bool, true, false, not, ◌||◌, ◌&&◌, cond, T, List, [], ◌∷◌, Option, Some, None, is_some, IsSome, inl, inr, sym, ap, subst, ◌∙◌, refl}
 use Rattle.std.specs.List.{list_any}
 use Rattle.std.specs.Ordering.{nat_cmp, eq_by_cmp, is_eq, is_lt}

@@ -1,4 +1,5 @@
--- What a call on one file does, from what a look gives and what a version answers, whatever the format and the question.
+-- What a call on one file does, from what a look gives and what a version answers, whatever the format
+-- and the question.
 use Rattle.std.proofs.Common.{◌≡◌, ℕ, true, false, List, Option, Some, None, unwrap_or, Result, Err, IsSome, inl, inr, refl, sym, ap, subst, ◌∙◌}
 use Rattle.std.specs.FinMap as map
 use Rattle.std.proofs.lemmas.Bool.{false≢true}
@@ -86,7 +87,7 @@ told_refused {A} reading asked path e old now there before after taken same fail
 -- the version that a look lent answers
 pub by_lent : {A B : Type 0} (reading : A → B) (asked : Question B) (path bytes : List ℕ) (in_view : Option World) (old now : Cache) (result : Result A Error) →
     Lends asked.test old now path bytes in_view → Gives reading (asked.given bytes) result → ByVersion reading asked path result old now
-by_lent reading asked path bytes in_view old now result lent given = record { bytes = bytes; kept = lent.kept; looked = lent.some; given = given }
+by_lent reading asked path bytes in_view old now result lent given = record { bytes = bytes; kept = lent.kept; looked = lent.untold; given = given }
 
 -- a look leaves whether the cache reloads
 module _ (test : List ℕ → Option Error) (c : Cache) (p : List ℕ) where
@@ -124,7 +125,7 @@ module _ {A B V X : Type 0} (files : Ghosts X) (reading : A → B) (bytes_of : V
       Looked files before after (Faulted {A = A} (Err e)) → MayFail asked.test e → CallsFile files reading asked path (Err e) old new before after
   unanswered e taken none fails spared most looked may = record {
     told = λ world seen. told_refused reading asked path e old new (entry_at world path) _ _ taken none.unchanged (fails world seen) (spared world seen);
-    some = inr (record { refused = refl; refusal = may_be_refused (asked.taken ≡ false) asked.test e may; unchanged = none.unchanged });
+    untold = inr (record { refused = refl; refusal = may_be_refused (asked.taken ≡ false) asked.test e may; unchanged = none.unchanged });
     untaken = λ other. absurd (false≢true (sym other ∙ taken));
     stays = λ held. absurd (none.not_fixed held);
     ready = λ held t. absurd (none.not_fixed held);
@@ -147,12 +148,12 @@ module _ {A B V X : Type 0} (files : Ghosts X) (reading : A → B) (bytes_of : V
           opened = tt;
           spared = λ closed. spared world seen (rw taken at closed);
         };
-        some = inl by;
+        untold = inl by;
         untaken = λ other. absurd (false≢true (sym other ∙ taken));
         stays = λ held. (lent.unchanged held, unseen held);
         ready = λ held t. by;
         consistent = λ all. lent.consistent;
-        reload = ap (λ (x : Result (List ℕ) Error × Cache). x.1.reload) (sym lent.some.1) ∙ reload_look asked.test old path lent.some.0;
+        reload = ap (λ (x : Result (List ℕ) Error × Cache). x.1.reload) (sym lent.untold.1) ∙ reload_look asked.test old path lent.untold.0;
         looked = looked;
         most = most;
       }

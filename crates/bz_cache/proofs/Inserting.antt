@@ -24,7 +24,7 @@ module _ (c : Cache) (p v : List ℕ) (s : Stamp) (loose : fixed c p ≡ None) (
       (result : Result (Unit {0}) Error) → OnOk result (new ≡ named c p s v) → OnOk result (Consistent test new) → OnOk result (Inserts test c new p v in_view)
   inserts_named test new in_view found (Ok _) is consistent = record {
     state = λ w told. is ∙ sym (ap (λ (x : Result (Unit {0}) Error × Cache). x.1) (inserted_at (entry_at w p) (found w told)));
-    some = (Some (Present s v), inserted_at (Some (Present s v)) (s, v, refl, refl) ∙ ap (λ (n : Cache). (Ok tt, n)) (sym is));
+    untold = (Some (Present s v), inserted_at (Some (Present s v)) (s, v, refl, refl) ∙ ap (λ (n : Cache). (Ok tt, n)) (sym is));
     consistent = consistent;
   }
   inserts_named test new in_view found (Err e) is consistent = tt

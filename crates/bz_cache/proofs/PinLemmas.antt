@@ -89,7 +89,7 @@ module _ {X : Type 0} (files : Ghosts X) (test : List ℕ → Option Error) (c :
   -- what is left, where it is told what lies at the path or where it isn't
   left_by : (view : Option World) (now : Cache) (version : List ℕ) → ((world : World) → view ≡ Some world → Sees (look test (with_pin false c p) p (entry_at world p)).0 (Ok tt)) →
       Lends test (with_pin false c p) now p version view → IsLeft (pinning test c p) p view (with_pin true now p)
-  left_by None now version looked lent = record { there = lent.some.0; told = λ world seen. cc seen; leaves = ap (pinned_by c p) lent.some.1 }
+  left_by None now version looked lent = record { there = lent.untold.0; told = λ world seen. cc seen; leaves = ap (pinned_by c p) lent.untold.1 }
   left_by (Some world) now version looked lent = record {
     there = entry_at world p;
     told = λ w seen. let same : world ≡ w = cc seen in ap (λ (x : World). entry_at x p) same;
@@ -105,7 +105,7 @@ module _ {X : Type 0} (files : Ghosts X) (test : List ℕ → Option Error) (c :
     sure = did.sure;
     unmoved = λ world seen same. tt;
     consistent = λ well. consistent_pinned test now p true did.lent.1.consistent;
-    reload = ap (λ (x : Result (List ℕ) Error × Cache). x.1.reload) (sym did.lent.1.some.1) ∙ reload_look test (with_pin false c p) p did.lent.1.some.0;
+    reload = ap (λ (x : Result (List ℕ) Error × Cache). x.1.reload) (sym did.lent.1.untold.1) ∙ reload_look test (with_pin false c p) p did.lent.1.untold.0;
     reads = did.reads;
     looked = did.looked;
     refusal = tt;

@@ -1,6 +1,7 @@
 -- How the counts change where a path no longer names a stamp.
-use Rattle.std.proofs.Common.{◌≡◌, Bool, true, false, ◌||◌, cond, leb, List, [], ◌∷◌, ◌++◌, Option, Some, None, option_map, sym, ap, ◌∙◌, refl}
+use Rattle.std.proofs.Common.{◌≡◌, Bool, true, false, ◌||◌, cond, leb, List, [], ◌∷◌, ◌++◌, Option, Some, None, option_map, is_some, IsSome, sym, ap, ◌∙◌, refl}
 use Rattle.std.specs.Option.{option_map_or}
+use Rattle.std.proofs.lemmas.Bool.{false≢true}
 use Rattle.std.specs.Cmp.{eq_by_cmp_equiv}
 use Rattle.std.specs.FinMap as map
 use Rattle.std.specs.FinMap.{get-remove}
@@ -8,7 +9,7 @@ use Rattle.bz_files.specs.declared.stamp.Stamp.{Stamp}
 use Rattle.bz_cache.specs.Cache.{stamp_eq, is_among}
 use Rattle.bz_cache.specs.Counts.{Counted, CountedVersions, one_fewer, released}
 use Rattle.bz_cache.proofs.Naming.{among_push}
-use Rattle.bz_cache.proofs.Stamps.{stamp_total, stamp_eq_is, same_stamp}
+use Rattle.bz_cache.proofs.Stamps.{stamp_total, stamp_eq_is, stamp_eq_self, same_stamp}
 
 -- no other path names the version
 abbrev is_last : Option Counted → Bool
@@ -58,6 +59,23 @@ named_once false true false o alone = refl
 named_once true r true o alone = cc (alone refl)
 named_once false true true o alone = cc (alone refl)
 
+-- what is named by fewer is named by more
+named_more : (a r e : Bool) → (a || r) ≡ true → (a || (r || e)) ≡ true
+named_more true r e named = refl
+named_more false true e named = refl
+named_more false false e named = absurd (false≢true named)
+
+-- what is named still was kept, and isn't released
+kept_still : (a r e : Bool) (o : Option Counted) → (e ≡ true → (a || r) ≡ false) → ((a || (r || e)) ≡ true → IsSome o) → (a || r) ≡ true → IsSome (released e o)
+kept_still a r true o alone kept named = absurd (false≢true (sym (alone refl) ∙ named))
+kept_still a r false o alone kept named = kept (named_more a r false named)
+
+-- the last is named
+named_by_last : (a r e : Bool) → e ≡ true → (a || (r || e)) ≡ true
+named_by_last true r e last = refl
+named_by_last false true e last = refl
+named_by_last false false e last = last
+
 module _ (current stamp : Stamp) (all rest : List Stamp) (is : all ≡ rest ++ stamp ∷ []) where
   -- what the path names
   parts : (t : Stamp) → (stamp_eq current t || is_among all t) ≡ (stamp_eq current t || (is_among rest t || stamp_eq stamp t))
@@ -75,3 +93,19 @@ module _ (current stamp : Stamp) (all rest : List Stamp) (is : all ≡ rest ++ s
       ap (λ b. released b o) (parts t)
       ∙ named_once (stamp_eq current t) (is_among rest t) (stamp_eq stamp t) o (λ same. ap (λ (u : Stamp). stamp_eq current u || is_among rest u) (sym (same_stamp stamp t same)) ∙ alone)
       ∙ ap (released (stamp_eq current t || is_among rest t)) (sym new)
+
+  -- the stamp is named
+  pub named_last : (stamp_eq current stamp || is_among all stamp) ≡ true
+  named_last = parts stamp ∙ named_by_last (stamp_eq current stamp) (is_among rest stamp) (stamp_eq stamp stamp) (stamp_eq_self stamp)
+
+  -- and so is what is named without it
+  pub kept_again : (t : Stamp) → (stamp_eq current t || is_among rest t) ≡ true → (stamp_eq current t || is_among all t) ≡ true
+  kept_again t named = parts t ∙ named_more (stamp_eq current t) (is_among rest t) (stamp_eq stamp t) named
+
+  -- once it is released, what is named still is kept
+  pub kept_once : (stamp_eq current stamp || is_among rest stamp) ≡ false → (t : Stamp) (o n : Option Counted) → n ≡ released (stamp_eq stamp t) o →
+      ((stamp_eq current t || is_among all t) ≡ true → IsSome o) → (stamp_eq current t || is_among rest t) ≡ true → IsSome n
+  kept_once alone t o n new kept named =
+      ap is_some new
+      ∙ kept_still (stamp_eq current t) (is_among rest t) (stamp_eq stamp t) o (λ same. ap (λ (u : Stamp). stamp_eq current u || is_among rest u) (sym (same_stamp stamp t same)) ∙ alone)
+      (λ is. kept (parts t ∙ is)) named

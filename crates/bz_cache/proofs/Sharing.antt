@@ -21,7 +21,7 @@ module _ (test : List ℕ → Option Error) (old new : Cache) (path : List ℕ) 
       record {
         kept = (ap (λ (o : Option Stamp). option_and_then (map.get new.kept) o) left.current ∙ there, left.consistent.formed s (bytes_at new s) there);
         state = left.told;
-        some = left.some;
+        untold = left.untold;
         unchanged = unchanged;
         consistent = left.consistent;
       }

@@ -95,17 +95,6 @@ module _ {T : Type 0} (bytes_of : T → List ℕ) where
           by_stamp true same =
               ap Some is ∙ ap (option_map f) (sym (counted_found m s v found)) ∙ ap (λ (u : Stamp). option_map f (map.get (counted_of bytes_of m) u)) (same refl)
 
-  -- a stamp that the map hasn't can't be counted otherwise
-  pub counted_unchanged : (m : BTreeMap Stamp (KeptVersion T)) (s : Stamp) → get_by (stamp_cmp s) m ≡ None → (f : Counted → Counted) (t : Stamp) →
-      map.get (counted_of bytes_of m) t ≡ cond (stamp_eq s t) (option_map f (map.get (counted_of bytes_of m) t)) (map.get (counted_of bytes_of m) t)
-  counted_unchanged m s absent f t = by_stamp (stamp_eq s t) (same_stamp s t)
-    where
-      by_stamp : (b : Bool) → (b ≡ true → s ≡ t) → map.get (counted_of bytes_of m) t ≡ cond b (option_map f (map.get (counted_of bytes_of m) t)) (map.get (counted_of bytes_of m) t)
-      by_stamp false same = refl
-      by_stamp true same =
-          let absent_t : map.get (counted_of bytes_of m) t ≡ None = ap (map.get (counted_of bytes_of m)) (sym (same refl)) ∙ counted_absent m s absent in
-          absent_t ∙ ap (option_map f) (sym absent_t)
-
 module _ {A : Type 0} where
   -- the state of what the map has at the path
   pub get_path : (m : BTreeMap (String A) HeldPath) (p : List ℕ) → map.get (paths_of m) p ≡ option_map path_state (get_by_text m p)

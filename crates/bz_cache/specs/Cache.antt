@@ -22,7 +22,8 @@ stamp_cmp = (stamp_ord.ghosts).cmp
 abbrev pub stamp_eq : Stamp → Stamp → Bool
 stamp_eq = (stamp_partial_eq.ghosts).eq
 
--- a held path: the stamp that it was last seen with, whether it stays there, and the stamps that it was seen with before
+-- a held path: the stamp that it was last seen with, whether it stays there, and the stamps that it was
+-- seen with before
 pub record PathState : Type 0 where
   pub current : Stamp
   pub pinned : Bool

@@ -1,4 +1,5 @@
--- Coherence of a cache with a world: what lies anywhere with a kept stamp has the kept bytes (docs/DEFINITIONS.md, bz_cache).
+-- Coherence of a cache with a world: what lies anywhere with a kept stamp has the kept bytes
+-- (docs/DEFINITIONS.md, bz_cache).
 use Rattle.std.specs.Prelude.{◌≡◌, ℕ, List, Option, Some, Contains}
 use Rattle.std.specs.FinMap as map
 use Rattle.bz_files.specs.declared.stamp.Stamp.{Stamp}

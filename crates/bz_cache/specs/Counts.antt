@@ -35,7 +35,8 @@ one_more version = record version { paths = version.paths + 1 }
 abbrev pub one_fewer : Counted → Counted
 one_fewer version = record version { paths = version.paths - 1 }
 
--- the version at a stamp, once a path that named the stamp, or didn't, is gone: it goes with the last path
+-- the version at a stamp, once a path that named the stamp, or didn't, is gone: it goes with the last
+-- path
 abbrev pub released : Bool → Option Counted → Option Counted
 released false version = version
 released true None = None

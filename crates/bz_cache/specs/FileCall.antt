@@ -15,23 +15,18 @@ use Rattle.bz_files.specs.declared.files.Files.{Ghosts}
 use Rattle.bz_cache.specs.Cache.{Cache, Consistent}
 use Rattle.bz_cache.specs.Format.{GivesOrFaults, MayFail}
 use Rattle.bz_cache.specs.Look.{look, will_open, opens_after, IsKeptAt, IsSomeLook}
-use Rattle.bz_cache.specs.View.{View, Absent, Hidden, Shown, fixed, view}
+use Rattle.bz_cache.specs.View.{View, answer_of_view, fixed, if_formed, view}
 
--- what a call asks of a file: which refusal bytes give, whether the kind of address is taken, and what bytes in the format
--- answer. The kind is seen before the look
+-- what a call asks of a file: which refusal bytes give, whether the kind of address is taken, and what
+-- bytes in the format answer. The kind is seen before the look
 pub record Question (B : Type 0) : Type 0 where
   pub test : List ℕ → Option Error
   pub taken : Bool
   pub given : List ℕ → Result B Error
 
--- what a version answers, by what the test says of it
-abbrev pub by_test : {B : Type 0} → Question B → List ℕ → Option Error → Result B Error
-by_test asked bytes None = asked.given bytes
-by_test asked bytes (Some e) = Err e
-
 -- what a version answers
 abbrev pub by_version : {B : Type 0} → Question B → List ℕ → Result B Error
-by_version asked bytes = by_test asked bytes (asked.test bytes)
+by_version asked bytes = if_formed asked.given bytes (asked.test bytes)
 
 -- what the version that a look gave answers, or the look's refusal
 abbrev pub by_look : {B : Type 0} → Question B → Result (List ℕ) Error → Result B Error
@@ -42,11 +37,9 @@ by_look asked (Err e) = Err e
 abbrev pub file_answer : {B : Type 0} → Question B → Cache → List ℕ → Option Entry → Result B Error
 file_answer asked cache path there = cond asked.taken (by_look asked (look asked.test cache path there).0) (Err errors.Unsupported)
 
--- what the version in view answers, or the refusal of a file that is absent, may not be read or isn't in the format
+-- what the version in view answers
 abbrev pub by_view : {B : Type 0} → Question B → View → Result B Error
-by_view asked Absent = Err errors.NotFound
-by_view asked Hidden = Err errors.PermissionDenied
-by_view asked (Shown bytes) = by_version asked bytes
+by_view asked shown = answer_of_view asked.test asked.given shown
 
 -- what a call on one file answers, by what is in view
 abbrev pub shown_answer : {B : Type 0} → Question B → View → Result B Error
@@ -80,8 +73,8 @@ pub record FileTold {A B : Type 0} (reading : A → B) (asked : Question B) (pat
   pub opened : OnOk result (after ≡ opens_after (file_opens asked.taken old path there) before)
   pub spared : file_opens asked.taken old path there ≡ false → after ≡ before
 
--- a call that no version answered is refused as a look at files of its format is. It may also be refused by
--- `Unsupported`, if this holds: its kind of address isn't taken
+-- a call that no version answered is refused as a look at files of its format is. It may also be
+-- refused by `Unsupported`, if this holds: its kind of address isn't taken
 abbrev pub MayBeRefused : Type 0 → (List ℕ → Option Error) → Error → Type 0
 MayBeRefused untaken test errors.Unsupported = untaken ⊎ MayFail test errors.Unsupported
 MayBeRefused untaken test e = MayFail test e
@@ -106,11 +99,12 @@ FileSome reading asked path result old now = ByVersion reading asked path result
 -- all that a call on one file in one cache does
 pub record CallsFile {A B X : Type 0} (files : Ghosts X) (reading : A → B) (asked : Question B) (path : List ℕ) (result : Result A Error)
     (old now : Cache) (before after : X) : Type 0 where
-  -- where it is told what lies at the path, the answer, the cache that is left and the file that is read are the expected ones
+  -- where it is told what lies at the path, the answer, the cache that is left and the file that is
+  -- read are the expected ones
   pub told : Told (in_view (files.worlds before)) (λ world.
       FileTold reading asked path result old now (entry_at world path) (files.opens before) (files.opens after))
   -- whatever is told, a version answered, or the call was refused first
-  pub some : FileSome reading asked path result old now
+  pub untold : FileSome reading asked path result old now
   -- a kind of address that isn't taken is refused before any look
   pub untaken : asked.taken ≡ false → IsErrOf result errors.Unsupported × (now ≡ old) × (after ≡ before)
   -- a path that is held and isn't looked at anew stays as it is, and its version answers without a look
@@ -133,10 +127,12 @@ pub record Answering : Type 0 where
   -- which kinds of address are taken before the file is looked at, and which ones a version answers
   pub takes : AddressKind → Bool
   pub serves : AddressKind → Bool
-  -- what a version answers at an address alone, or its refusal: by the options, the path, its bytes, and the address's kind
+  -- what a version answers at an address alone, or its refusal: by the options, the path, its bytes,
+  -- and the address's kind
   pub single : FindSymOpts → List ℕ → List ℕ → AddressKind → ℕ → Result Answer Error
 
--- what is asked of a version: at addresses of which kind, and what is made of its answers at each address alone
+-- what is asked of a version: at addresses of which kind, and what is made of its answers at each
+-- address alone
 pub record Query (B : Type 0) : Type 0 where
   pub kind : AddressKind
   pub given : (ℕ → Result Answer Error) → Result B Error

@@ -1,4 +1,5 @@
--- Taking in a version that the caller has, without reading its file: the answer, and the cache after it.
+-- Taking in a version that the caller has, without reading its file: the answer, and the cache after
+-- it.
 use Rattle.std.specs.Prelude.{◌≡◌, ◌⊎◌, ℕ, List, Option, Some, None, IsSome, Result, Ok, Err}
 use Rattle.std.specs.FinMap as map
 use Rattle.bz_base.specs.declared.error.Error.{Error}
@@ -26,7 +27,8 @@ abbrev pub insertion_by_fixed : Cache → List ℕ → List ℕ → Option Entry
 insertion_by_fixed cache path version there (Some stamp) = (Err errors.AlreadyExists, cache)
 insertion_by_fixed cache path version there None = insertion_by_entry cache path version there
 
--- the answer and the new cache where the version is taken in as that of the file at the path, and the world has `there`
+-- the answer and the new cache where the version is taken in as that of the file at the path, and the
+-- world has `there`
 abbrev pub insertion : Cache → List ℕ → List ℕ → Option Entry → Result (Unit {0}) Error × Cache
 insertion cache path version there = insertion_by_fixed cache path version there (fixed cache path)
 
@@ -35,9 +37,9 @@ abbrev pub MayKeepOut : Cache → List ℕ → Error → Type 0
 MayKeepOut cache path errors.AlreadyExists = IsSome (fixed cache path) ⊎ ((stamp : Stamp) × IsSome (map.get cache.kept stamp))
 MayKeepOut cache path e = MayMiss e
 
--- what a version that was taken in leaves: where it is told what lies at the path, the cache after its insertion. Whatever is
--- told, a consistent cache after an insertion by something that may lie there
+-- what a version that was taken in leaves: where it is told what lies at the path, the cache after its
+-- insertion. Whatever is told, a consistent cache after an insertion by something that may lie there
 pub record Inserts (test : List ℕ → Option Error) (old new : Cache) (path version : List ℕ) (in_view : Option World) : Type 0 where
   pub state : Told in_view (λ world. new ≡ (insertion old path version (entry_at world path)).1)
-  pub some : (there : Option Entry) × (insertion old path version there ≡ (Ok tt, new))
+  pub untold : (there : Option Entry) × (insertion old path version there ≡ (Ok tt, new))
   pub consistent : Consistent test new

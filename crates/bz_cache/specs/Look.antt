@@ -13,7 +13,8 @@ use Rattle.bz_cache.specs.View.{fixed, bytes_at}
 abbrev pub with_earlier : List Stamp → Stamp → List Stamp
 with_earlier earlier stamp = cond (is_among earlier stamp) earlier (earlier ++ stamp ∷ [])
 
--- the path seen with the stamp: unpinned, the stamp current, and a former current stamp other than it among the earlier ones
+-- the path seen with the stamp: unpinned, the stamp current, and a former current stamp other than it
+-- among the earlier ones
 abbrev pub moved : Stamp → Option PathState → PathState
 moved stamp None = record { current = stamp; pinned = false; earlier = [] }
 moved stamp (Some state) = cond (stamp_eq state.current stamp) (record state { pinned = false }) (record { current = stamp; pinned = false; earlier = with_earlier state.earlier state.current })
@@ -78,7 +79,7 @@ pub record Lends (test : List ℕ → Option Error) (old new : Cache) (path byte
   -- where it is told what lies at the path, it leaves the cache after a look at that
   pub state : Told in_view (λ world. new ≡ (look test old path (entry_at world path)).1)
   -- whatever is told, it leaves the cache after some look
-  pub some : IsSomeLook test old new path bytes
+  pub untold : IsSomeLook test old new path bytes
   -- for a fixed path the cache stays as it was
   pub unchanged : IsSome (fixed old path) → new ≡ old
   -- each stamp is kept exactly while some path names it, and each kept version is in the format
@@ -89,8 +90,8 @@ pub record Unanswered (old new : Cache) (path : List ℕ) : Type 0 where
   pub unchanged : new ≡ old
   pub not_fixed : IsSome (fixed old path) → ⊥
 
--- what a call that shares the version of a look leaves. An answer leaves what an answered look does. Where memory
--- ran out, the look was answered or not. Any other refusal is that of the look
+-- what a call that shares the version of a look leaves. An answer leaves what an answered look does.
+-- Where memory ran out, the look was answered or not. Any other refusal is that of the look
 abbrev pub Shares : {A : Type 0} → (A → List ℕ) → (List ℕ → Option Error) → Result A Error → Cache → Cache → List ℕ → Option World → Type 0
 Shares bytes_of test (Ok version) old new path in_view = Lends test old new path (bytes_of version) in_view
 Shares bytes_of test (Err errors.OutOfMemory) old new path in_view = Unanswered old new path ⊎ ((bytes : List ℕ) × Lends test old new path bytes in_view)

@@ -20,7 +20,8 @@ pinned_by cache path (Err e, looked) = (Err e, cache)
 abbrev pub pinning : (List ℕ → Option Error) → Cache → List ℕ → Option Entry → Result (Unit {0}) Error × Cache
 pinning test cache path there = pinned_by cache path (look test (with_pin false cache path) path there)
 
--- something that may lie at the path is answered, and this cache is left; where it is told what lies there, it is that
+-- something that may lie at the path is answered, and this cache is left; where it is told what lies
+-- there, it is that
 pub record IsLeft (expected : Option Entry → Result (Unit {0}) Error × Cache) (path : List ℕ) (in_view : Option World) (now : Cache) : Type 0 where
   pub there : Option Entry
   pub told : Told in_view (λ world. there ≡ entry_at world path)
@@ -30,7 +31,8 @@ pub record IsLeft (expected : Option Entry → Result (Unit {0}) Error × Cache)
 pub record PinsFile {X : Type 0} (files : Ghosts X) (test : List ℕ → Option Error) (path : List ℕ) (result : Result (Unit {0}) Error) (old now : Cache) (before after : X) : Type 0 where
   -- where it is told what lies at the path, it is answered or refused by that
   pub answer : Told (in_view (files.worlds before)) (λ world. GivesOrFaults (λ (done : Unit {0}). done) (pinning test old path (entry_at world path)).0 result)
-  -- an answer leaves the path pinned at the version of a look; a refusal, whichever it is, changes nothing
+  -- an answer leaves the path pinned at the version of a look; a refusal, whichever it is, changes
+  -- nothing
   pub left : OnOk result (IsLeft (pinning test old path) path (in_view (files.worlds before)) now)
   pub err : OnErr result (now ≡ old)
   -- a held path of a cache that doesn't look anew is pinned as it is

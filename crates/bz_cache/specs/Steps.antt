@@ -1,4 +1,5 @@
--- What the steps of a look do, each by the answer and the cache that are expected of it for what may lie at the path.
+-- What the steps of a look do, each by the answer and the cache that are expected of it for what may
+-- lie at the path.
 use Rattle.std.specs.Prelude.{◌≡◌, ℕ, Bool, false, List, Option, Some, Result, Ok, IfOk, OnOk, OnErr}
 use Rattle.bz_base.specs.declared.error.Error.{Error}
 use Rattle.bz_files.specs.declared.files.Files.{Ghosts}
@@ -12,12 +13,14 @@ use Rattle.bz_cache.specs.View.{bytes_at}
 -- what a step that gives the stamp of a version leaves of the cache
 pub record LeavesCache (test : List ℕ → Option Error) (expected : Option Entry → Result (List ℕ) Error × Cache) (path : List ℕ) (result : Result Stamp Error)
     (old new : Cache) (in_view : Option World) : Type 0 where
-  -- where it is told what lies at the path, the cache that is expected; after a refusal the one that was
+  -- where it is told what lies at the path, the cache that is expected; after a refusal the one that
+  -- was
   pub told : Told in_view (λ world. OnOk result (new ≡ (expected (entry_at world path)).1))
   pub refused : OnErr result (new ≡ old)
-  -- whatever is told, the stamp is the path's current one, and the cache is the one that is expected for something
+  -- whatever is told, the stamp is the path's current one, and the cache is the one that is expected
+  -- for something
   pub current : IfOk result (λ stamp. current_of new path ≡ Some stamp)
-  pub some : IfOk result (λ stamp. (there : Option Entry) × (expected there ≡ (Ok (bytes_at new stamp), new)))
+  pub untold : IfOk result (λ stamp. (there : Option Entry) × (expected there ≡ (Ok (bytes_at new stamp), new)))
   pub consistent : OnOk result (Consistent test new)
 
 -- how many files a call that looks at the path reads, by whether it has to read what lies there

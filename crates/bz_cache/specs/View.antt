@@ -36,13 +36,22 @@ by_fixed_view cache there None = shown there
 abbrev pub view : Cache → World → List ℕ → View
 view cache world path = by_fixed_view cache (entry_at world path) (fixed cache path)
 
+-- what bytes in the format answer; others are refused as the test says
+abbrev pub if_formed : {B : Type 0} → (List ℕ → Result B Error) → List ℕ → Option Error → Result B Error
+if_formed given bytes None = given bytes
+if_formed given bytes (Some refusal) = Err refusal
+
+-- what the version in view answers, or the refusal of a file that is absent, may not be read or isn't
+-- in the format
+abbrev pub answer_of_view : {B : Type 0} → (List ℕ → Option Error) → (List ℕ → Result B Error) → View → Result B Error
+answer_of_view test given Absent = Err errors.NotFound
+answer_of_view test given Hidden = Err errors.PermissionDenied
+answer_of_view test given (Shown bytes) = if_formed given bytes (test bytes)
+
 -- bytes in the format are answered, others refused as the test says
 abbrev pub by_format : List ℕ → Option Error → Result (List ℕ) Error
-by_format bytes None = Ok bytes
-by_format bytes (Some refusal) = Err refusal
+by_format bytes tested = if_formed Ok bytes tested
 
--- the answer that a version in view gives
+-- the bytes that a version in view gives
 abbrev pub bytes_of_view : (List ℕ → Option Error) → View → Result (List ℕ) Error
-bytes_of_view test Absent = Err errors.NotFound
-bytes_of_view test Hidden = Err errors.PermissionDenied
-bytes_of_view test (Shown bytes) = by_format bytes (test bytes)
+bytes_of_view test shown = answer_of_view test Ok shown

@@ -72,7 +72,8 @@ impl<T: Version + Drop> FileCache<T> {
         versions::is_kept(&self.versions, stamp)
     }
 
-    /// Keeps a held path at its current version, also where its file changes. None: the path isn't held.
+    /// Keeps a held path at its current version, also where its file changes. None: the path isn't
+    /// held.
     pub fn pin(&mut self, path: &str) -> Option<()>
         ensures held { is_some result ≡ is_held self.old path.now }
         ensures state { self.new ≡ with_pin true self.old path.now }
@@ -206,9 +207,9 @@ impl<T: Version + Drop> FileCache<T> {
 
     /// The version of the file at the path. A path that is pinned, or that is held where the cache
     /// doesn't reload, answers by the version that it has. Any other is looked at, and read where no
-    /// version with its stamp is kept. It is refused by `NotFound`, `PermissionDenied` and `ReadFault` as a
-    /// look is, and by `OutOfMemory`. It is also refused as the format refuses the file's bytes. After a
-    /// refusal the cache is as before.
+    /// version with its stamp is kept. It is refused by `NotFound`, `PermissionDenied` and `ReadFault`
+    /// as a look is, and by `OutOfMemory`. It is also refused as the format refuses the file's bytes.
+    /// After a refusal the cache is as before.
     pub fn entry<F: Files>(&mut self, alloc: Global, files: &mut F, path: &str) -> Result<&T>
         ensures* after { sem 𝓛 (follows_so (the_row T.row T.Version) (the_row T.row T.Version) self.entry.ghost_name none (λ _ _. ⊤) (λ n. MatchResult result (λ v. Lends T.test self.old n path.now (T.bytes_of v.now) (in_view (F.worlds files.old))) (λ _. n ≡ self.old))) }
         ensures answer { Told (in_view (F.worlds files.old)) (λ w. GivesOrFaults (λ v. T.bytes_of v.now) (look T.test self.old path.now (entry_at w path.now)).0 result) }
@@ -224,9 +225,9 @@ impl<T: Version + Drop> FileCache<T> {
         Ok(self.version(&stamp))
     }
 
-    /// The version that `entry` gives, shared: the caller keeps it also where the cache lets it go. It is
-    /// refused as `entry` is. After a refusal the cache is as before; where memory ran out, the file may
-    /// have been taken in.
+    /// The version that `entry` gives, shared: the caller keeps it also where the cache lets it go. It
+    /// is refused as `entry` is. After a refusal the cache is as before; where memory ran out, the file
+    /// may have been taken in.
     pub fn shared<F: Files>(&mut self, alloc: Global, files: &mut F, path: &str) -> Result<Rc<T>>
         ensures after { Shares (λ v. T.bytes_of v.value) T.test result self.old self.new path.now (in_view (F.worlds files.old)) }
         ensures answer { Told (in_view (F.worlds files.old)) (λ w. GivesOrFaults (λ v. T.bytes_of v.value) (look T.test self.old path.now (entry_at w path.now)).0 result) }
@@ -240,10 +241,10 @@ impl<T: Version + Drop> FileCache<T> {
     }
 
     /// Takes in a version that the caller has, as that of the file at the path, under the file's
-    /// present stamp. The file isn't read, and not looked at where the path is pinned, or held in a cache
-    /// that doesn't reload. There, and where a version with the present stamp is kept, it is refused by
-    /// `AlreadyExists`. It is also refused by `NotFound`, `PermissionDenied` and `ReadFault` as a look is,
-    /// and by `OutOfMemory`. After a refusal the cache is as before.
+    /// present stamp. The file isn't read, and not looked at where the path is pinned, or held in a
+    /// cache that doesn't reload. There, and where a version with the present stamp is kept, it is
+    /// refused by `AlreadyExists`. It is also refused by `NotFound`, `PermissionDenied` and `ReadFault`
+    /// as a look is, and by `OutOfMemory`. After a refusal the cache is as before.
     pub fn insert_value<F: Files>(
         &mut self,
         alloc: Global,
@@ -295,8 +296,8 @@ impl<T: Version + Drop> FileCache<T> {
         ensures files { ReadsFile F.Files (is_new self.old) path.now result files.old files.new }
         ensures refusal { IfErr result (MayFail T.test) }
     {
-        // This stamp serves to find a kept version alone: the file may be replaced before it is read. So
-        // bytes are kept under the stamp that their own file had when it was opened. Were that taken
+        // This stamp serves to find a kept version alone: the file may be replaced before it is read.
+        // So bytes are kept under the stamp that their own file had when it was opened. Were that taken
         // after them, a file that changed in between would keep its older bytes under its newer stamp.
         let stamp = lookup::present(files, path)?;
         if self.is_kept(&stamp) {

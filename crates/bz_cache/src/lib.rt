@@ -1,5 +1,5 @@
-//! Which version of a file is in view: a cache of parsed files by their stamps; pinning and forgetting of
-//! paths; and what a call on one file answers and leaves.
+//! Which version of a file is in view: a cache of parsed files by their stamps; pinning and forgetting
+//! of paths; and what a call on one file answers and leaves.
 #![tactic(auto)]
 
 mod builder;

@@ -1,4 +1,5 @@
--- Agreement of worlds: equal stamps have equal bytes, within each and between any two (docs/DEFINITIONS.md, bz_files).
+-- Agreement of worlds: equal stamps have equal bytes, within each and between any two
+-- (docs/DEFINITIONS.md, bz_files).
 use Rattle.std.specs.Prelude.{◌≡◌, ℕ, List, Some, Contains}
 use Rattle.bz_files.specs.declared.stamp.Stamp.{Stamp}
 use Rattle.bz_files.specs.World.{World, Present, entry_at}

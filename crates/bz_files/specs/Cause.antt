@@ -5,7 +5,8 @@ use Rattle.std.specs.declared.io.ErrorKind.TheVariants as kinds
 use Rattle.bz_files.specs.declared.files.FileError.{FileError}
 use Rattle.bz_files.specs.declared.files.FileError.TheVariants as errors
 
--- by whether the path has a zero byte, and the kind of the failure: a path at which no file can be is absent
+-- by whether the path has a zero byte, and the kind of the failure: a path at which no file can be is
+-- absent
 abbrev pub failure_of : Bool → ErrorKind → FileError
 failure_of zero kinds.NotFound = errors.NotFound
 failure_of zero kinds.NotADirectory = errors.NotFound

@@ -9,7 +9,8 @@ last_count = 18446744073709551615
 abbrev pub counted : ℕ → ℕ
 counted n = min (n + 1) last_count
 
--- how a count of faults stands after a call: it is one more where the call failed by a fault, and stands still else
+-- how a count of faults stands after a call: it is one more where the call failed by a fault, and
+-- stands still else
 pub record CountsFaults (before after : ℕ) (failed : Type 0) : Type 0 where
   pub grows : before ≤ after
   pub fault : failed → after ≡ counted before

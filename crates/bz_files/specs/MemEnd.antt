@@ -2,7 +2,8 @@
 use Rattle.std.specs.Prelude.{ℕ, ◌==◌, Bool, false, if◌then◌else◌, List, Option, Some, None}
 use Rattle.bz_files.specs.Count.{counted}
 
--- the bytes that are left or were written, how many calls there were, the number of the call that fails, and how many failed
+-- the bytes that are left or were written, how many calls there were, the number of the call that
+-- fails, and how many failed
 pub record MemEnd : Type 0 where
   pub bytes : List ℕ
   pub calls : ℕ

@@ -1,4 +1,5 @@
--- Files in memory as one value: their worlds, what an edit does to the last of them, and what a look leaves.
+-- Files in memory as one value: their worlds, what an edit does to the last of them, and what a look
+-- leaves.
 use Rattle.std.specs.Prelude.{ℕ, ◌+◌, ◌==◌, pos, Bool, if◌then◌else◌, List, [], ◌∷◌, ◌++◌, Option, Some, None, length, Result, Ok, Err, refl}
 use Rattle.std.specs.List.{list_any}
 use Rattle.std.specs.FinMap as map
@@ -8,8 +9,9 @@ use Rattle.bz_files.specs.declared.files.FileError.{FileError}
 use Rattle.bz_files.specs.Count.{counted}
 use Rattle.bz_files.specs.World.{World, Entry, Denied, Present, entry_at, with_entry, coded_world}
 
--- the world in view and those to come, and how many fresh stamps were given; how many looks there were, the numbers of
--- those that fail, and how many failed. Then how many files were read, and the id of the own process
+-- the world in view and those to come, and how many fresh stamps were given; how many looks there were,
+-- the numbers of those that fail, and how many failed. Then how many files were read, and the id of the
+-- own process
 pub record MemWorlds : Type 0 where
   pub worlds : List World
   pub stamps : ℕ
@@ -59,7 +61,8 @@ abbrev pub fresh_stamp : ℕ → ℕ → Option Stamp
 fresh_stamp stamps size =
     if stamps == last_stamp then None else Some (record { dev = 1; inode = stamps + 1; size = size; mtime_sec = pos (stamps + 1); mtime_nsec = pos 0 })
 
--- the files after the bytes were put at the path under this stamp, which was fresh; as they were where none was left
+-- the files after the bytes were put at the path under this stamp, which was fresh; as they were where
+-- none was left
 abbrev pub with_put : List ℕ → List ℕ → Option Stamp → MemWorlds → MemWorlds
 with_put path bytes None files = files
 with_put path bytes (Some stamp) files = record files { worlds = on_last (with_entry path (Present stamp bytes)) files.worlds; stamps = files.stamps + 1 }

@@ -1,7 +1,8 @@
 -- The ends of a text over a reader or a writer.
 use Rattle.std.specs.Prelude.{ℕ, List, Option}
 
--- how many calls failed, and the bytes that the reader has left or the writer holds, where it tells them
+-- how many calls failed, and the bytes that the reader has left or the writer holds, where it tells
+-- them
 pub record RealEnd : Type 0 where
   pub faults : ℕ
   pub known : Option (List ℕ)

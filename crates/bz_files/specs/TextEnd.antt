@@ -2,8 +2,8 @@
 use Rattle.std.specs.Prelude.{◌≡◌, ℕ, ◌<◌, List, [], ◌++◌, length, take, drop, Option, Some, None, Result, Ok, Err}
 use Rattle.bz_files.specs.declared.text.TextError.{TextError}
 
--- the first bytes that were left are now the first of the piece; the end is answered only where none was left; a
--- failed call moves nothing. Where the bytes weren't told, they aren't told after.
+-- the first bytes that were left are now the first of the piece; the end is answered only where none
+-- was left; a failed call moves nothing. Where the bytes weren't told, they aren't told after.
 abbrev pub Takes : Option (List ℕ) → Option (List ℕ) → List ℕ → List ℕ → Result ℕ TextError → Type 0
 Takes None left piece filled result = left ≡ None
 Takes (Some before) left piece filled (Ok n) =

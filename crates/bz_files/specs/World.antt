@@ -54,8 +54,9 @@ next_worlds (world ∷ next ∷ later) = next ∷ later
 abbrev pub Told : {A : Type 0} → Option A → (A → Type 0) → Type 0
 Told {A} told P = (x : A) → told ≡ Some x → P x
 
--- a look answers what lies at the path: Ok by the version there, NotFound and Denied exactly where they hold. A fault and
--- want of memory may come anywhere. It compares with a file, where `Gives` and `MayGive` compare with expected results.
+-- a look answers what lies at the path: Ok by the version there, NotFound and Denied exactly where they
+-- hold. A fault and want of memory may come anywhere. It compares with a file, where `Gives` and
+-- `MayGive` compare with expected results.
 abbrev pub IsAnswer : {A : Type 0} → (A → Stamp → List ℕ → Type 0) → Option Entry → Result A FileError → Type 0
 IsAnswer Shows there (Ok given) = (stamp : Stamp) × (bytes : List ℕ) × (there ≡ Some (Present stamp bytes)) × Shows given stamp bytes
 IsAnswer Shows there (Err errors.NotFound) = there ≡ None

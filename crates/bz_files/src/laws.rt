@@ -51,8 +51,8 @@ pub fn clones_never_fail()
     ensures texts { (a : TextError) → ⟦<TextError as Clone>⟧.is_infallible a }
 {}
 
-/// New files in memory agree, and each edit that chooses no stamp keeps that. Then all worlds agree that
-/// stand in their list or stood there before. `MemFiles::put_as` doesn't keep it.
+/// New files in memory agree, and each edit that chooses no stamp keeps that. Then all worlds agree
+/// that stand in their list or stood there before. `MemFiles::put_as` doesn't keep it.
 pub fn edits_keep_agreement()
     ensures new { (pid : ℕ) → Agreeing (new_worlds pid).worlds (new_worlds pid) }
     ensures edit { (seen : List World) (files : MemWorlds) (edit : Edit) → Agreeing seen files → Agreeing (seen ++ (after_edit edit files).worlds) (after_edit edit files) }

@@ -59,8 +59,8 @@ impl MemFiles {
         }
     }
 
-    /// Puts the bytes at the path under a fresh stamp, and gives this. Where no fresh stamp is left it gives
-    /// none, and nothing changes.
+    /// Puts the bytes at the path under a fresh stamp, and gives this. Where no fresh stamp is left it
+    /// gives none, and nothing changes.
     pub fn put(&mut self, alloc: Global, path: &str, bytes: Vec<u8>) -> Result<Option<Stamp>, Error>
         ensures stamp { IfOk result (λ given. given ≡ fresh_stamp self.old.stamps (length bytes.items)) }
         ensures ok { OnOk result (self.new ≡ after_put path.now bytes.items self.old) }

@@ -180,7 +180,7 @@ impl TextOut for MemOut {
 
     fn put(&mut self, piece: &[u8]) -> Result<usize, TextError>
         ensures full { IfOk result (λ n. n ≡ length piece.now) }
-        ensures some { IfOk result (λ n. 0 < length piece.now → 0 < n) }
+        ensures positive { IfOk result (λ n. 0 < length piece.now → 0 < n) }
         ensures puts { Puts (Some self.old.bytes) (Some self.new.bytes) piece.now result }
         ensures ok { OnOk result (self.new ≡ record (after_call self.old) { bytes = self.old.bytes ++ piece.now }) }
         ensures err { OnErr result (self.new ≡ after_call self.old) }

@@ -1,4 +1,5 @@
-//! The ends of texts over std's readers and writers. What bytes these have is told as far as they tell it themselves.
+//! The ends of texts over std's readers and writers. What bytes these have is told as far as they tell
+//! it themselves.
 
 ghost use Rattle.std.specs.Prelude.{◌≡◌, ◌<◌, ◌≤◌, None, length, IfOk, OnOk, OnErr, IsErrOf};
 ghost use Rattle.std.specs.Io.KnownBytes.{ReadConsumes, WriteAppends};
@@ -116,7 +117,7 @@ impl<W: Write + Drop> TextOut for RealOut<W> {
     fn put(&mut self, piece: &[u8]) -> Result<usize, TextError>
         ensures within { IfOk result (λ n. n ≤ length piece.now) }
         ensures bytes { WriteAppends self.old.known self.new.known result piece.now }
-        ensures some { IfOk result (λ n. 0 < length piece.now → 0 < n) }
+        ensures positive { IfOk result (λ n. 0 < length piece.now → 0 < n) }
         ensures ok { OnOk result (self.new.faults ≡ self.old.faults) }
         ensures err { OnErr result (self.new.faults ≡ counted self.old.faults) }
         ensures faults { CountsFaults self.old.faults self.new.faults (IsErrOf result TextError.Fault) }

@@ -64,7 +64,7 @@ fields_plain (b ∷ text) = by_test (is_space b) refl (fields_plain text) where
 
 -- a text is its fields
 pub are_fields : (text : List ℕ) → AreFields text (fields text)
-are_fields text = record { some = fields_some text; whole = sym (join_with_byte-slice_split space text); no_space = fields_plain text }
+are_fields text = record { positive = fields_some text; whole = sym (join_with_byte-slice_split space text); no_space = fields_plain text }
 
 -- a text without a space is one field
 fields_alone : (text : List ℕ) → HasNo space text → fields text ≡ text ∷ []
@@ -89,4 +89,4 @@ joined_again (field ∷ next ∷ all) some none =
 
 -- the fields of a text are those that it is cut into
 pub fields_are : (text : List ℕ) (all : List (List ℕ)) → AreFields text all → fields text ≡ all
-fields_are text all are = ap fields are.whole ∙ joined_again all are.some are.no_space
+fields_are text all are = ap fields are.whole ∙ joined_again all are.positive are.no_space

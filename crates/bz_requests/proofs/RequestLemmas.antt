@@ -30,7 +30,7 @@ path_found field path read = by_test (nat_lt 0 (length field) && is_utf8 field) 
     by_test true is from =
         let same : field ≡ path = cc in
         let parts = and_parts (nat_lt 0 (length field)) (is_utf8 field) is in
-        record { same = same; some = ltb-true 0 (length field) parts.0; utf8 = IsUtf8-from_is_utf8 field parts.1 }
+        record { same = same; positive = ltb-true 0 (length field) parts.0; utf8 = IsUtf8-from_is_utf8 field parts.1 }
 
 target_found : (kind field : List ℕ) (target : Target) → target_in kind field ≡ Some target → IsTarget kind field target
 target_found kind field target =
@@ -116,7 +116,7 @@ fields_found (first ∷ others) request read = by_word read
 -- What the fields spell is read.
 
 path_again : (field path : List ℕ) → IsPath field path → path_in field ≡ Some path
-path_again field path is = path_some field is.some is.utf8 ∙ ap Some is.same
+path_again field path is = path_some field is.positive is.utf8 ∙ ap Some is.same
 
 target_again : (kind field : List ℕ) (target : Target) → IsTarget kind field target → target_in kind field ≡ Some target
 target_again kind field (Breakpad path) (is, spelled) = ap (λ k. target_in k field) is ∙ ap (option_map (λ path. Breakpad path)) (path_again field path spelled)

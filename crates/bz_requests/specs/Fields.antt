@@ -5,7 +5,7 @@ use Rattle.bz_base.specs.Byte.{HasNo, space}
 
 -- the text is these fields, with a space between each two and none within a field
 pub record AreFields (text : List ℕ) (all : List (List ℕ)) : Type 0 where
-  pub some : 0 < length all
+  pub positive : 0 < length all
   pub whole : text ≡ join_with_byte space all
   pub no_space : AllByRecursion (HasNo space) all
 

@@ -8,13 +8,15 @@ use Rattle.bz_base.specs.Line.{AreLines, all_lines}
 abbrev pub EndsInReturn : List ℕ → Type 0
 EndsInReturn line = (front : List ℕ) × (line ≡ front ++ carriage_return ∷ [])
 
--- a line's content: the line without the one carriage return that ends it, or the whole line where none does
+-- a line's content: the line without the one carriage return that ends it, or the whole line where none
+-- does
 abbrev pub IsContent : List ℕ → List ℕ → Type 0
 IsContent line content = (line ≡ content ++ carriage_return ∷ []) ⊎ ((line ≡ content) × ¬ EndsInReturn line)
 
 -- what a content that isn't empty spells, as a relation
 module _ {A : Type 0} (Spells : List ℕ → A → Type 0) where
-  -- what a line says: nothing where its content is empty, so that it is skipped, and else the item that its content spells
+  -- what a line says: nothing where its content is empty, so that it is skipped, and else the item that
+  -- its content spells
   abbrev pub Says : List ℕ → Option A → Type 0
   Says line None = IsContent line []
   Says line (Some item) = (b : ℕ) × (content : List ℕ) × IsContent line (b ∷ content) × Spells (b ∷ content) item
@@ -31,7 +33,8 @@ module _ {A : Type 0} (Spells : List ℕ → A → Type 0) where
     pub each : AllZip Says lines said
     pub in_order : items ≡ flat_map option_to_list said
 
-  -- line n of the text is the first that isn't well formed; all lines count, the skipped ones too, from 1
+  -- line n of the text is the first that isn't well formed; all lines count, the skipped ones too, from
+  -- 1
   pub record IsFirstBad (text : List ℕ) (n : ℕ) : Type 0 where
     pub before : List (List ℕ)
     pub line : List ℕ
@@ -45,7 +48,8 @@ module _ {A : Type 0} (Spells : List ℕ → A → Type 0) where
   abbrev pub HasBadLine : List ℕ → Type 0
   HasBadLine text = (n : ℕ) × IsFirstBad text n
 
--- a reader reads what contents spell: of a content that isn't empty it reads an item exactly where the content spells it
+-- a reader reads what contents spell: of a content that isn't empty it reads an item exactly where the
+-- content spells it
 abbrev pub ReadsAsSpelled : {A : Type 0} → (List ℕ → Option A) → (List ℕ → A → Type 0) → Type 0
 ReadsAsSpelled {A} reads Spells = (b : ℕ) (content : List ℕ) (item : A) → (reads (b ∷ content) ≡ Some item) ↔ Spells (b ∷ content) item
 
@@ -70,12 +74,13 @@ module _ {A : Type 0} (reads : List ℕ → Option A) where
   said_in [] = Some None
   said_in (b ∷ text) = option_map (λ item. Some item) (reads (b ∷ text))
 
-  -- the items of the lines, or the number of the first that isn't well formed; the lines are numbered from n
+  -- the items of the lines, or the number of the first that isn't well formed; the lines are numbered
+  -- from n
   abbrev pub read_lines : ℕ → List (List ℕ) → Result (List A) ℕ
   read_lines n [] = Ok []
   read_lines n (line ∷ lines) = with_said n (said_in (content_of line)) (read_lines (n + 1) lines)
 
-  -- the items of the text, or the number of its first bad line. That they are those of the relations above, where reader and
-  -- relation agree, is a law of this crate.
+  -- the items of the text, or the number of its first bad line. That they are those of the relations
+  -- above, where reader and relation agree, is a law of this crate.
   abbrev pub items_in : List ℕ → Result (List A) ℕ
   items_in text = read_lines 1 (all_lines text)

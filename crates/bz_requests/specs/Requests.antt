@@ -19,8 +19,8 @@ pub data Target : Type 0 where
   Elf : List ℕ → Target
   Process : ℕ → Target
 
--- what a symbolizer is asked: the answers of a target to addresses, or to one alone. Or it is to keep, or to forget, an ELF file
--- or the files of a process
+-- what a symbolizer is asked: the answers of a target to addresses, or to one alone. Or it is to keep,
+-- or to forget, an ELF file or the files of a process
 pub data Request : Type 0 where
   Batch : Target → List ℕ → Request
   Single : Target → ℕ → Request
@@ -56,7 +56,7 @@ usual_kind (Process pid) = InProcess
 -- a field is a path: UTF-8 text of at least one byte
 pub record IsPath (field path : List ℕ) : Type 0 where
   pub same : field ≡ path
-  pub some : 0 < length field
+  pub positive : 0 < length field
   pub utf8 : IsUtf8 field
 
 -- a field is a process's id: 1 to 10 decimal digits of a number of 32 bits
@@ -70,8 +70,8 @@ IsTarget kind field (Gsym path) = (kind ≡ codes "gsym") × IsPath field path
 IsTarget kind field (Elf path) = (kind ≡ codes "elf") × IsPath field path
 IsTarget kind field (Process pid) = (kind ≡ codes "process") × IsPid field pid
 
--- fields that spell a request: `KIND TARGET ADDR ..`, `single KIND TARGET ADDR`, `cache elf PATH`, `cache process PID`,
--- `evict elf PATH`, `evict process PID`
+-- fields that spell a request: `KIND TARGET ADDR ..`, `single KIND TARGET ADDR`, `cache elf PATH`,
+-- `cache process PID`, `evict elf PATH`, `evict process PID`
 abbrev pub Spell : List (List ℕ) → Request → Type 0
 Spell all (Batch target addrs) =
     (kind field : List ℕ) × (others : List (List ℕ)) × (all ≡ kind ∷ field ∷ others) × IsTarget kind field target × AllZip IsAddress others addrs

@@ -1,4 +1,5 @@
--- The chain of the records around an address, link by link, and in a table whose records are seen through a view.
+-- The chain of the records around an address, link by link, and in a table whose records are seen
+-- through a view.
 use Rattle.std.proofs.Common.{◌≡◌, inl, inr, ℕ, zero, suc, ◌+◌, ◌-◌, ◌<◌, ◌≤◌, ◌&&◌, nat_lt, map, option_map, List, [], ◌∷◌, ◌++◌, Option, Some, None, refl, sym, ap, subst, ◌∙◌, arith, append_assoc, append-nil}
 use Rattle.bz_search.specs.Nearest.{IsTable}
 use Rattle.bz_search.specs.Span.{inside}

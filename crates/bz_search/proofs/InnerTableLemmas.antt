@@ -49,7 +49,8 @@ module _ {X : Type 0} (depth start : X → ℕ) where
   before_is_lesser at addr x other before = grind (arith, nat_tests)
 
   module _ (records table : List X) (is : IsTable depth start records table) (at addr : ℕ) where
-    -- the last record of the table that doesn't come after the depth and the address is the one to try, if it has the depth
+    -- the last record of the table that doesn't come after the depth and the address is the one to try,
+    -- if it has the depth
     pub table_inner : (place : ℕ) (x : X) → slice_get table place ≡ Some x → depth x ≡ at → start x ≤ addr →
         ((k : ℕ) (y : X) → place < k → slice_get table k ≡ Some y → IsAfter at addr y) →
         inner depth start at addr records ≡ Some x
@@ -83,7 +84,8 @@ module _ {X : Type 0} (depth start : X → ℕ) where
           let starts : start like.like ≤ start x = is.sizes_ascend like.place place like.like x before like.there there (omega (arith, like.start_is)) in
           omega (arith, like.size_is)
 
-    -- where each record of the table up to a place has a lesser depth, and those from there on come after, there is none
+    -- where each record of the table up to a place has a lesser depth, and those from there on come
+    -- after, there is none
     pub table_no_inner : (place : ℕ) → ((k : ℕ) (y : X) → k < place → slice_get table k ≡ Some y → depth y < at) →
         ((k : ℕ) (y : X) → place ≤ k → slice_get table k ≡ Some y → IsAfter at addr y) →
         inner depth start at addr records ≡ None

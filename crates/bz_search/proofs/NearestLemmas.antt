@@ -1,4 +1,5 @@
--- The record that the search by `nearest_covering` gives is the one that `IsNearestCovering` describes, and the only one.
+-- The record that the search by `nearest_covering` gives is the one that `IsNearestCovering` describes,
+-- and the only one.
 use Rattle.std.proofs.Common.{◌≡◌, ◌⊎◌, ℕ, zero, suc, ◌<◌, ◌≤◌, true, false, nat_le, List, [], ◌∷◌, Option, Some, None, option_and_then, refl, sym, ap, subst, ◌∙◌, arith}
 use Rattle.std.specs.List.{slice_get}
 use Rattle.std.proofs.lemmas.Bool.{cond_both}
@@ -86,7 +87,8 @@ module _ {X : Type 0} (start size : X → ℕ) where
   Finds addr records (Some x) = (place : ℕ) × IsCandidate start size records addr place x
   Finds addr records None = (i : ℕ) (y : X) → slice_get records i ≡ Some y → addr < start y
 
-  -- where none of the others fits, the first record is the candidate, unless it starts above the address
+  -- where none of the others fits, the first record is the candidate, unless it starts above the
+  -- address
   first_of_none : (addr : ℕ) (x : X) (xs : List X) → Finds addr xs None → Finds addr (x ∷ xs) (first_of start size addr x None)
   first_of_none addr x xs none = cond_both (nat_le (start x) addr) (Some x) None (Finds addr (x ∷ xs))
       (λ within. (0, candidate_from_before addr (x ∷ xs) x 0 refl (grind (arith, nat_tests)) alone)) all_above where
@@ -97,7 +99,8 @@ module _ {X : Type 0} (start size : X → ℕ) where
         all_above above zero y at = subst (λ w. addr < start w) (same_some x y at) (grind (arith, nat_tests))
         all_above above (suc i) y at = none i y at
 
-  -- of the first record and the candidate among the others, the one that the test prefers is the candidate
+  -- of the first record and the candidate among the others, the one that the test prefers is the
+  -- candidate
   first_of_some : (addr : ℕ) (x : X) (xs : List X) (y : X) → Finds addr xs (Some y) → Finds addr (x ∷ xs) (first_of start size addr x (Some y))
   first_of_some addr x xs y found = cond_both (comes_first start size addr x y) (Some x) (Some y) (Finds addr (x ∷ xs))
       (λ first. (0, candidate_from_before addr (x ∷ xs) x 0 refl (first_not_above addr x y found.0 found.1.not_above first) (x_before first)))

@@ -1,4 +1,5 @@
--- Which of several nested records lies around an address at each depth. The records stand in the order of their file.
+-- Which of several nested records lies around an address at each depth. The records stand in the order
+-- of their file.
 use Rattle.std.specs.Prelude.{◌≡◌, ◌⊎◌, ℕ, zero, suc, ◌+◌, ◌<◌, ◌≤◌, Bool, ◌==◌, nat_le, nat_lt, ◌&&◌, List, [], ◌∷◌, Option, Some, None, if◌then◌else◌, slice_get}
 use Rattle.bz_search.specs.Span.{inside}
 
@@ -7,8 +8,8 @@ abbrev pub depths : ℕ
 depths = 4294967296
 
 module _ {X : Type 0} (depth start : X → ℕ) where
-  -- the record at a place is the one to try at the depth: no other start of that depth lies nearer below the address. Of
-  -- equal starts it is the last
+  -- the record at a place is the one to try at the depth: no other start of that depth lies nearer
+  -- below the address. Of equal starts it is the last
   pub record IsInner (records : List X) (at addr place : ℕ) (x : X) : Type 0 where
     pub there : slice_get records place ≡ Some x
     pub depth_is : depth x ≡ at
@@ -50,8 +51,8 @@ module _ {X : Type 0} (depth start : X → ℕ) where
     unfoldable pub chain : List X → ℕ → List X
     chain records addr = chain_from records addr depths 0
 
-    -- the records are the ones to try at the depth and at those after it, each with the address inside. The chain ends
-    -- where there is no such record, or at the end of depths
+    -- the records are the ones to try at the depth and at those after it, each with the address inside.
+    -- The chain ends where there is no such record, or at the end of depths
     abbrev pub IsChainTo : ℕ → List X → ℕ → ℕ → List X → Type 0
     IsChainTo end records addr at [] = (at ≡ end) ⊎ (around addr (inner at addr records) ≡ None)
     IsChainTo end records addr at (x ∷ xs) = (at < end) × (around addr (inner at addr records) ≡ Some x) × IsChainTo end records addr (at + 1) xs

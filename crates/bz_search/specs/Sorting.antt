@@ -1,4 +1,5 @@
--- A list in the order of two numbers of each item. Items that are alike in both stand in the order of the list.
+-- A list in the order of two numbers of each item. Items that are alike in both stand in the order of
+-- the list.
 use Rattle.std.specs.Prelude.{◌≡◌, ℕ, ◌≤◌, Bool, ◌==◌, nat_lt, ◌&&◌, ◌||◌, List, [], ◌∷◌, if◌then◌else◌}
 use Rattle.std.specs.List.{AllByRecursion}
 

@@ -9,7 +9,8 @@ last_address = 18446744073709551615
 abbrev pub fitting : ℕ → Option ℕ
 fitting addr = if nat_le addr last_address then Some addr else None
 
--- the record has the address inside: it lies from the start on and before the end, and the end fits 64 bits
+-- the record has the address inside: it lies from the start on and before the end, and the end fits 64
+-- bits
 abbrev pub inside : ℕ → ℕ → ℕ → Bool
 inside start size addr = nat_le (start + size) last_address && (nat_le start addr && nat_lt addr (start + size))
 
@@ -17,7 +18,7 @@ inside start size addr = nat_le (start + size) last_address && (nat_le start add
 abbrev pub covers : ℕ → ℕ → ℕ → Bool
 covers start size addr = (size == 0 && addr == start) || inside start size addr
 
--- the same as a relation: the size is 0 and the address is the start; or the end is at most the greatest address, and the
--- address lies from the start on and before the end
+-- the same as a relation: the size is 0 and the address is the start; or the end is at most the
+-- greatest address, and the address lies from the start on and before the end
 abbrev pub Covers : ℕ → ℕ → ℕ → Type 0
 Covers start size addr = ((size ≡ 0) × (addr ≡ start)) ⊎ ((start + size ≤ last_address) × (start ≤ addr) × (addr < start + size))

@@ -1,8 +1,8 @@
 -- A pass along starts that never descend, for the addresses of a batch in their order.
 use Rattle.std.specs.Prelude.{◌≡◌, ℕ, ◌<◌, ◌≤◌, List, length, slice_index}
 
--- where a sweep stands for an address: the starts before the place are below the address, and those from there on aren't;
--- the start at the place is known
+-- where a sweep stands for an address: the starts before the place are below the address, and those
+-- from there on aren't; the start at the place is known
 pub record IsGap (starts : List ℕ) (addr place above : ℕ) : Type 0 where
   pub within : place ≤ length starts
   pub lower : (k : ℕ) → k < place → slice_index starts k < addr

@@ -37,7 +37,7 @@ pub(crate) fn search_group<L: Ledger>(
     steps: &mut Steps<L>,
 ) -> Result<(), AllocError>
     requires so_far { AreFoundSoFar table.now addrs.now places.old.items }
-    requires some { length places.old.items < length addrs.now }
+    requires left { length places.old.items < length addrs.now }
     requires short { HaveShortPlaces table.now }
     ensures so_far { OnOk result (AreFoundSoFar table.now addrs.now places.new.items) }
     ensures further { OnOk result (length places.old.items < length places.new.items) }

@@ -21,7 +21,8 @@ pub trait Nested: Spanned {
         ensures { result ≡ depth self.now };
 }
 
-/// Puts records into the order of depth and start, and leaves those that are alike in both as they stand.
+/// Puts records into the order of depth and start, and leaves those that are alike in both as they
+/// stand.
 pub fn sort_nested<T: Nested>(records: &mut Vec<T>) -> Result<(), AllocError>
     ensures table { OnOk result (IsTable T.depth T.start records.old.items records.new.items) }
     ensures err { OnErr result (records.new.items ≡ records.old.items) }

@@ -13,8 +13,8 @@ pub fn covers_is_exact()
 {}
 
 /// Over records of any kind with a start and a size, `candidate` gives the record that is to be tried.
-/// It gives none exactly where each starts above the address. `nearest_covering` gives that record if it
-/// covers the address, and else none. No other answer is right.
+/// It gives none exactly where each starts above the address. `nearest_covering` gives that record if
+/// it covers the address, and else none. No other answer is right.
 pub fn nearest_is_exact<T>()
     ensures tried { (start size : T → ℕ) (records : List T) (addr : ℕ) (x : T) → (candidate start size addr records ≡ Some x) ↔ ((place : ℕ) × IsCandidate start size records addr place x) }
     ensures none { (start size : T → ℕ) (records : List T) (addr : ℕ) → (candidate start size addr records ≡ None) ↔ ((i : ℕ) (y : T) → slice_get records i ≡ Some y → addr < start y) }

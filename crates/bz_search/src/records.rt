@@ -72,7 +72,7 @@ fn find<T: Spanned>(table: &[T], addr: Addr) -> Option<(usize, Addr)>
 fn find_blank<T: Spanned, L: Ledger>(table: &[T], addr: Addr, blank: Blank) -> Option<(usize, Addr)>
     requires name { blank.name ≡ L.name }
     requires parts { blank.parts ≡ L.parts }
-    requires some { 0 < L.parts }
+    requires positive { 0 < L.parts }
     requires ascend { NeverDescends (map T.start table.now) }
     ensures { IsFound (map T.start table.now) addr result }
 {

@@ -27,7 +27,8 @@ pub trait Spanned {
         ensures { result ≡ size self.now };
 }
 
-/// Puts records into the order of start and size, and leaves those that are alike in both as they stand.
+/// Puts records into the order of start and size, and leaves those that are alike in both as they
+/// stand.
 pub fn sort_table<T: Spanned>(records: &mut Vec<T>) -> Result<(), AllocError>
     ensures table { OnOk result (IsTable T.start T.size records.old.items records.new.items) }
     ensures count { length records.new.items ≡ length records.old.items }

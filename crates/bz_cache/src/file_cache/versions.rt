@@ -1,6 +1,6 @@
 //! The kept versions, by their stamps, and how many paths name each.
 
-ghost use Rattle.std.specs.Prelude.{◌≡◌, ◌<◌, ◌^◌, nat_lt, nat_le, false, cond, option_map, IfOk, OnOk, OnErr, IsOkUnless, IsSome, is_some, Some};
+ghost use Rattle.std.specs.Prelude.{◌≡◌, ◌<◌, ◌^◌, nat_lt, nat_le, true, false, cond, option_map, IfOk, OnOk, OnErr, IsOkUnless, IsSome, is_some, Some};
 ghost use Rattle.std.specs.Option.{option_map_or};
 ghost use Rattle.std.specs.FinMap as map;
 ghost use Rattle.bz_files.specs.declared.stamp.Stamp.{Stamp};
@@ -103,6 +103,7 @@ pub fn release<T: Version + Drop>(
     versions: &mut BTreeMap<Stamp, KeptVersion<T>>,
     held: HeldPath,
 ) -> bool
+    requires { (s : Stamp) → names (path_state held) s ≡ true → IsSome (map.get (counted_of T.bytes_of versions.old) s) }
     ensures dropped { result ≡ nat_lt (map.len (kept_of T.bytes_of versions.new)) (map.len (kept_of T.bytes_of versions.old)) }
     ensures counted { (s : Stamp) → map.get (counted_of T.bytes_of versions.new) s ≡ released (names (path_state held) s) (map.get (counted_of T.bytes_of versions.old) s) }
 {
@@ -115,6 +116,7 @@ fn release_all<T: Version + Drop>(
     versions: &mut BTreeMap<Stamp, KeptVersion<T>>,
     mut held: HeldPath,
 )
+    requires { (s : Stamp) → names (path_state held) s ≡ true → IsSome (map.get (counted_of T.bytes_of versions.old) s) }
     ensures { (s : Stamp) → map.get (counted_of T.bytes_of versions.new) s ≡ released (names (path_state held) s) (map.get (counted_of T.bytes_of versions.old) s) }
 {
     while let Some(stamp) = held.earlier.pop() {
@@ -127,6 +129,7 @@ fn release_all<T: Version + Drop>(
 }
 
 fn release_one<T: Version + Drop>(versions: &mut BTreeMap<Stamp, KeptVersion<T>>, stamp: &Stamp)
+    requires { IsSome (map.get (counted_of T.bytes_of versions.old) stamp.now) }
     ensures { (s : Stamp) → map.get (counted_of T.bytes_of versions.new) s ≡ released (stamp_eq stamp.now s) (map.get (counted_of T.bytes_of versions.old) s) }
 {
     if lower(versions, stamp) {
@@ -136,6 +139,7 @@ fn release_one<T: Version + Drop>(versions: &mut BTreeMap<Stamp, KeptVersion<T>>
 
 // Counts one path fewer. Says whether it was the last.
 fn lower<T: Version + Drop>(versions: &mut BTreeMap<Stamp, KeptVersion<T>>, stamp: &Stamp) -> bool
+    requires { IsSome (map.get (counted_of T.bytes_of versions.old) stamp.now) }
     ensures last { result ≡ option_map_or (λ version. nat_le version.paths 1) (map.get (counted_of T.bytes_of versions.old) stamp.now) false }
     ensures counted { (s : Stamp) → map.get (counted_of T.bytes_of versions.new) s ≡ cond (stamp_eq stamp.now s) (option_map one_fewer (map.get (counted_of T.bytes_of versions.old) s)) (map.get (counted_of T.bytes_of versions.old) s) }
 {
@@ -144,7 +148,7 @@ fn lower<T: Version + Drop>(versions: &mut BTreeMap<Stamp, KeptVersion<T>>, stam
             kept.paths = kept.paths.saturating_sub(1);
             kept.paths == 0
         }
-        None => false,
+        None => unreachable!(),
     }
 }
 

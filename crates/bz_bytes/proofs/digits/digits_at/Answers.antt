@@ -15,7 +15,7 @@ overflow_mul-value c =
     let at = c.loop-byte in
     let so_far = at.invariant in
     let fits = more_fits c.args.base c.args.most c.args.text.now at.len at.byte-index c.from-digit.result at.value so_far.counted (omega arith) so_far.digits so_far.valued
-    (c.from-digit.ensures ∙ c.digit.ensures) (omega arith) (omega arith) c.requires.some c.requires.fits in
+    (c.from-digit.ensures ∙ c.digit.ensures) (omega arith) (omega arith) c.requires.positive c.requires.fits in
     omega (arith, fits)
 
 pub overflow_add-value : goal.overflow_add-value
@@ -23,7 +23,7 @@ overflow_add-value c =
     let at = c.loop-byte in
     let so_far = at.invariant in
     let fits = more_fits c.args.base c.args.most c.args.text.now at.len at.byte-index c.from-digit.result at.value so_far.counted (omega arith) so_far.digits so_far.valued
-    (c.from-digit.ensures ∙ c.digit.ensures) (omega arith) (omega arith) c.requires.some c.requires.fits in
+    (c.from-digit.ensures ∙ c.digit.ensures) (omega arith) (omega arith) c.requires.positive c.requires.fits in
     omega (arith, fits)
 
 pub loop-byte-preserved : goal.loop-byte-preserved
@@ -54,4 +54,4 @@ pub returns-clause-small : goal.returns-clause-small
 returns-clause-small c =
     let at = c.loop-byte in
     let so_far = at.invariant in
-    front_small c.args.base c.args.most c.args.text.now at.len at.value c.requires.some so_far.few so_far.digits so_far.valued
+    front_small c.args.base c.args.most c.args.text.now at.len at.value c.requires.positive so_far.few so_far.digits so_far.valued

@@ -3,7 +3,8 @@ use Rattle.std.specs.Prelude.{slice_index}
 use Rattle.bz_search.specs.Starts.{NeverDescends}
 use Rattle.bz_search.proofs.starts.nearest.Given as goal
 
--- the place lies from `low` up to `high`, whose neighbours' starts are known; each probe halves what is left
+-- the place lies from `low` up to `high`, whose neighbours' starts are known; each probe halves what is
+-- left
 abbrev pub invariant-loop-low : goal.invariant-loop-low
 invariant-loop-low g l = record {
   ordered : l.low ≤ l.high;

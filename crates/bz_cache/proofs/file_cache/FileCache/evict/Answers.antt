@@ -1,13 +1,22 @@
-use Rattle.std.proofs.Common.{sym, ◌∙◌, refl}
+use Rattle.std.proofs.Common.{is_some, sym, ap, ◌∙◌, refl}
 use Rattle.std.specs.Cmp.Lexicographic.{nat_list_cmp_total}
+use Rattle.std.specs.FinMap as map
 use Rattle.bz_cache.specs.Cache.{Cache}
+use Rattle.bz_cache.specs.Counts.{Counted}
 use Rattle.bz_cache.specs.Store.{kept_of, counted_of, paths_of, path_state}
 use Rattle.bz_cache.proofs.Counted.{invariant_left, left_evicted, fewer_left}
 use Rattle.bz_cache.proofs.Evicting.{stays_unheld, evicted_unheld, evicts_unheld}
 use Rattle.bz_cache.proofs.FiniteMaps.{remove_absent}
 use Rattle.bz_cache.proofs.Naming.{paths_apart}
-use Rattle.bz_cache.proofs.Stored.{kept_counted}
+use Rattle.bz_cache.proofs.Stored.{is_some-map, kept_counted}
 use Rattle.bz_cache.proofs.file_cache.FileCache.evict.Goals as goal
+
+-- what the path names is kept
+pub release-requires : goal.release-requires
+release-requires g c = λ s named.
+    sym (is_some-map (λ (v : Counted). v.bytes) (map.get (counted_of g.T.Version.bytes_of c.self.inside.versions) s))
+    ∙ sym (ap is_some (kept_counted g.T.Version.bytes_of c.self.inside.versions s))
+    ∙ c.self.invariant.0.held c.args.path.now (path_state c.in-Some.held) s (sym c.in-Some.ensures.value) named
 
 -- the path that is forgotten isn't counted any more
 pub invariant_of-self : goal.invariant_of-self

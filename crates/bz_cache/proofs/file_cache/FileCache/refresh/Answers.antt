@@ -16,7 +16,7 @@ returns-then-is_kept-clause-cache g c = record {
   told = search rules;
   refused = search rules;
   current = rw c.in_ok-update_path.ensures.ok (current_named c.args.self.now c.args.path.now c.in_ok-stamp.stamp (bytes_at c.args.self.now c.in_ok-stamp.stamp));
-  some = some_kept g.T.Version.test c.args.self.now c.update_path.new.self c.args.path.now c.in_ok-stamp.stamp c.is_kept.ensures.consistent (sym c.is_kept.ensures.kept ∙ c.if-is_kept.true) c.in_ok-update_path.ensures.ok;
+  untold = some_kept g.T.Version.test c.args.self.now c.update_path.new.self c.args.path.now c.in_ok-stamp.stamp c.is_kept.ensures.consistent (sym c.is_kept.ensures.kept ∙ c.if-is_kept.true) c.in_ok-update_path.ensures.ok;
   consistent = search rules;
 }
 
@@ -38,7 +38,7 @@ returns-clause-cache g c = record {
   told = λ w told. rw (read_lies _ _ _ (c.in_ok-read.ensures.answer w (rw c.in_ok-stamp.ensures.files.worlds told))) c.take_in.ensures.state;
   refused = c.take_in.ensures.err;
   current = c.take_in.ensures.current;
-  some = some_taken g.T.Version.test c.args.self.now c.take_in.new.self c.args.path.now (Some (Present c.in_ok-read.read.stamp c.in_ok-read.read.bytes.items)) c.take_in.result c.take_in.ensures.answer c.take_in.ensures.state;
+  untold = some_taken g.T.Version.test c.args.self.now c.take_in.new.self c.args.path.now (Some (Present c.in_ok-read.read.stamp c.in_ok-read.read.bytes.items)) c.take_in.result c.take_in.ensures.answer c.take_in.ensures.state;
   consistent = c.take_in.ensures.consistent;
 }
 
