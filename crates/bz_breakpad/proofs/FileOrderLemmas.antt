@@ -1,4 +1,5 @@
--- The PUBLIC records that are kept in order are those of a file in order. The ids of names stand at the indices of their names.
+-- The PUBLIC records that are kept in order are those of a file in order.
+-- The ids of names stand at the indices of their names.
 use Rattle.std.proofs.Common.{◌≡◌, ℕ, ◌<◌, List, [], ◌∷◌, length, map, Some, refl, sym, ap, subst, ◌∙◌, arith}
 use Rattle.std.specs.List.{slice_get}
 use Rattle.std.specs.Map.{keys_of}

@@ -1,4 +1,5 @@
--- The plain answer as a table of symbols gives it: where it is refused, and what it becomes at the address.
+-- The plain answer as a table of symbols gives it: where it is refused,
+-- and what it becomes at the address.
 use Rattle.std.proofs.Common.{◌≡◌, ℕ, ◌+◌, ◌-◌, ◌<◌, Bool, true, false, List, [], ◌∷◌, length, Option, Some, None, Result, Ok, Err, refl, sym, ap, subst, ◌∙◌, arith}
 use Rattle.std.proofs.lemmas.Option.{slice_get_within}
 use Rattle.bz_base.specs.Answer.{Answer, Gives, Resolved, reading}

@@ -1,4 +1,5 @@
--- Functions that are found by their keys, which are put in order: a key tells the file's function at its index.
+-- Functions that are found by their keys, which are put in order:
+-- a key tells the file's function at its index.
 use Rattle.std.proofs.Common.{◌≡◌, ℕ, suc, ◌+◌, ◌<◌, List, [], ◌∷◌, length, map, get_or, Option, Some, option_map, IfSome, refl, sym, subst, ap, ap₂, ◌∙◌, arith}
 use Rattle.std.specs.List.{AllByRecursion, slice_get, slice_index_or}
 use Rattle.std.proofs.lemmas.Option.{get_or_from_slice_get, slice_get-map, slice_get_read}

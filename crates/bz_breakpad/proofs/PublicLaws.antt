@@ -1,4 +1,5 @@
--- The PUBLIC record that answers for an address is the nearest one, and there is none exactly where each starts above it.
+-- The PUBLIC record that answers for an address is the nearest one,
+-- and there is none exactly where each starts above it.
 use Rattle.std.proofs.Common.{◌≡◌, ◌⊎◌, inl, inr, ℕ, zero, suc, ◌<◌, ◌≤◌, List, [], ◌∷◌, Some, None, refl, sym, ap, subst, ◌∙◌, arith}
 use Rattle.std.specs.List.{slice_get}
 use Rattle.std.proofs.lemmas.Bool.{cases_lt}

@@ -1,4 +1,5 @@
--- The PUBLIC record that a search among the addresses of PUBLIC records finds, and whether a function starts after it.
+-- The PUBLIC record that a search among the addresses of PUBLIC records finds,
+-- and whether a function starts after it.
 use Rattle.std.proofs.Common.{◌≡◌, inl, inr, ℕ, zero, suc, ◌<◌, ◌≤◌, Bool, true, false, cond, nat_le, ◌&&◌, ◌||◌, List, [], ◌∷◌, length, map, option_map, get_or, Option, Some, None, refl, sym, ap, subst, ◌∙◌, arith}
 use Rattle.std.specs.List.{list_any, slice_get, slice_index}
 use Rattle.std.proofs.lemmas.Bool.{cases_lt, le-leb, leb-true, and_parts, true≢false}

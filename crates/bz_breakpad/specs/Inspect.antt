@@ -52,7 +52,8 @@ infos_of functions = map function_info (ordered_functions functions)
 abbrev pub infos_in : List ℕ → List Info
 infos_in bytes = infos_of (functions_of (table_in bytes))
 
--- only functions are told: all of them are where they or symbols of any kind are asked for, and variables are refused
+-- only functions are told: all of them are where they or symbols of any kind are asked for,
+-- and variables are refused
 abbrev pub told_of : SymType → List Info → Result (List Info) Error
 told_of kinds.Variable infos = Err errors.Unsupported
 told_of _ infos = Ok infos

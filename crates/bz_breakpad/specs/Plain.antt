@@ -14,15 +14,16 @@ use Rattle.bz_breakpad_function.specs.Locations.{Location, location_at}
 abbrev pub function_at : ℕ → List Function → Option Function
 function_at addr functions = nearest_covering (λ f. f.start) (λ f. f.size) addr functions
 
--- the PUBLIC record at a place answers for the address: no other starts nearer below it, and of equal starts it is the first
+-- the PUBLIC record at a place answers for the address: no other starts nearer below it,
+-- and of equal starts it is the first
 pub record IsNearestPublic (publics : List PublicSymbol) (addr place : ℕ) (p : PublicSymbol) : Type 0 where
   pub there : slice_get publics place ≡ Some p
   pub not_above : p.start ≤ addr
   pub closest : (i : ℕ) (q : PublicSymbol) → slice_get publics i ≡ Some q → q.start ≤ addr → q.start ≤ p.start
   pub first : (i : ℕ) (q : PublicSymbol) → slice_get publics i ≡ Some q → q.start ≡ p.start → place ≤ i
 
--- of a PUBLIC record and the one found among those after it, the one that starts nearer below the address, and of equals the
--- first
+-- of a PUBLIC record and the one found among those after it, the one that starts nearer below the
+-- address, and of equals the first
 abbrev pub first_public : ℕ → PublicSymbol → Option PublicSymbol → Option PublicSymbol
 first_public addr p None = if nat_le p.start addr then Some p else None
 first_public addr p (Some q) = if nat_le p.start addr && nat_le q.start p.start then Some p else Some q
@@ -76,7 +77,8 @@ abbrev pub by_function : Table → FindSymOpts → ℕ → Option Function → R
 by_function table opts addr None = Ok (by_public table addr (public_at addr table.publics))
 by_function table opts addr (Some f) = by_location table f addr (location_at table opts f addr)
 
--- the answer of the records: where there are no functions and no PUBLIC records at all, symbols are missing
+-- the answer of the records: where there are no functions and no PUBLIC records at all,
+-- symbols are missing
 abbrev pub by_records : Table → FindSymOpts → ℕ → List Function → List PublicSymbol → Result Answer Error
 by_records table opts addr [] [] = Ok (Unknown reasons.MissingSyms)
 by_records table opts addr [] (p ∷ publics) = by_function table opts addr None

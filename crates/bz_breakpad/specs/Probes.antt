@@ -4,12 +4,14 @@ use Rattle.bz_base.specs.Starts.{AreFew}
 use Rattle.bz_breakpad_lines.specs.Table.{PublicSymbol, Table}
 use Rattle.bz_breakpad_table.specs.Publics.{AreAddresses}
 
--- probes for addresses among starts: no more than a pass along the starts takes, nor than a search for each address
+-- probes for addresses among starts: no more than a pass along the starts takes,
+-- nor than a search for each address
 pub record AreProbes (probes addrs starts : ℕ) : Type 0 where
   pub swept : probes ≤ addrs + starts
   pub searched : (p : ℕ) → starts < 2 ^ p → probes ≤ addrs * p
 
--- probes among the starts of functions, and among the addresses of these PUBLIC records where there are some, each few enough
+-- probes among the starts of functions, and among the addresses of these PUBLIC records where there are
+-- some, each few enough
 pub record AreProbesOf (IsEnough : ℕ → ℕ → Type 0) (publics : List PublicSymbol) (probes functions : ℕ) : Type 0 where
   pub addresses : List ℕ
   pub are : AreAddresses (map (λ p. p.start) publics) addresses

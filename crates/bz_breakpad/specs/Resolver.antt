@@ -28,7 +28,8 @@ opened None = Err errors.NotFound
 opened (Some Denied) = Err errors.PermissionDenied
 opened (Some (Present stamp bytes)) = read_of bytes (table_in bytes)
 
--- a symbol as a table of symbols gives it, without an address's distance from its start and without the mark of a PUBLIC record
+-- a symbol as a table of symbols gives it, without an address's distance from its start and without the
+-- mark of a PUBLIC record
 abbrev pub resolved_in : Symbol → Resolved
 resolved_in s = record {
   name = s.name;

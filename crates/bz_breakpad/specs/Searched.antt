@@ -9,12 +9,14 @@ use Rattle.bz_breakpad_table.specs.Publics.{IsPublicTable}
 use Rattle.bz_breakpad_table.specs.Sorted.{starts_of}
 use Rattle.bz_breakpad_table.specs.declared.types.KeptTable.{KeptTable}
 
--- the starts are those of the functions that are kept, and the table of PUBLIC records is that of those that are
+-- the starts are those of the functions that are kept, and the table of PUBLIC records is that of those
+-- that are
 pub record IsSearched (s : Searched) : Type 0 where
   pub starts : s.starts.now ≡ starts_of s.kept.now.code
   pub publics : IsPublicTable s.kept.now.publics.items s.publics.now
 
--- each address has the function that answers for it, or is left; no function answers for those that are left
+-- each address has the function that answers for it, or is left;
+-- no function answers for those that are left
 pub record AreFoundFunctions (kept : KeptTable) (addrs : List ℕ) (found : FoundFunctions) : Type 0 where
   pub functions : OfItsTable kept (λ table. AreFunctionsFor table addrs found.records.items found.left.items 0)
   pub count : length found.records.items ≡ length addrs

@@ -266,8 +266,9 @@ impl SymbolFile {
     }
 
     /// The answers to addresses whose records were found, in their order, each the file's answer at
-    /// that address alone. An address that is refused is an ignored error. Addresses are relative to the
-    /// module's base. Nothing is searched for among functions and PUBLIC records.
+    /// that address alone. An address that is refused is an ignored error.
+    /// Addresses are relative to the module's base.
+    /// Nothing is searched for among functions and PUBLIC records.
     pub fn answers_by(
         &self,
         alloc: Global,
@@ -290,8 +291,9 @@ impl SymbolFile {
         batch.answers(alloc, opts)
     }
 
-    /// The answer at an address alone whose record was found, relative to the module's base. InvalidInput:
-    /// an id of a file or of an origin there names nothing, or a source name has no component.
+    /// The answer at an address alone whose record was found, relative to the module's base.
+    /// InvalidInput: an id of a file or of an origin there names nothing,
+    /// or a source name has no component.
     pub fn answer_by(
         &self,
         alloc: Global,
@@ -353,8 +355,8 @@ impl SymbolFile {
         self.answer_by(alloc, addr, found, opts)
     }
 
-    /// The symbol of the file's answer at an address alone, which is relative to the module's base, or why
-    /// there is none.
+    /// The symbol of the file's answer at an address alone, which is relative to the module's base,
+    /// or why there is none.
     pub(crate) fn symbol<L: Ledger>(
         &self,
         alloc: Global,

@@ -115,8 +115,8 @@ impl Searched<'_> {
         records
     }
 
-    /// The PUBLIC record that answers for an address for which no function does. The places are those that
-    /// searches among the starts of functions and PUBLIC records found.
+    /// The PUBLIC record that answers for an address for which no function does.
+    /// The places are those that searches among the starts of functions and PUBLIC records found.
     fn public_record(
         &self,
         place: Option<usize>,
@@ -185,8 +185,8 @@ pub(crate) fn function_index(kept: &KeptTable, place: Option<usize>, addr: Addr)
     }
 }
 
-/// Whether a function starts between two addresses, or at one of them. For the second one a search among
-/// the functions' starts found the place.
+/// Whether a function starts between two addresses, or at one of them.
+/// For the second one a search among the functions' starts found the place.
 fn starts_between(code: &FunctionTable, from: u64, place: Option<usize>) -> bool
     requires within { IfSome place (λ p. p < length (starts_of code.now)) }
     ensures { (addr : ℕ) → NeverDescends (starts_of code.now) → IsAt (starts_of code.now) addr place → result ≡ any_between from addr (starts_of code.now) }

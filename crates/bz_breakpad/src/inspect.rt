@@ -42,8 +42,8 @@ pub trait Inspect {
     /// What it tells of the symbols of a kind, in its order; or the refusal of the kind.
     ghost told: { Self → SymType → Result (List Info) Error };
 
-    /// What is told of the symbols of a name, in the table's order: of a Breakpad file by start, size and
-    /// place in the file. Unsupported: the table has no symbols of the kind.
+    /// What is told of the symbols of a name, in the table's order: of a Breakpad file by start,
+    /// size and place in the file. Unsupported: the table has no symbols of the kind.
     fn find_addr(&self, alloc: Global, name: &str, opts: &FindAddrOpts) -> Result<Vec<SymInfo<'_>>>
         ensures answer { Gives (λ infos. map info_of infos.items) (told_named name.now (told self.now opts.now.sym_type)) result }
         ensures memory { IfErr result (WantsMemory (IsOk (told self.now opts.now.sym_type))) };

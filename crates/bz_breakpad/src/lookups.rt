@@ -174,8 +174,8 @@ impl<'f, 'b> FoundAddrs<'f, 'b> {
         }
     }
 
-    /// What stands at the far places of an answer. All of it is read: each read brings memory close that
-    /// the answer reads.
+    /// What stands at the far places of an answer.
+    /// All of it is read: each read brings memory close that the answer reads.
     fn touched(&self, far: &FarPlaces) -> Touched {
         Touched {
             name: self.bytes.get(far.name).copied(),
@@ -224,7 +224,8 @@ impl FarPlaces {
 struct Touched {
     /// The first byte of the function's name.
     name: Option<u8>,
-    /// The depth of its first inlined call. Where it has none, another function's stands there, or none.
+    /// The depth of its first inlined call.
+    /// Where it has none, another function's stands there, or none.
     depth: Option<u32>,
     /// The byte where its line record is likely to stand.
     line: Option<u8>,
@@ -233,9 +234,9 @@ struct Touched {
 }
 
 impl Touched {
-    /// Whether the function has a name, and line records that are text to the end of a line. The inlined
-    /// call where its own begin, if one stands there, must lie in no other. No test is skipped where another
-    /// fails, so that all that was read is waited for together.
+    /// Whether the function has a name, and line records that are text to the end of a line.
+    /// The inlined call where its own begin, if one stands there, must lie in no other.
+    /// No test is skipped where another fails, so that all that was read is waited for together.
     fn is_usual(&self) -> bool {
         let named = match self.name {
             Some(first) => first != b'\n',

@@ -117,7 +117,7 @@ fn symbol_blank<'a, L: Ledger>(
 ) -> Result<std::result::Result<ResolvedSym<'a>, Reason>>
     requires name { blank.name ≡ L.name }
     requires parts { blank.parts ≡ L.parts }
-    requires some { 0 < L.parts }
+    requires positive { 0 < L.parts }
     ensures answer { MayGive found_of (IsPlain file.now opts.now addr) result }
     ensures starts { IfOk result (λ found. StartsBefore addr (found_of found)) }
     ensures lent { IfOk result (λ found. IfOk found IsLentResolved) }

@@ -1,4 +1,5 @@
--- A run at the front of a text: its lines are the same in the whole text, and so are those of its parts.
+-- A run at the front of a text: its lines are the same in the whole text,
+-- and so are those of its parts.
 use Rattle.std.proofs.Common.{◌≡◌, ℕ, zero, suc, ◌+◌, ◌-◌, ◌<◌, ◌≤◌, true, false, Bool, cond, not, nat_eq, List, [], ◌∷◌, length, take, drop, option_map, Option, IsSome, refl, sym, ap, subst, ◌∙◌, arith, length-drop}
 use Rattle.std.specs.List.{prefix_len}
 use Rattle.std.specs.Prelude.{slice_index, unwrap_or}
@@ -122,7 +123,7 @@ module _ (text : List ℕ) (len : ℕ) (is_front : IsRunFront text len) where
       within = omega (arith, is.within, long, is_front.within);
       run = subst IsLineRun front_is (front_run run_text cut is is_front.run);
       same = same_in_front text cut (omega (arith, is.within, long, is_front.within))
-          (sym (get_or-take len text (cut - 1) 0 (omega (arith, is.some, is.within, long))) ∙ is.behind);
+          (sym (get_or-take len text (cut - 1) 0 (omega (arith, is.positive, is.within, long))) ∙ is.behind);
     }
 
     pub front_tries : (addr : ℕ) → addr < line_start text cut → candidate_in addr (take cut text) ≡ candidate_in addr run_text
@@ -150,7 +151,7 @@ few_lines (suc len) (b ∷ text) short = by (nat_eq b line_feed) refl (few_lines
 -- behind the first line feed, if bytes come after it
 pub cut_behind : (len : ℕ) (text : List ℕ) → len ≤ length text → (place : ℕ) → 0 < place → place < len → slice_index text (place - 1) ≡ line_feed → IsCut (take len text) place
 cut_behind len text within place some before behind = record {
-  some = some;
+  positive = some;
   within = omega (arith, length-take-le len text within, before);
   behind = get_or-take len text (place - 1) 0 (omega (arith, some, before)) ∙ behind;
 }

@@ -1,4 +1,5 @@
--- Functions and their records, in the orders in which a program walks them. What is alike in an order stands as in the file.
+-- Functions and their records, in the orders in which a program walks them.
+-- What is alike in an order stands as in the file.
 use Rattle.std.specs.Prelude.{◌≡◌, ℕ, List}
 use Rattle.bz_base.specs.Sorting.{sorted}
 use Rattle.bz_breakpad_function.specs.Indexed.{functions_in}

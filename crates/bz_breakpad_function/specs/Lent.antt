@@ -6,7 +6,7 @@ use Rattle.bz_base.specs.Lent.{IsLentCall, IsLentSite}
 use Rattle.bz_breakpad_function.specs.Locations.{Location}
 use Rattle.bz_breakpad_function.specs.declared.locations.Location as locations
 use Rattle.bz_breakpad_lines.specs.Table.{Inlinee}
-use Rattle.bz_breakpad_function.specs.declared.types.Inlinee.{Inlinee as KeptInlinee}
+use Rattle.bz_breakpad_function.specs.declared.types.Inlinee.{Inlinee as GivenInlinee}
 
 -- where an address lies, as plain data
 abbrev pub location_seen : locations.Location → Location
@@ -17,9 +17,9 @@ pub record IsLentLocation (p : locations.Location) : Type 0 where
   pub site : IfSome p.code_info IsLentSite
   pub calls : AllByRecursion IsLentCall p.inlined.items
 
--- an inlined call, as the file says it
-abbrev pub kept_inlinee : KeptInlinee → Inlinee
-kept_inlinee i = record {
+-- an inlined call that a caller gets, as the table has it
+abbrev pub inlinee_seen : GivenInlinee → Inlinee
+inlinee_seen i = record {
   depth = i.depth;
   start = i.addr;
   size = i.size;

@@ -1,5 +1,7 @@
--- Where an address lies in a function: the line record that answers for it, the calls around it, and the site that they tell.
--- The records are those of Breakpad's docs/symbol_files.md. Which line record answers is told by `Nearest` of bz_search.
+-- Where an address lies in a function: the line record that answers for it, the calls around it,
+-- and the site that they tell.
+-- The records are those of Breakpad's docs/symbol_files.md.
+-- Which line record answers is told by `Nearest` of bz_search.
 use Rattle.std.specs.Prelude.{ℕ, List, [], Option, Some, None, option_map, Result, Ok, Err}
 use Rattle.bz_base.specs.Answer.{Site, Call}
 use Rattle.bz_base.specs.Bind.{◌>>=◌}
@@ -14,7 +16,8 @@ use Rattle.bz_base.specs.declared.types.FindSymOpts.TheVariants as asked
 use Rattle.bz_breakpad_lines.specs.Names.{name_for}
 use Rattle.bz_breakpad_lines.specs.Table.{SourceLine, Inlinee, Function, Table}
 
--- where an address lies in the source code: the site in the function, and the calls that were inlined there
+-- where an address lies in the source code: the site in the function,
+-- and the calls that were inlined there
 pub record Location : Type 0 where
   pub site : Option Site
   pub calls : List Call
@@ -41,7 +44,8 @@ abbrev pub inlinee_at : ℕ → ℕ → List Inlinee → Option Inlinee
 inlinee_at depth addr inlinees =
     around (λ i. i.depth) (λ i. i.start) (λ i. i.size) addr (inner (λ i. i.depth) (λ i. i.start) depth addr inlinees)
 
--- a line of the file of an id, whose name is cut into directory and file. None where the name isn't known or has no component
+-- a line of the file of an id, whose name is cut into directory and file.
+-- None where the name isn't known or has no component
 abbrev pub site_in : Table → ℕ → ℕ → Option Site
 site_in table file line = option_map (λ cut. record { dir = cut.0; file = cut.1; line = Some line; column = None }) (name_for file table.files >>= split)
 
@@ -57,7 +61,8 @@ call_name table call = name_for call.origin table.origins
 abbrev pub seen_outside : Table → Inlinee → Site × List Call → Option (Site × List Call)
 seen_outside table = base.seen_outside (call_site table) (call_name table)
 
--- where the code of a line record lies, seen from outside the calls around it; none if something isn't known
+-- where the code of a line record lies, seen from outside the calls around it;
+-- none if something isn't known
 abbrev pub seen_from : Table → List Inlinee → SourceLine → Option (Site × List Call)
 seen_from table calls line = base.seen_from (call_site table) (call_name table) (site_in table line.file line.line) calls
 

@@ -1,7 +1,7 @@
 //! The inlined calls of functions, with what their records say.
 
 ghost use Rattle.std.specs.Prelude.{◌≡◌};
-ghost use Rattle.bz_breakpad_function.specs.Lent.{kept_inlinee};
+ghost use Rattle.bz_breakpad_function.specs.Lent.{inlinee_seen};
 ghost use Rattle.bz_breakpad_table.specs.Kept.{kept_call};
 
 use crate::types::Inlinee;
@@ -11,7 +11,7 @@ use bz_breakpad_table::CallRange;
 
 /// The inlined call of a range, with what its record says.
 pub(crate) fn inlinee_of(bytes: &[u8], range: &CallRange) -> Inlinee
-    ensures { kept_inlinee result ≡ kept_call bytes.now range.now }
+    ensures { inlinee_seen result ≡ kept_call bytes.now range.now }
 {
     let call = call_at(bytes, range.place as usize);
     Inlinee {

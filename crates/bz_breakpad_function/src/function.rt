@@ -6,7 +6,7 @@ ghost use Rattle.bz_base.specs.Nearest.{IsTable};
 ghost use Rattle.bz_base.specs.declared.error.Error.{Error};
 ghost use Rattle.bz_breakpad_function.specs.InOrder.{IsTextOfLines, calls_in_order, lines_in_order};
 ghost use Rattle.bz_breakpad_function.specs.Indexed.{function_in, functions_in};
-ghost use Rattle.bz_breakpad_function.specs.Lent.{kept_inlinee};
+ghost use Rattle.bz_breakpad_function.specs.Lent.{inlinee_seen};
 ghost use Rattle.bz_breakpad_function.specs.Locations.{calls_around, inlinee_at, line_at};
 ghost use Rattle.bz_breakpad_lines.specs.Reader.{table_in};
 ghost use Rattle.bz_breakpad_lines.specs.Table.{Table};
@@ -135,11 +135,11 @@ impl<'a> Function<'a> {
         inlinees_of(self.code, self.kept).len()
     }
 
-    /// The inlined call at an index, in the order of depth and start; those that are alike in both stand
-    /// as in the file.
+    /// The inlined call at an index, in the order of depth and start;
+    /// those that are alike in both stand as in the file.
     pub fn inlinee(&self, index: usize) -> Inlinee
         requires { index < length self.now.inlinees }
-        ensures { slice_get (calls_in_order self.now) index ≡ Some (kept_inlinee result) }
+        ensures { slice_get (calls_in_order self.now) index ≡ Some (inlinee_seen result) }
     {
         inlinee_at_index(self.bytes, self.code, self.kept, index)
     }
@@ -147,7 +147,7 @@ impl<'a> Function<'a> {
     /// The inlined calls, in the order of depth and start; those that are alike in both stand as in the
     /// file.
     pub fn inlinees(&self, alloc: Global) -> Result<Vec<Inlinee>>
-        ensures calls { IfOk result (λ calls. map kept_inlinee calls.items ≡ calls_in_order self.now) }
+        ensures calls { IfOk result (λ calls. map inlinee_seen calls.items ≡ calls_in_order self.now) }
         ensures memory { IsOkUnless result Error.OutOfMemory }
     {
         let calls = all_inlinees(alloc, self.bytes, inlinees_of(self.code, self.kept))?;
@@ -164,7 +164,7 @@ impl<'a> Function<'a> {
     /// The inlined call of a depth that has an address inside, which is relative to the module's
     /// base. Depth 0 is the outermost.
     pub fn find_inlinee_at_depth(&self, depth: u32, addr: Addr) -> Option<Inlinee>
-        ensures { option_map kept_inlinee result ≡ inlinee_at depth addr self.now.inlinees }
+        ensures { option_map inlinee_seen result ≡ inlinee_at depth addr self.now.inlinees }
     {
         inlinee_at(self.bytes, inlinees_of(self.code, self.kept), depth, addr)
     }
@@ -172,7 +172,7 @@ impl<'a> Function<'a> {
     /// The inlined calls around an address, which is relative to the module's base, the outermost
     /// first.
     pub fn find_inlinees(&self, alloc: Global, addr: Addr) -> Result<Vec<Inlinee>>
-        ensures calls { IfOk result (λ calls. map kept_inlinee calls.items ≡ calls_around addr self.now.inlinees) }
+        ensures calls { IfOk result (λ calls. map inlinee_seen calls.items ≡ calls_around addr self.now.inlinees) }
         ensures memory { IsOkUnless result Error.OutOfMemory }
     {
         let ranges = calls_around(alloc, self.bytes, self.code, self.kept, addr)?;
@@ -183,7 +183,7 @@ impl<'a> Function<'a> {
 /// The inlined call of a depth that has the address inside, of ranges in order.
 fn inlinee_at(bytes: &[u8], ranges: &[CallRange], depth: u32, addr: Addr) -> Option<Inlinee>
     ensures { (records : List CallRange) → IsTable (λ c. c.depth) call_start records ranges.now →
-        option_map kept_inlinee result ≡ option_map (kept_call bytes.now) (around (λ c. c.depth) call_start (λ c. c.size) addr (inner (λ c. c.depth) call_start depth addr records)) }
+        option_map inlinee_seen result ≡ option_map (kept_call bytes.now) (around (λ c. c.depth) call_start (λ c. c.size) addr (inner (λ c. c.depth) call_start depth addr records)) }
 {
     match around_in(ranges, depth, addr) {
         Some(range) => Some(inlinee_of(bytes, range)),
@@ -193,7 +193,7 @@ fn inlinee_at(bytes: &[u8], ranges: &[CallRange], depth: u32, addr: Addr) -> Opt
 
 /// The inlined calls of ranges, with what their records say.
 fn inlinees_at(alloc: Global, bytes: &[u8], ranges: &[&CallRange]) -> Result<Vec<Inlinee>>
-    ensures calls { IfOk result (λ calls. map kept_inlinee calls.items ≡ map (λ range. kept_call bytes.now range.now) ranges.now) }
+    ensures calls { IfOk result (λ calls. map inlinee_seen calls.items ≡ map (λ range. kept_call bytes.now range.now) ranges.now) }
     ensures memory { IsOkUnless result Error.OutOfMemory }
 {
     let mut calls = Vec::with_capacity(alloc, ranges.len())?;

@@ -46,8 +46,8 @@ pub(crate) fn line_in_run(bytes: &[u8], run: &Part, hints: Cuts, addr: Addr) -> 
     line_in_front(run_front(bytes, run), len, hints, addr)
 }
 
-/// A run with what stands after it in the bytes, since a load of its last line shows more bytes. The run
-/// alone, if that line has no end.
+/// A run with what stands after it in the bytes, since a load of its last line shows more bytes.
+/// The run alone, if that line has no end.
 #[inline(always)]
 pub(crate) fn run_front<'a>(bytes: &'a [u8], run: &Part) -> &'a [u8]
     requires { IsRunAt bytes.now run.now }
@@ -192,8 +192,8 @@ fn cut_if_near(text: &[u8], len: usize, place: usize) -> usize
 }
 
 /// Where so many bytes of the text are cut in two behind a line feed: by the hint if that is such a
-/// place. Else they are cut near their middle, or behind their first line. None if they have one line at
-/// most.
+/// place. Else they are cut near their middle, or behind their first line.
+/// None if they have one line at most.
 #[inline(always)]
 fn cut_by(text: &[u8], len: usize, hint: usize) -> Option<usize>
     requires { len ≤ length text.now }

@@ -54,7 +54,7 @@ pub(crate) fn line_covering<L: Ledger>(
 ) -> Option<SourceLine>
     requires name { blank.name ≡ L.name }
     requires parts { blank.parts ≡ L.parts }
-    requires some { 0 < L.parts }
+    requires positive { 0 < L.parts }
     requires searchable { AreSearchable bytes.now places.now }
     ensures { (lines : List tables.SourceLine) → IsTable (λ l. l.start) (λ l. l.size) lines (kept_lines bytes.now places.now) →
         option_map line_seen result ≡ nearest_covering (λ l. l.start) (λ l. l.size) addr lines }

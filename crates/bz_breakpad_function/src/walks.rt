@@ -4,7 +4,7 @@ ghost use Rattle.std.specs.Prelude.{◌≡◌, ◌≤◌, ◌<◌, ◌-◌, ◌�
 ghost use Rattle.std.specs.List.{AllByRecursion};
 ghost use Rattle.bz_base.specs.Line as base;
 ghost use Rattle.bz_breakpad_function.specs.InOrder.{IsTextOfLines};
-ghost use Rattle.bz_breakpad_function.specs.Lent.{kept_inlinee};
+ghost use Rattle.bz_breakpad_function.specs.Lent.{inlinee_seen};
 ghost use Rattle.bz_breakpad_lines.specs.LineStarts.{ReadsLine};
 ghost use Rattle.bz_breakpad_lines.specs.Told.{line_seen};
 ghost use Rattle.bz_breakpad_table.specs.Kept.{IsRunAt, function_seen, kept_call, kept_lines, text_at};
@@ -102,7 +102,7 @@ pub(crate) fn inlinee_at_index(
 ) -> Inlinee
     requires function { IsFunction bytes.now code.now function.now }
     requires within { index < function.now.inlinees.to - function.now.inlinees.from }
-    ensures { slice_get (function_seen bytes.now code.now function.now).inlinees index ≡ Some (kept_inlinee result) }
+    ensures { slice_get (function_seen bytes.now code.now function.now).inlinees index ≡ Some (inlinee_seen result) }
 {
     let place = function.inlinees.from as usize + index;
     inlinee_of(bytes, &code.inlinees[place])
@@ -114,7 +114,7 @@ pub(crate) fn all_inlinees(
     bytes: &[u8],
     ranges: &[CallRange],
 ) -> Result<Vec<Inlinee>, AllocError>
-    ensures { IfOk result (λ calls. map kept_inlinee calls.items ≡ map (kept_call bytes.now) ranges.now) }
+    ensures { IfOk result (λ calls. map inlinee_seen calls.items ≡ map (kept_call bytes.now) ranges.now) }
 {
     let mut calls = Vec::with_capacity(alloc, ranges.len())?;
     for range in ranges {
@@ -162,10 +162,10 @@ struct FirstOfRun {
 #[inline(always)]
 fn first_of_run(text: &[u8], len: usize) -> FirstOfRun
     requires run { IsRunFront text.now len }
-    requires some { 0 < len }
+    requires positive { 0 < len }
     ensures lines { lines_in (take len text.now) ≡ line_seen result.line ∷ lines_in (take (len - result.len) (drop result.len text.now)) }
     ensures rest { IsRunFront (drop result.len text.now) (len - result.len) }
-    ensures some { 0 < result.len }
+    ensures positive { 0 < result.len }
     ensures within { result.len ≤ len }
 {
     let next = next_line_record(text);

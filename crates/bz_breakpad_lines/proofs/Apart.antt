@@ -100,7 +100,7 @@ other_than b none c is = false_from_ne_true (nat_eq c b) (λ same. true≢false 
 -- a number begins with a digit
 number_begins : (base most value : ℕ) (test : ℕ → Bool) → ((b : ℕ) → is_digit b base ≡ true → test b ≡ false) →
     (run rest : List ℕ) → IsNumber base most run value → begins_with test (run ++ rest) ≡ false
-number_begins base most value test apart [] rest is = absurd (omega (arith, is.some))
+number_begins base most value test apart [] rest is = absurd (omega (arith, is.positive))
 number_begins base most value test apart (b ∷ run) rest is = apart b (lt-ltb (digit_value b) base is.digits.0)
 
 pub hex_begins : (most : ℕ) (value : ℕ) (test : ℕ → Bool) → ((b : ℕ) → is_hex b ≡ true → test b ≡ false) →

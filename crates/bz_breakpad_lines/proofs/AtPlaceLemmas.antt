@@ -1,4 +1,5 @@
--- Line records and inlined calls at places: where their texts begin, and what their starts are read from.
+-- Line records and inlined calls at places: where their texts begin,
+-- and what their starts are read from.
 use Rattle.std.proofs.Common.{◌≡◌, ℕ, ◌+◌, ◌-◌, ◌<◌, ◌≤◌, true, false, not, ◌==◌, List, [], ◌∷◌, ◌++◌, length, drop, Option, Some, None, unwrap_or, IsSome, refl, sym, ap, ◌∙◌, arith, append_assoc, inl, inr}
 use Rattle.std.specs.List.{prefix_len}
 use Rattle.std.specs.Prelude.{slice_index}

@@ -48,7 +48,7 @@ differ_fronts (t ∷ tag) (u ∷ other) x y differs same =
     differ_fronts tag other x y (rw (eq-eqb t u (cc)) at differs) (cc)
 
 hex_begins : (most value : ℕ) (run rest : List ℕ) → IsPiece (Hex most) run value → begins_with is_hex (run ++ rest) ≡ true
-hex_begins most value [] rest is = absurd (omega (arith, is.some))
+hex_begins most value [] rest is = absurd (omega (arith, is.positive))
 hex_begins most value (b ∷ run) rest is = lt-ltb (digit_value b) 16 is.digits.0
 
 clash_texts : (f g : Form) → clash f g ≡ true → (text : List ℕ) (v : Value f) (w : Value g) → Spells f text v → Spells g text w → ⊥

@@ -1,4 +1,5 @@
--- Digits that end at known places, and the single spaces before them, are read as the grammar reads them.
+-- Digits that end at known places, and the single spaces before them,
+-- are read as the grammar reads them.
 use Rattle.std.proofs.Common.{◌≡◌, ℕ, suc, ◌+◌, ◌-◌, ◌<◌, ◌≤◌, false, List, [], ◌∷◌, length, take, drop, Some, refl, sym, ap, ◌∙◌, arith, drop-cons, add-one}
 use Rattle.std.specs.Prelude.{slice_index}
 use Rattle.std.specs.Str.Parse.{digits_value}

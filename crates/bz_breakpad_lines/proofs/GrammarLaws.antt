@@ -22,7 +22,8 @@ use Rattle.bz_breakpad_lines.proofs.WalkLaws.{walked_exactly}
 abbrev counted : Reading → Table × ℕ
 counted reading = (table_read reading, reading.count)
 
--- where no record but the first is a MODULE record, the fold tells the table that the records make, and their number
+-- where no record but the first is a MODULE record, the fold tells the table that the records make,
+-- and their number
 fold_counted : (records : List Record) → Follow false records → counted (folded nothing_read records) ≡ (table_of records, length records)
 fold_counted records follow =
     let count : (folded nothing_read records).count ≡ length records = omega (arith, folded_count records nothing_read) in
@@ -43,7 +44,7 @@ lines_accepted bytes lines roles reading some are roles_are follow is_fold =
     record {
       lines = lines;
       roles = roles;
-      some = some;
+      positive = some;
       are_lines = are;
       are_roles = roles_are;
       module_first = follow;
@@ -90,7 +91,7 @@ accepted_again bytes table count is =
     let walks = (roles_exactly [] is.lines records).1 (is.roles, is.are_roles, refl) in
     let walked = (walked_exactly Outside false is.lines records).1 walks in
     let P : List ℕ → Type 0 = λ text. 0 < length text in
-    let some = subst P (sym is.are_lines.whole) (text_some is.lines is.some) in
+    let some = subst P (sym is.are_lines.whole) (text_some is.lines is.positive) in
     let read : reading_in bytes ≡ Some (folded nothing_read records)
     = reading_some bytes some
     ∙ ap (λ lines. lines >>= lines_read Outside false nothing_read) (ended_again bytes is.lines is.are_lines)

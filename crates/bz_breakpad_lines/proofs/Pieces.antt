@@ -1,5 +1,5 @@
--- Each piece is read exactly as its texts say. What is found at the front is the piece, and the piece is found again
--- where it can't go on.
+-- Each piece is read exactly as its texts say.
+-- What is found at the front is the piece, and the piece is found again where it can't go on.
 use Rattle.std.proofs.Common.{◌≡◌, ℕ, suc, ◌+◌, Bool, true, false, cond, ◌&&◌, ◌||◌, inl, inr, List, [], ◌∷◌, ◌++◌, length, take, drop, Some, nat_eq, refl, sym, ap, ◌∙◌, arith}
 use lib.Pointwise.{pointwise}
 use Rattle.std.specs.List.{prefix_len, starts_with}

@@ -6,7 +6,7 @@ use Rattle.std.specs.Ordering.{match_ordering}
 use Rattle.std.proofs.lemmas.Bool.{or_from, or_parts, not-true}
 use Rattle.bz_base.specs.Byte.{HasNo, carriage_return, line_feed}
 use Rattle.bz_base.proofs.NumberLemmas.{digits_below}
-use Rattle.bz_breakpad_lines.specs.Byte.{is_carriage_return}
+use Rattle.bz_breakpad_lines.specs.Byte.{is_carriage_return, is_within_line}
 use Rattle.bz_breakpad_lines.specs.Choice.{One, SpellsOne}
 use Rattle.bz_breakpad_lines.specs.Form.{Piece, Form, Tell, Value, AllPass, IsPiece, InTurn, Spells, greatest, told}
 use Rattle.bz_breakpad_lines.specs.Form.Piece.{Tag, Mark, Separator, ModuleSeparator, Gap, Word, Hex, Decimal}
@@ -23,7 +23,7 @@ use Rattle.bz_breakpad_lines.specs.Table.{Named, Table}
 use Rattle.bz_breakpad_lines.specs.Contexts.{Context, Record, IsBodyOf}
 use Rattle.bz_breakpad_lines.specs.Contexts.Context.{Outside, InFunc, InCfi}
 use Rattle.bz_breakpad_lines.specs.Contexts.Record.{Top, OfFunc, OfCfi}
-use Rattle.bz_breakpad_lines.specs.Written.{FormFits, OneFits, PieceFits, RecordFits, is_within_line}
+use Rattle.bz_breakpad_lines.specs.Written.{FormFits, OneFits, PieceFits, RecordFits}
 use Rattle.bz_breakpad_lines.proofs.PrintedLaws.{all_append}
 use Rattle.bz_breakpad_lines.proofs.NameLemmas.{AllAbove, Ascend, ascend_with}
 

@@ -205,7 +205,7 @@ quick_form c f r text rest value is read solid some = record {
   body_is = is.body_is;
   reads = read;
   solid = solid;
-  some = some;
+  something = some;
 }
 
 -- a digit is no white space
@@ -218,7 +218,7 @@ digit_solid b small =
 -- a number begins with no white space, and isn't empty
 number_solid : (most value : ℕ) (digits rest : List ℕ) → IsNumber 16 most digits value →
     (begins_with is_white (digits ++ rest) ≡ false) × (is_nothing (digits ++ rest) ≡ false)
-number_solid most value [] rest is = absurd (omega (arith, is.some))
+number_solid most value [] rest is = absurd (omega (arith, is.positive))
 number_solid most value (b ∷ digits) rest is = (digit_solid b is.digits.0, refl)
 
 -- a line record

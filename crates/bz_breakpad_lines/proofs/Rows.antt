@@ -34,7 +34,8 @@ blank_after_line : table_in (codes "FUNC 1 2 3 x\n1 2 3 4\n\nFILE 1 a.c\n") ≡ 
 unfolding reading_in run_at mark_at piece_at name_at turns_at many_at body_at record_at after_white digits_at is_utf8 chars encode
 blank_after_line = refl
 
--- a file with a module, white space, ranges of an inlined call, two names of one id, and a function with an empty name
+-- a file with a module, white space, ranges of an inlined call, two names of one id,
+-- and a function with an empty name
 many_records : counted_in (codes "MODULE Linux x86 1 m n\r\n\t\r\n FUNC m a 10 0 f g\nINLINE 0 7 1 5 a 1 c 2\nINLINE_ORIGIN 5 o\nFILE 1 a\nFILE 0 b\nFILE 1 c\nPUBLIC 20 0 p\nFUNC 30 1 0 \n") ≡ Some (
   record {
     «module» = Some (codes "m n");

@@ -177,7 +177,7 @@ module _ (text : List ℕ) (room : 8 ≤ length text) (small : (k : ℕ) → get
     are_digits = subst (λ n. AllDigits 16 (take n text)) len (front_digits 16 text);
     spell = refl;
     count = length-take-le digits text (omega (arith, few, room));
-    some = some;
+    positive = some;
     few = few;
     key = key_is digits few load is;
   }

@@ -15,7 +15,8 @@ pub record IsRead (c : Context) (white_allowed : Bool) (line : List ℕ) (Rest :
   pub rest : Rest (context_after first) (white_allowed_after first) others
   pub records_are : records ≡ first ∷ others
 
--- the lines are the records: white lines are passed over where white space may stand, and each other line is read
+-- the lines are the records: white lines are passed over where white space may stand,
+-- and each other line is read
 abbrev pub Walks : Context → Bool → List (List ℕ) → List Record → Type 0
 Walks c white_allowed [] records = records ≡ []
 Walks c white_allowed (line ∷ lines) records =

@@ -10,7 +10,7 @@ use Rattle.std.proofs.Math.Nat.{pow-suc, pow-le-pow_right}
 use Rattle.bz_base.specs.Byte.{HasNo, begins_with, carriage_return, line_feed}
 use Rattle.bz_base.specs.Line.{ended}
 use Rattle.bz_base.specs.Number.{IsNumber}
-use Rattle.bz_breakpad_lines.specs.Byte.{is_carriage_return, is_white}
+use Rattle.bz_breakpad_lines.specs.Byte.{is_carriage_return, is_white, is_within_line}
 use Rattle.bz_breakpad_lines.specs.Choice.{One, SpellsOne}
 use Rattle.bz_breakpad_lines.specs.Form.{Piece, Form, Tell, With, Value, AllPass, IsPiece, InTurn, Spells, greatest, told}
 use Rattle.bz_breakpad_lines.specs.Form.Piece.{Tag, Mark, Separator, ModuleSeparator, Gap, Word, Hex, Decimal}
@@ -22,7 +22,7 @@ use Rattle.bz_breakpad_lines.specs.Says.{table_of}
 use Rattle.bz_breakpad_lines.specs.Contexts.{Context, Record, IsBodyOf, IsUnder, context_after}
 use Rattle.bz_breakpad_lines.specs.Contexts.Context.{Outside, InFunc, InCfi}
 use Rattle.bz_breakpad_lines.specs.Contexts.Record.{Top, OfFunc, OfCfi}
-use Rattle.bz_breakpad_lines.specs.Written.{FormFits, OneFits, PieceFits, RecordFits, first_told, form_text, is_within_line, one_text, piece_text, record_text, records_text, rest_told}
+use Rattle.bz_breakpad_lines.specs.Written.{FormFits, OneFits, PieceFits, RecordFits, first_told, form_text, one_text, piece_text, record_text, records_text, rest_told}
 use Rattle.bz_breakpad_lines.proofs.RoleLaws.{context_kept}
 use Rattle.bz_breakpad_lines.proofs.StartLemmas.{digit_byte}
 
@@ -54,12 +54,12 @@ hex_is (suc most) fits n below =
     let wide = pow-le-pow_right {n = 16} (omega arith) few in
     let small : n < 16 ^ 64 = omega (arith, below, wide) in
     let is = digits_is_IsNumeral 16 false (omega arith) (omega arith) n small in
-    record { some = is.0.0; few = omega (arith, hex_len 64 n most [] below); digits = is.0.1; valued = sym is.1 }
+    record { positive = is.0.0; few = omega (arith, hex_len 64 n most [] below); digits = is.0.1; valued = sym is.1 }
 
 pub decimal_is : (n : ℕ) → n ≤ greatest → IsNumber 10 10 (decimal n) n
 decimal_is n fits =
     let is = decimal_is_IsNumeral n (omega arith) in
-    record { some = is.0.0; few = length-decimal-le 10 n (omega arith) (omega arith) (omega arith); digits = is.0.1; valued = sym is.1 }
+    record { positive = is.0.0; few = length-decimal-le 10 n (omega arith) (omega arith) (omega arith); digits = is.0.1; valued = sym is.1 }
 
 -- a digit ends no line, and is no white space
 digit_in_line : (b : ℕ) → digit_value b < 16 → is_within_line b ≡ true
@@ -202,7 +202,7 @@ form_solid : (f : Form) → starts_solid f ≡ true → (v : Value f) → FormFi
 form_solid (Tag (t ∷ tag) · f) solid v fits = not-true (is_white t) solid
 form_solid (Hex most · f) solid v fits =
     let is = hex_is most solid v.0 fits.0 in
-    digits_no_white (digits 16 false v.0) is.some is.digits (form_text f v.1)
+    digits_no_white (digits 16 false v.0) is.positive is.digits (form_text f v.1)
 form_solid _ solid v fits = absurd (true≢false (sym solid))
 
 one_solid : (forms : List Form) → start_solid forms ≡ true → (one : One forms) → OneFits forms one → begins_with is_white (one_text forms one) ≡ false
@@ -301,7 +301,7 @@ lines_accepted texts records some are first =
     record {
       lines = texts;
       roles = map Is records;
-      some = some_lines Outside texts records are some;
+      positive = some_lines Outside texts records are some;
       are_lines = record { whole = refl; no_line_feed = lines_are Outside texts records are };
       are_roles = roles_are [] texts records are;
       module_first = let P : List Record → Type 0 = λ rs. AllByRecursion IsNoModule (drop 1 rs) in subst P (sym same) first;

@@ -27,9 +27,13 @@ is_solid b = not (is_blank b)
 abbrev pub is_white : ℕ → Bool
 is_white b = is_blank b || b == carriage_return
 
--- a byte in ASCII that ends no line
+-- a byte that ends no line
+abbrev pub is_within_line : ℕ → Bool
+is_within_line b = not (b == line_feed || b == carriage_return)
+
+-- one in ASCII
 abbrev pub is_ascii_in_line : ℕ → Bool
-is_ascii_in_line b = is_ascii b && not (b == line_feed || b == carriage_return)
+is_ascii_in_line b = is_ascii b && is_within_line b
 
 abbrev pub is_carriage_return : ℕ → Bool
 is_carriage_return b = b == carriage_return

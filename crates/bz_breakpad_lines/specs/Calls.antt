@@ -1,4 +1,5 @@
--- What INLINE records say of their calls ("INLINE records" of docs/symbol_files.md among Breakpad's sources).
+-- What INLINE records say of their calls ("INLINE records" of docs/symbol_files.md among Breakpad's
+-- sources).
 use Rattle.std.specs.Prelude.{ℕ, List, drop, Option, option_map, unwrap_or}
 use Rattle.bz_breakpad_lines.specs.Form.{Value}
 use Rattle.bz_breakpad_lines.specs.Reads.{reads}

@@ -1,5 +1,6 @@
 -- What a line is, which depends on the record before it.
--- This is after "Line records", "INLINE records" and "STACK CFI records" of docs/symbol_files.md among Breakpad's sources.
+-- This is after "Line records", "INLINE records" and "STACK CFI records" of docs/symbol_files.md among
+-- Breakpad's sources.
 use Rattle.std.specs.Prelude.{◌≡◌, ℕ, Bool, true, false, List, [], ◌++◌, drop, Option, Some, None, option_map}
 use Rattle.std.specs.List.{prefix_len}
 use Rattle.bz_base.specs.Bind.{◌>>=◌}
@@ -50,7 +51,8 @@ IsUnder InFunc body (OfFunc one) = SpellsOne INNER body one
 IsUnder InCfi body OfCfi = Spells STACK_CFI body tt
 IsUnder _ body _ = ⊥
 
--- the record of a body: one under its context, where it has such a form, and else one that stands by itself
+-- the record of a body: one under its context, where it has such a form,
+-- and else one that stands by itself
 abbrev pub IsBodyOf : Context → List ℕ → Record → Type 0
 IsBodyOf c body (Top one) = ((r : Record) → IsUnder c body r → ⊥) × SpellsOne TOP body one
 IsBodyOf c body r = IsUnder c body r

@@ -1,4 +1,5 @@
--- Which bytes are a Breakpad file, and what it says: each line is blank, or a record by itself, or one under another.
+-- Which bytes are a Breakpad file, and what it says: each line is blank, or a record by itself,
+-- or one under another.
 -- It is after docs/symbol_files.md among Breakpad's sources.
 -- Where blank lines and white space may stand is this crate's choice.
 use Rattle.std.specs.Prelude.{◌≡◌, ℕ, ◌<◌, Bool, true, false, List, [], ◌∷◌, length, drop, Option, Some, None}
@@ -34,13 +35,15 @@ under_owner (Blank ∷ before) = under_owner before
 under_owner (Is (OfFunc one) ∷ before) = under_owner before
 under_owner (Is OfCfi ∷ before) = under_owner before
 
--- the line is a record: the text after white space, where that may stand, is one under the owner, or else one by itself
+-- the line is a record: the text after white space, where that may stand, is one under the owner,
+-- or else one by itself
 pub record IsRecordLine (before : List Role) (line : List ℕ) (r : Record) : Type 0 where
   pub text : List ℕ
   pub text_is : IsText (allows_white before) line text
   pub record_is : IsRecord (under_owner before) text r
 
--- the line has the role, after lines of these roles: a blank one has only white space, and stands where that may stand
+-- the line has the role, after lines of these roles: a blank one has only white space,
+-- and stands where that may stand
 abbrev pub IsRole : List Role → List ℕ → Role → Type 0
 IsRole before line Blank = (allows_white before ≡ true) × AllPass is_white line
 IsRole before line (Is r) = IsRecordLine before line r
@@ -62,12 +65,13 @@ records_of roles = filter_map record_of roles
 abbrev pub IsNoModule : Record → Type 0
 IsNoModule r = module_of r ≡ None
 
--- the bytes are a Breakpad file of one line at least, in which a MODULE record is the first record or there is none.
+-- the bytes are a Breakpad file of one line at least, in which a MODULE record is the first record or
+-- there is none.
 -- The table is what it says, and so many of its lines are records
 pub record Accepted (bytes : List ℕ) (table : Table) (count : ℕ) : Type 0 where
   pub lines : List (List ℕ)
   pub roles : List Role
-  pub some : 0 < length lines
+  pub positive : 0 < length lines
   pub are_lines : AreEnded bytes lines
   pub are_roles : AreRoles [] lines roles
   pub module_first : AllByRecursion IsNoModule (drop 1 (records_of roles))

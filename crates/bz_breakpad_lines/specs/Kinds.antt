@@ -19,7 +19,8 @@ pub data TopRecord : Type 0 where
   StackWin : TopRecord
   StackCfiInit : TopRecord
 
--- an inner record, which belongs to a FUNC record; an INLINE record is one inlined call for each of its ranges
+-- an inner record, which belongs to a FUNC record; an INLINE record is one inlined call for each of its
+-- ranges
 pub data InnerRecord : Type 0 where
   Line : SourceLine → InnerRecord
   Inline : List Inlinee → InnerRecord
@@ -54,7 +55,8 @@ inlinees_in (depth, (call_line, (call_file, (origin, ranges)))) =
       origin = origin;
     }) ranges
 
--- The forms of a choice have no names of their own: a line is of the first of them, or of one of the others.
+-- The forms of a choice have no names of their own: a line is of the first of them,
+-- or of one of the others.
 -- Here alone each gets its name, in the order of TOP and of INNER.
 
 -- the record by itself that a line tells

@@ -1,4 +1,5 @@
--- The line record that begins at a place in a text ("Line records" of docs/symbol_files.md among Breakpad's sources).
+-- The line record that begins at a place in a text ("Line records" of docs/symbol_files.md among
+-- Breakpad's sources).
 use Rattle.std.specs.Prelude.{◌≡◌, ◌++◌, ℕ, not, ◌==◌, List, take, Option, option_map}
 use Rattle.std.specs.List.{prefix_len}
 use Rattle.bz_base.specs.Bind.{◌>>=◌}

@@ -1,4 +1,5 @@
--- Where line records start, and whether their starts stand in order, as the texts of the starts tell it.
+-- Where line records start, and whether their starts stand in order,
+-- as the texts of the starts tell it.
 use Rattle.std.specs.Prelude.{◌≡◌, ◌<◌, ◌≤◌, ◌++◌, ◌∷◌, [], ℕ, List, length, drop, map, slice_index, unwrap_or, bit_or, IsSome}
 use Rattle.std.specs.Int.Digits.{number_from_digits}
 use Rattle.std.specs.Str.Parse.{AllDigits, digits_value}
@@ -32,14 +33,14 @@ StrictlyAscends starts = (i j : ℕ) → i < j → j < length starts → slice_i
 abbrev pub folded : ℕ → ℕ
 folded byte = bit_or byte 32
 
--- the text of a start: how many digits it has, one to eight, and their bytes as one number, the first byte its greatest;
--- letters count there as in lower case
+-- the text of a start: how many digits it has, one to eight, and their bytes as one number,
+-- the first byte its greatest; letters count there as in lower case
 pub record IsStartText (start : ℕ) (text : StartText) : Type 0 where
   pub digits : List ℕ
   pub are_digits : AllDigits 16 digits
   pub spell : digits_value 16 digits ≡ start
   pub count : length digits ≡ text.digits
-  pub some : 0 < text.digits
+  pub positive : 0 < text.digits
   pub few : text.digits ≤ 8
   pub key : number_from_digits 256 (map folded digits) ≡ text.key
 

@@ -1,4 +1,5 @@
--- The plainest text of a table: its module, its names by ascending ids, its PUBLIC records, and its functions.
+-- The plainest text of a table: its module, its names by ascending ids, its PUBLIC records,
+-- and its functions.
 -- Each function has its inlined calls and then its lines.
 use Rattle.std.specs.Prelude.{ℕ, ◌<◌, List, [], ◌∷◌, ◌++◌, map, flat_map, Option, Some, None}
 use Rattle.std.specs.List.{AllByRecursion}

@@ -17,14 +17,15 @@ pub record IsQuick (c : Context) (text : List ℕ) (r : Record) (rest : List ℕ
   pub body_is : body_at line ≡ Some line
   pub reads : body_record c line ≡ Some r
   pub solid : begins_with is_white line ≡ false
-  pub some : is_nothing line ≡ false
+  pub something : is_nothing line ≡ false
 
 -- fields, and a form in place of the end after them
 abbrev pub ended_by : Form → Form → Form
 ended_by (p · f) g = p · ended_by f g
 ended_by _ g = g
 
--- the text begins with a line of the form, in which no carriage return stands, and the rest comes after it
+-- the text begins with a line of the form, in which no carriage return stands,
+-- and the rest comes after it
 pub record IsFormLine (f : Form) (text : List ℕ) (value : Value f) (rest : List ℕ) : Type 0 where
   pub line : List ℕ
   pub cut : text ≡ ended line ++ rest

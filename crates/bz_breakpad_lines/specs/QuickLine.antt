@@ -23,7 +23,8 @@ line_between text start ends = (
   ),
 )
 
--- the text begins with a line record: its length with its line feed, and perhaps the text of its start, are these
+-- the text begins with a line record: its length with its line feed, and perhaps the text of its start,
+-- are these
 pub record IsQuickLine (text : List ℕ) (found : QuickLine) : Type 0 where
   pub value : Value LINE
   pub form : IsFormLine LINE text value (drop found.len text)
@@ -35,6 +36,6 @@ pub record IsOnRun (text : List ℕ) (last : StartText) (next : RunLine) : Type 
   pub quick : IsQuickLine text (record { len = next.len; start = Some next.start })
   pub above : (before start : ℕ) → IsStartText before last → IsStartText start next.start → before < start
   pub digits : next.start.digits ≡ last.digits
-  pub some : 0 < next.len
+  pub positive : 0 < next.len
   pub within : next.len ≤ length text
   pub stops : AreStops (drop next.len text) next.stops

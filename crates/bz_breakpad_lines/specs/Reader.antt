@@ -13,7 +13,8 @@ use Rattle.bz_breakpad_lines.specs.Contexts.{Context, Record, context_after, whi
 use Rattle.bz_breakpad_lines.specs.Contexts.Context.{Outside}
 use Rattle.bz_breakpad_lines.specs.Contexts.Record.{Top, OfFunc, OfCfi}
 
--- what has been read: the functions whose records are at their end, and the one whose records are being read.
+-- what has been read: the functions whose records are at their end,
+-- and the one whose records are being read.
 -- Beside them, the other records, and the count of all
 pub record Reading : Type 0 where
   pub «module» : Option (List ℕ)

@@ -1,6 +1,8 @@
 -- The forms of a Breakpad file's lines, after docs/symbol_files.md among Breakpad's sources.
--- Above each form stands the section of the document that it is from, and then what a line of the form tells.
--- The document divides fields by one space. Here one or more spaces and tabs do, and numbers may have either case.
+-- Above each form stands the section of the document that it is from,
+-- and then what a line of the form tells.
+-- The document divides fields by one space.
+-- Here one or more spaces and tabs do, and numbers may have either case.
 use Rattle.std.specs.Prelude.{ℕ, List, [], ◌∷◌, codes}
 use Rattle.bz_breakpad_lines.specs.Form.{Form}
 use Rattle.bz_breakpad_lines.specs.Form.Piece.{Tag, Mark, Separator, ModuleSeparator, Gap, Word, Hex, Decimal}

@@ -7,7 +7,8 @@ use Rattle.bz_breakpad_lines.specs.Byte.{is_hex, is_decimal}
 use Rattle.bz_breakpad_lines.specs.declared.lanes.Stops.{Stops}
 use lib.Lanes.{mask_l}
 
--- the bits of 64 bytes at most in front: where no hexadecimal digit stands, where no decimal one stands, and where a line feed does
+-- the bits of 64 bytes at most in front: where no hexadecimal digit stands,
+-- where no decimal one stands, and where a line feed does
 pub record AreStops (text : List ℕ) (stops : Stops) : Type 0 where
   pub shown : ℕ
   pub within : shown ≤ length text

@@ -9,7 +9,8 @@ pub record SourceLine : Type 0 where
   pub line : ℕ
   pub file : ℕ
 
--- a range of code where a call was inlined: how many calls it lies inside, where it starts, and its size.
+-- a range of code where a call was inlined: how many calls it lies inside, where it starts,
+-- and its size.
 -- Then the call's line, the id of the call's file, and the id of the called function's name
 pub record Inlinee : Type 0 where
   pub depth : ℕ
@@ -40,8 +41,10 @@ pub record PublicSymbol : Type 0 where
   pub parameter_size : ℕ
   pub name : List ℕ
 
--- the module's name, the functions, the names of files and of inlined functions by their ids, and the PUBLIC records.
--- Functions and PUBLIC records stand in the order of the file, and an id has the name in its last record
+-- the module's name, the functions, the names of files and of inlined functions by their ids,
+-- and the PUBLIC records.
+-- Functions and PUBLIC records stand in the order of the file,
+-- and an id has the name in its last record
 pub record Table : Type 0 where
   pub «module» : Option (List ℕ)
   pub functions : List Function

@@ -7,7 +7,7 @@ use Rattle.bz_breakpad_lines.specs.declared.record.InlineCall.{InlineCall}
 use Rattle.bz_breakpad_lines.specs.Calls.{call_in}
 use Rattle.bz_breakpad_lines.specs.Choice.{One}
 use Rattle.bz_breakpad_lines.specs.Line.{EndsWith, line_in, source_line}
-use Rattle.bz_breakpad_lines.specs.Kinds.{as_module, as_info, as_file, as_origin, as_public, as_func, as_stack_win, as_stack_cfi_init, as_line, as_inline, as_inner_origin, function_in}
+use Rattle.bz_breakpad_lines.specs.Kinds.{as_module, as_info, as_file, as_origin, as_public, as_func, as_stack_win, as_stack_cfi_init, as_line, as_inline, as_inner_origin, function_in, symbol_in}
 use Rattle.bz_breakpad_lines.specs.Table.{Function, Inlinee, PublicSymbol}
 use Rattle.bz_breakpad_lines.specs.declared.record.PublicLine.{PublicLine}
 use Rattle.bz_breakpad_lines.specs.declared.record.InnerLine.{InnerLine}
@@ -32,6 +32,10 @@ func_told f = (f.start, (f.size, (f.parameter_size, f.name.now)))
 abbrev pub line_told : SourceLine → Value LINE
 line_told l = (l.addr, (l.size, (l.line, (l.file, tt))))
 
+-- a line record as the table has it
+abbrev pub line_seen : SourceLine → tables.SourceLine
+line_seen l = source_line (line_told l)
+
 abbrev pub call_told : InlineCall → Value CALL
 call_told c = (c.depth, (c.line, (c.file, (c.origin, tt))))
 
@@ -46,6 +50,10 @@ inline_told call ranges = (call.depth, (call.line, (call.file, (call.origin, ran
 
 abbrev pub public_told : PublicLine → Value PUBLIC
 public_told p = (p.addr, (p.parameter_size, p.name.now))
+
+-- a PUBLIC record as the symbol that it names
+abbrev pub public_symbol : PublicLine → PublicSymbol
+public_symbol p = symbol_in (public_told p)
 
 -- a FUNC record as the function that it begins
 abbrev pub function_told : FuncLine → Function
@@ -76,12 +84,9 @@ top_name _ = None
 
 -- what of an inner record is kept as a place stands there in the bytes
 abbrev pub InnerStands : List ℕ → ℕ → List ℕ → InnerLine → Type 0
-InnerStands bytes start body (inners.Code l) = line_in (drop start bytes) ≡ Some (source_line (line_told l))
+InnerStands bytes start body (inners.Line l) = line_in (drop start bytes) ≡ Some (line_seen l)
 InnerStands bytes start body (inners.Inline call) = call_in (drop start bytes) ≡ Some (call_told call)
-InnerStands bytes start body (inners.Origin id name) = EndsWith body name.now
-
-abbrev pub public_symbol : PublicLine → PublicSymbol
-public_symbol p = record { start = p.addr; parameter_size = p.parameter_size; name = p.name.now }
+InnerStands bytes start body (inners.InnerOrigin id name) = EndsWith body name.now
 
 abbrev pub top_told : TopLine → One TOP
 top_told (tops.Module name) = as_module name.now
@@ -95,9 +100,9 @@ top_told tops.StackCfiInit = as_stack_cfi_init
 
 -- the ranges of an INLINE record stand beside it
 abbrev pub inner_told : InnerLine → List Range → One INNER
-inner_told (inners.Code l) ranges = as_line (line_told l)
+inner_told (inners.Line l) ranges = as_line (line_told l)
 inner_told (inners.Inline call) ranges = as_inline (inline_told call ranges)
-inner_told (inners.Origin id name) ranges = as_inner_origin (id, name.now)
+inner_told (inners.InnerOrigin id name) ranges = as_inner_origin (id, name.now)
 
 abbrev pub context_told : Context → told.Context
 context_told contexts.Outside = told.Context.Outside
@@ -108,7 +113,3 @@ abbrev pub record_told : RecordLine → List Range → Record
 record_told (lines.Top top) ranges = Top (top_told top)
 record_told (lines.OfFunc inner) ranges = OfFunc (inner_told inner ranges)
 record_told lines.OfCfi ranges = OfCfi
-
--- a line record as the table has it
-abbrev pub line_seen : SourceLine → tables.SourceLine
-line_seen l = record { start = l.addr; size = l.size; line = l.line; file = l.file }

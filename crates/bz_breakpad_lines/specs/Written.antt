@@ -1,10 +1,13 @@
--- How a record is written in the plainest way: one space where blanks must stand, and none where they may.
--- Numbers are in lower case, without leading zeros, and a dash stands for a word or a text that isn't kept.
-use Rattle.std.specs.Prelude.{ℕ, ◌<◌, ◌≤◌, ◌^◌, Bool, false, not, ◌==◌, ◌||◌, List, [], ◌∷◌, ◌++◌, map, length, flat_map, decimal}
+-- How a record is written in the plainest way: one space where blanks must stand,
+-- and none where they may.
+-- Numbers are in lower case, without leading zeros, and a dash stands for a word or a text that isn't
+-- kept.
+use Rattle.std.specs.Prelude.{ℕ, ◌<◌, ◌≤◌, ◌^◌, false, List, [], ◌∷◌, ◌++◌, map, length, flat_map, decimal}
 use mathlib.Core.Logic.{inl, inr}
 use Rattle.std.specs.Fmt.{digits}
 use Rattle.std.specs.List.{AllByRecursion}
-use Rattle.bz_base.specs.Byte.{line_feed, carriage_return, space, dash}
+use Rattle.bz_base.specs.Byte.{space, dash}
+use Rattle.bz_breakpad_lines.specs.Byte.{is_within_line}
 use Rattle.bz_base.specs.Line.{ended}
 use Rattle.bz_breakpad_lines.specs.Choice.{One}
 use Rattle.bz_breakpad_lines.specs.Form.{Piece, Form, Tell, With, Value, AllPass, IsName, greatest}
@@ -70,10 +73,6 @@ record_text OfCfi = form_text STACK_CFI tt
 -- the lines of the records
 abbrev pub records_text : List Record → List ℕ
 records_text records = flat_map ended (map record_text records)
-
--- a byte that ends no line
-abbrev pub is_within_line : ℕ → Bool
-is_within_line b = not (b == line_feed || b == carriage_return)
 
 -- a name that a line can have
 pub record IsLineName (name : List ℕ) : Type 0 where

@@ -18,7 +18,7 @@ use crate::inline::call_line;
 use crate::lanes::{few_hex, line_feeds};
 use crate::line::LineEnds;
 use crate::quick::Shown;
-use crate::record::{InlineCall, SourceLine, call_front, code_line};
+use crate::record::{InlineCall, SourceLine, call_front, line_record};
 use crate::values::hex_front;
 use memchr::memchr;
 
@@ -93,7 +93,7 @@ pub(crate) fn line_by(shown: Shown<'_>, start: u32, ends: LineEnds) -> SourceLin
 fn any_line(text: &[u8]) -> Option<SourceLine>
     ensures { option_map line_seen result ≡ line_in text.now }
 {
-    code_line(body(&text[..line_len(text)])?)
+    line_record(body(&text[..line_len(text)])?)
 }
 
 /// The line record at a place in the bytes; one of zeros where none is.

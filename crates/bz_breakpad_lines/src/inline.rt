@@ -89,7 +89,7 @@ fn shown_ranges<'a>(
 ) -> Result<Option<&'a [u8]>, AllocError>
     requires { AreStops shown.text.now shown.stops }
     ensures ranges { IfOk result (λ found. IfSome found (λ rest. AreInTurn RANGE shown.entry.text.now (ranges_told ranges.new.items) (line_feed ∷ rest.now))) }
-    ensures some { IfOk result (λ found. IfSome found (λ _. 0 < length ranges.new.items)) }
+    ensures positive { IfOk result (λ found. IfSome found (λ _. 0 < length ranges.new.items)) }
 {
     ranges.clear();
     let mut left = shown;

@@ -24,7 +24,7 @@ pub struct RunLine {
 #[inline(always)]
 pub fn next_on_run(shown: Shown<'_>, last: StartText) -> Option<RunLine>
     requires stops { AreStops shown.text.now shown.stops }
-    requires some { 0 < last.digits }
+    requires positive { 0 < last.digits }
     requires few { last.digits ≤ 8 }
     ensures { IfSome result (IsOnRun shown.entry.text.now last) }
 {
@@ -43,7 +43,7 @@ pub fn next_on_run(shown: Shown<'_>, last: StartText) -> Option<RunLine>
 #[inline(always)]
 fn shown_on_run(shown: Shown<'_>, last: StartText) -> Option<RunLine>
     requires stops { AreStops shown.text.now shown.stops }
-    requires some { 0 < last.digits }
+    requires positive { 0 < last.digits }
     requires few { last.digits ≤ 8 }
     ensures { IfSome result (IsOnRun shown.entry.text.now last) }
 {

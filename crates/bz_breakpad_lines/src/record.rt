@@ -58,7 +58,7 @@ fn func(line: &[u8]) -> Option<FuncLine<'_>>
 }
 
 /// A line record.
-pub fn code_line(line: &[u8]) -> Option<SourceLine>
+pub fn line_record(line: &[u8]) -> Option<SourceLine>
     ensures { option_map line_told result ≡ form_at LINE line.now }
 {
     let (addr, rest) = hex_field(line, 16)?;
@@ -268,25 +268,25 @@ fn inner_origin(line: &[u8]) -> Option<(u32, &str)>
 #[derive(Drop)]
 pub enum InnerLine<'a> {
     /// A line record.
-    Code(SourceLine),
+    Line(SourceLine),
     /// The call of an INLINE record, whose ranges stand beside it.
     Inline(InlineCall),
     /// The id and the name of an INLINE_ORIGIN record.
-    Origin(u32, &'a str),
+    InnerOrigin(u32, &'a str),
 }
 
 /// The inner record that the body is.
 fn inner<'a>(ranges: &mut Vec<Range>, body: &'a [u8]) -> Result<Option<InnerLine<'a>>, AllocError>
     ensures { IfOk result (λ found. option_map (λ inner. inner_told inner ranges.new.items) found ≡ one_at INNER body.now) }
 {
-    if let Some(code) = code_line(body) {
-        return Ok(Some(InnerLine::Code(code)));
+    if let Some(line) = line_record(body) {
+        return Ok(Some(InnerLine::Line(line)));
     }
     if let Some(call) = inline(ranges, body)? {
         return Ok(Some(InnerLine::Inline(call)));
     }
     match inner_origin(body) {
-        Some((id, name)) => Ok(Some(InnerLine::Origin(id, name))),
+        Some((id, name)) => Ok(Some(InnerLine::InnerOrigin(id, name))),
         None => Ok(None),
     }
 }

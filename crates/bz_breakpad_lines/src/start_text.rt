@@ -19,7 +19,7 @@ impl StartText {
     #[inline(always)]
     pub(crate) fn at_front(text: &[u8], digits: u32) -> Option<StartText>
         requires room { 8 ≤ length text.now }
-        requires some { 0 < digits }
+        requires positive { 0 < digits }
         requires digits { digits_len 16 text.now ≡ digits }
         ensures { IfSome result (IsStartText (digits_value 16 (take digits text.now))) }
     {
@@ -34,7 +34,7 @@ impl StartText {
     #[inline(always)]
     pub(crate) fn of_front(text: &[u8], digits: u32) -> StartText
         requires room { 8 ≤ length text.now }
-        requires some { 0 < digits }
+        requires positive { 0 < digits }
         requires few { digits ≤ 8 }
         requires digits { digits_len 16 text.now ≡ digits }
         ensures text { IsStartText (digits_value 16 (take digits text.now)) result }

@@ -9,7 +9,7 @@ ghost use Rattle.bz_base.specs.Number.{digits_len};
 #[inline(always)]
 fn bytes_front(text: &[u8], count: u32) -> u64
     requires room { 8 ≤ length text.now }
-    requires some { 0 < count }
+    requires positive { 0 < count }
     requires few { count ≤ 8 }
     ensures { result ≡ number_from_digits 256 (take count text.now) }
 {
@@ -23,7 +23,7 @@ fn bytes_front(text: &[u8], count: u32) -> u64
 #[inline(always)]
 pub fn dec_front(text: &[u8], digits: u32) -> u32
     requires room { 8 ≤ length text.now }
-    requires some { 0 < digits }
+    requires positive { 0 < digits }
     requires few { digits ≤ 8 }
     requires digits { digits_len 10 text.now ≡ digits }
     ensures { result ≡ digits_value 10 (take digits text.now) }
@@ -39,7 +39,7 @@ pub fn dec_front(text: &[u8], digits: u32) -> u32
 #[inline(always)]
 pub fn hex_front(text: &[u8], digits: u32) -> u32
     requires room { 8 ≤ length text.now }
-    requires some { 0 < digits }
+    requires positive { 0 < digits }
     requires few { digits ≤ 8 }
     requires digits { digits_len 16 text.now ≡ digits }
     ensures { result ≡ digits_value 16 (take digits text.now) }

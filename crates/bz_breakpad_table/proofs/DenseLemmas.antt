@@ -1,4 +1,5 @@
--- Entries of the ids from a first one on, one after another, with others behind them: an entry more, and a look-up.
+-- Entries of the ids from a first one on, one after another, with others behind them: an entry more,
+-- and a look-up.
 use Rattle.std.proofs.Common.{◌≡◌, ℕ, ◌+◌, ◌-◌, ◌<◌, ◌≤◌, cond, suc, Ordering, Less, Equal, Greater, List, [], ◌∷◌, ◌++◌, length, get_or, set, Some, refl, ap, ◌∙◌, append-nil, arith}
 use Rattle.std.specs.BTreeMap.{insert_entry, is_at}
 use Rattle.std.specs.List.{enumerate_from}

@@ -1,4 +1,5 @@
--- The functions that are kept: a line record or inlined calls more belong to the one whose records are being read.
+-- The functions that are kept: a line record or inlined calls more belong to the one whose records are
+-- being read.
 use Rattle.std.proofs.Common.{◌≡◌, ℕ, List, [], ◌∷◌, ◌++◌, length, map, Option, Some, None, option_map, refl, sym, ap, subst, ◌∙◌, arith, append-nil, length-append}
 use Rattle.std.specs.List.{AllByRecursion, flat_map, slice_range}
 use Rattle.std.proofs.lemmas.List.{map-append}

@@ -1,4 +1,5 @@
--- The ids of names in their order: those of the first names are their places, and the others' come behind them.
+-- The ids of names in their order: those of the first names are their places,
+-- and the others' come behind them.
 use Rattle.std.proofs.Common.{◌≡◌, ℕ, zero, suc, ◌+◌, ◌-◌, ◌<◌, ◌≤◌, List, [], ◌∷◌, ◌++◌, length, map, get_or, Option, Some, None, option_map, IsSome, refl, sym, ap, ◌∙◌, arith, length-append}
 use Rattle.std.specs.Iterator.{SkipsThenYields}
 use Rattle.std.specs.List.{enumerate_from, slice_get}

@@ -1,4 +1,5 @@
--- A line record that is read quickly under a FUNC record: where it stands, and what is read of it and the lines after it.
+-- A line record that is read quickly under a FUNC record: where it stands,
+-- and what is read of it and the lines after it.
 use Rattle.std.proofs.Common.{◌≡◌, ℕ, ◌<◌, ◌≤◌, ◌+◌, ◌-◌, false, inl, List, drop, length, Some, refl, sym, ap, subst, ◌∙◌, arith, length-drop}
 use Rattle.bz_breakpad_table.specs.Kept.{IsSoFar, LinesFitSoFar}
 use Rattle.bz_breakpad_lines.specs.Line.{line_in, source_line}
@@ -37,7 +38,7 @@ pub run_start : (bytes rest : List ℕ) (walk : Walk) (run : Part) (last : Start
 run_start bytes rest walk run last is m =
     let fits = subst (LinesFitSoFar bytes walk.kept.functions.listed.items) is m.walked.so_far.functions.lines_fit in
     let text = fits.0.run.starts.text_is in
-    (text.some, text.few)
+    (text.positive, text.few)
 
 -- the walk whose run is this one, up to the rest, has it as its run
 pub begins_run : (bytes rest : List ℕ) (walk : Walk) (run : Part) (last : StartText) → walk.kept.functions.lines ≡ sofar.Run run last → run.to ≡ length bytes - length rest →

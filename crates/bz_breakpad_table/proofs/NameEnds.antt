@@ -84,10 +84,10 @@ of_func InCfi body one is = absurd is
 
 inner_at_place : (bytes : List ℕ) (start : ℕ) (body : List ℕ) (inner : InnerLine) (ranges : List Range) → IsRecordAt bytes start body →
     SpellsOne INNER body (inner_told inner ranges) → InnerStands bytes start body inner
-inner_at_place bytes start body (inners.Code l) ranges stands is =
+inner_at_place bytes start body (inners.Line l) ranges stands is =
     ap (λ o. option_map source_line (o >>= form_at LINE)) stands.body_is ∙ ap (option_map source_line) (form_again LINE refl body (line_told l) is)
 inner_at_place bytes start body (inners.Inline call) ranges stands is = call_stands bytes start body call ranges stands is
-inner_at_place bytes start body (inners.Origin id name) ranges stands is = ends INNER_ORIGIN body (id, name.now) name.now is refl
+inner_at_place bytes start body (inners.InnerOrigin id name) ranges stands is = ends INNER_ORIGIN body (id, name.now) name.now is refl
 
 -- what of a record under a FUNC record is kept as a place stands there
 pub inner_stands : (bytes : List ℕ) (start : ℕ) (body : List ℕ) (c : Context) (inner : InnerLine) (ranges : List Range) → IsRecordAt bytes start body →

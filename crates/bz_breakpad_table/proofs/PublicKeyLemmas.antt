@@ -1,5 +1,5 @@
--- The keys of PUBLIC records in order, without those that start where the key before does, are those of the first record at
--- each address.
+-- The keys of PUBLIC records in order, without those that start where the key before does,
+-- are those of the first record at each address.
 use Rattle.std.proofs.Common.{◌≡◌, ◌⊎◌, inl, inr, ℕ, zero, suc, ◌+◌, ◌<◌, ◌≤◌, ◌==◌, Bool, true, false, cond, nat_eq, get_or, List, [], ◌∷◌, ◌++◌, drop, length, map, option_map, Option, Some, None, Result, Ok, Err, refl, sym, ap, subst, ◌∙◌, arith, append_assoc}
 use Rattle.std.specs.Prelude.{IfOk, if◌then◌else◌}
 use Rattle.std.specs.List.{AllByRecursion, dedup, dedup_from, slice_get, slice_index}

@@ -43,7 +43,7 @@ module _ (c : Context) (text : List ℕ) (r : Record) (rest : List ℕ) (p : IsQ
   quick_step : (white_allowed : Bool) (reading : Reading) (lines : List (List ℕ)) → (is_some (module_of r) && nat_lt 0 reading.count) ≡ false →
       lines_read c white_allowed reading (p.line ∷ lines) ≡ lines_read (context_after r) (white_allowed_after r) (with_record reading r) lines
   quick_step white_allowed reading lines first =
-      step_read c white_allowed reading p.line r lines (some_text white_allowed p.line p.solid p.some)
+      step_read c white_allowed reading p.line r lines (some_text white_allowed p.line p.solid p.something)
       (ap (record_at c) (its_text white_allowed p.line p.solid) ∙ record_read c p.line p.line r p.body_is p.reads) first
 
   -- the walk is midway still, once it has kept the record

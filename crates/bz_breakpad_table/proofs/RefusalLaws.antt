@@ -71,7 +71,7 @@ file_found b bytes lines found ends =
         record {
           lines = lines;
           roles = have.roles;
-          some = some_lines b bytes lines are;
+          positive = some_lines b bytes lines are;
           are_lines = are;
           are_roles = have.are_roles;
           module_first = have.module_first;
@@ -145,7 +145,7 @@ text_some (line ∷ lines) some = omega (arith, length-append (ended line) (flat
 -- of a Breakpad file nothing is found
 file_again : (bytes : List ℕ) (table : Table) → IsFile bytes table → refusal_in bytes ≡ None
 unfolding refusal_in
-file_again [] table is = absurd (omega (arith, ap length is.1.are_lines.whole, text_some is.1.lines is.1.some))
+file_again [] table is = absurd (omega (arith, ap length is.1.are_lines.whole, text_some is.1.lines is.1.positive))
 file_again (b ∷ bytes) table is =
     let file = is.1 in
     let have : AreAdmitted file.lines = record { roles = file.roles; are_roles = file.are_roles; module_first = file.module_first } in

@@ -62,8 +62,8 @@ parts_at (b ∷ text) (suc k) within is =
 pub lines_cut : (text : List ℕ) (cut : ℕ) → IsCut text cut → all_lines text ≡ all_lines (take cut text) ++ all_lines (drop cut text)
 lines_cut text cut is =
     let k = cut - 1 in
-    let parts = parts_at text k (omega (arith, is.some, is.within)) is.behind in
-    let next : suc k ≡ cut = omega (arith, is.some) in
+    let parts = parts_at text k (omega (arith, is.positive, is.within)) is.behind in
+    let next : suc k ≡ cut = omega (arith, is.positive) in
     ap all_lines (parts.0 ∙ ap (λ n. take k text ++ line_feed ∷ drop n text) next)
     ∙ lines_parts (take k text) (drop cut text)
     ∙ ap (λ front. all_lines front ++ all_lines (drop cut text)) (sym parts.1 ∙ ap (λ n. take n text) next)
@@ -187,7 +187,8 @@ module _ {X : Type 0} (start size : X → ℕ) (addr : ℕ) where
   none_tried y ys ascend above =
       none_from_above start size addr (y ∷ ys) (λ i w there. omega (arith, above, (ascending_table start size (y ∷ ys) ascend).starts_ascend 0 i y w (omega arith) refl there))
 
-  -- so of the two parts of ascending records the later one decides, if its first record doesn't start above the address
+  -- so of the two parts of ascending records the later one decides,
+  -- if its first record doesn't start above the address
   pub later_decides : (xs : List X) (y : X) (ys : List X) → StrictlyAscends (map start (xs ++ y ∷ ys)) → start y ≤ addr →
       candidate start size addr (xs ++ y ∷ ys) ≡ candidate start size addr (y ∷ ys)
   later_decides xs y ys ascend not_above =

@@ -9,14 +9,15 @@ use Rattle.bz_breakpad_lines.specs.Says.{module_of}
 use Rattle.bz_breakpad_lines.specs.Contexts.{Context, Record, context_after, white_allowed_after, record_at, after_white}
 use Rattle.bz_breakpad_lines.specs.Contexts.Context.{Outside}
 
--- the lines are admitted: each has a role after those before it, and MODULE is the first record or absent
+-- the lines are admitted: each has a role after those before it,
+-- and MODULE is the first record or absent
 pub record AreAdmitted (lines : List (List ℕ)) : Type 0 where
   pub roles : List Role
   pub are_roles : AreRoles [] lines roles
   pub module_first : AllByRecursion IsNoModule (drop 1 (records_of roles))
 
--- what lines tell: the record under which the next may stand, whether white space may come before it, and
--- whether they have a record
+-- what lines tell: the record under which the next may stand, whether white space may come before it,
+-- and whether they have a record
 pub record Before : Type 0 where
   pub context : Context
   pub white_allowed : Bool

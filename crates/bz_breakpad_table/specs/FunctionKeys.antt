@@ -1,4 +1,5 @@
--- The keys by which functions are put in order: a key has a function's start and size, and the function's index.
+-- The keys by which functions are put in order: a key has a function's start and size,
+-- and the function's index.
 use Rattle.std.specs.Prelude.{◌≡◌, ◌+◌, ℕ, List, [], ◌∷◌, length}
 use Rattle.bz_base.specs.Nearest.{IsTable}
 use Rattle.bz_breakpad_table.specs.declared.types.FunctionKey.{FunctionKey}

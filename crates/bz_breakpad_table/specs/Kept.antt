@@ -1,4 +1,5 @@
--- What is kept of a file, as its bytes say it. Its records are those of Breakpad's docs/symbol_files.md.
+-- What is kept of a file, as its bytes say it.
+-- Its records are those of Breakpad's docs/symbol_files.md.
 use Rattle.std.specs.Prelude.{◌≡◌, ◌≤◌, ◌-◌, ℕ, List, [], ◌∷◌, ◌++◌, length, drop, map, Option, Some, option_map, IsUtf8, slice_range, IfSome, IsSome}
 use Rattle.std.specs.List.{AllByRecursion, filter_map}
 use Rattle.std.specs.Map.{values_of}
@@ -30,7 +31,8 @@ use Rattle.bz_breakpad_table.specs.declared.types.LineRecords.TheVariants as rec
 use Rattle.bz_breakpad_table.specs.declared.types.Part.{Part}
 use Rattle.bz_breakpad_lines.specs.LineStarts.{ReadsLine}
 
--- the body of a record stands at a place in the bytes: it is that of the text from there to the line's end
+-- the body of a record stands at a place in the bytes: it is that of the text from there to the line's
+-- end
 pub record IsRecordAt (bytes : List ℕ) (start : ℕ) (body : List ℕ) : Type 0 where
   pub within : start ≤ length bytes
   pub body_is : body_at (line_front (drop start bytes)) ≡ Some body
@@ -103,11 +105,13 @@ kept_function bytes places inlinees f =
 abbrev pub kept_functions : List ℕ → FunctionTable → List Function
 kept_functions bytes t = map (kept_function bytes t.lines.items t.inlinees.items) t.functions.items
 
--- a function whose records are being read, with the keys of those that are listed, and its inlined calls
+-- a function whose records are being read, with the keys of those that are listed,
+-- and its inlined calls
 abbrev pub current_function : List ℕ → List LineKey → LinesSoFar → List CallRange → KeptFunction → Function
 current_function bytes keys lines calls f = function_of bytes f (records_so_far bytes keys lines) calls
 
--- a function as it is kept: its line records stand by start and size, and its inlined calls by depth and start
+-- a function as it is kept: its line records stand by start and size,
+-- and its inlined calls by depth and start
 pub record IsNested (f kept : Function) : Type 0 where
   pub same : kept ≡ record f { lines = kept.lines; inlinees = kept.inlinees }
   pub lines : IsTable (λ l. l.start) (λ l. l.size) f.lines kept.lines

@@ -1,4 +1,5 @@
--- The keys by which line records are put in order: a key has a record's start and size, and where it begins.
+-- The keys by which line records are put in order: a key has a record's start and size,
+-- and where it begins.
 use Rattle.std.specs.Prelude.{ℕ, List, map}
 use Rattle.bz_breakpad_lines.specs.LineStarts.{line_size, line_start}
 use Rattle.bz_breakpad_table.specs.declared.types.LineKey.{LineKey}

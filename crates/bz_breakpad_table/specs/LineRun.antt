@@ -35,7 +35,7 @@ pub record IsOpenRun (text : List ℕ) (last : StartText) : Type 0 where
 
 -- a line begins at a place within the text: a line feed stands before it
 pub record IsCut (text : List ℕ) (cut : ℕ) : Type 0 where
-  pub some : 0 < cut
+  pub positive : 0 < cut
   pub within : cut < length text
   pub behind : slice_index text (cut - 1) ≡ line_feed
 

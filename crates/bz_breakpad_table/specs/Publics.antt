@@ -1,4 +1,5 @@
--- The addresses of PUBLIC records (Breakpad's docs/symbol_files.md), in their order, and the first record of each.
+-- The addresses of PUBLIC records (Breakpad's docs/symbol_files.md), in their order,
+-- and the first record of each.
 use Rattle.std.specs.Prelude.{◌≡◌, ◌≤◌, ℕ, suc, List, [], ◌∷◌, length, map, Some, slice_get}
 use Rattle.bz_breakpad_lines.specs.LineStarts.{StrictlyAscends}
 use Rattle.bz_breakpad_table.specs.declared.publics.PublicKey.{PublicKey}

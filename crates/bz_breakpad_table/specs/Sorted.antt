@@ -1,4 +1,5 @@
--- What is kept of a file stands for its table: the functions, their keys in order, and the keys' starts.
+-- What is kept of a file stands for its table: the functions, their keys in order,
+-- and the keys' starts.
 -- Keys stand by start, then by size, then as in the file.
 use Rattle.std.specs.Prelude.{◌≡◌, ℕ, List, length, map, Some, option_map}
 use Rattle.bz_breakpad_table.specs.FunctionKeys.{AreSortedKeys}
@@ -11,7 +12,8 @@ use Rattle.bz_breakpad_table.specs.declared.types.FunctionKey.{FunctionKey}
 use Rattle.bz_breakpad_table.specs.declared.types.FunctionTable.{FunctionTable}
 use Rattle.bz_breakpad_table.specs.declared.types.KeptTable.{KeptTable}
 
--- the names, functions and PUBLIC records are the table's, and the keys are those of the functions in order.
+-- the names, functions and PUBLIC records are the table's, and the keys are those of the functions in
+-- order.
 -- Every part is one of the bytes
 pub record StandsFor (bytes : List ℕ) (table : Table) (kept : KeptTable) : Type 0 where
   pub module_is : option_map (text_at bytes) kept.«module» ≡ table.«module»
@@ -27,7 +29,8 @@ pub record StandsFor (bytes : List ℕ) (table : Table) (kept : KeptTable) : Typ
 abbrev pub starts_of : FunctionTable → List ℕ
 starts_of code = map (λ (k : FunctionKey). k.start) code.keys.items
 
--- the bytes have a table, what is kept stands for it, and the starts are those of its functions and PUBLIC records
+-- the bytes have a table, what is kept stands for it, and the starts are those of its functions and
+-- PUBLIC records
 pub record IsKept (bytes : List ℕ) (kept : KeptTable) (starts : List ℕ) (publics : PublicTable) : Type 0 where
   pub table : Table
   pub read : table_in bytes ≡ Some table

@@ -34,7 +34,8 @@ pub record IsStep (bytes : List ℕ) (old new : Walk) (line : List ℕ) (reading
   pub walked : IsWalked bytes new next
   pub same : (lines : List (List ℕ)) → walked_on old reading (line ∷ lines) ≡ walked_on new next lines
 
--- InvalidInput comes only where nothing is read of lines that begin with this one. Else want of memory alone comes
+-- InvalidInput comes only where nothing is read of lines that begin with this one.
+-- Else want of memory alone comes
 abbrev pub IsRefused : Walk → List ℕ → Error → Type 0
 IsRefused walk line errors.InvalidInput =
     (reading : Reading) → walk.count ≡ reading.count → (lines : List (List ℕ)) → walked_on walk reading (line ∷ lines) ≡ None
@@ -75,7 +76,8 @@ running walk from to last count = record walk {
   count = count;
 }
 
--- where a walk may end its run before the rest, it may end it before what is left, so many records later
+-- where a walk may end its run before the rest, it may end it before what is left,
+-- so many records later
 abbrev pub GoesOn : List ℕ → StartText → List ℕ → StartText → ℕ → Type 0
 GoesOn rest start left last passed =
     (bytes : List ℕ) (walk : Walk) (from count : ℕ) → context_told walk.context ≡ InFunc → walk.white_allowed ≡ false →

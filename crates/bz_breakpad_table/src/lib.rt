@@ -1,4 +1,5 @@
-//! The walk over a Breakpad file's lines, the table that it keeps, and where bytes are refused as such a file.
+//! The walk over a Breakpad file's lines, the table that it keeps,
+//! and where bytes are refused as such a file.
 #![tactic(auto)]
 
 mod before;

@@ -9,8 +9,8 @@ use crate::walk::Walk;
 use bz_base::{Error, Result};
 use std::alloc::Global;
 
-/// Reads a Breakpad text. InvalidInput: it is no Breakpad file. OutOfMemory: memory ran out, or the text
-/// has 4 GiB or more.
+/// Reads a Breakpad text. InvalidInput: it is no Breakpad file.
+/// OutOfMemory: memory ran out, or the text has 4 GiB or more.
 pub fn read(alloc: Global, text: &[u8]) -> Result<Walk>
     ensures ok { IfOk result (HasRead text.now) }
     ensures refusal { IfErr result (Refuses (reading_in text.now)) }

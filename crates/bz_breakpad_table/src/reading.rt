@@ -83,9 +83,9 @@ impl KeptReading {
             IsSoFar bytes.now self.new (with_record reading (OfFunc (inner_told inner.entry ranges.now)))) }
     {
         match inner {
-            InnerLine::Code(_) => self.functions.list(bytes, start),
+            InnerLine::Line(_) => self.functions.list(bytes, start),
             InnerLine::Inline(call) => self.functions.inline(&call, ranges, start),
-            InnerLine::Origin(id, name) => self.origins.insert(id, name_part(name, end)?),
+            InnerLine::InnerOrigin(id, name) => self.origins.insert(id, name_part(name, end)?),
         }
     }
 

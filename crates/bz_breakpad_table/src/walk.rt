@@ -58,7 +58,7 @@ impl Walk {
     #[inline(always)]
     pub fn next<'a>(&mut self, text: &[u8], rest: &'a [u8]) -> Result<&'a [u8]>
         requires midway { IsMidway text.now rest.now self.old }
-        requires some { 0 < length rest.now }
+        requires positive { 0 < length rest.now }
         ensures ok { IfOk result (λ after. IsMidway text.now after.now self.new) }
         ensures shorter { IfOk result (λ after. length after.now < length rest.now) }
         ensures refusal { IfErr result (Refuses (reading_in text.now)) }
@@ -198,7 +198,7 @@ impl Walk {
     #[inline(never)]
     fn general<'a>(&mut self, text: &[u8], rest: &'a [u8]) -> Result<&'a [u8]>
         requires midway { IsMidway text.now rest.now self.old }
-        requires some { 0 < length rest.now }
+        requires positive { 0 < length rest.now }
         ensures ok { IfOk result (λ after. IsMidway text.now after.now self.new) }
         ensures shorter { IfOk result (λ after. length after.now < length rest.now) }
         ensures refusal { IfErr result (Refuses (reading_in text.now)) }
@@ -261,7 +261,7 @@ struct RunEnd<'a> {
 #[inline(always)]
 fn pass_run<'a>(rest: &'a [u8], start: StartText, stops: Stops) -> RunEnd<'a>
     requires stops { AreStops rest.now stops }
-    requires some { 0 < start.digits }
+    requires positive { 0 < start.digits }
     requires few { start.digits ≤ 8 }
     ensures goes_on { GoesOn rest.now start result.left.now result.last result.count }
     ensures few { result.count + length result.left.now ≤ length rest.now }

@@ -1,4 +1,5 @@
--- The canonical form of a table: it can be said, it answers as the table does, and it is its own canonical form.
+-- The canonical form of a table: it can be said, it answers as the table does,
+-- and it is its own canonical form.
 use Rattle.std.proofs.Common.{◌≡◌, ◌↔◌, ℕ, ◌+◌, ◌≤◌, Bool, cond, nat_le, ◌&&◌, inl, inr, List, [], ◌∷◌, length, map, Option, Some, None, option_map, Result, Ok, Err, refl, sym, ap, subst, ◌∙◌, arith}
 use Rattle.std.specs.List.{AllByRecursion, list_any}
 use Rattle.std.proofs.lemmas.Bool.{cases_lt}

@@ -153,21 +153,21 @@ module _ (a : ℕ) (gap : is_gap a ≡ true) (text rest : List ℕ) (lower : All
   hex_field : (most value : ℕ) → most ≤ 16 → IsNumber 16 most text value → digits 16 false value ≡ text
   hex_field most value few is =
       ap (digits 16 false) is.valued
-      ∙ hex_again text is.some (omega (arith, is.few, few)) is.digits lower (leads_alone 16 (omega arith) a text rest gap is.some is.digits are)
+      ∙ hex_again text is.positive (omega (arith, is.few, few)) is.digits lower (leads_alone 16 (omega arith) a text rest gap is.positive is.digits are)
 
   dec_field : (most value : ℕ) → IsDecimal most greatest text value → decimal value ≡ text
   dec_field most value is =
       let number = is.number in
       ap decimal number.valued
-      ∙ decimal-digits_value (numerals_by_value (AllDigits 10) tells_digits) text number.digits number.some
-      (leads_alone 10 (omega arith) a text rest gap number.some number.digits are) (omega (arith, is.fits, number.valued))
+      ∙ decimal-digits_value (numerals_by_value (AllDigits 10) tells_digits) text number.digits number.positive
+      (leads_alone 10 (omega arith) a text rest gap number.positive number.digits are) (omega (arith, is.fits, number.valued))
 
 -- the text begins with a byte of a field
 abbrev begins_solid : List ℕ → Bool
 begins_solid text = begins_with (λ b. not (is_gap b)) text
 
 number_solid : (base : ℕ) → base ≤ 16 → (most value : ℕ) (text rest : List ℕ) → IsNumber base most text value → begins_solid (text ++ rest) ≡ true
-number_solid base low most value [] rest is = absurd (omega (arith, is.some))
+number_solid base low most value [] rest is = absurd (omega (arith, is.positive))
 number_solid base low most value (c ∷ text) rest is = rw (digit_solid c (omega (arith, is.digits.0, low))) refl
 
 -- a blank in lower case is a space
@@ -238,7 +238,7 @@ numbers_again true (Hex most · f) are a gap text rest v is left =
     let parts = and_parts (nat_le most 16) (are_numbers false f) are in
     let left : IsLeft a (is.front ++ is.back) rest = subst (λ (t : List ℕ). IsLeft a t rest) is.whole left in
     let front = front_left a is.front is.back rest left in
-    let back = back_left a is.front is.back rest left is.front_is.some in
+    let back = back_left a is.front is.back rest left is.front_is.positive in
     ap (λ (w : ℕ × Value f). digits 16 false w.0 ++ form_text f w.1) is.valued
     ∙ ap₂ (λ (x y : List ℕ). x ++ y)
     (hex_field a (gap refl) is.front (is.back ++ rest) front.lower front.fields most is.tells (leb-true most 16 parts.0) is.front_is)
@@ -247,7 +247,7 @@ numbers_again true (Hex most · f) are a gap text rest v is left =
 numbers_again true (Decimal · f) are a gap text rest v is left =
     let left : IsLeft a (is.front ++ is.back) rest = subst (λ (t : List ℕ). IsLeft a t rest) is.whole left in
     let front = front_left a is.front is.back rest left in
-    let back = back_left a is.front is.back rest left is.front_is.number.some in
+    let back = back_left a is.front is.back rest left is.front_is.number.positive in
     ap (λ (w : ℕ × Value f). decimal w.0 ++ form_text f w.1) is.valued
     ∙ ap₂ (λ (x y : List ℕ). x ++ y)
     (dec_field a (gap refl) is.front (is.back ++ rest) front.lower front.fields 10 is.tells is.front_is)

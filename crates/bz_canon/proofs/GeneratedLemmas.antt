@@ -6,7 +6,7 @@ use Rattle.std.specs.List.{AllByRecursion, flat_map}
 use Rattle.std.specs.Str.Parse.{AllDigits}
 use Rattle.std.proofs.lemmas.Bool.{agree_below_at, lt-ltb}
 use Rattle.bz_base.specs.Line.{ended}
-use Rattle.bz_breakpad_lines.specs.Byte.{is_ascii_in_line, is_word_byte}
+use Rattle.bz_breakpad_lines.specs.Byte.{is_ascii_in_line, is_within_line, is_word_byte}
 use Rattle.bz_breakpad_lines.specs.Form.{AllPass, Form, IsPiece, IsSeparator, Piece, Spells, Tell, Value, told}
 use Rattle.bz_breakpad_lines.specs.Form.Form.{Name, ◌·◌}
 use Rattle.bz_breakpad_lines.specs.Form.Piece.{ModuleSeparator, Separator, Tag, Word}
@@ -15,7 +15,7 @@ use Rattle.bz_breakpad_lines.specs.Printed.{FunctionFits, IsPrintable, func_reco
 use Rattle.bz_breakpad_lines.specs.Records.{MODULE}
 use Rattle.bz_breakpad_lines.specs.Contexts.Context.{Outside}
 use Rattle.bz_breakpad_lines.specs.Contexts.Record.{Top, OfFunc}
-use Rattle.bz_breakpad_lines.specs.Written.{IsLineName, is_within_line, record_text}
+use Rattle.bz_breakpad_lines.specs.Written.{IsLineName, record_text}
 use Rattle.bz_breakpad_lines.proofs.AsciiLemmas.{plain_utf8}
 use Rattle.bz_breakpad_lines.proofs.PrintedLaws.{after_module, headed_accepted}
 use Rattle.bz_breakpad_lines.proofs.StartLemmas.{digit_byte}

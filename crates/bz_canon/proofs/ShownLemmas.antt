@@ -1,4 +1,5 @@
--- What the bits of a load tell of whether a text is canonical, and what loads one after another tell of the whole.
+-- What the bits of a load tell of whether a text is canonical,
+-- and what loads one after another tell of the whole.
 use Rattle.std.proofs.Common.{◌≡◌, ℕ, suc, ◌+◌, ◌-◌, ◌/◌, ◌<◌, ◌≤◌, Bool, true, false, cond, not, ◌&&◌, ◌||◌, nat_eq, List, [], ◌∷◌, ◌++◌, length, map, take, drop, drop-cons, min, bit_and, bit_or, slice_index, refl, sym, ap, ap₂, ◌∙◌, arith, inl, inr}
 use Rattle.std.specs.Int.{bit_at}
 use Rattle.std.proofs.lemmas.Bool.{cases_lt}

@@ -1,4 +1,5 @@
--- The text of an answer: a line for the symbol, or for the reason why there is none, and a line for each inlined call.
+-- The text of an answer: a line for the symbol, or for the reason why there is none,
+-- and a line for each inlined call.
 use Rattle.std.specs.Prelude.{ℕ, Bool, true, false, List, [], ◌∷◌, ◌++◌, flat_map, codes, decimal, Option, Some, None}
 use Rattle.std.specs.Fmt.{digits}
 use Rattle.bz_base.specs.Answer.{Site, Call, Symbol, Answer}

@@ -1,5 +1,6 @@
--- The canonical form of a table, and its text. Orders that answers don't ask for are the same in it: those of PUBLIC records and
--- functions, and of a function's lines and inlined calls. What is alike in an order stands as in the table.
+-- The canonical form of a table, and its text.
+-- Orders that answers don't ask for are the same in it: those of PUBLIC records and functions,
+-- and of a function's lines and inlined calls. What is alike in an order stands as in the table.
 use Rattle.std.specs.Prelude.{ℕ, List, map}
 use Rattle.bz_base.specs.Sorting.{sorted}
 use Rattle.bz_breakpad.specs.InOrder.{calls_in_order, lines_in_order, ordered_functions}

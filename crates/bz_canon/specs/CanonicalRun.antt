@@ -6,11 +6,13 @@ use Rattle.bz_base.specs.Byte.{line_feed, space}
 abbrev pub zero_digit : ℕ
 zero_digit = 48
 
--- the space, and all bytes below it. Where a line record has such a byte, it stands between fields or ends the line
+-- the space, and all bytes below it. Where a line record has such a byte,
+-- it stands between fields or ends the line
 abbrev pub is_gap : ℕ → Bool
 is_gap b = nat_le b space
 
--- a byte of a line in lower case: letters in upper case lack the bit, and so do tabs and carriage returns
+-- a byte of a line in lower case: letters in upper case lack the bit,
+-- and so do tabs and carriage returns
 abbrev pub is_lower : ℕ → Bool
 is_lower b = not (bit_and b 32 == 0) || b == line_feed
 

@@ -1,4 +1,5 @@
--- The generated job: a Breakpad text of functions that stand one after the other, and addresses among them.
+-- The generated job: a Breakpad text of functions that stand one after the other,
+-- and addresses among them.
 use Rattle.std.specs.Prelude.{ℕ, ◌+◌, ◌*◌, ◌/◌, ◌%◌, zero, suc, false, List, [], ◌∷◌, ◌++◌, codes, decimal}
 use Rattle.std.specs.Fmt.{digits}
 

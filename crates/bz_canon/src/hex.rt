@@ -32,7 +32,7 @@ pub(crate) fn put_hex(number: u64, room: &mut [u8; ROOM], end: usize) -> usize
 /// How many hexadecimal digits a number has.
 #[inline(always)]
 fn digit_count(number: u64) -> usize
-    ensures some { 0 < result }
+    ensures positive { 0 < result }
     ensures most { result ≤ 16 }
     ensures short { number < 4294967296 → result ≤ 8 }
     ensures shorter { number < 65536 → result ≤ 4 }

@@ -1,5 +1,5 @@
-//! Texts that are written: numbers, an answer's text, the canonical text of a Breakpad file, and a generated one
-//! with addresses among its functions.
+//! Texts that are written: numbers, an answer's text, the canonical text of a Breakpad file,
+//! and a generated one with addresses among its functions.
 #![tactic(auto)]
 
 mod answer;

@@ -71,7 +71,8 @@ impl Piece {
         self.from = from;
     }
 
-    /// Puts a number's hexadecimal digits in front of the text, in lower case and without leading zeros.
+    /// Puts a number's hexadecimal digits in front of the text, in lower case and without leading
+    /// zeros.
     #[inline(always)]
     pub fn put_hex(&mut self, number: u64)
         requires { length self.old + 16 ≤ 96 }

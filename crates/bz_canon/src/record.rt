@@ -4,7 +4,7 @@ ghost use Rattle.std.specs.Prelude.{◌≡◌, ◌∷◌, ◌++◌, [], option_m
 ghost use Rattle.bz_base.specs.Byte.{line_feed};
 ghost use Rattle.bz_base.specs.Line.{ended};
 ghost use Rattle.bz_base.specs.declared.error.Error.{Error};
-ghost use Rattle.bz_breakpad.specs.Lent.{kept_inlinee};
+ghost use Rattle.bz_breakpad.specs.Lent.{inlinee_seen};
 ghost use Rattle.bz_breakpad.specs.Listed.{lent_public};
 ghost use Rattle.bz_breakpad_lines.specs.Contexts.Record.{OfFunc};
 ghost use Rattle.bz_breakpad_lines.specs.Printed.{func_record, inlinee_one, line_one, module_records, public_record};
@@ -76,7 +76,7 @@ pub(crate) fn push_func(text: &mut Vec<u8>, function: &Function<'_>) -> Result<(
 
 /// An INLINE record of one range.
 pub(crate) fn push_inlinee(text: &mut Vec<u8>, inlinee: &Inlinee) -> Result<()>
-    ensures ok { OnOk result (text.new.items ≡ text.old.items ++ ended (record_text (OfFunc (inlinee_one (kept_inlinee inlinee.now))))) }
+    ensures ok { OnOk result (text.new.items ≡ text.old.items ++ ended (record_text (OfFunc (inlinee_one (inlinee_seen inlinee.now))))) }
     ensures memory { IsOkUnless result Error.OutOfMemory }
 {
     let mut piece = Piece::new();

@@ -3,7 +3,7 @@
 ghost use Rattle.std.specs.Prelude.{◌≡◌, ◌<◌, ◌++◌, Some, map, option_map, IfOk, IfSome, OnOk, IsOkUnless};
 ghost use Rattle.bz_base.specs.declared.error.Error.{Error};
 ghost use Rattle.bz_breakpad.specs.InOrder.{lines_in_order};
-ghost use Rattle.bz_breakpad.specs.Lent.{kept_inlinee};
+ghost use Rattle.bz_breakpad.specs.Lent.{inlinee_seen};
 ghost use Rattle.bz_breakpad.specs.Listed.{lent_public};
 ghost use Rattle.bz_breakpad_lines.specs.Contexts.Record.{OfFunc};
 ghost use Rattle.bz_breakpad_lines.specs.Printed.{function_records, inlinee_one, line_one, public_record, table_records};
@@ -94,7 +94,7 @@ fn push_functions_blank<L: Ledger>(
 ) -> Result<()>
     requires name { blank.name ≡ L.name }
     requires parts { blank.parts ≡ L.parts }
-    requires some { 0 < L.parts }
+    requires positive { 0 < L.parts }
     ensures ok { OnOk result (text.new.items ≡ text.old.items ++ functions_text (canon_functions file.now)) }
     ensures memory { IsOkUnless result Error.OutOfMemory }
 {
@@ -184,7 +184,7 @@ fn canonical_run<'a>(function: &Function<'a>) -> Option<&'a [u8]>
 
 /// INLINE records.
 fn push_inlinees(text: &mut Vec<u8>, inlinees: &[Inlinee]) -> Result<()>
-    ensures ok { OnOk result (text.new.items ≡ text.old.items ++ lines_of (λ i. OfFunc (inlinee_one i)) (map kept_inlinee inlinees.now)) }
+    ensures ok { OnOk result (text.new.items ≡ text.old.items ++ lines_of (λ i. OfFunc (inlinee_one i)) (map inlinee_seen inlinees.now)) }
     ensures memory { IsOkUnless result Error.OutOfMemory }
 {
     for inlinee in inlinees {

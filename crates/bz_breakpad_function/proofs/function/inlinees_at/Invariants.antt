@@ -1,8 +1,8 @@
 use Rattle.std.proofs.Common.{◌≡◌, map, take}
 use Rattle.bz_breakpad_table.specs.Kept.{kept_call}
-use Rattle.bz_breakpad_function.specs.Lent.{kept_inlinee}
+use Rattle.bz_breakpad_function.specs.Lent.{inlinee_seen}
 use Rattle.bz_breakpad_function.proofs.function.inlinees_at.Given as goal
 
 -- the calls so far
 abbrev pub invariant-loop-range : goal.invariant-loop-range
-invariant-loop-range l = map kept_inlinee l.calls.items ≡ map (λ range. kept_call l.bytes range.now) (take l.range-index l.ranges)
+invariant-loop-range l = map inlinee_seen l.calls.items ≡ map (λ range. kept_call l.bytes range.now) (take l.range-index l.ranges)

@@ -10,7 +10,8 @@ use Rattle.bz_breakpad_table.specs.Sorted.{StandsFor}
 use Rattle.bz_breakpad_function.specs.Locations.{seen_from}
 use Rattle.bz_breakpad_function.proofs.locations.seen_from.Given as goal
 
--- the site and the calls so far are what is seen from outside the calls that were taken, of which the innermost came first
+-- the site and the calls so far are what is seen from outside the calls that were taken,
+-- of which the innermost came first
 abbrev pub invariant-loop-left : goal.invariant-loop-left
 invariant-loop-left l = record {
   within : l.left ≤ length l.calls;

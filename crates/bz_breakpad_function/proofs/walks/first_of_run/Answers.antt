@@ -24,6 +24,6 @@ returns-else-end-len-clause-lines c =
     let text = c.args.text.now in
     let len = c.args.len in
     let none : 0 ≡ len - len = omega arith in
-    one_line text len c.requires.run c.requires.some (omega (arith, next.ensures.end))
+    one_line text len c.requires.run c.requires.positive (omega (arith, next.ensures.end))
     ∙ ap (λ n. line_read text 0 ∷ lines_in (take n (drop len text))) none
     ∙ ap (λ (first : SourceLine). first ∷ lines_in (take (len - len) (drop len text))) (sym next.ensures.line)

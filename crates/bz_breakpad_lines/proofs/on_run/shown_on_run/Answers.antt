@@ -8,7 +8,7 @@ returns c =
       quick = len.quick (Some c.of_front-start.result) c.of_front-start.ensures.text;
       above = c.is_below.ensures c.if-not-is_below.false;
       digits = c.of_front-start.ensures.digits;
-      some = omega (arith, len.within.0);
+      positive = omega (arith, len.within.0);
       within = len.within.2;
       stops = c.after.ensures c.args.shown.text.now c.requires.stops;
     }

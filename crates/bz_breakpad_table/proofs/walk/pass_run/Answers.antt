@@ -12,7 +12,7 @@ loop-next-init c =
           let same : count ≡ count + 0 = omega arith in
           subst (λ n. IsMidway bytes rest (running walk from (length bytes - length rest) c.args.start n)) same m;
       stops = c.requires.stops;
-      some = c.requires.some;
+      positive = c.requires.positive;
       few = c.requires.few;
       within = omega arith;
     }
@@ -30,7 +30,7 @@ loop-next-preserved c =
           subst (λ n. IsMidway bytes after (running walk from (length bytes - length after) next.start n)) more
           (run_step bytes left walk from (count + at.count) at.last next in_func bound on (at.invariant.goes_on bytes walk from count in_func bound m));
       stops = on.stops;
-      some = omega (arith, on.digits, at.invariant.some);
+      positive = omega (arith, on.digits, at.invariant.positive);
       few = omega (arith, on.digits, at.invariant.few);
-      within = omega (arith, at.invariant.within, on.some, on.within, length-drop next.len left);
+      within = omega (arith, at.invariant.within, on.positive, on.within, length-drop next.len left);
     })

@@ -8,7 +8,7 @@ abbrev pub invariant-loop-next : goal.invariant-loop-next
 invariant-loop-next l = record {
   goes_on : GoesOn l.rest l.fn.start l.left l.last l.count;
   stops : AreStops l.left l.stops;
-  some : 0 < l.last.digits;
+  positive : 0 < l.last.digits;
   few : l.last.digits ≤ 8;
   within : l.count + length l.left ≤ length l.rest;
 }

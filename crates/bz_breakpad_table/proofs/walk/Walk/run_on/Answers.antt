@@ -10,8 +10,8 @@ returns-clause-midway c =
     ends_run text end.result.left.now walk c.in-Some.run'.from end.result.last _ c.in_ok-whole.whole c.in_ok-whole.ensures.from c.in_ok-whole.ensures.to
     (end.ensures.goes_on text walk c.in-Some.run'.from walk.count c.requires.in_func c.requires.white_allowed begun)
 
-pub pass_run-end-requires-clause-some : goal.pass_run-end-requires-clause-some
-pass_run-end-requires-clause-some c = (run_start c.args.text.now c.args.rest.now c.args.self.now c.in-Some.run' c.in-Some.start c.in-Some.ensures.run c.requires.midway).0
+pub pass_run-end-requires-clause-positive : goal.pass_run-end-requires-clause-positive
+pass_run-end-requires-clause-positive c = (run_start c.args.text.now c.args.rest.now c.args.self.now c.in-Some.run' c.in-Some.start c.in-Some.ensures.run c.requires.midway).0
 
 pub pass_run-end-requires-clause-few : goal.pass_run-end-requires-clause-few
 pass_run-end-requires-clause-few c = (run_start c.args.text.now c.args.rest.now c.args.self.now c.in-Some.run' c.in-Some.start c.in-Some.ensures.run c.requires.midway).1
