@@ -1,5 +1,6 @@
--- The numbers and texts of a table that is read of bytes are those of the grammar: they fit their widths, and are UTF-8.
-use Rattle.std.proofs.Common.{◌≡◌, ◌⊎◌, inl, inr, ℕ, ◌+◌, ◌<◌, true, option_map, List, [], ◌∷◌, ◌++◌, length, drop, Option, Some, None, refl, sym, ap, subst, ◌∙◌, arith, append_assoc}
+-- The numbers and texts of a table that is read of bytes are those of the grammar: they fit their
+-- widths, and are UTF-8.
+use Rattle.std.proofs.Common.{◌≡◌, ◌⊎◌, inl, inr, ℕ, ◌+◌, ◌^◌, ◌<◌, true, option_map, List, [], ◌∷◌, ◌++◌, length, drop, Option, Some, None, refl, sym, ap, subst, ◌∙◌, arith, append_assoc}
 use Rattle.std.specs.Prelude.{unwrap_or}
 use Rattle.std.specs.BTreeMap.{is_at}
 use Rattle.std.specs.List.{AllByRecursion, join_with_byte, slice_index}
@@ -21,10 +22,25 @@ use Rattle.bz_breakpad_lines.specs.Written.{RecordFits}
 use Rattle.bz_breakpad_lines.proofs.GrammarLaws.{accepted_found}
 use Rattle.bz_breakpad_lines.proofs.PrintableLaws.{accepted_printable}
 use Rattle.bz_breakpad_lines.proofs.Turns.{bind_some, map_some}
-use Rattle.bz_convert.specs.Bounds.{AreBounded, In, IsBounded}
+use Rattle.bz_convert.specs.Members.{In}
 use Rattle.bz_convert.specs.Plan.{located, source_by}
 use Rattle.bz_gsym_layout.specs.Plan.{Source}
 use Rattle.bz_gsym_layout.proofs.MemberLemmas.{all_append, member_of}
+
+-- the numbers of a function fit their widths, and its name is UTF-8
+pub record IsBounded (f : Function) : Type 0 where
+  pub start : f.start < 2 ^ 64
+  pub size : f.size < 2 ^ 32
+  pub name : IsUtf8 f.name
+  pub lines : (l : SourceLine) → In f.lines l → l.line < 2 ^ 32
+  pub calls : (i : Inlinee) → In f.inlinees i → i.call_line < 2 ^ 32
+  pub depths : (i : Inlinee) → In f.inlinees i → i.depth < 2 ^ 32
+
+-- so do those of each function, and all texts are UTF-8
+pub record AreBounded (table : Table) : Type 0 where
+  pub functions : (f : Function) → In table.functions f → IsBounded f
+  pub files : (id : ℕ) (source : Source) → located table id ≡ Some source → IsUtf8 source.dir × IsUtf8 source.file
+  pub origins : (id : ℕ) (name : List ℕ) → name_for id table.origins ≡ Some name → IsUtf8 name
 
 -- Texts that are cut at a slash.
 cut_at : (front rest : List ℕ) (last : ℕ) → slice_index (front ++ last ∷ rest) (length front) ≡ last

@@ -10,14 +10,15 @@ use Rattle.bz_breakpad_function.specs.Locations.{line_at}
 use Rattle.bz_breakpad_lines.specs.Table.{Inlinee, Function, Table}
 use Rattle.bz_breakpad_lines.proofs.Turns.{map_some}
 use Rattle.bz_search.proofs.SortingLaws.{sorted_table}
-use Rattle.bz_convert.specs.Bounds.{AreBounded, In}
+use Rattle.bz_convert.specs.Members.{In}
 use Rattle.bz_convert.specs.Fault.{fault_in}
-use Rattle.bz_convert.specs.Plan.{called, calls_by, code_of, is_checked, plan, same_line, sized_calls}
+use Rattle.bz_convert.specs.Plan.{called, calls_beside, code_of, is_checked, plan, same_line, sized_calls}
 use Rattle.bz_convert.specs.Rows.{rows_from}
 use Rattle.bz_gsym_layout.specs.Layable.{IsLayable, StartsAscend}
 use Rattle.bz_gsym_layout.specs.Nesting.{map_forest, nested}
 use Rattle.bz_gsym_layout.specs.Nesting.Forest.{NoCalls}
 use Rattle.bz_gsym_layout.specs.Plan.{Code}
+use Rattle.bz_convert.proofs.BoundsLemmas.{AreBounded}
 use Rattle.bz_convert.proofs.FaultLemmas.{all_clean}
 use Rattle.bz_convert.proofs.LayableLemmas.{layable}
 use Rattle.bz_gsym_layout.proofs.MemberLemmas.{all_members}
@@ -49,7 +50,7 @@ module _ (table : Table) where
       let f = map_some (code_of table) (slice_get (ordered_functions table.functions) i) c (sym (slice_get-map (code_of table) (ordered_functions table.functions) i) ∙ there) in
       subst (λ (d : Code). d.start + d.size ≤ last_address) f.2 (checked_fits f.0 (λ none. some (ap (λ (d : Code). d.calls) (sym f.2) ∙ none))) where
         by : (f : Function) (b : Bool) → (not (f.size == 0) && nat_le (f.start + f.size) last_address) ≡ b →
-            (map_forest (called table) (calls_by (cond b (rows_from same_line (λ addr. line_at addr f.lines) None f.start f.size) []) (nested (λ (i : Inlinee). i.depth) 0 (sized_calls f))) ≢ NoCalls) →
+            (map_forest (called table) (nested (λ (i : Inlinee). i.depth) 0 (calls_beside (cond b (rows_from same_line (λ addr. line_at addr f.lines) None f.start f.size) []) (sized_calls f))) ≢ NoCalls) →
             f.start + f.size ≤ last_address
         by f true is some = leb-true (f.start + f.size) last_address (and_parts (not (f.size == 0)) (nat_le (f.start + f.size) last_address) is).1
         by f false is some = absurd (some refl)

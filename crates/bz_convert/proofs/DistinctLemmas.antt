@@ -9,7 +9,7 @@ use Rattle.bz_base.specs.Chain.{around, chain, chain_from, fits, inner, inner_of
 use Rattle.bz_search.proofs.InnerLemmas.{Finds, inner_finds}
 use Rattle.bz_breakpad_lines.specs.Table.{Inlinee}
 use Rattle.bz_breakpad_function.specs.Locations.{calls_around}
-use Rattle.bz_convert.specs.Bounds.{In}
+use Rattle.bz_convert.specs.Members.{In}
 use Rattle.bz_convert.specs.Plan.{distinct_calls, same_call}
 
 pub same_call_is : (a b : Inlinee) → same_call a b ≡ true → a ≡ b

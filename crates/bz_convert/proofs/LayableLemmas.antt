@@ -10,14 +10,15 @@ use Rattle.bz_breakpad_lines.specs.Names.{name_for}
 use Rattle.bz_breakpad_function.specs.Locations.{line_at}
 use Rattle.bz_breakpad_lines.specs.Table.{SourceLine, Inlinee, Function, Table}
 use Rattle.bz_convert.specs.Fault.{has_zero}
-use Rattle.bz_convert.specs.Bounds.{AreBounded, In, IsBounded}
+use Rattle.bz_convert.specs.Members.{In}
 use Rattle.bz_gsym_layout.specs.Nesting.{Forest, map_forest, nested}
 use Rattle.bz_gsym_layout.specs.Nesting.Forest.{NoCalls, Call}
 use Rattle.bz_gsym_layout.specs.Numbering.{call_texts, calls_of, row_texts, source_texts, texts_of}
-use Rattle.bz_convert.specs.Plan.{called, calls_by, changes, code_of, distinct_calls, has_size, is_checked, line_of, located, same_line, sized_calls, source_named}
+use Rattle.bz_convert.specs.Plan.{called, calls_beside, changes, code_of, distinct_calls, has_size, is_checked, laid_calls, located, row_in, same_line, sized_calls, source_named}
 use Rattle.bz_gsym_layout.specs.Layable.{CallsStartInside, IsLayable, IsStorable, RowsAscend}
 use Rattle.bz_gsym_layout.specs.Plan.{Source, no_source}
 use Rattle.bz_convert.specs.Rows.{row_by, rows_from}
+use Rattle.bz_convert.proofs.BoundsLemmas.{AreBounded, IsBounded}
 use Rattle.bz_convert.proofs.CallLemmas.{is_table, lies_within}
 use Rattle.bz_convert.proofs.DistinctLemmas.{from_distinct}
 use Rattle.bz_convert.proofs.FaultLemmas.{IsClean}
@@ -41,10 +42,10 @@ module _ (table : Table) (good : AreBounded table) where
   file_utf8 : (id : ℕ) → AllByRecursion IsUtf8 (source_texts (source_named table id))
   file_utf8 id = let two = source_utf8 (located table id) (good.files id) in (two.0, (two.1, tt))
 
-  rows_utf8 : (rows : List (ℕ × SourceLine)) → AllByRecursion IsUtf8 (flat_map row_texts (map (λ (row : ℕ × SourceLine). (row.0, line_of table row.1)) rows))
+  rows_utf8 : (rows : List (ℕ × SourceLine)) → AllByRecursion IsUtf8 (flat_map row_texts (map (row_in table) rows))
   rows_utf8 [] = tt
   rows_utf8 (row ∷ rows) =
-      all_append IsUtf8 (row_texts (row.0, line_of table row.1)) (flat_map row_texts (map (λ (row : ℕ × SourceLine). (row.0, line_of table row.1)) rows)) (file_utf8 row.1.file) (rows_utf8 rows)
+      all_append IsUtf8 (row_texts (row_in table row)) (flat_map row_texts (map (row_in table) rows)) (file_utf8 row.1.file) (rows_utf8 rows)
 
   calls_utf8 : (calls : Forest Inlinee) → AllByRecursion IsUtf8 (flat_map call_texts (calls_of (map_forest (called table) calls)))
   calls_utf8 NoCalls = tt
@@ -60,19 +61,19 @@ module _ (table : Table) (good : AreBounded table) where
 
   -- Rows.
   rows_up : (line : ℕ → Option SourceLine) → ((a : ℕ) (l : SourceLine) → line a ≡ Some l → l.line < 2 ^ 32) → (count at from : ℕ) (before : Option SourceLine) →
-      from ≤ at → at + count ≤ 2 ^ 64 → RowsAscend from (map (λ (row : ℕ × SourceLine). (row.0, line_of table row.1)) (rows_from same_line line before at count))
+      from ≤ at → at + count ≤ 2 ^ 64 → RowsAscend from (map (row_in table) (rows_from same_line line before at count))
   rows_up line small zero at from before up most = tt
   rows_up line small (suc count) at from before up most =
       by before (line at) (λ l is. small at l is) (λ from up. rows_up line small count (at + 1) from (line at) up (omega arith)) where
         by : (before now : Option SourceLine) → ((l : SourceLine) → now ≡ Some l → l.line < 2 ^ 32) →
-            ((from : ℕ) → from ≤ at + 1 → RowsAscend from (map (λ (row : ℕ × SourceLine). (row.0, line_of table row.1)) (rows_from same_line line (line at) (at + 1) count))) →
-            RowsAscend from (map (λ (row : ℕ × SourceLine). (row.0, line_of table row.1)) (row_by same_line at before now ++ rows_from same_line line (line at) (at + 1) count))
+            ((from : ℕ) → from ≤ at + 1 → RowsAscend from (map (row_in table) (rows_from same_line line (line at) (at + 1) count))) →
+            RowsAscend from (map (row_in table) (row_by same_line at before now ++ rows_from same_line line (line at) (at + 1) count))
         by before None fits next = next from (omega arith)
         by None (Some l) fits next = (up, omega arith, fits l refl, next at (omega arith))
         by (Some former) (Some l) fits next = same_by (same_line former l) (next from (omega arith)) (up, omega arith, fits l refl, next at (omega arith)) where
-          same_by : (b : Bool) → RowsAscend from (map (λ (row : ℕ × SourceLine). (row.0, line_of table row.1)) (rows_from same_line line (line at) (at + 1) count)) →
-              RowsAscend from (map (λ (row : ℕ × SourceLine). (row.0, line_of table row.1)) ((at, l) ∷ rows_from same_line line (line at) (at + 1) count)) →
-              RowsAscend from (map (λ (row : ℕ × SourceLine). (row.0, line_of table row.1)) (cond b [] ((at, l) ∷ []) ++ rows_from same_line line (line at) (at + 1) count))
+          same_by : (b : Bool) → RowsAscend from (map (row_in table) (rows_from same_line line (line at) (at + 1) count)) →
+              RowsAscend from (map (row_in table) ((at, l) ∷ rows_from same_line line (line at) (at + 1) count)) →
+              RowsAscend from (map (row_in table) (cond b [] ((at, l) ∷ []) ++ rows_from same_line line (line at) (at + 1) count))
           same_by true without within = without
           same_by false without within = within
 
@@ -127,14 +128,14 @@ module _ (table : Table) (good : AreBounded table) where
 
     calls_down : f.start + f.size ≤ last_address → CallsStartInside f.start (code_of table f).calls
     calls_down fits = by (changes f) where
-      by : (rows : List (ℕ × SourceLine)) → CallsStartInside f.start (map_forest (called table) (calls_by rows (nested (λ (i : Inlinee). i.depth) 0 (sized_calls f))))
+      by : (rows : List (ℕ × SourceLine)) → CallsStartInside f.start (map_forest (called table) (nested (λ (i : Inlinee). i.depth) 0 (calls_beside rows (sized_calls f))))
       by [] = tt
       by (row ∷ rows) = nested_down 0 f.start (sized_calls f) (sized_up fits)
 
     rows_ascend : f.start + f.size ≤ last_address → RowsAscend f.start (code_of table f).rows
     rows_ascend fits =
         let all : changes f ≡ rows_from same_line (λ a. line_at a f.lines) None f.start f.size = rw (checked fits) refl in
-        subst (λ rows. RowsAscend f.start (map (λ (row : ℕ × SourceLine). (row.0, line_of table row.1)) rows)) (sym all)
+        subst (λ rows. RowsAscend f.start (map (row_in table) rows)) (sym all)
         (rows_up (λ a. line_at a f.lines) (λ a l is. bounded.lines l (covering_among (λ (r : SourceLine). r.start) (λ r. r.size) a f.lines l is)) f.size f.start f.start None (omega arith) (omega (arith, fits)))
 
     pub layable : IsLayable (code_of table f)
@@ -143,7 +144,7 @@ module _ (table : Table) (good : AreBounded table) where
       small = bounded.size;
       start = bounded.start;
       texts = all_storable (texts_of (code_of table f))
-          (bounded.name, all_append IsUtf8 _ _ (rows_utf8 (changes f)) (calls_utf8 (calls_by (changes f) (nested (λ (i : Inlinee). i.depth) 0 (sized_calls f)))))
+          (bounded.name, all_append IsUtf8 _ _ (rows_utf8 (changes f)) (calls_utf8 (nested (λ (i : Inlinee). i.depth) 0 (laid_calls f))))
           clean.no_zero;
       rows = rows_ascend;
       calls = calls_down;

@@ -5,7 +5,7 @@ use Rattle.std.proofs.lemmas.Bool.Decides.{nat_tests}
 use Rattle.std.proofs.lemmas.Option.{none-some, same_Some}
 use Rattle.bz_base.specs.Nearest.{has_span, IsTable}
 use Rattle.bz_gsym_layout.proofs.MemberLemmas.{filter_to}
-use Rattle.bz_convert.specs.Bounds.{In}
+use Rattle.bz_convert.specs.Members.{In}
 
 pub map_in : {X Y : Type 0} (view : X → Y) (xs : List X) (y : Y) → In (map view xs) y → (x : X) × In xs x × (view x ≡ y)
 map_in view [] y (i, there) = absurd (none-some y there)

@@ -1,4 +1,5 @@
--- The calls around an address in the tree of calls are those that a chain over the calls in their own order has.
+-- The calls around an address in the tree of calls are those that a chain over the calls in their own
+-- order has.
 use Rattle.std.proofs.Common.{◌≡◌, inl, inr, ℕ, zero, suc, ◌+◌, ◌<◌, ◌≤◌, Bool, true, false, cond, List, [], ◌∷◌, ◌++◌, Option, Some, None, refl, sym, ap, subst, ◌∙◌, arith, append-nil}
 use Rattle.std.specs.List.{filter, slice_get}
 use Rattle.std.proofs.lemmas.Bool.{cases_lt, lt-ltb, le-ltb, eq-eqb, ne_eqb, true≢false}
@@ -7,7 +8,7 @@ use Rattle.std.proofs.lemmas.Option.{none-some, same_Some}
 use Rattle.bz_base.specs.Chain.{IsChainTo, around, chain, chain_from, inner}
 use Rattle.bz_base.specs.Span.{inside}
 use Rattle.bz_search.proofs.InnerLemmas.{inner_is}
-use Rattle.bz_convert.specs.Bounds.{In}
+use Rattle.bz_convert.specs.Members.{In}
 use Rattle.bz_gsym_layout.specs.Nesting.{nested, calls_in}
 
 module _ {X : Type 0} (depth start size : X → ℕ) (addr : ℕ) where

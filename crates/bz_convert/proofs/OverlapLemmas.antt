@@ -8,11 +8,11 @@ use Rattle.std.proofs.lemmas.List.{drop_more, length-drop, length-map}
 use Rattle.std.proofs.lemmas.Option.{none-some, same_Some, slice_get_cases, slice_get_within}
 use Rattle.bz_base.specs.Span.{inside}
 use Rattle.bz_breakpad_function.specs.InOrder.{calls_in_order}
-use Rattle.bz_breakpad_function.specs.Lent.{kept_inlinee}
-use Rattle.bz_breakpad_function.specs.declared.types.Inlinee.{Inlinee as KeptInlinee}
+use Rattle.bz_breakpad_function.specs.Lent.{inlinee_seen}
+use Rattle.bz_breakpad_function.specs.declared.types.Inlinee.{Inlinee as GivenInlinee}
 use Rattle.bz_breakpad_lines.specs.Table.{Inlinee, Function}
 use Rattle.bz_search.proofs.SortingLaws.{sorted_table}
-use Rattle.bz_convert.specs.Bounds.{In}
+use Rattle.bz_convert.specs.Members.{In}
 use Rattle.bz_convert.specs.Fault.{is_over, overlap, overlaps}
 use Rattle.bz_convert.specs.Plan.{same_call}
 use Rattle.bz_convert.specs.Reach.{AreByDepth}
@@ -242,43 +242,43 @@ first_over_short [] short = refl
 first_over_short (x ∷ []) short = refl
 first_over_short (x ∷ y ∷ xs) short = absurd (omega arith)
 
-module _ (calls : List KeptInlinee) (d : KeptInlinee) where
+module _ (calls : List GivenInlinee) (d : GivenInlinee) where
   abbrev call_at : ℕ → Inlinee
-  call_at i = kept_inlinee (slice_index_or calls i d)
+  call_at i = inlinee_seen (slice_index_or calls i d)
 
   over_step : (j : ℕ) → suc j < length calls →
-      first_over (map kept_inlinee (drop j calls)) ≡ cond (is_over (call_at (suc j)) (call_at j)) (Some (call_at (suc j))) (first_over (map kept_inlinee (drop (suc j) calls)))
+      first_over (map inlinee_seen (drop j calls)) ≡ cond (is_over (call_at (suc j)) (call_at j)) (Some (call_at (suc j))) (first_over (map inlinee_seen (drop (suc j) calls)))
   over_step j within =
       let e : j + 1 ≡ suc j = omega arith in
       let rest : drop (suc j) calls ≡ slice_index_or calls (suc j) d ∷ drop (suc j + 1) calls = drop_more calls (suc j) d within in
-      ap (λ l. first_over (map kept_inlinee l)) (drop_more calls j d (omega arith) ∙ ap (λ n. slice_index_or calls j d ∷ drop n calls) e ∙ ap (λ l. slice_index_or calls j d ∷ l) rest)
-      ∙ ap (λ l. cond (is_over (call_at (suc j)) (call_at j)) (Some (call_at (suc j))) (first_over (map kept_inlinee l))) (sym rest)
+      ap (λ l. first_over (map inlinee_seen l)) (drop_more calls j d (omega arith) ∙ ap (λ n. slice_index_or calls j d ∷ drop n calls) e ∙ ap (λ l. slice_index_or calls j d ∷ l) rest)
+      ∙ ap (λ l. cond (is_over (call_at (suc j)) (call_at j)) (Some (call_at (suc j))) (first_over (map inlinee_seen l))) (sym rest)
 
   pub over_turn : (i : ℕ) → 1 ≤ i → i < length calls →
-      first_over (map kept_inlinee (drop (i - 1) calls)) ≡ cond (is_over (call_at i) (call_at (i - 1))) (Some (call_at i)) (first_over (map kept_inlinee (drop i calls)))
+      first_over (map inlinee_seen (drop (i - 1) calls)) ≡ cond (is_over (call_at i) (call_at (i - 1))) (Some (call_at i)) (first_over (map inlinee_seen (drop i calls)))
   over_turn zero low within = absurd (omega arith)
   over_turn (suc j) low within =
       let e : j ≡ suc j - 1 = omega arith in
-      subst (λ k. first_over (map kept_inlinee (drop k calls)) ≡ cond (is_over (call_at (suc j)) (call_at k)) (Some (call_at (suc j))) (first_over (map kept_inlinee (drop (suc j) calls)))) e (over_step j within)
+      subst (λ k. first_over (map inlinee_seen (drop k calls)) ≡ cond (is_over (call_at (suc j)) (call_at k)) (Some (call_at (suc j))) (first_over (map inlinee_seen (drop (suc j) calls)))) e (over_step j within)
 
-  module _ (f : Function) (are : map kept_inlinee calls ≡ calls_in_order f) (i : ℕ) where
-    seen : overlap f ≡ option_map (λ (c : Inlinee). Overlap f.start c.depth c.start) (first_over (map kept_inlinee calls))
+  module _ (f : Function) (are : map inlinee_seen calls ≡ calls_in_order f) (i : ℕ) where
+    seen : overlap f ≡ option_map (λ (c : Inlinee). Overlap f.start c.depth c.start) (first_over (map inlinee_seen calls))
     seen = overlap_seen f (Overlap f.start) ∙ ap (λ l. option_map (λ (c : Inlinee). Overlap f.start c.depth c.start) (first_over l)) (sym are)
 
-    pub over_here : 1 ≤ i → i < length calls → is_over (call_at i) (call_at (i - 1)) ≡ true → first_over (map kept_inlinee (drop (i - 1) calls)) ≡ first_over (map kept_inlinee calls) →
+    pub over_here : 1 ≤ i → i < length calls → is_over (call_at i) (call_at (i - 1)) ≡ true → first_over (map inlinee_seen (drop (i - 1) calls)) ≡ first_over (map inlinee_seen calls) →
         Some (Overlap f.start (call_at i).depth (call_at i).start) ≡ overlap f
     over_here low within over so_far =
-        let found : first_over (map kept_inlinee calls) ≡ Some (call_at i) = sym so_far ∙ over_turn i low within ∙ ap (λ b. cond b (Some (call_at i)) (first_over (map kept_inlinee (drop i calls)))) over in
+        let found : first_over (map inlinee_seen calls) ≡ Some (call_at i) = sym so_far ∙ over_turn i low within ∙ ap (λ b. cond b (Some (call_at i)) (first_over (map inlinee_seen (drop i calls)))) over in
         sym (seen ∙ ap (option_map (λ (c : Inlinee). Overlap f.start c.depth c.start)) found)
 
-    pub over_next : 1 ≤ i → i < length calls → is_over (call_at i) (call_at (i - 1)) ≡ false → first_over (map kept_inlinee (drop (i - 1) calls)) ≡ first_over (map kept_inlinee calls) →
-        first_over (map kept_inlinee (drop (i + 1 - 1) calls)) ≡ first_over (map kept_inlinee calls)
+    pub over_next : 1 ≤ i → i < length calls → is_over (call_at i) (call_at (i - 1)) ≡ false → first_over (map inlinee_seen (drop (i - 1) calls)) ≡ first_over (map inlinee_seen calls) →
+        first_over (map inlinee_seen (drop (i + 1 - 1) calls)) ≡ first_over (map inlinee_seen calls)
     over_next low within fails so_far =
         let e : i + 1 - 1 ≡ i = omega arith in
-        ap (λ n. first_over (map kept_inlinee (drop n calls))) e
-        ∙ sym (over_turn i low within ∙ ap (λ b. cond b (Some (call_at i)) (first_over (map kept_inlinee (drop i calls)))) fails) ∙ so_far
+        ap (λ n. first_over (map inlinee_seen (drop n calls))) e
+        ∙ sym (over_turn i low within ∙ ap (λ b. cond b (Some (call_at i)) (first_over (map inlinee_seen (drop i calls)))) fails) ∙ so_far
 
-    pub over_end : length calls ≤ i → first_over (map kept_inlinee (drop (i - 1) calls)) ≡ first_over (map kept_inlinee calls) → None ≡ overlap f
+    pub over_end : length calls ≤ i → first_over (map inlinee_seen (drop (i - 1) calls)) ≡ first_over (map inlinee_seen calls) → None ≡ overlap f
     over_end past so_far =
-        let short : length (map kept_inlinee (drop (i - 1) calls)) ≤ 1 = omega (arith, length-map (drop (i - 1) calls) kept_inlinee, length-drop (i - 1) calls) in
-        sym (seen ∙ ap (option_map (λ (c : Inlinee). Overlap f.start c.depth c.start)) (sym so_far ∙ first_over_short (map kept_inlinee (drop (i - 1) calls)) short))
+        let short : length (map inlinee_seen (drop (i - 1) calls)) ≤ 1 = omega (arith, length-map (drop (i - 1) calls) inlinee_seen, length-drop (i - 1) calls) in
+        sym (seen ∙ ap (option_map (λ (c : Inlinee). Overlap f.start c.depth c.start)) (sym so_far ∙ first_over_short (map inlinee_seen (drop (i - 1) calls)) short))

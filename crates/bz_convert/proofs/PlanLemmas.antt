@@ -21,15 +21,16 @@ use Rattle.bz_breakpad_function.specs.InOrder.{ordered_functions}
 use Rattle.bz_breakpad_function.specs.Locations.{by_line, by_seen, calls_around, line_at, location_at, seen_from, seen_outside, site_in}
 use Rattle.bz_breakpad_lines.specs.Table.{SourceLine, Inlinee, Function, PublicSymbol, Table}
 use Rattle.bz_convert.specs.Alike.{AnswersAlike, IsAlike, KnowAlike, joined, joined_call}
-use Rattle.bz_convert.specs.Bounds.{AreBounded, In}
+use Rattle.bz_convert.specs.Members.{In}
 use Rattle.bz_convert.specs.Fault.{fault_in}
 use Rattle.bz_gsym_layout.specs.Nesting.{Forest, calls_in, map_forest, nested}
 use Rattle.bz_gsym_layout.specs.Nesting.Forest.{NoCalls, Call}
-use Rattle.bz_convert.specs.Plan.{called, calls_by, changes, code_of, distinct_calls, has_size, is_checked, line_of, located, origin_named, plan, same_line, sized_calls, source_by}
+use Rattle.bz_convert.specs.Plan.{called, calls_beside, changes, code_of, distinct_calls, has_size, is_checked, laid_calls, line_of, located, origin_named, plan, same_line, sized_calls, source_by}
 use Rattle.bz_gsym_layout.specs.Plan.{Called, Code, Line, no_source}
 use Rattle.bz_gsym_layout.specs.Planned.{by_code, location, planned, seen, site_of, symbol_at, symbol_by}
 use Rattle.bz_convert.specs.Rows.{rows_from}
 use Rattle.bz_gsym_layout.specs.Rows.{row_at}
+use Rattle.bz_convert.proofs.BoundsLemmas.{AreBounded}
 use Rattle.bz_convert.proofs.CallLemmas.{is_table, tree_around}
 use Rattle.bz_convert.proofs.FaultLemmas.{IsClean, all_clean, functions_differ}
 use Rattle.bz_convert.proofs.DistinctLemmas.{from_distinct}
@@ -188,8 +189,8 @@ module _ (table : Table) where
     calls_are : (r : ℕ × SourceLine) (rows : List (ℕ × SourceLine)) → row_at addr None rows ≡ Some r → rows ≡ changes f → code_calls ≡ map (called table) (calls_around addr f.inlinees)
     calls_are r [] is same = absurd (none-some r is)
     calls_are r (first ∷ rows) is same =
-        calls_seen (called table) (λ (c : Called). c.start) (λ c. c.size) addr (calls_by (changes f) (nested (λ (i : Inlinee). i.depth) 0 (sized_calls f)))
-        ∙ ap (λ rs. map (called table) (calls_in (λ (i : Inlinee). i.start) (λ i. i.size) addr (calls_by rs (nested (λ (i : Inlinee). i.depth) 0 (sized_calls f))))) (sym same)
+        calls_seen (called table) (λ (c : Called). c.start) (λ c. c.size) addr (nested (λ (i : Inlinee). i.depth) 0 (laid_calls f))
+        ∙ ap (λ rs. map (called table) (calls_in (λ (i : Inlinee). i.start) (λ i. i.size) addr (nested (λ (i : Inlinee). i.depth) 0 (calls_beside rs (sized_calls f))))) (sym same)
         ∙ ap (map (called table)) (tree_around f (clean.nested checked) checked addr short)
 
     -- the calls around the address are known

@@ -8,7 +8,7 @@ use Rattle.std.proofs.lemmas.Option.{none-some, same_Some}
 use Rattle.bz_base.specs.Nearest.{IsCandidate, IsNearestCovering, nearest_covering}
 use Rattle.bz_base.specs.Span.{covers}
 use Rattle.bz_search.proofs.NearestLemmas.{nearest_covering_is, nearest_covering_only}
-use Rattle.bz_convert.specs.Bounds.{In}
+use Rattle.bz_convert.specs.Members.{In}
 use Rattle.bz_convert.specs.Fault.{◌or◌}
 use Rattle.bz_convert.specs.Points.{gap_of}
 use Rattle.bz_convert.specs.Rows.{gap_from, row_by, rows_from}
@@ -86,7 +86,8 @@ module _ {L : Type 0} (same : L → L → Bool) (itself : (l : L) → same l l �
   span_before count at now before steady =
       ap (λ o. before_at o (at + 1) count) (steady at (omega arith) (omega arith)) ∙ before_steady count (at + 1) now (λ a low high. steady a (omega arith) (omega arith))
 
-  -- from an address on one record answers up to another one, or none does: the row at that address, and what comes behind
+  -- from an address on one record answers up to another one, or none does: the row at that address, and
+  -- what comes behind
   pub rows_of_span : (count n at : ℕ) (now before : Option L) → Steady now at (suc count) →
       rows_from same line_at before at (suc count + n) ≡ row_by same at before now ++ rows_from same line_at now (at + suc count) n
   rows_of_span count n at now before steady =
@@ -116,7 +117,8 @@ module _ {L : Type 0} (same : L → L → Bool) (itself : (l : L) → same l l �
   point_gap before [] = None
   point_gap before (p ∷ ps) = gap_of p before (line_at p) or point_gap (line_at p) ps
 
-  -- the points of so many addresses are all those at which another record may answer than before; one may stand several times
+  -- the points of so many addresses are all those at which another record may answer than before; one
+  -- may stand several times
   pub record ArePointsOf (before : Option L) (at count : ℕ) (ps : List ℕ) : Type 0 where
     pub ascend : (i j p q : ℕ) → i ≤ j → slice_get ps i ≡ Some p → slice_get ps j ≡ Some q → p ≤ q
     pub low : (p : ℕ) → In ps p → (at ≤ p) ⊎ ((suc p ≡ at) × (before ≡ line_at p))

@@ -1,4 +1,5 @@
--- The points of a function are those at which another line record may answer, and the rows and the gap are seen at them.
+-- The points of a function are those at which another line record may answer, and the rows and the gap
+-- are seen at them.
 use Rattle.std.proofs.Common.{◌≡◌, inl, inr, ℕ, zero, suc, ◌+◌, ◌<◌, ◌≤◌, ◌&&◌, Bool, true, false, cond, nat_le, nat_lt, not, map, flat_map, drop, length, List, [], ◌∷◌, ◌++◌, Option, Some, None, option_map, refl, sym, ap, subst, ◌∙◌, arith, append_assoc, append-nil}
 use Rattle.std.specs.Prelude.{◌==◌, slice_index_or}
 use Rattle.std.specs.List.{slice_get}
@@ -15,7 +16,7 @@ use Rattle.bz_breakpad_lines.specs.Told.{line_seen}
 use Rattle.bz_breakpad_lines.specs.declared.record.SourceLine.{SourceLine as KeptLine}
 use Rattle.bz_breakpad_lines.proofs.Turns.{map_some}
 use Rattle.bz_search.proofs.SortingLaws.{sorted_table}
-use Rattle.bz_convert.specs.Bounds.{In}
+use Rattle.bz_convert.specs.Members.{In}
 use Rattle.bz_convert.specs.Plan.{is_checked, same_line}
 use Rattle.bz_convert.specs.Fault.{◌or◌}
 use Rattle.bz_convert.specs.Points.{ArePoints, gap_of, point_within, row_seen}

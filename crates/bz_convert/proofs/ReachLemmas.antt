@@ -1,4 +1,5 @@
--- A call lies inside one of the depth before its own where it ends no later than those reach that don't start above it.
+-- A call lies inside one of the depth before its own where it ends no later than those reach that don't
+-- start above it.
 use Rattle.std.proofs.Common.{◌≡◌, inl, inr, ℕ, zero, suc, ◌+◌, ◌-◌, ◌<◌, ◌≤◌, ◌&&◌, Bool, true, false, cond, nat_le, nat_lt, List, [], ◌∷◌, ◌++◌, length, map, option_map, Option, Some, None, refl, sym, ap, subst, ◌∙◌, arith}
 use Rattle.std.specs.Prelude.{◌==◌, slice_index_or}
 use Rattle.std.specs.List.{list_any, slice_get}
@@ -10,10 +11,10 @@ use Rattle.bz_base.specs.Chain.{IsInner, inner}
 use Rattle.bz_base.specs.Nearest.{IsTable}
 use Rattle.bz_search.proofs.InnerLemmas.{Finds, inner_finds}
 use Rattle.bz_breakpad_function.specs.InOrder.{calls_in_order}
-use Rattle.bz_breakpad_function.specs.Lent.{kept_inlinee}
-use Rattle.bz_breakpad_function.specs.declared.types.Inlinee.{Inlinee as KeptInlinee}
+use Rattle.bz_breakpad_function.specs.Lent.{inlinee_seen}
+use Rattle.bz_breakpad_function.specs.declared.types.Inlinee.{Inlinee as GivenInlinee}
 use Rattle.bz_breakpad_lines.specs.Table.{Function, Inlinee}
-use Rattle.bz_convert.specs.Bounds.{In}
+use Rattle.bz_convert.specs.Members.{In}
 use Rattle.bz_convert.specs.Fault.{is_within, lies_inside}
 use Rattle.bz_convert.specs.Reach.{AreByDepth, AreReaches, IsReach, later_end, reach_after}
 use Rattle.bz_convert.specs.declared.calls.Reach.{Reach}
@@ -257,15 +258,15 @@ reaches_none calls = record {
 }
 
 -- One turn of the loop that makes them.
-pub reach_turn : (calls : List KeptInlinee) (i : ℕ) (d : KeptInlinee) → i < length calls → AreByDepth (map kept_inlinee calls) → (reaches new : List Reach) (last : Option Reach) (r : Reach) →
-    r ≡ reach_after last (kept_inlinee (slice_index_or calls i d)) → new ≡ reaches ++ r ∷ [] → AreReachesTo (map kept_inlinee calls) i reaches last →
-    AreReachesTo (map kept_inlinee calls) (i + 1) new (Some r)
+pub reach_turn : (calls : List GivenInlinee) (i : ℕ) (d : GivenInlinee) → i < length calls → AreByDepth (map inlinee_seen calls) → (reaches new : List Reach) (last : Option Reach) (r : Reach) →
+    r ≡ reach_after last (inlinee_seen (slice_index_or calls i d)) → new ≡ reaches ++ r ∷ [] → AreReachesTo (map inlinee_seen calls) i reaches last →
+    AreReachesTo (map inlinee_seen calls) (i + 1) new (Some r)
 reach_turn calls i d within order reaches new last r is pushed are =
-    let c : Inlinee = kept_inlinee (slice_index_or calls i d) in
-    let at : slice_get (map kept_inlinee calls) i ≡ Some c = slice_get-map kept_inlinee calls i ∙ ap (option_map kept_inlinee) (slice_get-get_or calls i d within) in
-    let more = reach_more (map kept_inlinee calls) order i reaches last c at are in
-    let all : AreReachesTo (map kept_inlinee calls) (i + 1) (reaches ++ r ∷ []) (Some r) = subst (λ w. AreReachesTo (map kept_inlinee calls) (i + 1) (reaches ++ w ∷ []) (Some w)) (sym is) more in
-    subst (λ l. AreReachesTo (map kept_inlinee calls) (i + 1) l (Some r)) (sym pushed) all
+    let c : Inlinee = inlinee_seen (slice_index_or calls i d) in
+    let at : slice_get (map inlinee_seen calls) i ≡ Some c = slice_get-map inlinee_seen calls i ∙ ap (option_map inlinee_seen) (slice_get-get_or calls i d within) in
+    let more = reach_more (map inlinee_seen calls) order i reaches last c at are in
+    let all : AreReachesTo (map inlinee_seen calls) (i + 1) (reaches ++ r ∷ []) (Some r) = subst (λ w. AreReachesTo (map inlinee_seen calls) (i + 1) (reaches ++ w ∷ []) (Some w)) (sym is) more in
+    subst (λ l. AreReachesTo (map inlinee_seen calls) (i + 1) l (Some r)) (sym pushed) all
 
 -- Whether a call lies inside others.
 module _ (f : Function) (reaches : List Reach) (are : AreReaches (calls_in_order f) reaches) (x : Inlinee) (other : x.depth ≡ 0 → ⊥) where

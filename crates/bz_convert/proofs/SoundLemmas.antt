@@ -9,7 +9,7 @@ use Rattle.bz_base.specs.Nearest.{has_span, IsTable}
 use Rattle.bz_base.specs.Span.{inside, last_address}
 use Rattle.bz_search.proofs.InnerLemmas.{inner_again}
 use Rattle.bz_gsym_layout.specs.Nesting.{nested, calls_in}
-use Rattle.bz_convert.specs.Bounds.{In}
+use Rattle.bz_convert.specs.Members.{In}
 use Rattle.bz_gsym_layout.proofs.MemberLemmas.{filter_to}
 use Rattle.bz_convert.proofs.MemberLemmas.{filter_from, pair_from, to_table, from_table, two_alike}
 use Rattle.bz_convert.proofs.NestingLemmas.{AreNested, AreFound, found_is, has_parts, calls_are, calls_are_the_chain}

@@ -8,10 +8,10 @@ use Rattle.bz_base.specs.Span.{inside, last_address}
 use Rattle.bz_breakpad_function.specs.InOrder.{calls_in_order}
 use Rattle.bz_breakpad_lines.specs.Table.{SourceLine, Inlinee, Function, Table}
 use Rattle.bz_search.proofs.SortingLaws.{sorted_table}
-use Rattle.bz_convert.specs.Bounds.{In}
+use Rattle.bz_convert.specs.Members.{In}
 use Rattle.bz_convert.specs.Fault.{has_zero}
 use Rattle.bz_convert.specs.Ids.{call_has_zero, row_has_zero, sized_with, source_has_zero}
-use Rattle.bz_convert.specs.Plan.{called, calls_by, changes, code_of, distinct_calls, has_size, is_checked, line_of, sized_calls}
+use Rattle.bz_convert.specs.Plan.{called, calls_beside, changes, code_of, distinct_calls, has_size, is_checked, laid_calls, line_of, row_in, sized_calls}
 use Rattle.bz_gsym_layout.specs.Nesting.{Forest, calls_in, map_forest, nested}
 use Rattle.bz_gsym_layout.specs.Nesting.Forest.{NoCalls, Call}
 use Rattle.bz_gsym_layout.specs.Numbering.{call_texts, calls_of, row_texts, texts_of}
@@ -135,17 +135,17 @@ source_zero : (s : Source) → list_any has_zero (s.dir ∷ s.file ∷ []) ≡ s
 source_zero s = ap (λ b. has_zero s.dir || b) (or_nothing (has_zero s.file))
 
 module _ (table : Table) where
-  row_zero : (row : ℕ × SourceLine) → list_any has_zero (row_texts (row.0, line_of table row.1)) ≡ row_has_zero table row
+  row_zero : (row : ℕ × SourceLine) → list_any has_zero (row_texts (row_in table row)) ≡ row_has_zero table row
   row_zero row = source_zero (line_of table row.1).source
 
   call_zero : (i : Inlinee) → list_any has_zero (call_texts (called table i)) ≡ call_has_zero table i
   call_zero i = ap (λ b. has_zero (called table i).name || b) (source_zero (called table i).at.source)
 
-  rows_zero : (rows : List (ℕ × SourceLine)) → list_any has_zero (flat_map row_texts (map (λ (row : ℕ × SourceLine). (row.0, line_of table row.1)) rows)) ≡ list_any (row_has_zero table) rows
+  rows_zero : (rows : List (ℕ × SourceLine)) → list_any has_zero (flat_map row_texts (map (row_in table) rows)) ≡ list_any (row_has_zero table) rows
   rows_zero rows =
-      any_flat has_zero row_texts (map (λ (row : ℕ × SourceLine). (row.0, line_of table row.1)) rows)
-      ∙ any_map (λ (row : ℕ × Line). list_any has_zero (row_texts row)) (λ (row : ℕ × SourceLine). (row.0, line_of table row.1)) rows
-      ∙ any_alike (λ (row : ℕ × SourceLine). list_any has_zero (row_texts (row.0, line_of table row.1))) (row_has_zero table) row_zero rows
+      any_flat has_zero row_texts (map (row_in table) rows)
+      ∙ any_map (λ (row : ℕ × Line). list_any has_zero (row_texts row)) (row_in table) rows
+      ∙ any_alike (λ (row : ℕ × SourceLine). list_any has_zero (row_texts (row_in table row))) (row_has_zero table) row_zero rows
 
   calls_zero : (calls : Forest Inlinee) → list_any has_zero (flat_map call_texts (calls_of (map_forest (called table) calls))) ≡ list_any (call_has_zero table) (calls_of calls)
   calls_zero calls =
@@ -165,8 +165,8 @@ module _ (table : Table) where
       ap (λ b. has_zero f.name || b)
       (any_append has_zero (flat_map row_texts (code_of table f).rows) (flat_map call_texts (calls_of (code_of table f).calls))
       ∙ ap (λ b. b || list_any has_zero (flat_map call_texts (calls_of (code_of table f).calls))) (rows_zero (changes f))
-      ∙ ap (λ b. list_any (row_has_zero table) (changes f) || b) (calls_zero (calls_by (changes f) (nested (λ (i : Inlinee). i.depth) 0 (sized_calls f))) ∙ by (changes f))) where
-        by : (rows : List (ℕ × SourceLine)) → list_any (call_has_zero table) (calls_of (calls_by rows (nested (λ (i : Inlinee). i.depth) 0 (sized_calls f)))) ≡ calls_where rows f
+      ∙ ap (λ b. list_any (row_has_zero table) (changes f) || b) (calls_zero (nested (λ (i : Inlinee). i.depth) 0 (laid_calls f)) ∙ by (changes f))) where
+        by : (rows : List (ℕ × SourceLine)) → list_any (call_has_zero table) (calls_of (nested (λ (i : Inlinee). i.depth) 0 (calls_beside rows (sized_calls f)))) ≡ calls_where rows f
         by [] = refl
         by (row ∷ rows) = any_of_tree f is_nested checked (call_has_zero table)
 

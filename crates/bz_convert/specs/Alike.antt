@@ -15,7 +15,8 @@ joined s = (path_text s.dir s.file, s.line)
 abbrev pub joined_call : Call → List ℕ × Option (List ℕ × Option ℕ)
 joined_call c = (c.name, option_map joined c.site)
 
--- the symbols have the same name, start, size, joined path, line and inlined calls; the converted one has no module
+-- the symbols have the same name, start, size, joined path, line and inlined calls; the converted one
+-- has no module
 pub record IsAlike (s : Symbol) (r : Resolved) : Type 0 where
   pub name : r.name ≡ s.name
   pub addr : r.addr ≡ s.addr
@@ -29,8 +30,8 @@ abbrev pub KnowAlike : Result Answer Error → Result (Result Resolved Reason) E
 KnowAlike (Ok (Known s)) (Ok (Ok r)) = IsAlike s r
 KnowAlike _ _ = ⊥
 
--- where a function answers in the Breakpad file, both know it; elsewhere, where a PUBLIC record may answer, the converted file
--- doesn't know the address
+-- where a function answers in the Breakpad file, both know it; elsewhere, where a PUBLIC record may
+-- answer, the converted file doesn't know the address
 abbrev pub AnswersAlike : Option Function → Result Answer Error → Result (Result Resolved Reason) Error → Type 0
 AnswersAlike None answer converted = converted ≡ Ok (Err reasons.UnknownAddr)
 AnswersAlike (Some f) answer converted = KnowAlike answer converted

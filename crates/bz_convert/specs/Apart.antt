@@ -3,8 +3,8 @@ use Rattle.std.specs.Prelude.{ℕ, ◌+◌, ◌<◌, ◌≤◌, nat_lt, ◌&&◌
 use Rattle.bz_base.specs.Span.{last_address}
 use Rattle.bz_breakpad_lines.specs.Table.{SourceLine}
 
--- none starts before an address, each has a size, and each ends before the next one starts, or where it does. The ends fit 64
--- bits
+-- none starts before an address, each has a size, and each ends before the next one starts, or where it
+-- does. The ends fit 64 bits
 abbrev pub LieApart : ℕ → List SourceLine → Type 0
 LieApart low [] = Unit {0}
 LieApart low (l ∷ lines) = (low ≤ l.start) × ((0 < l.size) × ((l.start + l.size ≤ last_address) × LieApart (l.start + l.size) lines))

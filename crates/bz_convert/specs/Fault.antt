@@ -1,5 +1,6 @@
--- Why a file isn't converted: the first fault of the first function that has one, by start, size and place in the file. No public
--- document says this: the definition is this repository's own, for what GSYM can't hold.
+-- Why a file isn't converted: the first fault of the first function that has one, by start, size and
+-- place in the file. No public document says this: the definition is this repository's own, for what
+-- GSYM can't hold.
 use Rattle.std.specs.Prelude.{ℕ, ◌+◌, Bool, ◌==◌, ◌&&◌, ◌||◌, not, nat_le, List, [], ◌∷◌, Option, Some, None, is_none, option_map, if◌then◌else◌}
 use Rattle.std.specs.List.{find, list_any}
 use Rattle.bz_base.specs.Byte.{zero_byte}
@@ -57,7 +58,8 @@ not_nested f = option_map (λ i. NotNested f.start i.depth i.start) (find (λ i.
 abbrev pub overlap : Function → Option ConvertError
 overlap f = option_map (λ i. Overlap f.start i.depth i.start) (find (overlaps f) (calls_in_order f))
 
--- the first id that names nothing, among the line records or inlined calls of a function that starts at func
+-- the first id that names nothing, among the line records or inlined calls of a function that starts at
+-- func
 module _ (table : Table) (func : ℕ) where
   abbrev pub line_file_fault : List SourceLine → Option ConvertError
   line_file_fault lines = option_map (λ l. NoFile func l.file) (find (λ l. is_none (located table l.file)) lines)

@@ -1,9 +1,9 @@
 pub mod Alike
 pub mod Apart
-pub mod Bounds
 pub mod ErrorNames
 pub mod Fault
 pub mod Ids
+pub mod Members
 pub mod Plan
 pub mod Points
 pub mod Reach

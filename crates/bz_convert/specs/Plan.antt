@@ -1,5 +1,5 @@
--- What of a Breakpad file is laid out: each function with its rows and the calls that were inlined into it, in texts. The choice
--- is this repository's own, so that the GSYM file answers alike (`Alike`).
+-- What of a Breakpad file is laid out: each function with its rows and the calls that were inlined into
+-- it, in texts. The choice is this repository's own, so that the GSYM file answers alike (`Alike`).
 use Rattle.std.specs.Prelude.{ℕ, ◌+◌, Bool, ◌==◌, ◌&&◌, not, nat_le, nat_lt, List, [], ◌∷◌, map, Option, None, option_map, unwrap_or, if◌then◌else◌}
 use Rattle.std.specs.List.{filter, list_any}
 use Rattle.bz_base.specs.Bind.{◌>>=◌}
@@ -11,8 +11,7 @@ use Rattle.bz_breakpad_function.specs.Locations.{line_at}
 use Rattle.bz_breakpad_lines.specs.Names.{name_for}
 use Rattle.bz_breakpad_lines.specs.Table.{SourceLine, Inlinee, Function, Table}
 use Rattle.bz_convert.specs.Rows.{rows_from}
-use Rattle.bz_gsym_layout.specs.Nesting.{Forest, map_forest, nested}
-use Rattle.bz_gsym_layout.specs.Nesting.Forest.{NoCalls}
+use Rattle.bz_gsym_layout.specs.Nesting.{map_forest, nested}
 use Rattle.bz_gsym_layout.specs.Plan.{Called, Code, Line, Source, no_source}
 
 -- a path that is cut; an absent directory is the empty text
@@ -67,18 +66,25 @@ has_size i = nat_lt 0 i.size
 abbrev pub sized_calls : Function → List Inlinee
 sized_calls f = sorted (λ i. i.start) (λ i. i.depth) (filter has_size (distinct_calls f.inlinees))
 
+abbrev pub calls_beside : {A B : Type 0} → List A → List B → List B
+calls_beside [] calls = []
+calls_beside (row ∷ rows) calls = calls
+
 -- they are laid out only where there are rows
-abbrev pub calls_by : {A : Type 0} → List A → Forest Inlinee → Forest Inlinee
-calls_by [] calls = NoCalls
-calls_by (row ∷ rows) calls = calls
+abbrev pub laid_calls : Function → List Inlinee
+laid_calls f = calls_beside (changes f) (sized_calls f)
+
+-- a row in texts
+abbrev pub row_in : Table → ℕ × SourceLine → ℕ × Line
+row_in table row = (row.0, line_of table row.1)
 
 abbrev pub code_of : Table → Function → Code
 code_of table f = record {
   start = f.start;
   size = f.size;
   name = f.name;
-  rows = map (λ (row : ℕ × SourceLine). (row.0, line_of table row.1)) (changes f);
-  calls = map_forest (called table) (calls_by (changes f) (nested (λ i. i.depth) 0 (sized_calls f)));
+  rows = map (row_in table) (changes f);
+  calls = map_forest (called table) (nested (λ i. i.depth) 0 (laid_calls f));
 }
 
 -- the functions by start and size

@@ -2,7 +2,7 @@
 use Rattle.std.specs.Prelude.{◌≡◌, ℕ, ◌+◌, ◌<◌, ◌≤◌, nat_le, nat_lt, ◌&&◌, List, [], ◌∷◌, Option, Some, None, is_none, is_some, slice_get, if◌then◌else◌}
 use Rattle.bz_breakpad_lines.specs.Table.{Function, SourceLine}
 use Rattle.bz_breakpad_lines.specs.Told.{line_seen}
-use Rattle.bz_convert.specs.Bounds.{In}
+use Rattle.bz_convert.specs.Members.{In}
 use Rattle.bz_convert.specs.declared.rows.LineRow.{LineRow}
 use Rattle.bz_convert.specs.declared.rows.Point.{Point}
 
@@ -22,8 +22,8 @@ point_within start end addr = if nat_le start addr && nat_lt addr end then recor
 abbrev pub IsOf : Function → ℕ → Type 0
 IsOf f addr = (f.start ≤ addr) × (addr < f.start + f.size)
 
--- addresses of the function in their order: with its start, and with those where a record starts, has its second address, or has
--- ended
+-- addresses of the function in their order: with its start, and with those where a record starts, has
+-- its second address, or has ended
 pub record ArePoints (f : Function) (points : List ℕ) : Type 0 where
   pub ascend : (i j p q : ℕ) → i ≤ j → slice_get points i ≡ Some p → slice_get points j ≡ Some q → p ≤ q
   pub within : (p : ℕ) → In points p → IsOf f p

@@ -2,7 +2,7 @@
 
 ghost use Rattle.std.specs.Prelude.{◌≡◌, ◌+◌, map, option_map, IfOk};
 ghost use Rattle.std.specs.List.{find};
-ghost use Rattle.bz_breakpad.specs.Lent.{kept_inlinee};
+ghost use Rattle.bz_breakpad.specs.Lent.{inlinee_seen};
 ghost use Rattle.bz_breakpad_function.specs.InOrder.{calls_in_order};
 ghost use Rattle.bz_convert.specs.Fault.{is_over, lies_inside, not_nested, overlap, ◌or◌};
 ghost use Rattle.bz_convert.specs.Reach.{AreByDepth, AreReaches, reach_after};
@@ -51,7 +51,7 @@ pub(crate) fn calls_fault(
     function: &Function<'_>,
     calls: &[Inlinee],
 ) -> Result<Option<ConvertError>, AllocError>
-    requires { map kept_inlinee calls.now ≡ calls_in_order function.now }
+    requires { map inlinee_seen calls.now ≡ calls_in_order function.now }
     ensures { IfOk result (λ fault. fault ≡ (not_nested function.now or overlap function.now)) }
 {
     let reaches = reaches_of(alloc, calls)?;
@@ -70,7 +70,7 @@ fn end_of(call: &Inlinee) -> u128
 
 /// How far a call reaches with those in front of it, by the one before it.
 fn reach_after(last: Option<Reach>, call: &Inlinee) -> Reach
-    ensures { result ≡ reach_after last (kept_inlinee call.now) }
+    ensures { result ≡ reach_after last (inlinee_seen call.now) }
 {
     let mut end = end_of(call);
     if let Some(last) = last {
@@ -87,8 +87,8 @@ fn reach_after(last: Option<Reach>, call: &Inlinee) -> Reach
 
 /// How far calls reach that stand by depth and start.
 fn reaches_of(alloc: Global, calls: &[Inlinee]) -> Result<Vec<Reach>, AllocError>
-    requires { AreByDepth (map kept_inlinee calls.now) }
-    ensures { IfOk result (λ reaches. AreReaches (map kept_inlinee calls.now) reaches.items) }
+    requires { AreByDepth (map inlinee_seen calls.now) }
+    ensures { IfOk result (λ reaches. AreReaches (map inlinee_seen calls.now) reaches.items) }
 {
     let mut reaches = Vec::with_capacity(alloc, calls.len())?;
     let mut last = None;
@@ -103,7 +103,7 @@ fn reaches_of(alloc: Global, calls: &[Inlinee]) -> Result<Vec<Reach>, AllocError
 /// Whether a call lies inside its function, or inside a call of the depth before its own.
 fn lies_inside(function: &Function<'_>, reaches: &[Reach], call: &Inlinee) -> bool
     requires { AreReaches (calls_in_order function.now) reaches.now }
-    ensures { result ≡ lies_inside function.now (kept_inlinee call.now) }
+    ensures { result ≡ lies_inside function.now (inlinee_seen call.now) }
 {
     if call.depth == 0 {
         let end = u128::from(function.addr()) + u128::from(function.size());
@@ -118,7 +118,7 @@ fn lies_inside(function: &Function<'_>, reaches: &[Reach], call: &Inlinee) -> bo
 /// The first call that isn't nested.
 fn not_nested(function: &Function<'_>, reaches: &[Reach], calls: &[Inlinee]) -> Option<ConvertError>
     requires reaches { AreReaches (calls_in_order function.now) reaches.now }
-    requires calls { map kept_inlinee calls.now ≡ calls_in_order function.now }
+    requires calls { map inlinee_seen calls.now ≡ calls_in_order function.now }
     ensures { result ≡ not_nested function.now }
 {
     for call in calls {
@@ -135,7 +135,7 @@ fn not_nested(function: &Function<'_>, reaches: &[Reach], calls: &[Inlinee]) -> 
 
 /// The first call that starts where another of its depth does, or inside one.
 fn overlap(function: &Function<'_>, calls: &[Inlinee]) -> Option<ConvertError>
-    requires { map kept_inlinee calls.now ≡ calls_in_order function.now }
+    requires { map inlinee_seen calls.now ≡ calls_in_order function.now }
     ensures { result ≡ overlap function.now }
 {
     for index in 1..calls.len() {
@@ -153,7 +153,7 @@ fn overlap(function: &Function<'_>, calls: &[Inlinee]) -> Option<ConvertError>
 
 /// Whether another call, of the same depth, starts where a call does, or has that start inside.
 fn is_over(call: &Inlinee, other: &Inlinee) -> bool
-    ensures { result ≡ is_over (kept_inlinee call.now) (kept_inlinee other.now) }
+    ensures { result ≡ is_over (inlinee_seen call.now) (inlinee_seen other.now) }
 {
     other.depth == call.depth
         && *other != *call

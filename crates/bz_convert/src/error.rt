@@ -30,8 +30,8 @@ pub enum ConvertError {
         /// The least such address of the function.
         addr: u64,
     },
-    /// An inlined call of some size doesn't lie wholly inside its function, if its depth is 0. A deeper one
-    /// doesn't lie wholly inside a call of the depth before.
+    /// An inlined call of some size doesn't lie wholly inside its function, if its depth is 0. A deeper
+    /// one doesn't lie wholly inside a call of the depth before.
     #[error("the function at {func:#x} has a call of depth {depth} at {addr:#x} that isn't nested")]
     NotNested {
         /// Where the function starts.

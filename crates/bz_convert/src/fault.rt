@@ -1,6 +1,6 @@
 //! The rows and inlined calls of a function, or its first fault.
 
-ghost use Rattle.std.specs.Prelude.{◌≡◌, ◌≢◌, true, None, Some, IfErr, IfOk};
+ghost use Rattle.std.specs.Prelude.{◌≡◌, ◌≢◌, ◌<◌, true, None, Some, IfErr, IfOk};
 ghost use Rattle.bz_breakpad_lines.specs.Reader.{table_in};
 ghost use Rattle.bz_breakpad_lines.specs.Table.{Table};
 ghost use Rattle.bz_convert.specs.Fault.{checked_fault, fault_of, zero_in, ◌or◌};
@@ -25,9 +25,9 @@ pub struct RowsAndCalls {
     pub calls: Vec<Inlinee>,
 }
 
-/// The rows and inlined calls of a function of the file that the ids are of. `before` is where the function
-/// before it starts, by start and size, if there is one. OutOfMemory: memory ran out. Any other refusal is
-/// the first fault of the function.
+/// The rows and inlined calls of a function of the file that the ids are of. `before` is where the
+/// function before it starts, by start and size, if there is one. OutOfMemory: memory ran out. Any
+/// other refusal is the first fault of the function.
 pub fn rows_and_calls(
     alloc: Global,
     ids: &CleanIds<'_>,
@@ -57,19 +57,19 @@ pub fn rows_and_calls(
     })
 }
 
-/// Whether a function has a size, and its end fits 64 bits.
+/// Whether the end of a function that has a size fits 64 bits.
 fn is_checked(function: &Function<'_>) -> bool
+    requires { 0 < function.now.size }
     ensures { result ≡ is_checked function.now }
 {
-    function.size() != 0
-        && function
-            .addr()
-            .checked_add(u64::from(function.size()))
-            .is_some()
+    function
+        .addr()
+        .checked_add(u64::from(function.size()))
+        .is_some()
 }
 
-/// The rows and inlined calls of a function that has a size, and whose end fits 64 bits. OutOfMemory: memory
-/// ran out. Any other refusal is the first fault of the function, EqualStarts aside.
+/// The rows and inlined calls of a function that has a size, and whose end fits 64 bits. OutOfMemory:
+/// memory ran out. Any other refusal is the first fault of the function, EqualStarts aside.
 fn checked_rows_and_calls(
     alloc: Global,
     ids: &CleanIds<'_>,

@@ -2,7 +2,7 @@
 
 ghost use Rattle.std.specs.Prelude.{◌≡◌, true, map, option_map, None, Some};
 ghost use Rattle.std.specs.List.{list_any};
-ghost use Rattle.bz_breakpad.specs.Lent.{kept_inlinee};
+ghost use Rattle.bz_breakpad.specs.Lent.{inlinee_seen};
 ghost use Rattle.bz_breakpad_function.specs.InOrder.{calls_in_order};
 ghost use Rattle.bz_breakpad_lines.specs.Reader.{table_in};
 ghost use Rattle.bz_breakpad_lines.specs.Table.{Table};
@@ -38,7 +38,7 @@ pub(crate) fn ids_fault(
 ) -> Option<ConvertError>
     ensures { (table : Table) → table_in ids.now ≡ Some table →
         result ≡ (line_file_fault table func (map line_seen lines.now)
-        or (call_file_fault table func (map kept_inlinee calls.now) or origin_fault table func (map kept_inlinee calls.now))) }
+        or (call_file_fault table func (map inlinee_seen calls.now) or origin_fault table func (map inlinee_seen calls.now))) }
 {
     if let Some(fault) = line_file_fault(ids, func, lines) {
         return Some(fault);
@@ -66,7 +66,7 @@ fn line_file_fault(ids: &CleanIds<'_>, func: u64, lines: &[SourceLine]) -> Optio
 
 /// The first inlined call of some size whose file isn't known.
 fn call_file_fault(ids: &CleanIds<'_>, func: u64, calls: &[Inlinee]) -> Option<ConvertError>
-    ensures { (table : Table) → table_in ids.now ≡ Some table → result ≡ call_file_fault table func (map kept_inlinee calls.now) }
+    ensures { (table : Table) → table_in ids.now ≡ Some table → result ≡ call_file_fault table func (map inlinee_seen calls.now) }
 {
     for call in calls {
         if call.size > 0 && ids.lacks_file(call.call_file) {
@@ -81,7 +81,7 @@ fn call_file_fault(ids: &CleanIds<'_>, func: u64, calls: &[Inlinee]) -> Option<C
 
 /// The first inlined call of some size whose name isn't known.
 fn origin_fault(ids: &CleanIds<'_>, func: u64, calls: &[Inlinee]) -> Option<ConvertError>
-    ensures { (table : Table) → table_in ids.now ≡ Some table → result ≡ origin_fault table func (map kept_inlinee calls.now) }
+    ensures { (table : Table) → table_in ids.now ≡ Some table → result ≡ origin_fault table func (map inlinee_seen calls.now) }
 {
     for call in calls {
         if call.size > 0 && ids.lacks_origin(call.origin_id) {
@@ -121,7 +121,7 @@ pub(crate) fn texts_have_zero(
 ) -> bool
     requires checked { is_checked function.now ≡ true }
     requires rows { map row_seen rows.now ≡ changes function.now }
-    requires calls { map kept_inlinee calls.now ≡ calls_in_order function.now }
+    requires calls { map inlinee_seen calls.now ≡ calls_in_order function.now }
     ensures { (table : Table) → table_in ids.now ≡ Some table → not_nested function.now ≡ None → overlap function.now ≡ None →
         result ≡ list_any has_zero (texts_of (code_of table function.now)) }
 {
@@ -148,7 +148,7 @@ fn rows_have_zero(ids: &CleanIds<'_>, rows: &[LineRow]) -> bool
 
 /// Whether the texts of inlined calls of some size hold a zero byte.
 fn calls_have_zero(ids: &CleanIds<'_>, calls: &[Inlinee]) -> bool
-    ensures { (table : Table) → table_in ids.now ≡ Some table → result ≡ list_any (sized_with (call_has_zero table)) (map kept_inlinee calls.now) }
+    ensures { (table : Table) → table_in ids.now ≡ Some table → result ≡ list_any (sized_with (call_has_zero table)) (map inlinee_seen calls.now) }
 {
     for call in calls {
         if call.size > 0 && call_has_zero(ids, call) {
@@ -160,7 +160,7 @@ fn calls_have_zero(ids: &CleanIds<'_>, calls: &[Inlinee]) -> bool
 
 /// Whether the name of an inlined call, or the directory or name of its file, holds a zero byte.
 fn call_has_zero(ids: &CleanIds<'_>, call: &Inlinee) -> bool
-    ensures { (table : Table) → table_in ids.now ≡ Some table → result ≡ call_has_zero table (kept_inlinee call.now) }
+    ensures { (table : Table) → table_in ids.now ≡ Some table → result ≡ call_has_zero table (inlinee_seen call.now) }
 {
     ids.origin_has_zero(call.origin_id) || ids.file_has_zero(call.call_file)
 }

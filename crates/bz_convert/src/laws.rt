@@ -31,8 +31,8 @@ pub fn plans_answer_alike()
 {}
 
 /// The bytes of a converted file are a GSYM file. Where a function answers in the Breakpad file, it
-/// answers as that file does, with lines and inlined calls. At every other address it knows nothing. Each
-/// function with calls has an inline tree.
+/// answers as that file does, with lines and inlined calls. At every other address it knows nothing.
+/// Each function with calls has an inline tree.
 pub fn conversions_answer_alike()
     ensures format { (bytes : List ℕ) (table : Table) → table_in bytes ≡ Some table → fault_in table ≡ None → length (layout (plan table)) < 2 ^ 32 → IsGsym (layout (plan table)) }
     ensures answers { (bytes : List ℕ) (table : Table) → table_in bytes ≡ Some table → fault_in table ≡ None → length (layout (plan table)) < 2 ^ 32 → (addr : ℕ) →

@@ -134,8 +134,8 @@ fn end_within(line: &SourceLine, end: u64) -> u64
     line.addr.saturating_add(u64::from(line.size)).min(end)
 }
 
-/// A gap, or else the one from an address on up to the next line record. No gap begins at the start of the
-/// function.
+/// A gap, or else the one from an address on up to the next line record. No gap begins at the start of
+/// the function.
 fn gap_before(gap: Option<u64>, start: u64, reached: u64, next: u64) -> Option<u64>
     ensures { result ≡ (gap or gap_between start reached next) }
 {
@@ -205,8 +205,8 @@ fn push_row(
     Ok(())
 }
 
-/// The points of a function, in the order of their addresses. They are its start, and of each line record
-/// the start, the address after it, and the end. One may stand there several times.
+/// The points of a function, in the order of their addresses. They are its start, and of each line
+/// record the start, the address after it, and the end. One may stand there several times.
 fn points_of(
     alloc: Global,
     function: &Function<'_>,

@@ -3,12 +3,11 @@ use Rattle.std.proofs.Common.{◌≡◌, ℕ, zero, suc, ◌<◌, Bool, true, fa
 use Rattle.std.proofs.lemmas.List.{length-map}
 use Rattle.bz_breakpad_function.specs.Locations.{line_at}
 use Rattle.bz_breakpad_lines.specs.Table.{Function, SourceLine}
-use Rattle.bz_convert.specs.Plan.{changes, is_checked, same_line, sized_calls}
+use Rattle.bz_convert.specs.Plan.{calls_beside, changes, is_checked, laid_calls, same_line, sized_calls}
 use Rattle.bz_convert.specs.RowsAndCalls.{AreRowsAndCalls}
 use Rattle.bz_convert.specs.Points.{row_seen}
 use Rattle.bz_convert.specs.Rows.{rows_from}
 use Rattle.bz_convert.specs.declared.fault.RowsAndCalls.{RowsAndCalls}
-use Rattle.bz_converting.specs.Laid.{calls_beside, laid_calls}
 
 module _ (f : Function) where
   pub laid_some : 0 < length (changes f) → sized_calls f ≡ laid_calls f

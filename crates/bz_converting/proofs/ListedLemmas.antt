@@ -1,4 +1,5 @@
--- One use more: what was used before adds nothing, and what is new comes last. The index of what is listed.
+-- One use more: what was used before adds nothing, and what is new comes last. The index of what is
+-- listed.
 use Rattle.std.proofs.Common.{◌≡◌, ℕ, zero, suc, ◌≤◌, Bool, true, false, cond, not, List, [], ◌∷◌, ◌++◌, length, Option, Some, None, option_map, refl, sym, ap, subst, ◌∙◌, arith, append-nil, append_assoc}
 use Rattle.std.specs.Prelude.{◌||◌, is_some}
 use Rattle.std.specs.List.{filter, list_any, slice_get}

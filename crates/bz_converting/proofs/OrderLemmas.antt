@@ -5,14 +5,13 @@ use Rattle.std.proofs.lemmas.Bool.{cases_lt, le-leb, lt-ltb, ltb-true}
 use Rattle.std.proofs.lemmas.Option.{none-some, same_Some}
 use Rattle.bz_base.specs.Span.{inside, last_address}
 use Rattle.bz_breakpad_lines.specs.Table.{Function, Inlinee, SourceLine, Table}
-use Rattle.bz_convert.specs.Bounds.{In}
-use Rattle.bz_convert.specs.Plan.{changes, distinct_calls, is_checked, sized_calls}
+use Rattle.bz_convert.specs.Members.{In}
+use Rattle.bz_convert.specs.Plan.{calls_beside, changes, distinct_calls, is_checked, laid_calls, sized_calls}
 use Rattle.bz_convert.proofs.CallLemmas.{are_sound, is_table, lies_within}
 use Rattle.bz_convert.proofs.DistinctLemmas.{to_distinct}
 use Rattle.bz_convert.proofs.FaultLemmas.{IsClean, IsNested}
 use Rattle.bz_convert.proofs.NestingLemmas.{AreNested, has, has_parts}
 use Rattle.bz_convert.proofs.SoundLemmas.{are_nested}
-use Rattle.bz_converting.specs.Laid.{calls_beside, laid_calls}
 use Rattle.bz_converting.proofs.LaidLemmas.{laid_checked}
 use Rattle.bz_converting.proofs.SizedLemmas.{from_sized}
 
@@ -45,7 +44,8 @@ module _ {X : Type 0} (depth start size : X → ℕ) (xs : List X) (i : ℕ) (x 
               | inr least ↦ beside p.0 p.1 p.3 p.4 (let e = p.5 in omega arith) (let q = p.2 in omega arith)
             ]
 
--- the first is outermost, each goes down by one depth at most, and none starts before the function or before one in front of it
+-- the first is outermost, each goes down by one depth at most, and none starts before the function or
+-- before one in front of it
 pub record AreCallsInOrder (start : ℕ) (calls : List Inlinee) : Type 0 where
   pub first : (x : Inlinee) → slice_get calls 0 ≡ Some x → x.depth ≡ 0
   pub down : (i : ℕ) (x y : Inlinee) → slice_get calls i ≡ Some x → slice_get calls (suc i) ≡ Some y → y.depth ≤ x.depth + 1

@@ -8,13 +8,13 @@ use Rattle.std.proofs.lemmas.Option.{none-some, same_Some, slice_get_within, sli
 use Rattle.bz_breakpad_function.specs.InOrder.{ordered_functions}
 use Rattle.bz_breakpad_function.specs.Locations.{line_at}
 use Rattle.bz_breakpad_lines.specs.Table.{Function, Inlinee, SourceLine, Table}
-use Rattle.bz_convert.specs.Bounds.{In}
+use Rattle.bz_convert.specs.Members.{In}
 use Rattle.bz_convert.specs.Fault.{fault_in}
-use Rattle.bz_convert.specs.Plan.{called, calls_by, changes, code_of, is_checked, line_of, plan, same_line, sized_calls}
+use Rattle.bz_convert.specs.Plan.{called, changes, code_of, is_checked, laid_calls, line_of, plan, row_in, same_line}
 use Rattle.bz_convert.specs.Rows.{row_by, rows_from}
 use Rattle.bz_convert.proofs.FaultLemmas.{IsClean, all_clean}
 use Rattle.bz_convert.proofs.ZeroLemmas.{calls_seen}
-use Rattle.bz_converting.specs.Laid.{IsFunctionFor, IsNodeFor, IsRowFor, calls_beside, laid_calls, row_in, sources_of_call, sources_used, texts_of_call, texts_used}
+use Rattle.bz_converting.specs.Laid.{IsFunctionFor, IsNodeFor, IsRowFor, sources_of_call, sources_used, texts_of_call, texts_used}
 use Rattle.bz_converting.specs.Numbered.{listed_sources, listed_texts}
 use Rattle.bz_converting.specs.declared.numbering.Numbering.{Numbering}
 use Rattle.bz_converting.proofs.NumberingLemmas.{text_found}
@@ -89,16 +89,9 @@ module _ (table : Table) where
 
   -- A function without a fault.
   module _ (f : Function) (clean : IsClean table f) where
-    beside : calls_by (changes f) (nested depth 0 (sized_calls f)) ≡ nested depth 0 (laid_calls f)
-    beside = by (changes f) where
-      by : (rows : List (ℕ × SourceLine)) → calls_by rows (nested depth 0 (sized_calls f)) ≡ nested depth 0 (calls_beside rows (sized_calls f))
-      by [] = refl
-      by (row ∷ rows) = refl
-
     calls_listed : calls_of (code_of table f).calls ≡ map (called table) (laid_calls f)
     calls_listed =
-        calls_seen (called table) (calls_by (changes f) (nested depth 0 (sized_calls f)))
-        ∙ ap (λ t. map (called table) (calls_of t)) beside
+        calls_seen (called table) (nested depth 0 (laid_calls f))
         ∙ ap (map (called table)) (all_calls depth (laid_calls f) (laid_order table f clean).first (laid_order table f clean).down)
 
     pub texts_are : texts_used table f ≡ texts_of (code_of table f)
@@ -132,7 +125,6 @@ module _ (table : Table) where
       calls_are : map_forest (call_of texts sources) (nested depth_of 0 g.calls.items) ≡ (code_of table f).calls
       calls_are =
           sym (trees_alike (IsNodeFor table texts sources) depth depth_of (called table) (call_of texts sources) (λ i node is. (sym is.depth, sym (call_is i node is))) (laid_calls f) g.calls.items 0 says.calls)
-          ∙ ap (map_forest (called table)) (sym beside)
 
       pub code_is : indexed.code_of texts sources g ≡ code_of table f
       code_is =

@@ -1,5 +1,5 @@
--- The calls of a function in which none overlaps another. Those that start alike and lie as deep say the same, so sorted ones
--- stand beside each other. Without repeats they are those of the plan.
+-- The calls of a function in which none overlaps another. Those that start alike and lie as deep say
+-- the same, so sorted ones stand beside each other. Without repeats they are those of the plan.
 use Rattle.std.proofs.Common.{◌≡◌, ◌⊎◌, inl, inr, ℕ, zero, suc, ◌<◌, ◌≤◌, Bool, true, false, cond, List, [], ◌∷◌, map, Option, Some, None, refl, sym, ap, subst, ◌∙◌, arith}
 use Rattle.std.specs.List.{AllByRecursion, filter, slice_get}
 use Rattle.std.proofs.lemmas.Bool.{cases_lt, eq-eqb, true≢false}
@@ -7,10 +7,10 @@ use Rattle.std.proofs.lemmas.Bool.Decides.{nat_tests}
 use Rattle.std.proofs.lemmas.Option.{none-some, same_Some}
 use Rattle.bz_base.specs.Nearest.{IsTable}
 use Rattle.bz_base.specs.Sorting.{Ascends, IsUpTo, is_below, put, sorted}
-use Rattle.bz_breakpad.specs.Lent.{kept_inlinee}
+use Rattle.bz_breakpad.specs.Lent.{inlinee_seen}
 use Rattle.bz_breakpad_function.specs.InOrder.{calls_in_order}
 use Rattle.bz_breakpad_lines.specs.Table.{Function, Inlinee}
-use Rattle.bz_convert.specs.Bounds.{In}
+use Rattle.bz_convert.specs.Members.{In}
 use Rattle.bz_convert.specs.Fault.{is_over}
 use Rattle.bz_convert.specs.Plan.{distinct_calls, has_size, same_call, sized_calls}
 use Rattle.bz_convert.proofs.DistinctLemmas.{from_distinct, none_twice, same_call_is, same_itself, to_distinct}
@@ -234,6 +234,6 @@ module _ (f : Function) (apart : AreApart f) where
   -- calls that are sorted, without repeats
   pub placed_are : (old new : List PlacedCall) → IsTable (λ (p : PlacedCall). p.call.addr) (λ p. p.call.depth) old new → placed_inlinees old ≡ all → without_repeats None (placed_inlinees new) ≡ sized_calls f
   placed_are old new is seen =
-      let view : PlacedCall → Inlinee = λ p. kept_inlinee p.call in
+      let view : PlacedCall → Inlinee = λ p. inlinee_seen p.call in
       let order : new ≡ sorted (λ p. start (view p)) (λ p. depth (view p)) old = table_sorted (λ p. start (view p)) (λ p. depth (view p)) old new is in
       ap (λ l. without_repeats None l) (ap (map view) order ∙ sorted_seen view start depth old ∙ ap (sorted start depth) seen) ∙ sized_are

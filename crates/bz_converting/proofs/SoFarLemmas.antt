@@ -1,4 +1,5 @@
--- Rows, inlined calls and functions are numbered one after another, and what was said of those so far stays.
+-- Rows, inlined calls and functions are numbered one after another, and what was said of those so far
+-- stays.
 use Rattle.std.proofs.Common.{◌≡◌, ℕ, zero, suc, ◌+◌, ◌<◌, ◌≤◌, List, [], ◌∷◌, ◌++◌, flat_map, length, map, take, Some, refl, sym, ap, subst, ◌∙◌, arith, append-nil, append_assoc}
 use Rattle.std.specs.Prelude.{slice_index_or}
 use Rattle.std.specs.List.{AllZip, slice_get}

@@ -2,8 +2,8 @@
 use Rattle.std.proofs.Common.{◌≡◌, ℕ, List, [], ◌∷◌, ◌++◌, flat_map, Some, ap, subst, ◌∙◌, append_assoc}
 use Rattle.std.specs.List.{AllZip, slice_get}
 use Rattle.bz_breakpad_lines.specs.Table.{Function, Inlinee, SourceLine, Table}
-use Rattle.bz_convert.specs.Plan.{called, changes, line_of}
-use Rattle.bz_converting.specs.Laid.{IsFunctionFor, IsNodeFor, IsRowFor, laid_calls, sources_of_call, sources_of_row, sources_used, texts_of_call, texts_of_row, texts_used}
+use Rattle.bz_convert.specs.Plan.{called, changes, laid_calls, line_of}
+use Rattle.bz_converting.specs.Laid.{IsFunctionFor, IsNodeFor, IsRowFor, sources_of_call, sources_of_row, sources_used, texts_of_call, texts_of_row, texts_used}
 use Rattle.bz_converting.specs.Numbered.{IsNumbering, listed_sources, listed_texts}
 use Rattle.bz_converting.specs.declared.numbering.Numbering.{Numbering}
 use Rattle.bz_converting.proofs.ListedLemmas.{Grows, grown_at, grows_on}

@@ -1,5 +1,5 @@
--- The GSYM file of a Breakpad file, and why there is none. Both are this repository's own definitions, over LLVM's format
--- (bz_gsym).
+-- The GSYM file of a Breakpad file, and why there is none. Both are this repository's own definitions,
+-- over LLVM's format (bz_gsym).
 use Rattle.std.specs.Prelude.{◌≡◌, ℕ, ◌^◌, ◌<◌, ◌≤◌, nat_lt, List, length, Option, Some, None, Result, Ok, Err, if◌then◌else◌}
 use Rattle.bz_breakpad_lines.specs.Table.{Table}
 use Rattle.bz_convert.specs.Fault.{fault_in}
@@ -14,8 +14,8 @@ pub record IsConversion (table : Table) (bytes : List ℕ) : Type 0 where
   pub laid_out : bytes ≡ layout (plan table)
   pub small : length bytes < 2 ^ 32
 
--- a file is refused for its fault; one without a fault where 32 bits don't count the bytes of its layout, which are told. Want of
--- memory refuses any
+-- a file is refused for its fault; one without a fault where 32 bits don't count the bytes of its
+-- layout, which are told. Want of memory refuses any
 abbrev pub Refuses : ConvertError → Option ConvertError → ℕ → Type 0
 Refuses (TooLarge bytes) fault len = (fault ≡ None) × (bytes ≡ len) × (2 ^ 32 ≤ len)
 Refuses OutOfMemory fault len = Unit {0}

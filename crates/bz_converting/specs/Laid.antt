@@ -1,12 +1,13 @@
--- What the rows, inlined calls and functions of a plan say, by the texts and source files that are listed.
-use Rattle.std.specs.Prelude.{◌≡◌, ℕ, false, List, [], ◌∷◌, ◌++◌, flat_map, Some, slice_get}
+-- What the rows, inlined calls and functions of a plan say, by the texts and source files that are
+-- listed.
+use Rattle.std.specs.Prelude.{◌≡◌, ℕ, false, List, ◌∷◌, ◌++◌, flat_map, Some, slice_get}
 use Rattle.std.specs.List.{AllZip}
 use Rattle.bz_breakpad_lines.specs.Table.{Function, Inlinee, SourceLine, Table}
-use Rattle.bz_convert.specs.Bounds.{In}
+use Rattle.bz_convert.specs.Members.{In}
 use Rattle.bz_convert.specs.Fault.{overlaps}
-use Rattle.bz_convert.specs.Plan.{called, changes, line_of, sized_calls}
+use Rattle.bz_convert.specs.Plan.{called, changes, laid_calls, line_of, row_in}
 use Rattle.bz_gsym_layout.specs.Numbering.{call_sources, call_texts, row_sources, row_texts}
-use Rattle.bz_gsym_layout.specs.Plan.{Line, Source}
+use Rattle.bz_gsym_layout.specs.Plan.{Source}
 use Rattle.bz_gsym_layout.specs.declared.plan.Function.{Function as Planned}
 use Rattle.bz_gsym_layout.specs.declared.plan.Node.{Node}
 use Rattle.bz_gsym_layout.specs.declared.plan.Row.{Row}
@@ -15,22 +16,10 @@ use Rattle.bz_gsym_layout.specs.declared.plan.Row.{Row}
 abbrev pub AreApart : Function → Type 0
 AreApart f = (i : Inlinee) → In f.inlinees i → overlaps f i ≡ false
 
-abbrev pub calls_beside : {A B : Type 0} → List A → List B → List B
-calls_beside [] calls = []
-calls_beside (row ∷ rows) calls = calls
-
--- the inlined calls that are laid out for a function: those that have a size, where there are rows
-abbrev pub laid_calls : Function → List Inlinee
-laid_calls f = calls_beside (changes f) (sized_calls f)
-
 module _ (table : Table) where
-  -- a row in texts
-  abbrev pub row_in : ℕ × SourceLine → ℕ × Line
-  row_in row = (row.0, line_of table row.1)
-
   -- the texts of rows, of inlined calls and of a function, in the order of their use
   abbrev pub texts_of_row : ℕ × SourceLine → List (List ℕ)
-  texts_of_row row = row_texts (row_in row)
+  texts_of_row row = row_texts (row_in table row)
 
   abbrev pub texts_of_call : Inlinee → List (List ℕ)
   texts_of_call i = call_texts (called table i)
@@ -40,7 +29,7 @@ module _ (table : Table) where
 
   -- and their source files
   abbrev pub sources_of_row : ℕ × SourceLine → List Source
-  sources_of_row row = row_sources (row_in row)
+  sources_of_row row = row_sources (row_in table row)
 
   abbrev pub sources_of_call : Inlinee → List Source
   sources_of_call i = call_sources (called table i)

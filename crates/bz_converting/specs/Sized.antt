@@ -1,13 +1,13 @@
 -- Inlined calls in the order of a plan, in which those that say the same stand beside each other.
 use Rattle.std.specs.Prelude.{Bool, false, List, [], ◌∷◌, map, Option, Some, None, if◌then◌else◌}
-use Rattle.bz_breakpad.specs.Lent.{kept_inlinee}
+use Rattle.bz_breakpad.specs.Lent.{inlinee_seen}
 use Rattle.bz_breakpad_lines.specs.Table.{Inlinee}
 use Rattle.bz_convert.specs.Plan.{same_call}
 use Rattle.bz_converting.specs.declared.calls.PlacedCall.{PlacedCall}
 
 -- the calls, as the file says them
 abbrev pub placed_inlinees : List PlacedCall → List Inlinee
-placed_inlinees placed = map (λ p. kept_inlinee p.call) placed
+placed_inlinees placed = map (λ p. inlinee_seen p.call) placed
 
 -- a call says the same as the one before it
 abbrev pub is_repeated : Option Inlinee → Inlinee → Bool

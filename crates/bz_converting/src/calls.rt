@@ -3,13 +3,13 @@
 
 ghost use Rattle.std.specs.Prelude.{◌≡◌, true, flat_map, map, option_map, None, Some, IfOk, OnOk};
 ghost use Rattle.std.specs.List.{AllZip, filter};
-ghost use Rattle.bz_breakpad.specs.Lent.{kept_inlinee};
+ghost use Rattle.bz_breakpad.specs.Lent.{inlinee_seen};
 ghost use Rattle.bz_breakpad_function.specs.InOrder.{calls_in_order};
 ghost use Rattle.bz_breakpad_lines.specs.Reader.{table_in};
 ghost use Rattle.bz_breakpad_lines.specs.Table.{Function, Table};
-ghost use Rattle.bz_convert.specs.Plan.{has_size, is_checked, sized_calls};
+ghost use Rattle.bz_convert.specs.Plan.{has_size, is_checked, laid_calls, sized_calls};
 ghost use Rattle.bz_convert.specs.RowsAndCalls.{AreRowsAndCalls};
-ghost use Rattle.bz_converting.specs.Laid.{AreApart, IsNodeFor, laid_calls, sources_of_call, texts_of_call};
+ghost use Rattle.bz_converting.specs.Laid.{AreApart, IsNodeFor, sources_of_call, texts_of_call};
 ghost use Rattle.bz_converting.specs.Numbered.{IsNumbered, Uses, listed_sources, listed_texts};
 ghost use Rattle.bz_converting.specs.Sized.{is_repeated, placed_inlinees, without_repeats};
 
@@ -44,7 +44,7 @@ impl Spanned for PlacedCall {
 
 /// The inlined calls that are laid out for a function which has these rows and calls.
 pub(crate) fn calls_of(alloc: Global, found: &RowsAndCalls) -> Result<Vec<Inlinee>, AllocError>
-    ensures { IfOk result (λ calls. (f : Function) → (is_checked f ≡ true → AreApart f) → AreRowsAndCalls f found.now → map kept_inlinee calls.items ≡ laid_calls f) }
+    ensures { IfOk result (λ calls. (f : Function) → (is_checked f ≡ true → AreApart f) → AreRowsAndCalls f found.now → map inlinee_seen calls.items ≡ laid_calls f) }
 {
     if found.rows.is_empty() {
         return Ok(Vec::new(alloc));
@@ -54,7 +54,7 @@ pub(crate) fn calls_of(alloc: Global, found: &RowsAndCalls) -> Result<Vec<Inline
 
 /// The inlined calls that have a size, each once, by start and depth.
 fn sized_calls(alloc: Global, calls: &[Inlinee]) -> Result<Vec<Inlinee>, AllocError>
-    ensures { IfOk result (λ sized. (f : Function) → AreApart f → map kept_inlinee calls.now ≡ calls_in_order f → map kept_inlinee sized.items ≡ sized_calls f) }
+    ensures { IfOk result (λ sized. (f : Function) → AreApart f → map inlinee_seen calls.now ≡ calls_in_order f → map inlinee_seen sized.items ≡ sized_calls f) }
 {
     let mut placed = placed_calls(alloc, calls)?;
     sort_table(&mut placed)?;
@@ -63,7 +63,7 @@ fn sized_calls(alloc: Global, calls: &[Inlinee]) -> Result<Vec<Inlinee>, AllocEr
 
 /// The calls that have a size.
 fn placed_calls(alloc: Global, calls: &[Inlinee]) -> Result<Vec<PlacedCall>, AllocError>
-    ensures { IfOk result (λ placed. placed_inlinees placed.items ≡ filter has_size (map kept_inlinee calls.now)) }
+    ensures { IfOk result (λ placed. placed_inlinees placed.items ≡ filter has_size (map inlinee_seen calls.now)) }
 {
     let mut placed = Vec::with_capacity(alloc, calls.len())?;
     for call in calls {
@@ -76,7 +76,7 @@ fn placed_calls(alloc: Global, calls: &[Inlinee]) -> Result<Vec<PlacedCall>, All
 
 /// The calls without those that say the same as the one before.
 fn without_repeats(alloc: Global, placed: &[PlacedCall]) -> Result<Vec<Inlinee>, AllocError>
-    ensures { IfOk result (λ calls. map kept_inlinee calls.items ≡ without_repeats None (placed_inlinees placed.now)) }
+    ensures { IfOk result (λ calls. map inlinee_seen calls.items ≡ without_repeats None (placed_inlinees placed.now)) }
 {
     let mut calls = Vec::with_capacity(alloc, placed.len())?;
     let mut before = None;
@@ -91,7 +91,7 @@ fn without_repeats(alloc: Global, placed: &[PlacedCall]) -> Result<Vec<Inlinee>,
 
 /// Whether a call says the same as the one before it.
 fn is_repeated(before: Option<Inlinee>, call: &Inlinee) -> bool
-    ensures { result ≡ is_repeated (option_map kept_inlinee before) (kept_inlinee call.now) }
+    ensures { result ≡ is_repeated (option_map inlinee_seen before) (inlinee_seen call.now) }
 {
     match before {
         Some(before) => before == *call,
@@ -106,9 +106,9 @@ fn node_of<'a>(
     call: &Inlinee,
 ) -> Result<Node, AllocError>
     ensures numbering { OnOk result ((table : Table) → table_in file.now ≡ Some table →
-        Uses table (texts_of_call table (kept_inlinee call.now)) (sources_of_call table (kept_inlinee call.now)) numbering.old numbering.new) }
+        Uses table (texts_of_call table (inlinee_seen call.now)) (sources_of_call table (inlinee_seen call.now)) numbering.old numbering.new) }
     ensures node { IfOk result (λ node. (table : Table) → table_in file.now ≡ Some table → IsNumbered table numbering.old →
-        IsNodeFor table (listed_texts numbering.new.texts) (listed_sources numbering.new) (kept_inlinee call.now) node) }
+        IsNodeFor table (listed_texts numbering.new.texts) (listed_sources numbering.new) (inlinee_seen call.now) node) }
 {
     let name = numbering.origin_text(file, call.origin_id)?;
     let source = numbering.file_source(file, call.call_file)?;
@@ -130,9 +130,9 @@ pub(crate) fn nodes_of<'a>(
     calls: &[Inlinee],
 ) -> Result<Vec<Node>, AllocError>
     ensures numbering { OnOk result ((table : Table) → table_in file.now ≡ Some table →
-        Uses table (flat_map (texts_of_call table) (map kept_inlinee calls.now)) (flat_map (sources_of_call table) (map kept_inlinee calls.now)) numbering.old numbering.new) }
+        Uses table (flat_map (texts_of_call table) (map inlinee_seen calls.now)) (flat_map (sources_of_call table) (map inlinee_seen calls.now)) numbering.old numbering.new) }
     ensures nodes { IfOk result (λ nodes. (table : Table) → table_in file.now ≡ Some table → IsNumbered table numbering.old →
-        AllZip (IsNodeFor table (listed_texts numbering.new.texts) (listed_sources numbering.new)) (map kept_inlinee calls.now) nodes.items) }
+        AllZip (IsNodeFor table (listed_texts numbering.new.texts) (listed_sources numbering.new)) (map inlinee_seen calls.now) nodes.items) }
 {
     let mut nodes = Vec::with_capacity(alloc, calls.len())?;
     for call in calls {

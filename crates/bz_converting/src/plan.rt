@@ -34,7 +34,7 @@ fn plan_blank<L: Ledger>(
 ) -> Result<Plan<'_>, ConvertError>
     requires name { blank.name ≡ L.name }
     requires parts { blank.parts ≡ L.parts }
-    requires some { 0 < L.parts }
+    requires positive { 0 < L.parts }
     ensures plan { IfOk result (λ plan. (table : Table) × (table_in file.now ≡ Some table) × IsPlanOf table plan) }
     ensures fault { IfErr result (λ e. e ≢ ConvertError.OutOfMemory → (table : Table) → table_in file.now ≡ Some table → fault_in table ≡ Some e) }
 {

@@ -9,7 +9,8 @@ use Rattle.bz_elf.specs.Segments.{program_header_len}
 use Rattle.bz_elf.specs.Symbols.{entries, is_named, symbol_len}
 use Rattle.bz_elf.specs.declared.types.Section.{Section}
 
--- the bytes begin as an ELF file: they hold magic number, class and order of bytes, and the magic number is ELF's
+-- the bytes begin as an ELF file: they hold magic number, class and order of bytes, and the magic
+-- number is ELF's
 unfoldable pub is_elf : List ℕ → Bool
 is_elf bytes = nat_le identity_len (length bytes) && number_at 4 bytes 0 == elfmag
 
@@ -32,7 +33,8 @@ has_program_headers bytes =
     || (not (program_count bytes == pn_xnum)
     && (program_size bytes == program_header_len && lies bytes (program_place bytes) (program_count bytes * program_header_len)))
 
--- there are no section headers, and no place is told for them; or they have their size, and lie in the bytes
+-- there are no section headers, and no place is told for them; or they have their size, and lie in the
+-- bytes
 unfoldable pub has_sections : List ℕ → Bool
 has_sections bytes =
     if section_count bytes == 0

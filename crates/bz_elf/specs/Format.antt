@@ -1,4 +1,5 @@
--- Which bytes are taken as ELF files, and how other bytes are refused: by the first check that they fail.
+-- Which bytes are taken as ELF files, and how other bytes are refused: by the first check that they
+-- fail.
 use Rattle.std.specs.Prelude.{◌≡◌, ℕ, ◌<◌, Bool, true, false, if◌then◌else◌, List, [], ◌∷◌, Option, Some, None, slice_get}
 use Rattle.bz_base.specs.declared.error.Error.{Error}
 use Rattle.bz_base.specs.declared.error.Error.TheVariants as errors

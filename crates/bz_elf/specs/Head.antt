@@ -28,7 +28,8 @@ identity_len = 6
 abbrev pub head_len : ℕ
 head_len = 64
 
--- where the program headers begin, the size of one, and how many they are: e_phoff, e_phentsize, e_phnum
+-- where the program headers begin, the size of one, and how many they are: e_phoff, e_phentsize,
+-- e_phnum
 abbrev pub program_place : List ℕ → ℕ
 program_place bytes = number_at 8 bytes 32
 
@@ -38,7 +39,8 @@ program_size bytes = number_at 2 bytes 54
 abbrev pub program_count : List ℕ → ℕ
 program_count bytes = number_at 2 bytes 56
 
--- where the section headers begin, the size of one, and how many they are: e_shoff, e_shentsize, e_shnum
+-- where the section headers begin, the size of one, and how many they are: e_shoff, e_shentsize,
+-- e_shnum
 abbrev pub section_place : List ℕ → ℕ
 section_place bytes = number_at 8 bytes 40
 

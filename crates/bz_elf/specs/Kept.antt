@@ -11,7 +11,8 @@ use Rattle.bz_elf.specs.declared.types.KeptFile.{KeptFile}
 use Rattle.bz_elf.specs.declared.types.Part.{Part}
 use Rattle.bz_elf.specs.declared.types.SymbolTable.{SymbolTable}
 
--- the head lies in the bytes, and so do the program headers and the section headers, where there are any
+-- the head lies in the bytes, and so do the program headers and the section headers, where there are
+-- any
 pub record TablesLie (bytes : List ℕ) : Type 0 where
   pub head : head_len ≤ length bytes
   pub program_headers : 0 < program_count bytes → program_place bytes + program_count bytes * program_header_len ≤ length bytes
@@ -32,8 +33,8 @@ pub record IsSymbolTable (bytes : List ℕ) (table : SymbolTable) : Type 0 where
   pub places_are : places_of (symbol_table bytes) ≡ places table.offset symbol_len table.count
   pub strings_are : AreStrings bytes table.strings
 
--- the bytes are an ELF file, and its strings lie in the part. The symbols that count stand in the order of start and size, and
--- the load segments in that of the file
+-- the bytes are an ELF file, and its strings lie in the part. The symbols that count stand in the order
+-- of start and size, and the load segments in that of the file
 pub record IsKept (bytes : List ℕ) (kept : KeptFile) : Type 0 where
   pub formed : format_test bytes ≡ None
   pub strings_are : AreStrings bytes kept.strings

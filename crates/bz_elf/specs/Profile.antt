@@ -31,8 +31,9 @@ pub record HasEntries (bytes : List ℕ) (table : Section) : Type 0 where
   pub entry_size : table.entry_size ≡ symbol_len
   pub whole : table.size % symbol_len ≡ 0
 
--- the bytes are a little-endian ELF file of 64 bits. Its program headers, section headers and symbol table lie in
--- the bytes, where there are any, and so do its strings. Each symbol that counts has a name there
+-- the bytes are a little-endian ELF file of 64 bits. Its program headers, section headers and symbol
+-- table lie in the bytes, where there are any, and so do its strings. Each symbol that counts has a
+-- name there
 pub record IsElf (bytes : List ℕ) : Type 0 where
   pub identity : identity_len ≤ length bytes
   pub magic : number_at 4 bytes 0 ≡ elfmag

@@ -1,4 +1,5 @@
--- The section headers of an ELF file, its symbol table, and the strings that names lie in: see the System V gABI, chapter 4.
+-- The section headers of an ELF file, its symbol table, and the strings that names lie in: see the
+-- System V gABI, chapter 4.
 use Rattle.std.specs.Prelude.{ℕ, ◌+◌, ◌==◌, Bool, List, [], map, Option, Some, None, option_and_then, slice_get}
 use Rattle.std.specs.List.{find}
 use Rattle.std.specs.Option.{option_or}
@@ -18,7 +19,8 @@ sht_symtab = 2
 abbrev pub sht_dynsym : ℕ
 sht_dynsym = 11
 
--- the section header at a place: sh_type at 4, sh_offset at 24, sh_size at 32, sh_link at 40, sh_entsize at 56
+-- the section header at a place: sh_type at 4, sh_offset at 24, sh_size at 32, sh_link at 40,
+-- sh_entsize at 56
 abbrev pub section_at : List ℕ → ℕ → Section
 section_at bytes place = record {
   kind = number_at 4 bytes (place + 4);
@@ -39,7 +41,8 @@ is_kind kind section = section.kind == kind
 abbrev pub first_of_kind : ℕ → List ℕ → Option Section
 first_of_kind kind bytes = find (is_kind kind) (sections bytes)
 
--- the section that is the symbol table: the first that holds all symbols, else the first that holds those for linking
+-- the section that is the symbol table: the first that holds all symbols, else the first that holds
+-- those for linking
 unfoldable pub symbol_table : List ℕ → Option Section
 symbol_table bytes = option_or (first_of_kind sht_symtab bytes) (first_of_kind sht_dynsym bytes)
 

@@ -1,4 +1,5 @@
--- The load segments of an ELF file, and where a byte of the file lies when they are loaded. See the System V gABI, chapter 5.
+-- The load segments of an ELF file, and where a byte of the file lies when they are loaded. See the
+-- System V gABI, chapter 5.
 use Rattle.std.specs.Prelude.{ℕ, ◌+◌, ◌-◌, ◌==◌, ◌&&◌, nat_le, nat_lt, Bool, if◌then◌else◌, List, Option, Some, None, option_and_then}
 use Rattle.std.specs.List.{filter_map, find}
 use Rattle.bz_base.specs.Little.{number_at}

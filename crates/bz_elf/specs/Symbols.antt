@@ -1,4 +1,5 @@
--- The symbols of an ELF file in its order: its functions, by name, start and size. See the System V gABI, chapter 4.
+-- The symbols of an ELF file in its order: its functions, by name, start and size. See the System V
+-- gABI, chapter 4.
 use Rattle.std.specs.Prelude.{ℕ, ◌+◌, ◌/◌, ◌%◌, ◌==◌, ◌&&◌, ◌||◌, not, Bool, List, [], drop, map, Option, Some, None, if◌then◌else◌}
 use Rattle.std.specs.List.{list_any, filter_map}
 use Rattle.std.specs.Str.{is_utf8}
@@ -13,8 +14,8 @@ use Rattle.bz_elf.specs.declared.types.SymbolEntry.{SymbolEntry}
 abbrev pub symbol_len : ℕ
 symbol_len = 24
 
--- the types of symbols that are functions: called as they are, or chosen when the file is loaded. The gABI leaves the second
--- to systems, and GNU uses it so.
+-- the types of symbols that are functions: called as they are, or chosen when the file is loaded. The
+-- gABI leaves the second to systems, and GNU uses it so.
 abbrev pub stt_func : ℕ
 stt_func = 2
 
@@ -32,7 +33,8 @@ st_type info = info % 16
 abbrev pub shn_undef : ℕ
 shn_undef = 0
 
--- the symbol at a place counts: by st_info, at 4, it is a function, and by st_shndx, at 6, it lies in a section
+-- the symbol at a place counts: by st_info, at 4, it is a function, and by st_shndx, at 6, it lies in a
+-- section
 abbrev pub counts : List ℕ → ℕ → Bool
 counts bytes place = is_function (st_type (number_at 1 bytes (place + 4))) && not (number_at 2 bytes (place + 6) == shn_undef)
 

@@ -55,7 +55,7 @@ impl ElfFile {
     }
 
     /// The symbol at an address, of a module, or why there is none. It takes no memory.
-    pub(crate) fn symbol<'f>(
+    pub fn symbol<'f>(
         &'f self,
         alloc: Global,
         module_name: Option<&'f str>,
@@ -84,7 +84,7 @@ impl ElfFile {
     }
 
     /// The address at which the file's byte at an offset is loaded, if it is.
-    pub(crate) fn addr_of(&self, file_offset: u64) -> Option<Addr>
+    pub fn addr_of(&self, file_offset: u64) -> Option<Addr>
         ensures { result ≡ translated (segments self.now) file_offset }
     {
         translated(self.kept.segments.as_slice(), file_offset)

@@ -1,4 +1,5 @@
--- The head of a node: one that is read is spelled in front of the bytes, and one that is spelled there is read.
+-- The head of a node: one that is read is spelled in front of the bytes, and one that is spelled there
+-- is read.
 use Rattle.std.proofs.Common.{◌≡◌, ℕ, zero, suc, true, false, not, List, [], ◌∷◌, ◌++◌, length, Bool, cond, Option, Some, None, option_map, nat_eq, refl, sym, ap, subst, ◌∙◌, arith, append_assoc}
 use Rattle.std.proofs.lemmas.Bool.{eqb-true, eqb-false, ne_eqb}
 use Rattle.std.proofs.lemmas.Option.{same_Some}
@@ -122,7 +123,7 @@ filled_found count bytes count_is some x read =
         call_file = tail_front.call_file;
         call_line = tail_front.call_line;
         whole = refl;
-        some = omega arith;
+        positive = omega arith;
         count_is = subst U (sym counted) count_found.is;
         ranges_are = ranges_front.is;
         flag_is = tail_front.flag_is;
@@ -155,7 +156,7 @@ end_again text rest is = rw (uleb_again text 0 rest is) refl
 pub head_again : (head : Head) (own rest : List ℕ) → IsHead head own → head_at (own ++ rest) ≡ Some (Some head, rest)
 unfolding head_at filled_at tail_at byte_at
 head_again head own rest is =
-    let some = is.some in
+    let positive = is.positive in
     let whole : own ++ rest ≡ is.count ++ (is.ranges ++ is.flag ∷ (is.name ++ (is.call_file ++ (is.call_line ++ rest))))
     = ap (λ t. t ++ rest) is.whole ∙ simp append_assoc in
     rw (

@@ -1,4 +1,5 @@
--- The numbers of an inline tree: one is read exactly where it lies in front of the bytes, and what is left is shorter.
+-- The numbers of an inline tree: one is read exactly where it lies in front of the bytes, and what is
+-- left is shorter.
 use Rattle.std.proofs.Common.{◌≡◌, ℕ, ◌<◌, List, [], ◌∷◌, ◌++◌, length, Some, refl, ap, arith}
 use Rattle.std.proofs.lemmas.List.{length-append}
 use Rattle.std.proofs.lemmas.Option.{none-some, same_Some}

@@ -1,4 +1,5 @@
--- An inline tree that is read is the one that the bytes begin with, and one that they begin with is read.
+-- An inline tree that is read is the one that the bytes begin with, and one that they begin with is
+-- read.
 use Rattle.std.proofs.Common.{◌≡◌, ℕ, zero, suc, true, false, List, [], ◌++◌, length, Bool, Option, Some, None, option_map, refl, sym, ap, subst, ◌∙◌, append_assoc}
 use Rattle.std.proofs.lemmas.Bool.{true≢false, false≢true}
 use Rattle.std.proofs.lemmas.Option.{none-some, same_Some}

@@ -1,4 +1,5 @@
--- The frames of what is left of an inline tree are what the next node gives, and the frames of what is left then.
+-- The frames of what is left of an inline tree are what the next node gives, and the frames of what is
+-- left then.
 use Rattle.std.proofs.Common.{◌≡◌, ℕ, true, false, List, [], ◌∷◌, ◌++◌, Bool, cond, Option, Some, None, option_map, refl, sym, ap, ◌∙◌, append_assoc}
 use Rattle.std.proofs.lemmas.Bool.{false≢true, not-true, not-false}
 use Rattle.std.proofs.lemmas.List.{append-nil}
@@ -39,7 +40,8 @@ with_frame-append : (f : Option Frame) (xs ys : List Frame) → with_frame f xs 
 with_frame-append None xs ys = refl
 with_frame-append (Some f) xs ys = refl
 
--- frames of the children, of the siblings after them and of what is further out, grouped from the left or from the right
+-- frames of the children, of the siblings after them and of what is further out, grouped from the left
+-- or from the right
 regroup : (f : Option Frame) (a b c : Option (List Frame)) → both (both (option_map (with_frame f) a) b) c ≡ option_map (with_frame f) (both a (both b c))
 regroup f None b c = refl
 regroup f (Some a) None c = refl

@@ -1,4 +1,5 @@
--- The state that is looked for from the front of a line table is the one that is picked from its finished list.
+-- The state that is looked for from the front of a line table is the one that is picked from its
+-- finished list.
 use Rattle.std.proofs.Common.{◌≡◌, ℕ, suc, ◌+◌, Bool, true, false, not, cond, List, [], ◌∷◌, map, Option, Some, None, refl, ap, ◌∙◌, arith}
 use Rattle.std.specs.Prelude.{◌||◌, is_some}
 use Rattle.std.specs.List.{before_first, last_or, list_any, prefix_len}

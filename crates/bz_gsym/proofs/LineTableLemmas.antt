@@ -31,7 +31,8 @@ pub if_none : {A : Type 0} {P : Type 0} (o : Option A) → P → IfNone o P
 if_none None is = is
 if_none (Some x) is = tt
 
--- behind a line delta that is missing lie the same bytes, and behind one that is read those that are left
+-- behind a line delta that is missing lie the same bytes, and behind one that is read those that are
+-- left
 pub delta_missing : (bytes : List ℕ) → None ≡ sleb_at bytes → behind_delta bytes ≡ bytes
 delta_missing bytes none = ap (λ (o : Option (ℤ × List ℕ)). unwrap_or (option_map (λ delta. delta.1) o) bytes) (sym none)
 

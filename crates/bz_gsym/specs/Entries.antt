@@ -1,9 +1,11 @@
--- What stands at a symbol's data place: its size, its name, and a list of data entries (llvm::gsym::FunctionInfo).
+-- What stands at a symbol's data place: its size, its name, and a list of data entries
+-- (llvm::gsym::FunctionInfo).
 use Rattle.std.specs.Prelude.{◌≡◌, ◌≢◌, ℕ, zero, suc, ◌+◌, ◌==◌, ◌&&◌, not, nat_le, Bool, if◌then◌else◌, List, [], ◌∷◌, ◌++◌, length, take, drop, Option, Some, None}
 use Rattle.bz_base.specs.Cursor.{little}
 use Rattle.bz_base.specs.Little.{number_at}
 
--- a symbol's data: its size in bytes, the place of its name in the string table, and the bytes behind, where its entries lie
+-- a symbol's data: its size in bytes, the place of its name in the string table, and the bytes behind,
+-- where its entries lie
 pub record Info : Type 0 where
   pub size : ℕ
   pub name : ℕ

@@ -1,4 +1,5 @@
--- The head of a GSYM file of version 1, as LLVM's documentation of its header has it (llvm::gsym::Header).
+-- The head of a GSYM file of version 1, as LLVM's documentation of its header has it
+-- (llvm::gsym::Header).
 use Rattle.std.specs.Prelude.{ℕ, List, take, drop}
 use Rattle.bz_base.specs.Little.{number_at}
 use Rattle.bz_gsym.specs.declared.types.Header.{Header}

@@ -10,7 +10,8 @@ use Rattle.bz_gsym.specs.InlineReader.{ranges_at, Tail, tail_at}
 abbrev pub Span : Type 0
 Span = Bool × ℕ
 
--- what ranges say, where so many were read before, one of which may have the address inside, and the first of which starts there
+-- what ranges say, where so many were read before, one of which may have the address inside, and the
+-- first of which starts there
 abbrev pub span_from : ℕ → ℕ → ℕ → Bool → ℕ → List (ℕ × ℕ) × List ℕ → Option (Span × List ℕ)
 span_from addr base seen covers start ranges =
     if all_fit base ranges.0

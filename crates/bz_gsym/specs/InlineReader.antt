@@ -1,4 +1,5 @@
--- The inline tree of a data entry's bytes, read from their front (llvm::gsym::InlineInfo), and the frames that it gives.
+-- The inline tree of a data entry's bytes, read from their front (llvm::gsym::InlineInfo), and the
+-- frames that it gives.
 use Rattle.std.specs.Prelude.{ℕ, zero, suc, Bool, true, false, not, ◌==◌, List, [], ◌∷◌, length, Option, Some, None, option_map, if◌then◌else◌}
 use Rattle.bz_base.specs.Bind.{◌>>=◌}
 use Rattle.bz_base.specs.Cursor.{byte_at, word_at}
@@ -73,7 +74,8 @@ module _ (read : List ℕ → Option (Nodes × List ℕ)) where
   node_by (None, bytes) = Some (Ended, bytes)
   node_by (Some head, bytes) = children_by head.has_children bytes >>= (λ children. option_map (node_before head children.0) (read children.1))
 
--- siblings up to their end, and the bytes after it; nodes lie no deeper and no further than so many reach
+-- siblings up to their end, and the bytes after it; nodes lie no deeper and no further than so many
+-- reach
 abbrev pub nodes_within : ℕ → List ℕ → Option (Nodes × List ℕ)
 nodes_within zero bytes = None
 nodes_within (suc reach) bytes = head_at bytes >>= node_by (nodes_within reach)
@@ -91,7 +93,7 @@ root_by (Some head, bytes) = option_map (λ children. Node head children.0 Ended
 unfoldable pub tree_at : List ℕ → Option Nodes
 tree_at bytes = head_at bytes >>= root_by
 
--- the frames at an address of the bytes' tree, where the offsets of the root count from a base. None: there is no tree, or a node
--- that is read isn't sound
+-- the frames at an address of the bytes' tree, where the offsets of the root count from a base. None:
+-- there is no tree, or a node that is read isn't sound
 unfoldable pub frames_at : ℕ → ℕ → List ℕ → Option (List Frame)
 frames_at addr base bytes = tree_at bytes >>= frames addr base

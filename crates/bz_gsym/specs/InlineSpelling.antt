@@ -1,4 +1,5 @@
--- How an inline tree is spelled in bytes. After LLVM's documentation of the format (llvm::gsym::InlineInfo).
+-- How an inline tree is spelled in bytes. After LLVM's documentation of the format
+-- (llvm::gsym::InlineInfo).
 use Rattle.std.specs.Prelude.{◌≡◌, ℕ, true, false, not, ◌<◌, ◌==◌, List, [], ◌∷◌, ◌++◌, length}
 use Rattle.bz_base.specs.Cursor.{IsWord}
 use Rattle.bz_base.specs.Leb128.{IsUleb}
@@ -11,7 +12,8 @@ AreRanges [] text = text ≡ []
 AreRanges (range ∷ ranges) text =
     (offset size rest : List ℕ) × (text ≡ offset ++ (size ++ rest)) × IsUleb range.0 offset × IsUleb range.1 size × AreRanges ranges rest
 
--- the text is a node up to its children: how many ranges, which isn't 0, the ranges, its flag, name and call site
+-- the text is a node up to its children: how many ranges, which isn't 0, the ranges, its flag, name and
+-- call site
 pub record IsHead (head : Head) (text : List ℕ) : Type 0 where
   pub count : List ℕ
   pub ranges : List ℕ
@@ -20,7 +22,7 @@ pub record IsHead (head : Head) (text : List ℕ) : Type 0 where
   pub call_file : List ℕ
   pub call_line : List ℕ
   pub whole : text ≡ count ++ (ranges ++ flag ∷ (name ++ (call_file ++ call_line)))
-  pub some : 0 < length head.ranges
+  pub positive : 0 < length head.ranges
   pub count_is : IsUleb (length head.ranges) count
   pub ranges_are : AreRanges head.ranges ranges
   pub flag_is : head.has_children ≡ not (flag == no_children)

@@ -1,5 +1,5 @@
--- The inline tree of a symbol: the functions that were inlined into it, and which of them lie around an address. After LLVM's
--- documentation of the format (llvm::gsym::InlineInfo).
+-- The inline tree of a symbol: the functions that were inlined into it, and which of them lie around an
+-- address. After LLVM's documentation of the format (llvm::gsym::InlineInfo).
 use Rattle.std.specs.Prelude.{ℕ, Bool, true, ◌+◌, ◌==◌, ◌&&◌, min, nat_lt, nat_le, List, [], ◌∷◌, ◌++◌, Option, Some, None, option_map, if◌then◌else◌}
 use Rattle.std.specs.List.{list_any}
 use Rattle.bz_base.specs.Span.{last_address}
@@ -17,7 +17,8 @@ pub data Nodes : Type 0 where
   Ended : Nodes
   Node : (head : Head) → (children : Nodes) → (siblings : Nodes) → Nodes
 
--- a function around an address: the place of its name in the string table, and the file and the line that it was called at
+-- a function around an address: the place of its name in the string table, and the file and the line
+-- that it was called at
 pub record Frame : Type 0 where
   pub name : ℕ
   pub call_file : ℕ
@@ -89,8 +90,9 @@ both None later = None
 both (Some earlier) None = None
 both (Some earlier) (Some later) = Some (earlier ++ later)
 
--- the frames at an address of siblings that are read, outermost first, where their offsets count from a base. Each node that
--- matches gives its own, and those of its children. None: a node that is read isn't sound
+-- the frames at an address of siblings that are read, outermost first, where their offsets count from a
+-- base. Each node that matches gives its own, and those of its children. None: a node that is read
+-- isn't sound
 abbrev pub frames : ℕ → ℕ → Nodes → Option (List Frame)
 frames addr base Ended = Some []
 frames addr base (Node head children siblings) =

@@ -1,5 +1,5 @@
--- The frames of an inline tree as a walk over the bytes meets them, with a list of the nodes that are open. Of each
--- it is held how its siblings are taken.
+-- The frames of an inline tree as a walk over the bytes meets them, with a list of the nodes that are
+-- open. Of each it is held how its siblings are taken.
 use Rattle.std.specs.Prelude.{ℕ, Bool, false, not, List, [], ◌∷◌, ◌++◌, Option, Some, None, option_map, if◌then◌else◌}
 use Rattle.bz_base.specs.Bind.{◌>>=◌}
 use Rattle.bz_gsym.specs.InlineTree.{Head, Nodes, Frame, is_sound, matches, children_base, frame_of, both, frames}

@@ -18,8 +18,8 @@ low_half number = unsigned_abs (int_rem_euclid number (pos (2 ^ 32)))
 abbrev pub wrapped : ℕ → ℕ
 wrapped addr = addr % 2 ^ 64
 
--- the head of a table, and the bytes of the operators: least and greatest line delta, and the first line. None: a number is
--- missing
+-- the head of a table, and the bytes of the operators: least and greatest line delta, and the first
+-- line. None: a number is missing
 abbrev pub header_at : List ℕ → Option (LineTableHeader × List ℕ)
 header_at bytes = do
   least ← sleb_at bytes
@@ -61,19 +61,21 @@ further row delta = record row { addr = wrapped (row.addr + delta) }
 abbrev pub lines_on : LineTableRow → ℤ → LineTableRow
 lines_on row delta = record row { file_line = low_half (pos row.file_line +ℤ delta) }
 
--- how many line deltas there are from the least to the greatest; it is below one where the greatest is below the least
+-- how many line deltas there are from the least to the greatest; it is below one where the greatest is
+-- below the least
 abbrev pub range : LineTableHeader → ℤ
 range header = (header.max_delta -ℤ header.min_delta) +ℤ pos 1
 
--- a special operator, by how far it lies past the first one: each line delta goes with each address delta
+-- a special operator, by how far it lies past the first one: each line delta goes with each address
+-- delta
 abbrev pub special : LineTableHeader → LineTableRow → ℕ → Option LineTableRow
 special header row past =
     let count : ℕ = unsigned_abs (range header) in
     if int_lt (range header) (pos 1) then None
     else Some (further (lines_on row (header.min_delta +ℤ pos (past % count))) (past / count))
 
--- what an operator does: what it comes to, the state, and the bytes behind its operand. None: the operand is missing, or the
--- range of a special one is below one
+-- what an operator does: what it comes to, the state, and the bytes behind its operand. None: the
+-- operand is missing, or the range of a special one is below one
 abbrev pub operated : LineTableHeader → LineTableRow → ℕ → List ℕ → Option ((RunResult × LineTableRow) × List ℕ)
 operated header row operator bytes =
     if operator == end_sequence then Some ((results.End, row), bytes)
@@ -103,7 +105,8 @@ abbrev pub states_within : ℕ → LineTableHeader → LineTableRow → List ℕ
 states_within zero header row bytes = []
 states_within (suc most) header row bytes = followed (states_within most header) (operator_at header row bytes)
 
--- the states that the operators come to, one after another, up to the one that ends the table, or the first that does nothing
+-- the states that the operators come to, one after another, up to the one that ends the table, or the
+-- first that does nothing
 unfoldable pub states : LineTableHeader → LineTableRow → List ℕ → List State
 states header row bytes = states_within (length bytes) header row bytes
 
@@ -119,13 +122,14 @@ is_above addr row = nat_lt addr row.addr
 abbrev pub end_state : List State → Option LineTableRow
 end_state list = if list_any (λ state. state.is_row) list then last_or None (map (λ state. state.at) list) else None
 
--- the state that answers for an address. Where some row lies above it, this is the row before the first of those, if there is
--- one. Where none does, it is the last state, if there is a row
+-- the state that answers for an address. Where some row lies above it, this is the row before the first
+-- of those, if there is one. Where none does, it is the last state, if there is a row
 abbrev pub picked : ℕ → List State → Option LineTableRow
 picked addr list =
     if list_any (is_above addr) (rows list) then last_or None (before_first (is_above addr) (rows list)) else end_state list
 
--- the same from the front, with the last row and the state so far: at the first row above the address it is known
+-- the same from the front, with the last row and the state so far: at the first row above the address
+-- it is known
 abbrev pub sought : ℕ → Option LineTableRow → LineTableRow → List State → Option LineTableRow
 sought addr last now [] = option_map (λ row. now) last
 sought addr last now (state ∷ list) =
@@ -133,7 +137,8 @@ sought addr last now (state ∷ list) =
     then (if is_above addr state.at then last else sought addr (Some state.at) state.at list)
     else sought addr last state.at list
 
--- the state that answers for an address, in the line table of the symbol that starts there; none if its head isn't whole
+-- the state that answers for an address, in the line table of the symbol that starts there; none if its
+-- head isn't whole
 abbrev pub line_in : ℕ → ℕ → List ℕ → Option (Option LineTableRow)
 line_in start addr bytes =
     option_map (λ head. picked addr (states head.0 (first_state head.0 start) head.1)) (header_at bytes)

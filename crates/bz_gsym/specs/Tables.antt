@@ -1,5 +1,5 @@
--- The tables of a GSYM file of version 1, one after another behind its head, and which bytes are such a file.
--- After LLVM's documentation of the format (llvm::gsym::GsymReader).
+-- The tables of a GSYM file of version 1, one after another behind its head, and which bytes are such a
+-- file. After LLVM's documentation of the format (llvm::gsym::GsymReader).
 use Rattle.std.specs.Prelude.{◌≡◌, ℕ, ◌+◌, ◌-◌, ◌*◌, ◌≤◌, ◌==◌, ◌&&◌, ◌||◌, nat_le, Bool, true, if◌then◌else◌, List, [], ◌∷◌, length, map, take, drop, Option, Some, None, option_and_then, slice_get}
 use Rattle.std.specs.List.{list_all, range_with_len}
 use Rattle.bz_base.specs.Cursor.{padding}
@@ -56,7 +56,8 @@ files_end bytes = file_table (header_of bytes) + file_count bytes * file_entry_l
 abbrev pub strings_end : Header → ℕ
 strings_end h = h.strtab_offset + h.strtab_size
 
--- the starts of the symbols, relative to the base address; none where the size of an entry isn't one that it may have
+-- the starts of the symbols, relative to the base address; none where the size of an entry isn't one
+-- that it may have
 abbrev pub starts : List ℕ → List ℕ
 starts bytes =
     let h : Header = header_of bytes in
@@ -84,8 +85,8 @@ pub record AreStarts (bytes : List ℕ) (size count : ℕ) : Type 0 where
   pub within : header_len + count * size ≤ length bytes
   pub ascend : NeverDescends (numbers_at size count bytes header_len)
 
--- the bytes are a GSYM file: the files, and so each table before them, end in the bytes, as the string table does. The starts
--- never descend
+-- the bytes are a GSYM file: the files, and so each table before them, end in the bytes, as the string
+-- table does. The starts never descend
 pub record IsGsym (bytes : List ℕ) : Type 0 where
   pub magic : (header_of bytes).magic ≡ gsym_magic
   pub version : (header_of bytes).version ≡ gsym_version
@@ -109,8 +110,9 @@ is_gsym bytes =
     let h : Header = header_of bytes in
     (h.magic == gsym_magic && h.version == gsym_version) && ((nat_le (files_end bytes) (length bytes) && nat_le (strings_end h) (length bytes)) && never_descends (starts bytes))
 
--- the symbol of this index, at this address, is to be tried at an address that doesn't lie below the base address. Its start is the
--- first one that equals the distance from the base, or else the last one below it
+-- the symbol of this index, at this address, is to be tried at an address that doesn't lie below the
+-- base address. Its start is the first one that equals the distance from the base, or else the last one
+-- below it
 pub record IsTried (bytes : List ℕ) (addr index at : ℕ) : Type 0 where
   pub start : ℕ
   pub from : (header_of bytes).base_address ≤ addr

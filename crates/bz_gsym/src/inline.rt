@@ -25,12 +25,12 @@ use std::alloc::Global;
 pub struct InlineInfo;
 
 impl InlineInfo {
-    /// The frames at `lookup_addr` of the tree that the bytes of a data entry begin with, outermost first.
-    /// A node has a frame if it and all nodes around it have the address inside, unless its name is 0.
-    /// The root's offsets count from `base_addr`, the symbol's address.
-    /// InvalidData: the tree isn't whole, or a node that is read has a range past 64 bits or a call file
-    /// past 32 bits. The root is read, and so are the children of each node that is read and has the
-    /// address inside.
+    /// The frames at `lookup_addr` of the tree that the bytes of a data entry begin with, outermost
+    /// first. A node has a frame if it and all nodes around it have the address inside, unless its name
+    /// is 0. The root's offsets count from `base_addr`, the symbol's address.
+    /// InvalidData: the tree isn't whole, or a node that is read has a range past 64 bits or a call
+    /// file past 32 bits. The root is read, and so are the children of each node that is read and has
+    /// the address inside.
     #[inline(never)]
     pub fn parse_inline_stack(
         alloc: Global,

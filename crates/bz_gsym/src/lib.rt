@@ -1,4 +1,5 @@
-//! GSYM files: their head and tables, the symbols that they name, and the calls that were inlined into these.
+//! GSYM files: their head and tables, the symbols that they name, and the calls that were inlined into
+//! these.
 #![tactic(auto)]
 
 mod entries;

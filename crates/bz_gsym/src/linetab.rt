@@ -43,8 +43,8 @@ pub enum RunResult {
 }
 
 impl LineTableHeader {
-    /// Reads the head of a line table. None: a number is missing, and the cursor stands behind those before
-    /// it.
+    /// Reads the head of a line table. None: a number is missing, and the cursor stands behind those
+    /// before it.
     pub fn parse(cursor: &mut Cursor<'_>) -> Option<LineTableHeader>
         ensures reads { IfSome result (λ header. header_at cursor.old.left ≡ Some (header, cursor.new.left)) }
         ensures none { IfNone result (header_at cursor.old.left ≡ None) }
@@ -240,8 +240,8 @@ fn run_rows(
     false
 }
 
-/// The row that the special operator in front of `ops` comes to. None: another one is in front, or none,
-/// or it does nothing.
+/// The row that the special operator in front of `ops` comes to. None: another one is in front, or
+/// none, or it does nothing.
 #[inline(always)]
 fn next_row(row: LineTableRow, header: &LineTableHeader, ops: &Cursor<'_>) -> Option<LineTableRow>
     ensures row { IfSome result (λ state. operator_at header.now row ops.now.left ≡ Some ((NewRow, state), drop 1 ops.now.left)) }

@@ -145,7 +145,8 @@ zero_uleb rest = uleb_again 0 rest (omega arith)
 head_is : (rest : List ℕ) → header_at (0 ∷ 0 ∷ 0 ∷ rest) ≡ Some (zero_header, rest)
 head_is rest = rw (zero_sleb (0 ∷ 0 ∷ rest), zero_sleb (0 ∷ rest), zero_uleb rest) refl
 
--- the line table that is written from rows of a function gives the last row that doesn't lie above the address
+-- the line table that is written from rows of a function gives the last row that doesn't lie above the
+-- address
 pub line_read : (t : Tables) (start addr : ℕ) (rows : List (ℕ × Line)) → RowsFit t zero_header start rows →
     line_in start addr (line_table_bytes t start rows) ≡ Some (option_map (state_of t zero_header) (row_at addr None rows))
 line_read t start addr rows fits =

@@ -1,4 +1,5 @@
--- A text that is used stands in the string table at its place. A source file that is used stands among the files at its index.
+-- A text that is used stands in the string table at its place. A source file that is used stands among
+-- the files at its index.
 use Rattle.std.proofs.Common.{◌≡◌, ℕ, zero, suc, ◌+◌, ◌≤◌, Bool, true, false, cond, not, flat_map, List, [], ◌∷◌, ◌++◌, length, Some, refl, sym, ap, ◌∙◌, arith, append_assoc}
 use Rattle.std.specs.List.{filter, slice_get}
 use Rattle.std.specs.Str.{IsUtf8, bytes_eq}

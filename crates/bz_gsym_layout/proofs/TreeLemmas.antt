@@ -1,4 +1,5 @@
--- An inline tree that is written from calls is read as their tree, whose frames are those of the calls around an address.
+-- An inline tree that is written from calls is read as their tree, whose frames are those of the calls
+-- around an address.
 use Rattle.std.proofs.Common.{◌≡◌, ℕ, ◌+◌, ◌-◌, ◌^◌, ◌<◌, ◌≤◌, ◌&&◌, Bool, true, false, cond, not, map, option_map, min, nat_lt, nat_le, List, [], ◌∷◌, ◌++◌, Some, refl, sym, ap, ◌∙◌, arith, append_assoc, append-nil}
 use Rattle.std.proofs.lemmas.List.{map-append}
 use Rattle.std.specs.Prelude.{◌==◌, ◌||◌}
@@ -29,7 +30,7 @@ head_written t offset size name flag file line has small_offset small_size small
   call_file = uleb file;
   call_line = uleb line;
   whole = ap (λ l. 1 ∷ l) (sym (append_assoc (uleb offset) (uleb size ++ []) _ ∙ ap (λ l. uleb offset ++ l) (append_assoc (uleb size) [] _)));
-  some = omega arith;
+  positive = omega arith;
   count_is = is_uleb 1 (omega arith);
   ranges_are = (uleb offset, uleb size, [], refl, is_uleb offset small_offset, is_uleb size small_size, refl);
   flag_is = flag_is;

@@ -13,8 +13,8 @@ uuid_size = 0
 abbrev pub base_address : ℕ
 base_address = 0
 
--- what a line table begins with, a byte each: the least and greatest line delta of special operators, which aren't written, and
--- the first line
+-- what a line table begins with, a byte each: the least and greatest line delta of special operators,
+-- which aren't written, and the first line
 abbrev pub min_delta : ℕ
 min_delta = 0
 

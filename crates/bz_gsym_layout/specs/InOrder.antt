@@ -11,8 +11,8 @@ abbrev pub NeverBefore : ℕ → List Row → Type 0
 NeverBefore addr [] = Unit {0}
 NeverBefore addr (row ∷ rows) = (addr ≤ row.addr) × NeverBefore row.addr rows
 
--- the calls of a function stand behind those around them: the first is outermost, and each goes down by one depth at most.
--- None starts before the function or before one in front of it
+-- the calls of a function stand behind those around them: the first is outermost, and each goes down by
+-- one depth at most. None starts before the function or before one in front of it
 pub record AreInOrder (start : ℕ) (nodes : List Node) : Type 0 where
   pub first : (x : Node) → slice_get nodes 0 ≡ Some x → x.depth ≡ 0
   pub down : (i : ℕ) (x y : Node) → slice_get nodes i ≡ Some x → slice_get nodes (suc i) ≡ Some y → y.depth ≤ x.depth + 1

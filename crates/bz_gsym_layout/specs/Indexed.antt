@@ -1,4 +1,5 @@
--- What a plan says, whose functions refer to texts and source files by their indexes, and which plans are well formed.
+-- What a plan says, whose functions refer to texts and source files by their indexes, and which plans
+-- are well formed.
 use Rattle.std.specs.Prelude.{◌≡◌, ℕ, ◌<◌, List, [], length, map, Some, slice_get, slice_index_or}
 use Rattle.bz_gsym_layout.specs.InOrder.{AreInOrder, NeverBefore, depth_of}
 use Rattle.bz_gsym_layout.specs.Layout.{Tables}
@@ -55,8 +56,8 @@ tables_listed plan = record { texts = texts_listed plan; sources = sources_liste
 abbrev pub codes_of : Plan → List Code
 codes_of plan = map (code_of (texts_listed plan) (sources_listed plan)) plan.functions.items
 
--- the indexes of a function are below so many texts and source files. Its rows ascend from its start on, and its calls stand
--- behind those around them
+-- the indexes of a function are below so many texts and source files. Its rows ascend from its start
+-- on, and its calls stand behind those around them
 pub record IsFunction (texts sources : ℕ) (f : Function) : Type 0 where
   pub name : f.name < texts
   pub rows : AreSourced sources f.rows.items
@@ -72,7 +73,8 @@ AreFunctions texts sources functions = (i : ℕ) (f : Function) → slice_get fu
 abbrev pub AreFiles : ℕ → List SourceFile → Type 0
 AreFiles texts sources = (i : ℕ) (s : SourceFile) → slice_get sources i ≡ Some s → (s.dir < texts) × (s.name < texts)
 
--- a well-formed plan: it lists the texts and source files that are used, each once, in the order of their first use
+-- a well-formed plan: it lists the texts and source files that are used, each once, in the order of
+-- their first use
 pub record IsPlan (plan : Plan) : Type 0 where
   pub texts : texts_listed plan ≡ texts_in (codes_of plan)
   pub sources : sources_listed plan ≡ sources_in (codes_of plan)

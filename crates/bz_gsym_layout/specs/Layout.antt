@@ -1,5 +1,5 @@
--- The bytes of a GSYM file of version 1 for a plan. All numbers are little-endian. After LLVM's documentation of the format
--- (llvm::gsym::GsymCreator).
+-- The bytes of a GSYM file of version 1 for a plan. All numbers are little-endian. After LLVM's
+-- documentation of the format (llvm::gsym::GsymCreator).
 use Rattle.std.specs.Prelude.{ℕ, zero, suc, pos, ◌+◌, ◌-◌, ◌-ℤ◌, ◌*◌, ◌/◌, ◌%◌, List, [], ◌∷◌, ◌++◌, length, flat_map}
 use Rattle.std.specs.List.{repeat}
 use Rattle.bz_base.specs.Byte.{zero_byte}
@@ -38,11 +38,13 @@ unless_ended (Call c within after) bytes = bytes
 abbrev pub entry_bytes : ℕ → List ℕ → List ℕ
 entry_bytes typ text = word 4 typ ++ (word 4 (length text) ++ text)
 
--- a node up to its children, by its numbers: its one range, whose offset counts from a base, and what it says
+-- a node up to its children, by its numbers: its one range, whose offset counts from a base, and what
+-- it says
 abbrev pub numbers_bytes : ℕ → ℕ → ℕ → ℕ → ℕ → ℕ → List ℕ
 numbers_bytes offset size name flag file line = one_range ∷ uleb offset ++ (uleb size ++ flag ∷ (word 4 name ++ (uleb file ++ uleb line)))
 
--- a row by its numbers, and the address and line before it: its file, how many lines further, and how far the address lies on
+-- a row by its numbers, and the address and line before it: its file, how many lines further, and how
+-- far the address lies on
 abbrev pub row_numbers : ℕ → ℕ → ℕ → ℕ → ℕ → List ℕ
 row_numbers addr line to_addr to_file to_line =
     set_file ∷ uleb to_file ++ (advance_line ∷ sleb (pos to_line -ℤ pos line) ++ advance_pc ∷ uleb (to_addr - addr))
@@ -97,7 +99,8 @@ module _ (t : Tables) where
   inline_entry c NoCalls = []
   inline_entry c (Call call within after) = entry_bytes inline_tree (tree_bytes c)
 
-  -- what stands at a function's data place: its size, its name, its entries, and the end of their list, an entry without bytes
+  -- what stands at a function's data place: its size, its name, its entries, and the end of their list,
+  -- an entry without bytes
   abbrev pub code_bytes : Code → List ℕ
   code_bytes c = word 4 c.size ++ (word 4 (text_place c.name) ++ (line_entry c.start c.rows ++ (inline_entry c c.calls ++ zeros entry_head_len)))
 
@@ -124,7 +127,8 @@ head_bytes count strings_at strings_len =
     word 4 gsym_magic ++ (word 2 gsym_version ++ (addr_off_size ∷ uuid_size ∷ (word 8 base_address
     ++ (word 4 count ++ (word 4 strings_at ++ (word 4 strings_len ++ zeros gsym_max_uuid_size))))))
 
--- where the string table stands: behind the head, a start and a data place for each function, the file count, and the files
+-- where the string table stands: behind the head, a start and a data place for each function, the file
+-- count, and the files
 abbrev pub strings_place : List Code → Tables → ℕ
 strings_place codes t =
     header_len + addr_off_size * length codes + data_place_len * length codes + file_count_len + file_entry_len * suc (length t.sources)

@@ -1,5 +1,5 @@
--- LEB128 numbers, of the DWARF standard, as they are written: with as few bytes as they have, each of 7 bits, the least first. All
--- but the last are marked.
+-- LEB128 numbers, of the DWARF standard, as they are written: with as few bytes as they have, each of 7
+-- bits, the least first. All but the last are marked.
 use Rattle.std.specs.Prelude.{ℕ, zero, suc, ℤ, pos, negsuc, ◌+◌, ◌-◌, ◌/◌, ◌%◌, nat_lt, List, [], ◌∷◌, if◌then◌else◌}
 
 -- an unsigned number, with so many bytes behind the first at most
@@ -12,7 +12,8 @@ abbrev pub positive_within : ℕ → ℕ → List ℕ
 positive_within zero number = number ∷ []
 positive_within (suc more) number = if nat_lt number 64 then number ∷ [] else (128 + number % 128) ∷ positive_within more (number / 128)
 
--- a number so far below -1: its bits are those of the distance turned round, and its last byte has bit 6 set
+-- a number so far below -1: its bits are those of the distance turned round, and its last byte has bit
+-- 6 set
 abbrev pub negative_within : ℕ → ℕ → List ℕ
 negative_within zero below = (127 - below) ∷ []
 negative_within (suc more) below = if nat_lt below 64 then (127 - below) ∷ [] else (255 - below % 128) ∷ negative_within more (below / 128)

@@ -8,7 +8,8 @@ pub data Forest (X : Type 0) : Type 0 where
   Call : (call : X) → (within : Forest X) → (after : Forest X) → Forest X
 
 module _ {X : Type 0} (depth : X → ℕ) where
-  -- the calls of a depth, up to the first call that is less deep; the deeper ones that stand behind a call lie inside it
+  -- the calls of a depth, up to the first call that is less deep; the deeper ones that stand behind a
+  -- call lie inside it
   abbrev pub nested : ℕ → List X → Forest X
   nested at [] = NoCalls
   nested at (x ∷ xs) =

@@ -13,7 +13,8 @@ module _ {X : Type 0} (t : Tables) (view : X → Called) (depth : X → ℕ) whe
   abbrev pub list_bytes : ℕ → Forest X → List ℕ
   list_bytes base calls = calls_bytes t base (map_forest view calls)
 
-  -- what is still to be written of the open lists, the innermost first; each list's offsets count from its base
+  -- what is still to be written of the open lists, the innermost first; each list's offsets count from
+  -- its base
   unfoldable pub left_bytes : List ℕ → List X → List ℕ
   left_bytes [] xs = []
   left_bytes (base ∷ bases) xs = list_bytes base (nested depth (length bases) xs) ++ left_bytes bases xs

@@ -76,8 +76,8 @@ fn times(number: u64, count: u64) -> Result<u64>
     }
 }
 
-/// Where the string table stands in a file of so many functions and source files. In front of it lie the
-/// head, a start and a data place for each function, the file count, and the files.
+/// Where the string table stands in a file of so many functions and source files. In front of it lie
+/// the head, a start and a data place for each function, the file count, and the files.
 pub(crate) fn strings_place(functions: usize, sources: usize) -> Result<u64>
     ensures place { IfOk result (λ place. place ≡ header_len + addr_off_size * functions + data_place_len * functions + file_count_len + file_entry_len * suc sources) }
     ensures memory { IsOkUnless result LayoutError.OutOfMemory }

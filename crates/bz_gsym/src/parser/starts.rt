@@ -106,7 +106,7 @@ fn find_blank<L: Ledger>(
 ) -> Option<(usize, u64)>
     requires name { blank.name ≡ L.name }
     requires parts { blank.parts ≡ L.parts }
-    requires some { 0 < L.parts }
+    requires positive { 0 < L.parts }
     requires head { header.now ≡ header_of bytes.now }
     requires starts { AreStarts bytes.now header.now.addr_off_size header.now.num_addrs }
     ensures { IsFound (starts bytes.now) distance result }

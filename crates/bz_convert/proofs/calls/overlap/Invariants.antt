@@ -1,5 +1,5 @@
 use Rattle.std.proofs.Common.{◌≡◌, ◌≤◌, ◌-◌, map, drop}
-use Rattle.bz_breakpad.specs.Lent.{kept_inlinee}
+use Rattle.bz_breakpad.specs.Lent.{inlinee_seen}
 use Rattle.bz_convert.proofs.OverlapLemmas.{first_over}
 use Rattle.bz_convert.proofs.calls.overlap.Given as goal
 
@@ -7,5 +7,5 @@ use Rattle.bz_convert.proofs.calls.overlap.Given as goal
 abbrev pub invariant-loop-index : goal.invariant-loop-index
 invariant-loop-index l = record {
   low : 1 ≤ l.index;
-  seen : first_over (map kept_inlinee (drop (l.index - 1) l.calls)) ≡ first_over (map kept_inlinee l.calls);
+  seen : first_over (map inlinee_seen (drop (l.index - 1) l.calls)) ≡ first_over (map inlinee_seen l.calls);
 }

@@ -1,5 +1,5 @@
 use Rattle.std.proofs.Common.{[], ◌∷◌, ◌++◌, refl}
-use Rattle.bz_breakpad.specs.Lent.{kept_inlinee}
+use Rattle.bz_breakpad.specs.Lent.{inlinee_seen}
 use Rattle.bz_convert.specs.Plan.{origin_named, source_named}
 use Rattle.bz_converting.specs.Numbered.{listed_texts}
 use Rattle.bz_gsym_layout.specs.Numbering.{source_texts}
@@ -9,7 +9,7 @@ use Rattle.bz_converting.proofs.calls.node_of.Goals as goal
 
 pub returns-clause-numbering : goal.returns-clause-numbering
 returns-clause-numbering c table read texts sources is =
-    let i = kept_inlinee c.args.call.now in
+    let i = inlinee_seen c.args.call.now in
     let name = origin_named table i.origin in
     let named = texts_alone table (name ∷ []) c.args.numbering.now c.origin_text.new.self (c.in_ok-name.ensures.numbering table read) texts sources is in
     call_numbered table texts sources c.file_source.new.self name (source_named table i.call_file) (c.in_ok-source.ensures.numbering table read (texts ++ name ∷ []) sources named)
@@ -18,7 +18,7 @@ pub returns-clause-node : goal.returns-clause-node
 returns-clause-node c table read has =
     let texts = has.0 in
     let sources = has.1 in
-    let i = kept_inlinee c.args.call.now in
+    let i = inlinee_seen c.args.call.now in
     let name = origin_named table i.origin in
     let s = source_named table i.call_file in
     let before = texts ++ name ∷ [] in

@@ -1,5 +1,5 @@
 use Rattle.std.proofs.Common.{◌≡◌, ℕ, List, Some, map, take}
-use Rattle.bz_breakpad.specs.Lent.{kept_inlinee}
+use Rattle.bz_breakpad.specs.Lent.{inlinee_seen}
 use Rattle.bz_breakpad_lines.specs.Reader.{table_in}
 use Rattle.bz_breakpad_lines.specs.Table.{Table}
 use Rattle.bz_converting.specs.Laid.{IsNodeFor, sources_of_call, texts_of_call}
@@ -11,4 +11,4 @@ use Rattle.bz_converting.proofs.calls.nodes_of.Given as goal
 -- the nodes of the calls so far
 abbrev pub invariant-loop-call : goal.invariant-loop-call
 invariant-loop-call l = (table : Table) (texts : List (List ℕ)) (sources : List Source) → table_in l.file ≡ Some table → IsNumbering table texts sources l.fn.numbering →
-    SoFar table (texts_of_call table) (sources_of_call table) (λ n. IsNodeFor table (listed_texts n.texts) (listed_sources n)) texts sources l.numbering (map kept_inlinee (take l.call-index l.calls)) l.nodes.items
+    SoFar table (texts_of_call table) (sources_of_call table) (λ n. IsNodeFor table (listed_texts n.texts) (listed_sources n)) texts sources l.numbering (map inlinee_seen (take l.call-index l.calls)) l.nodes.items

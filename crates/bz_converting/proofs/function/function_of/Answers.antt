@@ -1,5 +1,5 @@
 use Rattle.std.proofs.Common.{[], ◌∷◌, ◌++◌, ap, flat_map, map, ◌∙◌}
-use Rattle.bz_breakpad.specs.Lent.{kept_inlinee}
+use Rattle.bz_breakpad.specs.Lent.{inlinee_seen}
 use Rattle.bz_convert.specs.Points.{row_seen}
 use Rattle.bz_converting.specs.Laid.{sources_of_row, texts_of_row}
 use Rattle.bz_converting.proofs.NumberingLemmas.{texts_alone}
@@ -14,7 +14,7 @@ returns-clause-numbering c table read texts sources is =
     let two = c.in_ok-rows.ensures.numbering table read named sources one in
     let three = c.in_ok-calls-2.ensures.numbering table read (named ++ flat_map (texts_of_row table) rows) (sources ++ flat_map (sources_of_row table) rows) two in
     function_numbered table texts sources c.args.function.now c.name.result.now c.name.ensures c.text.new.self c.rows_of.new.numbering c.nodes_of.new.numbering
-    rows (ap (map row_seen) c.deref.ensures.value ∙ c.requires.found.rows) (map kept_inlinee c.deref-2.result.now) (ap (map kept_inlinee) c.deref-2.ensures.value ∙ c.in_ok-calls.ensures c.args.function.now c.requires.apart c.requires.found) one two three
+    rows (ap (map row_seen) c.deref.ensures.value ∙ c.requires.found.rows) (map inlinee_seen c.deref-2.result.now) (ap (map inlinee_seen) c.deref-2.ensures.value ∙ c.in_ok-calls.ensures c.args.function.now c.requires.apart c.requires.found) one two three
 
 pub returns-clause-function : goal.returns-clause-function
 returns-clause-function c table read has =
@@ -29,6 +29,6 @@ returns-clause-function c table read has =
     let before_sources = sources ++ flat_map (sources_of_row table) rows in
     let three = c.in_ok-calls-2.ensures.numbering table read before_texts before_sources two in
     function_says table texts sources c.args.function.now c.name.result.now c.name.ensures c.text.new.self c.rows_of.new.numbering c.nodes_of.new.numbering
-    rows (ap (map row_seen) c.deref.ensures.value ∙ c.requires.found.rows) (map kept_inlinee c.deref-2.result.now) (ap (map kept_inlinee) c.deref-2.ensures.value ∙ c.in_ok-calls.ensures c.args.function.now c.requires.apart c.requires.found) one two three
+    rows (ap (map row_seen) c.deref.ensures.value ∙ c.requires.found.rows) (map inlinee_seen c.deref-2.result.now) (ap (map inlinee_seen) c.deref-2.ensures.value ∙ c.in_ok-calls.ensures c.args.function.now c.requires.apart c.requires.found) one two three
     (record { start = c.addr.result; size = c.size.result; name = c.in_ok-name.name; rows = c.in_ok-rows.rows; calls = c.in_ok-calls-2.calls }) c.addr.ensures c.size.ensures
     (c.in_ok-name.ensures.index table has) (c.in_ok-rows.ensures.rows table read (named, sources, one)) (c.in_ok-calls-2.ensures.nodes table read (before_texts, before_sources, two))

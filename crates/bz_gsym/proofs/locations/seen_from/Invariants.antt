@@ -8,7 +8,8 @@ use Rattle.bz_gsym.specs.JoiningSeen.{line_seen}
 use Rattle.bz_gsym.specs.Seen.{frame_seen}
 use Rattle.bz_gsym.proofs.locations.seen_from.Given as goal
 
--- the site and the calls so far are what is seen from outside the calls that were taken, of which the innermost came first
+-- the site and the calls so far are what is seen from outside the calls that were taken, of which the
+-- innermost came first
 abbrev pub invariant-loop-index : goal.invariant-loop-index
 invariant-loop-index l = record {
   within : l.index ≤ length l.calls;

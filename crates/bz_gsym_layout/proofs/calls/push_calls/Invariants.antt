@@ -8,7 +8,8 @@ use Rattle.bz_gsym_layout.specs.Plan.{Called}
 use Rattle.bz_gsym_layout.specs.declared.plan.Node.{Node}
 use Rattle.bz_gsym_layout.proofs.calls.push_calls.Given as goal
 
--- what is written, with what is left of the open lists, is the whole; the next node fits into the open lists
+-- what is written, with what is left of the open lists, is the whole; the next node fits into the open
+-- lists
 abbrev pub invariant-loop-index : goal.invariant-loop-index
 invariant-loop-index l = record {
   deep : (x : Node) → slice_get l.nodes l.index ≡ Some x → x.depth ≤ length l.outer.items;
