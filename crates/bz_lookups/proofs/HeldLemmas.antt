@@ -12,7 +12,8 @@ use Rattle.bz_files.specs.declared.files.Files.{Ghosts}
 use Rattle.bz_cache.specs.Cache.{Cache}
 use Rattle.bz_cache.specs.Format.{GivesOrFaults, FailsAs}
 use Rattle.bz_cache.specs.Look.{look}
-use Rattle.bz_cache.specs.FileCall.{Answering, ByVersion, CallsFile, Leaves, Query, by_look, by_test, each_of, file_answer, query_asked, query_given}
+use Rattle.bz_cache.specs.View.{if_formed}
+use Rattle.bz_cache.specs.FileCall.{Answering, ByVersion, CallsFile, Leaves, Query, by_look, each_of, file_answer, query_asked, query_given}
 use Rattle.bz_lookups.specs.Formats.{HandedSource, handed_answer}
 
 -- what reads as expected wherever it is given, and else is want of memory
@@ -63,7 +64,8 @@ refused_as : (H A : Type 0) (e other : Error) → IsErrOf {T = H} (Err e) other 
 refused_as H A e other is = let same : e ≡ other = cc is in ap Err same
 
 module _ {A B H : Type 0} (reading : A → B) (query : Query B) (singles : H → ℕ → Result Answer Error) where
-  -- a call gives what its query makes of what is held, and has no fault; or it is refused since nothing is held
+  -- a call gives what its query makes of what is held, and has no fault; or it is refused since nothing
+  -- is held
   abbrev pub Follows : Result H Error → Result A Error → Type 0
   Follows (Ok held) result = Gives reading (query.given (singles held)) result × IfErr result MayRefuse
   Follows (Err e) result = result ≡ Err e
@@ -99,7 +101,7 @@ module _ {A B H : Type 0} (reading : A → B) (query : Query B) (singles : H →
         by_serves true = refl
         by_serves false = refl
 
-    test_made : (bytes : List ℕ) (t : Option Error) → by_test (query_asked test answering opts path query) bytes t ≡ made (by_test (query_asked test answering opts path (each_of query.kind)) bytes t)
+    test_made : (bytes : List ℕ) (t : Option Error) → if_formed (query_asked test answering opts path query).given bytes t ≡ made (if_formed (query_asked test answering opts path (each_of query.kind)).given bytes t)
     test_made bytes None = given_made bytes
     test_made bytes (Some e) = refl
 
@@ -118,8 +120,8 @@ module _ {A B H : Type 0} (reading : A → B) (query : Query B) (singles : H →
   handed_made : (given : HandedSource) (opts : FindSymOpts) → handed_answer given opts query ≡ made (handed_answer given opts (each_of query.kind))
   handed_made given opts = by_taken (given.answering.takes query.kind)
     where
-      by_taken : (t : Bool) → cond t (by_test (query_asked given.test given.answering opts [] query) given.bytes (given.test given.bytes)) (Err errors.Unsupported)
-          ≡ made (cond t (by_test (query_asked given.test given.answering opts [] (each_of query.kind)) given.bytes (given.test given.bytes)) (Err errors.Unsupported))
+      by_taken : (t : Bool) → cond t (if_formed (query_asked given.test given.answering opts [] query).given given.bytes (given.test given.bytes)) (Err errors.Unsupported)
+          ≡ made (cond t (if_formed (query_asked given.test given.answering opts [] (each_of query.kind)).given given.bytes (given.test given.bytes)) (Err errors.Unsupported))
       by_taken true = test_made given.test given.answering opts [] given.bytes (given.test given.bytes)
       by_taken false = refl
 
@@ -169,7 +171,7 @@ module _ {A B H : Type 0} (reading : A → B) (query : Query B) (singles : H →
           opened = on_ok result told.opened;
           spared = told.spared;
         };
-        some = elim all.some [ inl by ↦ inl (by_made (Ok h) result follows by) | inr first ↦ absurd (false≢true first.refused) ];
+        untold = elim all.untold [ inl by ↦ inl (by_made (Ok h) result follows by) | inr first ↦ absurd (false≢true first.refused) ];
         untaken = λ other. let refused = (all.untaken other).0 in cc;
         stays = all.stays;
         ready = λ held taken. by_made (Ok h) result follows (all.ready held taken);
@@ -186,7 +188,7 @@ module _ {A B H : Type 0} (reading : A → B) (query : Query B) (singles : H →
               opened = tt;
               spared = told.spared;
             };
-            some = elim all.some [
+            untold = elim all.untold [
               | inl by ↦ inl (by_made (Err e) (Err e) refl by)
               | inr first ↦ inr (record { refused = first.refused; refusal = first.refusal; unchanged = first.unchanged })
             ];

@@ -32,7 +32,7 @@ module _ (batch : Batch) where
       record {
         among = subst (λ n. All (IsAmong batch first n) others) (sym count) (All-permutation (IsAmong batch first (length indices)) indices others moved next.among);
         each = λ index from before. Contains-permutation indices others index moved (next.each index from (subst (λ n. index < first + n) count before));
-        some = λ left. subst (λ n. 0 < n) (sym count) (next.some left);
+        positive = λ left. subst (λ n. 0 < n) (sym count) (next.positive left);
       }
 
   -- they don't go past the batch

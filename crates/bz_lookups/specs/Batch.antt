@@ -12,7 +12,8 @@ use Rattle.bz_lookups.specs.declared.held.ElfAddressKind.TheVariants as kinds
 use Rattle.bz_lookups.specs.declared.held.Held.{Held}
 use Rattle.bz_lookups.specs.declared.held.Held.TheVariants as helds
 
--- what answers addresses: bytes in a format; of an ELF file also the path that names it, and the kind of the addresses
+-- what answers addresses: bytes in a format; of an ELF file also the path that names it, and the kind
+-- of the addresses
 pub data Version : Type 0 where
   BreakpadVersion : List ℕ → Version
   GsymVersion : List ℕ → Version
@@ -34,13 +35,15 @@ MayWantMemory (ElfVersion path bytes kind) opts = ⊥
 abbrev pub entry_by : Version → FindSymOpts → ℕ → Answer
 entry_by version opts addr = in_batch (single_by version opts addr)
 
--- whether a version answers addresses faster in their order. A Breakpad file reads together what some of them need, in any order
+-- whether a version answers addresses faster in their order. A Breakpad file reads together what some
+-- of them need, in any order
 abbrev pub heeds_order : Version → Bool
 heeds_order (BreakpadVersion _) = false
 heeds_order (GsymVersion _) = true
 heeds_order (ElfVersion _ _ _) = true
 
--- addresses, the version of their source that answers them, how it is asked, and its answers to them, in their order
+-- addresses, the version of their source that answers them, how it is asked, and its answers to them,
+-- in their order
 pub record Batch : Type 0 where
   pub version : Version
   pub opts : FindSymOpts

@@ -6,7 +6,8 @@ use Rattle.bz_breakpad.specs.Reader.{table_in}
 use Rattle.bz_breakpad.specs.Table.{Table}
 use Rattle.bz_lookups.specs.Batch.{Version, BreakpadVersion}
 
--- those on the bytes of a Breakpad file: few for each address, by how many functions and PUBLIC records the file has
+-- those on the bytes of a Breakpad file: few for each address, by how many functions and PUBLIC records
+-- the file has
 pub record BreakpadSteps (bytes : List ℕ) (addrs before after : ℕ) : Type 0 where
   pub more : before ≤ after
   pub probes : (table : Table) → table_in bytes ≡ Some table → AreFewSteps table addrs (after - before)

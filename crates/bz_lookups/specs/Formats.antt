@@ -38,15 +38,16 @@ is_in_table InFile = false
 abbrev pub gsym_single : FindSymOpts → List ℕ → ℕ → Result Answer Error
 gsym_single opts bytes addr = as_answer addr (gsym.plain bytes opts addr)
 
--- a batch of addresses, each of them answered by itself, in their order; an address that is refused is an ignored error
+-- a batch of addresses, each of them answered by itself, in their order; an address that is refused is
+-- an ignored error
 abbrev pub gsym_batch : FindSymOpts → List ℕ → List ℕ → List Answer
 gsym_batch opts bytes addrs = map (λ addr. in_batch (gsym_single opts bytes addr)) addrs
 
 abbrev pub gsym_answering : Answering
 gsym_answering = record { takes = is_in_table; serves = is_in_table; single = λ opts path bytes kind addr. gsym_single opts bytes addr }
 
--- an ELF source looks at its file first, whatever the kind of address. Then it answers addresses as the symbol table has them, and
--- offsets in the file
+-- an ELF source looks at its file first, whatever the kind of address. Then it answers addresses as the
+-- symbol table has them, and offsets in the file
 abbrev pub is_in_elf : AddressKind → Bool
 is_in_elf InTable = true
 is_in_elf InFile = true
@@ -58,7 +59,8 @@ virtual_offset bytes InFile offset = translated (segments bytes) offset
 virtual_offset bytes InTable addr = Some addr
 virtual_offset bytes InProcess addr = Some addr
 
--- the answer of an ELF file at an address, which it never refuses, by its symbol table; the module is the path that names it
+-- the answer of an ELF file at an address, which it never refuses, by its symbol table; the module is
+-- the path that names it
 abbrev pub elf_single : List ℕ → List ℕ → AddressKind → ℕ → Answer
 elf_single path bytes kind addr = elf_by_table path bytes (virtual_offset bytes kind addr)
 
@@ -76,7 +78,8 @@ pub record HandedSource : Type 0 where
   pub answering : Answering
   pub bytes : List ℕ
 
--- what handed-in bytes answer: another kind of address is refused first, then bytes that aren't in the format
+-- what handed-in bytes answer: another kind of address is refused first, then bytes that aren't in the
+-- format
 abbrev pub handed_answer : {B : Type 0} → HandedSource → FindSymOpts → Query B → Result B Error
 handed_answer given opts query =
     cond (given.answering.takes query.kind) (by_version (query_asked given.test given.answering opts [] query) given.bytes) (Err errors.Unsupported)

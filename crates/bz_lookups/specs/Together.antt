@@ -11,12 +11,12 @@ pub record IsAmong (batch : Batch) (first count index : ℕ) : Type 0 where
   pub before : index < first + count
   pub there : index < length batch.addrs
 
--- these are, in some order, the indices of so many addresses of the batch from the first on. Where any are left, there is one at
--- least
+-- these are, in some order, the indices of so many addresses of the batch from the first on. Where any
+-- are left, there is one at least
 pub record AreNext (batch : Batch) (first : ℕ) (indices : List ℕ) : Type 0 where
   pub among : All (IsAmong batch first (length indices)) indices
   pub each : (index : ℕ) → first ≤ index → index < first + length indices → Contains indices index
-  pub some : first < length batch.addrs → 0 < length indices
+  pub positive : first < length batch.addrs → 0 < length indices
 
 -- where there is an answer at an index, it is that of the batch there
 abbrev pub IsAnswered : Batch → List Symbolized → ℕ → Type 0

@@ -21,14 +21,16 @@ pub trait Answers: Version {
     /// Which kinds of address are taken before a look, which ones are answered, and how.
     ghost answering: { Answering };
 
-    /// Whether a batch of so many addresses may take, on these bytes, the steps from one count to another.
+    /// Whether a batch of so many addresses may take, on these bytes, the steps from one count to
+    /// another.
     ghost few_steps: { List ℕ → ℕ → ℕ → ℕ → Type 0 };
 
     /// Whether the kind of address is taken before the file is looked at.
     fn takes<A>(input: &Input<A>) -> bool
         ensures { result ≡ answering.takes (address_kind input.now) };
 
-    /// The version, held to answer addresses of the input's kind. Unsupported: it answers none of that kind.
+    /// The version, held to answer addresses of the input's kind. Unsupported: it answers none of that
+    /// kind.
     fn hold<'d, A>(
         alloc: Global,
         version: Rc<Self>,
@@ -41,8 +43,8 @@ pub trait Answers: Version {
 }
 
 /// The version of the file at the path, held to answer addresses of the input's kind. It is refused by
-/// `Unsupported` where the format doesn't take the kind, before any look, or doesn't answer it. Else it is
-/// refused as the look is.
+/// `Unsupported` where the format doesn't take the kind, before any look, or doesn't answer it. Else it
+/// is refused as the look is.
 pub fn hold_file<'d, T: Answers + Drop, F: Files, A>(
     cache: &mut FileCache<T>,
     alloc: Global,

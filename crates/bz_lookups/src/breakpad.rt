@@ -52,8 +52,8 @@ impl Answers for SymbolFile {
     }
 }
 
-/// The answer at an address alone, whose texts are lent. The steps of its search are counted in the blank,
-/// which nobody reads.
+/// The answer at an address alone, whose texts are lent. The steps of its search are counted in the
+/// blank, which nobody reads.
 pub(crate) fn answer_blank<'a, L: Ledger>(
     alloc: Global,
     file: &'a SymbolFile,
@@ -63,7 +63,7 @@ pub(crate) fn answer_blank<'a, L: Ledger>(
 ) -> Result<Symbolized<'a>>
     requires name { blank.name ≡ L.name }
     requires parts { blank.parts ≡ L.parts }
-    requires some { 0 < L.parts }
+    requires positive { 0 < L.parts }
     ensures answer { Gives reading (breakpad_single opts.now (table_in file.now) addr) result }
     ensures lent { IfOk result IsLent }
     ensures refusal { IfErr result MayRefuse }

@@ -1,6 +1,6 @@
 //! An ELF file as one that answers.
 
-ghost use Rattle.std.specs.Prelude.{◌≡◌, Ok, Some, string_bytes, IfOk, IfErr, IsOk, IsOkUnless};
+ghost use Rattle.std.specs.Prelude.{◌≡◌, string_bytes, IfOk, IfErr, IsOkUnless};
 ghost use Rattle.bz_base.specs.Answer.{Gives, reading};
 ghost use Rattle.bz_base.specs.InputKind.{address_kind};
 ghost use Rattle.bz_base.specs.Lent.{IsLent};
@@ -14,7 +14,7 @@ ghost use Rattle.bz_lookups.specs.Formats.{elf_answering, elf_single, virtual_of
 
 use crate::answering::Answers;
 use crate::held::{ElfAddressKind, Held, HeldElf};
-use bz_base::{Addr, Error, Input, Reason, Result, Symbolized, TranslateFileOffset};
+use bz_base::{Addr, Error, Input, Reason, Result, Symbolized};
 use bz_elf::ElfFile;
 use bz_process::elf_answer_at;
 use std::alloc::Global;
@@ -64,24 +64,23 @@ fn held_as<'d>(
 }
 
 /// The answer at an address, whose texts are lent. An ELF file tells no site.
-pub(crate) fn answer_at<'a>(alloc: Global, elf: &'a HeldElf, addr: Addr) -> Result<Symbolized<'a>>
-    ensures answer { IfOk result (λ answer. reading answer ≡ elf_single (string_bytes elf.now.path) elf.now.file.value (kind_of elf.now.kind) addr) }
-    ensures lent { IfOk result IsLent }
-    ensures sure { IsOk result }
+pub(crate) fn answer_at<'a>(alloc: Global, elf: &'a HeldElf, addr: Addr) -> Symbolized<'a>
+    ensures answer { reading result ≡ elf_single (string_bytes elf.now.path) elf.now.file.value (kind_of elf.now.kind) addr }
+    ensures lent { IsLent result }
 {
     let file = elf.file.as_ref();
-    let Some(addr) = virtual_offset(file, elf.kind, addr)? else {
-        return Ok(Symbolized::Unknown(Reason::InvalidFileOffset));
-    };
-    elf_answer_at(alloc, file, elf.path.as_str(), addr)
+    match virtual_offset(file, elf.kind, addr) {
+        Some(addr) => elf_answer_at(alloc, file, elf.path.as_str(), addr),
+        None => Symbolized::Unknown(Reason::InvalidFileOffset),
+    }
 }
 
 // The address as the symbol table has it: an offset in the file goes through the load segments.
-fn virtual_offset(file: &ElfFile, kind: ElfAddressKind, addr: u64) -> Result<Option<Addr>>
-    ensures { result ≡ Ok (virtual_offset file.now (kind_of kind) addr) }
+fn virtual_offset(file: &ElfFile, kind: ElfAddressKind, addr: u64) -> Option<Addr>
+    ensures { result ≡ virtual_offset file.now (kind_of kind) addr }
 {
     match kind {
-        ElfAddressKind::Table => Ok(Some(addr)),
-        ElfAddressKind::File => file.file_offset_to_virt_offset(addr),
+        ElfAddressKind::Table => Some(addr),
+        ElfAddressKind::File => file.addr_of(addr),
     }
 }

@@ -52,8 +52,8 @@ impl Answers for GsymTable {
     }
 }
 
-/// Bytes that are handed in, held to answer addresses of the input's kind. Unsupported: GSYM answers none of
-/// that kind. InvalidData: they aren't GSYM.
+/// Bytes that are handed in, held to answer addresses of the input's kind. Unsupported: GSYM answers
+/// none of that kind. InvalidData: they aren't GSYM.
 pub fn hold_data<'d, A>(bytes: &'d [u8], input: &Input<A>) -> Result<Held<'d>>
     ensures held { (opts : FindSymOpts) → Gives (held_singles opts) (handed_answer (gsym_handed bytes.now) opts (each_of (address_kind input.now))) result }
     ensures steps { IfOk result (λ held. TakesSteps (version_of held) (no_steps bytes.now)) }

@@ -55,10 +55,10 @@ pub enum ElfAddressKind {
 }
 
 impl<'d> Held<'d> {
-    /// The answer at an address alone, or its refusal. Its texts are lent. InvalidInput: an id of a file or
-    /// of an origin there names nothing in the Breakpad file, or a source name has no component.
-    /// InvalidData: what the GSYM bytes tell of the address isn't in the format. OutOfMemory: memory ran out
-    /// for inlined calls.
+    /// The answer at an address alone, or its refusal. Its texts are lent. InvalidInput: an id of a
+    /// file or of an origin there names nothing in the Breakpad file, or a source name has no
+    /// component. InvalidData: what the GSYM bytes tell of the address isn't in the format.
+    /// OutOfMemory: memory ran out for inlined calls.
     pub fn single(&self, alloc: Global, opts: &FindSymOpts, addr: Addr) -> Result<Symbolized<'_>>
         ensures answer { Gives reading (single_by (version_of self.now) opts.now addr) result }
         ensures lent { IfOk result IsLent }
@@ -110,7 +110,7 @@ impl<'d> Held<'d> {
     ) -> Result<Vec<FoundRecord>>
         requires name { blank.name ≡ L.name }
         requires parts { blank.parts ≡ L.parts }
-        requires some { 0 < L.parts }
+        requires positive { 0 < L.parts }
         ensures found { IfOk result (λ records. AreFoundIn (version_of self.now) addrs.now records.items) }
         ensures memory { IsOkUnless result Error.OutOfMemory }
     {
@@ -137,7 +137,7 @@ impl<'d> Held<'d> {
             Held::Breakpad(file) => file.as_ref().answer_by(alloc, addr, found, opts),
             Held::Gsym(table) => gsym::answer_at(alloc, &table.context(), opts, addr),
             Held::GsymData(context) => gsym::answer_at(alloc, context, opts, addr),
-            Held::Elf(elf) => elf::answer_at(alloc, elf, addr),
+            Held::Elf(elf) => Ok(elf::answer_at(alloc, elf, addr)),
         }
     }
 

@@ -133,8 +133,8 @@ impl<'d> Lookups<'d> {
         in_batch(self.single(alloc, index))
     }
 
-    /// The answers at the addresses of some indices, in their order. What a Breakpad file says of them is
-    /// read together, which is faster than one by one. A refused address is an ignored error.
+    /// The answers at the addresses of some indices, in their order. What a Breakpad file says of them
+    /// is read together, which is faster than one by one. A refused address is an ignored error.
     pub fn answers_of(&self, alloc: Global, indices: &[usize]) -> Result<Vec<Symbolized<'_>>>
         requires { All (λ index. index < length self.now.addrs) indices.now }
         ensures answers { IfOk result (λ answers. map reading answers.items ≡ answers_there indices.now self.now) }

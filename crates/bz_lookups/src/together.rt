@@ -13,14 +13,14 @@ use std::alloc::Global;
 /// How many answers are made together.
 pub const TOGETHER: usize = 32;
 
-/// How many answers are made at a time in the order of their addresses: so many that addresses near each
-/// other come together.
+/// How many answers are made at a time in the order of their addresses: so many that addresses near
+/// each other come together.
 const IN_ORDER: usize = 32_768;
 
 impl<'d> Lookups<'d> {
-    /// The indices of the answers to make next, from `first` on: as many as are made at a time. They come
-    /// in the order in which they are found fastest, so that what stands together in a file is read
-    /// together.
+    /// The indices of the answers to make next, from `first` on: as many as are made at a time. They
+    /// come in the order in which they are found fastest, so that what stands together in a file is
+    /// read together.
     pub fn next_indices(&self, alloc: Global, first: usize) -> Result<Vec<usize>>
         ensures next { IfOk result (λ indices. AreNext self.now first indices.items) }
         ensures memory { IsOkUnless result Error.OutOfMemory }

@@ -20,7 +20,7 @@ more_than_none fits zero none is = absurd (false≢true (sym none ∙ is))
 more_than_none fits (suc n) none is = omega arith
 
 word_begins : (number : ℕ) (word rest : List ℕ) → IsWord number word → begins_with is_space (word ++ rest) ≡ false
-word_begins number [] rest is = absurd (omega (arith, is.some))
+word_begins number [] rest is = absurd (omega (arith, is.positive))
 word_begins number (b ∷ word) rest is =
     let P : ℕ → Type 0 = λ c. digit_value c < 16 in
     false_from_ne_true (is_space b) (λ same. let small : digit_value space < 16 = subst P (eqb-true b space same) is.digits.0 in omega (arith, small))

@@ -23,7 +23,7 @@ map_some f (Some x) y read = (x, refl, same_Some (f x) y read)
 
 -- an empty line is of no mapping
 no_line : (told : Line) → IsLine [] told → ⊥
-no_line told is = omega (arith, is.fields.first.some, ap length is.fields.parts, length-append is.fields.front is.fields.back)
+no_line told is = omega (arith, is.fields.first.positive, ap length is.fields.parts, length-append is.fields.front is.fields.back)
 
 module _ (pid : Pid) where
   -- in UTF-8 the lines decide

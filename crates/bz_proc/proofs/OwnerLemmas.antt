@@ -1,4 +1,5 @@
--- Where the mapping stands that answers for an address: by a look through the mappings, and by a search among what they reach.
+-- Where the mapping stands that answers for an address: by a look through the mappings, and by a search
+-- among what they reach.
 use Rattle.std.proofs.Common.{◌≡◌, ◌⊎◌, ℕ, zero, suc, ◌+◌, ◌<◌, ◌≤◌, true, false, not, List, [], ◌∷◌, length, map, get_or, Some, None, nat_lt, nat_le, inl, inr, refl, sym, ap, ◌∙◌, arith}
 use Rattle.std.specs.List.{prefix_len, position_or_len}
 use Rattle.std.specs.List.Sorted.{IsPartitionedBy, IsPartitionPoint}

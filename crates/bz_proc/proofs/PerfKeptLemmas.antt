@@ -20,7 +20,8 @@ use Rattle.bz_proc.proofs.PerfLineLemmas.{first_told, line_found, name_last, wit
 use Rattle.bz_base.proofs.InTableLemmas.{all_append, all_in_table}
 use Rattle.std.specs.Prelude.{not}
 
--- the functions of the lines before a place are kept, and with those of the lines from there on they are all
+-- the functions of the lines before a place are kept, and with those of the lines from there on they
+-- are all
 pub record IsSoFar (bytes : List ℕ) (entries : List PerfEntry) (place : ℕ) : Type 0 where
   pub within : place ≤ length bytes + 1
   pub functions_are : perf_functions_in bytes ≡ option_map (λ later. map (function_at bytes) entries ++ later) (perf_functions_in (drop place bytes))

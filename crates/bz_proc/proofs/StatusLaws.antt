@@ -69,7 +69,7 @@ word_again text word is =
   where
     at : (kept : List ℕ) → kept ≡ is.front ++ word → last_word (kept ++ is.back) ≡ word
     at kept kept_is =
-        let apart : EndsApart is_between kept = let P : List ℕ → Type 0 = EndsApart is_between in subst P (sym kept_is) (word_apart is.front word is.some is.solid) in
+        let apart : EndsApart is_between kept = let P : List ℕ → Type 0 = EndsApart is_between in subst P (sym kept_is) (word_apart is.front word is.positive is.solid) in
         let cut : to_last_word (kept ++ is.back) ≡ kept =
         ap (λ n. take n (kept ++ is.back)) (before_end kept is.back (suffix_len is_between (kept ++ is.back)) (end_run is_between kept is.back is.behind apart))
         ∙ take-append_seam kept is.back in
@@ -85,19 +85,19 @@ some_word (b ∷ text) = by (is_between b) refl (some_word text)
   where
     more : (front word : List ℕ) (test : Bool) → is_between b ≡ test → (back : List ℕ) → text ≡ front ++ (word ++ back) → EndsBetween front → 0 < length word →
         AllByRecursion (λ b. is_between b ≡ false) word → AllOf is_between back → (found : List ℕ) × IsLastWord (b ∷ text) found
-    more [] word true is back parts before some solid behind =
-        (word, record { front = b ∷ []; back = back; parts = ap (λ t. b ∷ t) parts; before = inr ([], b, refl, is); some = some; solid = solid; behind = behind })
-    more [] word false is back parts before some solid behind =
-        (b ∷ word, record { front = []; back = back; parts = ap (λ t. b ∷ t) parts; before = inl refl; some = omega arith; solid = (is, solid); behind = behind })
-    more (c ∷ front) word test is back parts (inl none) some solid behind = cc
-    more (c ∷ front) word test is back parts (inr (rest, d, ends, between)) some solid behind =
-        (word, record { front = b ∷ c ∷ front; back = back; parts = ap (λ t. b ∷ t) parts; before = inr (b ∷ rest, d, ap (λ t. b ∷ t) ends, between); some = some; solid = solid; behind = behind })
+    more [] word true is back parts before positive solid behind =
+        (word, record { front = b ∷ []; back = back; parts = ap (λ t. b ∷ t) parts; before = inr ([], b, refl, is); positive = positive; solid = solid; behind = behind })
+    more [] word false is back parts before positive solid behind =
+        (b ∷ word, record { front = []; back = back; parts = ap (λ t. b ∷ t) parts; before = inl refl; positive = omega arith; solid = (is, solid); behind = behind })
+    more (c ∷ front) word test is back parts (inl none) positive solid behind = cc
+    more (c ∷ front) word test is back parts (inr (rest, d, ends, between)) positive solid behind =
+        (word, record { front = b ∷ c ∷ front; back = back; parts = ap (λ t. b ∷ t) parts; before = inr (b ∷ rest, d, ap (λ t. b ∷ t) ends, between); positive = positive; solid = solid; behind = behind })
 
     by : (test : Bool) → is_between b ≡ test → AllOf is_between text ⊎ ((word : List ℕ) × IsLastWord text word) →
         AllOf is_between (b ∷ text) ⊎ ((word : List ℕ) × IsLastWord (b ∷ text) word)
-    by test is (inr (word, last)) = inr (more last.front word test is last.back last.parts last.before last.some last.solid last.behind)
+    by test is (inr (word, last)) = inr (more last.front word test is last.back last.parts last.before last.positive last.solid last.behind)
     by true is (inl all) = inl (is, all)
-    by false is (inl all) = inr (b ∷ [], record { front = []; back = text; parts = refl; before = inl refl; some = omega arith; solid = (is, tt); behind = all })
+    by false is (inl all) = inr (b ∷ [], record { front = []; back = text; parts = refl; before = inl refl; positive = omega arith; solid = (is, tt); behind = all })
 
 -- where all bytes stand between words, no word is read
 no_word : (text : List ℕ) → AllOf is_between text → last_word text ≡ []

@@ -1,4 +1,5 @@
--- What stands before and after an ASCII byte of a text in UTF-8 is UTF-8, so its lines and the ends of its lines are.
+-- What stands before and after an ASCII byte of a text in UTF-8 is UTF-8, so its lines and the ends of
+-- its lines are.
 use Rattle.std.proofs.Common.{◌≡◌, ℕ, ◌+◌, ◌<◌, List, [], ◌∷◌, ◌++◌, length, get_or, Some, refl, sym, ap, subst, ◌∙◌, arith, append_assoc, length-append}
 use Rattle.std.specs.List.{flat_map, AllByRecursion}
 use Rattle.std.specs.Str.{IsUtf8}

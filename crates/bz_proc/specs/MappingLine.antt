@@ -1,5 +1,5 @@
--- A line of `/proc/PID/maps`, whose fields stand side by side: address, permissions, offset, device, inode and path name. See
--- proc_pid_maps(5) of the Linux manual pages, a part of proc(5).
+-- A line of `/proc/PID/maps`, whose fields stand side by side: address, permissions, offset, device,
+-- inode and path name. See proc_pid_maps(5) of the Linux manual pages, a part of proc(5).
 use Rattle.std.specs.Prelude.{◌≡◌, ℕ, ◌<◌, ◌≤◌, Bool, true, false, not, ◌==◌, ◌&&◌, nat_lt, nat_le, List, [], ◌∷◌, ◌++◌, length, drop, Option, Some, None, if◌then◌else◌}
 use Rattle.std.specs.Char.{is_digit}
 use Rattle.std.specs.List.{AllByRecursion, prefix_len}
@@ -7,7 +7,8 @@ use Rattle.bz_base.specs.Bind.{◌>>=◌}
 use Rattle.bz_base.specs.Byte.{space, dash, begins_with}
 use Rattle.bz_base.specs.Number.{IsHex, hex_at}
 
--- what a line tells: where the mapping begins and ends, the offset of its first byte, and the text that stands last
+-- what a line tells: where the mapping begins and ends, the offset of its first byte, and the text that
+-- stands last
 pub record Line : Type 0 where
   pub start : ℕ
   pub past : ℕ
@@ -63,7 +64,8 @@ IsDevice = IsRun is_solid at_least_one
 abbrev pub IsInode : List ℕ → Type 0
 IsInode = IsRun is_decimal one_to_twenty
 
--- the end of a line: spaces, and a text that begins with none; before a text there is at least one space
+-- the end of a line: spaces, and a text that begins with none; before a text there is at least one
+-- space
 pub record IsEnd (text whole : List ℕ) : Type 0 where
   pub spaces : List ℕ
   pub parts : whole ≡ spaces ++ text

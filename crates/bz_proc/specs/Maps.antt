@@ -1,4 +1,5 @@
--- The mappings of a process, as the text of `/proc/PID/maps` tells them: see proc_pid_maps(5) of the Linux manual pages.
+-- The mappings of a process, as the text of `/proc/PID/maps` tells them: see proc_pid_maps(5) of the
+-- Linux manual pages.
 use Rattle.std.specs.Prelude.{◌≡◌, ℕ, Bool, false, nat_eq, nat_lt, nat_le, ◌-◌, List, [], ◌∷◌, ◌++◌, length, take, slice_get, codes, flat_map, Option, Some, None, option_map, option_and_then, option_to_list, string_bytes, IsUtf8, if◌then◌else◌}
 use Rattle.std.specs.Fmt.{digits}
 use Rattle.std.specs.List.{AllZip, ends_with, position}
@@ -15,12 +16,14 @@ use Rattle.bz_proc.specs.declared.maps.PathName.{PathName}
 use Rattle.bz_proc.specs.declared.maps.PathName.TheVariants as names
 use Rattle.bz_proc.specs.declared.maps.line.MappingLine.{MappingLine}
 
--- what a mapping is of: a file, by the path that stands for the mapping and by its own, or a part of the system
+-- what a mapping is of: a file, by the path that stands for the mapping and by its own, or a part of
+-- the system
 pub data Name : Type 0 where
   File : List ℕ → List ℕ → Name
   Component : List ℕ → Name
 
--- the addresses from a start to before an end, the offset of the first byte, and what they are of, if that is told
+-- the addresses from a start to before an end, the offset of the first byte, and what they are of, if
+-- that is told
 pub record Mapping : Type 0 where
   pub start : ℕ
   pub past : ℕ
@@ -29,7 +32,8 @@ pub record Mapping : Type 0 where
 
 -- Names.
 
--- the path in `/proc` that stands for a mapping, whose addresses are in lower case and without leading zeros
+-- the path in `/proc` that stands for a mapping, whose addresses are in lower case and without leading
+-- zeros
 abbrev pub maps_file : Pid → ℕ → ℕ → List ℕ
 maps_file pid start past = codes "/proc/" ++ (pid_text pid ++ (codes "/map_files/" ++ (digits 16 false start ++ (codes "-" ++ digits 16 false past))))
 
@@ -41,7 +45,8 @@ deleted = codes " (deleted)"
 abbrev pub symbolic_path : List ℕ → List ℕ
 symbolic_path text = if ends_with nat_eq text deleted then take (length text - length deleted) text else text
 
--- the text of a mapping says nothing where it is empty, a file where a slash begins it, and else a part of the system
+-- the text of a mapping says nothing where it is empty, a file where a slash begins it, and else a part
+-- of the system
 abbrev pub name_told : Pid → ℕ → ℕ → List ℕ → Option Name
 name_told pid start past [] = None
 name_told pid start past (b ∷ text) =
@@ -55,7 +60,8 @@ mapping_told pid line = record { start = line.start; past = line.past; offset = 
 
 -- Texts.
 
--- what a line says: nothing where it is empty, so that it is skipped, and else the mapping that its fields tell
+-- what a line says: nothing where it is empty, so that it is skipped, and else the mapping that its
+-- fields tell
 abbrev pub Says : Pid → List ℕ → Option Mapping → Type 0
 Says pid line None = line ≡ []
 Says pid line (Some mapping) = (told : Line) × IsLine line told × (mapping ≡ mapping_told pid told)
@@ -114,8 +120,8 @@ ends_above addr mapping = nat_lt addr mapping.past
 abbrev pub if_begins : List Mapping → ℕ → ℕ → Option ℕ
 if_begins mappings addr place = option_and_then (λ (mapping : Mapping). if nat_le mapping.start addr then Some place else None) (slice_get mappings place)
 
--- the place of the mapping that answers for an address: the first that ends above it, if that begins at the address or
--- before it
+-- the place of the mapping that answers for an address: the first that ends above it, if that begins at
+-- the address or before it
 abbrev pub owner_in : List Mapping → ℕ → Option ℕ
 owner_in mappings addr = option_and_then (if_begins mappings addr) (position (ends_above addr) mappings)
 

@@ -1,5 +1,6 @@
--- The lines of a perf map, by which a process tells of the functions that it compiled for itself. The format is that of Linux's
--- tools/perf/Documentation/jit-interface.txt: a file `perf-PID.map` of lines `START SIZE symbolname`, both numbers hexadecimal.
+-- The lines of a perf map, by which a process tells of the functions that it compiled for itself. The
+-- format is that of Linux's tools/perf/Documentation/jit-interface.txt: a file `perf-PID.map` of lines
+-- `START SIZE symbolname`, both numbers hexadecimal.
 use Rattle.std.specs.Prelude.{◌≡◌, ℕ, ◌+◌, ◌^◌, ◌<◌, Bool, true, not, nat_lt, ◌==◌, ◌&&◌, ◌||◌, List, ◌∷◌, ◌++◌, length, take, drop, Option, Some, None, option_map, option_and_then, if◌then◌else◌, IsUtf8}
 use Rattle.std.specs.Char.{is_digit}
 use Rattle.std.specs.List.{list_all, prefix_len}
@@ -18,7 +19,8 @@ pub record PerfFunction : Type 0 where
 abbrev pub separates : ℕ → Bool
 separates b = b == space || b == tab || b == form_feed
 
--- a number: an optional plus sign, and one or more hexadecimal digits in either case, of a number of 64 bits
+-- a number: an optional plus sign, and one or more hexadecimal digits in either case, of a number of 64
+-- bits
 pub record IsPerfNumber (text : List ℕ) (value : ℕ) : Type 0 where
   pub digits : IsNumeral 16 (without_leading_plus text)
   pub valued : value ≡ digits_value 16 (without_leading_plus text)

@@ -1,4 +1,5 @@
--- Which bytes are a perf map, and its plain answer at an address: name, start and size of the function there.
+-- Which bytes are a perf map, and its plain answer at an address: name, start and size of the function
+-- there.
 use Rattle.std.specs.Prelude.{◌≡◌, ℕ, List, [], Option, Some, None, Result, Ok, Err}
 use Rattle.std.proofs.Common.{subst}
 use Rattle.bz_base.specs.Answer.{Resolved}

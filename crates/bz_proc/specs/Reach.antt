@@ -1,5 +1,6 @@
--- How far mappings reach: of each mapping the greatest end of those up to it. In whatever order mappings stand, these never
--- descend, and the first mapping that ends above an address is the first that is reached above it.
+-- How far mappings reach: of each mapping the greatest end of those up to it. In whatever order
+-- mappings stand, these never descend, and the first mapping that ends above an address is the first
+-- that is reached above it.
 use Rattle.std.specs.Prelude.{ℕ, nat_lt, List, [], ◌∷◌, if◌then◌else◌}
 use Rattle.bz_proc.specs.Maps.{Mapping}
 

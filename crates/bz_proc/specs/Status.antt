@@ -1,5 +1,6 @@
--- The id by which a process knows itself. The line `NStgid` of `/proc/PID/status` has the ids of the process in the namespaces
--- around it, and its own last. See proc_pid_status(5) of the Linux manual pages, a part of proc(5).
+-- The id by which a process knows itself. The line `NStgid` of `/proc/PID/status` has the ids of the
+-- process in the namespaces around it, and its own last. See proc_pid_status(5) of the Linux manual
+-- pages, a part of proc(5).
 use Rattle.std.specs.Prelude.{◌≡◌, ◌⊎◌, ℕ, ◌-◌, ◌<◌, ◌≤◌, Bool, true, false, ◌==◌, ◌&&◌, ◌||◌, nat_eq, nat_lt, nat_le, List, [], ◌∷◌, ◌++◌, length, take, drop, codes, Option, Some, None, option_map, if◌then◌else◌}
 use Rattle.std.specs.Char.{is_digit}
 use Rattle.std.specs.List.{AllByRecursion, find, list_all, starts_with, suffix_len, after_last}
@@ -29,7 +30,7 @@ pub record IsLastWord (text word : List ℕ) : Type 0 where
   pub back : List ℕ
   pub parts : text ≡ front ++ (word ++ back)
   pub before : EndsBetween front
-  pub some : 0 < length word
+  pub positive : 0 < length word
   pub solid : AllByRecursion (λ b. is_between b ≡ false) word
   pub behind : AllByRecursion (λ b. is_between b ≡ true) back
 
@@ -37,7 +38,8 @@ pub record IsLastWord (text word : List ℕ) : Type 0 where
 abbrev pub greatest : ℕ
 greatest = 4294967295
 
--- a word spells an id: one or more decimal digits, with a plus in front or without one, of a number of 32 bits
+-- a word spells an id: one or more decimal digits, with a plus in front or without one, of a number of
+-- 32 bits
 pub record SpellsId (word : List ℕ) (id : ℕ) : Type 0 where
   pub numeral : IsNumeral 10 (without_leading_plus word)
   pub valued : id ≡ digits_value 10 (without_leading_plus word)
@@ -62,7 +64,8 @@ pub record TellsNone (status : List ℕ) : Type 0 where
   pub are_lines : AreLines status lines
   pub others : AllByRecursion (λ l. has_label l ≡ false) lines
 
--- the text is UTF-8, and behind the label of the first line that begins with it the last word spells the id
+-- the text is UTF-8, and behind the label of the first line that begins with it the last word spells
+-- the id
 pub record TellsId (status : List ℕ) (id : ℕ) : Type 0 where
   pub utf8 : IsUtf8 status
   pub lines : List (List ℕ)
@@ -87,7 +90,8 @@ to_last_word text = take (length text - suffix_len is_between text) text
 abbrev pub last_word : List ℕ → List ℕ
 last_word text = after_last is_between (to_last_word text)
 
--- the number that a word of decimal digits spells, with a plus in front or without one, if it isn't above the greatest
+-- the number that a word of decimal digits spells, with a plus in front or without one, if it isn't
+-- above the greatest
 abbrev pub number_by : List ℕ → Option ℕ
 number_by digits =
     if nat_lt 0 (length digits) && list_all (λ b. is_digit b 10) digits && nat_le (digits_value 10 digits) greatest
@@ -101,11 +105,13 @@ number_in word = number_by (without_leading_plus word)
 abbrev pub labelled : List ℕ → Option (List ℕ)
 labelled status = option_map (drop (length label)) (find has_label (all_lines status))
 
--- the id that stands last behind the label, if there is such a line; nothing is told where no number stands there
+-- the id that stands last behind the label, if there is such a line; nothing is told where no number
+-- stands there
 abbrev pub id_behind : Option (List ℕ) → Option (Option ℕ)
 id_behind None = Some None
 id_behind (Some text) = option_map (λ id. Some id) (number_in (last_word text))
 
--- the id that a status tells, if it has such a line. A text that isn't UTF-8, or has no number there, tells nothing
+-- the id that a status tells, if it has such a line. A text that isn't UTF-8, or has no number there,
+-- tells nothing
 abbrev pub ns_tgid_in : List ℕ → Option (Option ℕ)
 ns_tgid_in status = if is_utf8 status then id_behind (labelled status) else None

@@ -48,7 +48,8 @@ pub fn name_order_agrees()
     ensures partial { (a b : PathName) → ⟦<PathName as PartialOrd>⟧.partial_cmp a b ≡ Some (⟦<PathName as Ord>⟧.cmp a b) }
 {}
 
-/// Paths of mapped files, and names of mappings, are fed to a hasher alike exactly where they are equal.
+/// Paths of mapped files, and names of mappings, are fed to a hasher alike exactly where they are
+/// equal.
 pub fn name_hashes_agree()
     ensures paths { (a b : EntryPath) → IsTrue (⟦<EntryPath as PartialEq>⟧.eq a b) ↔ (⟦<EntryPath as Hash>⟧.hash_input a ≡ ⟦<EntryPath as Hash>⟧.hash_input b) }
     ensures names { (a b : PathName) → IsTrue (⟦<PathName as PartialEq>⟧.eq a b) ↔ (⟦<PathName as Hash>⟧.hash_input a ≡ ⟦<PathName as Hash>⟧.hash_input b) }

@@ -19,7 +19,8 @@ use std::ops::Range;
 /// The paths of a mapped file.
 #[derive(Debug, PartialEq, Eq, PartialOrd, Ord, Hash, Drop)]
 pub struct EntryPath {
-    /// The path in `/proc` that stands for the mapping: it leads to the file, also where that was deleted.
+    /// The path in `/proc` that stands for the mapping: it leads to the file, also where that was
+    /// deleted.
     pub maps_file: String,
     /// The file's own path, as the process sees it, without a mark of deletion.
     pub symbolic_path: String,

@@ -84,7 +84,7 @@ impl PerfMap {
         ensures spared { Told (in_view (F.worlds files.old)) (λ world. has_file (entry_at world (status_path pid)) ≡ false → F.opens files.new ≡ F.opens files.old) }
         ensures most { ReadsOne F.Files files.old files.new }
         ensures files { Looked F.Files files.old files.new (Faulted result) }
-        ensures some { IfOk result (IsOfStatus pid (F.pid files.old)) }
+        ensures untold { IfOk result (IsOfStatus pid (F.pid files.old)) }
         ensures refusal { IfErr result IsReadRefusal }
     {
         let own = files.own_pid();

@@ -24,7 +24,7 @@ pub fn read_maps<F: Files>(alloc: Global, files: &mut F, pid: Pid) -> Result<Vec
     ensures spared { Told (in_view (F.worlds files.old)) (λ world. has_file (entry_at world (maps_path pid)) ≡ false → F.opens files.new ≡ F.opens files.old) }
     ensures most { ReadsOne F.Files files.old files.new }
     ensures files { Looked F.Files files.old files.new (Faulted result) }
-    ensures some { IfOk result (λ entries. AreOfText pid (map mapping_of entries.items)) }
+    ensures untold { IfOk result (λ entries. AreOfText pid (map mapping_of entries.items)) }
     ensures refusal { IfErr result IsReadRefusal }
 {
     let path = maps_path(alloc, pid)?;

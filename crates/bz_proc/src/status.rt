@@ -14,8 +14,8 @@ const LABEL: &[u8] = b"NStgid:";
 pub(crate) const FORM_FEED: u8 = b'\x0c';
 
 /// The id by which the process knows itself, as the text of its status tells it. It is the last word
-/// behind `NStgid:` in the first line that begins so. There is none where no line does. InvalidData: the
-/// text isn't UTF-8, or that word isn't a number of 32 bits.
+/// behind `NStgid:` in the first line that begins so. There is none where no line does. InvalidData:
+/// the text isn't UTF-8, or that word isn't a number of 32 bits.
 pub fn parse_ns_tgid(status: &[u8]) -> Result<Option<u32>>
     ensures ok { IfOk result (λ id. ns_tgid_in status.now ≡ Some id) }
     ensures refusal { IfErr result (λ e. (ns_tgid_in status.now ≡ None) × (e ≡ Error.InvalidData)) }

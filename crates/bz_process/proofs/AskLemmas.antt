@@ -24,7 +24,7 @@ use Rattle.bz_proc.specs.Maps.{Mapping, Name, name_of, owner_of}
 use Rattle.bz_proc.specs.NameOrder.{name_order}
 use Rattle.bz_proc.specs.PerfMap as perf
 use Rattle.bz_proc.specs.declared.maps.PathName.{PathName}
-use Rattle.bz_process.specs.Dispatch.{Adds, Answers, IsSaid, Keeps, Test, kept_for}
+use Rattle.bz_process.specs.Dispatch.{Adds, DispatchAnswers, IsSaid, Keeps, Test, kept_for}
 use Rattle.bz_process.specs.Member.{as_member}
 use Rattle.bz_process.specs.Process.{Batched, StepOutcome, Said, at_address, at_addresses, batched, by_asked, by_mapping, by_owner, by_said, unsaid}
 use Rattle.bz_process.specs.ProcessAsk.{AddsAmong, AddsIn, AsksAddress, AsksAll, AsksFront, AsksNamed, IsAdded, IsSaidAt, IsSaidBy, IsSaidIn, SaidInTurn, next_of, readings}
@@ -259,40 +259,40 @@ module _ {X : Type 0} (files : Ghosts X) (asked : Asked) where
 
 module _ {R : Type 0} (test : Test R) (translates : Translates R) (finds : Finds R) (opts : FindSymOpts) where
   -- what is said is said too where fewer answers were kept before
-  not_kept : (old mid : Answers R) (name : PathName) → Keeps old mid → kept_for mid name ≡ None → kept_for old name ≡ None
+  not_kept : (old mid : DispatchAnswers R) (name : PathName) → Keeps old mid → kept_for mid name ≡ None → kept_for old name ≡ None
   not_kept old mid name keeps none = by_found (kept_for old name) refl
     where
       by_found : (found : Option (Option R)) → kept_for old name ≡ found → kept_for old name ≡ None
       by_found None is = is
       by_found (Some answer) is = let there : None ≡ Some answer = sym none ∙ keeps name answer is in cc there
 
-  said_since : (mapping : Mapping) (name : PathName) (addr : ℕ) (old mid now : Answers R) (said : Said) → Keeps old mid →
+  said_since : (mapping : Mapping) (name : PathName) (addr : ℕ) (old mid now : DispatchAnswers R) (said : Said) → Keeps old mid →
       IsSaid test translates finds opts mapping name addr mid now said → IsSaid test translates finds opts mapping name addr old now said
   said_since mapping name addr old mid now said before (inl refused) =
       inl (record { refusal = refused.refusal; asked = not_kept old mid name before refused.asked; allowed = refused.allowed; refuses = refused.refuses; unfailing = refused.unfailing; is = refused.is })
   said_since mapping name addr old mid now said before (inr kept) = inr kept
 
-  said_in_since : (mapping : Mapping) (name : Option Name) (addr : ℕ) (old mid now : Answers R) (said : Said) → Keeps old mid →
+  said_in_since : (mapping : Mapping) (name : Option Name) (addr : ℕ) (old mid now : DispatchAnswers R) (said : Said) → Keeps old mid →
       IsSaidIn test translates finds opts mapping name addr mid now said → IsSaidIn test translates finds opts mapping name addr old now said
   said_in_since mapping None addr old mid now said before is = is
   said_in_since mapping (Some name) addr old mid now said before is = (is.0, is.1, said_since mapping is.0 addr old mid now said before is.2)
 
-  said_by_since : (owner : Option Mapping) (addr : ℕ) (old mid now : Answers R) (said : Said) → Keeps old mid →
+  said_by_since : (owner : Option Mapping) (addr : ℕ) (old mid now : DispatchAnswers R) (said : Said) → Keeps old mid →
       IsSaidBy test translates finds opts owner addr mid now said → IsSaidBy test translates finds opts owner addr old now said
   said_by_since None addr old mid now said before is = is
   said_by_since (Some mapping) addr old mid now said before is = said_in_since mapping mapping.name addr old mid now said before is
 
   module _ (mappings : List Mapping) where
-    keeps_both : (old mid now : Answers R) → Keeps old mid → Keeps mid now → Keeps old now
+    keeps_both : (old mid now : DispatchAnswers R) → Keeps old mid → Keeps mid now → Keeps old now
     keeps_both old mid now one two name answer kept = two name answer (one name answer kept)
 
     -- what was said in turn was, as later answers are kept
-    turn_longer : (front : List (ℕ × Said)) (old mid now : Answers R) → SaidInTurn test translates finds opts mappings front old mid → Keeps mid now → SaidInTurn test translates finds opts mappings front old now
+    turn_longer : (front : List (ℕ × Said)) (old mid now : DispatchAnswers R) → SaidInTurn test translates finds opts mappings front old mid → Keeps mid now → SaidInTurn test translates finds opts mappings front old now
     turn_longer [] old mid now turn keeps = keeps_both old mid now turn keeps
     turn_longer (item ∷ front) old mid now turn keeps = (turn.0, turn.1, turn.2, turn_longer front turn.0 mid now turn.3 keeps)
 
     -- and something is said for one more address
-    turn_last : (front : List (ℕ × Said)) (item : ℕ × Said) (old mid now : Answers R) → SaidInTurn test translates finds opts mappings front old mid → Keeps mid now →
+    turn_last : (front : List (ℕ × Said)) (item : ℕ × Said) (old mid now : DispatchAnswers R) → SaidInTurn test translates finds opts mappings front old mid → Keeps mid now →
         IsSaidAt test translates finds opts mappings item.0 mid now item.1 → SaidInTurn test translates finds opts mappings (front ++ item ∷ []) old now
     turn_last [] item old mid now turn keeps said =
         (now, keeps_both old mid now turn keeps, said_by_since (owner_of mappings item.0) item.0 old mid now item.1 turn said, λ name answer kept. kept)
@@ -302,7 +302,7 @@ module _ {R : Type 0} (test : Test R) (translates : Translates R) (finds : Finds
     added_among addrs more other answer within is =
         record { addr = is.addr; there = within is.addr is.there; mapping = is.mapping; owner = is.owner; name = is.name; named = is.named; same = is.same; allowed = is.allowed }
 
-    adds_both : (addrs one more : List ℕ) (old mid now : Answers R) → ((addr : ℕ) → Contains addrs addr → Contains more addr) → ((addr : ℕ) → Contains one addr → Contains more addr) →
+    adds_both : (addrs one more : List ℕ) (old mid now : DispatchAnswers R) → ((addr : ℕ) → Contains addrs addr → Contains more addr) → ((addr : ℕ) → Contains one addr → Contains more addr) →
         AddsAmong test mappings addrs old mid → AddsAmong test mappings one mid now → AddsAmong test mappings more old now
     adds_both addrs one more old mid now within within_one first second other answer kept = by_second (second other answer kept)
       where
@@ -325,17 +325,17 @@ module _ {R X : Type 0} (files : Ghosts X) (terms : Terms R) where
       SomeBySaid terms.asked (as_read reading result) old.caches now.caches mapping addr (name_of name) said →
       TakesStep files terms.asked.own reading (by_said terms.asked mapping addr (name_of name) said) result old.caches now.caches before after →
       AsksNamed files terms mapping named addr result old now before after
-  in_named mapping name named addr said result old now before after is allowed faultless some step =
-      rw is (record { said = said; allowed = unless_map result _ _ (λ allowed. (name, refl, allowed)) allowed; faultless = faultless; some = some; step = step })
+  in_named mapping name named addr said result old now before after is allowed faultless untold step =
+      rw is (record { said = said; allowed = unless_map result _ _ (λ allowed. (name, refl, allowed)) allowed; faultless = faultless; untold = untold; step = step })
 
   -- an address of a mapping that is of nothing
-  pub in_unnamed : (mapping : Mapping) (named : Option Name) (addr : ℕ) (result : Result Symbolized Error) (old now : ProcessCaches) (answers : Answers R) (before after : X) → named ≡ None →
+  pub in_unnamed : (mapping : Mapping) (named : Option Name) (addr : ℕ) (result : Result Symbolized Error) (old now : ProcessCaches) (answers : DispatchAnswers R) (before after : X) → named ≡ None →
       TakesStep files terms.asked.own reading (by_asked terms.asked.perf_map terms.asked addr) result old now before after →
       SomeByAsked terms.asked (as_read reading result) old now terms.asked.perf_map addr →
       AsksNamed files terms mapping named addr result (record { caches = old; answers = answers }) (record { caches = now; answers = answers }) before after
-  in_unnamed mapping named addr result old now answers before after is step some = rw is (record { said = None; allowed = unless result _ refl; faultless = tt; some = some; step = step })
+  in_unnamed mapping named addr result old now answers before after is step untold = rw is (record { said = None; allowed = unless result _ refl; faultless = tt; untold = untold; step = step })
 
-  pub adds_named : (mapping : Mapping) (name : PathName) (answers answers_now : Answers R) → mapping.name ≡ Some (name_of name) → Adds terms.test mapping name answers answers_now → AddsIn terms.test mapping answers answers_now
+  pub adds_named : (mapping : Mapping) (name : PathName) (answers answers_now : DispatchAnswers R) → mapping.name ≡ Some (name_of name) → Adds terms.test mapping name answers answers_now → AddsIn terms.test mapping answers answers_now
   adds_named mapping name answers answers_now named adds other answer kept = by_added (adds other answer kept)
     where
       by_added : (kept_for answers other ≡ Some answer) ⊎ ((is_at (name_order other) name ≡ true) × terms.test (as_member mapping (name_of name)) (Ok answer)) →
@@ -350,11 +350,11 @@ module _ {R X : Type 0} (files : Ghosts X) (terms : Terms R) where
       said = None;
       allowed = subst (λ (o : Option Mapping). IsSaidBy terms.test terms.translates terms.finds terms.opts o addr kept.answers kept.answers None) (sym none) refl;
       faultless = tt;
-      some = subst (λ (o : Option Mapping). SomeByOwner terms.asked (Ok (Unknown reasons.Unmapped)) kept.caches kept.caches addr None o) (sym none) (refl, refl);
+      untold = subst (λ (o : Option Mapping). SomeByOwner terms.asked (Ok (Unknown reasons.Unmapped)) kept.caches kept.caches addr None o) (sym none) (refl, refl);
       step = rw none (still files terms.asked.own reading (Unknown reasons.Unmapped) _ kept.caches at refl);
     }
 
-    pub adds_owned : (addr : ℕ) (mapping : Mapping) (answers answers_now : Answers R) → owner_of mappings addr ≡ Some mapping → AddsIn terms.test mapping answers answers_now → AddsAmong terms.test mappings (addr ∷ []) answers answers_now
+    pub adds_owned : (addr : ℕ) (mapping : Mapping) (answers answers_now : DispatchAnswers R) → owner_of mappings addr ≡ Some mapping → AddsIn terms.test mapping answers answers_now → AddsAmong terms.test mappings (addr ∷ []) answers answers_now
     adds_owned addr mapping answers answers_now owner adds other answer kept = by_added (adds other answer kept)
       where
         by_added : (kept_for answers other ≡ Some answer) ⊎ ((own : PathName) × (mapping.name ≡ Some (name_of own)) × (is_at (name_order other) own ≡ true) × terms.test (as_member mapping (name_of own)) (Ok answer)) →
@@ -364,7 +364,7 @@ module _ {R X : Type 0} (files : Ghosts X) (terms : Terms R) where
 
     pub front_none : (given : Vec Symbolized Global) (kept : KeptToAnswer R) (at : X) → given.items ≡ [] → AsksFront files terms mappings [] given kept kept at at
     front_none given kept at is =
-        record { front = []; addrs_are = refl; allowed = λ n a kept. kept; some = (ap (map reading) is, refl); step = step_none files terms.asked mappings given kept.caches at is; keeps = λ n a kept. kept; adds = λ n a kept. inl kept }
+        record { front = []; addrs_are = refl; allowed = λ n a kept. kept; untold = (ap (map reading) is, refl); step = step_none files terms.asked mappings given kept.caches at is; keeps = λ n a kept. kept; adds = λ n a kept. inl kept }
 
     pub front_more : (addrs : List ℕ) (addr : ℕ) (given more : Vec Symbolized Global) (result : Result Symbolized Error) (entry : Symbolized) (old mid now : KeptToAnswer R) (before middle after : X) →
         AsksFront files terms mappings addrs given old mid before middle → AsksAddress files terms mappings addr result mid now middle after →
@@ -376,12 +376,12 @@ module _ {R X : Type 0} (files : Ghosts X) (terms : Terms R) where
       front = front.front ++ (addr, one.said) ∷ [];
       addrs_are = map-append (λ (item : ℕ × Said). item.0) front.front ((addr, one.said) ∷ []) ∙ ap (λ (xs : List ℕ). xs ++ addr ∷ []) front.addrs_are;
       allowed = turn_last terms.test terms.translates terms.finds terms.opts mappings front.front (addr, one.said) old.answers mid.answers now.answers front.allowed keeps (unfailing result entry _ unfailed one.allowed);
-      some =
+      untold =
           let entry_is : reading entry ≡ in_batch (as_read reading result) = is (as_read reading result) (gives_self reading result) in
           let answers_are : readings more ≡ readings given ++ in_batch (as_read reading result) ∷ [] =
           ap (map reading) pushed ∙ map-append reading given.items (entry ∷ []) ∙ ap (λ (a : Answer). readings given ++ a ∷ []) entry_is in
           subst (λ (all : List Answer). SomeAtAddresses terms.asked mappings (front.front ++ (addr, one.said) ∷ []) all old.caches now.caches) (sym answers_are)
-          (some_last terms.asked mappings front.front (addr, one.said) (readings given) (as_read reading result) old.caches mid.caches now.caches front.some one.some (no_failure result entry unfailed));
+          (some_last terms.asked mappings front.front (addr, one.said) (readings given) (as_read reading result) old.caches mid.caches now.caches front.untold one.untold (no_failure result entry unfailed));
       step = step_more files terms.asked mappings front.front (addr, one.said) given more result entry old.caches mid.caches now.caches before middle after front.step one.step is unfailed pushed;
       keeps = keeps_both terms.test terms.translates terms.finds terms.opts mappings old.answers mid.answers now.answers front.keeps keeps;
       adds = adds_both terms.test terms.translates terms.finds terms.opts mappings addrs (addr ∷ []) (addrs ++ addr ∷ []) old.answers mid.answers now.answers
@@ -399,7 +399,7 @@ module _ {R X : Type 0} (files : Ghosts X) (terms : Terms R) where
           addrs_are = all;
           all = refl;
           allowed = front.allowed;
-          some = front.some;
+          untold = front.untold;
           adds = subst (λ (xs : List ℕ). AddsAmong terms.test mappings xs old.answers now.answers) (sym all) front.adds;
           step = rw append-nil front.step;
         }
@@ -416,13 +416,13 @@ module _ {R X : Type 0} (files : Ghosts X) (terms : Terms R) where
       addrs_are = ap (λ (xs : List ℕ). xs ++ (addr ∷ rest)) front.addrs_are ∙ whole_is;
       all = tt;
       allowed = turn_longer terms.test terms.translates terms.finds terms.opts mappings front.front old.answers mid.answers now.answers front.allowed keeps;
-      some = record {
+      untold = record {
         failure = failure;
         answers = readings given;
         middle = mid.caches;
-        some = front.some;
+        untold = front.untold;
         told = λ world seen. (front.step.told world seen).left;
-        ends = inr (one.said, one.faultless, subst (λ (r : Result Symbolized Error). SomeAtAddress terms.asked (as_read reading r) mid.caches now.caches mappings (addr, one.said)) is one.some);
+        ends = inr (one.said, one.faultless, subst (λ (r : Result Symbolized Error). SomeAtAddress terms.asked (as_read reading r) mid.caches now.caches mappings (addr, one.said)) is one.untold);
       };
       adds = subst (λ (xs : List ℕ). AddsAmong terms.test mappings (xs ++ addr ∷ []) old.answers now.answers) (sym front.addrs_are)
           (adds_both terms.test terms.translates terms.finds terms.opts mappings addrs (addr ∷ []) (addrs ++ addr ∷ []) old.answers mid.answers now.answers
@@ -447,11 +447,11 @@ module _ {R X : Type 0} (files : Ghosts X) (terms : Terms R) where
           addrs_are = ap (λ (xs : List ℕ). xs ++ rest) fronts ∙ append_assoc addrs (addr ∷ []) rest ∙ whole_is;
           all = tt;
           allowed = turn_last terms.test terms.translates terms.finds terms.opts mappings front.front (addr, one.said) old.answers mid.answers now.answers front.allowed keeps (unfailing result entry _ unfailed one.allowed);
-          some = record {
+          untold = record {
             failure = tt;
             answers = readings given ++ in_batch (as_read reading result) ∷ [];
             middle = now.caches;
-            some = some_last terms.asked mappings front.front (addr, one.said) (readings given) (as_read reading result) old.caches mid.caches now.caches front.some one.some (no_failure result entry unfailed);
+            untold = some_last terms.asked mappings front.front (addr, one.said) (readings given) (as_read reading result) old.caches mid.caches now.caches front.untold one.untold (no_failure result entry unfailed);
             told = left_more files terms.asked mappings front.front (addr, one.said) given result entry old.caches mid.caches now.caches before middle after front.step one.step unfailed;
             ends = inl (record { memory = refl; unchanged = refl });
           };
@@ -471,7 +471,7 @@ module _ {R X : Type 0} (files : Ghosts X) (terms : Terms R) where
       addrs_are = refl;
       all = tt;
       allowed = λ n a k. k;
-      some = record { failure = tt; answers = []; middle = kept.caches; some = (refl, refl); told = λ world seen. refl; ends = inl (record { memory = refl; unchanged = refl }) };
+      untold = record { failure = tt; answers = []; middle = kept.caches; untold = (refl, refl); told = λ world seen. refl; ends = inl (record { memory = refl; unchanged = refl }) };
       adds = λ n a k. inl k;
       step = wants_memory files terms.asked.own readings (at_addresses terms.asked mappings (map unsaid (next_of addrs))) kept.caches at;
     }

@@ -1,4 +1,5 @@
--- All that caching and forgetting processes promise, from what their parts do; and what is kept stays well kept.
+-- All that caching and forgetting processes promise, from what their parts do; and what is kept stays
+-- well kept.
 use Rattle.std.proofs.Common.{◌≡◌, ℕ, true, false, List, Option, Some, None, Result, Ok, Err, OnOk, OnErr, IfErr, IsOk, ap, ◌∙◌}
 use Rattle.bz_base.specs.declared.error.Error.{Error}
 use Rattle.bz_base.specs.declared.pid.Pid.{Pid}
@@ -14,7 +15,7 @@ use Rattle.bz_proc.specs.SystemText.{IsReadRefusal}
 use Rattle.bz_process.specs.Caches.{ProcessCaches}
 use Rattle.bz_process.specs.Caching.{Caching, KeptMappings, caches_process, mappings_after, with_mappings}
 use Rattle.bz_process.specs.CachingCall.{CachesProcess, MayKeep, MayPin, TakesWhole}
-use Rattle.bz_process.specs.Dispatch.{Answers, Test}
+use Rattle.bz_process.specs.Dispatch.{DispatchAnswers, Test}
 use Rattle.bz_process.specs.Forgetting.{without_path, without_perf_map, without_process}
 use Rattle.bz_process.specs.Process.{pid_cmp}
 use Rattle.bz_process.specs.Processes.{AreWellKept, KeptProcesses, caches_of}
@@ -32,7 +33,7 @@ on_err (Err e) P holds = holds
 
 -- the mappings of this process alone are others
 pub may_keep : (asked : Caching) (result : Result (Unit {0}) Error) (old now : KeptMappings) → asked.vmas ≡ true → OnOk result ((told : List Mapping) × AreOfText asked.pid told × (now ≡ with_mappings asked.pid old told)) → OnOk result (MayKeep asked old now)
-may_keep asked (Ok done) old now wanted kept = record { mappings = kept.0; some = λ _. kept.1; kept = rw wanted kept.2 }
+may_keep asked (Ok done) old now wanted kept = record { mappings = kept.0; untold = λ _. kept.1; kept = rw wanted kept.2 }
 may_keep asked (Err e) old now wanted kept = tt
 
 -- a perf map that is forgotten leaves the others well kept
@@ -61,16 +62,16 @@ module _ {D R X : Type 0} (files : Ghosts X) (asked : Caching) (result : Result 
       ∙ ap (λ (x : List (Pid × Remembered)). record now { perf_maps = old.perf_maps; ids = x }) ids
       ∙ ap (λ (x : KeptMappings). record now { perf_maps = old.perf_maps; ids = old.ids; mappings = x }) mappings
       ∙ ap (λ (x : D). record now { perf_maps = old.perf_maps; ids = old.ids; mappings = old.mappings; dispatcher = x }) dispatcher
-      ∙ ap (λ (x : Answers R). record old { answers = x }) answers
+      ∙ ap (λ (x : DispatchAnswers R). record old { answers = x }) answers
 
   pub caching_promised : Step → Told (in_view (files.worlds before)) (λ world. OnOk result (now.mappings ≡ mappings_after asked world old.mappings)) → OnOk result (MayKeep asked old.mappings now.mappings) →
       ((elf : Cache) → OnOk result (MayPin asked.perf_map asked.pid asked.own (in_view (files.worlds before)) (caches_of elf old) (caches_of elf now))) →
       OnErr result (now.mappings ≡ old.mappings) → IfErr result IsReadRefusal → (asked.vmas ≡ false → asked.perf_map ≡ false → IsOk result) →
       now.dispatcher ≡ old.dispatcher → now.answers ≡ old.answers → Consistent perf.format_test old.perf_maps → CachesProcess files asked result old now before after
-  caching_promised step mappings some pinned err refusal sure dispatcher answers found = record {
+  caching_promised step mappings untold pinned err refusal sure dispatcher answers found = record {
     step = step;
     mappings = mappings;
-    some = some;
+    untold = untold;
     pinned = pinned;
     err = unchanged result (new_cache true) (step (new_cache true)).err err dispatcher answers;
     refusal = refusal;

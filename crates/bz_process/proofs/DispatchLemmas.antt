@@ -14,7 +14,7 @@ use Rattle.bz_proc.specs.NameOrder.{name_order}
 use Rattle.bz_proc.proofs.NameOrderLemmas.{alike_left}
 use Rattle.bz_proc.specs.contracts.maps.PathNameOrd.TheImpl.Laws.{total-law}
 use Rattle.bz_proc.specs.declared.maps.PathName.{PathName}
-use Rattle.bz_process.specs.Dispatch.{Answers, Asks, Test, kept_for}
+use Rattle.bz_process.specs.Dispatch.{Asks, DispatchAnswers, Test, kept_for}
 use Rattle.bz_process.specs.Member.{as_member}
 
 module _ {K V : Type 0} {cmp : K → K → Ordering} (o : IsTotalOrder cmp) (k : K) (v : V) (n : K) where
@@ -56,7 +56,7 @@ pub found_alike : {V : Type 0} (a b : PathName) → name_of a ≡ name_of b → 
 found_alike a b is [] = refl
 found_alike a b is (e ∷ es) = rw (alike_left a b e.0 is, found_alike a b is es) refl
 
-module _ {R : Type 0} (test : Test R) (mapping : Mapping) (name : PathName) (old : Answers R) where
+module _ {R : Type 0} (test : Test R) (mapping : Mapping) (name : PathName) (old : DispatchAnswers R) where
   -- an answer is kept already
   pub asked_before : (answer : Option R) → kept_for old name ≡ Some answer → Asks test mapping name (Ok tt) old old
   asked_before answer is = record { kept = (answer, is); keeps = λ n a kept. kept; adds = λ n a kept. inl kept; refused = tt; refusal = tt; err = tt }
@@ -76,7 +76,7 @@ module _ {R : Type 0} (test : Test R) (mapping : Mapping) (name : PathName) (old
     keeps_by true n answer at kept =
         let alike : kept_for old n ≡ None = found_equal n old at ∙ absent_key in cc (sym alike ∙ kept)
       where
-        found_equal : (n : PathName) (es : Answers R) → is_at (name_order n) key ≡ true → value_at name_order es n ≡ value_at name_order es key
+        found_equal : (n : PathName) (es : DispatchAnswers R) → is_at (name_order n) key ≡ true → value_at name_order es n ≡ value_at name_order es key
         found_equal n [] at = refl
         found_equal n (e ∷ es) at = rw ((eq_by_cmp_equiv name_total).congr n key e.0 at, found_equal n es at) refl
 

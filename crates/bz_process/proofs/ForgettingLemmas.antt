@@ -14,7 +14,7 @@ use Rattle.bz_proc.specs.Maps.{Name, File, Component, name_of}
 use Rattle.bz_proc.specs.NameOrder.{name_order}
 use Rattle.bz_proc.specs.declared.maps.PathName.{PathName}
 use Rattle.bz_proc.specs.declared.maps.PathName.TheVariants as names
-use Rattle.bz_process.specs.Dispatch.{Answers, Test, kept_for}
+use Rattle.bz_process.specs.Dispatch.{DispatchAnswers, Test, kept_for}
 use Rattle.bz_process.specs.Forgetting.{answers_without, has_path}
 use Rattle.bz_process.specs.ProcessAsk.{AreAllowed}
 
@@ -37,7 +37,7 @@ same_name (names.Component a) (names.Component b) is = ap Component (same_text (
 same_name (names.Path a) (names.Component b) is = absurd (false≢true is)
 same_name (names.Component a) (names.Path b) is = absurd (false≢true is)
 
-module _ {R : Type 0} (path : List ℕ) (answers : Answers R) where
+module _ {R : Type 0} (path : List ℕ) (answers : DispatchAnswers R) where
   -- what is kept for a name once those for a path are forgotten
   kept_without : (name : PathName) → kept_for (answers_without path answers) name ≡ cond (not (has_path path (name_of name))) (kept_for answers name) None
   kept_without name =

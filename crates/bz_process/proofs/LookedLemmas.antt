@@ -1,4 +1,5 @@
--- What looks leave of a cache. Each path is as it was or as after its look, and each version as it was or as it lies there.
+-- What looks leave of a cache. Each path is as it was or as after its look, and each version as it was
+-- or as it lies there.
 use Rattle.std.proofs.Common.{◌≡◌, ◌⊎◌, ◌||◌, not, option_and_then, unwrap_or, ap₂, ℕ, Bool, true, false, cond, List, [], ◌∷◌, Option, Some, None, inl, inr, refl, sym, ap, subst, ◌∙◌}
 use Rattle.std.specs.FinMap as map
 use Rattle.std.specs.Cmp.Lexicographic.{nat_list_cmp_total}

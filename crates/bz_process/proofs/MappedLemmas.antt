@@ -88,7 +88,7 @@ module _ (pid : Pid) (known : Option (List Mapping)) where
   -- and are used, where there are some
   pub some_used : (mappings : List Mapping) (result : Result (List Mapping) Error) → AreFrom pid known mappings → result ≡ if_some mappings → IfOk result (AreUsed pid known)
   some_used [] result from is = rw is tt
-  some_used (mapping ∷ later) result from is = rw is (record { from = from; some = refl })
+  some_used (mapping ∷ later) result from is = rw is (record { from = from; positive = refl })
 
 none_lacks : (pid : Pid) (known : Option (List Mapping)) → AreFrom pid known [] → LacksMappings known errors.UnexpectedEof
 none_lacks pid (Some kept) from = ap if_some (sym from)
@@ -139,7 +139,7 @@ module _ {R X : Type 0} (files : Ghosts X) (terms : Terms R) (maps : List (Pid �
     asks_mapped mappings result old now before middle after one used all keeps = record {
       mappings = mappings;
       mapped = λ world seen. on_ok result _ (one.told world seen).answer;
-      used = inl (used, subst (λ (view : Option World). SomeBatch view readings terms.asked mappings all.front all.rest result old.caches now.caches) (ap in_view one.looked.worlds) all.some);
+      used = inl (used, subst (λ (view : Option World). SomeBatch view readings terms.asked mappings all.front all.rest result old.caches now.caches) (ap in_view one.looked.worlds) all.untold);
       tied = λ world seen. inl (one.told world seen).answer;
       front = all.front;
       rest = all.rest;
@@ -177,7 +177,7 @@ module _ {R X : Type 0} (files : Ghosts X) (terms : Terms R) (maps : List (Pid �
     asks_mapped_at mappings result old now before middle after one used asks keeps adds = record {
       mappings = mappings;
       mapped = λ world seen. unless result _ (λ told is. let same : Ok told ≡ Ok mappings = sym is ∙ (one.told world seen).answer in cc same);
-      used = inl (used, asks.some);
+      used = inl (used, asks.untold);
       tied = λ world seen. inl (one.told world seen).answer;
       said = asks.said;
       allowed = asks.allowed;

@@ -1,4 +1,5 @@
--- A dispatcher that never gives a resolver: nothing is said for any address, so the steps are those of the definitions alone.
+-- A dispatcher that never gives a resolver: nothing is said for any address, so the steps are those of
+-- the definitions alone.
 use Rattle.std.proofs.Common.{◌≡◌, ◌⊎◌, ◌≤◌, ℕ, arith, List, [], ◌∷◌, ◌++◌, map, Option, Some, None, Result, Ok, Err, IfOk, OnOk, append-nil, inl, inr, refl, sym, ap, ap₂, subst, ◌∙◌}
 use Rattle.std.proofs.lemmas.Bool.{false≢true}
 use Rattle.std.proofs.lemmas.List.{map-append}
@@ -15,7 +16,7 @@ use Rattle.bz_files.specs.declared.files.Files.{Ghosts}
 use Rattle.bz_cache.specs.Format.{FailsAs}
 use Rattle.bz_proc.specs.Maps.{Mapping, Name, name_of, owner_of}
 use Rattle.bz_proc.specs.declared.maps.PathName.{PathName}
-use Rattle.bz_process.specs.Dispatch.{Answers, IsSaid, Keeps, SaysKept, Test, kept_for}
+use Rattle.bz_process.specs.Dispatch.{DispatchAnswers, IsSaid, Keeps, SaysKept, Test, kept_for}
 use Rattle.bz_process.specs.Mapped.{AreByMappings, AsksProcess, AsksProcessAt, IsByMappings, RefusedUnmapped, UsesMappings, asks_process, asks_process_at, some_mappings}
 use Rattle.bz_process.specs.Member.{Member, as_member}
 use Rattle.bz_process.specs.Process.{Said, at_address, at_addresses, batched, by_mapping, by_owner, by_said, followed, offset_in, unsaid}
@@ -27,7 +28,7 @@ use Rattle.bz_process.specs.Untold.{SomeAtAddress, SomeAtAddresses, as_read}
 use Rattle.bz_process.proofs.AskLemmas.{comes_failed, left_failed}
 
 -- kept answers stay allowed, as each that is added is
-pub allowed_after : {R : Type 0} (test : Test R) (mappings : List Mapping) (addrs : List ℕ) (old now : Answers R) → AreAllowed test old → AddsAmong test mappings addrs old now → AreAllowed test now
+pub allowed_after : {R : Type 0} (test : Test R) (mappings : List Mapping) (addrs : List ℕ) (old now : DispatchAnswers R) → AreAllowed test old → AddsAmong test mappings addrs old now → AreAllowed test now
 allowed_after {R} test mappings addrs old now allowed adds name answer kept = by_added (adds name answer kept)
   where
     by_added : (kept_for old name ≡ Some answer) ⊎ IsAdded test mappings addrs name answer → (member : Member) × test member (Ok answer)
@@ -84,24 +85,24 @@ module _ {R : Type 0} (test : Test R) (translates : Translates R) (finds : Finds
   none_kept offset (Some (Some resolver)) said allowed is =
       let by = allowed (Some resolver) refl in cc (none by.0 (Ok (Some resolver)) by.1)
 
-  none_said : (mapping : Mapping) (name : PathName) (addr : ℕ) (old now : Answers R) (said : Said) → AreAllowed test now → IsSaid test translates finds opts mapping name addr old now said → said ≡ None
+  none_said : (mapping : Mapping) (name : PathName) (addr : ℕ) (old now : DispatchAnswers R) (said : Said) → AreAllowed test now → IsSaid test translates finds opts mapping name addr old now said → said ≡ None
   none_said mapping name addr old now said allowed (inl refused) = cc (none _ (Err refused.refusal) refused.allowed)
   none_said mapping name addr old now said allowed (inr kept) = none_kept (offset_in mapping addr) (kept_for now name) said (λ answer is. allowed name answer is) kept
 
-  none_in : (mapping : Mapping) (name : Option Name) (addr : ℕ) (old now : Answers R) (said : Said) → AreAllowed test now → IsSaidIn test translates finds opts mapping name addr old now said → said ≡ None
+  none_in : (mapping : Mapping) (name : Option Name) (addr : ℕ) (old now : DispatchAnswers R) (said : Said) → AreAllowed test now → IsSaidIn test translates finds opts mapping name addr old now said → said ≡ None
   none_in mapping None addr old now said allowed is = is
   none_in mapping (Some name) addr old now said allowed is = none_said mapping is.0 addr old now said allowed is.2
 
-  none_by : (owner : Option Mapping) (addr : ℕ) (old now : Answers R) (said : Said) → AreAllowed test now → IsSaidBy test translates finds opts owner addr old now said → said ≡ None
+  none_by : (owner : Option Mapping) (addr : ℕ) (old now : DispatchAnswers R) (said : Said) → AreAllowed test now → IsSaidBy test translates finds opts owner addr old now said → said ≡ None
   none_by None addr old now said allowed is = is
   none_by (Some mapping) addr old now said allowed is = none_in mapping mapping.name addr old now said allowed is
 
   -- what is kept when an address is come to stays
-  stays_kept : (mappings : List Mapping) (old now : Answers R) (front : List (ℕ × Said)) → SaidInTurn test translates finds opts mappings front old now → Keeps old now
+  stays_kept : (mappings : List Mapping) (old now : DispatchAnswers R) (front : List (ℕ × Said)) → SaidInTurn test translates finds opts mappings front old now → Keeps old now
   stays_kept mappings old now [] turn = turn
   stays_kept mappings old now (item ∷ front) turn = λ name answer kept. stays_kept mappings turn.0 now front turn.3 name answer (turn.1 name answer kept)
 
-  unsaid_all : (mappings : List Mapping) (old now : Answers R) (front : List (ℕ × Said)) → AreAllowed test now →
+  unsaid_all : (mappings : List Mapping) (old now : DispatchAnswers R) (front : List (ℕ × Said)) → AreAllowed test now →
       SaidInTurn test translates finds opts mappings front old now → front ≡ map unsaid (map (λ item. item.0) front)
   unsaid_all mappings old now [] allowed turn = refl
   unsaid_all mappings old now (item ∷ front) allowed turn =
@@ -110,7 +111,7 @@ module _ {R : Type 0} (test : Test R) (translates : Translates R) (finds : Finds
       (ap (λ (said : Said). (item.0, said)) (none_by (owner_of mappings item.0) item.0 old turn.0 item.1 allowed_then turn.2)) (unsaid_all mappings turn.0 now front allowed turn.3)
 
   -- so a process is asked as the definitions say, with nobody in charge
-  pub nobody_said : {A X : Type 0} (files : Ghosts X) (reading : A → List Answer) (asked : Asked) (known : Option (List Mapping)) (addrs : List ℕ) (result : Result A Error) (old now : ProcessCaches) (answers answers_now : Answers R) (before after : X) →
+  pub nobody_said : {A X : Type 0} (files : Ghosts X) (reading : A → List Answer) (asked : Asked) (known : Option (List Mapping)) (addrs : List ℕ) (result : Result A Error) (old now : ProcessCaches) (answers answers_now : DispatchAnswers R) (before after : X) →
       AreAllowed test answers → AsksProcess files reading test translates finds opts asked known addrs result old now answers answers_now before after →
       TakesStep files asked.own reading (asks_process asked known (map unsaid addrs)) result old now before after
   nobody_said files reading asked known addrs result old now answers answers_now before after allowed asks =
@@ -123,7 +124,7 @@ module _ {R : Type 0} (test : Test R) (translates : Translates R) (finds : Finds
       (step_of_all files reading asked known asks.front asks.rest result old now before after asks.all asks.step)
 
   -- and whatever is told, its answers are by some mappings
-  pub by_mappings : {A X : Type 0} (files : Ghosts X) (reading : A → List Answer) (asked : Asked) (known : Option (List Mapping)) (addrs : List ℕ) (result : Result A Error) (old now : ProcessCaches) (answers answers_now : Answers R) (before after : X) →
+  pub by_mappings : {A X : Type 0} (files : Ghosts X) (reading : A → List Answer) (asked : Asked) (known : Option (List Mapping)) (addrs : List ℕ) (result : Result A Error) (old now : ProcessCaches) (answers answers_now : DispatchAnswers R) (before after : X) →
       AreAllowed test answers → AsksProcess files reading test translates finds opts asked known addrs result old now answers answers_now before after →
       IfOk result (λ given. AreByMappings asked known addrs (reading given) old now)
   by_mappings files reading asked known addrs (Err e) old now answers answers_now before after allowed asks = tt
@@ -136,7 +137,7 @@ module _ {R : Type 0} (test : Test R) (translates : Translates R) (finds : Finds
         | inl used ↦ record {
           mappings = asks.mappings;
           used = used.0;
-          some = subst (λ (xs : List (ℕ × Said)). SomeAtAddresses asked asks.mappings xs (reading given) old now) items used.1;
+          untold = subst (λ (xs : List (ℕ × Said)). SomeAtAddresses asked asks.mappings xs (reading given) old now) items used.1;
         }
         | inr refused ↦ absurd (false≢true refused.refused)
       ]
@@ -188,7 +189,7 @@ module _ {R : Type 0} (test : Test R) (translates : Translates R) (finds : Finds
     failed_so _ said failed step = absurd failed
 
     -- so an address of a process is asked as the definitions say, with nobody in charge
-    pub nobody_said_at : (result : Result Symbolized Error) (answers answers_now : Answers R) → AreAllowed test answers →
+    pub nobody_said_at : (result : Result Symbolized Error) (answers answers_now : DispatchAnswers R) → AreAllowed test answers →
         AsksProcessAt files reading test translates finds opts asked known addr result old now answers answers_now before after → Steps result None
     nobody_said_at result answers answers_now allowed asks = by_result result asks.allowed asks.step
       where
@@ -205,7 +206,7 @@ module _ {R : Type 0} (test : Test R) (translates : Translates R) (finds : Finds
         by_result (Err _) said step = nothing (Err _) said step
 
     -- and whatever is told, its answer or refusal is by some mappings, or it lacks them
-    pub by_mappings_at : (result : Result Symbolized Error) (answers answers_now : Answers R) → AreAllowed test answers →
+    pub by_mappings_at : (result : Result Symbolized Error) (answers answers_now : DispatchAnswers R) → AreAllowed test answers →
         AsksProcessAt files reading test translates finds opts asked known addr result old now answers answers_now before after →
         UnlessFailed result (IsByMappings asked known addr (as_read reading result) old now ⊎ RefusedUnmapped known result old now answers answers_now)
     by_mappings_at result answers answers_now allowed asks = by_result result asks.allowed asks.used
@@ -221,7 +222,7 @@ module _ {R : Type 0} (test : Test R) (translates : Translates R) (finds : Finds
             inl (record {
               mappings = asks.mappings;
               used = used.0;
-              some = subst (λ (said : Said). SomeAtAddress asked (as_read reading result) old now asks.mappings (addr, said)) nothing used.1;
+              untold = subst (λ (said : Said). SomeAtAddress asked (as_read reading result) old now asks.mappings (addr, said)) nothing used.1;
             })
         by_used result said (inr lacks) = inr lacks
 

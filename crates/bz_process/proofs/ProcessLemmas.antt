@@ -118,7 +118,7 @@ module _ {X : Type 0} (files : Ghosts X) (own : ℕ) where
           left = leaves_file own elf.format_test (λ k. k.elf) (λ k c. record k { elf = c }) LookElf (λ w p. refl) (λ p t k. refl) (λ k. refl) read given result kept _ now told.state;
           opened = opened_by (file_opens true kept.elf path (entry_at world path)) _ _ told.spared called.most;
         };
-    reached = reach_file own elf.format_test (λ k. k.elf) (λ k c. record k { elf = c }) LookElf (λ w p. refl) (λ p t k. refl) (λ k. refl) read given (in_view (files.worlds before)) result path kept now _ _ called.told called.some;
+    reached = reach_file own elf.format_test (λ k. k.elf) (λ k c. record k { elf = c }) LookElf (λ w p. refl) (λ p t k. refl) (λ k. refl) read given (in_view (files.worlds before)) result path kept now _ _ called.told called.untold;
     elf = record { consistent = called.consistent; reload = called.reload };
     perf_maps = stays perf.format_test kept.perf_maps;
     looked = called.looked;
@@ -135,7 +135,7 @@ module _ {X : Type 0} (files : Ghosts X) (own : ℕ) where
           left = leaves_file own perf.format_test (λ k. k.perf_maps) (λ k c. record k { perf_maps = c }) LookPerfMap (λ w p. refl) (λ p t k. refl) (λ k. refl) read given result kept _ now told.state;
           opened = opened_by (file_opens true kept.perf_maps path (entry_at world path)) _ _ told.spared called.most;
         };
-    reached = reach_file own perf.format_test (λ k. k.perf_maps) (λ k c. record k { perf_maps = c }) LookPerfMap (λ w p. refl) (λ p t k. refl) (λ k. refl) read given (in_view (files.worlds before)) result path kept now _ _ called.told called.some;
+    reached = reach_file own perf.format_test (λ k. k.perf_maps) (λ k c. record k { perf_maps = c }) LookPerfMap (λ w p. refl) (λ p t k. refl) (λ k. refl) read given (in_view (files.worlds before)) result path kept now _ _ called.told called.untold;
     elf = stays elf.format_test kept.elf;
     perf_maps = record { consistent = called.consistent; reload = called.reload };
     looked = called.looked;

@@ -28,7 +28,7 @@ module _ {D R X : Type 0} (files : Ghosts X) (test : Test R) (translates : Trans
       untaken = λ not. cc (sym taken ∙ not);
       asks = λ t. asks;
       exact = λ none t. nobody_said test translates finds opts none files readings asked (kept_mappings old asked.pid) addrs result (caches_of elf old) (caches_of elf_now now) old.answers now.answers before after well.answers asks;
-      some = λ none t. by_mappings test translates finds opts none files readings asked (kept_mappings old asked.pid) addrs result (caches_of elf old) (caches_of elf_now now) old.answers now.answers before after well.answers asks;
+      untold = λ none t. by_mappings test translates finds opts none files readings asked (kept_mappings old asked.pid) addrs result (caches_of elf old) (caches_of elf_now now) old.answers now.answers before after well.answers asks;
       mappings = mappings;
       dispatcher = dispatcher;
     }
@@ -51,7 +51,7 @@ module _ {D R X : Type 0} (files : Ghosts X) (test : Test R) (translates : Trans
       untaken = λ not. cc (sym taken ∙ not);
       asks = λ t. asks;
       exact = λ none t. nobody_said_at test translates finds opts none files asked (kept_mappings old asked.pid) addr (caches_of elf old) (caches_of elf_now now) before after result old.answers now.answers well.answers asks;
-      some = λ none t. by_mappings_at test translates finds opts none files asked (kept_mappings old asked.pid) addr (caches_of elf old) (caches_of elf_now now) before after result old.answers now.answers well.answers asks;
+      untold = λ none t. by_mappings_at test translates finds opts none files asked (kept_mappings old asked.pid) addr (caches_of elf old) (caches_of elf_now now) before after result old.answers now.answers well.answers asks;
       mappings = mappings;
       dispatcher = dispatcher;
     }

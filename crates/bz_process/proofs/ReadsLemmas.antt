@@ -119,7 +119,8 @@ module _ (world : World) where
     opens_entry (Some Denied) is = omega arith
     opens_entry (Some (Present s b)) is = opens_kept s b (map.get c.kept s) is refl
 
-    -- a look reads a file, and then there is a path less whose present stamp isn't kept, or it refuses the file's bytes
+    -- a look reads a file, and then there is a path less whose present stamp isn't kept, or it refuses
+    -- the file's bytes
     opens_look : Bounded (count_of (will_open c path (entry_at world path))) (look test c path (entry_at world path))
     opens_look = by_fix (fixed c path)
       where
@@ -159,8 +160,8 @@ module _ (world : World) (asked : Asked) (elf_paths perf_paths : List (List ℕ)
   abbrev left : ProcessCaches → ℕ
   left kept = left_to_read asked.pid world elf_paths perf_paths kept
 
-  -- a step reads no more than it takes from what is left to read, but for a file that it refuses. It reads no more than is left to
-  -- read
+  -- a step reads no more than it takes from what is left to read, but for a file that it refuses. It
+  -- reads no more than is left to read
   record Takes (kept : ProcessCaches) (outcome : StepOutcome Answer) : Type 0 where
     taken : outcome.opens + left outcome.left ≤ left kept + count_of (is_refused outcome.answer)
     once : outcome.opens ≤ left kept

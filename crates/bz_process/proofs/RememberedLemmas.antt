@@ -1,4 +1,5 @@
--- What is remembered of a process after looks and remembered ids: what it was, or what its status tells.
+-- What is remembered of a process after looks and remembered ids: what it was, or what its status
+-- tells.
 use Rattle.std.proofs.Common.{◌≡◌, ℕ, Bool, true, false, cond, List, [], ◌∷◌, Option, Some, None, Ok, inl, inr, refl, sym, ap, subst, ◌∙◌}
 use Rattle.std.specs.BTreeMap.{insert_entry, is_at}
 use Rattle.std.specs.Cmp.{IsTotalOrder, unsigned_tied}

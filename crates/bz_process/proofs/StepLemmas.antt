@@ -1,4 +1,5 @@
--- The steps of a process answer are looks and remembered ids, and keep what is kept consistent and coherent.
+-- The steps of a process answer are looks and remembered ids, and keep what is kept consistent and
+-- coherent.
 use Rattle.std.proofs.Common.{◌≡◌, ℕ, Bool, true, false, cond, List, [], ◌∷◌, Option, Some, None, Result, Ok, Err, Contains, slice_index_or, refl, sym, ap, subst, ◌∙◌, arith}
 use Rattle.bz_base.specs.declared.error.Error.{Error}
 use Rattle.bz_files.specs.Agreement.{Agree, AgreeOn}

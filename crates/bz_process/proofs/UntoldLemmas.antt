@@ -67,7 +67,7 @@ module _ (pid : Pid) (own : ℕ) where
   by_known addr result known old mid now is_known mid_is some = inl (record {
     known = known;
     is_known = is_known;
-    some = subst (λ (k : ProcessCaches). FileSome (λ (answer : Answer). answer) (asks_perf_map addr) known.perf_map (as_read reading result) k.perf_maps now) mid_is
+    untold = subst (λ (k : ProcessCaches). FileSome (λ (answer : Answer). answer) (asks_perf_map addr) known.perf_map (as_read reading result) k.perf_maps now) mid_is
         (some_read reading (asks_perf_map addr) known.perf_map result mid.perf_maps now some);
     rest = ap (λ (k : ProcessCaches). record k { perf_maps = now }) mid_is;
   })

@@ -1,4 +1,5 @@
--- The version in view stays the same one over looks at a world that what is kept coheres with, and answers by itself.
+-- The version in view stays the same one over looks at a world that what is kept coheres with, and
+-- answers by itself.
 use Rattle.std.proofs.Common.{◌≡◌, unwrap_or, ℕ, Bool, true, false, cond, List, [], Option, Some, None, option_map, Result, Ok, Err, inl, inr, refl, sym, ap, ◌∙◌}
 use Rattle.std.specs.FinMap as map
 use Rattle.bz_base.specs.declared.error.Error.{Error}

@@ -3,8 +3,9 @@ use Rattle.std.specs.Prelude.{ℕ, Bool}
 use Rattle.bz_base.specs.declared.pid.Pid.{Pid}
 use Rattle.bz_process.specs.declared.query.ProcessQuery.{ProcessQuery}
 
--- which process is asked, and the id of the own one. `perf_map`: its perf map answers for addresses of mappings without a name.
--- `map_files`: mapped files are looked at by the paths that stand for their mappings
+-- which process is asked, and the id of the own one. `perf_map`: its perf map answers for addresses of
+-- mappings without a name. `map_files`: mapped files are looked at by the paths that stand for their
+-- mappings
 pub record Asked : Type 0 where
   pub pid : Pid
   pub own : ℕ

@@ -1,5 +1,5 @@
--- Caching what answers for a process ahead of its addresses: its mappings are kept, its id is remembered, and its perf map is
--- pinned.
+-- Caching what answers for a process ahead of its addresses: its mappings are kept, its id is
+-- remembered, and its perf map is pinned.
 use Rattle.std.specs.Prelude.{ℕ, Bool, true, false, cond, List, Option, Result, Ok, Err}
 use Rattle.std.specs.BTreeMap.{insert_entry}
 use Rattle.std.specs.Option.{option_map_or}
@@ -18,7 +18,8 @@ use Rattle.bz_process.specs.Mapped.{of_text}
 use Rattle.bz_process.specs.Process.{Step, and_then, count_of, gives, pid_cmp, remember}
 use Rattle.bz_process.specs.declared.caching.ProcessCaching.{ProcessCaching}
 
--- which process is cached, and the id of the own one; whether its mappings are kept, and whether its perf map is pinned
+-- which process is cached, and the id of the own one; whether its mappings are kept, and whether its
+-- perf map is pinned
 pub record Caching : Type 0 where
   pub pid : Pid
   pub own : ℕ
@@ -45,7 +46,8 @@ pins_perf_map path world kept = record {
   opens = count_of (will_open (with_pin false kept.perf_maps path) path (entry_at world path));
 }
 
--- where its perf map is asked for, the process is remembered. The perf map is then pinned at the path kept beside the id
+-- where its perf map is asked for, the process is remembered. The perf map is then pinned at the path
+-- kept beside the id
 abbrev pub caches_perf_map : Bool → Pid → ℕ → Step (Unit {0})
 caches_perf_map false pid own = gives tt
 caches_perf_map true pid own = and_then (remember pid own) (λ known. pins_perf_map known.perf_map)

@@ -23,7 +23,8 @@ use Rattle.bz_process.specs.Remembered.{Remembered}
 use Rattle.bz_process.specs.Untold.{IsKnown}
 use Rattle.bz_process.specs.declared.perf_maps.PerfMaps.{PerfMaps}
 
--- what caching may change: what a call may that answers, and whether the path of a perf map is pinned, if it is held
+-- what caching may change: what a call may that answers, and whether the path of a perf map is pinned,
+-- if it is held
 pub data CachingChange : Type 0 where
   Called : Change → CachingChange
   PinPerfMap : Bool → List ℕ → CachingChange
@@ -41,14 +42,15 @@ abbrev pub IsCachedTold : ℕ → World → CachingChange → Type 0
 IsCachedTold own world (Called change) = IsTold own world change
 IsCachedTold own world (PinPerfMap pinned path) = Unit {0}
 
--- some looks, ids and pins lead from one to the other; where the world in view is told, they are those that it tells
+-- some looks, ids and pins lead from one to the other; where the world in view is told, they are those
+-- that it tells
 pub record CachingReaches (own : ℕ) (in_view : Option World) (old now : ProcessCaches) : Type 0 where
   pub changes : List CachingChange
   pub told : Told in_view (λ world. AllByRecursion (IsCachedTold own world) changes)
   pub leads : now ≡ after_caching changes old
 
--- a step of caching where it is told what lies at each path: its answer, and what an answer leaves. It reads no more files than
--- expected
+-- a step of caching where it is told what lies at each path: its answer, and what an answer leaves. It
+-- reads no more files than expected
 pub record HasWhole {A B : Type 0} (reading : A → B) (expected : StepOutcome B) (result : Result A Error) (now : ProcessCaches) (before after : ℕ) : Type 0 where
   pub answer : GivesOrFaults reading expected.answer result
   pub left : OnOk result (now ≡ expected.left)
@@ -73,11 +75,11 @@ StepsPerfMapsWhole files own expected result old now before after =
 pub record MayKeep (asked : Caching) (old now : KeptMappings) : Type 0 where
   pub mappings : List Mapping
   -- whatever is told, some text tells them
-  pub some : asked.vmas ≡ true → AreOfText asked.pid mappings
+  pub untold : asked.vmas ≡ true → AreOfText asked.pid mappings
   pub kept : now ≡ cond asked.vmas (with_mappings asked.pid old mappings) old
 
--- the process is known and is remembered. Its perf map is pinned at the version of a look, or as it is held. Nothing else has
--- changed
+-- the process is known and is remembered. Its perf map is pinned at the version of a look, or as it is
+-- held. Nothing else has changed
 pub record PinsKnown (pid : Pid) (own : ℕ) (in_view : Option World) (old now : ProcessCaches) : Type 0 where
   pub known : Remembered
   pub is_known : IsKnown pid own (value_at pid_cmp old.ids pid) known
@@ -91,12 +93,13 @@ MayPin true pid own in_view old now = PinsKnown pid own in_view old now
 
 -- all that caching a process promises
 pub record CachesProcess {D R X : Type 0} (files : Ghosts X) (asked : Caching) (result : Result (Unit {0}) Error) (old now : KeptProcesses D R) (before after : X) : Type 0 where
-  -- beside any ELF files: where it is told what lies at each path, that answers or refuses. An answer leaves the expected perf maps
-  -- and ids. Whatever is told, looks, ids and pins lead to what is left. The files are only looked at
+  -- beside any ELF files: where it is told what lies at each path, that answers or refuses. An answer
+  -- leaves the expected perf maps and ids. Whatever is told, looks, ids and pins lead to what is left.
+  -- The files are only looked at
   pub step : (elf : Cache) → TakesWhole files asked.own (λ (done : Unit {0}). done) (caches_process asked) result (caches_of elf old) (caches_of elf now) before after
   -- an answer leaves these mappings
   pub mappings : Told (in_view (files.worlds before)) (λ world. OnOk result (now.mappings ≡ mappings_after asked world old.mappings))
-  pub some : OnOk result (MayKeep asked old.mappings now.mappings)
+  pub untold : OnOk result (MayKeep asked old.mappings now.mappings)
   -- and, whatever is told, these perf maps and ids
   pub pinned : (elf : Cache) → OnOk result (MayPin asked.perf_map asked.pid asked.own (in_view (files.worlds before)) (caches_of elf old) (caches_of elf now))
   -- a refusal, whichever it is, changes nothing
@@ -107,6 +110,6 @@ pub record CachesProcess {D R X : Type 0} (files : Ghosts X) (asked : Caching) (
   -- nothing else changes
   pub dispatcher : now.dispatcher ≡ old.dispatcher
   pub answers : now.answers ≡ old.answers
-  -- not what the call does, but what it found: each version of a perf map that was kept is in its format. Callers learn it only
-  -- here, and by it they show that a held version isn't refused
+  -- not what the call does, but what it found: each version of a perf map that was kept is in its
+  -- format. Callers learn it only here, and by it they show that a held version isn't refused
   pub found : Consistent perf.format_test old.perf_maps

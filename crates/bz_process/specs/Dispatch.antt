@@ -21,14 +21,14 @@ use Rattle.bz_process.specs.Process.{Said, offset_in}
 use Rattle.bz_cache.specs.FileCall.{as_answer}
 
 -- the answers of a dispatcher that are kept, by what they are for
-abbrev pub Answers : Type 0 → Type 0
-Answers R = List (PathName × Option R)
+abbrev pub DispatchAnswers : Type 0 → Type 0
+DispatchAnswers R = List (PathName × Option R)
 
-abbrev pub kept_for : {R : Type 0} → Answers R → PathName → Option (Option R)
+abbrev pub kept_for : {R : Type 0} → DispatchAnswers R → PathName → Option (Option R)
 kept_for answers name = value_at name_order answers name
 
 -- each answer that was kept is still kept
-abbrev pub Keeps : {R : Type 0} → Answers R → Answers R → Type 0
+abbrev pub Keeps : {R : Type 0} → DispatchAnswers R → DispatchAnswers R → Type 0
 Keeps {R} old now = (name : PathName) (answer : Option R) → kept_for old name ≡ Some answer → kept_for now name ≡ Some answer
 
 -- what a resolver finds for an address starts there or before it; and it is refused as bytes are
@@ -52,14 +52,16 @@ abbrev pub Test : Type 0 → Type 1
 Test R = Member → Result (Option R) Error → Type 0
 
 module _ {R : Type 0} (test : Test R) (translates : Translates R) (finds : Finds R) (opts : FindSymOpts) where
-  -- what is said by the answer that is kept: the resolver's answer or refusal; nothing where none is in charge
+  -- what is said by the answer that is kept: the resolver's answer or refusal; nothing where none is in
+  -- charge
   abbrev pub SaysKept : Option ℕ → Option (Option R) → Said → Type 0
   SaysKept offset None said = ⊥
   SaysKept offset (Some None) said = said ≡ None
   SaysKept offset (Some (Some resolver)) said = (given : Result Answer Error) × (said ≡ Some given) × MaySay translates finds opts resolver offset given
 
-  -- nothing was kept, and the dispatcher refused the member, by one of the refusals of members; a failure is none
-  pub record RefusesMember (mapping : Mapping) (name : PathName) (old : Answers R) (said : Said) : Type 0 where
+  -- nothing was kept, and the dispatcher refused the member, by one of the refusals of members; a
+  -- failure is none
+  pub record RefusesMember (mapping : Mapping) (name : PathName) (old : DispatchAnswers R) (said : Said) : Type 0 where
     pub refusal : Error
     pub asked : kept_for old name ≡ None
     pub allowed : test (as_member mapping (name_of name)) (Err refusal)
@@ -68,7 +70,7 @@ module _ {R : Type 0} (test : Test R) (translates : Translates R) (finds : Finds
     pub is : said ≡ Some (Err refusal)
 
   -- what is said for an address of a mapping with this name
-  abbrev pub IsSaid : Mapping → PathName → ℕ → Answers R → Answers R → Said → Type 0
+  abbrev pub IsSaid : Mapping → PathName → ℕ → DispatchAnswers R → DispatchAnswers R → Said → Type 0
   IsSaid mapping name addr old now said = RefusesMember mapping name old said ⊎ SaysKept (offset_in mapping addr) (kept_for now name) said
 
 -- what was said, as plain data
@@ -78,12 +80,12 @@ said_of (Ok (Some answer)) = Some (Ok (reading answer))
 said_of (Err e) = Some (Err e)
 
 -- an answer that was added is for the name of the mapping, and the dispatcher's test allows it
-abbrev pub Adds : {R : Type 0} → Test R → Mapping → PathName → Answers R → Answers R → Type 0
+abbrev pub Adds : {R : Type 0} → Test R → Mapping → PathName → DispatchAnswers R → DispatchAnswers R → Type 0
 Adds {R} test mapping name old now = (other : PathName) (answer : Option R) → kept_for now other ≡ Some answer →
     (kept_for old other ≡ Some answer) ⊎ ((is_at (name_order other) name ≡ true) × test (as_member mapping (name_of name)) (Ok answer))
 
 -- the dispatcher was asked for a mapping with this name, where none of its answers was kept
-pub record Asks {R : Type 0} (test : Test R) (mapping : Mapping) (name : PathName) (result : Result (Unit {0}) Error) (old now : Answers R) : Type 0 where
+pub record Asks {R : Type 0} (test : Test R) (mapping : Mapping) (name : PathName) (result : Result (Unit {0}) Error) (old now : DispatchAnswers R) : Type 0 where
   -- an answer is kept then, and what was kept before is as it was
   pub kept : OnOk result ((answer : Option R) × (kept_for now name ≡ Some answer))
   pub keeps : Keeps old now

@@ -7,7 +7,7 @@ use Rattle.bz_cache.specs.Cache.{Cache}
 use Rattle.bz_cache.specs.Eviction.{evicted}
 use Rattle.bz_cache.specs.InsertMap.{value_at, without}
 use Rattle.bz_proc.specs.Maps.{Name, File, Component, name_of}
-use Rattle.bz_process.specs.Dispatch.{Answers}
+use Rattle.bz_process.specs.Dispatch.{DispatchAnswers}
 use Rattle.bz_process.specs.Process.{pid_cmp}
 use Rattle.bz_process.specs.Processes.{KeptProcesses}
 use Rattle.bz_process.specs.Remembered.{Remembered}
@@ -28,7 +28,7 @@ has_path path (File maps_file symbolic_path) = bytes_eq maps_file path || bytes_
 has_path path (Component text) = false
 
 -- the answers that aren't for a file with this path
-abbrev pub answers_without : {R : Type 0} → List ℕ → Answers R → Answers R
+abbrev pub answers_without : {R : Type 0} → List ℕ → DispatchAnswers R → DispatchAnswers R
 answers_without path answers = filter (λ entry. not (has_path path (name_of entry.0))) answers
 
 -- what is kept once those that are for such a file are forgotten

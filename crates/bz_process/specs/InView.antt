@@ -1,5 +1,5 @@
--- What a process answers at an address by the versions in view, where no resolver is in charge. No answer depends on what else was
--- asked.
+-- What a process answers at an address by the versions in view, where no resolver is in charge. No
+-- answer depends on what else was asked.
 use Rattle.std.specs.Prelude.{ℕ, Bool, true, false, cond, List, Option, Some, None, Result, Ok, Err}
 use Rattle.bz_base.specs.Answer.{Answer, Unknown}
 use Rattle.bz_base.specs.declared.error.Error.{Error}

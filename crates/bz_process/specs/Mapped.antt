@@ -15,7 +15,7 @@ use Rattle.bz_proc.specs.Maps.{Mapping}
 use Rattle.bz_proc.specs.MapsFile.{AreOfText, maps_path, maps_told}
 use Rattle.bz_proc.specs.SystemText.{IsReadRefusal}
 use Rattle.bz_base.specs.declared.pid.Pid.{Pid}
-use Rattle.bz_process.specs.Dispatch.{Answers, Keeps, Test}
+use Rattle.bz_process.specs.Dispatch.{DispatchAnswers, Keeps, Test}
 use Rattle.bz_process.specs.Process.{Said, Step, and_then, at_address, at_addresses, count_of, gives, pid_cmp, unsaid}
 use Rattle.bz_process.specs.ProcessAsk.{AddsAmong, IsSaidAt, SaidInTurn, come_to, next_of, readings}
 use Rattle.bz_process.specs.ProcessCall.{TakesStep, UnlessFailed}
@@ -54,7 +54,7 @@ AreFrom pid None mappings = AreOfText pid mappings
 -- and then a process is answered by them, of which there are some
 pub record AreUsed (pid : Pid) (kept : Option (List Mapping)) (mappings : List Mapping) : Type 0 where
   pub from : AreFrom pid kept mappings
-  pub some : if_some mappings ≡ Ok mappings
+  pub positive : if_some mappings ≡ Ok mappings
 
 -- a process lacks mappings where its text is refused, or tells none
 abbrev pub MayLackMappings : Error → Type 0
@@ -68,37 +68,39 @@ LacksMappings (Some kept) e = if_some kept ≡ Err e
 LacksMappings None e = MayLackMappings e
 
 -- a call was refused before it had mappings, and nothing has changed
-pub record RefusedUnmapped {A R : Type 0} (kept : Option (List Mapping)) (result : Result A Error) (old now : ProcessCaches) (answers answers_now : Answers R) : Type 0 where
+pub record RefusedUnmapped {A R : Type 0} (kept : Option (List Mapping)) (result : Result A Error) (old now : ProcessCaches) (answers answers_now : DispatchAnswers R) : Type 0 where
   pub refused : IsErr result
   pub refusal : IfErr result (LacksMappings kept)
   pub unchanged : now ≡ old
   pub unsaid : answers_now ≡ answers
 
--- whatever is told: the call went by these mappings, and what it did follows from them, or it was refused before it had any
-abbrev pub UsesMappings : {A R : Type 0} → Type 0 → Pid → Option (List Mapping) → List Mapping → Result A Error → ProcessCaches → ProcessCaches → Answers R → Answers R → Type 0
+-- whatever is told: the call went by these mappings, and what it did follows from them, or it was
+-- refused before it had any
+abbrev pub UsesMappings : {A R : Type 0} → Type 0 → Pid → Option (List Mapping) → List Mapping → Result A Error → ProcessCaches → ProcessCaches → DispatchAnswers R → DispatchAnswers R → Type 0
 UsesMappings Follows pid kept mappings result old now answers answers_now = (AreUsed pid kept mappings × Follows) ⊎ RefusedUnmapped kept result old now answers answers_now
 
--- whatever is told, a process with nobody in charge gave these answers, by the kept mappings or else those of some text. Each is
--- by some version that a look gave, or refused as a look is, or such as no look is needed for
+-- whatever is told, a process with nobody in charge gave these answers, by the kept mappings or else
+-- those of some text. Each is by some version that a look gave, or refused as a look is, or such as no
+-- look is needed for
 pub record AreByMappings (asked : Asked) (kept : Option (List Mapping)) (addrs : List ℕ) (answers : List Answer) (old now : ProcessCaches) : Type 0 where
   pub mappings : List Mapping
   pub used : AreUsed asked.pid kept mappings
-  pub some : SomeAtAddresses asked mappings (map unsaid addrs) answers old now
+  pub untold : SomeAtAddresses asked mappings (map unsaid addrs) answers old now
 
 -- and so it answered or refused an address alone
 pub record IsByMappings (asked : Asked) (kept : Option (List Mapping)) (addr : ℕ) (given : Result Answer Error) (old now : ProcessCaches) : Type 0 where
   pub mappings : List Mapping
   pub used : AreUsed asked.pid kept mappings
-  pub some : SomeAtAddress asked given old now mappings (unsaid addr)
+  pub untold : SomeAtAddress asked given old now mappings (unsaid addr)
 
 -- all that is asked of a process: its mappings, and the addresses one after another
 abbrev pub asks_process : Asked → Option (List Mapping) → List (ℕ × Said) → Step (List Answer)
 asks_process asked kept items = and_then (some_mappings asked.pid kept) (λ mappings. at_addresses asked mappings items)
 
--- a process was asked by these mappings: something allowed was said for a front of the addresses, and for all where the call is
--- answered
+-- a process was asked by these mappings: something allowed was said for a front of the addresses, and
+-- for all where the call is answered
 pub record AsksProcess {A R X : Type 0} (files : Ghosts X) (reading : A → List Answer) (test : Test R) (translates : Translates R) (finds : Finds R) (opts : FindSymOpts)
-    (asked : Asked) (kept : Option (List Mapping)) (addrs : List ℕ) (result : Result A Error) (old now : ProcessCaches) (answers answers_now : Answers R) (before after : X) : Type 0 where
+    (asked : Asked) (kept : Option (List Mapping)) (addrs : List ℕ) (result : Result A Error) (old now : ProcessCaches) (answers answers_now : DispatchAnswers R) (before after : X) : Type 0 where
   pub mappings : List Mapping
   pub mapped : Told (in_view (files.worlds before)) (λ world. OnOk result ((some_mappings asked.pid kept world old).answer ≡ Ok mappings))
   -- also after a refusal or a failure, unless nothing has changed
@@ -108,8 +110,9 @@ pub record AsksProcess {A R X : Type 0} (files : Ghosts X) (reading : A → List
   pub addrs_are : map (λ item. item.0) front ++ rest ≡ addrs
   pub all : OnOk result (rest ≡ [])
   pub allowed : SaidInTurn test translates finds opts mappings front answers answers_now
-  -- whatever is told, the mappings are the kept ones, or else those of some text. Each answer is by some version that a look gave,
-  -- or refused as a look is. A failure ends the batch, and no address after it is asked
+  -- whatever is told, the mappings are the kept ones, or else those of some text. Each answer is by
+  -- some version that a look gave, or refused as a look is. A failure ends the batch, and no address
+  -- after it is asked
   pub used : UsesMappings (SomeBatch (in_view (files.worlds before)) reading asked mappings front rest result old now) asked.pid kept mappings result old now answers answers_now
   -- kept answers stay, and others are added for owners of the addresses alone that were come to
   pub keeps : Keeps answers answers_now
@@ -122,7 +125,7 @@ asks_process_at asked kept item = and_then (some_mappings asked.pid kept) (λ ma
 
 -- a process was asked for an address alone: by these mappings something allowed was said
 pub record AsksProcessAt {A R X : Type 0} (files : Ghosts X) (reading : A → Answer) (test : Test R) (translates : Translates R) (finds : Finds R) (opts : FindSymOpts)
-    (asked : Asked) (kept : Option (List Mapping)) (addr : ℕ) (result : Result A Error) (old now : ProcessCaches) (answers answers_now : Answers R) (before after : X) : Type 0 where
+    (asked : Asked) (kept : Option (List Mapping)) (addr : ℕ) (result : Result A Error) (old now : ProcessCaches) (answers answers_now : DispatchAnswers R) (before after : X) : Type 0 where
   pub mappings : List Mapping
   pub mapped : Told (in_view (files.worlds before)) (λ world. UnlessFailed result ((told : List Mapping) → (some_mappings asked.pid kept world old).answer ≡ Ok told → told ≡ mappings))
   -- also after a refusal or a failure, unless nothing has changed
@@ -130,8 +133,8 @@ pub record AsksProcessAt {A R X : Type 0} (files : Ghosts X) (reading : A → An
   pub said : Said
   pub allowed : UnlessFailed result (IsSaidAt test translates finds opts mappings addr answers answers_now said)
   pub faultless : SaysNoFault said
-  -- whatever is told, the mappings are the kept ones, or else those of some text. The answer is by some version that a look gave,
-  -- or refused as a look is
+  -- whatever is told, the mappings are the kept ones, or else those of some text. The answer is by some
+  -- version that a look gave, or refused as a look is
   pub used : UsesMappings (SomeAtAddress asked (as_read reading result) old now mappings (addr, said)) asked.pid kept mappings result old now answers answers_now
   pub keeps : Keeps answers answers_now
   pub adds : AddsAmong test mappings (addr ∷ []) answers answers_now

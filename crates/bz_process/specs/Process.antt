@@ -1,4 +1,5 @@
--- What a process answers at an address, step by step: what each step gives, what it leaves, and how many files it reads.
+-- What a process answers at an address, step by step: what each step gives, what it leaves, and how
+-- many files it reads.
 use Rattle.std.specs.Prelude.{ℕ, ◌+◌, ◌-◌, Bool, true, false, cond, List, [], ◌∷◌, Option, Some, None, option_and_then, Result, Ok, Err}
 use Rattle.std.specs.declared.cmp.Ordering.{Ordering}
 use Rattle.bz_base.specs.Answer.{Answer, Unknown, in_batch}
@@ -84,7 +85,8 @@ of_perf_map asked path world kept = record {
 abbrev pub offset_in : Mapping → ℕ → Option ℕ
 offset_in mapping addr = fitting (addr - mapping.start + mapping.offset)
 
--- what an ELF file says of an address as its symbol table has it, if there is one. The module is the path that names the file
+-- what an ELF file says of an address as its symbol table has it, if there is one. The module is the
+-- path that names the file
 abbrev pub elf_by_table : List ℕ → List ℕ → Option ℕ → Answer
 elf_by_table «module» bytes None = Unknown reasons.InvalidFileOffset
 elf_by_table «module» bytes (Some addr) = resolution.answer_at addr (elf_plain.plain (Some «module») bytes addr)
@@ -130,8 +132,8 @@ abbrev pub by_name : Asked → Mapping → ℕ → Name → Step Answer
 by_name asked mapping addr (Component text) = gives (Unknown reasons.Unsupported)
 by_name asked mapping addr (File maps_file symbolic_path) = of_elf (asks_elf symbolic_path (offset_in mapping addr)) (cond asked.map_files maps_file symbolic_path)
 
--- what a dispatcher, or the resolver that it gave, said for an address: an answer or a refusal; none where no resolver is in
--- charge
+-- what a dispatcher, or the resolver that it gave, said for an address: an answer or a refusal; none
+-- where no resolver is in charge
 abbrev pub Said : Type 0
 Said = Option (Result Answer Error)
 

@@ -22,7 +22,8 @@ use Rattle.bz_process.specs.Remembered.{Remembered}
 use Rattle.bz_process.specs.Caches.{ProcessCaches, caches}
 use Rattle.bz_process.specs.declared.perf_maps.PerfMaps.{PerfMaps}
 
--- what may change in what is kept of processes: a look at a path that has this, or a process that is remembered
+-- what may change in what is kept of processes: a look at a path that has this, or a process that is
+-- remembered
 pub data Change : Type 0 where
   LookElf : List ℕ → Option Entry → Change
   LookPerfMap : List ℕ → Option Entry → Change
@@ -43,7 +44,8 @@ IsTold own world (LookElf path there) = there ≡ entry_at world path
 IsTold own world (LookPerfMap path there) = there ≡ entry_at world path
 IsTold own world (Remember pid known) = (id : ℕ) × (ns_tgid_of pid own (entry_at world (status_path pid)) ≡ Ok id) × (known ≡ remembered pid own id)
 
--- some looks and ids lead from one to the other; where the world in view is told, they are those that it tells
+-- some looks and ids lead from one to the other; where the world in view is told, they are those that
+-- it tells
 pub record Reaches (own : ℕ) (in_view : Option World) (old now : ProcessCaches) : Type 0 where
   pub changes : List Change
   pub told : Told in_view (λ world. AllByRecursion (IsTold own world) changes)

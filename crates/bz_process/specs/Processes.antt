@@ -21,7 +21,7 @@ use Rattle.bz_proc.specs.contracts.maps.PathName as path_names
 use Rattle.bz_proc.specs.declared.maps.PathName.{PathName}
 use Rattle.bz_process.specs.Asked.{Asked}
 use Rattle.bz_process.specs.Caches.{ProcessCaches}
-use Rattle.bz_process.specs.Dispatch.{Answers, Test}
+use Rattle.bz_process.specs.Dispatch.{DispatchAnswers, Test}
 use Rattle.bz_process.specs.Mapped.{AreByMappings, AsksProcess, AsksProcessAt, IsByMappings, RefusedUnmapped, asks_process, asks_process_at}
 use Rattle.bz_process.specs.Process.{pid_cmp, unsaid}
 use Rattle.bz_process.specs.ProcessAsk.{AreAllowed, GivesNone, readings}
@@ -31,14 +31,14 @@ use Rattle.bz_process.specs.Remembered.{Remembered, coded_remembered}
 use Rattle.bz_process.specs.Terms.{Terms}
 use Rattle.bz_process.specs.contracts.mapped.Mapped as mappeds
 
--- the perf maps, what is remembered of each process, the mappings that are kept, the dispatcher, and those of its answers that
--- are kept
+-- the perf maps, what is remembered of each process, the mappings that are kept, the dispatcher, and
+-- those of its answers that are kept
 pub record KeptProcesses (D R : Type 0) : Type 0 where
   pub perf_maps : Cache
   pub ids : List (Pid × Remembered)
   pub mappings : List (Pid × List Mapping)
   pub dispatcher : D
-  pub answers : Answers R
+  pub answers : DispatchAnswers R
 
 -- nothing is kept
 abbrev pub new_processes : {D R : Type 0} → Bool → D → KeptProcesses D R
@@ -77,13 +77,15 @@ pub record SymbolizesProcess {A D R X : Type 0} (files : Ghosts X) (reading : A 
     (asked : Asked) (kind : AddressKind) (addrs : List ℕ) (result : Result A Error) (elf elf_now : Cache) (old now : KeptProcesses D R) (before after : X) : Type 0 where
   -- another kind of address is refused before any look
   pub untaken : is_in_process kind ≡ false → IsErrOf result errors.Unsupported × (elf_now ≡ elf) × (now ≡ old) × (after ≡ before)
-  -- the addresses are asked one after another, by the mappings that are kept or else by those that lie there
+  -- the addresses are asked one after another, by the mappings that are kept or else by those that lie
+  -- there
   pub asks : is_in_process kind ≡ true → AsksProcess files reading test translates finds opts asked (kept_mappings old asked.pid) addrs result (caches_of elf old) (caches_of elf_now now) old.answers now.answers before after
-  -- with a dispatcher that gives no resolver and refuses nothing, answer and state are those of the definitions
+  -- with a dispatcher that gives no resolver and refuses nothing, answer and state are those of the
+  -- definitions
   pub exact : GivesNone test → is_in_process kind ≡ true →
       TakesStep files asked.own reading (asks_process asked (kept_mappings old asked.pid) (map unsaid addrs)) result (caches_of elf old) (caches_of elf_now now) before after
   -- and whatever is told, the answers are by some mappings
-  pub some : GivesNone test → is_in_process kind ≡ true → IfOk result (λ given. AreByMappings asked (kept_mappings old asked.pid) addrs (reading given) (caches_of elf old) (caches_of elf_now now))
+  pub untold : GivesNone test → is_in_process kind ≡ true → IfOk result (λ given. AreByMappings asked (kept_mappings old asked.pid) addrs (reading given) (caches_of elf old) (caches_of elf_now now))
   -- nothing else changes
   pub mappings : now.mappings ≡ old.mappings
   pub dispatcher : now.dispatcher ≡ old.dispatcher
@@ -95,11 +97,13 @@ pub record SymbolizesAddress {A D R X : Type 0} (files : Ghosts X) (reading : A 
   pub untaken : is_in_process kind ≡ false → IsErrOf result errors.Unsupported × (elf_now ≡ elf) × (now ≡ old) × (after ≡ before)
   -- the address is asked, by the mappings that are kept or else by those that lie there
   pub asks : is_in_process kind ≡ true → AsksProcessAt files reading test translates finds opts asked (kept_mappings old asked.pid) addr result (caches_of elf old) (caches_of elf_now now) old.answers now.answers before after
-  -- with a dispatcher that gives no resolver and refuses nothing, answer and state are those of the definitions
+  -- with a dispatcher that gives no resolver and refuses nothing, answer and state are those of the
+  -- definitions
   pub exact : GivesNone test → is_in_process kind ≡ true →
       TakesStep files asked.own reading (asks_process_at asked (kept_mappings old asked.pid) (unsaid addr)) result (caches_of elf old) (caches_of elf_now now) before after
-  -- and whatever is told, the answer or refusal is by some mappings, or it is refused for want of mappings
-  pub some : GivesNone test → is_in_process kind ≡ true → UnlessFailed result (IsByMappings asked (kept_mappings old asked.pid) addr (as_read reading result) (caches_of elf old) (caches_of elf_now now)
+  -- and whatever is told, the answer or refusal is by some mappings, or it is refused for want of
+  -- mappings
+  pub untold : GivesNone test → is_in_process kind ≡ true → UnlessFailed result (IsByMappings asked (kept_mappings old asked.pid) addr (as_read reading result) (caches_of elf old) (caches_of elf_now now)
       ⊎ RefusedUnmapped (kept_mappings old asked.pid) result (caches_of elf old) (caches_of elf_now now) old.answers now.answers)
   -- nothing else changes
   pub mappings : now.mappings ≡ old.mappings

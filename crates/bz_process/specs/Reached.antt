@@ -1,5 +1,5 @@
--- What a call on a process leaves of what is kept, whatever it answers. Versions cohere, and each path and each process is as it
--- was, or as what lies there tells.
+-- What a call on a process leaves of what is kept, whatever it answers. Versions cohere, and each path
+-- and each process is as it was, or as what lies there tells.
 use Rattle.std.specs.Prelude.{◌≡◌, ◌⊎◌, ℕ, List, Option, Some, None, Ok}
 use Rattle.std.specs.FinMap as map
 use Rattle.bz_base.specs.declared.pid.Pid.{Pid}

@@ -21,8 +21,8 @@ abbrev pub unkept : World → Cache → List (List ℕ) → ℕ
 unkept world cache [] = 0
 unkept world cache (path ∷ later) = count_of (is_new cache (entry_at world path)) + unkept world cache later
 
--- how many files may have to be read: those at these paths whose present stamp isn't kept. The status of a process that isn't
--- remembered counts too
+-- how many files may have to be read: those at these paths whose present stamp isn't kept. The status
+-- of a process that isn't remembered counts too
 abbrev pub left_to_read : Pid → World → List (List ℕ) → List (List ℕ) → ProcessCaches → ℕ
 left_to_read pid world elf_paths perf_paths kept =
     unkept world kept.elf elf_paths + (unkept world kept.perf_maps perf_paths + count_of (not (is_some (value_at pid_cmp kept.ids pid))))
@@ -32,8 +32,8 @@ abbrev pub perf_path : Result Remembered Error → List (List ℕ)
 perf_path (Ok known) = known.perf_map ∷ []
 perf_path (Err e) = []
 
--- how many files a call may read once, where mapped files are at these paths: those left to read. The text of the mappings counts
--- too, if none are kept
+-- how many files a call may read once, where mapped files are at these paths: those left to read. The
+-- text of the mappings counts too, if none are kept
 abbrev pub reads_once : Asked → World → List (List ℕ) → Option (List Mapping) → ProcessCaches → ℕ
 reads_once asked world paths known kept =
     count_of (not (is_some known)) + left_to_read asked.pid world paths (perf_path (remember asked.pid asked.own world kept).answer) kept
@@ -49,8 +49,8 @@ abbrev pub ignored : List Answer → ℕ
 ignored [] = 0
 ignored (answer ∷ later) = count_of (is_ignored answer) + ignored later
 
--- a file that was read and refused for its bytes may be read again, once for each address that is refused. Where the call isn't
--- answered, it may be for each address
+-- a file that was read and refused for its bytes may be read again, once for each address that is
+-- refused. Where the call isn't answered, it may be for each address
 abbrev pub reads_again : {A : Type 0} → (A → List Answer) → List ℕ → Result A Error → ℕ
 reads_again reading addrs (Ok given) = ignored (reading given)
 reads_again reading addrs (Err e) = length addrs

@@ -6,8 +6,8 @@ use Rattle.bz_base.specs.declared.types.FindSymOpts.{FindSymOpts}
 use Rattle.bz_cache.specs.Cache.{Cache}
 use Rattle.bz_process.specs.Asked.{Asked, asked_of}
 use Rattle.bz_process.specs.Caches.{ProcessCaches, caches}
-use Rattle.bz_process.specs.Dispatch.{Answers, Test}
-use Rattle.bz_process.specs.declared.answering.Answering.{Answering}
+use Rattle.bz_process.specs.Dispatch.{DispatchAnswers, Test}
+use Rattle.bz_process.specs.declared.answering.Answerer.{Answerer}
 use Rattle.bz_process.specs.declared.dispatch.ProcessDispatch.{Ghosts as Dispatches}
 use Rattle.bz_process.specs.declared.query.ProcessQuestion.{ProcessQuestion}
 
@@ -23,10 +23,11 @@ pub record Terms (R : Type 0) : Type 1 where
   -- which process is asked, and how
   pub asked : Asked
 
--- what is kept to answer for processes: files, what is remembered of processes, and the answers of the dispatcher
+-- what is kept to answer for processes: files, what is remembered of processes, and the answers of the
+-- dispatcher
 pub record KeptToAnswer (R : Type 0) : Type 0 where
   pub caches : ProcessCaches
-  pub answers : Answers R
+  pub answers : DispatchAnswers R
 
 module _ {D R : Type 0} where
   -- a process is asked so, under a dispatcher and resolvers that may say what these tests allow
@@ -35,10 +36,10 @@ module _ {D R : Type 0} where
       record { test = dispatches.may_dispatch dispatcher; translates = translates; finds = finds; opts = opts; asked = asked }
 
   -- a question, where the own process has this id, under what is kept of a dispatcher
-  abbrev pub terms_of : Dispatches D R → Translates R → Finds R → Answering D R → ProcessQuestion → ℕ → Terms R
+  abbrev pub terms_of : Dispatches D R → Translates R → Finds R → Answerer D R → ProcessQuestion → ℕ → Terms R
   terms_of dispatches translates finds answering question own =
       terms_by dispatches translates finds answering.dispatching.dispatch question.opts.now (asked_of own question.query.now)
 
   -- the ELF files beside what else answers
-  abbrev pub kept_by : Cache → Answering D R → KeptToAnswer R
+  abbrev pub kept_by : Cache → Answerer D R → KeptToAnswer R
   kept_by elf answering = record { caches = caches elf answering.perf_maps; answers = answering.dispatching.answers }

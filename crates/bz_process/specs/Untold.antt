@@ -1,4 +1,5 @@
--- What addresses of a process are answered where files tell nothing: by some version that a look gave, or refused as a look is.
+-- What addresses of a process are answered where files tell nothing: by some version that a look gave,
+-- or refused as a look is.
 use Rattle.std.specs.Prelude.{◌≡◌, ◌⊎◌, ℕ, Bool, true, false, cond, List, [], ◌∷◌, Option, Some, None, Result, Ok, Err, IfErr, IsErr}
 use Rattle.bz_base.specs.Answer.{Answer, Unknown, in_batch}
 use Rattle.bz_base.specs.Refusals.{IsFailure}
@@ -41,14 +42,15 @@ module _ (given : Result Answer Error) (old now : ProcessCaches) where
 
   -- a version of the ELF file at the path answers, or a look at it is refused; nothing else has changed
   pub record LooksAtElf (question : Question Answer) (path : List ℕ) : Type 0 where
-    pub some : FileSome (λ (answer : Answer). answer) question path given old.elf now.elf
+    pub untold : FileSome (λ (answer : Answer). answer) question path given old.elf now.elf
     pub rest : now ≡ record old { elf = now.elf }
 
-  -- the process is known, and is remembered; a version of its perf map answers, or a look at that is refused
+  -- the process is known, and is remembered; a version of its perf map answers, or a look at that is
+  -- refused
   pub record LooksByKnown (pid : Pid) (own addr : ℕ) : Type 0 where
     pub known : Remembered
     pub is_known : IsKnown pid own (value_at pid_cmp old.ids pid) known
-    pub some : FileSome (λ (answer : Answer). answer) (asks_perf_map addr) known.perf_map given old.perf_maps now.perf_maps
+    pub untold : FileSome (λ (answer : Answer). answer) (asks_perf_map addr) known.perf_map given old.perf_maps now.perf_maps
     pub rest : now ≡ record old { perf_maps = now.perf_maps; ids = with_absent pid_cmp old.ids pid known }
 
   -- the process isn't known, and nothing has changed
@@ -64,7 +66,7 @@ module _ (given : Result Answer Error) (old now : ProcessCaches) where
 -- the same, where a file that is absent makes the address unknown
 pub record LooksSoftly (given : Result Answer Error) (old now : ProcessCaches) (pid : Pid) (own addr : ℕ) : Type 0 where
   pub looked : Result Answer Error
-  pub some : LooksAtPerfMap looked old now pid own addr
+  pub untold : LooksAtPerfMap looked old now pid own addr
   pub softened : given ≡ or_unknown looked
 
 -- an address, by the mappings of its process
@@ -97,8 +99,8 @@ abbrev pub Unfailing : Result Answer Error → Type 0
 Unfailing (Ok answer) = Unit {0}
 Unfailing (Err e) = IsFailure e → ⊥
 
--- addresses one after another, each by what those before it left: their answers, where a refused address is an ignored error; none
--- has failed
+-- addresses one after another, each by what those before it left: their answers, where a refused
+-- address is an ignored error; none has failed
 abbrev pub SomeAtAddresses : Asked → List Mapping → List (ℕ × Said) → List Answer → ProcessCaches → ProcessCaches → Type 0
 SomeAtAddresses asked mappings [] answers old now = (answers ≡ []) × (now ≡ old)
 SomeAtAddresses asked mappings (item ∷ items) answers old now =
@@ -120,12 +122,13 @@ abbrev pub FailsAtNext : Asked → List Mapping → List ℕ → Error → Proce
 FailsAtNext asked mappings [] e old now = ⊥
 FailsAtNext asked mappings (addr ∷ later) e old now = (said : Said) × SaysNoFault said × SomeAtAddress asked (Err e) old now mappings (addr, said)
 
--- a batch failed: these addresses were answered one after another, and then memory ran out, or the next one failed
+-- a batch failed: these addresses were answered one after another, and then memory ran out, or the next
+-- one failed
 pub record FailsInTurn (in_view : Option World) (asked : Asked) (mappings : List Mapping) (front : List (ℕ × Said)) (rest : List ℕ) (e : Error) (old now : ProcessCaches) : Type 0 where
   pub failure : IsFailure e
   pub answers : List Answer
   pub middle : ProcessCaches
-  pub some : SomeAtAddresses asked mappings front answers old middle
+  pub untold : SomeAtAddresses asked mappings front answers old middle
   -- where the world is told, these addresses left what is expected
   pub told : Told in_view (λ world. middle ≡ (batched asked mappings front world old).left)
   pub ends : LacksMemory e middle now ⊎ FailsAtNext asked mappings rest e middle now

@@ -22,14 +22,14 @@ use std::alloc::Global;
 
 /// What answers for processes beside the ELF files.
 #[derive(Drop)]
-pub(crate) struct Answering<D: ProcessDispatch + Drop> {
+pub(crate) struct Answerer<D: ProcessDispatch + Drop> {
     /// The perf maps, and what is remembered of processes.
     pub(crate) perf_maps: PerfMaps,
     /// A dispatcher with its answers.
     pub(crate) dispatching: Dispatching<D>,
 }
 
-impl<D: ProcessDispatch + Drop> Answering<D> {
+impl<D: ProcessDispatch + Drop> Answerer<D> {
     /// The answers to addresses by the mappings that are kept, or else by those of the text that lies
     /// there.
     pub(crate) fn ask_batch<F: Files>(
@@ -112,8 +112,8 @@ impl<D: ProcessDispatch + Drop> Answering<D> {
         }
     }
 
-    // The answer to an address of a mapping. The resolver that is in charge of its name answers, or else the
-    // mapped file itself; without a name the perf map does.
+    // The answer to an address of a mapping. The resolver that is in charge of its name answers, or
+    // else the mapped file itself; without a name the perf map does.
     fn in_mapping<F: Files>(
         &mut self,
         elf: &mut FileCache<ElfFile>,

@@ -45,7 +45,7 @@ pub(crate) fn cache_process<F: Files>(
 ) -> Result<()>
     ensures step { StepsPerfMapsWhole F.Files (F.pid files.old) (caches_process (caching_of (F.pid files.old) request.now)) result perf_maps.old perf_maps.new files.old files.new }
     ensures mappings { Told (in_view (F.worlds files.old)) (λ world. OnOk result (mappings.new ≡ mappings_after (caching_of (F.pid files.old) request.now) world mappings.old)) }
-    ensures some { OnOk result (MayKeep (caching_of (F.pid files.old) request.now) mappings.old mappings.new) }
+    ensures untold { OnOk result (MayKeep (caching_of (F.pid files.old) request.now) mappings.old mappings.new) }
     ensures pinned { (elf : Cache) → OnOk result (MayPin request.now.cache_perf_map request.now.pid (F.pid files.old) (in_view (F.worlds files.old)) (caches elf perf_maps.old) (caches elf perf_maps.new)) }
     ensures err { OnErr result (mappings.new ≡ mappings.old) }
     ensures refusal { IfErr result IsReadRefusal }
@@ -68,7 +68,7 @@ fn cache_mapped<F: Files>(
 ) -> Result<()>
     ensures step { StepsPerfMapsWhole F.Files (F.pid files.old) (after_mappings true request.now.pid (caches_perf_map request.now.cache_perf_map request.now.pid (F.pid files.old))) result perf_maps.old perf_maps.new files.old files.new }
     ensures mappings { Told (in_view (F.worlds files.old)) (λ world. OnOk result (mappings.new ≡ with_told request.now.pid mappings.old (maps_told request.now.pid (entry_at world (maps_path request.now.pid))))) }
-    ensures some { OnOk result ((told : List Mapping) × AreOfText request.now.pid told × (mappings.new ≡ with_mappings request.now.pid mappings.old told)) }
+    ensures untold { OnOk result ((told : List Mapping) × AreOfText request.now.pid told × (mappings.new ≡ with_mappings request.now.pid mappings.old told)) }
     ensures pinned { (elf : Cache) → OnOk result (MayPin request.now.cache_perf_map request.now.pid (F.pid files.old) (in_view (F.worlds files.old)) (caches elf perf_maps.old) (caches elf perf_maps.new)) }
     ensures err { OnErr result (mappings.new ≡ mappings.old) }
     ensures refusal { IfErr result IsReadRefusal }

@@ -11,8 +11,8 @@ ghost use Rattle.bz_process.specs.Forgetting.{without_process};
 ghost use Rattle.bz_process.specs.Processes.{KeptProcesses};
 ghost use Rattle.bz_process.specs.Reached.{CohereWithAll};
 
-/// Where kept versions cohere with all of some worlds that agree, they still do after a process was cached
-/// in one of them, or forgotten.
+/// Where kept versions cohere with all of some worlds that agree, they still do after a process was
+/// cached in one of them, or forgotten.
 pub fn caching_stays_coherent<D, R>()
     ensures cached { (own : ℕ) (worlds : List World) (world : World) (old now : ProcessCaches) →
         Agree worlds → Contains worlds world → CachingReaches own (Some world) old now →

@@ -21,8 +21,8 @@ ghost use Rattle.bz_process.specs.declared.dispatch.ProcessMemberInfo.{ProcessMe
 use crate::dispatch::{ProcessDispatch, ProcessMemberInfo};
 use bz_files::Files;
 
-/// Whatever a call on a process answers, looks and remembered ids lead from what was kept to what is kept.
-/// Where the world is told, they are those that it tells.
+/// Whatever a call on a process answers, looks and remembered ids lead from what was kept to what is
+/// kept. Where the world is told, they are those that it tells.
 pub fn calls_are_looks<D: ProcessDispatch + Drop, F: Files, A>()
     ensures batch { (call : BatchCalled A F.Files D.may_dispatch D.Resolver.TranslateFileOffset D.Resolver.Symbolize) →
         SymbolizesBatch call → Reaches call.asked.own (view_before call) (caches_before call) (caches_after call) }
@@ -40,16 +40,17 @@ pub fn looks_stay_coherent()
 {}
 
 /// After a call on a process, whatever it answers, each path is as it was or as after its look. Each
-/// version that is kept anew lies at some path. What is remembered of each process is what it was or what
-/// its present status tells.
+/// version that is kept anew lies at some path. What is remembered of each process is what it was or
+/// what its present status tells.
 pub fn paths_are_as_looked()
     ensures { (own : ℕ) (world : World) (old now : ProcessCaches) → Reaches own (Some world) old now → AreLookedOver own world old now }
 {}
 
-/// Take a dispatcher that gives no resolver and refuses nothing, and versions that cohere with the world in
-/// view. What is in view when the call begins then answers each address alone, in a batch and by itself.
-/// In a batch a refusal is an ignored error. So entries stand alone, and addresses in another order have
-/// their answers in that order. An entry is the answer of the single call or folds its refusal.
+/// Take a dispatcher that gives no resolver and refuses nothing, and versions that cohere with the
+/// world in view. What is in view when the call begins then answers each address alone, in a batch and
+/// by itself. In a batch a refusal is an ignored error. So entries stand alone, and addresses in
+/// another order have their answers in that order. An entry is the answer of the single call or folds
+/// its refusal.
 pub fn entries_are_in_view<D: ProcessDispatch + Drop, F: Files, A>()
     ensures batch { (call : BatchCalled A F.Files D.may_dispatch D.Resolver.TranslateFileOffset D.Resolver.Symbolize) (world : World) →
         SymbolizesBatch call → GoesByView world call → IfOk call.result (λ answers. call.reading answers ≡ map (entry_in_view world call) call.input) }
@@ -73,8 +74,8 @@ pub fn reads_are_few<D: ProcessDispatch + Drop, F: Files, A>()
         ReadsAtMost call (once_read world paths call) }
 {}
 
-/// A clone of what a process has mapped has the same range and refers to the same name. Cloning takes no
-/// memory.
+/// A clone of what a process has mapped has the same range and refers to the same name. Cloning takes
+/// no memory.
 pub fn member_clones_are_equal()
     ensures clone { (a b : ProcessMemberInfo) → ⟦<ProcessMemberInfo<'static> as Clone>⟧.is_clone a b ↔ (a ≡ b) }
     ensures no_memory { (a : ProcessMemberInfo) → ⟦<ProcessMemberInfo<'static> as Clone>⟧.is_infallible a }

@@ -1,5 +1,5 @@
-//! What is answered for addresses of a process: by its mappings, the files that they name, and its perf map.
-//! A perf map is a text in which a process lists the functions that it made while it ran.
+//! What is answered for addresses of a process: by its mappings, the files that they name, and its perf
+//! map. A perf map is a text in which a process lists the functions that it made while it ran.
 //! A dispatcher answers for what only the caller knows.
 #![tactic(auto)]
 

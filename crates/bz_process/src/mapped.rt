@@ -75,7 +75,7 @@ pub(crate) fn some_mappings<F: Files>(
     pid: Pid,
 ) -> Result<Mapped>
     ensures step { (own : ℕ) (kept : ProcessCaches) → TakesStep F.Files own (λ (mapped : List Mapping). mapped) (some_mappings pid (value_at pid_cmp mappings.old pid)) result kept kept files.old files.new }
-    ensures some { IfOk result (AreUsed pid (value_at pid_cmp mappings.old pid)) }
+    ensures untold { IfOk result (AreUsed pid (value_at pid_cmp mappings.old pid)) }
     ensures refusal { IfErr result (LacksMappings (value_at pid_cmp mappings.old pid)) }
     ensures mappings { mappings.new ≡ mappings.old }
 {
@@ -91,7 +91,7 @@ fn known_or_read<F: Files>(
     pid: Pid,
 ) -> Result<Mapped>
     ensures step { (own : ℕ) (kept : ProcessCaches) → TakesStep F.Files own (λ (mapped : List Mapping). mapped) (mappings_of pid (value_at pid_cmp mappings.old pid)) result kept kept files.old files.new }
-    ensures some { IfOk result (AreFrom pid (value_at pid_cmp mappings.old pid)) }
+    ensures untold { IfOk result (AreFrom pid (value_at pid_cmp mappings.old pid)) }
     ensures refusal { IfErr result (LacksMappings (value_at pid_cmp mappings.old pid)) }
     ensures mappings { mappings.new ≡ mappings.old }
 {
@@ -104,7 +104,7 @@ fn known_or_read<F: Files>(
 /// The mappings of the text that lies there.
 pub(crate) fn read_mapped<F: Files>(alloc: Global, files: &mut F, pid: Pid) -> Result<Mapped>
     ensures step { (own : ℕ) (kept : ProcessCaches) → TakesStep F.Files own (λ (mapped : List Mapping). mapped) (of_text (maps_told pid) (maps_path pid)) result kept kept files.old files.new }
-    ensures some { IfOk result (AreOfText pid) }
+    ensures untold { IfOk result (AreOfText pid) }
     ensures refusal { IfErr result IsReadRefusal }
 {
     let mappings = read_mappings(alloc, files, pid)?;
@@ -118,7 +118,7 @@ fn read_mappings<F: Files>(alloc: Global, files: &mut F, pid: Pid) -> Result<Map
     ensures spared { Told (in_view (F.worlds files.old)) (λ world. has_file (entry_at world (maps_path pid)) ≡ false → F.opens files.new ≡ F.opens files.old) }
     ensures most { ReadsOne F.Files files.old files.new }
     ensures files { Looked F.Files files.old files.new (Faulted result) }
-    ensures some { IfOk result (AreOfText pid) }
+    ensures untold { IfOk result (AreOfText pid) }
     ensures refusal { IfErr result IsReadRefusal }
 {
     let entries = read_maps(alloc, files, pid)?;

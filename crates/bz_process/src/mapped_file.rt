@@ -1,8 +1,8 @@
 //! Files that processes have mapped.
 
-ghost use Rattle.std.specs.Prelude.{◌≡◌, ℕ, Ok, None, Some, cond, option_and_then, string_bytes, IfOk, IsOk, IsOkUnless};
-ghost use Rattle.bz_base.specs.Answer.{reading, resolved_of};
-ghost use Rattle.bz_base.specs.Lent.{IsLent, IsLentResolved};
+ghost use Rattle.std.specs.Prelude.{◌≡◌, ℕ, Some, cond, option_and_then, string_bytes, IfOk, IsOkUnless};
+ghost use Rattle.bz_base.specs.Answer.{reading};
+ghost use Rattle.bz_base.specs.Lent.{IsLent};
 ghost use Rattle.bz_base.specs.declared.error.Error.{Error};
 ghost use Rattle.bz_cache.specs.FileCall.{CallsFile};
 ghost use Rattle.bz_elf.specs.Segments.{segments, translated};
@@ -15,10 +15,7 @@ ghost use Rattle.bz_process.specs.Untold.{SomeByName, as_read};
 ghost use Rattle.bz_process.specs.declared.perf_maps.PerfMaps.{PerfMaps};
 
 use crate::query::ProcessQuery;
-use bz_base::{
-    Addr, Error, FindSymOpts, Reason, ResolvedSym, Result, Symbolize, Symbolized,
-    TranslateFileOffset,
-};
+use bz_base::{Addr, Error, Reason, Result, Symbolized};
 use bz_cache::FileCache;
 use bz_elf::ElfFile;
 use bz_files::Files;
@@ -36,7 +33,7 @@ pub(crate) fn answer_by_name<F: Files>(
     addr: Addr,
 ) -> Result<Symbolized<'static>>
     ensures step { (own : ℕ) (kept : PerfMaps) → TakesStep F.Files own reading (by_name (asked_of own query.now) (mapping_of entry.now) addr (name_of name.now)) result (caches elf.old kept) (caches elf.new kept) files.old files.new }
-    ensures some { (own : ℕ) (kept : PerfMaps) → SomeByName (asked_of own query.now) (as_read reading result) (caches elf.old kept) (caches elf.new kept) (mapping_of entry.now) addr (name_of name.now) }
+    ensures untold { (own : ℕ) (kept : PerfMaps) → SomeByName (asked_of own query.now) (as_read reading result) (caches elf.old kept) (caches elf.new kept) (mapping_of entry.now) addr (name_of name.now) }
 {
     match name {
         PathName::Component(_) => Ok(Symbolized::Unknown(Reason::Unsupported)),
@@ -92,48 +89,35 @@ fn at_offset(
     ensures answer { IfOk result (λ answer. reading answer ≡ elf_at module_path.now offset file.now) }
     ensures memory { IsOkUnless result Error.OutOfMemory }
 {
-    match loaded_at(file, offset)? {
-        Some(addr) => {
-            let answer = elf_answer_at(alloc, file, module_path, addr)?;
-            answer.into_owned(alloc)
-        }
+    match loaded_at(file, offset) {
+        Some(addr) => elf_answer_at(alloc, file, module_path, addr).into_owned(alloc),
         None => Ok(Symbolized::Unknown(Reason::InvalidFileOffset)),
     }
 }
 
 // The address at which the file's byte at an offset is loaded, if there is one.
-fn loaded_at(file: &ElfFile, offset: Option<u64>) -> Result<Option<Addr>>
-    ensures { result ≡ Ok (option_and_then (translated (segments file.now)) offset) }
+fn loaded_at(file: &ElfFile, offset: Option<u64>) -> Option<Addr>
+    ensures { result ≡ option_and_then (translated (segments file.now)) offset }
 {
     match offset {
-        Some(offset) => file.file_offset_to_virt_offset(offset),
-        None => Ok(None),
+        Some(offset) => file.addr_of(offset),
+        None => None,
     }
 }
 
 /// What an ELF file says of an address as its symbol table has it. A symbol's module is the path. The
-/// answer is always Ok, and its texts are lent.
+/// answer's texts are lent.
 pub fn elf_answer_at<'a>(
     alloc: Global,
     file: &'a ElfFile,
     module_path: &'a str,
     addr: Addr,
-) -> Result<Symbolized<'a>>
-    ensures answer { IfOk result (λ answer. reading answer ≡ elf_by_table module_path.now file.now (Some addr)) }
-    ensures lent { IfOk result IsLent }
-    ensures sure { IsOk result }
+) -> Symbolized<'a>
+    ensures answer { reading result ≡ elf_by_table module_path.now file.now (Some addr) }
+    ensures lent { IsLent result }
 {
-    match file.find_sym(alloc, addr, &FindSymOpts::Basic)? {
-        Ok(symbol) => Ok(Symbolized::Sym(in_module(symbol, module_path).into_sym(addr))),
-        Err(reason) => Ok(Symbolized::Unknown(reason)),
+    match file.symbol(alloc, Some(module_path), addr) {
+        Ok(symbol) => Symbolized::Sym(symbol.into_sym(addr)),
+        Err(reason) => Symbolized::Unknown(reason),
     }
-}
-
-// The symbol, of the module that the path names.
-fn in_module<'a>(mut symbol: ResolvedSym<'a>, module_path: &'a str) -> ResolvedSym<'a>
-    ensures named { resolved_of result ≡ record (resolved_of symbol.entry) { «module» = Some module_path.now } }
-    ensures lent { IsLentResolved symbol.entry → IsLentResolved result }
-{
-    symbol.module = Some(module_path);
-    symbol
 }

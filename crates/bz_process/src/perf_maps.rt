@@ -46,7 +46,7 @@ impl PerfMaps {
         addr: Addr,
     ) -> Result<Symbolized<'static>>
         ensures step { StepsPerfMaps F.Files (F.pid files.old) reading (by_asked query.now.perf_map (asked_of (F.pid files.old) query.now) addr) result self.old self.new files.old files.new }
-        ensures some { (elf : Cache) → SomeByAsked (asked_of (F.pid files.old) query.now) (as_read reading result) (caches elf self.old) (caches elf self.new) query.now.perf_map addr }
+        ensures untold { (elf : Cache) → SomeByAsked (asked_of (F.pid files.old) query.now) (as_read reading result) (caches elf self.old) (caches elf self.new) query.now.perf_map addr }
     {
         if query.perf_map {
             self.in_perf_map(alloc, files, query.pid, addr)
@@ -64,7 +64,7 @@ impl PerfMaps {
         addr: Addr,
     ) -> Result<Symbolized<'static>>
         ensures step { StepsPerfMaps F.Files (F.pid files.old) reading (by_perf_map pid (F.pid files.old) addr) result self.old self.new files.old files.new }
-        ensures some { (elf : Cache) → LooksSoftly (as_read reading result) (caches elf self.old) (caches elf self.new) pid (F.pid files.old) addr }
+        ensures untold { (elf : Cache) → LooksSoftly (as_read reading result) (caches elf self.old) (caches elf self.new) pid (F.pid files.old) addr }
     {
         softened(self.look_in_perf_map(alloc, files, pid, addr))
     }
@@ -78,7 +78,7 @@ impl PerfMaps {
         addr: Addr,
     ) -> Result<Symbolized<'static>>
         ensures step { StepsPerfMaps F.Files (F.pid files.old) reading (and_then (remember pid (F.pid files.old)) (λ known. of_perf_map (asks_perf_map addr) known.perf_map)) result self.old self.new files.old files.new }
-        ensures some { (elf : Cache) → LooksAtPerfMap (as_read reading result) (caches elf self.old) (caches elf self.new) pid (F.pid files.old) addr }
+        ensures untold { (elf : Cache) → LooksAtPerfMap (as_read reading result) (caches elf self.old) (caches elf self.new) pid (F.pid files.old) addr }
     {
         let known = self.known(alloc, files, pid)?;
         perf_map_answer(&mut self.files, alloc, files, known.perf_map(), addr)
@@ -95,7 +95,7 @@ impl PerfMaps {
         ensures step { StepsPerfMaps F.Files (F.pid files.old) (λ known. known) (remember pid (F.pid files.old)) result self.old self.new files.old files.new }
         ensures ok { IfOk result (λ known. self.new ≡ record self.old { ids = with_absent pid_cmp self.old.ids pid known }) }
         ensures err { OnErr result (self.new ≡ self.old) }
-        ensures some { IfOk result (IsKnown pid (F.pid files.old) (value_at pid_cmp self.old.ids pid)) }
+        ensures untold { IfOk result (IsKnown pid (F.pid files.old) (value_at pid_cmp self.old.ids pid)) }
         ensures refusal { IfErr result (MayLackId (value_at pid_cmp self.old.ids pid)) }
     {
         match self.ids.get(&pid) {
@@ -115,7 +115,7 @@ impl PerfMaps {
         ensures step { StepsPerfMaps F.Files (F.pid files.old) (λ known. known) (remember pid (F.pid files.old)) result self.old self.new files.old files.new }
         ensures ok { IfOk result (λ known. self.new ≡ record self.old { ids = with_absent pid_cmp self.old.ids pid known }) }
         ensures err { OnErr result (self.new ≡ self.old) }
-        ensures some { IfOk result (IsKnown pid (F.pid files.old) None) }
+        ensures untold { IfOk result (IsKnown pid (F.pid files.old) None) }
         ensures refusal { IfErr result IsReadRefusal }
     {
         let known = read_known(alloc, files, pid)?;
@@ -129,7 +129,7 @@ impl PerfMaps {
 fn read_known<F: Files>(alloc: Global, files: &mut F, pid: Pid) -> Result<RememberedProcess>
     ensures answer { Told (in_view (F.worlds files.old)) (λ world. GivesOrFaults (λ known. known.id) (ns_tgid_of pid (F.pid files.old) (entry_at world (status_path pid))) result) }
     ensures known { IfOk result (λ known. known ≡ remembered pid (F.pid files.old) known.id) }
-    ensures some { IfOk result (λ known. IsOfStatus pid (F.pid files.old) known.id) }
+    ensures untold { IfOk result (λ known. IsOfStatus pid (F.pid files.old) known.id) }
     ensures refusal { IfErr result IsReadRefusal }
     ensures spared { Told (in_view (F.worlds files.old)) (λ world. has_file (entry_at world (status_path pid)) ≡ false → F.opens files.new ≡ F.opens files.old) }
     ensures most { ReadsOne F.Files files.old files.new }

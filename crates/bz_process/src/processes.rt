@@ -6,7 +6,7 @@ ghost use Rattle.bz_process.specs.Asked.{asked_of};
 ghost use Rattle.bz_process.specs.Processes.{PromisesBatch, PromisesSingle, new_processes};
 ghost use Rattle.bz_process.specs.Terms.{terms_by};
 
-use crate::answering::Answering;
+use crate::answering::Answerer;
 use crate::dispatch::ProcessDispatch;
 use crate::dispatching::Dispatching;
 use crate::mapped::Mapped;
@@ -22,10 +22,11 @@ use std::marker::Model;
 mod keeping;
 
 /// What is kept to answer for processes: perf maps, what is remembered of processes, mappings, and a
-/// dispatcher with its answers. The ELF files are handed in at each call, so that sources may share them.
+/// dispatcher with its answers. The ELF files are handed in at each call, so that sources may share
+/// them.
 #[derive(Drop)]
 pub struct Processes<D: ProcessDispatch + Drop> {
-    answering: Answering<D>,
+    answering: Answerer<D>,
     mappings: InsertMap<Pid, Mapped>,
 }
 
@@ -48,7 +49,7 @@ impl<D: ProcessDispatch + Drop> Processes<D> {
     {
         let files = FileCache::builder().enable_auto_reload(reload).build(alloc);
         Processes {
-            answering: Answering {
+            answering: Answerer {
                 perf_maps: PerfMaps {
                     files,
                     ids: InsertMap::new(alloc),
@@ -65,8 +66,8 @@ impl<D: ProcessDispatch + Drop> Processes<D> {
     /// The answers to addresses of a process, in their order; an address that is refused is an ignored
     /// error. Unsupported: the addresses aren't absolute. NotFound, PermissionDenied, InvalidData: no
     /// mappings are kept, and their text is absent, may not be read or isn't one of mappings.
-    /// UnexpectedEof: there are no mappings. ReadFault: a file failed. OutOfMemory: memory ran out. Where an
-    /// address fails, none after it is asked.
+    /// UnexpectedEof: there are no mappings. ReadFault: a file failed. OutOfMemory: memory ran out.
+    /// Where an address fails, none after it is asked.
     pub fn symbolize<F: Files>(
         &mut self,
         elf: &mut FileCache<ElfFile>,
@@ -88,11 +89,11 @@ impl<D: ProcessDispatch + Drop> Processes<D> {
         }
     }
 
-    /// The answer to an address of a process alone, or its refusal. It is refused as a batch is, and then by
-    /// what is looked at for the address. NotFound, PermissionDenied, InvalidData, Unsupported: the mapped
-    /// file is absent, may not be read, or isn't an ELF file that is read. PermissionDenied, InvalidData: the
-    /// status or the perf map may not be read, or isn't in its format. A dispatcher refuses as `dispatch`
-    /// says, and a resolver by Unsupported, InvalidInput or InvalidData.
+    /// The answer to an address of a process alone, or its refusal. It is refused as a batch is, and
+    /// then by what is looked at for the address. NotFound, PermissionDenied, InvalidData, Unsupported:
+    /// the mapped file is absent, may not be read, or isn't an ELF file that is read. PermissionDenied,
+    /// InvalidData: the status or the perf map may not be read, or isn't in its format. A dispatcher
+    /// refuses as `dispatch` says, and a resolver by Unsupported, InvalidInput or InvalidData.
     pub fn symbolize_single<F: Files>(
         &mut self,
         elf: &mut FileCache<ElfFile>,

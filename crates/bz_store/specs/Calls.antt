@@ -30,8 +30,9 @@ abbrev pub Sought : ℕ → Key → Option Found → Option FrameAnswer → Shel
 Sought cap key from (Some answer) before after = (after ≡ before) × (kept_after cap key from before ≡ before) × ((opts : FindSymOpts) (offset : ℕ) → by_source opts offset from ≡ reading_of answer)
 Sought cap key from None before after = (bytes : List ℕ) × (0 < cap) × (from ≡ Some (Holds bytes)) × (after ≡ keep cap key bytes before)
 
--- the file of a key was put in front, or there is none to put there, by what was found at its path. That is what the world in view
--- has, where it is told. A refusal leaves the store. One file at most is read
+-- the file of a key was put in front, or there is none to put there, by what was found at its path.
+-- That is what the world in view has, where it is told. A refusal leaves the store. One file at most is
+-- read
 pub record Seeks {X : Type 0} (files : Ghosts X) (key : Key) (result : Result (Option FrameAnswer) Error) (before after : Shelf) (old new : X) : Type 0 where
   pub found : Found
   pub told : Told (in_view (files.worlds old)) (λ world. found ≡ found_at world before.root key)
@@ -43,8 +44,9 @@ pub record Seeks {X : Type 0} (files : Ghosts X) (key : Key) (result : Result (O
   pub looked : Looked files old new (Faulted result)
   pub failure : IfErr result IsFailure
 
--- the first frames were answered behind earlier answers, each by what was found for it. That is what the world in view has, where
--- it is told. After a refusal the store keeps what it keeps after some of the frames. No more files are read than there are frames
+-- the first frames were answered behind earlier answers, each by what was found for it. That is what
+-- the world in view has, where it is told. After a refusal the store keeps what it keeps after some of
+-- the frames. No more files are read than there are frames
 pub record Visits {X A : Type 0} (files : Ghosts X) (opts : FindSymOpts) (frames : List Frame) (result : Result A Error) (earlier answers : List FrameReading) (before after : Shelf) (old new : X) : Type 0 where
   pub visits : List (Frame × Found)
   pub told : Told (in_view (files.worlds old)) (λ world. visits ≡ found_each world before.root (map (λ v. v.0) visits))
@@ -58,8 +60,9 @@ pub record Visits {X A : Type 0} (files : Ghosts X) (opts : FindSymOpts) (frames
   pub looked : Looked files old new (Faulted result)
   pub failure : IfErr result IsFailure
 
--- told or not, each frame has the answer of the kept bytes of its file, else of what was found. That is what the world in view has,
--- where it is told. A refusal leaves what is kept after some of the frames, none skipped
+-- told or not, each frame has the answer of the kept bytes of its file, else of what was found. That is
+-- what the world in view has, where it is told. A refusal leaves what is kept after some of the frames,
+-- none skipped
 pub record OneByOne {X A : Type 0} (files : Ghosts X) (readings : A → List FrameReading) (opts : FindSymOpts) (frames : List Frame) (result : Result A Error) (before after : Shelf) (old new : X) : Type 0 where
   pub visits : List (Frame × Found)
   pub told : Told (in_view (files.worlds old)) (λ world. visits ≡ found_each world before.root (map (λ v. v.0) visits))
@@ -68,7 +71,8 @@ pub record OneByOne {X A : Type 0} (files : Ghosts X) (readings : A → List Fra
 
 -- the answers to frames
 pub record AnswersFrames {X A : Type 0} (files : Ghosts X) (readings : A → List FrameReading) (opts : FindSymOpts) (frames : List Frame) (result : Result A Error) (before after : Shelf) (old new : X) : Type 0 where
-  -- where each kept file has the bytes that the world in view has at its path, frames are answered as without a cache
+  -- where each kept file has the bytes that the world in view has at its path, frames are answered as
+  -- without a cache
   pub alone : Told (in_view (files.worlds old)) (λ world. AreOfWorld world before.root before.files → IfOk result (λ a. readings a ≡ map (answer_in world before.root opts) frames))
   -- and kept files have these bytes afterwards, whatever is answered
   pub agrees : Told (in_view (files.worlds old)) (λ world. AreOfWorld world before.root before.files → AreOfWorld world before.root after.files)
@@ -77,11 +81,13 @@ pub record AnswersFrames {X A : Type 0} (files : Ghosts X) (readings : A → Lis
   -- after a refusal, those of some of the frames, in their order, none skipped
   pub err : Told (in_view (files.worlds old)) (λ world. AreOfWorld world before.root before.files →
       OnErr result ((count : ℕ) × (keys after.files ≡ keys_after before.cap (answered (take count frames) (map (answer_in world before.root opts) (take count frames))) (keys before.files))))
-  -- a file is read for each frame whose name is good, whose key isn't kept at that point, and whose path is present
+  -- a file is read for each frame whose name is good, whose key isn't kept at that point, and whose
+  -- path is present
   pub opens : Told (in_view (files.worlds old)) (λ world. IfOk result (λ a. files.opens new ≡ opens_after_all before.cap (found_each world before.root frames) (readings a) (keys before.files) (files.opens old)))
   -- no more files are read than there are frames, whatever is answered
   pub most : files.opens new ≤ files.opens old + length frames
-  -- whatever the files tell, each frame is answered by the kept bytes of its file, or else by what was found
+  -- whatever the files tell, each frame is answered by the kept bytes of its file, or else by what was
+  -- found
   pub each : OneByOne files readings opts frames result before after old new
   -- root and capacity stay
   pub place : after ≡ with_files before after.files

@@ -1,5 +1,6 @@
--- The frames of a crash, the paths of their symbol files in a symbol store, and what is answered for them. A store is laid out
--- as Breakpad's tools look for files (Breakpad, docs/linux_starter_guide.md): MODULE/ID/MODULE.sym below its root.
+-- The frames of a crash, the paths of their symbol files in a symbol store, and what is answered for
+-- them. A store is laid out as Breakpad's tools look for files (Breakpad, docs/linux_starter_guide.md):
+-- MODULE/ID/MODULE.sym below its root.
 use Rattle.std.specs.Prelude.{ℕ, Bool, ◌||◌, ◌&&◌, ◌==◌, not, nat_eq, List, [], ◌∷◌, ◌++◌, string_bytes, codes, length}
 use Rattle.std.specs.List.{list_any}
 use Rattle.std.specs.Cmp.Lexicographic.{pointwise}
@@ -34,8 +35,8 @@ frame_of frame = record { file = key_of frame.key; offset = frame.offset }
 abbrev pub is_of : Key → CrashFrame → Bool
 is_of key frame = key_eq (key_of frame.key) key
 
--- a folder can have the name: it isn't empty, and names neither the folder itself nor the one above. No slash and no zero byte stands
--- in it
+-- a folder can have the name: it isn't empty, and names neither the folder itself nor the one above. No
+-- slash and no zero byte stands in it
 abbrev pub is_good_name : List ℕ → Bool
 is_good_name name = not ((length name == 0) || (pointwise nat_eq name (dot ∷ []) || (pointwise nat_eq name (dot ∷ dot ∷ []) || (list_any (λ byte. byte == slash) name || list_any (λ byte. byte == zero_byte) name))))
 

@@ -40,7 +40,8 @@ by_found opts offset Absent = NoFile
 by_found opts offset Denied = frames.Denied
 by_found opts offset (Holds bytes) = by_table opts offset (table_in bytes)
 
--- what answers for a file: nothing under a bad name, the kept bytes of a file that is kept, and else what is found
+-- what answers for a file: nothing under a bad name, the kept bytes of a file that is kept, and else
+-- what is found
 abbrev pub source : ShelfFiles → Key → Found → Option Found
 source kept key found = if is_good key then Some (option_map_or Holds (lookup (key_eq key) kept) found) else None
 

@@ -40,7 +40,7 @@ fn push_batch_blank<L: Ledger>(
 ) -> Result<()>
     requires name { blank.name ≡ L.name }
     requires parts { blank.parts ≡ L.parts }
-    requires some { 0 < L.parts }
+    requires positive { 0 < L.parts }
     ensures ok { OnOk result (map reading_of answers.new.items ≡ map reading_of answers.old.items ++ map (λ offset. by_table opts.now offset (table_in file.now)) offsets.now) }
     ensures memory { IsOkUnless result Error.OutOfMemory }
 {

@@ -16,8 +16,8 @@ pub fn kept_files_answer_as_the_world()
     ensures agrees { (world : World) (root : List ℕ) (cap : ℕ) (opts : FindSymOpts) (frames : List Frame) (kept : ShelfFiles) (opens : ℕ) → AreOfWorld world root kept → AreOfWorld world root (visited cap opts (found_each world root frames) (record { kept = kept; answers = []; opens = opens })).kept }
 {}
 
-/// Whatever is found, the keys that are kept are those of the frames that their files answered, and each
-/// file is counted that is read.
+/// Whatever is found, the keys that are kept are those of the frames that their files answered, and
+/// each file is counted that is read.
 pub fn kept_keys_go_by_answers()
     ensures keys { (cap : ℕ) (opts : FindSymOpts) (visits : List (Frame × Found)) (kept : ShelfFiles) (opens : ℕ) → keys (visited cap opts visits (record { kept = kept; answers = []; opens = opens })).kept ≡ keys_after cap (answered (map (λ v. v.0) visits) (visited cap opts visits (record { kept = kept; answers = []; opens = opens })).answers) (keys kept) }
     ensures opens { (cap : ℕ) (opts : FindSymOpts) (visits : List (Frame × Found)) (kept : ShelfFiles) (opens : ℕ) → (visited cap opts visits (record { kept = kept; answers = []; opens = opens })).opens ≡ opens_after_all cap visits (visited cap opts visits (record { kept = kept; answers = []; opens = opens })).answers (keys kept) opens }

@@ -41,8 +41,8 @@ impl Model for Store {
 
 impl Store {
     /// A store that lies at the root and keeps no more files than its capacity, which is at least 1. It
-    /// keeps none yet. The symbol file of a module lies at ROOT/MODULE/ID/MODULE.sym. OutOfMemory: memory
-    /// ran out.
+    /// keeps none yet. The symbol file of a module lies at ROOT/MODULE/ID/MODULE.sym. OutOfMemory:
+    /// memory ran out.
     pub fn new(alloc: Global, root: String, capacity: usize) -> Result<Store>
         requires { 1 ≤ capacity }
         ensures ok { IfOk result (λ store. store ≡ new_shelf (string_bytes root) capacity) }
@@ -60,12 +60,12 @@ impl Store {
         self.files.len()
     }
 
-    /// The answers to frames, in their order. A file is read where it isn't kept, and is kept then if it
-    /// is a Breakpad file. It answers by the bytes that were read then, whatever becomes of it, until others
-    /// push it out. A bad name, and a file that is absent, denied or no Breakpad file, are answers and
-    /// no refusals; such a file isn't kept. ReadFault: a file couldn't be read, and the count of faults rose.
-    /// OutOfMemory: memory ran out. What is kept after a refusal is what is kept after some of the frames.
-    /// No more files are read than there are frames, whatever is answered.
+    /// The answers to frames, in their order. A file is read where it isn't kept, and is kept then if
+    /// it is a Breakpad file. It answers by the bytes that were read then, whatever becomes of it,
+    /// until others push it out. A bad name, and a file that is absent, denied or no Breakpad file, are
+    /// answers and no refusals; such a file isn't kept. ReadFault: a file couldn't be read, and the
+    /// count of faults rose. OutOfMemory: memory ran out. What is kept after a refusal is what is kept
+    /// after some of the frames. No more files are read than there are frames, whatever is answered.
     pub fn answer<F: Files>(
         &mut self,
         alloc: Global,
@@ -82,8 +82,8 @@ impl Store {
         Ok(answers)
     }
 
-    // Puts the answers to the first frames behind the answers: to a whole run where its file is or can be
-    // kept, else to one. So the cache is asked once for a run, and the file's answers are one batch.
+    // Puts the answers to the first frames behind the answers: to a whole run where its file is or can
+    // be kept, else to one. So the cache is asked once for a run, and the file's answers are one batch.
     fn visit<F: Files>(
         &mut self,
         alloc: Global,

@@ -22,7 +22,8 @@ use Rattle.bz_symbolize.specs.declared.source.Source.{Source}
 abbrev Address : Type 0
 Address = AddressKind × ℕ
 
--- the version that answers a batch: bytes in view, in the format, whose kind of address is taken and served
+-- the version that answers a batch: bytes in view, in the format, whose kind of address is taken and
+-- served
 record Answered (file : FileSource) (opts : FindSymOpts) (kind : AddressKind) (shown : View) (addrs : List ℕ) (answers : List Answer) : Type 0 where
   bytes : List ℕ
   in_view : shown ≡ Shown bytes

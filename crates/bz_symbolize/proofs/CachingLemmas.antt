@@ -1,4 +1,5 @@
--- What keeping something ahead of addresses promises, from what pinning a file and caching a process do.
+-- What keeping something ahead of addresses promises, from what pinning a file and caching a process
+-- do.
 use Rattle.std.proofs.Common.{◌≡◌, ℕ, true, false, List, [], ◌∷◌, Option, Some, Result, Ok, Err, OnOk, OnErr, inl, inr, refl, sym, ap, subst, ◌∙◌}
 use Rattle.std.specs.List.{AllByRecursion}
 use Rattle.bz_base.specs.declared.error.Error.{Error}
@@ -15,7 +16,7 @@ use Rattle.bz_process.proofs.ProcessLemmas.{opened_by}
 use Rattle.bz_process.specs.Caches.{ProcessCaches}
 use Rattle.bz_process.specs.Caching.{KeptMappings, caching_of}
 use Rattle.bz_process.specs.CachingCall.{CachesProcess, CachingChange, Called, PinPerfMap as PinMap, IsCachedTold, after_caching, cached_so}
-use Rattle.bz_process.specs.Dispatch.{Answers}
+use Rattle.bz_process.specs.Dispatch.{DispatchAnswers}
 use Rattle.bz_process.specs.ProcessCall.{LookElf, LookPerfMap, Remember}
 use Rattle.bz_process.specs.Processes.{KeptProcesses, caches_of}
 use Rattle.bz_process.specs.Remembered.{Remembered}
@@ -162,7 +163,7 @@ same_processes {D} {R} elf_files old now kept mappings caches_are mappings_are d
     ∙ ap (λ (x : List (Pid × Remembered)). record now { perf_maps = kept.perf_maps; ids = x }) (ap (λ (k : ProcessCaches). k.ids) caches_are)
     ∙ ap (λ (x : KeptMappings). record now { perf_maps = kept.perf_maps; ids = kept.ids; mappings = x }) mappings_are
     ∙ ap (λ (x : D). record now { perf_maps = kept.perf_maps; ids = kept.ids; mappings = mappings; dispatcher = x }) dispatcher
-    ∙ ap (λ (x : Answers R). record old { perf_maps = kept.perf_maps; ids = kept.ids; mappings = mappings; answers = x }) answers
+    ∙ ap (λ (x : DispatchAnswers R). record old { perf_maps = kept.perf_maps; ids = kept.ids; mappings = mappings; answers = x }) answers
 
 -- a process
 module _ {D R X : Type 0} (files : Ghosts X) (request : ProcessCaching) (old now : WholeState D R) (before after : X) (rest : now.files ≡ old.files) where

@@ -1,4 +1,5 @@
--- From what a call does on its source's file to all that it promises, whatever the source and the query.
+-- From what a call does on its source's file to all that it promises, whatever the source and the
+-- query.
 use Rattle.std.proofs.Common.{◌≡◌, Result, ap}
 use Rattle.bz_base.specs.declared.error.Error.{Error}
 use Rattle.bz_base.specs.declared.types.FindSymOpts.{FindSymOpts}
@@ -35,18 +36,18 @@ module _ {A B X : Type 0} (files : Ghosts X) (reading : A → B) (source : Sourc
       record {
         view = on_file query source did.called (λ file laws all world seen coherent. view_from_told opts source file query laws old reading world result coherent (all.told world seen).answer);
         look = on_file query source did.called (λ file laws all world seen. look_from_told opts source file query laws old reading world result (all.told world seen).answer);
-        kept = on_file query source did.called (λ file laws all. kept_from_some opts source file query laws old reading now result all.some);
+        kept = on_file query source did.called (λ file laws all. kept_from_some opts source file query laws old reading now result all.untold);
         causes = on_file query source did.called (λ file laws all world seen coherent. causes_from_told opts source file query laws old reading world result coherent (all.told world seen).answer);
         complete = on_file query source did.called (λ file laws all world seen. complete_from_told opts source file query laws old reading did.kept_well world result (all.told world seen).answer);
         told = told_all;
         history = λ world seen. unless_process source (told_all world seen) (λ told. step_from_told result old now _ told.state);
         leaves = on_file query source whole (λ file laws all. leaves_from_some opts source file query laws old reading now all.1 result
-            (λ other. unchanged opts source file query laws old reading now all.1 (all.0.untaken other).1) all.0.some);
+            (λ other. unchanged opts source file query laws old reading now all.1 (all.0.untaken other).1) all.0.untold);
         handed = did.handed;
         untaken = on_file query source whole (λ file laws all other. let refused = all.0.untaken other in (refused.0, unchanged opts source file query laws old reading now all.1 refused.1, refused.2));
         stays = on_file query source whole (λ file laws all held. let same = all.0.stays held in (unchanged opts source file query laws old reading now all.1 same.0, same.1));
         ready = on_file query source did.called (λ file laws all held taken serves. ready_from_version opts source file query laws old reading now result serves (all.ready held taken));
-        refusal = on_file query source did.called (λ file laws all. refusal_from_some opts source file query laws old reading now result all.some);
+        refusal = on_file query source did.called (λ file laws all. refusal_from_some opts source file query laws old reading now result all.untold);
         settings = did.settings;
         caches = did.caches;
         looked = did.looked;

@@ -31,7 +31,8 @@ among_later world w worlds (k, lt, at) = (suc k, suc-le-suc lt, at)
 among_first : (world : World) (worlds : List World) → Contains (world ∷ worlds) world
 among_first world worlds = (zero, zero-lt-suc _, refl)
 
--- what holds of a state and is kept by each call with a property holds after a list of such calls in these worlds
+-- what holds of a state and is kept by each call with a property holds after a list of such calls in
+-- these worlds
 module _ (worlds : List World) (P : State → Type 0) (Q : World → Call → Type 0)
     (after : (call : Call) (s : State) (w : World) → Contains worlds w → Q w call → P s → P (state_after s w call)) where
   after_step : (call : Call) (s now : State) (w : World) → Contains worlds w → Q w call → P s → MayLeave s w call now → P now

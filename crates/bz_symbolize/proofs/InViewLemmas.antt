@@ -53,8 +53,9 @@ module _ (test : List ℕ → Option Error) (cache : Cache) (world : World) (pat
     pub pinned_in_view : (pinning test cache path (entry_at world path)).0 ≡ unpinned_in_view test cache world path
     pinned_in_view = pinned_answer (look test (with_pin false cache path) path (entry_at world path)) ∙ by_fix (fixed (with_pin false cache path) path)
 
--- Where each kept version is in the format, a path is pinned where the file in view is answered. The version that is pinned may
--- be a kept one that isn't in view. Where a refusal in view is softened to an answer, so is that of the pinning.
+-- Where each kept version is in the format, a path is pinned where the file in view is answered. The
+-- version that is pinned may be a kept one that isn't in view. Where a refusal in view is softened to
+-- an answer, so is that of the pinning.
 module _ (test : List ℕ → Option Error) (cache : Cache) (world : World) (path : List ℕ) (formed : (stamp : Stamp) (bytes : List ℕ) → map.get cache.kept stamp ≡ Some bytes → test bytes ≡ None)
     (softened : Result (Unit {0}) Error → Result (Unit {0}) Error) (soft : softened (Ok tt) ≡ Ok tt) where
   if_read : (stamp : Stamp) (bytes : List ℕ) (kept : Option (List ℕ)) → ((k : List ℕ) → kept ≡ Some k → test k ≡ None) → softened (finished (by_format bytes (test bytes))) ≡ Ok tt →

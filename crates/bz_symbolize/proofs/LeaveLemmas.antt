@@ -1,4 +1,5 @@
--- What a call leaves of the state, from what it does on the source's file, whatever the source and the query.
+-- What a call leaves of the state, from what it does on the source's file, whatever the source and the
+-- query.
 use Rattle.std.proofs.Common.{◌≡◌, ◌⊎◌, ℕ, false, List, Some, is_some, IsSome, Result, Ok, Err, inl, inr, sym, ap, ◌∙◌}
 use Rattle.bz_base.specs.declared.error.Error.{Error}
 use Rattle.bz_base.specs.declared.error.Error.TheVariants as errors

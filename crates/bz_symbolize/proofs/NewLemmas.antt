@@ -18,7 +18,8 @@ use Rattle.bz_elf.specs.Format as elf
 use Rattle.bz_gsym.specs.Tables.{is_gsym}
 use Rattle.bz_gsym.specs.Version as gsym
 use Rattle.bz_lookups.specs.Formats.{breakpad_answering, elf_answering, gsym_answering}
-use Rattle.bz_symbolize.specs.FileCall.{Question, batch_of, query_asked, by_test, by_version, by_look, file_answer}
+use Rattle.bz_cache.specs.View.{if_formed}
+use Rattle.bz_symbolize.specs.FileCall.{Question, batch_of, query_asked, by_version, by_look, file_answer}
 use Rattle.bz_symbolize.specs.Lookup.{breakpad_answer, by_table, elf_answer, fresh_answer, gsym_answer}
 
 module _ (question : Question (List Answer)) (reload : Bool) (path : List ℕ) where
@@ -51,7 +52,7 @@ module _ (opts : FindSymOpts) (reload : Bool) (path : List ℕ) (addrs : List �
   abbrev of_gsym : Question (List Answer)
   of_gsym = query_asked gsym.format_test gsym_answering opts path (batch_of InTable addrs)
 
-  by_read : (bytes : List ℕ) (read : Option Table) → table_in bytes ≡ read → by_test of_breakpad bytes (refusal_of read) ≡ by_table opts addrs read
+  by_read : (bytes : List ℕ) (read : Option Table) → table_in bytes ≡ read → if_formed of_breakpad.given bytes (refusal_of read) ≡ by_table opts addrs read
   by_read bytes None is = refl
   by_read bytes (Some table) is = rw is refl
 

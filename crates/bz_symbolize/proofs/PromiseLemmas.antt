@@ -1,4 +1,5 @@
--- From what a call on one file does to what it promises in the words of the subject, whatever the source and the query.
+-- From what a call on one file does to what it promises in the words of the subject, whatever the
+-- source and the query.
 use Rattle.std.proofs.Common.{◌≡◌, ◌⊎◌, ℕ, Bool, true, false, cond, List, [], Option, Some, None, unwrap_or, Result, Ok, Err, IfOk, IfErr, inl, inr, refl, sym, ap, subst}
 use Rattle.std.specs.FinMap as map
 use Rattle.std.proofs.lemmas.Bool.{false≢true}
@@ -10,20 +11,20 @@ use Rattle.bz_files.specs.declared.stamp.Stamp.{Stamp}
 use Rattle.bz_cache.specs.Cache.{Cache, Consistent, kept_at}
 use Rattle.bz_cache.specs.Coherence.{Coherent}
 use Rattle.bz_cache.specs.Format.{GivesOrFaults}
-use Rattle.bz_cache.specs.Look.{by_entry, by_fixed, look, by_test as look_by_test}
-use Rattle.bz_cache.specs.View.{Shown, bytes_at, by_fixed_view, fixed, shown, view}
+use Rattle.bz_cache.specs.Look.{by_entry, by_fixed, look, by_test}
+use Rattle.bz_cache.specs.View.{Shown, bytes_at, by_fixed_view, fixed, if_formed, shown, view}
 use Rattle.bz_cache.proofs.CoherenceLaws.{shown_by_view}
 use Rattle.bz_cache.proofs.Looking.{current_kept, fixed_current}
 use Rattle.bz_cache.proofs.Naming.{some_at}
 use Rattle.bz_symbolize.proofs.FileLemmas.{look_by_view}
-use Rattle.bz_symbolize.specs.FileCall.{Query, by_test, by_look, query_given, file_answer, ByVersion, FileSome, MayBeRefused, view_answer}
+use Rattle.bz_symbolize.specs.FileCall.{Query, by_look, query_given, file_answer, ByVersion, FileSome, MayBeRefused, view_answer}
 use Rattle.bz_symbolize.specs.Sources.{FileSource, asked_of}
 use Rattle.bz_symbolize.specs.Promise.{IsAnswerOf, IsVersionOf, AnswersView, AnswersLook, AnswersKept, IsValid, IsServedOrFails, IsServedKept, IsOwnRefusal, IsUnserved}
 use Rattle.bz_symbolize.specs.State.{State, WellKept}
 use Rattle.bz_symbolize.specs.declared.source.Source.{Source}
 
--- what is to be shown of each source that is one file. Its cache can be put back, and is well kept. Its format means to a query
--- what the subject says
+-- what is to be shown of each source that is one file. Its cache can be put back, and is well kept. Its
+-- format means to a query what the subject says
 pub record IsFormatOf {B : Type 0} (query : Query B) (source : Source) (file : FileSource) : Type 0 where
   pub same : (s : State) → file.with_cache s (file.cache s) ≡ s
   pub formed : (bytes : List ℕ) → IsVersionOf source bytes → file.test bytes ≡ None
@@ -34,8 +35,8 @@ pub record IsFormatOf {B : Type 0} (query : Query B) (source : Source) (file : F
 -- where a version of the format is in view, a look gives one
 module _ (test : List ℕ → Option Error) (c : Cache) (path : List ℕ) (world : World) (consistent : Consistent test c) (bytes : List ℕ) where
   -- a version of the format is taken
-  taken : (s : Stamp) (v : List ℕ) → test v ≡ None → (look_by_test c path s v (test v)).0 ≡ Ok v
-  taken s v formed = ap (λ (t : Option Error). (look_by_test c path s v t).0) formed
+  taken : (s : Stamp) (v : List ℕ) → test v ≡ None → (by_test c path s v (test v)).0 ≡ Ok v
+  taken s v formed = ap (λ (t : Option Error). (by_test c path s v t).0) formed
 
   -- the kept bytes, or else those that lie there, are in the format
   either_formed : (o : Option (List ℕ)) (there : List ℕ) → ((kept : List ℕ) → o ≡ Some kept → test kept ≡ None) → test there ≡ None → test (unwrap_or o there) ≡ None
@@ -89,7 +90,7 @@ module _ {B : Type 0} (opts : FindSymOpts) (source : Source) (file : FileSource)
       ((file.answering.serves query.kind ≡ false) × (e ≡ errors.Unsupported)) ⊎ IsAnswerOf source opts bytes query (Err e)
   own_refusal bytes e formed is = own_by_kind bytes e (file.answering.serves query.kind) refl formed is
 
-  by_version : (bytes : List ℕ) (answer : B) (t : Option Error) → file.test bytes ≡ t → by_test (asked_of file opts query) bytes t ≡ Ok answer → IsAnswerOf source opts bytes query (Ok answer)
+  by_version : (bytes : List ℕ) (answer : B) (t : Option Error) → file.test bytes ≡ t → if_formed (asked_of file opts query).given bytes t ≡ Ok answer → IsAnswerOf source opts bytes query (Ok answer)
   by_version bytes answer None formed is = by_given bytes answer formed is
   by_version bytes answer (Some e) formed is = cc
 
@@ -129,7 +130,8 @@ module _ {B : Type 0} (opts : FindSymOpts) (source : Source) (file : FileSource)
         GivesOrFaults reading (view_answer (asked_of file opts query) (file.cache old) world file.path) result
     causes_from_told world result coherent comes = rw (look_by_view (asked_of file opts query) (file.cache old) world file.path coherent) at comes
 
-    -- a call whose answer is that of the version which a look gives is answered, or refused as this version refuses, or it fails
+    -- a call whose answer is that of the version which a look gives is answered, or refused as this
+    -- version refuses, or it fails
     served_by : (world : World) (bytes : List ℕ) (expected : Result B Error) (result : Result A Error) → (look file.test (file.cache old) file.path (entry_at world file.path)).0 ≡ Ok bytes →
         IsAnswerOf source opts bytes query expected → GivesOrFaults reading expected result → IsServedOrFails opts source file old world query result
     served_by world bytes expected (Ok given) looked is comes = tt

@@ -12,8 +12,8 @@ use Rattle.bz_symbolize.specs.Promise.{IsAnswerOf}
 use Rattle.bz_symbolize.specs.Sources.{FileSource, asked_of}
 use Rattle.bz_symbolize.specs.declared.source.Source.{Source}
 
--- what a batch, and a single address, is answered by what is in view at the file's path. Where kept versions cohere with the world
--- in view, these are the answers of the calls
+-- what a batch, and a single address, is answered by what is in view at the file's path. Where kept
+-- versions cohere with the world in view, these are the answers of the calls
 abbrev pub batch_in_view : FileSource → FindSymOpts → AddressKind → View → List ℕ → Result (List Answer) Error
 batch_in_view file opts kind shown addrs = shown_answer (asked_of file opts (batch_of kind addrs)) shown
 
@@ -26,14 +26,15 @@ pub record StandsAlone (batch : List ℕ → Result (List Answer) Error) (answer
   pub here : slice_get answers i ≡ Some entry
   pub alone : batch (addr ∷ []) ≡ Ok (entry ∷ [])
 
--- the answers of two batches: equal addresses have equal entries, and the addresses in another order have the answers in that
--- order
+-- the answers of two batches: equal addresses have equal entries, and the addresses in another order
+-- have the answers in that order
 pub record AreAlike (addrs others : List ℕ) (answers other_answers : List Answer) : Type 0 where
   pub equal : (i j : ℕ) → slice_get addrs i ≡ slice_get others j → slice_get answers i ≡ slice_get other_answers j
   pub permuted : IsPermutation addrs others → IsPermutation answers other_answers
 
--- the entry of an address of an answered batch is what the single call makes of it, a refusal being an ignored error. The single
--- call is answered, or refused for its address, as the version in view itself says
+-- the entry of an address of an answered batch is what the single call makes of it, a refusal being an
+-- ignored error. The single call is answered, or refused for its address, as the version in view itself
+-- says
 pub record IsFolded (source : Source) (opts : FindSymOpts) (kind : AddressKind) (shown : View) (answers : List Answer) (i addr : ℕ) (single : Result Answer Error) : Type 0 where
   pub entry : slice_get answers i ≡ Some (in_batch single)
   pub bytes : List ℕ

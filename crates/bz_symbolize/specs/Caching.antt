@@ -1,4 +1,5 @@
--- Keeping what answers ahead of addresses: an ELF file, or what answers for a process. All that is asked for is kept, or nothing.
+-- Keeping what answers ahead of addresses: an ELF file, or what answers for a process. All that is
+-- asked for is kept, or nothing.
 use Rattle.std.specs.Prelude.{◌≡◌, ℕ, ◌+◌, ◌≤◌, false, cond, List, Option, is_some, Result, Ok, Err, IsOk, OnOk, OnErr}
 use Rattle.bz_base.specs.declared.error.Error.{Error}
 use Rattle.bz_base.specs.declared.error.Error.TheVariants as errors
@@ -24,7 +25,8 @@ use Rattle.bz_symbolize.specs.History.{ChangesLead}
 use Rattle.bz_symbolize.specs.Requests.{ToCache, CacheElf, CacheProcess}
 use Rattle.bz_symbolize.specs.State.{WellKept, WholeState}
 
--- what a call gives or how it is refused, the symbolizer that an answer leaves, and how many files are read at most
+-- what a call gives or how it is refused, the symbolizer that an answer leaves, and how many files are
+-- read at most
 pub record Cached (D R : Type 0) : Type 0 where
   pub answer : Result (Unit {0}) Error
   pub left : WholeState D R
@@ -38,7 +40,8 @@ caching_elf path world whole = record {
   opens = count_of (will_open (with_pin false whole.files.elf path) path (entry_at world path));
 }
 
--- the mappings of a process are kept, its id is remembered and its perf map is pinned, by what its step gives
+-- the mappings of a process are kept, its id is remembered and its perf map is pinned, by what its step
+-- gives
 abbrev pub cached_by : {D R : Type 0} → Caching → World → WholeState D R → StepOutcome (Unit {0}) → Cached D R
 cached_by asked world whole step = record {
   answer = step.answer;
@@ -67,8 +70,8 @@ abbrev pub or_absent : Result (Unit {0}) Error → Result (Unit {0}) Error
 or_absent (Err errors.NotFound) = Ok tt
 or_absent answer = answer
 
--- the file in view at a path, as if that weren't pinned. One that is held and isn't looked at anew is pinned as it is. Any other is
--- refused where it is absent, may not be read, or isn't in the format
+-- the file in view at a path, as if that weren't pinned. One that is held and isn't looked at anew is
+-- pinned as it is. Any other is refused where it is absent, may not be read, or isn't in the format
 abbrev pub unpinned_in_view : (List ℕ → Option Error) → Cache → World → List ℕ → Result (Unit {0}) Error
 unpinned_in_view test cache world path =
     cond (is_some (fixed (with_pin false cache path) path)) (Ok tt) (finished (bytes_of_view test (shown (entry_at world path))))
@@ -78,15 +81,17 @@ abbrev pub perf_map_in_view : Cache → World → Result Remembered Error → Re
 perf_map_in_view perf_maps world (Ok known) = or_absent (unpinned_in_view perf.format_test perf_maps world known.perf_map)
 perf_map_in_view perf_maps world (Err e) = Err e
 
--- which file in view refuses, if one does: the ELF file. Of a process it is the text of its mappings, then its status unless its id
--- is remembered, then its perf map. Each of these is looked at as far as it is asked for
+-- which file in view refuses, if one does: the ELF file. Of a process it is the text of its mappings,
+-- then its status unless its id is remembered, then its perf map. Each of these is looked at as far as
+-- it is asked for
 abbrev pub caching_in_view : {D R : Type 0} → ToCache → ℕ → World → WholeState D R → Result (Unit {0}) Error
 caching_in_view (CacheElf path) own world whole = unpinned_in_view elf.format_test whole.files.elf world path
 caching_in_view (CacheProcess asked) own world whole =
     in_turn (cond asked.cache_vmas (finished (maps_told asked.pid (entry_at world (maps_path asked.pid)))) (Ok tt))
     (cond asked.cache_perf_map (perf_map_in_view whole.processes.perf_maps world (remember asked.pid own world (caches_of whole.files.elf whole.processes)).answer) (Ok tt))
 
--- the kept versions of the one cache that is looked into cohere with the world: equal stamps mean equal bytes
+-- the kept versions of the one cache that is looked into cohere with the world: equal stamps mean equal
+-- bytes
 abbrev pub CoheresFor : {D R : Type 0} → ToCache → WholeState D R → World → Type 0
 CoheresFor (CacheElf path) whole world = Coherent whole.files.elf.kept world
 CoheresFor (CacheProcess asked) whole world = Coherent whole.processes.perf_maps.kept world
@@ -101,8 +106,8 @@ pub record CachedTold {D R : Type 0} (expected : Cached D R) (result : Result (U
 
 -- all that a call on an ELF file does
 pub record CachesElf {D R X : Type 0} (files : Ghosts X) (path : List ℕ) (result : Result (Unit {0}) Error) (old now : WholeState D R) (before after : X) : Type 0 where
-  -- also where it isn't told what lies there, the path is pinned at the version of some look. One file at most is read, and none
-  -- whose present version is kept
+  -- also where it isn't told what lies there, the path is pinned at the version of some look. One file
+  -- at most is read, and none whose present version is kept
   pub pins : PinsFile files elf.format_test path result old.files.elf now.files.elf before after
   -- nothing else changes
   pub rest : now ≡ record old { files = record old.files { elf = now.files.elf } }
@@ -120,9 +125,11 @@ CachesAsAsked files (CacheProcess asked) result old now before after = CachesOfP
 
 -- all that keeping something ahead of addresses promises
 pub record Caches {D R X : Type 0} (files : Ghosts X) (asked : ToCache) (result : Result (Unit {0}) Error) (old now : WholeState D R) (before after : X) : Type 0 where
-  -- the answer, the symbolizer that an answer leaves, and how many files are read at most are those of the definitions
+  -- the answer, the symbolizer that an answer leaves, and how many files are read at most are those of
+  -- the definitions
   pub told : Told (in_view (files.worlds before)) (λ world. CachedTold (caching asked (files.pid before) world old) result now (files.opens before) (files.opens after))
-  -- where kept versions cohere with the world in view, it is refused exactly by the first of the files in view that refuses
+  -- where kept versions cohere with the world in view, it is refused exactly by the first of the files
+  -- in view that refuses
   pub causes : Told (in_view (files.worlds before)) (λ world. CoheresFor asked old world →
       GivesOrFaults (λ (done : Unit {0}). done) (caching_in_view asked (files.pid before) world old) result)
   -- where none of the files in view refuses, it is answered, unless something fails

@@ -15,9 +15,10 @@ use Rattle.bz_symbolize.specs.Sources.{form_of}
 use Rattle.bz_symbolize.specs.State.{State}
 use Rattle.bz_symbolize.specs.declared.source.Source.{Source}
 
--- a call of a symbolizer: a source that is a file or bytes is asked for addresses of some kind. Nothing else that is asked matters
--- to the state. Or bytes are registered as those of the ELF file at a path. Any other call stands here as its changes, one after
--- another and all in its world. Of an ELF file or a perf map, a path is looked at, pinned or unpinned if it is held, or forgotten.
+-- a call of a symbolizer: a source that is a file or bytes is asked for addresses of some kind. Nothing
+-- else that is asked matters to the state. Or bytes are registered as those of the ELF file at a path.
+-- Any other call stands here as its changes, one after another and all in its world. Of an ELF file or
+-- a perf map, a path is looked at, pinned or unpinned if it is held, or forgotten.
 pub data Call : Type 0 where
   Symbolize : Source → AddressKind → Call
   Register : List ℕ → List ℕ → Call
@@ -94,13 +95,15 @@ LooksLead world old now before after = CallsLead IsLook world old now before aft
 abbrev pub ChangesLead : World → State → State → Cache → Cache → Type 0
 ChangesLead world old now before after = CallsLead IsChange world old now before after
 
--- in the cache of every format of sources, kept versions cohere with the world: equal stamps mean equal bytes
+-- in the cache of every format of sources, kept versions cohere with the world: equal stamps mean equal
+-- bytes
 pub record Coheres (state : State) (world : World) : Type 0 where
   pub breakpad : Coherent state.breakpad.kept world
   pub gsym : Coherent state.gsym.kept world
   pub elf : Coherent state.elf.kept world
 
--- a registration is true where it is of the bytes that lie at its path; any other call registers nothing
+-- a registration is true where it is of the bytes that lie at its path; any other call registers
+-- nothing
 abbrev pub RegistersTruly : World → Call → Type 0
 RegistersTruly world (Register path bytes) = HasBytes (entry_at world path) bytes
 RegistersTruly world _ = Unit {0}

@@ -23,8 +23,8 @@ answer_of opts state (OneFile file) query world = file_answer (asked_of file opt
 answer_of opts state (Handed given) query world = handed_answer given opts query
 answer_of opts state (OneProcess asked) query world = Err errors.Unsupported
 
--- the state that a call leaves: of what is asked, the kind of address alone matters to it. A process has no version that is
--- looked at here: what a call on one leaves is that of its looks.
+-- the state that a call leaves: of what is asked, the kind of address alone matters to it. A process
+-- has no version that is looked at here: what a call on one leaves is that of its looks.
 abbrev pub state_of : State → SourceForm → AddressKind → World → State
 state_of state (OneFile file) kind world =
     file.with_cache state (file_cache file.test (file.answering.takes kind) (file.cache state) file.path (entry_at world file.path))
@@ -55,12 +55,14 @@ abbrev pub unless_refused : Result (List Answer) Error → Option Error → Resu
 unless_refused given None = given
 unless_refused given (Some e) = Err e
 
--- and as an ELF file that the path names: bytes that aren't one are refused first, and then the addresses of a process
+-- and as an ELF file that the path names: bytes that aren't one are refused first, and then the
+-- addresses of a process
 abbrev pub elf_answer : List ℕ → AddressKind → List ℕ → List ℕ → Result (List Answer) Error
 elf_answer path kind addrs bytes =
     unless_refused (cond (is_in_elf kind) (Ok (elf_batch path bytes kind addrs)) (Err errors.Unsupported)) (elf.format_test bytes)
 
--- what a symbolizer that keeps nothing answers by what lies at the path of a file, where its bytes answer so
+-- what a symbolizer that keeps nothing answers by what lies at the path of a file, where its bytes
+-- answer so
 abbrev pub fresh_answer : (List ℕ → Result (List Answer) Error) → Option Entry → Result (List Answer) Error
 fresh_answer given None = Err errors.NotFound
 fresh_answer given (Some Denied) = Err errors.PermissionDenied

@@ -1,4 +1,5 @@
--- What a call of a symbolizer promises where its source is a process, and that the processes stay as they were where it isn't.
+-- What a call of a symbolizer promises where its source is a process, and that the processes stay as
+-- they were where it isn't.
 use Rattle.std.specs.Prelude.{◌≡◌, ℕ, List, Result}
 use Rattle.bz_base.specs.Answer.{Answer}
 use Rattle.bz_base.specs.InputKind.{AddressKind}
@@ -27,7 +28,8 @@ pub record OfProcess {D R X : Type 0} (files : Ghosts X) (source : Source) (prom
   pub others : UnlessProcess source (now.processes ≡ old.processes)
 
 module _ {A D R X : Type 0} (files : Ghosts X) where
-  -- a batch: a process is asked under the symbolizer's options, over the ELF files that are kept for all sources
+  -- a batch: a process is asked under the symbolizer's options, over the ELF files that are kept for
+  -- all sources
   abbrev pub BatchOfProcess : (A → List Answer) → Test R → Translates R → Finds R → Source → AddressKind → List ℕ → Result A Error → WholeState D R → WholeState D R → X → X → Type 0
   BatchOfProcess reading test translates finds source kind addrs result old now before after =
       OfProcess files source (λ query. SymbolizesProcess files reading test translates finds (opts_of old.files.settings) (asked_of (files.pid before) query) kind addrs result old.files.elf now.files.elf old.processes now.processes before after) old now before

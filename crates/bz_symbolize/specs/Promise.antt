@@ -1,4 +1,5 @@
--- What a call of a symbolizer promises, in the words of the subject, whether a batch or a single address is asked.
+-- What a call of a symbolizer promises, in the words of the subject, whether a batch or a single
+-- address is asked.
 use Rattle.std.specs.Prelude.{◌≡◌, ◌⊎◌, ℕ, true, false, List, Option, Some, IsSome, Result, Ok, Err, IfOk, IfErr, IsErrOf, OnOk, string_bytes}
 use Rattle.bz_base.specs.Answer.{Answer, Gives}
 use Rattle.bz_base.specs.InputKind.{AddressKind}
@@ -27,14 +28,15 @@ use Rattle.bz_symbolize.specs.State.{State, WellKept, opts_of}
 use Rattle.bz_symbolize.specs.declared.source.Source.{Source}
 use Rattle.bz_symbolize.specs.declared.source.Source.TheVariants as sources
 
--- the bytes are a Breakpad file, and the answers are the plain answers of its table, each at its own address, in order
+-- the bytes are a Breakpad file, and the answers are the plain answers of its table, each at its own
+-- address, in order
 pub record IsBreakpadBatch (opts : FindSymOpts) (bytes addrs : List ℕ) (answers : List Answer) : Type 0 where
   pub table : Table
   pub accepted : IsFile bytes table
   pub plain : answers ≡ batch table opts addrs
 
--- the bytes are a Breakpad file. The answer, or the refusal, is what the query makes of the plain answers of its table at each
--- address alone
+-- the bytes are a Breakpad file. The answer, or the refusal, is what the query makes of the plain
+-- answers of its table at each address alone
 pub record IsBreakpadAnswer {B : Type 0} (opts : FindSymOpts) (bytes : List ℕ) (query : Query B) (answer : Result B Error) : Type 0 where
   pub table : Table
   pub accepted : IsFile bytes table
@@ -45,27 +47,28 @@ pub record IsGsymBatch (opts : FindSymOpts) (bytes addrs : List ℕ) (answers : 
   pub accepted : IsGsym bytes
   pub plain : answers ≡ gsym_batch opts bytes addrs
 
--- the bytes are a GSYM file, and the answer, or the refusal, is what the query makes of its answers at each address alone
+-- the bytes are a GSYM file, and the answer, or the refusal, is what the query makes of its answers at
+-- each address alone
 pub record IsGsymAnswer {B : Type 0} (opts : FindSymOpts) (bytes : List ℕ) (query : Query B) (answer : Result B Error) : Type 0 where
   pub accepted : IsGsym bytes
   pub plain : query.given (gsym_single opts bytes) ≡ answer
 
--- the bytes are an ELF file, which answers the kind of address. The answers are those of its symbol table, each at its own address,
--- in order; the path names their module
+-- the bytes are an ELF file, which answers the kind of address. The answers are those of its symbol
+-- table, each at its own address, in order; the path names their module
 pub record IsElfBatch (path bytes : List ℕ) (kind : AddressKind) (addrs : List ℕ) (answers : List Answer) : Type 0 where
   pub accepted : IsElf bytes
   pub served : is_in_elf kind ≡ true
   pub plain : answers ≡ elf_batch path bytes kind addrs
 
--- the bytes are an ELF file, which answers the kind of address. The answer is what the query makes of its answers at each address
--- alone
+-- the bytes are an ELF file, which answers the kind of address. The answer is what the query makes of
+-- its answers at each address alone
 pub record IsElfAnswer {B : Type 0} (path bytes : List ℕ) (query : Query B) (answer : Result B Error) : Type 0 where
   pub accepted : IsElf bytes
   pub served : is_in_elf query.kind ≡ true
   pub plain : query.given (λ addr. Ok (elf_single path bytes query.kind addr)) ≡ answer
 
--- the bytes are a version of the source, which answers the query so, or refuses it, in the words of its format. A process has no
--- version
+-- the bytes are a version of the source, which answers the query so, or refuses it, in the words of its
+-- format. A process has no version
 abbrev pub IsAnswerOf : {B : Type 0} → Source → FindSymOpts → List ℕ → Query B → Result B Error → Type 0
 IsAnswerOf (sources.Breakpad source) opts bytes query answer = IsBreakpadAnswer opts bytes query answer
 IsAnswerOf (sources.Gsym source) opts bytes query answer = IsGsymAnswer opts bytes query answer
@@ -85,8 +88,8 @@ pub record AnswersView {B : Type 0} (opts : FindSymOpts) (source : Source) (file
   pub in_view : view (file.cache state) world file.path ≡ Shown bytes
   pub answered : IsAnswerOf source opts bytes query (Ok answer)
 
--- the version that a look at the path gives answers so, or refuses so. It is the kept bytes of the path's present stamp, else the
--- present bytes
+-- the version that a look at the path gives answers so, or refuses so. It is the kept bytes of the
+-- path's present stamp, else the present bytes
 pub record AnswersLook {B : Type 0} (opts : FindSymOpts) (source : Source) (file : FileSource) (state : State) (world : World) (query : Query B) (answer : Result B Error) : Type 0 where
   pub bytes : List ℕ
   pub looked : (look file.test (file.cache state) file.path (entry_at world file.path)).0 ≡ Ok bytes
@@ -108,7 +111,8 @@ pub record CallTold {A B : Type 0} (reading : A → B) (opts : FindSymOpts) (for
   pub opened : OnOk result (after ≡ opens_after (opens_of old form query.kind world) before)
   pub spared : opens_of old form query.kind world ≡ false → after ≡ before
 
--- a refusal leaves the old state, unless memory ran out or what is asked is itself refused by the version that is kept now
+-- a refusal leaves the old state, unless memory ran out or what is asked is itself refused by the
+-- version that is kept now
 abbrev pub LeavesOld : {A B : Type 0} → FindSymOpts → Source → FileSource → Query B → Result A Error → State → State → Type 0
 LeavesOld opts source file query (Ok given) old now = Unit {0}
 LeavesOld opts source file query (Err errors.OutOfMemory) old now = Unit {0}
@@ -127,7 +131,8 @@ pub record FileLeaves {A B : Type 0} (opts : FindSymOpts) (source : Source) (fil
   -- where memory ran out, the path is kept or nothing has changed
   pub out_of_memory : IsErrOf result errors.OutOfMemory → (now ≡ old) ⊎ IsSome (kept_at (file.cache now) file.path)
 
--- the kind of address is taken and served, and the version in view at the path is one of the source's format
+-- the kind of address is taken and served, and the version in view at the path is one of the source's
+-- format
 pub record IsValid (source : Source) (file : FileSource) (state : State) (world : World) (kind : AddressKind) : Type 0 where
   pub bytes : List ℕ
   pub takes : file.answering.takes kind ≡ true
@@ -135,15 +140,16 @@ pub record IsValid (source : Source) (file : FileSource) (state : State) (world 
   pub in_view : view (file.cache state) world file.path ≡ Shown bytes
   pub formed : IsVersionOf source bytes
 
--- the call is answered, or refused as the version that a look gives itself refuses what is asked. Or a file failed, or memory ran
--- out
+-- the call is answered, or refused as the version that a look gives itself refuses what is asked. Or a
+-- file failed, or memory ran out
 abbrev pub IsServedOrFails : {A B : Type 0} → FindSymOpts → Source → FileSource → State → World → Query B → Result A Error → Type 0
 IsServedOrFails opts source file state world query (Ok given) = Unit {0}
 IsServedOrFails opts source file state world query (Err errors.ReadFault) = Unit {0}
 IsServedOrFails opts source file state world query (Err errors.OutOfMemory) = Unit {0}
 IsServedOrFails opts source file state world query (Err e) = AnswersLook opts source file state world query (Err e)
 
--- the call is answered, or refused as the version that is kept now itself refuses what is asked; unless memory ran out
+-- the call is answered, or refused as the version that is kept now itself refuses what is asked; unless
+-- memory ran out
 abbrev pub IsServedKept : {A B : Type 0} → FindSymOpts → Source → FileSource → Query B → Result A Error → State → Type 0
 IsServedKept opts source file query (Ok given) now = Unit {0}
 IsServedKept opts source file query (Err errors.OutOfMemory) now = Unit {0}
@@ -157,8 +163,8 @@ IsUnserved file kind = (file.answering.takes kind ≡ false) ⊎ (file.answering
 abbrev pub IsOwnRefusal : {B : Type 0} → Source → FindSymOpts → Query B → Error → Type 0
 IsOwnRefusal source opts query e = (bytes : List ℕ) × IsAnswerOf source opts bytes query (Err e)
 
--- all that a call promises of its answer, its refusals, and the state and the files that it leaves. Of a process this is said of
--- the kept files alone, and a record of its own says the rest
+-- all that a call promises of its answer, its refusals, and the state and the files that it leaves. Of
+-- a process this is said of the kept files alone, and a record of its own says the rest
 pub record Symbolizes {A B X : Type 0} (files : Ghosts X) (reading : A → B) (source : Source) (query : Query B)
     (result : Result A Error) (old now : State) (before after : X) : Type 0 where
   -- where kept versions cohere with the world in view, the version in view is answered
@@ -172,11 +178,12 @@ pub record Symbolizes {A B X : Type 0} (files : Ghosts X) (reading : A → B) (s
   -- where kept versions cohere with the world in view, each refusal has its cause in the view
   pub causes : OnFile source (λ file. Told (in_view (files.worlds before)) (λ world. Coherent (file.cache old).kept world →
       GivesOrFaults reading (view_answer (asked_of file (opts_of old.settings) query) (file.cache old) world file.path) result))
-  -- wherever a version of the source's format is in view, the call is answered, unless something fails. Or it is refused as the
-  -- version that a look gives itself refuses what is asked
+  -- wherever a version of the source's format is in view, the call is answered, unless something fails.
+  -- Or it is refused as the version that a look gives itself refuses what is asked
   pub complete : OnFile source (λ file. Told (in_view (files.worlds before)) (λ world.
       IsValid source file old world query.kind → IsServedOrFails (opts_of old.settings) source file old world query result))
-  -- the answer, the state that is left and the file that is read are those of the definitions, but for a process
+  -- the answer, the state that is left and the file that is read are those of the definitions, but for
+  -- a process
   pub told : Told (in_view (files.worlds before)) (λ world. UnlessProcess source (CallTold reading (opts_of old.settings) (form_of source) query result old now world (files.opens before) (files.opens after)))
   -- so the call is one of those whose lists keep versions coherent
   pub history : Told (in_view (files.worlds before)) (λ world. UnlessProcess source (MayLeave old world (Symbolize source query.kind) now))
@@ -190,8 +197,8 @@ pub record Symbolizes {A B X : Type 0} (files : Ghosts X) (reading : A → B) (s
   pub stays : OnFile source (λ file. IsSome (fixed (file.cache old) file.path) → (now ≡ old) × (after ≡ before))
   pub ready : OnFile source (λ file. IsSome (fixed (file.cache old) file.path) → file.answering.takes query.kind ≡ true →
       file.answering.serves query.kind ≡ true → IsServedKept (opts_of old.settings) source file query result now)
-  -- whatever is told, a refusal is `Unsupported` of a kind of address that isn't served, or that of a look or of the source's format.
-  -- Else some bytes in this format themselves refuse what is asked so
+  -- whatever is told, a refusal is `Unsupported` of a kind of address that isn't served, or that of a
+  -- look or of the source's format. Else some bytes in this format themselves refuse what is asked so
   pub refusal : OnFile source (λ file. IfErr result (λ e. MayBeRefused (IsUnserved file query.kind) file.test e ⊎ IsOwnRefusal source (opts_of old.settings) query e))
   pub settings : now.settings ≡ old.settings
   pub caches : WellKept now
@@ -199,7 +206,8 @@ pub record Symbolizes {A B X : Type 0} (files : Ghosts X) (reading : A → B) (s
   pub looked : Looked files before after (Faulted result)
   pub most : OnFile source (λ file. ReadsOne files before after)
 
--- of these, what follows from nothing else: what the call does on the source's file, and that nothing else changes
+-- of these, what follows from nothing else: what the call does on the source's file, and that nothing
+-- else changes
 pub record AsksSource {A B X : Type 0} (files : Ghosts X) (reading : A → B) (source : Source) (opts : FindSymOpts) (query : Query B)
     (result : Result A Error) (old now : State) (before after : X) : Type 0 where
   pub called : OnFile source (λ file. CallsFile files reading (asked_of file opts query) file.path result (file.cache old) (file.cache now) before after)

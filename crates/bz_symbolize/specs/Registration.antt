@@ -1,4 +1,5 @@
--- Registering the file of a resolver as an ELF file that is there: what a call promises, and what comes of it later.
+-- Registering the file of a resolver as an ELF file that is there: what a call promises, and what comes
+-- of it later.
 use Rattle.std.specs.Prelude.{◌≡◌, ◌⊎◌, ℕ, cond, List, [], ◌∷◌, Option, Some, None, IsSome, Result, Ok, Err, IfErr, OnOk, OnErr}
 use Rattle.std.specs.FinMap as map
 use Rattle.bz_base.specs.InputKind.{AddressKind}
@@ -27,20 +28,23 @@ IsKeptOut (Err errors.AlreadyExists) = Unit {0}
 IsKeptOut (Err errors.OutOfMemory) = Unit {0}
 IsKeptOut _ = ⊥
 
--- all that a registration promises of its answer, its refusals, and the state and the files that it leaves
+-- all that a registration promises of its answer, its refusals, and the state and the files that it
+-- leaves
 pub record Registers {A X : Type 0} (files : Ghosts X) (path bytes : List ℕ) (result : Result A Error) (old now : State) (before after : X) : Type 0 where
-  -- where it is told what lies at the path, the answer and the state that is left are those of the definitions
+  -- where it is told what lies at the path, the answer and the state that is left are those of the
+  -- definitions
   pub answer : Told (in_view (files.worlds before)) (λ world. GivesOrFaults (λ _. tt) (insertion old.elf path bytes (entry_at world path)).0 result)
   pub state : Told (in_view (files.worlds before)) (λ world. OnOk result (now ≡ state_after old world (Register path bytes)))
   -- so the call is one of those whose lists keep versions coherent, where it is true
   pub history : Told (in_view (files.worlds before)) (λ world. MayLeave old world (Register path bytes) now)
-  -- whatever is told, the bytes are kept as those of something that may lie there, and nothing else changes
-  pub some : OnOk result ((there : Option Entry) × (insertion old.elf path bytes there ≡ (Ok tt, now.elf)))
+  -- whatever is told, the bytes are kept as those of something that may lie there, and nothing else
+  -- changes
+  pub untold : OnOk result ((there : Option Entry) × (insertion old.elf path bytes there ≡ (Ok tt, now.elf)))
   pub rest : now ≡ record old { elf = now.elf }
   -- a refused call leaves the symbolizer as it was
   pub err : OnErr result (now ≡ old)
-  -- a path that is held and isn't looked at anew has a version: the call is refused for it, or since memory ran out. The files
-  -- are as they were
+  -- a path that is held and isn't looked at anew has a version: the call is refused for it, or since
+  -- memory ran out. The files are as they were
   pub kept_out : IsSome (fixed old.elf path) → IsKeptOut result × (after ≡ before)
   pub refusal : IfErr result (MayKeepOut old.elf path)
   pub caches : WellKept now
@@ -48,11 +52,13 @@ pub record Registers {A X : Type 0} (files : Ghosts X) (path bytes : List ℕ) (
   pub looked : Looked files before after (Faulted result)
   pub unopened : files.opens after ≡ files.opens before
 
--- the path is at the stamp: it is held there and isn't looked at anew, or a file with the stamp lies there
+-- the path is at the stamp: it is held there and isn't looked at anew, or a file with the stamp lies
+-- there
 abbrev pub IsAtStamp : Cache → World → List ℕ → Stamp → Type 0
 IsAtStamp cache world path stamp = (fixed cache path ≡ Some stamp) ⊎ ((fixed cache path ≡ None) × ((bytes : List ℕ) × (entry_at world path ≡ Some (Present stamp bytes))))
 
--- the states that a list of calls may leave, each call in its own world, where an ELF file with the stamp stays kept
+-- the states that a list of calls may leave, each call in its own world, where an ELF file with the
+-- stamp stays kept
 abbrev pub MayReachKeeping : Stamp → State → List (World × Call) → State → Type 0
 MayReachKeeping stamp start [] end = end ≡ start
 MayReachKeeping stamp start (step ∷ later) end = (next : State) × MayLeave start step.0 step.1 next × IsSome (map.get next.elf.kept stamp) × MayReachKeeping stamp next later end
@@ -67,12 +73,14 @@ pub record AnswersElf (state : State) (world : World) (path bytes : List ℕ) : 
 
 -- what comes of a registration that was answered
 pub record StaysRegistered (old : State) (world : World) (path bytes : List ℕ) : Type 0 where
-  -- a file was at the path; its stamp keeps the registered bytes, whatever the file's own are, and the path is at that stamp
+  -- a file was at the path; its stamp keeps the registered bytes, whatever the file's own are, and the
+  -- path is at that stamp
   pub stamp : Stamp
   pub there : List ℕ
   pub present : entry_at world path ≡ Some (Present stamp there)
   pub kept : map.get (state_after old world (Register path bytes)).elf.kept stamp ≡ Some bytes
   pub placed : IsAtStamp (state_after old world (Register path bytes)).elf world path stamp
-  -- as long as the stamp stays kept, over any list of calls, every path that is at it is answered by the registered bytes
+  -- as long as the stamp stays kept, over any list of calls, every path that is at it is answered by
+  -- the registered bytes
   pub answers : (calls : List (World × Call)) (now : State) (later : World) (other : List ℕ) →
       MayReachKeeping stamp (state_after old world (Register path bytes)) calls now → IsAtStamp now.elf later other stamp → AnswersElf now later other bytes

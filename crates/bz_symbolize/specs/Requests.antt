@@ -1,4 +1,5 @@
--- What a symbolizer may be asked to keep, and to forget, as plain data: a text by its bytes, whoever owns it.
+-- What a symbolizer may be asked to keep, and to forget, as plain data: a text by its bytes, whoever
+-- owns it.
 use Rattle.std.specs.Prelude.{ℕ, List, string_bytes}
 use Rattle.bz_base.specs.declared.pid.Pid.{Pid}
 use Rattle.bz_process.specs.declared.caching.ProcessCaching.{ProcessCaching}

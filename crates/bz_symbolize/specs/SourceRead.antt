@@ -11,7 +11,7 @@ pub data SourceRead : Type 0 where
   BreakpadAt : List ℕ → SourceRead  -- the Breakpad file at a path
   GsymAt : List ℕ → SourceRead  -- the GSYM file at a path
   GsymOf : List ℕ → SourceRead  -- these bytes as GSYM
-  ElfAt : List ℕ → Bool → SourceRead  -- the ELF file at a path, and whether debug symbols are looked for
+  ElfAt : List ℕ → Bool → SourceRead  -- the ELF file at a path; whether debug symbols are looked for
   ProcessOf : Process → SourceRead  -- a process, and how it is asked
 
 abbrev pub gsym_read : Gsym → SourceRead

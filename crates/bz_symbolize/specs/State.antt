@@ -1,4 +1,5 @@
--- The state of a symbolizer: how it was set, the files that it keeps, and what it keeps to answer for processes.
+-- The state of a symbolizer: how it was set, the files that it keeps, and what it keeps to answer for
+-- processes.
 use Rattle.std.specs.Prelude.{◌≡◌, ℕ, Bool, true, false, List, Option, None, refl}
 use Rattle.std.specs.Coded.{Coded, code_by, coded×, coded_ℕ, coded_bool, coded_list, coded_option}
 use Rattle.bz_base.specs.declared.error.Error.{Error}
@@ -10,7 +11,8 @@ use Rattle.bz_elf.specs.Format as elf
 use Rattle.bz_gsym.specs.Version as gsym
 use Rattle.bz_process.specs.Processes.{KeptProcesses, coded_processes, new_processes}
 
--- how a symbolizer is set: whether files are looked at anew, and whether answers have code info, and inlined calls.
+-- how a symbolizer is set: whether files are looked at anew, and whether answers have code info, and
+-- inlined calls.
 -- Whether names are demangled, and where debug files are looked for, is kept and has no effect.
 pub record Settings : Type 0 where
   pub reload : Bool
@@ -43,8 +45,8 @@ new_state settings = record {
   elf = new_cache settings.reload;
 }
 
--- a cache of a symbolizer is well kept: a stamp is kept exactly while some path names it, and every version is in the format. Paths
--- are looked at anew exactly where the settings say so
+-- a cache of a symbolizer is well kept: a stamp is kept exactly while some path names it, and every
+-- version is in the format. Paths are looked at anew exactly where the settings say so
 pub record IsWellKept (test : List ℕ → Option Error) (settings : Settings) (cache : Cache) : Type 0 where
   pub consistent : Consistent test cache
   pub reload : cache.reload ≡ settings.reload
@@ -71,7 +73,8 @@ coded_state =
     (λ p. record { settings = p.0; breakpad = p.1.0; gsym = p.1.1.0; elf = p.1.1.1 })
     (λ _. refl)
 
--- a symbolizer: its settings and the files of sources that it keeps, and what it keeps to answer for processes
+-- a symbolizer: its settings and the files of sources that it keeps, and what it keeps to answer for
+-- processes
 pub record WholeState (D R : Type 0) : Type 0 where
   pub files : State
   pub processes : KeptProcesses D R

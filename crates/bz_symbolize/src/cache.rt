@@ -43,8 +43,8 @@ impl fmt::Debug for Elf {
 }
 
 /// A process. What is kept of it answers also once the process is gone. The files that it has mapped
-/// aren't kept. They answer then only at their own paths, with `map_files` off, or where the ELF path that
-/// is looked at is pinned.
+/// aren't kept. They answer then only at their own paths, with `map_files` off, or where the ELF path
+/// that is looked at is pinned.
 #[derive(Drop)]
 pub struct Process {
     /// The process.

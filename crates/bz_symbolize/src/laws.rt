@@ -38,11 +38,11 @@ pub fn new_symbolizer_answers()
         file_answer (query_asked elf.format_test elf_answering opts path (batch_of kind addrs)) (new_state settings).elf path (entry_at world path) ≡ fresh_answer (elf_answer path kind addrs) (entry_at world path) }
 {}
 
-/// From a new symbolizer on, take any list of calls whose worlds agree with each other and with the present
-/// one. Kept Breakpad and GSYM files and perf maps then cohere with the world in view, whatever was
-/// registered. So do kept ELF files where each registration was of the bytes that its file had. A call on
-/// a process is the list of its looks. One that keeps or forgets what answers is the list of its looks,
-/// pins and forgotten paths.
+/// From a new symbolizer on, take any list of calls whose worlds agree with each other and with the
+/// present one. Kept Breakpad and GSYM files and perf maps then cohere with the world in view, whatever
+/// was registered. So do kept ELF files where each registration was of the bytes that its file had. A
+/// call on a process is the list of its looks. One that keeps or forgets what answers is the list of
+/// its looks, pins and forgotten paths.
 pub fn runs_stay_coherent()
     ensures read { (settings : Settings) (calls : List (World × Call)) (state : State) (world : World) →
         Agree (world ∷ map (λ call. call.0) calls) → MayReach (new_state settings) calls state → Coherent state.breakpad.kept world × Coherent state.gsym.kept world }
@@ -52,9 +52,9 @@ pub fn runs_stay_coherent()
         Agree (world ∷ map (λ call. call.0) calls) → PerfMapsMayReach (new_cache settings.reload) calls perf_maps → Coherent perf_maps.kept world }
 {}
 
-/// After a registration that is answered, take any list of calls in any worlds. The registered bytes answer
-/// an ELF source at the path while it is at the stamp that its file had, and this stays kept. So they do at
-/// any other path that comes to that stamp.
+/// After a registration that is answered, take any list of calls in any worlds. The registered bytes
+/// answer an ELF source at the path while it is at the stamp that its file had, and this stays kept. So
+/// they do at any other path that comes to that stamp.
 pub fn registered_files_answer()
     ensures { (state : State) (world : World) (path bytes : List ℕ) →
         IsElf bytes → (insertion state.elf path bytes (entry_at world path)).0 ≡ Ok tt → StaysRegistered state world path bytes }
@@ -66,21 +66,21 @@ pub fn entries_stand_alone()
     ensures { (source : Source) → OnFile source EntriesStandAlone }
 {}
 
-/// In two batches that are answered over the same version in view, equal addresses have equal entries. A
-/// batch in another order has its answers in that order.
+/// In two batches that are answered over the same version in view, equal addresses have equal entries.
+/// A batch in another order has its answers in that order.
 pub fn order_moves_answers()
     ensures { (source : Source) → OnFile source OrderMovesAnswers }
 {}
 
-/// An entry of an answered batch is what the single call makes of its address over the same version in view.
-/// There a refusal is an ignored error. That call is answered, or refused for its address.
+/// An entry of an answered batch is what the single call makes of its address over the same version in
+/// view. There a refusal is an ignored error. That call is answered, or refused for its address.
 pub fn batches_fold_refusals()
     ensures { (source : Source) → OnFile source (BatchesFoldRefusals source) }
 {}
 
-/// No version refuses a batch by itself, so a promise of a batch leaves no such refusal. What a Breakpad
-/// file answers to one is the batch of its table. What a GSYM file answers is that of its tables, and what
-/// an ELF file does that of its symbol table.
+/// No version refuses a batch by itself, so a promise of a batch leaves no such refusal. What a
+/// Breakpad file answers to one is the batch of its table. What a GSYM file answers is that of its
+/// tables, and what an ELF file does that of its symbol table.
 pub fn batches_are_answered()
     ensures refused { (source : Source) (opts : FindSymOpts) (bytes : List ℕ) (kind : AddressKind) (addrs : List ℕ) (e : Error) → IsAnswerOf source opts bytes (batch_of kind addrs) (Err e) → ⊥ }
     ensures breakpad { (opts : FindSymOpts) (bytes : List ℕ) (kind : AddressKind) (addrs : List ℕ) (answers : List Answer) →

@@ -109,9 +109,10 @@ impl fmt::Debug for Elf {
     }
 }
 
-/// A process. It takes absolute addresses: those of its memory. What it has mapped there answers. An address
-/// outside all mappings is `Unmapped`. Where a dispatcher gives no resolver, one of `[vdso]`, `[stack]` and
-/// the like is `Unsupported`. One of a mapping without a name is `UnknownAddr` where no perf map knows it.
+/// A process. It takes absolute addresses: those of its memory. What it has mapped there answers. An
+/// address outside all mappings is `Unmapped`. Where a dispatcher gives no resolver, one of `[vdso]`,
+/// `[stack]` and the like is `Unsupported`. One of a mapping without a name is `UnknownAddr` where no
+/// perf map knows it.
 #[derive(Drop)]
 pub struct Process {
     /// The process.

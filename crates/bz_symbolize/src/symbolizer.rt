@@ -81,9 +81,10 @@ impl<D: ProcessDispatch + Drop> Symbolizer<D> {
     /// ignored error. An empty batch looks at its file too. A call is refused by `Unsupported` where
     /// the source doesn't take the kind of address. It is refused by `NotFound`, `PermissionDenied` and
     /// `ReadFault` where its file is absent, may not be read or can't be. Bytes outside the format are
-    /// refused as the format says, and `OutOfMemory` may come. A refused call on a file leaves the symbolizer
-    /// as it was, with two exceptions. Where memory ran out, the file may have been taken in. An ELF file
-    /// that is asked for addresses of a process is taken in, since it refuses them after the look.
+    /// refused as the format says, and `OutOfMemory` may come. A refused call on a file leaves the
+    /// symbolizer as it was, with two exceptions. Where memory ran out, the file may have been taken
+    /// in. An ELF file that is asked for addresses of a process is taken in, since it refuses them
+    /// after the look.
     ///
     /// The file of a process is the text of its mappings. Where there are none, the call is refused by
     /// `UnexpectedEof`. A mapped file that can't be read refuses its addresses alone, but `ReadFault`

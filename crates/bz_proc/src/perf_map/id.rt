@@ -21,7 +21,7 @@ pub(crate) fn ns_tgid_of<F: Files>(alloc: Global, files: &mut F, pid: Pid, own: 
     ensures spared { Told (in_view (F.worlds files.old)) (λ world. has_file (entry_at world (status_path pid)) ≡ false → F.opens files.new ≡ F.opens files.old) }
     ensures most { ReadsOne F.Files files.old files.new }
     ensures files { Looked F.Files files.old files.new (Faulted result) }
-    ensures some { IfOk result (IsOfStatus pid own) }
+    ensures untold { IfOk result (IsOfStatus pid own) }
     ensures refusal { IfErr result IsReadRefusal }
 {
     let path = status_path(alloc, pid)?;

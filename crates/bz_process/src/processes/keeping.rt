@@ -14,12 +14,13 @@ use std::alloc::Global;
 
 impl<D: ProcessDispatch + Drop> Processes<D> {
     /// Keeps what answers for a process ahead of its addresses. Where its mappings are asked for, those
-    /// that lie there are kept. Where its perf map is asked for, its id is remembered. The perf map is then
-    /// looked at as if it weren't pinned, and pinned. One that is absent is pinned at the version that is
-    /// held, if one is. NotFound: the mappings or the status are absent. PermissionDenied, InvalidData: the
-    /// mappings, the status or the perf map may not be read, or isn't in its format. ReadFault: a file
-    /// failed. OutOfMemory: memory ran out. Mappings come first, then the status, then the perf map, and the
-    /// first that can't be had refuses. After a refusal all that is kept is as before.
+    /// that lie there are kept. Where its perf map is asked for, its id is remembered. The perf map is
+    /// then looked at as if it weren't pinned, and pinned. One that is absent is pinned at the version
+    /// that is held, if one is. NotFound: the mappings or the status are absent. PermissionDenied,
+    /// InvalidData: the mappings, the status or the perf map may not be read, or isn't in its format.
+    /// ReadFault: a file failed. OutOfMemory: memory ran out. Mappings come first, then the status,
+    /// then the perf map, and the first that can't be had refuses. After a refusal all that is kept is
+    /// as before.
     pub fn cache<F: Files>(
         &mut self,
         alloc: Global,
@@ -37,8 +38,8 @@ impl<D: ProcessDispatch + Drop> Processes<D> {
         )
     }
 
-    /// Forgets a process: its kept mappings, its id, and the perf map at the path kept beside the id. It
-    /// takes no memory.
+    /// Forgets a process: its kept mappings, its id, and the perf map at the path kept beside the id.
+    /// It takes no memory.
     pub fn evict_process(&mut self, pid: Pid)
         ensures { self.new ≡ without_process pid self.old }
     {

@@ -13,9 +13,9 @@ use bz_process::ProcessDispatch;
 use std::alloc::Global;
 
 impl<D: ProcessDispatch + Drop> Symbolizer<D> {
-    /// Keeps what answers ahead of addresses, so that it answers also once its files have changed or are
-    /// gone. It is an ELF file, or of a process its mappings, id and perf map. The files that a process has
-    /// mapped aren't kept by that.
+    /// Keeps what answers ahead of addresses, so that it answers also once its files have changed or
+    /// are gone. It is an ELF file, or of a process its mappings, id and perf map. The files that a
+    /// process has mapped aren't kept by that.
     ///
     /// An ELF file is looked at as if its path weren't pinned, and the path is pinned at the version
     /// that this look gives. A symbolizer that doesn't look at files anew pins a held path as it is. It
@@ -29,8 +29,8 @@ impl<D: ProcessDispatch + Drop> Symbolizer<D> {
     /// read, and by `InvalidData` where it isn't in its format. The first that can't be had
     /// refuses.
     ///
-    /// Either may be refused by `ReadFault` and `OutOfMemory` too. After a refusal, whichever it is, the
-    /// symbolizer is as before.
+    /// Either may be refused by `ReadFault` and `OutOfMemory` too. After a refusal, whichever it is,
+    /// the symbolizer is as before.
     pub fn cache<F: Files>(&mut self, alloc: Global, files: &mut F, cache: &Cache) -> Result<()>
         ensures { Caches F.Files (cache_read cache.now) result self.old self.new files.old files.new }
     {
@@ -44,10 +44,10 @@ impl<D: ProcessDispatch + Drop> Symbolizer<D> {
     }
 
     /// Forgets an ELF file: its path, pinned or not, with the versions that no other path names. What a
-    /// dispatcher said of mapped files with this path, their own or the one that stands for the mapping, is
-    /// forgotten too. Or forgets a process: its mappings, its id and its perf map. What a dispatcher said
-    /// stays then, as what it said of parts of the system always does. It is always answered, and takes no
-    /// memory.
+    /// dispatcher said of mapped files with this path, their own or the one that stands for the
+    /// mapping, is forgotten too. Or forgets a process: its mappings, its id and its perf map. What a
+    /// dispatcher said stays then, as what it said of parts of the system always does. It is always
+    /// answered, and takes no memory.
     pub fn evict(&mut self, evict: &Evict) -> Result<()>
         ensures { Evicts (evict_read evict.now) result self.old self.new }
     {

@@ -32,12 +32,12 @@ returns-clause-called g c opts =
     let by = by_lent (held_singles opts) asked c.args.path.now bytes view c.args.cache.now c.shared.new.self c.hold.result lent given in
     record {
       told = search rules;
-      some = inl by;
+      untold = inl by;
       untaken = search rules;
       stays = search rules;
       ready = λ fixed taken. by;
       consistent = search rules;
-      reload = ap (λ (x : Result (List ℕ) Error × Cache). x.1.reload) (sym lent.some.1) ∙ reload_look g.T.Version.test c.args.cache.now c.args.path.now lent.some.0;
+      reload = ap (λ (x : Result (List ℕ) Error × Cache). x.1.reload) (sym lent.untold.1) ∙ reload_look g.T.Version.test c.args.cache.now c.args.path.now lent.untold.0;
       looked = search rules;
       most = search rules;
     }

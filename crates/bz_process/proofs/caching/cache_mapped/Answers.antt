@@ -47,8 +47,8 @@ returns-in-Ok-clause-mappings g c world seen =
     let told = ((c.in_ok-mapped.ensures.step own (caches c.args.perf_maps.now.files c.args.perf_maps.now)).told world seen).answer in
     rw told c.in_ok-former.ensures.ok
 
-pub returns-in-Ok-clause-some : goal.returns-in-Ok-clause-some
-returns-in-Ok-clause-some g c = (c.in_ok-mapped.mapped, c.in_ok-mapped.ensures.some, c.in_ok-former.ensures.ok)
+pub returns-in-Ok-clause-untold : goal.returns-in-Ok-clause-untold
+returns-in-Ok-clause-untold g c = (c.in_ok-mapped.mapped, c.in_ok-mapped.ensures.untold, c.in_ok-former.ensures.ok)
 
 pub returns-in-Ok-clause-pinned : goal.returns-in-Ok-clause-pinned
 returns-in-Ok-clause-pinned g c elf =

@@ -11,9 +11,9 @@ returns-then-request-clause-step g c elf = rw c.if-request.true (c.cache_mapped.
 pub returns-then-request-clause-mappings : goal.returns-then-request-clause-mappings
 returns-then-request-clause-mappings g c world seen = rw c.if-request.true (c.cache_mapped.ensures.mappings world seen)
 
-pub returns-then-request-clause-some : goal.returns-then-request-clause-some
-returns-then-request-clause-some g c =
-    may_keep (caching_of (g.F.Files.pid c.args.files.now) c.args.request.now) c.cache_mapped.result c.args.mappings.now c.cache_mapped.new.mappings c.if-request.true c.cache_mapped.ensures.some
+pub returns-then-request-clause-untold : goal.returns-then-request-clause-untold
+returns-then-request-clause-untold g c =
+    may_keep (caching_of (g.F.Files.pid c.args.files.now) c.args.request.now) c.cache_mapped.result c.args.mappings.now c.cache_mapped.new.mappings c.if-request.true c.cache_mapped.ensures.untold
 
 pub returns-then-request-clause-pinned : goal.returns-then-request-clause-pinned
 returns-then-request-clause-pinned g c elf = c.cache_mapped.ensures.pinned elf
@@ -25,9 +25,9 @@ returns-else-request-clause-step g c elf = rw c.if-request.false (c.cache.ensure
 pub returns-else-request-clause-mappings : goal.returns-else-request-clause-mappings
 returns-else-request-clause-mappings g c world seen = on_ok c.cache.result _ (rw c.if-request.false refl)
 
-pub returns-else-request-clause-some : goal.returns-else-request-clause-some
-returns-else-request-clause-some g c =
-    on_ok c.cache.result (MayKeep (caching_of (g.F.Files.pid c.args.files.now) c.args.request.now) c.args.mappings.now c.args.mappings.now) (record { mappings = []; some = λ wanted. cc (sym c.if-request.false ∙ wanted); kept = rw c.if-request.false refl })
+pub returns-else-request-clause-untold : goal.returns-else-request-clause-untold
+returns-else-request-clause-untold g c =
+    on_ok c.cache.result (MayKeep (caching_of (g.F.Files.pid c.args.files.now) c.args.request.now) c.args.mappings.now c.args.mappings.now) (record { mappings = []; untold = λ wanted. cc (sym c.if-request.false ∙ wanted); kept = rw c.if-request.false refl })
 
 pub returns-else-request-clause-err : goal.returns-else-request-clause-err
 returns-else-request-clause-err g c = on_err c.cache.result _ refl

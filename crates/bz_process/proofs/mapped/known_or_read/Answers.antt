@@ -12,11 +12,11 @@ pub returns-in-None-clause-step : goal.returns-in-None-clause-step
 returns-in-None-clause-step g c own kept = rw (sym c.in-None.ensures.value) (c.read_mapped.ensures.step own kept)
 
 -- so they are the kept ones, or those of some text
-pub returns-in-Some-clause-some : goal.returns-in-Some-clause-some
-returns-in-Some-clause-some g c = from_kept c.args.pid _ c.in-Some.mapped.now c.share.result (sym c.in-Some.ensures.value) c.share.ensures.mapped
+pub returns-in-Some-clause-untold : goal.returns-in-Some-clause-untold
+returns-in-Some-clause-untold g c = from_kept c.args.pid _ c.in-Some.mapped.now c.share.result (sym c.in-Some.ensures.value) c.share.ensures.mapped
 
-pub returns-in-None-clause-some : goal.returns-in-None-clause-some
-returns-in-None-clause-some g c = rw (sym c.in-None.ensures.value) c.read_mapped.ensures.some
+pub returns-in-None-clause-untold : goal.returns-in-None-clause-untold
+returns-in-None-clause-untold g c = rw (sym c.in-None.ensures.value) c.read_mapped.ensures.untold
 
 pub returns-in-Some-clause-refusal : goal.returns-in-Some-clause-refusal
 returns-in-Some-clause-refusal g c = kept_lacks _ c.share.result c.share.ensures.memory

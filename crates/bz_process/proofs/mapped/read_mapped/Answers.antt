@@ -29,5 +29,5 @@ returns-clause-step g c own kept =
     text_told g.F.Files own (λ (k : List Mapping). k) (maps_told c.args.pid) (maps_path c.args.pid) (Ok c.in_ok-mappings-2.mappings.value) kept c.args.files.now c.read_mappings.new.files
     (λ world seen. read.answer world seen ∙ ap Ok (sym c.in_ok-mappings-2.ensures.ok)) read.spared read.most read.files
 
-pub returns-clause-some : goal.returns-clause-some
-returns-clause-some g c = rw c.in_ok-mappings-2.ensures.ok c.in_ok-mappings.ensures.some
+pub returns-clause-untold : goal.returns-clause-untold
+returns-clause-untold g c = rw c.in_ok-mappings-2.ensures.ok c.in_ok-mappings.ensures.untold

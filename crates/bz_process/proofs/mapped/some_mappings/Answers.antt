@@ -13,8 +13,8 @@ pub returns-clause-step : goal.returns-clause-step
 returns-clause-step g c own kept =
     mapped_checked g.F.Files own c.args.pid _ c.in_ok-mapped.mapped c.if_some.result kept c.args.files.now c.known_or_read.new.files (c.in_ok-mapped.ensures.step own kept) c.if_some.ensures
 
-pub returns-clause-some : goal.returns-clause-some
-returns-clause-some g c = some_used c.args.pid _ c.in_ok-mapped.mapped c.if_some.result c.in_ok-mapped.ensures.some c.if_some.ensures
+pub returns-clause-untold : goal.returns-clause-untold
+returns-clause-untold g c = some_used c.args.pid _ c.in_ok-mapped.mapped c.if_some.result c.in_ok-mapped.ensures.untold c.if_some.ensures
 
 pub returns-clause-refusal : goal.returns-clause-refusal
-returns-clause-refusal g c = some_lack c.args.pid _ c.in_ok-mapped.mapped c.if_some.result c.in_ok-mapped.ensures.some c.if_some.ensures
+returns-clause-refusal g c = some_lack c.args.pid _ c.in_ok-mapped.mapped c.if_some.result c.in_ok-mapped.ensures.untold c.if_some.ensures

@@ -16,10 +16,10 @@ returns-in-Path-clause-step g c own kept =
     rw c.in-Path.is (looks_at_elf g.F.Files own reading _ _ c.elf_answer.result (caches c.args.elf.now kept) c.elf_answer.new.cache c.args.files.now c.elf_answer.new.files called)
 
 -- where files tell nothing, some version of the file does
-pub returns-in-Component-clause-some : goal.returns-in-Component-clause-some
-returns-in-Component-clause-some g c own kept = rw c.in-Component.is (refl, refl)
+pub returns-in-Component-clause-untold : goal.returns-in-Component-clause-untold
+returns-in-Component-clause-untold g c own kept = rw c.in-Component.is (refl, refl)
 
-pub returns-in-Path-clause-some : goal.returns-in-Path-clause-some
-returns-in-Path-clause-some g c own kept =
+pub returns-in-Path-clause-untold : goal.returns-in-Path-clause-untold
+returns-in-Path-clause-untold g c own kept =
     let called = rw (c.file_of-file.ensures, c.as_str.ensures.value, c.offset_in-offset.ensures) at c.elf_answer.ensures in
-    rw c.in-Path.is (record { some = some_read reading _ _ c.elf_answer.result c.args.elf.now c.elf_answer.new.cache called.some; rest = refl })
+    rw c.in-Path.is (record { untold = some_read reading _ _ c.elf_answer.result c.args.elf.now c.elf_answer.new.cache called.untold; rest = refl })

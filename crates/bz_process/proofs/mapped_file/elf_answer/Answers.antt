@@ -18,7 +18,7 @@ returns-in_err-file g c =
     record {
       told = λ world told. rw (same.1, same.2) (told_refused reading asked c.args.path.now c.in_err-file.field-0.0
           c.args.cache.now _ (entry_at world c.args.path.now) _ _ refl kept (c.in_err-file.ensures.answer world told) (c.in_err-file.ensures.reads.spared world told));
-      some = search rules;
+      untold = search rules;
       untaken = search rules;
       stays = search rules;
       ready = search rules;
@@ -39,7 +39,7 @@ returns g c =
     let by = by_lent reading asked c.args.path.now bytes view c.args.cache.now c.entry.follows.lender-at-none c.at_offset.result lent given in
     record {
       told = search rules;
-      some = inl by;
+      untold = inl by;
       untaken = search rules;
       stays = search rules;
       ready = λ fixed taken. by;

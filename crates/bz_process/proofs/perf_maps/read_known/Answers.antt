@@ -8,5 +8,5 @@ pub returns-clause-known : goal.returns-clause-known
 returns-clause-known g c = made {X = g.row.F.Denot} g.F.Files c.args.pid (g.F.Files.pid c.args.files.now) c.new.result c.in_ok-id.id (string_bytes c.in_ok-path.path) c.new.ensures.known (rw c.own_pid-own.ensures at c.in_ok-path.ensures.path)
 
 -- the id is the one that some status tells
-pub returns-clause-some : goal.returns-clause-some
-returns-clause-some g c = has_id c.args.pid (g.F.Files.pid c.args.files.now) _ c.new.result c.new.ensures.known c.in_ok-id.ensures.some
+pub returns-clause-untold : goal.returns-clause-untold
+returns-clause-untold g c = has_id c.args.pid (g.F.Files.pid c.args.files.now) _ c.new.result c.new.ensures.known c.in_ok-id.ensures.untold

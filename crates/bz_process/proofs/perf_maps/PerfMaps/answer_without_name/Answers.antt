@@ -13,8 +13,8 @@ pub returns-then-query-clause-step : goal.returns-then-query-clause-step
 returns-then-query-clause-step g c elf = rw c.if-query.true (c.in_perf_map.ensures.step elf)
 
 -- the same where files tell nothing
-pub returns-else-query-clause-some : goal.returns-else-query-clause-some
-returns-else-query-clause-some g c elf = rw c.if-query.false (refl, refl)
+pub returns-else-query-clause-untold : goal.returns-else-query-clause-untold
+returns-else-query-clause-untold g c elf = rw c.if-query.false (refl, refl)
 
-pub returns-then-query-clause-some : goal.returns-then-query-clause-some
-returns-then-query-clause-some g c elf = rw c.if-query.true (c.in_perf_map.ensures.some elf)
+pub returns-then-query-clause-untold : goal.returns-then-query-clause-untold
+returns-then-query-clause-untold g c elf = rw c.if-query.true (c.in_perf_map.ensures.untold elf)

@@ -14,9 +14,9 @@ returns-clause-step g c elf =
     (softens g.F.Files own (and_then (remember c.args.pid own) (λ known. of_perf_map (asks_perf_map c.args.addr) known.perf_map)) c.look_in_perf_map.result
     (caches elf c.args.self.now) (caches elf c.look_in_perf_map.new.self) c.args.files.now c.look_in_perf_map.new.files (c.look_in_perf_map.ensures.step elf))
 
-pub returns-clause-some : goal.returns-clause-some
-returns-clause-some g c elf = record {
+pub returns-clause-untold : goal.returns-clause-untold
+returns-clause-untold g c elf = record {
   looked = as_read reading c.look_in_perf_map.result;
-  some = c.look_in_perf_map.ensures.some elf;
+  untold = c.look_in_perf_map.ensures.untold elf;
   softened = rw c.softened.ensures (softened_read c.look_in_perf_map.result);
 }

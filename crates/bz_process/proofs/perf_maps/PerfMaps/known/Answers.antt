@@ -15,14 +15,14 @@ pub returns-in-None-clause-step : goal.returns-in-None-clause-step
 returns-in-None-clause-step g c elf = rw c.get.follows.holds-at-none at (c.remember.ensures.step elf)
 
 -- the same where files tell nothing
-pub returns-in-Some-clause-some : goal.returns-in-Some-clause-some
-returns-in-Some-clause-some g c = recalled c.args.pid (g.F.Files.pid c.args.files.now) _ c.in-Some.known.now c.share.result (sym c.in-Some.ensures.value) c.share.ensures.known
+pub returns-in-Some-clause-untold : goal.returns-in-Some-clause-untold
+returns-in-Some-clause-untold g c = recalled c.args.pid (g.F.Files.pid c.args.files.now) _ c.in-Some.known.now c.share.result (sym c.in-Some.ensures.value) c.share.ensures.known
 
 pub returns-in-Some-clause-refusal : goal.returns-in-Some-clause-refusal
 returns-in-Some-clause-refusal g c = recall_lacks _ c.share.result c.share.ensures.memory
 
-pub returns-in-None-clause-some : goal.returns-in-None-clause-some
-returns-in-None-clause-some g c = rw (sym c.in-None.ensures.value) c.remember.ensures.some
+pub returns-in-None-clause-untold : goal.returns-in-None-clause-untold
+returns-in-None-clause-untold g c = rw (sym c.in-None.ensures.value) c.remember.ensures.untold
 
 pub returns-in-None-clause-refusal : goal.returns-in-None-clause-refusal
 returns-in-None-clause-refusal g c = rw (sym c.in-None.ensures.value) (status_lacks c.remember.result c.remember.ensures.refusal)

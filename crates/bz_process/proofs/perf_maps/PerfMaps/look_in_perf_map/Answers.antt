@@ -29,13 +29,13 @@ returns-clause-step g c elf =
     (looks_at_perf_map g.F.Files own reading _ known.perf_map c.perf_map_answer.result (caches elf c.known.new.self) c.perf_map_answer.new.cache c.known.new.files c.perf_map_answer.new.files called)
 
 -- the same where files tell nothing
-pub returns-in_err-known-clause-some : goal.returns-in_err-known-clause-some
-returns-in_err-known-clause-some g c elf =
+pub returns-in_err-known-clause-untold : goal.returns-in_err-known-clause-untold
+returns-in_err-known-clause-untold g c elf =
     let same = err_from_is_err_and c.from_residual.result c.from_residual.ensures.1 in
     rw (same.1, same.2) (inr (record { refused = refl; refusal = c.in_err-known.ensures.refusal; unchanged = ap (caches elf) c.in_err-known.ensures.err }))
 
-pub returns-clause-some : goal.returns-clause-some
-returns-clause-some g c elf =
+pub returns-clause-untold : goal.returns-clause-untold
+returns-clause-untold g c elf =
     let called = rw c.perf_map.ensures at c.perf_map_answer.ensures in
     by_known c.args.pid (g.F.Files.pid c.args.files.now) c.args.addr c.perf_map_answer.result c.in_ok-known.known (caches elf c.args.self.now) (caches elf c.known.new.self) c.perf_map_answer.new.cache
-    c.in_ok-known.ensures.some (ap (caches elf) c.in_ok-known.ensures.ok) called.some
+    c.in_ok-known.ensures.untold (ap (caches elf) c.in_ok-known.ensures.ok) called.untold

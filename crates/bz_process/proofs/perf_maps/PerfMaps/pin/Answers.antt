@@ -46,7 +46,7 @@ returns-clause-step g c elf =
 pub returns-in-Ok-clause-pinned : goal.returns-in-Ok-clause-pinned
 returns-in-Ok-clause-pinned g c elf =
     let own = g.F.Files.pid c.args.files.now in
-    let is_known = rw c.remembers-remembered.ensures.same at c.in_ok-known.ensures.some in
+    let is_known = rw c.remembers-remembered.ensures.same at c.in_ok-known.ensures.untold in
     let noted = rw c.remembers-remembered.ensures.same at c.in_ok-known.ensures.ok in
     let left = rw c.perf_map.ensures at c.in-Ok.ensures.left in
     pins_known c.args.pid own (in_view (g.F.Files.worlds c.args.files.now)) (in_view (g.F.Files.worlds c.known.new.files)) c.in_ok-known.known (caches elf c.args.self.now) (caches elf c.known.new.self) c.pin_perf_map.new.cache

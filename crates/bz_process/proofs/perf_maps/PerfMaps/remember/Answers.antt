@@ -41,5 +41,5 @@ returns-clause-step g c elf =
     rw (left, c.in_ok-shared.ensures.known) (remembers g.F.Files c.args.pid (g.F.Files.pid c.args.files.now) known (caches elf c.args.self.now) c.args.files.now c.read_known.new.files c.requires
     read.known read.answer read.spared read.most read.files)
 
-pub returns-clause-some : goal.returns-clause-some
-returns-clause-some g c = rw c.in_ok-shared.ensures.known (c.in_ok-known.ensures.some, c.in_ok-known.ensures.known)
+pub returns-clause-untold : goal.returns-clause-untold
+returns-clause-untold g c = rw c.in_ok-shared.ensures.known (c.in_ok-known.ensures.untold, c.in_ok-known.ensures.known)

@@ -13,4 +13,4 @@ pub returns : goal.returns
 returns g c =
     rw (← c.self.view_is)
     (caching_promised g.F.Files (caching_of (g.F.Files.pid c.args.files.now) c.args.request.now) c.cache_process.result _ _ c.args.files.now c.cache_process.new.files
-    c.cache_process.ensures.step c.cache_process.ensures.mappings c.cache_process.ensures.some c.cache_process.ensures.pinned c.cache_process.ensures.err c.cache_process.ensures.refusal c.cache_process.ensures.sure refl refl c.self.invariant.perf_maps)
+    c.cache_process.ensures.step c.cache_process.ensures.mappings c.cache_process.ensures.untold c.cache_process.ensures.pinned c.cache_process.ensures.err c.cache_process.ensures.refusal c.cache_process.ensures.sure refl refl c.self.invariant.perf_maps)

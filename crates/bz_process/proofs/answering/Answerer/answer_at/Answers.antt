@@ -2,7 +2,7 @@ use Rattle.std.proofs.Common.{sym}
 use Rattle.bz_proc.specs.Maps.{mapping_of}
 use Rattle.bz_process.specs.Terms.{kept_by, terms_of}
 use Rattle.bz_process.proofs.AskLemmas.{adds_owned, unmapped}
-use Rattle.bz_process.proofs.answering.Answering.answer_at.Goals as goal
+use Rattle.bz_process.proofs.answering.Answerer.answer_at.Goals as goal
 
 -- no mapping has the address
 pub returns-in-None-clause-asks : goal.returns-in-None-clause-asks

@@ -7,7 +7,7 @@ use Rattle.bz_files.specs.Looked.{Faulted, Looked}
 use Rattle.bz_process.specs.Terms.{kept_by, terms_of}
 use Rattle.bz_process.proofs.AskLemmas.{all_done, all_fail, all_stop, front_more, front_none, looked_ok, none_asked, split_at_next}
 use Rattle.bz_process.proofs.ProcessLemmas.{looked_both, unfailed, unfaulted}
-use Rattle.bz_process.proofs.answering.Answering.answers_at.Goals as goal
+use Rattle.bz_process.proofs.answering.Answerer.answers_at.Goals as goal
 
 -- memory ran out for the list of answers
 pub returns-in_err-answers-clause-asks : goal.returns-in_err-answers-clause-asks

@@ -1,7 +1,7 @@
 use Rattle.std.proofs.Common.{◌≡◌, take}
 use Rattle.bz_process.specs.ProcessAsk.{AsksFront}
 use Rattle.bz_process.specs.Terms.{kept_by, terms_of}
-use Rattle.bz_process.proofs.answering.Answering.answers_at.Given as goal
+use Rattle.bz_process.proofs.answering.Answerer.answers_at.Given as goal
 
 -- the first addresses were asked, and the dispatcher is the one that was
 abbrev pub invariant-loop-addr : goal.invariant-loop-addr

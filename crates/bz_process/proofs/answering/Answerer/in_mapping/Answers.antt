@@ -8,7 +8,7 @@ use Rattle.bz_process.specs.Caches.{caches}
 use Rattle.bz_process.specs.ProcessAsk.{AsksMapping}
 use Rattle.bz_process.specs.Terms.{kept_by, terms_of}
 use Rattle.bz_process.proofs.AskLemmas.{adds_named, in_named, in_unnamed, says, says_no_fault, says_refusal, unless, unless_same}
-use Rattle.bz_process.proofs.answering.Answering.in_mapping.Goals as goal
+use Rattle.bz_process.proofs.answering.Answerer.in_mapping.Goals as goal
 
 -- the mapping is of nothing
 pub returns-in-None-clause-asks : goal.returns-in-None-clause-asks
@@ -16,7 +16,7 @@ returns-in-None-clause-asks g c =
     let terms = terms_of g.D.ProcessDispatch g.D.Resolver.TranslateFileOffset g.D.Resolver.Symbolize c.args.self.now c.args.question.now (g.F.Files.pid c.args.files.now) in
     let none : option_map name_of c.args.entry.now.path_name ≡ None = ap (option_map name_of) c.in-None.is in
     in_unnamed g.F.Files terms (mapping_of c.args.entry.now) _ c.args.addr c.answer_without_name.result (caches c.args.elf.now c.args.self.now.perf_maps) (caches c.args.elf.now c.answer_without_name.new.self) c.args.self.now.dispatching.answers c.args.files.now c.answer_without_name.new.files
-    none (c.answer_without_name.ensures.step c.args.elf.now) (c.answer_without_name.ensures.some c.args.elf.now)
+    none (c.answer_without_name.ensures.step c.args.elf.now) (c.answer_without_name.ensures.untold c.args.elf.now)
 
 -- the resolver that is in charge answered
 pub returns-in-Some-2-clause-asks : goal.returns-in-Some-2-clause-asks
@@ -52,7 +52,7 @@ returns-in-None-2-clause-asks g c =
     let named : option_map name_of c.args.entry.now.path_name ≡ Some (name_of c.in-Some.name) = ap (option_map name_of) c.in-Some.is in
     in_named g.F.Files terms (mapping_of c.args.entry.now) c.in-Some.name _ c.args.addr None c.answer_by_name.result
     (kept_by c.args.elf.now c.args.self.now) (record { caches = caches c.answer_by_name.new.elf c.args.self.now.perf_maps; answers = c.say.new.self.answers }) c.args.files.now c.answer_by_name.new.files named
-    (unless c.answer_by_name.result _ (rw c.in-None-2.is at c.in_ok-answer-in-Some.ensures).said) tt (c.answer_by_name.ensures.some own c.args.self.now.perf_maps) (c.answer_by_name.ensures.step own c.args.self.now.perf_maps)
+    (unless c.answer_by_name.result _ (rw c.in-None-2.is at c.in_ok-answer-in-Some.ensures).said) tt (c.answer_by_name.ensures.untold own c.args.self.now.perf_maps) (c.answer_by_name.ensures.step own c.args.self.now.perf_maps)
 
 pub returns-in-Some-2-clause-adds : goal.returns-in-Some-2-clause-adds
 returns-in-Some-2-clause-adds g c =
