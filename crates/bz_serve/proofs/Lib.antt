@@ -5,6 +5,7 @@ pub mod FrameLemmas
 pub mod FrameRunLemmas
 pub mod FrameTextLemmas
 pub mod FrameTurnLemmas
+pub mod KeptTextLemmas
 pub mod RepliesLemmas
 pub mod RequestBoundLemmas
 pub mod RequestReplyLemmas

@@ -11,7 +11,8 @@ module _ {A : Type 0} (MaySay : A → List ℕ → Type 0) where
     text_is = ap (λ (all : List ℕ). text ++ all) are.text_is;
   }
 
-  -- replies to the requests so far were written. With replies to those that are left they are replies to all
+  -- replies to the requests so far were written. With replies to those that are left they are replies
+  -- to all
   pub record RepliedSoFar (requests left : List A) (was : List ℕ) (now : Option (List ℕ)) : Type 0 where
     pub front : List ℕ
     pub written : now ≡ Some (was ++ front)

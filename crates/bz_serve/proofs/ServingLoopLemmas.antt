@@ -79,7 +79,8 @@ fewest opens opened one rest reads few counts = omega (arith, few, counts)
 
 -- by what each request comes to, whatever requests are
 module _ {A : Type 0} (step : A → KeptState → World → RequestOutcome) where
-  -- worlds are told, in which the requests left come to the rest of the text, and read no more than is left of all reads
+  -- worlds are told, in which the requests left come to the rest of the text, and read no more than is
+  -- left of all reads
   pub record SoFar (text : List ℕ) (reads : ℕ) (state : KeptState) (left : List A) (first written : Option (List ℕ)) (opens : ℕ) (told : Option (List World)) : Type 0 where
     pub world : World
     pub later : List World
@@ -136,7 +137,7 @@ module _ {A W F : Type 0} (writes : output_trait.Ghosts W) (looks : files_trait.
     pub so_far : ToldWorlds (looks.worlds files_first) (λ worlds.
         SoFar (step (looks.pid files_first)) (texts_from (step (looks.pid files_first)) start (turns requests worlds)) (looks.opens files_first + reads_from (step (looks.pid files_first)) start (turns requests worlds))
         state left (writes.written output_first) (writes.written output) (looks.opens files) (looks.worlds files))
-    pub some : Told (writes.written output_first) (λ was. RepliedSoFar MaySay requests left was (writes.written output))
+    pub untold : Told (writes.written output_first) (λ was. RepliedSoFar MaySay requests left was (writes.written output))
     pub silent : ToldWorlds (looks.worlds files_first) (λ worlds. texts_from (step (looks.pid files_first)) start (turns requests worlds) ≡ [] → output ≡ output_first)
     pub turned : option_map (worlds_after left) (looks.worlds files) ≡ option_map (worlds_after requests) (looks.worlds files_first)
     pub output_steady : writes.faults output ≡ writes.faults output_first
@@ -153,7 +154,7 @@ module _ {A W F : Type 0} (writes : output_trait.Ghosts W) (looks : files_trait.
       wrote = record { front = []; whole = refl; written = λ was written. written ∙ ap Some (sym (append-nil was)) };
       few = omega arith;
     };
-    some = λ was written. replied_none MaySay requests was (writes.written output) written;
+    untold = λ was written. replied_none MaySay requests was (writes.written output) written;
     silent = λ world later told nothing. refl;
     turned = refl;
     output_steady = refl;
@@ -177,7 +178,7 @@ module _ {A W F : Type 0} (writes : output_trait.Ghosts W) (looks : files_trait.
               let more = so_far_more _ _ _ state request left _ _ _ _ (looks.worlds begun) before begins now (writes.written output_now) (looks.opens files_now) (one.whole _ seen_is) (one.state _ seen_is)
               (rw (← same_opens) (one.reads _ seen_is)) in
               rw one.looked.worlds more;
-          some = λ was written. replied_more MaySay requests left request was (writes.written output) (writes.written output_now) (so_far.some was written) (λ old told. let said = one.some old told in (said.0, may said.0 said.1, said.2));
+          untold = λ was written. replied_more MaySay requests left request was (writes.written output) (writes.written output_now) (so_far.untold was written) (λ old told. let said = one.untold old told in (said.0, may said.0 said.1, said.2));
           silent = λ world later told nothing.
               let before = so_far.so_far world later told in
               let seen_is = in_view_is _ _ _ state request left _ _ _ _ (looks.worlds begun) before begins in
@@ -199,7 +200,7 @@ module _ {A W F : Type 0} (writes : output_trait.Ghosts W) (looks : files_trait.
               let before = so_far.so_far world later told in
               let seen_is = in_view_is _ _ _ state request left _ _ _ _ (looks.worlds begun) before begins in
               so_far_front _ _ _ state request left _ _ _ _ (looks.worlds begun) before begins (writes.written output_now) (one.front _ seen_is);
-          some = λ was written. tt;
+          untold = λ was written. tt;
           silent = λ world later told nothing.
               let before = so_far.so_far world later told in
               let seen_is = in_view_is _ _ _ state request left _ _ _ _ (looks.worlds begun) before begins in
@@ -222,7 +223,7 @@ module _ {A W F : Type 0} (writes : output_trait.Ghosts W) (looks : files_trait.
         let wrote = (all.so_far world later told).wrote in
         wrote.written was written ∙ ap (λ text. Some (was ++ text)) (sym (wrote.whole ∙ append-nil wrote.front));
     front = λ world later told was written. tt;
-    some = λ was written. replied_all MaySay requests was (writes.written output) (all.some was written);
+    untold = λ was written. replied_all MaySay requests was (writes.written output) (all.untold was written);
     silent = all.silent;
     reads = λ world later told. let few = (all.so_far world later told).few in omega (arith, few);
     turned = turned_none (looks.worlds files) ∙ all.turned;
@@ -253,7 +254,7 @@ module _ {W F : Type 0} (writes : output_trait.Ghosts W) (looks : files_trait.Gh
       Serves writes looks config requests ended output_before output_after files_before files_after
   serves_from_all config requests (Ok given) ended output_before output_after files_before files_after all is = rw is (record {
     ends = λ world later told was written. (refl, all.whole world later told was written);
-    answered = λ _. all.some;
+    answered = λ _. all.untold;
     silent = all.silent;
     status = inl refl;
     reads = all.reads;

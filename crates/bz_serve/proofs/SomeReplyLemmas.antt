@@ -16,7 +16,7 @@ use Rattle.bz_proc.specs.Maps.{Mapping}
 use Rattle.bz_proc.specs.SystemText.{IsReadRefusal}
 use Rattle.bz_process.specs.Asked.{Asked, asked_of}
 use Rattle.bz_process.specs.Caches.{ProcessCaches}
-use Rattle.bz_process.specs.Dispatch.{Answers, Test}
+use Rattle.bz_process.specs.Dispatch.{DispatchAnswers, Test}
 use Rattle.bz_process.specs.Mapped.{AsksProcess, IsByMappings, LacksMappings, RefusedUnmapped, if_some}
 use Rattle.bz_process.specs.ProcessAsk.{GivesNone}
 use Rattle.bz_process.specs.ProcessCall.{UnlessFailed}
@@ -50,8 +50,9 @@ use Rattle.bz_symq.specs.declared.reply.Said.{Said}
 use Rattle.bz_symq.proofs.CauseLemmas.{file_causes}
 use Rattle.bz_symq.proofs.TargetLemmas.{by_source}
 use Rattle.bz_serve.specs.RequestSteps.{okay, query_by, target_form}
-use Rattle.bz_serve.specs.Serving.{Says, SaysRefusal}
+use Rattle.bz_serve.specs.Serving.{AreKeptOfText, Says, SaysRefusal}
 use Rattle.bz_serve.specs.SomeReplies.{AreSomeGiven, Circumstances, FileMaySay, IsAddressCause, IsAskedCause, IsSomeAnswer, IsSomeGiven, IsSomeKeepingCause, IsSomeReadCause, IsSourceFor, KeepingMaySay, MayReply, ProcessMaySay, ProcessMaySayAlone, SaysSome}
+use Rattle.bz_serve.proofs.KeptTextLemmas.{used_of_text}
 
 -- What is said.
 
@@ -195,7 +196,7 @@ lacks_cause (Some mappings) errors.InvalidInput lacks = let same = only_eof mapp
 lacks_cause (Some mappings) errors.AlreadyExists lacks = let same = only_eof mappings errors.AlreadyExists lacks in cc
 
 module _ {A R X : Type 0} (files : files_trait.Ghosts X) (reading : A → List Answer) (test : Test R) (translates : Translates R) (finds : Finds R) (opts : FindSymOpts) (asked : Asked) (kept : Option (List Mapping)) (addrs : List ℕ)
-    (old now : ProcessCaches) (answers answers_now : Answers R) (before after : X) where
+    (old now : ProcessCaches) (answers answers_now : DispatchAnswers R) (before after : X) where
   abbrev AsksSo : Result A Error → Type 0
   AsksSo result = AsksProcess files reading test translates finds opts asked kept addrs result old now answers answers_now before after
 
@@ -207,11 +208,10 @@ module _ {A R X : Type 0} (files : files_trait.Ghosts X) (reading : A → List A
   ]
 
 -- what a process was asked under in a call
-abbrev under : {D R : Type 0} → ℕ → Bool → ℕ → WholeState D R → WholeState D R → Circumstances
-under own map_files number old now = record {
+abbrev under : {D R : Type 0} → ℕ → Bool → WholeState D R → WholeState D R → Circumstances
+under own map_files old now = record {
   own = own;
   map_files = map_files;
-  mappings = kept_mappings old.processes (pid_of number);
   old = caches_of old.files.elf old.processes;
   now = caches_of now.files.elf now.processes;
 }
@@ -227,8 +227,12 @@ module _ {A D R X : Type 0} (looks : files_trait.Ghosts X) (reading : A → List
   of_form : (result : Result A Error) → BatchSo result → AsksOf result (query_by map_files number)
   of_form result promise = subst (λ (f : SourceForm). OnProcessForm f (AsksOf result)) is promise.asked
 
-  pub process_given : (given : A) → BatchSo (Ok given) → GivesNone test → AreSomeGiven number addrs (reading given)
-  process_given given promise none = (under (looks.pid before) map_files number old now, (of_form (Ok given) promise).some none refl)
+  pub process_given : (given : A) → BatchSo (Ok given) → GivesNone test → AreKeptOfText old.processes.mappings → AreSomeGiven number addrs (reading given)
+  process_given given promise none kept =
+      let by = (of_form (Ok given) promise).untold none refl in (
+        under (looks.pid before) map_files old now,
+        record { mappings = by.mappings; used = used_of_text (pid_of number) old.processes.mappings by.mappings kept by.used; untold = by.untold },
+      )
 
   pub process_refused : (e : Error) (result : Result Said Error) → BatchSo (Err e) → SaysRefusal e result → IfOk result (λ say. ProcessMaySay number addrs (text_of say))
   process_refused e result promise says =
@@ -250,53 +254,61 @@ module _ {A D R X : Type 0} (looks : files_trait.Ghosts X) (reading : A → Answ
   abbrev known : Option (List Mapping)
   known = kept_mappings old.processes (pid_of number)
 
+  -- what is by the mappings that are used is by those of some text
+  given_so : (given : Result Answer Error) → AreKeptOfText old.processes.mappings →
+      IsByMappings (asked_of (looks.pid before) (query_by map_files number)) known addr given (caches_of old.files.elf old.processes) (caches_of now.files.elf now.processes) → IsSomeGiven number addr given
+  given_so given kept by = (
+    under (looks.pid before) map_files old now,
+    record { mappings = by.mappings; used = used_of_text (pid_of number) old.processes.mappings by.mappings kept by.used; untold = by.untold },
+  )
+
   -- an answer of a process
-  address_given : (given : A) → AddressSo (Ok given) → GivesNone test → IsSomeGiven number addr (Ok (reading given))
-  address_given given promise none = elim ((at_form (Ok given) promise).some none refl) [
-    | inl by ↦ (under (looks.pid before) map_files number old now, by)
+  address_given : (given : A) → AddressSo (Ok given) → GivesNone test → AreKeptOfText old.processes.mappings → IsSomeGiven number addr (Ok (reading given))
+  address_given given promise none kept = elim ((at_form (Ok given) promise).untold none refl) [
+    | inl by ↦ given_so (Ok (reading given)) kept by
     | inr lacks ↦ absurd (false≢true lacks.refused)
   ]
 
   -- or a refusal of it, unless something failed
-  by_error : (e : Error) →
+  by_error : (e : Error) → AreKeptOfText old.processes.mappings →
       UnlessFailed {A = A} (Err e) (IsByMappings (asked_of (looks.pid before) (query_by map_files number)) known addr (Err e) (caches_of old.files.elf old.processes) (caches_of now.files.elf now.processes)
       ⊎ RefusedUnmapped {A = A} known (Err e) (caches_of old.files.elf old.processes) (caches_of now.files.elf now.processes) old.processes.answers now.processes.answers) →
       IsSomeCauseOrFails (λ e. IsAddressCause number addr e) e
-  by_error errors.ReadFault some = tt
-  by_error errors.OutOfMemory some = tt
-  by_error e (inl by) = inr (λ failed. failed, (under (looks.pid before) map_files number old now, by))
-  by_error e (inr lacks) = inl (lacks_cause known e lacks.refusal)
+  by_error errors.ReadFault kept some = tt
+  by_error errors.OutOfMemory kept some = tt
+  by_error e kept (inl by) = inr (λ failed. failed, given_so (Err e) kept by)
+  by_error e kept (inr lacks) = inl (lacks_cause known e lacks.refusal)
 
-  pub process_given_alone : (given : A) (result : Result Said Error) → AddressSo (Ok given) → GivesNone test → Says (answer_text addr (reading given)) result →
+  pub process_given_alone : (given : A) (result : Result Said Error) → AddressSo (Ok given) → GivesNone test → AreKeptOfText old.processes.mappings → Says (answer_text addr (reading given)) result →
       IfOk result (λ say. ProcessMaySayAlone number addr (text_of say))
-  process_given_alone given result promise none says =
-      says_given (answer_text addr) (λ answer. IsSomeGiven number addr (Ok answer)) (λ e. IsAddressCause number addr e) (reading given) result (address_given given promise none) says
+  process_given_alone given result promise none kept says =
+      says_given (answer_text addr) (λ answer. IsSomeGiven number addr (Ok answer)) (λ e. IsAddressCause number addr e) (reading given) result (address_given given promise none kept) says
 
-  pub process_refused_alone : (e : Error) (result : Result Said Error) → AddressSo (Err e) → GivesNone test → SaysRefusal e result →
+  pub process_refused_alone : (e : Error) (result : Result Said Error) → AddressSo (Err e) → GivesNone test → AreKeptOfText old.processes.mappings → SaysRefusal e result →
       IfOk result (λ say. ProcessMaySayAlone number addr (text_of say))
-  process_refused_alone e result promise none says =
-      says_refused (answer_text addr) (λ answer. IsSomeGiven number addr (Ok answer)) (λ e. IsAddressCause number addr e) e result (by_error e ((at_form (Err e) promise).some none refl)) says
+  process_refused_alone e result promise none kept says =
+      says_refused (answer_text addr) (λ answer. IsSomeGiven number addr (Ok answer)) (λ e. IsAddressCause number addr e) e result (by_error e kept ((at_form (Err e) promise).untold none refl)) says
 
 module _ {A D R X : Type 0} (looks : files_trait.Ghosts X) (reading : A → Answer) (source : Source) (addr : ℕ) (result : Result Said Error) (old now : WholeState D R) (before after : X)
     (test : Test R) (translates : Translates R) (finds : Finds R) (map_files : Bool) where
   -- of a target, whichever it is
   pub single_given : (target : Target) (given : A) → form_of source ≡ target_form map_files target → IsSourceFor target source →
       Symbolizes looks reading source (single_of (usual_kind target) addr) (Ok given) old.files now.files before after →
-      AddressOfProcess looks reading test translates finds source (usual_kind target) addr (Ok given) old now before after → GivesNone test →
+      AddressOfProcess looks reading test translates finds source (usual_kind target) addr (Ok given) old now before after → GivesNone test → AreKeptOfText old.processes.mappings →
       Says (answer_text addr (reading given)) result → IfOk result (λ say. MayReply (opts_of old.files.settings) (Single target addr) (text_of say))
-  single_given (Breakpad path) given form is promise process none says = file_given (opts_of old.files.settings) (single_of InFile addr) (answer_text addr) (BreakpadFile path) source result is now.files (reading given) promise.kept says
-  single_given (Gsym path) given form is promise process none says = file_given (opts_of old.files.settings) (single_of InTable addr) (answer_text addr) (GsymFile path) source result is now.files (reading given) promise.kept says
-  single_given (Elf path) given form is promise process none says = file_given (opts_of old.files.settings) (single_of InTable addr) (answer_text addr) (ElfFile path) source result is now.files (reading given) promise.kept says
-  single_given (OfProcess number) given form is promise process none says = process_given_alone looks reading test translates finds source map_files number form addr old now before after given result process none says
+  single_given (Breakpad path) given form is promise process none kept says = file_given (opts_of old.files.settings) (single_of InFile addr) (answer_text addr) (BreakpadFile path) source result is now.files (reading given) promise.kept says
+  single_given (Gsym path) given form is promise process none kept says = file_given (opts_of old.files.settings) (single_of InTable addr) (answer_text addr) (GsymFile path) source result is now.files (reading given) promise.kept says
+  single_given (Elf path) given form is promise process none kept says = file_given (opts_of old.files.settings) (single_of InTable addr) (answer_text addr) (ElfFile path) source result is now.files (reading given) promise.kept says
+  single_given (OfProcess number) given form is promise process none kept says = process_given_alone looks reading test translates finds source map_files number form addr old now before after given result process none kept says
 
   pub single_refused : (target : Target) (e : Error) → form_of source ≡ target_form map_files target → IsSourceFor target source →
       Symbolizes looks reading source (single_of (usual_kind target) addr) (Err e) old.files now.files before after →
-      AddressOfProcess looks reading test translates finds source (usual_kind target) addr (Err e) old now before after → GivesNone test →
+      AddressOfProcess looks reading test translates finds source (usual_kind target) addr (Err e) old now before after → GivesNone test → AreKeptOfText old.processes.mappings →
       SaysRefusal e result → IfOk result (λ say. MayReply (opts_of old.files.settings) (Single target addr) (text_of say))
-  single_refused (Breakpad path) e form is promise process none says = file_refused (opts_of old.files.settings) (single_of InFile addr) (answer_text addr) (BreakpadFile path) source result is e refl promise.refusal says
-  single_refused (Gsym path) e form is promise process none says = file_refused (opts_of old.files.settings) (single_of InTable addr) (answer_text addr) (GsymFile path) source result is e refl promise.refusal says
-  single_refused (Elf path) e form is promise process none says = file_refused (opts_of old.files.settings) (single_of InTable addr) (answer_text addr) (ElfFile path) source result is e refl promise.refusal says
-  single_refused (OfProcess number) e form is promise process none says = process_refused_alone looks reading test translates finds source map_files number form addr old now before after e result process none says
+  single_refused (Breakpad path) e form is promise process none kept says = file_refused (opts_of old.files.settings) (single_of InFile addr) (answer_text addr) (BreakpadFile path) source result is e refl promise.refusal says
+  single_refused (Gsym path) e form is promise process none kept says = file_refused (opts_of old.files.settings) (single_of InTable addr) (answer_text addr) (GsymFile path) source result is e refl promise.refusal says
+  single_refused (Elf path) e form is promise process none kept says = file_refused (opts_of old.files.settings) (single_of InTable addr) (answer_text addr) (ElfFile path) source result is e refl promise.refusal says
+  single_refused (OfProcess number) e form is promise process none kept says = process_refused_alone looks reading test translates finds source map_files number form addr old now before after e result process none kept says
 
 -- Keeping and forgetting.
 

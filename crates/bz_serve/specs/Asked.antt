@@ -18,7 +18,8 @@ abbrev pub or_bad_line : Result (List Request) ℕ → Result (List Request) Out
 or_bad_line (Ok requests) = Ok requests
 or_bad_line (Err n) = Err (bad_line n)
 
--- the requests of the input; or what the run comes to, where the input is too long or else has a bad line
+-- the requests of the input; or what the run comes to, where the input is too long or else has a bad
+-- line
 abbrev pub asked_in : List ℕ → Result (List Request) Outcome
 asked_in text = by_length text (Err too_long) (or_bad_line (requests_in text))
 
@@ -27,7 +28,8 @@ abbrev pub asked_of : Asked → Result (List Request) Outcome
 asked_of (askeds.Requests requests) = Ok (map request_of requests.items)
 asked_of (askeds.Bad reply) = Err (outcome_of reply)
 
--- what a run comes to over a list of worlds, where the own process has this id: each request is answered in its world
+-- what a run comes to over a list of worlds, where the own process has this id: each request is
+-- answered in its world
 abbrev pub outcome_by : Config → List World → ℕ → Result (List Request) Outcome → Outcome
 outcome_by config worlds own (Ok requests) = done_with (run_text config requests worlds own)
 outcome_by config worlds own (Err bad) = bad

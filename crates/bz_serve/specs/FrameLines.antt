@@ -1,4 +1,5 @@
--- The frames of a crash as lines spell them: a module's name, the module's id and an offset, with one space between each two.
+-- The frames of a crash as lines spell them: a module's name, the module's id and an offset, with one
+-- space between each two.
 use Rattle.std.specs.Prelude.{ℕ, List, [], ◌∷◌, Option, Some, None, Result, option_map, option_and_then, if◌then◌else◌}
 use Rattle.std.specs.Str.{IsUtf8, is_utf8}
 use Rattle.bz_requests.specs.Addresses.{IsAddress, address_in}
@@ -7,7 +8,8 @@ use Rattle.bz_requests.specs.Lines.{AreItems, items_in}
 use Rattle.bz_store.specs.Frames.{Frame, frame_of}
 use Rattle.bz_serve.specs.declared.frames.reading.FrameLine.{FrameLine}
 
--- a text is a frame, `MODULE ID ADDR`: the first two are UTF-8 text that may be empty, and the third spells the offset
+-- a text is a frame, `MODULE ID ADDR`: the first two are UTF-8 text that may be empty, and the third
+-- spells the offset
 pub record IsFrame (text : List ℕ) (frame : Frame) : Type 0 where
   pub addr : List ℕ
   pub are_fields : AreFields text (frame.file.0 ∷ frame.file.1 ∷ addr ∷ [])

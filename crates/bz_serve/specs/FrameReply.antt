@@ -32,7 +32,8 @@ abbrev pub by_frames : World → List ℕ → FindSymOpts → Result (List Frame
 by_frames world root opts (Ok frames) = done frames (map (answer_in world root opts) frames)
 by_frames world root opts (Err n) = bad_line n
 
--- the count of opens after that: one more for each frame of a good name whose key isn't kept then and whose path is present
+-- the count of opens after that: one more for each frame of a good name whose key isn't kept then and
+-- whose path is present
 abbrev pub opens_by : World → List ℕ → FindSymOpts → Result (List Frame) ℕ → ℕ → ℕ
 opens_by world root opts (Ok frames) n = opens_after_all capacity (found_each world root frames) (map (answer_in world root opts) frames) [] n
 opens_by world root opts (Err bad) n = n
@@ -51,7 +52,8 @@ IsFrameStatus (Err n) status = status ≡ statuses.Input
 pub record AreFound (root : List ℕ) (opts : FindSymOpts) (frames : List Frame) (readings : List FrameReading) (opens_before opens_after : ℕ) : Type 0 where
   pub visits : List (Frame × Found)
   pub of_frames : map (λ v. v.0) visits ≡ frames
-  -- each is by what is kept of its file, or else by what was found there, and files read for that are counted
+  -- each is by what is kept of its file, or else by what was found there, and files read for that are
+  -- counted
   pub readings_are : readings ≡ (visited capacity opts visits (state (new_shelf root capacity) [] opens_before)).answers
   pub opens_are : opens_after ≡ (visited capacity opts visits (state (new_shelf root capacity) [] opens_before)).opens
 

@@ -18,7 +18,8 @@ use Rattle.bz_serve.specs.FrameReply.{AreFound, opens_by}
 use Rattle.bz_serve.specs.FrameRun.{frames_outcome}
 use Rattle.bz_serve.specs.FrameText.{frame_texts}
 
--- a reply that the run is done has the texts of what was found for the input's frames, in as many reads as that takes
+-- a reply that the run is done has the texts of what was found for the input's frames, in as many reads
+-- as that takes
 pub record IsRunReply (root : List ℕ) (opts : FindSymOpts) (text said : List ℕ) (opens_before opens_after : ℕ) : Type 0 where
   pub frames : List Frame
   pub readings : List FrameReading

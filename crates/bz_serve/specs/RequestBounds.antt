@@ -51,8 +51,8 @@ abbrev pub batch_reads : Asked → Option (List Mapping) → List ℕ → World 
 batch_reads asked known addrs world kept =
     process_reads asked known addrs world kept + reads_again (λ answers. answers) addrs (asks_process asked known (map unsaid addrs) world kept).answer
 
--- what keeping a process may have read, as far as each is asked for. It is the text of its mappings, kept or not, its status,
--- and its perf map if the present stamp isn't kept
+-- what keeping a process may have read, as far as each is asked for. It is the text of its mappings,
+-- kept or not, its status, and its perf map if the present stamp isn't kept
 abbrev pub caching_reads : Caching → World → ProcessCaches → ℕ
 caching_reads asked world kept =
     count_of asked.vmas + cond asked.perf_map (left_to_read asked.pid world [] (perf_path (remember asked.pid asked.own world kept).answer) kept) 0

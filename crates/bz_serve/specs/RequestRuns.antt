@@ -33,7 +33,8 @@ module _ {A : Type 0} (step : A → KeptState → World → RequestOutcome) wher
   reads_from kept [] = 0
   reads_from kept (turn ∷ later) = (step turn.1 kept turn.0).reads + reads_from (step turn.1 kept turn.0).state later
 
--- all that a run of requests writes over a list of worlds, where the own process has this id: the symbolizer keeps nothing yet
+-- all that a run of requests writes over a list of worlds, where the own process has this id: the
+-- symbolizer keeps nothing yet
 abbrev pub run_text : Config → List Request → List World → ℕ → List ℕ
 run_text config requests worlds own = texts_from (step config.map_files own) (new_kept (settings_of config)) (turns requests worlds)
 

@@ -91,7 +91,8 @@ keeping own asked = record {
 abbrev pub forgetting : ToEvict → Doing (Unit {0})
 forgetting asked = record { answer = λ kept world. Ok tt; after = λ kept world. evicting asked kept; reads = λ kept world. 0 }
 
--- what a request comes to: the text that is written, the state of the symbolizer after it, and how many files are read at most
+-- what a request comes to: the text that is written, the state of the symbolizer after it, and how many
+-- files are read at most
 pub record RequestOutcome : Type 0 where
   pub text : List ℕ
   pub state : KeptState
@@ -110,7 +111,8 @@ done_by text_of doing kept world = record { text = said text_of (doing.answer ke
 abbrev pub okay : Unit {0} → List ℕ
 okay done = codes "ok\n"
 
--- the step that a request is: by the id of the own process, and by the setting for paths that stand for mappings
+-- the step that a request is: by the id of the own process, and by the setting for paths that stand for
+-- mappings
 abbrev pub step : Bool → ℕ → Request → KeptState → World → RequestOutcome
 step map_files own (Batch target addrs) = done_by (answer_texts addrs) (asking_batch own (target_form map_files target) (usual_kind target) addrs)
 step map_files own (Single target addr) = done_by (answer_text addr) (asking_single own (target_form map_files target) (usual_kind target) addr)

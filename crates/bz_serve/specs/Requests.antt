@@ -36,13 +36,16 @@ pub record ReadsRequests {R : Type 0} (reads : input_trait.Ghosts R) (result : R
 -- all that a run over an input of requests promises
 pub record RunsRequests {R W F : Type 0} (reads : input_trait.Ghosts R) (writes : output_trait.Ghosts W) (looks : files_trait.Ghosts F) (config : Config) (ended : Status)
     (input_before input_after : R) (output_before output_after : W) (files_before files_after : F) : Type 0 where
-  -- the run wrote the outcome's text and ended by its status, or it failed and wrote a front of that text
+  -- the run wrote the outcome's text and ended by its status, or it failed and wrote a front of that
+  -- text
   pub ends : Told (reads.left input_before) (λ text. ToldWorlds (looks.worlds files_before) (λ worlds. Told (writes.written output_before) (λ old.
       Ends (outcome_by config worlds (looks.pid files_before) (asked_in text)) old ended (writes.written output_after))))
-  -- status 0 means that the input was requests, and that the texts of their answers, each in its world, are what was written
+  -- status 0 means that the input was requests, and that the texts of their answers, each in its world,
+  -- are what was written
   pub done : ended ≡ statuses.Done → Told (reads.left input_before) (λ text. ToldWorlds (looks.worlds files_before) (λ worlds. Told (writes.written output_before) (λ old.
       IsServed config text worlds (looks.pid files_before) old (writes.written output_after))))
-  -- and whatever the files tell, that what was written is one reply to each request, which that request may have
+  -- and whatever the files tell, that what was written is one reply to each request, which that request
+  -- may have
   pub answered : ended ≡ statuses.Done → Told (reads.left input_before) (λ text. Told (writes.written output_before) (λ old.
       IsSomeServed config text old (writes.written output_after)))
   -- status 3 means that the input is bad, and a bad input is answered by it, unless the run fails
@@ -54,7 +57,8 @@ pub record RunsRequests {R W F : Type 0} (reads : input_trait.Ghosts R) (writes 
   pub status : (ended ≡ statuses.Input) ⊎ IsOrFails statuses.Done ended
   -- over a bad input no file is looked at
   pub unlooked : Told (reads.left input_before) (λ text. IsBadInput IsRequest text → files_after ≡ files_before)
-  -- a run that doesn't fail has read the input, and no run reads on past the byte that makes it too long
+  -- a run that doesn't fail has read the input, and no run reads on past the byte that makes it too
+  -- long
   pub read : IsNoFailure ended → IsReadWhole (reads.left input_before) (reads.left input_after)
   pub bounded : MovesAtMost (greatest_input + 1) (reads.left input_before) (reads.left input_after)
   -- until the input is read, no file is looked at and nothing is written
@@ -65,7 +69,8 @@ pub record RunsRequests {R W F : Type 0} (reads : input_trait.Ghosts R) (writes 
   -- no more files are read than the requests may read, each in its state and its world
   pub opens : Told (reads.left input_before) (λ text. ToldWorlds (looks.worlds files_before) (λ worlds.
       looks.opens files_after ≤ looks.opens files_before + reads_by config worlds (looks.pid files_before) (asked_in text)))
-  -- status 0 means that each request brought the next world into view, as long as there was a next one, and nothing else did
+  -- status 0 means that each request brought the next world into view, as long as there was a next one,
+  -- and nothing else did
   pub turned : ended ≡ statuses.Done → Told (reads.left input_before) (λ text. IfOk (asked_in text) (λ requests.
       looks.worlds files_after ≡ option_map (worlds_after requests) (looks.worlds files_before)))
   -- a fault comes exactly where one call failed, of input, output or files

@@ -1,5 +1,6 @@
 -- What a run of requests promises, and each of its parts.
 use Rattle.std.specs.Prelude.{◌≡◌, ◌⊎◌, ◌≤◌, ◌+◌, ℕ, List, [], ◌∷◌, ◌++◌, Option, Some, option_map, Result, Ok, Err, IfOk, IfErr, OnOk, OnErr}
+use Rattle.std.specs.List.{AllByRecursion}
 use Rattle.bz_base.specs.Refusals.{IsFailure}
 use Rattle.bz_base.specs.declared.error.Error.{Error}
 use Rattle.bz_base.specs.declared.error.Error.TheVariants as errors
@@ -11,6 +12,8 @@ use Rattle.bz_files.specs.declared.text.TextError.{TextError}
 use Rattle.bz_files.specs.declared.text.TextError.TheVariants as faults
 use Rattle.bz_files.specs.declared.text.TextOut as output_trait
 use Rattle.bz_cache.specs.Format.{GivesOrFaults}
+use Rattle.bz_proc.specs.MapsFile.{AreOfText}
+use Rattle.bz_process.specs.Caching.{KeptMappings}
 use Rattle.bz_process.specs.ProcessCall.{LeavesUnlessFailed}
 use Rattle.bz_requests.specs.Requests.{Request}
 use Rattle.bz_requests.specs.declared.requests.Config.{Config}
@@ -55,6 +58,10 @@ abbrev pub stop_by : Error → Stop
 stop_by errors.ReadFault = stops.Files
 stop_by _ = stops.Memory
 
+-- whatever was told, each process whose mappings are kept has those of some text of its own
+abbrev pub AreKeptOfText : KeptMappings → Type 0
+AreKeptOfText kept = AllByRecursion (λ entry. AreOfText entry.0 entry.1) kept
+
 -- worlds are told, and one is in view
 abbrev pub ToldWorlds : Option (List World) → (List World → Type 0) → Type 0
 ToldWorlds told P = (world : World) (later : List World) → told ≡ Some (world ∷ later) → P (world ∷ later)
@@ -74,31 +81,31 @@ pub record Replied {F : Type 0} (looks : files_trait.Ghosts F) (step : KeptState
   pub failure : IfErr result IsFailure
   pub looked : Looked looks before after (Faulted result)
 
--- a request was answered in the world in view, and its text was written, or a front of it; of an empty text nothing was.
--- Whatever the files tell, what an answered call wrote is a text that may be said
+-- a request was answered in the world in view, and its text was written, or a front of it; of an empty
+-- text nothing was. Whatever the files tell, what an answered call wrote is a text that may be said
 pub record Served {W F : Type 0} (writes : output_trait.Ghosts W) (looks : files_trait.Ghosts F) (step : KeptState → World → RequestOutcome) (MaySay : List ℕ → Type 0) (result : Result (Unit {0}) Stop)
     (old now : KeptState) (output_before output_after : W) (files_before files_after : F) : Type 0 where
   pub whole : Told (in_view (looks.worlds files_before)) (λ world. Told (writes.written output_before) (λ was.
       OnOk result (writes.written output_after ≡ Some (was ++ (step old world).text))))
   pub front : Told (in_view (looks.worlds files_before)) (λ world. Told (writes.written output_before) (λ was.
       OnErr result (WritesFront (step old world).text was (writes.written output_after))))
-  pub some : Told (writes.written output_before) (λ was. OnOk result ((text : List ℕ) × MaySay text × (writes.written output_after ≡ Some (was ++ text))))
+  pub untold : Told (writes.written output_before) (λ was. OnOk result ((text : List ℕ) × MaySay text × (writes.written output_after ≡ Some (was ++ text))))
   pub silent : Told (in_view (looks.worlds files_before)) (λ world. (step old world).text ≡ [] → output_after ≡ output_before)
   pub state : Told (in_view (looks.worlds files_before)) (λ world. OnOk result (now ≡ (step old world).state))
   pub reads : Told (in_view (looks.worlds files_before)) (λ world. looks.opens files_after ≤ looks.opens files_before + (step old world).reads)
   pub output_faults : CountsFaults (writes.faults output_before) (writes.faults output_after) (StopsBy stops.Output result)
   pub looked : Looked looks files_before files_after (StopsBy stops.Files result)
 
--- requests were answered, each in its world, and their texts were written, or a front of them. Nothing is written where these
--- are empty. What a request comes to may depend on the id of the own process. Whatever the files tell, an answered
--- call wrote for each a text that may be said to it
+-- requests were answered, each in its world, and their texts were written, or a front of them. Nothing
+-- is written where these are empty. What a request comes to may depend on the id of the own process.
+-- Whatever the files tell, an answered call wrote for each a text that may be said to it
 pub record ServesAll {A W F : Type 0} (writes : output_trait.Ghosts W) (looks : files_trait.Ghosts F) (step : ℕ → A → KeptState → World → RequestOutcome) (MaySay : A → List ℕ → Type 0) (requests : List A) (result : Result (Unit {0}) Stop)
     (old : KeptState) (output_before output_after : W) (files_before files_after : F) : Type 0 where
   pub whole : ToldWorlds (looks.worlds files_before) (λ worlds. Told (writes.written output_before) (λ was.
       OnOk result (writes.written output_after ≡ Some (was ++ texts_from (step (looks.pid files_before)) old (turns requests worlds)))))
   pub front : ToldWorlds (looks.worlds files_before) (λ worlds. Told (writes.written output_before) (λ was.
       OnErr result (WritesFront (texts_from (step (looks.pid files_before)) old (turns requests worlds)) was (writes.written output_after))))
-  pub some : Told (writes.written output_before) (λ was. OnOk result (WritesReplies MaySay requests was (writes.written output_after)))
+  pub untold : Told (writes.written output_before) (λ was. OnOk result (WritesReplies MaySay requests was (writes.written output_after)))
   pub silent : ToldWorlds (looks.worlds files_before) (λ worlds. texts_from (step (looks.pid files_before)) old (turns requests worlds) ≡ [] → output_after ≡ output_before)
   pub reads : ToldWorlds (looks.worlds files_before) (λ worlds. looks.opens files_after ≤ looks.opens files_before + reads_from (step (looks.pid files_before)) old (turns requests worlds))
   pub turned : OnOk result (looks.worlds files_after ≡ option_map (worlds_after requests) (looks.worlds files_before))
@@ -127,7 +134,8 @@ pub record Serves {W F : Type 0} (writes : output_trait.Ghosts W) (looks : files
   pub status : IsOrFails statuses.Done ended
   -- no more files are read than the requests may read, each in its state and its world
   pub reads : ToldWorlds (looks.worlds files_before) (λ worlds. looks.opens files_after ≤ looks.opens files_before + run_reads config requests worlds (looks.pid files_before))
-  -- status 0 means that each request brought the next world into view, as long as there was a next one, and nothing else did
+  -- status 0 means that each request brought the next world into view, as long as there was a next one,
+  -- and nothing else did
   pub turned : ended ≡ statuses.Done → looks.worlds files_after ≡ option_map (worlds_after requests) (looks.worlds files_before)
   -- a fault comes exactly where one call failed, of the files or of the output
   pub fails : (CountsFaults (writes.faults output_before) (writes.faults output_after) (ended ≡ statuses.Fault) × (looks.faults files_after ≡ looks.faults files_before))

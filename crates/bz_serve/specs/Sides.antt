@@ -8,8 +8,8 @@ use Rattle.bz_symq.specs.Run.{Side, AtInput, AtFiles, AtOutput}
 use Rattle.bz_symq.specs.declared.status.Status.{Status}
 use Rattle.bz_symq.specs.declared.status.Status.TheVariants as statuses
 
--- a run ends by status 4 exactly where a call failed, at one side. There the count of faults is one more, and at the others it
--- stands still: no failed call is hidden behind another status
+-- a run ends by status 4 exactly where a call failed, at one side. There the count of faults is one
+-- more, and at the others it stands still: no failed call is hidden behind another status
 pub record FailsAtOneSide {R W F : Type 0} (reads : input_trait.Ghosts R) (writes : output_trait.Ghosts W) (looks : files_trait.Ghosts F) (ended : Status)
     (input_before input_after : R) (output_before output_after : W) (files_before files_after : F) : Type 0 where
   pub failed : Option Side

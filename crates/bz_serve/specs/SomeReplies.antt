@@ -1,11 +1,10 @@
 -- What may be replied to a request, whatever the files tell.
-use Rattle.std.specs.Prelude.{◌≡◌, ◌⊎◌, ℕ, Bool, List, ◌++◌, Option, Some, Result, Ok, Err}
+use Rattle.std.specs.Prelude.{◌≡◌, ◌⊎◌, ℕ, Bool, List, ◌++◌, Option, Some, None, Result, Ok, Err}
 use Rattle.std.specs.List.{AllZip, concat}
 use Rattle.bz_base.specs.Answer.{Answer}
 use Rattle.bz_base.specs.declared.error.Error.{Error}
 use Rattle.bz_base.specs.declared.error.Error.TheVariants as errors
 use Rattle.bz_base.specs.declared.types.FindSymOpts.{FindSymOpts}
-use Rattle.bz_proc.specs.Maps.{Mapping}
 use Rattle.bz_process.specs.Asked.{Asked, asked_of}
 use Rattle.bz_process.specs.Caches.{ProcessCaches}
 use Rattle.bz_process.specs.Mapped.{AreByMappings, IsByMappings}
@@ -42,7 +41,8 @@ IsSomeAnswer opts file query answer = (bytes : List ℕ) × IsAnswerBy opts file
 abbrev pub SaysSome : {B : Type 0} → (B → List ℕ) → (B → Type 0) → (Error → Type 0) → List ℕ → Type 0
 SaysSome {B} text_of Given Cause text = ((given : B) × Given given × (text ≡ text_of given)) ⊎ IsSomeRefusal Cause text
 
--- a file may be refused for a cause of its own, or as some bytes in its format themselves refuse what is asked
+-- a file may be refused for a cause of its own, or as some bytes in its format themselves refuse what
+-- is asked
 abbrev pub IsAskedCause : {B : Type 0} → FindSymOpts → FileTarget → Query B → Error → Type 0
 IsAskedCause opts file query e = IsSomeFileCause file e ⊎ IsSomeAnswer opts file query (Err e)
 
@@ -50,12 +50,11 @@ IsAskedCause opts file query e = IsSomeFileCause file e ⊎ IsSomeAnswer opts fi
 abbrev pub FileMaySay : {B : Type 0} → (B → List ℕ) → FindSymOpts → FileTarget → Query B → List ℕ → Type 0
 FileMaySay text_of opts file query text = SaysSome text_of (λ given. IsSomeAnswer opts file query (Ok given)) (λ e. IsAskedCause opts file query e) text
 
--- what a process is asked under: the id of the own one, the setting for paths that stand for mappings, the mappings that are kept
--- of it, if any, and the files that are kept before the request and after it
+-- what a process is asked under: the id of the own one, the setting for paths that stand for mappings,
+-- and the files that are kept before the request and after it
 pub record Circumstances : Type 0 where
   pub own : ℕ
   pub map_files : Bool
-  pub mappings : Option (List Mapping)
   pub old : ProcessCaches
   pub now : ProcessCaches
 
@@ -63,13 +62,14 @@ pub record Circumstances : Type 0 where
 abbrev pub asked_under : Circumstances → ℕ → Asked
 asked_under so number = asked_of so.own (query_by so.map_files number)
 
--- the process with this number gave these answers, by kept mappings or else those of some text
+-- the process with this number gave these answers, by the mappings of some text of its own, whether
+-- they were kept or not
 abbrev pub AreSomeGiven : ℕ → List ℕ → List Answer → Type 0
-AreSomeGiven number addrs answers = (so : Circumstances) × AreByMappings (asked_under so number) so.mappings addrs answers so.old so.now
+AreSomeGiven number addrs answers = (so : Circumstances) × AreByMappings (asked_under so number) None addrs answers so.old so.now
 
 -- and so it answered or refused an address alone
 abbrev pub IsSomeGiven : ℕ → ℕ → Result Answer Error → Type 0
-IsSomeGiven number addr given = (so : Circumstances) × IsByMappings (asked_under so number) so.mappings addr given so.old so.now
+IsSomeGiven number addr given = (so : Circumstances) × IsByMappings (asked_under so number) None addr given so.old so.now
 
 -- a process may say such a text to addresses: answers, or why it lacks mappings
 abbrev pub ProcessMaySay : ℕ → List ℕ → List ℕ → Type 0

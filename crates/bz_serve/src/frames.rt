@@ -15,8 +15,8 @@ pub use reading::read_frames;
 use std::alloc::Global;
 pub use writing::{frame_text, frame_texts};
 
-/// Reads the whole input, which is frames, one on a line, and writes what they are answered by the symbol
-/// files below the root.
+/// Reads the whole input, which is frames, one on a line, and writes what they are answered by the
+/// symbol files below the root.
 pub fn run_frames<R: TextIn, W: TextOut, F: Files>(
     alloc: Global,
     root: &str,

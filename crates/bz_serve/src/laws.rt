@@ -17,10 +17,10 @@ ghost use Rattle.bz_symq.specs.Processes.{asked_by, nothing_kept, process_batch}
 
 /// A request reads no more files than what is kept leaves to read. A file may be read where its present
 /// stamp isn't kept. Of a process, mappings may be read where none are kept, and a status where its id
-/// isn't remembered. Each of its mapped files and perf maps may be read once, where its present stamp isn't
-/// kept. In a batch one more may be read for each address that is refused. A run of requests reads no more
-/// than the sum of these, each in its state and its world. A run of one batch reads no more than that
-/// batch, where nothing is kept.
+/// isn't remembered. Each of its mapped files and perf maps may be read once, where its present stamp
+/// isn't kept. In a batch one more may be read for each address that is refused. A run of requests
+/// reads no more than the sum of these, each in its state and its world. A run of one batch reads no
+/// more than that batch, where nothing is kept.
 pub fn requests_read_few()
     ensures request { (map_files : Bool) (own : ℕ) (request : Request) (kept : KeptState) (world : World) → (step map_files own request kept world).reads ≤ request_reads map_files own request kept world }
     ensures run { (config : Config) (requests : List Request) (worlds : List World) (own : ℕ) → run_reads config requests worlds own ≤ requests_read config.map_files own (new_kept (settings_of config)) (turns requests worlds) }
@@ -28,9 +28,9 @@ pub fn requests_read_few()
     ensures caching { (asked : Caching) (world : World) (kept : ProcessCaches) → (caches_process asked world kept).opens ≤ caching_reads asked world kept }
 {}
 
-/// The frame that is read of a line's content is the one that it spells. Those that are read of an input
-/// are those that its lines say. The number that is read of another one is that of its first line that
-/// isn't well formed.
+/// The frame that is read of a line's content is the one that it spells. Those that are read of an
+/// input are those that its lines say. The number that is read of another one is that of its first line
+/// that isn't well formed.
 pub fn frames_are_read()
     ensures frame { (text : List ℕ) (frame : Frame) → (frame_in text ≡ Some frame) ↔ IsFrame text frame }
     ensures frames { (text : List ℕ) (frames : List Frame) → (frames_in text ≡ Ok frames) ↔ AreFrames text frames }

@@ -2,7 +2,7 @@
 
 ghost use Rattle.std.specs.Prelude.{◌≡◌, ◌<◌, map};
 ghost use Rattle.bz_requests.specs.Requests.{request_of};
-ghost use Rattle.bz_serve.specs.Serving.{EndsAs, Served, Serves, ServesAll, StopsAs, stop_by};
+ghost use Rattle.bz_serve.specs.Serving.{AreKeptOfText, EndsAs, Served, Serves, ServesAll, StopsAs, stop_by};
 ghost use Rattle.bz_serve.specs.RequestSteps.{step};
 ghost use Rattle.bz_serve.specs.SomeReplies.{MayReply};
 ghost use Rattle.bz_symbolize.specs.State.{opts_of};
@@ -68,7 +68,7 @@ fn serve_blank<W: TextOut, F: Files, L: Ledger>(
 ) -> Status
     requires name { blank.name ≡ L.name }
     requires parts { blank.parts ≡ L.parts }
-    requires some { 0 < L.parts }
+    requires positive { 0 < L.parts }
     ensures { Serves W.TextOut F.Files config (map request_of requests.now) result output.old output.new files.old files.new }
 {
     let mut steps = Steps::<L>::new(blank);
@@ -99,6 +99,7 @@ fn serve_all<W: TextOut, F: Files, L: Ledger>(
     files: &mut F,
     steps: &mut Steps<L>,
 ) -> Result<(), Stop>
+    requires { AreKeptOfText server.old.symbolizer.processes.mappings }
     ensures { ServesAll W.TextOut F.Files (step server.old.map_files) (MayReply (opts_of server.old.symbolizer.files.settings)) (map request_of requests.now) result (kept_of server.old.symbolizer) output.old output.new files.old files.new }
 {
     for request in requests {
@@ -117,9 +118,11 @@ fn serve_one<W: TextOut, F: Files, L: Ledger>(
     files: &mut F,
     steps: &mut Steps<L>,
 ) -> Result<(), Stop>
+    requires { AreKeptOfText server.old.symbolizer.processes.mappings }
     ensures served { Served W.TextOut F.Files (step server.old.map_files (F.pid files.old) (request_of request.now)) (MayReply (opts_of server.old.symbolizer.files.settings) (request_of request.now)) result (kept_of server.old.symbolizer) (kept_of server.new.symbolizer) output.old output.new files.old files.new }
     ensures map_files { server.new.map_files ≡ server.old.map_files }
     ensures settings { server.new.symbolizer.files.settings ≡ server.old.symbolizer.files.settings }
+    ensures kept { AreKeptOfText server.new.symbolizer.processes.mappings }
 {
     match reply_to_request(alloc, server, request, files, steps) {
         Ok(said) => stopped(write_said(alloc, output, &said)),

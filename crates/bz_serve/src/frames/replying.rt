@@ -20,8 +20,8 @@ use std::alloc::Global;
 /// How many symbol files are kept at most.
 const CAPACITY: usize = 64;
 
-/// Answers the frames of an input from the symbol files below a root, in a store of its own. ReadFault: a
-/// file couldn't be read, and the count of faults rose. OutOfMemory: memory ran out.
+/// Answers the frames of an input from the symbol files below a root, in a store of its own. ReadFault:
+/// a file couldn't be read, and the count of faults rose. OutOfMemory: memory ran out.
 pub(crate) fn reply_to_frames<F: Files>(
     alloc: Global,
     root: &str,

@@ -4,7 +4,7 @@ ghost use Rattle.std.specs.Prelude.{◌≡◌, ℕ, Bool, true, IfOk};
 ghost use Rattle.bz_base.specs.InputKind.{InProcess, address_kind, payload};
 ghost use Rattle.bz_process.specs.declared.query.ProcessQuery.{ProcessQuery};
 ghost use Rattle.bz_requests.specs.Requests.{request_of, target_of, Batch, Single};
-ghost use Rattle.bz_serve.specs.Serving.{Replied, Says};
+ghost use Rattle.bz_serve.specs.Serving.{AreKeptOfText, Replied, Says};
 ghost use Rattle.bz_serve.specs.RequestSteps.{asking, asking_batch, done_by, keeping, okay, query_by, step};
 ghost use Rattle.bz_serve.specs.SomeReplies.{FileMaySay, KeepingMaySay, MayReply, ProcessMaySay};
 ghost use Rattle.bz_symbolize.specs.Evicting.{evicting};
@@ -42,10 +42,12 @@ pub(crate) fn reply_to_request<F: Files, L: Ledger>(
     files: &mut F,
     steps: &mut Steps<L>,
 ) -> Result<Said>
+    requires { AreKeptOfText server.old.symbolizer.processes.mappings }
     ensures reply { Replied F.Files (step server.old.map_files (F.pid files.old) (request_of request.now)) result (kept_of server.old.symbolizer) (kept_of server.new.symbolizer) files.old files.new }
-    ensures some { IfOk result (λ said. MayReply (opts_of server.old.symbolizer.files.settings) (request_of request.now) (text_of said)) }
+    ensures untold { IfOk result (λ said. MayReply (opts_of server.old.symbolizer.files.settings) (request_of request.now) (text_of said)) }
     ensures map_files { server.new.map_files ≡ server.old.map_files }
     ensures settings { server.new.symbolizer.files.settings ≡ server.old.symbolizer.files.settings }
+    ensures kept { AreKeptOfText server.new.symbolizer.processes.mappings }
 {
     match request {
         Request::Batch(target, addrs) => {
@@ -79,10 +81,12 @@ fn reply_to_addrs<F: Files, L: Ledger>(
     files: &mut F,
     steps: &mut Steps<L>,
 ) -> Result<Said>
+    requires { AreKeptOfText server.old.symbolizer.processes.mappings }
     ensures reply { Replied F.Files (step server.old.map_files (F.pid files.old) (Batch (target_of target.now) addrs.now)) result (kept_of server.old.symbolizer) (kept_of server.new.symbolizer) files.old files.new }
-    ensures some { IfOk result (λ said. MayReply (opts_of server.old.symbolizer.files.settings) (Batch (target_of target.now) addrs.now) (text_of said)) }
+    ensures untold { IfOk result (λ said. MayReply (opts_of server.old.symbolizer.files.settings) (Batch (target_of target.now) addrs.now) (text_of said)) }
     ensures map_files { server.new.map_files ≡ server.old.map_files }
     ensures settings { server.new.symbolizer.files.settings ≡ server.old.symbolizer.files.settings }
+    ensures kept { AreKeptOfText server.new.symbolizer.processes.mappings }
 {
     let src = source_of(alloc, server.map_files, target)?;
     let symbolizer = &mut server.symbolizer;
@@ -107,9 +111,10 @@ fn reply_by_file<F: Files, L: Ledger>(
 ) -> Result<Said>
     ensures reply { (file : FileSource) → form_of src.now ≡ OneFile file →
         Replied F.Files (done_by (answer_texts (payload input).items) (asking (OneFile file) (batch_of (address_kind input) (payload input).items))) result (kept_of symbolizer.old) (kept_of symbolizer.new) files.old files.new }
-    ensures some { (file : FileTarget) → IsSourceOf file src.now → file_takes file (address_kind input) ≡ true →
+    ensures untold { (file : FileTarget) → IsSourceOf file src.now → file_takes file (address_kind input) ≡ true →
         IfOk result (λ said. FileMaySay (answer_texts (payload input).items) (opts_of symbolizer.old.files.settings) file (batch_of (address_kind input) (payload input).items) (text_of said)) }
     ensures settings { symbolizer.new.files.settings ≡ symbolizer.old.files.settings }
+    ensures processes { symbolizer.new.processes ≡ symbolizer.old.processes }
 {
     match symbolizer.look_up(alloc, files, src, input, steps) {
         Ok(lookups) => Ok(Said::Answers(lookups)),
@@ -126,10 +131,12 @@ fn reply_by_process<F: Files, L: Ledger>(
     files: &mut F,
     steps: &mut Steps<L>,
 ) -> Result<Said>
+    requires { AreKeptOfText symbolizer.old.processes.mappings }
     ensures reply { (query : ProcessQuery) → form_of src.now ≡ OneProcess query →
         Replied F.Files (done_by (answer_texts addrs.items) (asking_batch (F.pid files.old) (OneProcess query) InProcess addrs.items)) result (kept_of symbolizer.old) (kept_of symbolizer.new) files.old files.new }
-    ensures some { (map_files : Bool) (number : ℕ) → form_of src.now ≡ OneProcess (query_by map_files number) → IfOk result (λ said. ProcessMaySay number addrs.items (text_of said)) }
+    ensures untold { (map_files : Bool) (number : ℕ) → form_of src.now ≡ OneProcess (query_by map_files number) → IfOk result (λ said. ProcessMaySay number addrs.items (text_of said)) }
     ensures settings { symbolizer.new.files.settings ≡ symbolizer.old.files.settings }
+    ensures kept { AreKeptOfText symbolizer.new.processes.mappings }
 {
     match symbolizer.symbolize_counted(alloc, files, src, Input::AbsAddr(addrs.as_slice()), steps) {
         Ok(answers) => Ok(Said::Owned(OwnedAnswers { addrs, answers })),
@@ -144,10 +151,12 @@ fn reply_to_addr<F: Files>(
     addr: Addr,
     files: &mut F,
 ) -> Result<Said>
+    requires { AreKeptOfText server.old.symbolizer.processes.mappings }
     ensures reply { Replied F.Files (step server.old.map_files (F.pid files.old) (Single (target_of target.now) addr)) result (kept_of server.old.symbolizer) (kept_of server.new.symbolizer) files.old files.new }
-    ensures some { IfOk result (λ said. MayReply (opts_of server.old.symbolizer.files.settings) (Single (target_of target.now) addr) (text_of said)) }
+    ensures untold { IfOk result (λ said. MayReply (opts_of server.old.symbolizer.files.settings) (Single (target_of target.now) addr) (text_of said)) }
     ensures map_files { server.new.map_files ≡ server.old.map_files }
     ensures settings { server.new.symbolizer.files.settings ≡ server.old.symbolizer.files.settings }
+    ensures kept { AreKeptOfText server.new.symbolizer.processes.mappings }
 {
     let src = source_of(alloc, server.map_files, target)?;
     let input = input_of(target, addr);
@@ -166,9 +175,11 @@ fn reply_to_cache<F: Files>(
     cache: &Cache,
     files: &mut F,
 ) -> Result<Said>
+    requires { AreKeptOfText symbolizer.old.processes.mappings }
     ensures reply { (asked : ToCache) → cache_read cache.now ≡ asked → Replied F.Files (done_by okay (keeping (F.pid files.old) asked)) result (kept_of symbolizer.old) (kept_of symbolizer.new) files.old files.new }
-    ensures some { (asked : ToCache) → cache_read cache.now ≡ asked → IfOk result (λ said. KeepingMaySay asked (text_of said)) }
+    ensures untold { (asked : ToCache) → cache_read cache.now ≡ asked → IfOk result (λ said. KeepingMaySay asked (text_of said)) }
     ensures settings { symbolizer.new.files.settings ≡ symbolizer.old.files.settings }
+    ensures kept { AreKeptOfText symbolizer.new.processes.mappings }
 {
     match symbolizer.cache(alloc, files, cache) {
         Ok(()) => Ok(said_okay()),
@@ -178,9 +189,11 @@ fn reply_to_cache<F: Files>(
 
 // No file is looked at.
 fn reply_to_evict(symbolizer: &mut Symbolizer, evict: &Evict) -> Result<Said>
+    requires { AreKeptOfText symbolizer.old.processes.mappings }
     ensures says { Says (okay tt) result }
     ensures state { (asked : ToEvict) → evict_read evict.now ≡ asked → kept_of symbolizer.new ≡ evicting asked (kept_of symbolizer.old) }
     ensures settings { symbolizer.new.files.settings ≡ symbolizer.old.files.settings }
+    ensures kept { AreKeptOfText symbolizer.new.processes.mappings }
 {
     symbolizer.evict(evict)?;
     Ok(said_okay())

@@ -11,6 +11,7 @@ pub loop-request-init : goal.loop-request-init
 loop-request-init g c = record {
   served = served_none g.W.TextOut g.F.Files (step c.args.server.now.map_files) (MayReply (opts_of c.args.server.now.symbolizer.files.settings)) (map request_of c.args.requests.now) _ _ _;
   map_files = refl;
+  kept = c.requires;
   settings = refl;
 }
 
@@ -25,6 +26,7 @@ loop-request-preserved g c =
           c.begin.ensures.worlds c.begin.ensures.faults c.begin.ensures.opens c.begin.ensures.pid (rw c.loop-request.invariant.map_files at c.in_ok-serve_one.ensures.served)
           (λ text may. subst (λ (settings : Settings). MayReply (opts_of settings) (request_of c.request-item.result) text) c.loop-request.invariant.settings may);
       map_files = c.in_ok-serve_one.ensures.map_files ∙ c.loop-request.invariant.map_files;
+      kept = c.in_ok-serve_one.ensures.kept;
       settings = c.in_ok-serve_one.ensures.settings ∙ c.loop-request.invariant.settings;
     }
 

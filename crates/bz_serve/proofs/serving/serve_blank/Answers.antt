@@ -1,8 +1,13 @@
-use Rattle.std.proofs.Common.{◌≡◌, ap, map}
+use Rattle.std.proofs.Common.{◌≡◌, ap, map, subst, sym}
 use Rattle.bz_requests.specs.Requests.{request_of}
 use Rattle.bz_symq.specs.Kept.{KeptState, settings_of}
+use Rattle.bz_serve.specs.Serving.{AreKeptOfText}
 use Rattle.bz_serve.proofs.ServingLoopLemmas.{serves_from_all}
 use Rattle.bz_serve.proofs.serving.serve_blank.Goals as goal
+
+-- no mappings are kept yet
+pub serve_all-served-requires : goal.serve_all-served-requires
+serve_all-served-requires g c = subst AreKeptOfText (sym (ap (λ (kept : KeptState). kept.processes.mappings) c.new_symbolizer.ensures)) tt
 
 -- the symbolizer is new, and the run ends by what stopped it
 pub returns : goal.returns

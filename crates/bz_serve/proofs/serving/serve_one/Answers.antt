@@ -9,7 +9,7 @@ use Rattle.bz_serve.proofs.serving.serve_one.Goals as goal
 pub returns-in-Ok-clause-served : goal.returns-in-Ok-clause-served
 returns-in-Ok-clause-served g c =
     served_said g.W.TextOut g.F.Files (step c.args.server.now.map_files (g.F.Files.pid c.args.files.now) (request_of c.args.request.now)) (MayReply (opts_of c.args.server.now.symbolizer.files.settings) (request_of c.args.request.now)) _ _ _ _ _ _
-    c.in-Ok.said c.write_said.result c.stopped.result c.in-Ok.ensures.reply c.in-Ok.ensures.some c.write_said.ensures c.stopped.ensures
+    c.in-Ok.said c.write_said.result c.stopped.result c.in-Ok.ensures.reply c.in-Ok.ensures.untold c.write_said.ensures c.stopped.ensures
 
 -- nothing is said
 pub returns-in-Err-clause-served : goal.returns-in-Err-clause-served

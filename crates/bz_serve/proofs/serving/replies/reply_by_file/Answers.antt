@@ -18,8 +18,8 @@ returns-in-Ok-clause-reply g c file is =
     (ap (λ addrs. answer_texts addrs c.in-Ok.lookups.answers) c.in-Ok.ensures.addrs)
 
 -- by some bytes in the format, whatever the files tell
-pub returns-in-Ok-clause-some : goal.returns-in-Ok-clause-some
-returns-in-Ok-clause-some g c file is took =
+pub returns-in-Ok-clause-untold : goal.returns-in-Ok-clause-untold
+returns-in-Ok-clause-untold g c file is took =
     let addrs = (payload c.args.input).items in
     inl (
       c.in-Ok.lookups.answers,
@@ -36,7 +36,7 @@ returns-in-Err-clause-reply g c file is =
     c.said_refusal.ensures
 
 -- for a cause that the file may have
-pub returns-in-Err-clause-some : goal.returns-in-Err-clause-some
-returns-in-Err-clause-some g c file is took =
+pub returns-in-Err-clause-untold : goal.returns-in-Err-clause-untold
+returns-in-Err-clause-untold g c file is took =
     let addrs = (payload c.args.input).items in
     file_refused (opts_of c.args.symbolizer.now.files.settings) (batch_of (address_kind c.args.input) addrs) (answer_texts addrs) file c.args.src.now c.said_refusal.result is c.in-Err.error took c.in-Err.ensures.call.refusal c.said_refusal.ensures

@@ -1,10 +1,10 @@
-use Rattle.std.proofs.Common.{◌≡◌, ◌∙◌, List, ap}
+use Rattle.std.proofs.Common.{◌≡◌, ◌∙◌, List, ap, subst, sym}
 use Rattle.bz_base.specs.Answer.{Answer}
 use Rattle.bz_base.specs.InputKind.{payload}
 use Rattle.bz_symbolize.specs.State.{opts_of}
 use Rattle.bz_canon.specs.AnswerText.{answer_texts}
 use Rattle.bz_symq.specs.Kept.{kept_of}
-use Rattle.bz_serve.specs.Serving.{Replied}
+use Rattle.bz_serve.specs.Serving.{AreKeptOfText, Replied}
 use Rattle.bz_serve.specs.RequestSteps.{Doing, done_by}
 use Rattle.bz_serve.proofs.DoesLemmas.{by_file}
 use Rattle.bz_serve.proofs.SomeReplyLemmas.{some_by_file, some_by_process}
@@ -20,14 +20,18 @@ returns-clause-reply g c =
     (λ file is. rw (c.input_of-input.ensures.kind, items) at (c.reply_by_file.ensures.reply file is))
 
 -- which says what it may, whatever the files tell
-pub returns-clause-some : goal.returns-clause-some
-returns-clause-some g c =
+pub returns-clause-untold : goal.returns-clause-untold
+returns-clause-untold g c =
     let items : (payload c.input_of-input.result).items ≡ c.args.addrs.now = ap (λ addrs. addrs.items) c.input_of-input.ensures.addrs ∙ c.in_ok-addrs.ensures.items in
     some_by_file (opts_of c.args.server.now.symbolizer.files.settings) c.args.target.now c.args.addrs.now c.in_ok-src.src c.reply_by_file.result c.in_ok-src.ensures.source c.in-Breakpad.is
-    (rw (c.input_of-input.ensures.kind, items) at c.reply_by_file.ensures.some)
+    (rw (c.input_of-input.ensures.kind, items) at c.reply_by_file.ensures.untold)
+
+-- and leaves the mappings that are kept as they were
+pub returns-clause-kept : goal.returns-clause-kept
+returns-clause-kept g c = subst AreKeptOfText (sym (ap (λ processes. processes.mappings) c.reply_by_file.ensures.processes)) c.requires
 
 -- the target is a process, of the addresses that were copied
-pub returns-in-Process-clause-some : goal.returns-in-Process-clause-some
-returns-in-Process-clause-some g c =
+pub returns-in-Process-clause-untold : goal.returns-in-Process-clause-untold
+returns-in-Process-clause-untold g c =
     some_by_process (opts_of c.args.server.now.symbolizer.files.settings) c.args.server.now.map_files c.args.target.now c.args.addrs.now c.in_ok-src.src c.reply_by_process.result c.in_ok-src.ensures.ok c.in-Process.field-0 c.in-Process.is
-    (rw c.in_ok-addrs.ensures.items at c.reply_by_process.ensures.some)
+    (rw c.in_ok-addrs.ensures.items at c.reply_by_process.ensures.untold)

@@ -20,12 +20,12 @@ returns-in_ok-cache-in-CacheElf-clause-reply g c =
     (sym c.in-CacheElf.is)
     (c.reply_to_cache.ensures.reply (KeepElf (string_bytes c.in-CacheElf.path)) (c.in_ok-cache-in-CacheElf.ensures.ok ∙ ap KeepElf c.as_str.ensures.value))
 
-pub returns-in_ok-cache-in-CacheElf-clause-some : goal.returns-in_ok-cache-in-CacheElf-clause-some
-returns-in_ok-cache-in-CacheElf-clause-some g c =
+pub returns-in_ok-cache-in-CacheElf-clause-untold : goal.returns-in_ok-cache-in-CacheElf-clause-untold
+returns-in_ok-cache-in-CacheElf-clause-untold g c =
     subst
     (λ (request : made.Request). IfOk c.reply_to_cache.result (λ said. MayReply (opts_of c.args.server.now.symbolizer.files.settings) (request_of request) (text_of said)))
     (sym c.in-CacheElf.is)
-    (c.reply_to_cache.ensures.some (KeepElf (string_bytes c.in-CacheElf.path)) (c.in_ok-cache-in-CacheElf.ensures.ok ∙ ap KeepElf c.as_str.ensures.value))
+    (c.reply_to_cache.ensures.untold (KeepElf (string_bytes c.in-CacheElf.path)) (c.in_ok-cache-in-CacheElf.ensures.ok ∙ ap KeepElf c.as_str.ensures.value))
 
 -- and so is what answers for the process
 pub returns-in-CacheProcess-clause-reply : goal.returns-in-CacheProcess-clause-reply
@@ -35,12 +35,12 @@ returns-in-CacheProcess-clause-reply g c =
     (sym c.in-CacheProcess.is)
     (c.reply_to_cache-in-CacheProcess.ensures.reply (process_by c.in-CacheProcess.number) c.process_to_cache-cache.ensures)
 
-pub returns-in-CacheProcess-clause-some : goal.returns-in-CacheProcess-clause-some
-returns-in-CacheProcess-clause-some g c =
+pub returns-in-CacheProcess-clause-untold : goal.returns-in-CacheProcess-clause-untold
+returns-in-CacheProcess-clause-untold g c =
     subst
     (λ (request : made.Request). IfOk c.reply_to_cache-in-CacheProcess.result (λ said. MayReply (opts_of c.args.server.now.symbolizer.files.settings) (request_of request) (text_of said)))
     (sym c.in-CacheProcess.is)
-    (c.reply_to_cache-in-CacheProcess.ensures.some (process_by c.in-CacheProcess.number) c.process_to_cache-cache.ensures)
+    (c.reply_to_cache-in-CacheProcess.ensures.untold (process_by c.in-CacheProcess.number) c.process_to_cache-cache.ensures)
 
 -- the file is forgotten
 pub returns-in_ok-evict-in-EvictElf-clause-reply : goal.returns-in_ok-evict-in-EvictElf-clause-reply
@@ -52,8 +52,8 @@ returns-in_ok-evict-in-EvictElf-clause-reply g c =
     (replied_forgotten g.F.Files _ _ asked _ _ _ refl c.reply_to_evict.ensures.says
     (c.reply_to_evict.ensures.state asked (c.in_ok-evict-in-EvictElf.ensures.ok ∙ ap ForgetElf c.as_str-in-EvictElf.ensures.value)))
 
-pub returns-in_ok-evict-in-EvictElf-clause-some : goal.returns-in_ok-evict-in-EvictElf-clause-some
-returns-in_ok-evict-in-EvictElf-clause-some g c =
+pub returns-in_ok-evict-in-EvictElf-clause-untold : goal.returns-in_ok-evict-in-EvictElf-clause-untold
+returns-in_ok-evict-in-EvictElf-clause-untold g c =
     subst
     (λ (request : made.Request). IfOk c.reply_to_evict.result (λ said. MayReply (opts_of c.args.server.now.symbolizer.files.settings) (request_of request) (text_of said)))
     (sym c.in-EvictElf.is)
@@ -69,8 +69,8 @@ returns-in-EvictProcess-clause-reply g c =
     (replied_forgotten g.F.Files _ _ asked _ _ _ refl c.reply_to_evict-in-EvictProcess.ensures.says
     (c.reply_to_evict-in-EvictProcess.ensures.state asked c.process_to_evict-evict.ensures))
 
-pub returns-in-EvictProcess-clause-some : goal.returns-in-EvictProcess-clause-some
-returns-in-EvictProcess-clause-some g c =
+pub returns-in-EvictProcess-clause-untold : goal.returns-in-EvictProcess-clause-untold
+returns-in-EvictProcess-clause-untold g c =
     subst
     (λ (request : made.Request). IfOk c.reply_to_evict-in-EvictProcess.result (λ said. MayReply (opts_of c.args.server.now.symbolizer.files.settings) (request_of request) (text_of said)))
     (sym c.in-EvictProcess.is)
