@@ -60,7 +60,8 @@ pub record Runs {R W F : Type 0} (reads : input_trait.Ghosts R) (writes : output
     (input_before input_after : R) (output_before output_after : W) (files_before files_after : F) : Type 0 where
   -- it is the run of the command that the words give
   pub run : RunsCommand reads writes looks (command_in words) ended input_before input_after output_before output_after files_before files_after
-  -- status 2 means that the words give no command, and such words are answered by it, unless the run fails
+  -- status 2 means that the words give no command, and such words are answered by
+  -- it, unless the run fails
   pub usage : (ended ≡ statuses.Usage → command_in words ≡ None) × (command_in words ≡ None → IsOrFails statuses.Usage ended)
   -- status 4 comes exactly where one call failed, of input, output or files
   pub fails : FailsAtOneSide reads writes looks ended input_before input_after output_before output_after files_before files_after

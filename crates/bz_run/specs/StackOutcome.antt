@@ -1,4 +1,5 @@
--- What a run over an input of stacks writes and ends with where nothing fails: a function of path, settings, input and world.
+-- What a run over an input of stacks writes and ends with where nothing fails: a function of path,
+-- settings, input and world.
 use Rattle.std.specs.Prelude.{ℕ, List, Result, Ok, Err}
 use Rattle.bz_base.specs.Answer.{Answer}
 use Rattle.bz_base.specs.declared.error.Error.{Error}

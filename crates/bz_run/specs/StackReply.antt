@@ -39,7 +39,8 @@ IsInputReply config input reply = reply.status ≡ statuses.Done → (stacks : L
 abbrev pub IsRunReply : Config → List ℕ → Reply → Type 0
 IsRunReply config input reply = reply.status ≡ statuses.Done → (stacks : List CountedStack) × AsksFor IsStack input stacks × IsSomeText config stacks (text_of reply.said)
 
--- a reply that the stacks are refused names a refusal that a Breakpad file may have, and the run is asked for stacks
+-- a reply that the stacks are refused names a refusal that a Breakpad file may have, and
+-- the run is asked for stacks
 abbrev pub IsRunRefusal : List ℕ → List ℕ → Reply → Type 0
 IsRunRefusal path input reply = reply.status ≡ statuses.Refused →
     (stacks : List CountedStack) × AsksFor IsStack input stacks × IsSomeRefusal (IsSomeFileCause (Breakpad path)) (text_of reply.said)

@@ -1,4 +1,5 @@
--- What a run over an input of stacks promises: what it writes and ends with, and what it does to each side.
+-- What a run over an input of stacks promises: what it writes and ends with, and
+-- what it does to each side.
 use Rattle.std.specs.Prelude.{◌≡◌, ◌≢◌, ◌⊎◌, ℕ, ◌+◌, List, [], ◌++◌, Option, Some}
 use Rattle.bz_base.specs.Answer.{Answer}
 use Rattle.bz_base.specs.InputKind.{InFile}
@@ -33,8 +34,8 @@ pub record IsFoldable (path text : List ℕ) (world : World) : Type 0 where
   pub asks : AsksFor IsStack text stacks
   pub there : HasFile (λ bytes. (table : Table) × IsFile bytes table) (entry_at world path)
 
--- the input was stacks; their text, by the plain answers of the file's table at the addresses of each of them, is what was
--- written
+-- the input was stacks; their text, by the plain answers of the file's table at the addresses of each
+-- of them, is what was written
 pub record IsFolded (path : List ℕ) (config : Config) (text : List ℕ) (world : World) (old : List ℕ) (new : Option (List ℕ)) : Type 0 where
   pub stacks : List CountedStack
   pub answers : List Answer
@@ -63,7 +64,8 @@ pub record IsRefused (path text : List ℕ) (world : World) (old : List ℕ) (ne
   pub refusable : IsRefusable path text world
   pub written : new ≡ Some (old ++ (refused refusable.refusal).text)
 
--- and whatever the files tell, the input was stacks, and a refusal that a Breakpad file may have is what was written
+-- and whatever the files tell, the input was stacks, and a refusal that a Breakpad file may
+-- have is what was written
 pub record IsSomeRefused (path text old : List ℕ) (new : Option (List ℕ)) : Type 0 where
   pub stacks : List CountedStack
   pub refusal : Error
@@ -74,18 +76,21 @@ pub record IsSomeRefused (path text old : List ℕ) (new : Option (List ℕ)) : 
 -- all that a run over an input of stacks promises
 pub record RunsStacks {R W F : Type 0} (reads : input_trait.Ghosts R) (writes : output_trait.Ghosts W) (looks : files_trait.Ghosts F) (path : List ℕ) (config : Config) (ended : Status)
     (input_before input_after : R) (output_before output_after : W) (files_before files_after : F) : Type 0 where
-  -- the run wrote the outcome's text and ended by its status, or it failed and wrote a front of that text
+  -- the run wrote the outcome's text and ended by its status, or it failed and
+  -- wrote a front of that text
   pub ends : Told (reads.left input_before) (λ text. Told (in_view (looks.worlds files_before)) (λ world. Told (writes.written output_before) (λ old.
       Ends (stacks_outcome path config text world) old ended (writes.written output_after))))
   pub status : Told (reads.left input_before) (λ text. Told (in_view (looks.worlds files_before)) (λ world.
       IsOrFails (stacks_outcome path config text world).status ended))
-  -- status 0 means that the input was stacks, and that these folded by the answers of the Breakpad file are what was written
+  -- status 0 means that the input was stacks, and that these folded by the answers of the Breakpad
+  -- file are what was written
   pub done : ended ≡ statuses.Done → Told (reads.left input_before) (λ text. Told (in_view (looks.worlds files_before)) (λ world.
       Told (writes.written output_before) (λ old. IsFolded path config text world old (writes.written output_after))))
   -- and whatever the files tell, that they are folded by the answers of some Breakpad file
   pub answered : ended ≡ statuses.Done → Told (reads.left input_before) (λ text. Told (writes.written output_before) (λ old.
       IsSomeFolded config text old (writes.written output_after)))
-  -- status 1 means that the input was stacks, that what lies at the path has no answers, and that the refusal is what was written
+  -- status 1 means that the input was stacks, that what lies at the path has no answers, and that the
+  -- refusal is what was written
   pub refused : ended ≡ statuses.Refused → Told (reads.left input_before) (λ text. Told (in_view (looks.worlds files_before)) (λ world.
       Told (writes.written output_before) (λ old. IsRefused path text world old (writes.written output_after))))
   -- and whatever the files tell, that the refusal is by one of three causes
@@ -105,7 +110,8 @@ pub record RunsStacks {R W F : Type 0} (reads : input_trait.Ghosts R) (writes : 
       IsRefusable path text world → IsOrFails statuses.Refused ended))
   -- for a bad input no file is looked at
   pub unlooked : Told (reads.left input_before) (λ text. IsBadInput IsStack text → files_after ≡ files_before)
-  -- a run that doesn't fail has read the input, and no run reads on past the byte that makes it too long
+  -- a run that doesn't fail has read the input, and no run reads on past the
+  -- byte that makes it too long
   pub read : IsNoFailure ended → IsReadWhole (reads.left input_before) (reads.left input_after)
   pub bounded : MovesAtMost (greatest_input + 1) (reads.left input_before) (reads.left input_after)
   -- until the input is read, no file is looked at and nothing is written
@@ -116,7 +122,8 @@ pub record RunsStacks {R W F : Type 0} (reads : input_trait.Ghosts R) (writes : 
   -- one file at most is read, and where a run is done one was
   pub most : ReadsOne looks files_before files_after
   pub opened : Told (in_view (looks.worlds files_before)) (λ world. ended ≡ statuses.Done → looks.opens files_after ≡ counted (looks.opens files_before))
-  -- a fault comes exactly where a call failed, on one side at most, and of the files only before the output
+  -- a fault comes exactly where a call failed, on one side at most, and of the
+  -- files only before the output
   pub fails : Fails reads writes looks ended input_before input_after output_before output_after files_before files_after
   pub fault : ended ≡ statuses.Fault → (reads.faults input_after ≡ counted (reads.faults input_before))
       ⊎ ((writes.faults output_after ≡ counted (writes.faults output_before)) ⊎ (looks.faults files_after ≡ counted (looks.faults files_before)))

@@ -14,10 +14,10 @@ use bz_requests::Config;
 use bz_symq::{Status, finish, text_reply};
 use std::alloc::Global;
 
-/// Puts the text of so many functions at a path in memory. It asks a new symbolizer for so many addresses,
-/// by the numbers after the seed. It writes what it counts, a line each: functions, addresses, known and
-/// unknown answers, inlined calls, and the sum of the offsets in bytes. It ends by `Done`; by `Fault` where
-/// writing failed; or by `Memory`.
+/// Puts the text of so many functions at a path in memory. It asks a new symbolizer for so many
+/// addresses, by the numbers after the seed. It writes what it counts, a line each: functions,
+/// addresses, known and unknown answers, inlined calls, and the sum of the offsets in bytes. It ends by
+/// `Done`; by `Fault` where writing failed; or by `Memory`.
 pub fn generate<W: TextOut>(
     alloc: Global,
     config: Config,

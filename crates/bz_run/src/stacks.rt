@@ -10,8 +10,9 @@ use bz_requests::Config;
 use bz_symq::{Status, failed, finish};
 use std::alloc::Global;
 
-/// Reads the whole input, which is stacks, one on a line. It writes what they fold to by the answers of the
-/// Breakpad file at the path, under the settings. The file is looked at even if the input has no stacks.
+/// Reads the whole input, which is stacks, one on a line. It writes what they fold to by the
+/// answers of the Breakpad file at the path, under the settings. The file is looked at even if
+/// the input has no stacks.
 pub fn run_stacks<R: TextIn, W: TextOut, F: Files>(
     alloc: Global,
     path: &str,

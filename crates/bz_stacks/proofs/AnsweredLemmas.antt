@@ -14,7 +14,7 @@ use Rattle.bz_cache.specs.Cache.{Cache}
 use Rattle.bz_proc.specs.Maps.{Mapping}
 use Rattle.bz_process.specs.Asked.{Asked, asked_of}
 use Rattle.bz_process.specs.Caches.{ProcessCaches}
-use Rattle.bz_process.specs.Dispatch.{Answers, Test}
+use Rattle.bz_process.specs.Dispatch.{DispatchAnswers, Test}
 use Rattle.bz_process.specs.Mapped.{AsksProcess, RefusedUnmapped, UsesMappings}
 use Rattle.bz_process.specs.Process.{StepOutcome, Step}
 use Rattle.bz_process.specs.ProcessCall.{HasOutcome, TakesStep}
@@ -119,7 +119,7 @@ module _ {A B : Type 0} (reading : A → B) where
     looked = step.looked;
   }
 
-module _ {A R : Type 0} (reading : A → List Answer) (kept : Option (List Mapping)) (old now : ProcessCaches) (answers answers_now : Answers R) where
+module _ {A R : Type 0} (reading : A → List Answer) (kept : Option (List Mapping)) (old now : ProcessCaches) (answers answers_now : DispatchAnswers R) where
   refused_read : (result : Result A Error) → RefusedUnmapped kept result old now answers answers_now → RefusedUnmapped kept (as_read reading result) old now answers answers_now
   refused_read (Ok given) first = record { refused = first.refused; refusal = first.refusal; unchanged = first.unchanged; unsaid = first.unsaid }
   refused_read (Err e) first = record { refused = first.refused; refusal = first.refusal; unchanged = first.unchanged; unsaid = first.unsaid }
@@ -130,7 +130,7 @@ module _ {A R : Type 0} (reading : A → List Answer) (kept : Option (List Mappi
     used_read result (inr first) = inr (refused_read result first)
 
 module _ {A R X : Type 0} (files : Ghosts X) (reading : A → List Answer) (test : Test R) (translates : Translates R) (finds : Finds R) (opts : FindSymOpts) (asked : Asked) (addrs : List ℕ) (before after : X) where
-  asks_read : (kept : Option (List Mapping)) (result : Result A Error) (old now : ProcessCaches) (answers answers_now : Answers R) →
+  asks_read : (kept : Option (List Mapping)) (result : Result A Error) (old now : ProcessCaches) (answers answers_now : DispatchAnswers R) →
       AsksProcess files reading test translates finds opts asked kept addrs result old now answers answers_now before after →
       AsksProcess files as_is test translates finds opts asked kept addrs (as_read reading result) old now answers answers_now before after
   asks_read kept (Ok given) old now answers answers_now asks = record {
@@ -169,7 +169,7 @@ module _ {A R X : Type 0} (files : Ghosts X) (reading : A → List Answer) (test
       untaken = λ other. let refused = process.untaken other in (refusal_read reading errors.Unsupported (Ok given) refused.0, refused.1, refused.2, refused.3);
       asks = λ taken. asks_read _ (Ok given) _ _ _ _ (process.asks taken);
       exact = λ none taken. step_read reading files asked.own _ (Ok given) _ _ before after (process.exact none taken);
-      some = λ none taken. process.some none taken;
+      untold = λ none taken. process.untold none taken;
       mappings = process.mappings;
       dispatcher = process.dispatcher;
     }
@@ -177,7 +177,7 @@ module _ {A R X : Type 0} (files : Ghosts X) (reading : A → List Answer) (test
       untaken = λ other. let refused = process.untaken other in (refusal_read reading errors.Unsupported (Err e) refused.0, refused.1, refused.2, refused.3);
       asks = λ taken. asks_read _ (Err e) _ _ _ _ (process.asks taken);
       exact = λ none taken. step_read reading files asked.own _ (Err e) _ _ before after (process.exact none taken);
-      some = λ none taken. process.some none taken;
+      untold = λ none taken. process.untold none taken;
       mappings = process.mappings;
       dispatcher = process.dispatcher;
     }

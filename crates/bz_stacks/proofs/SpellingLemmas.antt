@@ -53,7 +53,7 @@ by_found text (field ∷ next ∷ others) stack are read =
       front = counted.front;
       last = counted.last;
       are_fields = subst (λ all. AreFields text all) (are ∙ counted.whole) (are_fields text);
-      some = some_front counted.front counted.last counted.whole;
+      positive = some_front counted.front counted.last counted.whole;
       addresses = counted.addresses;
       count = counted.count;
     }
@@ -69,7 +69,7 @@ stack_found text stack read = by_found text (fields text) stack refl read
 pub stack_again : (text : List ℕ) (stack : CountedStack) → IsStack text stack → stack_in text ≡ Some stack
 unfolding stack_in
 stack_again text stack is =
-    ap stack_by (fields_are text (is.front ++ is.last ∷ []) is.are_fields) ∙ many is.front is.last is.some ∙ counted_again is.front is.last stack.addrs stack.count is.addresses is.count
+    ap stack_by (fields_are text (is.front ++ is.last ∷ []) is.are_fields) ∙ many is.front is.last is.positive ∙ counted_again is.front is.last stack.addrs stack.count is.addresses is.count
 
 -- so reader and relation agree
 pub stack_agrees : ReadsAsSpelled stack_in IsStack

@@ -13,7 +13,7 @@ use Rattle.bz_cache.specs.Cache.{Cache}
 use Rattle.bz_proc.specs.Maps.{Mapping}
 use Rattle.bz_process.specs.Asked.{Asked}
 use Rattle.bz_process.specs.Caches.{ProcessCaches}
-use Rattle.bz_process.specs.Dispatch.{Answers, Test}
+use Rattle.bz_process.specs.Dispatch.{DispatchAnswers, Test}
 use Rattle.bz_process.specs.Mapped.{AsksProcess}
 use Rattle.bz_process.specs.Process.{Said, Step}
 use Rattle.bz_process.specs.ProcessCall.{TakesStep}
@@ -52,7 +52,7 @@ module _ {D R X : Type 0} (files : Ghosts X) (test : Test R) (translates : Trans
       step = undone files before asked.own _ _;
     };
     exact = λ none taken. undone files before asked.own _ _;
-    some = λ none taken. tt;
+    untold = λ none taken. tt;
     mappings = refl;
     dispatcher = refl;
   }
@@ -63,7 +63,7 @@ module _ {D R X : Type 0} (files : Ghosts X) (test : Test R) (translates : Trans
     untaken = λ _. (refl, refl, refl, refl);
     asks = λ taken. cc (other, taken);
     exact = λ none taken. cc (other, taken);
-    some = λ none taken. tt;
+    untold = λ none taken. tt;
     mappings = refl;
     dispatcher = refl;
   }
@@ -77,7 +77,7 @@ answers_each asked mappings (item ∷ items) answers old now some =
     omega arith
 
 module _ {A R X : Type 0} (files : Ghosts X) (reading : A → List Answer) (test : Test R) (translates : Translates R) (finds : Finds R) (opts : FindSymOpts) (asked : Asked) (addrs : List ℕ) where
-  pub answer_count : (kept : Option (List Mapping)) (given : A) (old now : ProcessCaches) (answers answers_now : Answers R) (before after : X) →
+  pub answer_count : (kept : Option (List Mapping)) (given : A) (old now : ProcessCaches) (answers answers_now : DispatchAnswers R) (before after : X) →
       AsksProcess files reading test translates finds opts asked kept addrs (Ok given) old now answers answers_now before after → length (reading given) ≡ length addrs
   answer_count kept given old now answers answers_now before after asks = elim asks.used [
     | inl used ↦

@@ -26,7 +26,8 @@ abbrev pub seen_by : List CountedStack → List Answer → List AnsweredStack
 seen_by [] answers = []
 seen_by (stack ∷ stacks) answers = (take (length stack.addrs) answers, stack.count) ∷ seen_by stacks (drop (length stack.addrs) answers)
 
--- the text is that of the stacks with these answers, and memory may run out for it; a refusal of the call is the refusal
+-- the text is that of the stacks with these answers, and memory may run out for it; a refusal
+-- of the call is the refusal
 abbrev pub IsFoldOf : {V : Type 0} → List CountedStack → Result (List Answer) Error → Result (Vec ℕ V) Error → Type 0
 IsFoldOf stacks (Ok answers) result = IfOk result (λ text. text.items ≡ folded_text (seen_by stacks answers)) × IsOkUnless result errors.OutOfMemory
 IsFoldOf stacks (Err e) result = IsErrOf result e

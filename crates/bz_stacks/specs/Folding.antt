@@ -49,6 +49,7 @@ abbrev pub sum_of : List ℕ → List AnsweredStack → ℕ
 sum_of path [] = 0
 sum_of path (seen ∷ later) = (if has_path path seen then seen.1 else 0) + sum_of path later
 
--- the sums of stacks: each path that one of them has, with the sum of the counts of the stacks with that path
+-- the sums of stacks: each path that one of them has, with the sum of the counts of
+-- the stacks with that path
 abbrev pub sums_of : List AnsweredStack → Sums
 sums_of all = finite.from_entries (map (λ seen. (path_of seen.0, sum_of (path_of seen.0) all)) all)

@@ -16,7 +16,7 @@ pub record IsStack (text : List ℕ) (stack : CountedStack) : Type 0 where
   pub front : List (List ℕ)
   pub last : List ℕ
   pub are_fields : AreFields text (front ++ last ∷ [])
-  pub some : 0 < length front
+  pub positive : 0 < length front
   pub addresses : AllZip IsAddress front stack.addrs
   pub count : IsCount last stack.count
 

@@ -55,7 +55,7 @@ fn fold_blank<D: ProcessDispatch + Drop, F: Files, L: Ledger>(
     requires count { length stacks.now < 4294967296 }
     requires name { blank.name ≡ L.name }
     requires parts { blank.parts ≡ L.parts }
-    requires some { 0 < L.parts }
+    requires positive { 0 < L.parts }
     ensures { Folds F.Files (D.may_dispatch symbolizer.old.processes.dispatcher) D.Resolver.TranslateFileOffset D.Resolver.Symbolize src.now (address_kind kind) stacks.now result symbolizer.old symbolizer.new files.old files.new }
 {
     let mut steps = Steps::<L>::new(blank);
@@ -63,7 +63,8 @@ fn fold_blank<D: ProcessDispatch + Drop, F: Files, L: Ledger>(
     match symbolizer.look_up(alloc, files, src, none, &mut steps) {
         Ok(lookups) => fold_lookups(alloc, &lookups, stacks),
         Err(error) => {
-            // A process isn't looked up. The refusal changed nothing, and shows that caches are well kept.
+            // A process isn't looked up. The refusal changed nothing, and shows
+            // that caches are well kept.
             if src.is_process() {
                 fold_process(alloc, symbolizer, files, src, kind, stacks)
             } else {

@@ -58,8 +58,8 @@ impl Folded {
         self.stacks
     }
 
-    /// Adds a stack, with one answer for each of its addresses, in their order, where fewer than 2^32 - 1
-    /// were added before. Nothing has changed where memory ran out.
+    /// Adds a stack, with one answer for each of its addresses, in their order, where fewer than
+    /// 2^32 - 1 were added before. Nothing has changed where memory ran out.
     pub fn add(&mut self, stack: &Stack, answers: &[Symbolized<'_>]) -> Result<()>
         requires answers { length answers.now ≡ length stack.now.addrs }
         requires stacks { self.old.stacks < 4294967295 }
@@ -74,8 +74,8 @@ impl Folded {
         Ok(())
     }
 
-    /// The text: the line `PATH SUM` for each path, in the order of the paths' bytes. OutOfMemory: memory
-    /// ran out.
+    /// The text: the line `PATH SUM` for each path, in the order of the paths' bytes.
+    /// OutOfMemory: memory ran out.
     pub fn text(&self) -> Result<Vec<u8>>
         ensures ok { IfOk result (λ text. text.items ≡ text_of self.now.sums) }
         ensures memory { IsOkUnless result Error.OutOfMemory }

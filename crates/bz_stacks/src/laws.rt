@@ -9,8 +9,9 @@ ghost use Rattle.bz_stacks.specs.Spelling.{AreStacks, IsStack, stack_in, stacks_
 ghost use Rattle.bz_stacks.specs.Stack.{CountedStack};
 ghost use Rattle.bz_stacks.specs.Text.{folded_text, text_of};
 
-/// However stacks are grouped, what was added has the sums and the text that the stacks have from scratch.
-/// There is each path that one of them has, with the sum of the counts of the stacks with that path.
+/// However stacks are grouped, what was added has the sums and the text that the stacks
+/// have from scratch. There is each path that one of them has, with the sum of the counts
+/// of the stacks with that path.
 pub fn folds_from_scratch()
     ensures grouped { (one two : List AnsweredStack) (folding : Folding) → added_all (one ++ two) folding ≡ added_all two (added_all one folding) }
     ensures text { (seen : List AnsweredStack) → text_of (added_all seen nothing_folded).sums ≡ folded_text seen }
@@ -20,8 +21,9 @@ pub fn folds_from_scratch()
     ensures paths { (seen : List AnsweredStack) (path : List ℕ) → is_some (finite.get (sums_of seen) path) ≡ list_any (has_path path) seen }
 {}
 
-/// The stack that is read of a line's content is the one that it spells. The stacks that are read of an input
-/// are those that its lines say. Of any other input the number of its first line that is no stack is read.
+/// The stack that is read of a line's content is the one that it spells. The stacks that are
+/// read of an input are those that its lines say. Of any other input the number of its first
+/// line that is no stack is read.
 pub fn stacks_are_read()
     ensures stack { (text : List ℕ) (stack : CountedStack) → (stack_in text ≡ Some stack) ↔ IsStack text stack }
     ensures stacks { (text : List ℕ) (stacks : List CountedStack) → (stacks_in text ≡ Ok stacks) ↔ AreStacks text stacks }

@@ -33,7 +33,8 @@ use Rattle.bz_symq.specs.declared.reply.Reply.{Reply}
 use Rattle.bz_symq.proofs.ReplyLemmas.{refusal_named, when_given}
 use Rattle.bz_symq.proofs.TargetLemmas.{by_source}
 
--- a look is refused by such a cause of the file, if bytes are and a kind of address that no version answers is
+-- a look is refused by such a cause of the file, if bytes are and a kind of address
+-- that no version answers is
 cause_of_look : (target : FileTarget) (Unserved : Type 0) (test : List ℕ → Option Error) (e : Error) → (Unserved → IsSomeFileCause target errors.Unsupported) →
     ((bytes : List ℕ) (refusal : Error) → test bytes ≡ Some refusal → IsSomeCauseOrFails (IsSomeFileCause target) refusal) → MayBeRefused Unserved test e →
     IsSomeCauseOrFails (IsSomeFileCause target) e
@@ -92,7 +93,8 @@ module _ (opts : FindSymOpts) (addrs : List ℕ) (kind : AddressKind) where
   abbrev MayRefuse : Source → Error → Type 0
   MayRefuse source e = OnFile source (λ file. MayBeRefused (IsUnserved file kind) file.test e ⊎ IsOwnRefusal source opts (batch_of kind addrs) e)
 
-  -- no file refuses a batch by itself, so a kind of address that is taken is refused by such a cause of the file
+  -- no file refuses a batch by itself, so a kind of address that is taken is refused by
+  -- such a cause of the file
   abbrev HasCause : Error → FileTarget → Source → Type 0
   HasCause e target source = file_takes target kind ≡ true → MayRefuse source e → IsSomeCauseOrFails (IsSomeFileCause target) e
 

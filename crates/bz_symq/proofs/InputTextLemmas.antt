@@ -9,7 +9,7 @@ use Rattle.bz_requests.specs.Lines.{ReadsAsSpelled, items_in}
 use Rattle.bz_requests.proofs.AddressLemmas.{address_agrees}
 use Rattle.bz_requests.proofs.LineGrammarLemmas as lines
 use Rattle.bz_requests.proofs.LineGrammarLemmas.{items_found, items_again}
-use Rattle.bz_symq.specs.InputText.{AsksFor, IsBadInput, IsFirstBad, Moves, MovesAtMost, greatest_input, left_over, room_after}
+use Rattle.bz_symq.specs.InputText.{AsksFor, IsBadInput, Moves, MovesAtMost, greatest_input, left_over, room_after}
 
 -- what lies past a front is what follows it
 drop_front : (front rest text : List ℕ) (n : ℕ) → text ≡ front ++ rest → length front ≡ n → rest ≡ drop n text
@@ -47,7 +47,8 @@ moves_within first second third front n counted few before more = λ text told.
     let past = drop-append-add front so_far.0 next.0 in
     (length front + next.0, omega (arith, next.1, counted, few), next.2 ∙ ap Some (sym past ∙ ap (drop (length front + next.0)) (sym so_far.1)))
 
--- an input that was read to its end, and isn't too long, has left what lies past the greatest length: nothing
+-- an input that was read to its end, and isn't too long, has left what lies past the
+-- greatest length: nothing
 pub left_at_end : (text : List ℕ) → length text ≤ greatest_input → [] ≡ left_over text
 left_at_end text short = sym (nil_from_length (left_over text) (omega (arith, length-drop (greatest_input + 1) text)))
 
@@ -56,18 +57,12 @@ pub over_at_end : (before after : Option (List ℕ)) (bytes : List ℕ) → leng
     Told before (λ text. after ≡ Some []) → Told before (λ text. after ≡ Some (left_over text))
 over_at_end before after bytes short whole end = λ text told. end text told ∙ ap Some (left_at_end text (rw (whole text told) at short))
 
--- the addresses that are read are those that the lines say, and the line that is named is the first bad one
+-- the addresses that are read are those that the lines say
 pub addresses_found : (text addrs : List ℕ) → addresses_in text ≡ Ok addrs → AreAddresses text addrs
 addresses_found text addrs read = items_found address_in IsAddress address_agrees text addrs read
 
 pub addresses_again : (text addrs : List ℕ) → AreAddresses text addrs → addresses_in text ≡ Ok addrs
 addresses_again text addrs are = items_again address_in IsAddress address_agrees text addrs are
-
-pub first_bad_found : (text : List ℕ) (n : ℕ) → addresses_in text ≡ Err n → IsFirstBad text n
-first_bad_found text n read = lines.first_bad_found address_in IsAddress address_agrees text n read
-
-pub first_bad_again : (text : List ℕ) (n : ℕ) → IsFirstBad text n → addresses_in text ≡ Err n
-first_bad_again text n bad = lines.first_bad_again address_in IsAddress address_agrees text n bad
 
 -- What an input of lines asks for, and when it is bad, where reader and relation agree.
 module _ {A : Type 0} (reads : List ℕ → Option A) (Spells : List ℕ → A → Type 0) (agrees : ReadsAsSpelled reads Spells) (text : List ℕ) where

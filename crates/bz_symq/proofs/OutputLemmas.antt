@@ -19,7 +19,8 @@ use Rattle.bz_symq.specs.declared.status.Status.TheVariants as statuses
 use Rattle.bz_canon.proofs.AnswerTextLemmas.{texts_step}
 use Rattle.bz_symq.proofs.FaultLemmas.{counts_still, no_fault}
 
--- a front of the text is written, the rest is left, and no write failed; of an empty text nothing is written
+-- a front of the text is written, the rest is left, and no write failed; of an
+-- empty text nothing is written
 pub record HasWritten {W : Type 0} (writes : output_trait.Ghosts W) (text left : List ℕ) (before after : W) : Type 0 where
   pub front : List ℕ
   pub whole : text ≡ front ++ left

@@ -22,7 +22,7 @@ use Rattle.bz_proc.specs.Maps.{Mapping, maps_in}
 use Rattle.bz_proc.proofs.MapsLemmas.{maps_found, maps_again}
 use Rattle.bz_process.specs.Asked.{Asked}
 use Rattle.bz_process.specs.Caches.{ProcessCaches}
-use Rattle.bz_process.specs.Dispatch.{Answers, Test}
+use Rattle.bz_process.specs.Dispatch.{DispatchAnswers, Test}
 use Rattle.bz_process.specs.Mapped.{AreByMappings, AreUsed, AsksProcess, LacksMappings}
 use Rattle.bz_process.specs.Process.{batched, unsaid}
 use Rattle.bz_process.specs.Processes.{caches_of, is_in_process}
@@ -155,11 +155,11 @@ module _ (config : Config) (number own : ℕ) (addrs : List ℕ) (world : World)
 -- whatever is told, answers by no kept mappings are by those of some text
 some_batch : (config : Config) (number own : ℕ) (addrs : List ℕ) (answers : List Answer) (left : ProcessCaches) → AreByMappings (asked_by config number own) None addrs answers (nothing_kept config) left →
     IsSomeProcessBatch config number own addrs answers
-some_batch config number own addrs answers left by = from_mappings by.mappings by.used by.some
+some_batch config number own addrs answers left by = from_mappings by.mappings by.used by.untold
   where
     from_mappings : (mappings : List Mapping) → AreUsed (pid_of number) None mappings → SomeAtAddresses (asked_by config number own) mappings (map unsaid addrs) answers (nothing_kept config) left →
         IsSomeProcessBatch config number own addrs answers
-    from_mappings [] used some = let none = used.some in cc
+    from_mappings [] used some = let none = used.positive in cc
     from_mappings (mapping ∷ later) used some = record {
       text = used.from.text;
       tells = (mapping, later, maps_found (pid_of number) used.from.text (mapping ∷ later) used.from.tells);
@@ -179,7 +179,7 @@ abbrev pub LacksOrFails : Error → Type 0
 LacksOrFails e = LacksMappings None e ⊎ IsFailure e
 
 module _ {A R X : Type 0} (files : Ghosts X) (reading : A → List Answer) (test : Test R) (translates : Translates R) (finds : Finds R) (opts : FindSymOpts) (asked : Asked) (addrs : List ℕ)
-    (old now : ProcessCaches) (answers answers_now : Answers R) (before after : X) where
+    (old now : ProcessCaches) (answers answers_now : DispatchAnswers R) (before after : X) where
   pub lacks_or_fails : (result : Result A Error) → AsksProcess files reading test translates finds opts asked None addrs result old now answers answers_now before after →
       IfErr result (λ e. LacksOrFails e)
   lacks_or_fails (Ok given) asks = tt

@@ -5,9 +5,11 @@ use Rattle.bz_base.specs.Answer.{Answer}
 use Rattle.bz_base.specs.declared.error.Error.{Error}
 use Rattle.bz_files.specs.World.{World}
 use Rattle.bz_requests.proofs.AddressLemmas.{address_agrees}
+use Rattle.bz_requests.proofs.LineGrammarLemmas.{first_bad_again}
 use Rattle.bz_requests.specs.Addresses.{IsAddress, address_in, addresses_in}
+use Rattle.bz_requests.specs.Lines.{HasBadLine}
 use Rattle.bz_symq.specs.Command.{Asking, Command, Batch, Make, Product}
-use Rattle.bz_symq.specs.InputText.{HasBadLine, greatest_input}
+use Rattle.bz_symq.specs.InputText.{greatest_input}
 use Rattle.bz_symq.specs.Outcome.{Outcome, run_outcome, by_addresses, by_answer, by_product, too_long}
 use Rattle.bz_symq.specs.Products.{made_in}
 use Rattle.bz_symq.specs.Run.{Asks, Ends, IsAnswerable, IsBadInput, IsDone, IsMade, IsMakeable, IsRefusable, IsRefused, IsUnmade, IsUnmakeable}
@@ -15,7 +17,7 @@ use Rattle.bz_symq.specs.Targets.{answer_to}
 use Rattle.bz_symq.specs.declared.status.Status.{Status}
 use Rattle.bz_symq.specs.declared.status.Status.TheVariants as statuses
 use Rattle.bz_symq.proofs.InputTextLemmas as inputs
-use Rattle.bz_symq.proofs.InputTextLemmas.{addresses_found, addresses_again, first_bad_again}
+use Rattle.bz_symq.proofs.InputTextLemmas.{addresses_found, addresses_again}
 use Rattle.bz_symq.proofs.ProductLemmas.{made_found, made_given, unmade_found, unmade_given}
 use Rattle.bz_symq.proofs.TargetLemmas.{answers_found, answers_given, cause_found, has_answers, refusal_given}
 
@@ -256,9 +258,9 @@ module _ (command : Command) (input : List ℕ) (world : World) (own : ℕ) wher
   pub input_is_bad : (run_outcome command input world own).status ≡ statuses.Input → IsBadInput command input
   input_is_bad bad = input_by_command command refl bad
 
-  bad_by_length : (asking : Asking) → HasBadLine input → (long : Bool) → (cond long too_long (by_addresses asking world own (addresses_in input))).status ≡ statuses.Input
+  bad_by_length : (asking : Asking) → HasBadLine IsAddress input → (long : Bool) → (cond long too_long (by_addresses asking world own (addresses_in input))).status ≡ statuses.Input
   bad_by_length asking (n, bad) true = refl
-  bad_by_length asking (n, bad) false = rw (first_bad_again input n bad) refl
+  bad_by_length asking (n, bad) false = rw (first_bad_again address_in IsAddress address_agrees input n bad) refl
 
   pub bad_is_input : IsBadInput command input → (run_outcome command input world own).status ≡ statuses.Input
   bad_is_input (asking, command_is, inl long) = rw (command_is, lt-ltb _ _ long) refl

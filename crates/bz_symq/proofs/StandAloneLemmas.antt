@@ -1,4 +1,5 @@
--- What a process answers at an address doesn't depend on what else is asked, where equal stamps mean equal bytes.
+-- What a process answers at an address doesn't depend on what else is asked, where equal
+-- stamps mean equal bytes.
 use Rattle.std.proofs.Common.{◌≡◌, ℕ, List, [], ◌∷◌, map, Some, None, Result, Ok, refl, sym, ap, ap₂, ◌∙◌}
 use Rattle.bz_base.specs.Answer.{Answer, in_batch}
 use Rattle.bz_base.specs.declared.error.Error.{Error}

@@ -1,4 +1,5 @@
--- What each target answers: from the symbolizer's promises to the words of targets, and to the causes of refusals.
+-- What each target answers: from the symbolizer's promises to the words of targets, and
+-- to the causes of refusals.
 use Rattle.std.proofs.Common.{◌≡◌, ℕ, Bool, true, false, List, length, Option, Some, None, option_and_then, Result, Ok, Err, IfOk, IsErrOf, OnOk, cond, string_bytes, inl, inr, refl, sym, ap, subst, ◌∙◌}
 use Rattle.std.specs.FinMap as map
 use Rattle.bz_base.specs.Answer.{Answer}
@@ -130,7 +131,8 @@ module _ (config : Config) (addrs : List ℕ) where
         OnOk result (after ≡ opens_after (opens_of (new_state (settings_of config)) (form_of source) kind world) before) → OnOk result (after ≡ counted before)
     opened_by_target target kind source own is = by_source (OpensAs kind) (breakpad_opens kind) (gsym_opens kind) (elf_opens kind) target source is
 
-  -- what the symbolizer keeps is what it answers, so whatever is told, some bytes in the format are answered
+  -- what the symbolizer keeps is what it answers, so whatever is told, some bytes
+  -- in the format are answered
   module _ {A : Type 0} (view : A → List Answer) (kind : AddressKind) (now : State) where
     abbrev Keeps : Source → Result A Error → FileSource → Type 0
     Keeps source result file = IfOk result (λ given. AnswersKept (opts_in config) source file now (batch_of kind addrs) (Ok (view given)))
@@ -228,7 +230,8 @@ kind_taken (OneFile file) kind served = file_taken file kind served
 kind_taken (OneProcess number) kind served = served
 
 module _ (config : Config) (addrs : List ℕ) where
-  -- bytes that answer are in the source's format and answer the kind of address, and these are their answers
+  -- bytes that answer are in the source's format and answer the kind of address,
+  -- and these are their answers
   abbrev Answered : FileTarget → AddressKind → List ℕ → List Answer → Type 0
   Answered target kind bytes answers = (file_serves target kind ≡ true) × IsBatch target kind config bytes addrs answers
 

@@ -86,7 +86,8 @@ abbrev pub command_of : lent_command.Command → Command
 command_of (commands.Batch batch) = Batch (asking_of batch)
 command_of (commands.Make product) = Make (product_of product)
 
--- an input as a command sees it: whole where answers are asked for, and else as if it were empty, since it isn't read
+-- an input as a command sees it: whole where answers are asked for, and else as if it were
+-- empty, since it isn't read
 abbrev pub seen_by : Command → Option (List ℕ) → Option (List ℕ)
 seen_by (Batch asking) input = input
 seen_by (Make product) input = Some []

@@ -1,7 +1,6 @@
--- The program's input: how long it may be, how it is read, and its first bad line.
+-- The program's input: how long it may be, what it asks for, when it is bad, and how it is read.
 use Rattle.std.specs.Prelude.{◌≡◌, ◌⊎◌, ℕ, ◌+◌, ◌-◌, ◌<◌, ◌≤◌, nat_lt, cond, List, ◌++◌, drop, length, Option, Some}
 use Rattle.bz_files.specs.World.{Told}
-use Rattle.bz_requests.specs.Addresses.{IsAddress}
 use Rattle.bz_requests.specs.Lines as lines
 
 -- the greatest length of an input, in bytes
@@ -11,14 +10,6 @@ greatest_input = 16777216
 -- what comes of an input: the first where it is too long, whatever its lines say, and else the second
 abbrev pub by_length : {A : Type 0} → List ℕ → A → A → A
 by_length text long of_lines = cond (nat_lt greatest_input (length text)) long of_lines
-
--- line n of the text is the first that is neither empty nor an address; all lines count, from 1
-abbrev pub IsFirstBad : List ℕ → ℕ → Type 0
-IsFirstBad text n = lines.IsFirstBad IsAddress text n
-
--- some line of the text is neither empty nor an address
-abbrev pub HasBadLine : List ℕ → Type 0
-HasBadLine text = lines.HasBadLine IsAddress text
 
 -- an input of lines, by what each of them spells
 module _ {A : Type 0} (Spells : List ℕ → A → Type 0) where

@@ -1,4 +1,5 @@
--- What a run writes and ends with where nothing fails: a function of command, input, world and the id of the own process.
+-- What a run writes and ends with where nothing fails: a function of command, input, world and
+-- the id of the own process.
 use Rattle.std.specs.Prelude.{◌≡◌, ◌⊎◌, ◌<◌, ◌≤◌, ℕ, List, ◌++◌, length, codes, decimal, Option, Some, None, Result, Ok, Err}
 use Rattle.bz_base.specs.Answer.{Answer}
 use Rattle.bz_base.specs.ErrorNames.{name_of}
@@ -23,7 +24,8 @@ code_of statuses.Input = 3
 code_of statuses.Fault = 4
 code_of statuses.Memory = 5
 
--- the line that goes to standard error, without its end: where reading or writing failed, or memory ran out
+-- the line that goes to standard error, without its end: where reading or writing
+-- failed, or memory ran out
 abbrev pub message_of : Status → Option (List ℕ)
 message_of statuses.Fault = Some (codes "symq: reading or writing failed")
 message_of statuses.Memory = Some (codes "symq: out of memory")

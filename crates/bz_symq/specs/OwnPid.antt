@@ -1,4 +1,5 @@
--- The id of the own process, as proc_pid_stat(5) of the Linux manual pages has it: the first field of `/proc/self/stat`.
+-- The id of the own process, as proc_pid_stat(5) of the Linux manual pages has it: the first
+-- field of `/proc/self/stat`.
 use Rattle.std.specs.Prelude.{ℕ, List, Option, Some, None}
 use Rattle.bz_base.specs.Number.{decimal_at}
 

@@ -58,11 +58,13 @@ MadeIn product world made = HasFile (λ bytes. IsMadeOf product bytes (Ok made))
 abbrev pub MadeOfSome : Product → List ℕ → Type 0
 MadeOfSome product made = (bytes : List ℕ) × IsMadeOf product bytes (Ok made)
 
--- nothing is made of the bytes, by the refusal of this name: they are no Breakpad file, or their table is refused
+-- nothing is made of the bytes, by the refusal of this name: they are no Breakpad file,
+-- or their table is refused
 abbrev pub IsUnmadeOf : Product → List ℕ → List ℕ → Type 0
 IsUnmadeOf product bytes name = ((name ≡ name_of errors.InvalidInput) × ((table : Table) → IsFile bytes table → ⊥)) ⊎ IsMadeOf product bytes (Err name)
 
--- why nothing is made of what lies at a path: there is nothing, it may not be read, or its bytes are refused
+-- why nothing is made of what lies at a path: there is nothing, it may not be read,
+-- or its bytes are refused
 abbrev pub IsUnmadeBy : Product → Option Entry → List ℕ → Type 0
 IsUnmadeBy product None name = name ≡ name_of errors.NotFound
 IsUnmadeBy product (Some Denied) name = name ≡ name_of errors.PermissionDenied
@@ -71,7 +73,8 @@ IsUnmadeBy product (Some (Present stamp bytes)) name = IsUnmadeOf product bytes 
 abbrev pub UnmadeIn : Product → World → List ℕ → Type 0
 UnmadeIn product world name = IsUnmadeBy product (entry_at world (path_of product)) name
 
--- whatever the files tell, why nothing is made: a refusal that a Breakpad file may have, or that of some file's table, has this name
+-- whatever the files tell, why nothing is made: a refusal that a Breakpad file may have, or that of
+-- some file's table, has this name
 abbrev pub UnmadeOfSome : Product → List ℕ → Type 0
 UnmadeOfSome product name =
     ((e : Error) × IsSomeFileCause (Breakpad (path_of product)) e × (name ≡ name_of e)) ⊎ ((bytes : List ℕ) × IsMadeOf product bytes (Err name))

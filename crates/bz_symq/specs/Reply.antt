@@ -38,14 +38,16 @@ Replies expected (Err errors.ReadFault) = Unit {0}
 Replies expected (Err errors.OutOfMemory) = Unit {0}
 Replies expected (Err _) = ⊥
 
--- a refusal is answered by its name, unless memory runs out; a fault and want of memory stay what they are
+-- a refusal is answered by its name, unless memory runs out; a fault and want of
+-- memory stay what they are
 abbrev pub RepliesTo : Error → Result Reply Error → Type 0
 RepliesTo errors.ReadFault result = result ≡ Err errors.ReadFault
 RepliesTo errors.OutOfMemory result = result ≡ Err errors.OutOfMemory
 RepliesTo refusal (Ok reply) = outcome_of reply ≡ refused refusal
 RepliesTo refusal (Err e) = e ≡ errors.OutOfMemory
 
--- of an input that wasn't read to its end: one that is too long is named so, and a failure stays what it is
+-- of an input that wasn't read to its end: one that is too long is named so, and a
+-- failure stays what it is
 abbrev pub RepliesUnread : ReadStop → Result Reply Error → Type 0
 RepliesUnread stops.TooLong (Ok reply) = outcome_of reply ≡ too_long
 RepliesUnread stops.TooLong (Err e) = ⊥
@@ -109,7 +111,8 @@ abbrev pub IsDoneReply : Result Reply Error → Type 0
 IsDoneReply (Ok reply) = reply.status ≡ statuses.Done
 IsDoneReply (Err e) = ⊥
 
--- the statuses of replies to what was read of an input: a line isn't well formed, or what the lines say is answered or refused
+-- the statuses of replies to what was read of an input: a line isn't well formed, or what the lines
+-- say is answered or refused
 abbrev pub IsInputStatus : {A : Type 0} → Result A ℕ → Status → Type 0
 IsInputStatus (Err n) status = status ≡ statuses.Input
 IsInputStatus (Ok items) status = (status ≡ statuses.Done) ⊎ (status ≡ statuses.Refused)
@@ -123,7 +126,8 @@ IsLineReply (Ok items) reply = Unit {0}
 abbrev pub IsBadReply : {A : Type 0} → (List ℕ → A → Type 0) → List ℕ → Reply → Type 0
 IsBadReply Spells input reply = reply.status ≡ statuses.Input → NamesBad Spells input (text_of reply.said)
 
--- a reply to the command was to be made, by what it sees of the input, the world in view, and the own process's id
+-- a reply to the command was to be made, by what it sees of the input, the world in view,
+-- and the own process's id
 pub record RepliesToCommand (command : Command) (left : Option (List ℕ)) (seen : Option World) (own : ℕ) (result : Result Reply Error) : Type 0 where
   -- it is the outcome of the run
   pub reply : Told left (λ text. Told seen (λ world. Replies (run_outcome command text world own) result))

@@ -1,4 +1,5 @@
--- What a run of the program promises: what it writes and ends with, and what it does to its input, its output and the files.
+-- What a run of the program promises: what it writes and ends with, and what it does to its input,
+-- its output and the files.
 use Rattle.std.specs.Prelude.{◌≡◌, ◌≢◌, ◌⊎◌, ◌↔◌, ℕ, ◌+◌, ◌≤◌, false, List, [], ◌++◌, length, Option, Some, IsSome}
 use Rattle.bz_base.specs.Answer.{Answer}
 use Rattle.bz_base.specs.declared.error.Error.{Error}
@@ -24,7 +25,8 @@ use Rattle.bz_symq.specs.declared.status.Status.TheVariants as statuses
 abbrev pub WritesFront : List ℕ → List ℕ → Option (List ℕ) → Type 0
 WritesFront text old new = (front : List ℕ) × (rest : List ℕ) × (text ≡ front ++ rest) × (new ≡ Some (old ++ front))
 
--- the run ends as the outcome says and has written its text; or it failed and has written a front of that text
+-- the run ends as the outcome says and has written its text; or it failed and has
+-- written a front of that text
 abbrev pub Ends : Outcome → List ℕ → Status → Option (List ℕ) → Type 0
 Ends expected old statuses.Fault new = WritesFront expected.text old new
 Ends expected old statuses.Memory new = WritesFront expected.text old new
@@ -44,14 +46,16 @@ pub record Asks (command : Command) (input : List ℕ) (asking : Asking) (addrs 
   pub short : length input ≤ greatest_input
   pub input_is : AreAddresses input addrs
 
--- the run is asked for addresses of a source that has answers: a file in its format, or a process of which mappings are told
+-- the run is asked for addresses of a source that has answers: a file in its format, or a process
+-- of which mappings are told
 pub record IsAnswerable (command : Command) (input : List ℕ) (world : World) : Type 0 where
   pub asking : Asking
   pub addrs : List ℕ
   pub asks : Asks command input asking addrs
   pub answerable : HasAnswers asking world
 
--- the run was asked for addresses of a source that has answers, and wrote the texts of its plain answers to them in order
+-- the run was asked for addresses of a source that has answers, and wrote the texts of its plain
+-- answers to them in order
 pub record IsDone (command : Command) (input : List ℕ) (world : World) (own : ℕ) (old : List ℕ) (new : Option (List ℕ)) : Type 0 where
   pub asking : Asking
   pub addrs : List ℕ
@@ -60,8 +64,9 @@ pub record IsDone (command : Command) (input : List ℕ) (world : World) (own : 
   pub answers_are : AnswersIn asking world own addrs answers
   pub written : new ≡ Some (old ++ answer_texts addrs answers)
 
--- whatever the files tell, the run was asked for addresses, and wrote the texts of answers to them in order. Of a file these are the
--- plain answers of some bytes in its format. Of a process they are by some text of its mappings and some versions of its files
+-- whatever the files tell, the run was asked for addresses, and wrote the texts of answers to them in
+-- order. Of a file these are the plain answers of some bytes in its format. Of a process they are by
+-- some text of its mappings and some versions of its files
 pub record IsSomeDone (command : Command) (input : List ℕ) (own : ℕ) (old : List ℕ) (new : Option (List ℕ)) : Type 0 where
   pub asking : Asking
   pub addrs : List ℕ
@@ -83,7 +88,8 @@ pub record IsRefused (command : Command) (input : List ℕ) (world : World) (old
   pub refusable : IsRefusable command input world
   pub written : new ≡ Some (old ++ (refused refusable.refusal).text)
 
--- whatever the files tell, the run was asked for addresses, and a refusal that their source may have is what was written
+-- whatever the files tell, the run was asked for addresses, and a refusal that their source may
+-- have is what was written
 pub record IsSomeRefused (command : Command) (input old : List ℕ) (new : Option (List ℕ)) : Type 0 where
   pub asking : Asking
   pub addrs : List ℕ
@@ -104,7 +110,8 @@ pub record IsMade (command : Command) (world : World) (old : List ℕ) (new : Op
   pub makeable : IsMakeable command world
   pub written : new ≡ Some (old ++ makeable.made)
 
--- the run was asked for a product, and whatever the files tell, what some Breakpad file makes is what was written
+-- the run was asked for a product, and whatever the files tell, what some Breakpad file
+-- makes is what was written
 pub record IsSomeMade (command : Command) (old : List ℕ) (new : Option (List ℕ)) : Type 0 where
   pub product : Product
   pub made : List ℕ
@@ -124,7 +131,8 @@ pub record IsUnmade (command : Command) (world : World) (old : List ℕ) (new : 
   pub unmakeable : IsUnmakeable command world
   pub written : new ≡ Some (old ++ (refused_as unmakeable.name).text)
 
--- whatever the files tell, the run was asked for a product, and a refusal that it may have is what was written
+-- whatever the files tell, the run was asked for a product, and a refusal that it may
+-- have is what was written
 pub record IsSomeUnmade (command : Command) (old : List ℕ) (new : Option (List ℕ)) : Type 0 where
   pub product : Product
   pub name : List ℕ
@@ -132,7 +140,8 @@ pub record IsSomeUnmade (command : Command) (old : List ℕ) (new : Option (List
   pub cause : UnmadeOfSome product name
   pub written : new ≡ Some (old ++ (refused_as name).text)
 
--- the command asks for answers, and the input is too long for that, or has a line that isn't well formed
+-- the command asks for answers, and the input is too long for that, or has a
+-- line that isn't well formed
 abbrev pub IsBadInput : Command → List ℕ → Type 0
 IsBadInput command input =
     (asking : Asking) × (command ≡ Batch asking) × inputs.IsBadInput IsAddress input
@@ -146,7 +155,8 @@ abbrev pub ComesExactlyWhere : Status → (Command → List ℕ → World → Ty
 ComesExactlyWhere status Such = (command : Command) (input : List ℕ) (world : World) (own : ℕ) →
     ((run_outcome command input world own).status ≡ status) ↔ Such command input world
 
--- where a run ended by the status, as its outcome, what it was asked for and what it has written are such
+-- where a run ended by the status, as its outcome, what it was asked for and
+-- what it has written are such
 abbrev pub EndsOnlyWhere : Status → (Command → List ℕ → World → ℕ → List ℕ → Option (List ℕ) → Type 0) → Type 0
 EndsOnlyWhere status Such = (command : Command) (input : List ℕ) (world : World) (own : ℕ) (old : List ℕ) (new : Option (List ℕ)) →
     Ends (run_outcome command input world own) old status new → Such command input world own old new
@@ -171,8 +181,8 @@ pub data Side : Type 0 where
   AtFiles : Side
   AtOutput : Side
 
--- at which side a call failed, if one did, in a run that ends by a fault exactly then. At that side the count of faults rose, at
--- the others it stands still: no failed call is hidden behind another status.
+-- at which side a call failed, if one did, in a run that ends by a fault exactly then. At that side the
+-- count of faults rose, at the others it stands still: no failed call is hidden behind another status.
 pub record Fails {R W F : Type 0} (reads : input_trait.Ghosts R) (writes : output_trait.Ghosts W) (looks : files_trait.Ghosts F) (status : Status)
     (input_before input_after : R) (output_before output_after : W) (files_before files_after : F) : Type 0 where
   pub failed : Option Side
@@ -189,7 +199,8 @@ pub record Fails {R W F : Type 0} (reads : input_trait.Ghosts R) (writes : outpu
 -- all that a run promises
 pub record Runs {R W F : Type 0} (reads : input_trait.Ghosts R) (writes : output_trait.Ghosts W) (looks : files_trait.Ghosts F) (command : Command) (ended : Status)
     (input_before input_after : R) (output_before output_after : W) (files_before files_after : F) : Type 0 where
-  -- the run wrote the outcome's text and ended by its status, or it failed and wrote a front of that text
+  -- the run wrote the outcome's text and ended by its status, or it failed and
+  -- wrote a front of that text
   pub ends : Told (seen_by command (reads.left input_before)) (λ text. Told (in_view (looks.worlds files_before)) (λ world. Told (writes.written output_before) (λ old.
       Ends (run_outcome command text world (looks.pid files_before)) old ended (writes.written output_after))))
   pub status : Told (seen_by command (reads.left input_before)) (λ text. Told (in_view (looks.worlds files_before)) (λ world.
@@ -198,10 +209,12 @@ pub record Runs {R W F : Type 0} (reads : input_trait.Ghosts R) (writes : output
   pub done : ended ≡ statuses.Done →
       Told (seen_by command (reads.left input_before)) (λ text. Told (in_view (looks.worlds files_before)) (λ world. Told (writes.written output_before) (λ old.
       IsDone command text world (looks.pid files_before) old (writes.written output_after) ⊎ IsMade command world old (writes.written output_after))))
-  -- and whatever the files tell, that these are answers that the source may have, or a product that some file makes
+  -- and whatever the files tell, that these are answers that the source may have, or a
+  -- product that some file makes
   pub answered : ended ≡ statuses.Done → Told (seen_by command (reads.left input_before)) (λ text. Told (writes.written output_before) (λ old.
       IsSomeDone command text (looks.pid files_before) old (writes.written output_after) ⊎ IsSomeMade command old (writes.written output_after)))
-  -- status 1 means that the source has no answers or the product can't be made, and that the refusal is what was written
+  -- status 1 means that the source has no answers or the product can't be made, and that the
+  -- refusal is what was written
   pub refused : ended ≡ statuses.Refused →
       Told (seen_by command (reads.left input_before)) (λ text. Told (in_view (looks.worlds files_before)) (λ world. Told (writes.written output_before) (λ old.
       IsRefused command text world old (writes.written output_after) ⊎ IsUnmade command world old (writes.written output_after))))
@@ -215,17 +228,21 @@ pub record Runs {R W F : Type 0} (reads : input_trait.Ghosts R) (writes : output
   -- and whatever the files tell, status 3 means that what was written names what is bad of the input
   pub named : ended ≡ statuses.Input → Told (seen_by command (reads.left input_before)) (λ text. Told (writes.written output_before) (λ old.
       IsBadNamed IsAddress text old (writes.written output_after)))
-  -- a source that has answers is answered, and a product that can be made is made, unless something fails or memory runs out
+  -- a source that has answers is answered, and a product that can be made is made, unless something
+  -- fails or memory runs out
   pub complete : Told (seen_by command (reads.left input_before)) (λ text. Told (in_view (looks.worlds files_before)) (λ world.
       IsAnswerable command text world ⊎ IsMakeable command world → IsOrFails statuses.Done ended))
-  -- a source that has none is refused, and a product that can't be made, unless something fails or memory runs out
+  -- a source that has none is refused, and a product that can't be made, unless something
+  -- fails or memory runs out
   pub refuses : Told (seen_by command (reads.left input_before)) (λ text. Told (in_view (looks.worlds files_before)) (λ world.
       IsRefusable command text world ⊎ IsUnmakeable command world → IsOrFails statuses.Refused ended))
-  -- no input is read for a product, and no file is looked at for a bad input or for addresses that the target doesn't take
+  -- no input is read for a product, and no file is looked at for a bad input or for addresses
+  -- that the target doesn't take
   pub unasked : (product : Product) → command ≡ Make product → input_after ≡ input_before
   pub unlooked : Told (reads.left input_before) (λ text. IsBadInput command text → files_after ≡ files_before)
   pub untaken : (asking : Asking) → command ≡ Batch asking → takes asking.target asking.kind ≡ false → files_after ≡ files_before
-  -- a run that doesn't fail has read the input, and no run reads on past the byte that makes it too long
+  -- a run that doesn't fail has read the input, and no run reads on past the
+  -- byte that makes it too long
   pub read : IsNoFailure ended → IsReadWhole command (reads.left input_before) (reads.left input_after)
   pub bounded : MovesAtMost (greatest_input + 1) (reads.left input_before) (reads.left input_after)
   -- until the input is read, no file is looked at and nothing is written
@@ -241,7 +258,8 @@ pub record Runs {R W F : Type 0} (reads : input_trait.Ghosts R) (writes : output
   pub process : Told (seen_by command (reads.left input_before)) (λ text. Told (in_view (looks.worlds files_before)) (λ world.
       (asking : Asking) (number : ℕ) (addrs : List ℕ) → Asks command text asking addrs → asking.target ≡ OneProcess number →
       looks.opens files_after ≤ looks.opens files_before + (process_batch asking.config number (looks.pid files_before) addrs world).opens))
-  -- a fault comes exactly where a call failed, on one side at most, and of the files only before the output
+  -- a fault comes exactly where a call failed, on one side at most, and of the
+  -- files only before the output
   pub fails : Fails reads writes looks ended input_before input_after output_before output_after files_before files_after
   pub fault : ended ≡ statuses.Fault → (reads.faults input_after ≡ counted (reads.faults input_before))
       ⊎ ((writes.faults output_after ≡ counted (writes.faults output_before)) ⊎ (looks.faults files_after ≡ counted (looks.faults files_before)))

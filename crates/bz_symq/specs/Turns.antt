@@ -33,8 +33,9 @@ pub record ReadsOneFor {F : Type 0} (looks : files_trait.Ghosts F) (answered : T
   pub most : ReadsOne looks before after
   pub opened : Told (in_view (looks.worlds before)) (λ world. answered → looks.opens after ≡ counted (looks.opens before))
 
--- how many files were read for an input that is read so. Where a file is asked, it is one at most, and one where the run is done.
--- Where a process is asked, it is none at a bad line, and else no more than its batch reads
+-- how many files were read for an input that is read so. Where a file is asked, it is one at most,
+-- and one where the run is done. Where a process is asked, it is none at a bad line, and else no
+-- more than its batch reads
 abbrev pub ReadsForInput : {F : Type 0} → files_trait.Ghosts F → Config → Target → Result (List ℕ) ℕ → Type 0 → F → F → Type 0
 ReadsForInput looks config (OneFile file) read answered before after = ReadsOneFor looks answered before after
 ReadsForInput looks config (OneProcess number) (Err n) answered before after = looks.opens after ≡ looks.opens before
@@ -52,7 +53,8 @@ abbrev pub ReadsFor : {F : Type 0} → files_trait.Ghosts F → Command → Opti
 ReadsFor looks (Make product) left answered before after = ReadsOneFor looks answered before after
 ReadsFor looks (Batch asking) left answered before after = ReadsForBatch looks asking.config asking.target left answered before after
 
--- one side at most failed: the input, and then the files are as they were; or the files, and no call of the input failed
+-- one side at most failed: the input, and then the files are as they were; or the files, and no
+-- call of the input failed
 abbrev pub FailsAtOne : {R F : Type 0} → input_trait.Ghosts R → files_trait.Ghosts F → Type 0 → R → R → F → F → Type 0
 FailsAtOne reads looks failed input_before input_after files_before files_after =
     ((files_after ≡ files_before) × CountsFaults (reads.faults input_before) (reads.faults input_after) failed)

@@ -22,7 +22,8 @@ pub record WritesText {W A : Type 0} (writes : output_trait.Ghosts W) (text : Li
 
 -- a reply was to be written, and the run ended
 pub record Finishes {W : Type 0} (writes : output_trait.Ghosts W) (reply : Outcome) (ended : Status) (before after : W) : Type 0 where
-  -- its text was written, and the run ended with its status; or a front of the text, where writing failed
+  -- its text was written, and the run ended with its status; or a front of the
+  -- text, where writing failed
   pub ends : Told (writes.written before) (λ old. Ends reply old ended (writes.written after))
   pub status : IsOrFails reply.status ended
   pub silent : reply.text ≡ [] → after ≡ before

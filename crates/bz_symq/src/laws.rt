@@ -21,14 +21,16 @@ pub fn outcomes_have_causes()
     ensures input { ComesExactlyWhere statuses.Input (λ command input world. IsBadInput command input) }
 {}
 
-/// A run that ends as its outcome, done or refused, has written the answers, the product or the refusal.
+/// A run that ends as its outcome, done or refused, has written the answers,
+/// the product or the refusal.
 pub fn endings_have_causes()
     ensures done { EndsOnlyWhere statuses.Done (λ command input world own old new. IsDone command input world own old new ⊎ IsMade command world old new) }
     ensures refused { EndsOnlyWhere statuses.Refused (λ command input world own old new. IsRefused command input world old new ⊎ IsUnmade command world old new) }
 {}
 
-/// Each answer of a process is what is in view for its address alone, and a refusal is an ignored error.
-/// So answers don't depend on what else is asked. Equal stamps have to have equal bytes in the world.
+/// Each answer of a process is what is in view for its address alone, and a refusal is an
+/// ignored error. So answers don't depend on what else is asked. Equal stamps have to have
+/// equal bytes in the world.
 pub fn process_answers_stand_alone()
     ensures { (asking : Asking) (number own : ℕ) (addrs : List ℕ) (world : World) (answers : List Answer) → AgreeOn world world → asking.target ≡ OneProcess number → AnswersIn asking world own addrs answers →
         answers ≡ map (λ addr. in_batch (process_in_view (asked_by asking.config number own) world (nothing_kept asking.config) None addr)) addrs }

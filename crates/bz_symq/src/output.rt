@@ -93,8 +93,8 @@ fn write_owned<W: TextOut>(
     write_piece(output, &mut piece)
 }
 
-// Puts the text of the answer at the address of the next index to the end of a text. Past the texts that
-// were made ahead, it is made together with some that follow.
+// Puts the text of the answer at the address of the next index to the end of a text. Past the texts
+// that were made ahead, it is made together with some that follow.
 fn push_next(
     alloc: Global,
     text: &mut String,

@@ -55,7 +55,7 @@ fn run_blank<R: TextIn, W: TextOut, F: Files, L: Ledger>(
 ) -> Status
     requires name { blank.name ≡ L.name }
     requires parts { blank.parts ≡ L.parts }
-    requires some { 0 < L.parts }
+    requires positive { 0 < L.parts }
     ensures { Runs R.TextIn W.TextOut F.Files (command_of command.now) result input.old input.new output.old output.new files.old files.new }
 {
     let mut steps = Steps::<L>::new(blank);

@@ -1,5 +1,5 @@
-//! The texts of answers that are made together. They are made in the order of their addresses where that
-//! is faster: what stands near each other in a file is read together then.
+//! The texts of answers that are made together. They are made in the order of their addresses where
+//! that is faster: what stands near each other in a file is read together then.
 
 ghost use Rattle.std.specs.Prelude.{◌≡◌, ◌<◌, ◌++◌, length, slice_get, slice_index, string_bytes, All, Some, OnOk, IfSome, IsOkUnless};
 ghost use Rattle.bz_base.specs.Answer.{Answer, reading};

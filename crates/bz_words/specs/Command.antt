@@ -114,7 +114,8 @@ abbrev pub on_path_in : Text → Option Text → Text → Option Job
 on_path_in kind None path = path_job kind path
 on_path_in kind (Some text) path = None
 
--- `breakpad PATH`, `gsym PATH` and `elf PATH` ask a file for addresses, and `process PID` a process; others are work on a path
+-- `breakpad PATH`, `gsym PATH` and `elf PATH` ask a file for addresses, and `process PID` a process;
+-- others are work on a path
 abbrev pub job_on : Text → Option Text → Text → Option Job
 job_on kind input arg =
     if bytes_eq kind (codes "breakpad") then batch_in input (Breakpad arg)

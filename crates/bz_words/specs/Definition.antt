@@ -1,4 +1,5 @@
--- The command line as `clap` reads it: four flags, one option with a value, a kind of command, and any number of arguments.
+-- The command line as `clap` reads it: four flags, one option with a value, a kind of command, and
+-- any number of arguments.
 use Rattle.std.specs.Prelude.{◌≡◌, true, List, Some, codes}
 use Rattle.clap.specs.Lexer.{usize_max}
 use Rattle.clap.specs.Simple.{on_top}

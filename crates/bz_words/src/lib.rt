@@ -1,4 +1,5 @@
-//! The words of the program's command line, and what standard error says of a run that did not end well.
+//! The words of the program's command line, and what standard error says of a
+//! run that did not end well.
 #![tactic(auto)]
 
 mod definition;

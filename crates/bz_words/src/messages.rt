@@ -58,11 +58,11 @@ static USES: [(&str, &str); 10] = [
 ];
 
 /// What standard error says of a run of these words that ended so, without the end of the last line.
-/// It says nothing of a run that is done or whose input is bad, of which standard output says it all. Of a
-/// refused run it says where the Breakpad file is refused that the words name, if that is read once more
-/// and is refused. Of a faulty command line it says what is wrong with it, in one line. Of a failed run it
-/// says which side failed, by the counts, and at which path if that is known. Where memory ran out it says
-/// that. It reads one file at most, and only of a refused run.
+/// It says nothing of a run that is done or whose input is bad, of which standard output says it all.
+/// Of a refused run it says where the Breakpad file is refused that the words name, if that is read
+/// once more and is refused. Of a faulty command line it says what is wrong with it, in one line. Of a
+/// failed run it says which side failed, by the counts, and at which path if that is known. Where
+/// memory ran out it says that. It reads one file at most, and only of a refused run.
 pub fn message<F: Files>(
     alloc: Global,
     words: &[String],
@@ -121,8 +121,8 @@ fn usage(alloc: Global, words: &[String]) -> CowStr<'static> {
     }
 }
 
-// What the kind of command takes that the first word without a dash names. Else, or where the words have
-// an option with a value, which kinds there are, and which of them the option goes with.
+// What the kind of command takes that the first word without a dash names. Else, or where the words
+// have an option with a value, which kinds there are, and which of them the option goes with.
 fn kind_use(words: &[String]) -> &'static str {
     if has_value(words) {
         return NO_COMMAND;

@@ -16,8 +16,8 @@ use bz_files::{FileError, Files};
 use bz_requests::Target;
 use std::alloc::{AllocError, Global};
 
-/// A line that says where the file is refused that the words ask to read as a Breakpad file. There is none
-/// where it isn't refused so, or there is no such file. ReadFault: the file couldn't be read.
+/// A line that says where the file is refused that the words ask to read as a Breakpad file. There is
+/// none where it isn't refused so, or there is no such file. ReadFault: the file couldn't be read.
 pub fn refused_file<F: Files>(
     alloc: Global,
     words: &[String],

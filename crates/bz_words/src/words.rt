@@ -38,7 +38,8 @@ impl From<AllocError> for BadWords {
 pub fn read_command(alloc: Global, words: &[String]) -> Result<Command, BadWords>
     ensures ok { IfOk result (λ command. command_in (map string_bytes words.now) ≡ Some (command_of command)) }
     ensures usage { IsUsage result → command_in (map string_bytes words.now) ≡ None }
-    // What `clap` says of its own accord: words that it takes are refused only where they read as no command.
+    // What `clap` says of its own accord: words that it takes are refused only where
+    // they read as no command.
     ensures taken { IsUsage result → IsTakenByClap (map string_bytes words.now) → command_by (rows (map string_bytes words.now)) ≡ None }
 {
     let matches = matches(alloc, words)?;

@@ -19,7 +19,8 @@ fn main(rt: HostRuntime) -> ExitCode {
     ExitCode::from(status.code())
 }
 
-// Runs the program over the real files and the standard streams, and says what standard error is to say.
+// Runs the program over the real files and the standard streams, and says what
+// standard error is to say.
 fn run_real(rt: &HostRuntime) -> (Status, Option<CowStr<'static>>) {
     let (words, are_text) = match command_words(rt) {
         Ok(words) => (words, true),

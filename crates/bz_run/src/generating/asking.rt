@@ -54,7 +54,7 @@ fn answers_of<L: Ledger>(
 ) -> Result<Lookups<'static>>
     requires name { blank.name ≡ L.name }
     requires parts { blank.parts ≡ L.parts }
-    requires some { 0 < L.parts }
+    requires positive { 0 < L.parts }
     ensures answers { (table : Table) → IsFile text.items table → IfOk result (λ lookups. lookups.answers ≡ batch table (opts_of (settings_of config)) addrs.items) }
     ensures memory { (table : Table) → IsFile text.items table → IsOkUnless result Error.OutOfMemory }
 {

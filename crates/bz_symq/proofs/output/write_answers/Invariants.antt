@@ -4,7 +4,8 @@ use Rattle.bz_symq.specs.Texts.{AreTexts}
 use Rattle.bz_symq.proofs.OutputLemmas.{HasWritten}
 use Rattle.bz_symq.proofs.output.write_answers.Given as goal
 
--- a front of all texts is written, the rest is the piece and the texts of the answers left, and those made are right
+-- a front of all texts is written, the rest is the piece and the texts of the answers left,
+-- and those made are right
 abbrev pub invariant-loop-index : goal.invariant-loop-index
 invariant-loop-index g l = record {
   written :
